@@ -1,0 +1,11 @@
+use Rattle.interleaving.proofs.AsItWas.{hart_as_it_was, page_as_it_was, page_unwritten}
+use Rattle.interleaving.proofs.as_it_was.Goals as goal
+
+pub returns-clause-hart : goal.returns-clause-hart
+returns-clause-hart g c = λ system. hart_as_it_was system
+
+pub returns-clause-page : goal.returns-clause-page
+returns-clause-page g c = λ system. page_as_it_was system
+
+pub returns-clause-unwritten : goal.returns-clause-unwritten
+returns-clause-unwritten g c = λ system. page_unwritten system
