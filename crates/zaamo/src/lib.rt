@@ -1,0 +1,64 @@
+// What the atomic memory operations of Zaamo write.
+#![tactic(auto)]
+
+ghost use Rattle.std.specs.Prelude.{◌≡◌};
+ghost use Rattle.zaamo.specs.Amo.{amo_result};
+
+/// Which atomic memory operation: how the new word is made.
+#[derive(Clone, Copy, Debug, PartialEq, Eq)]
+pub enum AmoOp {
+    Add,
+    Swap,
+    Xor,
+    And,
+    Or,
+    Min,
+    Max,
+    MinUnsigned,
+    MaxUnsigned,
+}
+
+/// The word that memory gets, from the word it had and the one in rs2.
+#[inline(always)]
+pub fn amo(op: AmoOp, old: u32, arg: u32) -> u32
+    ensures value { result ≡ amo_result op old arg }
+{
+    match op {
+        AmoOp::Add => old.wrapping_add(arg),
+        AmoOp::Swap => arg,
+        AmoOp::Xor => old ^ arg,
+        AmoOp::And => old & arg,
+        AmoOp::Or => old | arg,
+        AmoOp::Min => old.cast_signed().min(arg.cast_signed()).cast_unsigned(),
+        AmoOp::Max => old.cast_signed().max(arg.cast_signed()).cast_unsigned(),
+        AmoOp::MinUnsigned => old.min(arg),
+        AmoOp::MaxUnsigned => old.max(arg),
+    }
+}
+
+#[cfg(test)]
+mod tests {
+    use super::*;
+
+    // Worked out by hand from the standard's nine definitions.
+    #[test]
+    fn nine_results(rt: HostRuntime) {
+        for (op, old, arg, new) in [
+            (AmoOp::Swap, 0x8000_0000, 0xffff_f800, 0xffff_f800),
+            (AmoOp::Add, 0x8000_0000, 0xffff_f800, 0x7fff_f800),
+            (AmoOp::Xor, 0x7fff_f800, 0xc000_0001, 0xbfff_f801),
+            (AmoOp::And, 0xffff_f800, 0x8000_0001, 0x8000_0000),
+            (AmoOp::Or, 0xffff_f800, 0x0000_0001, 0xffff_f801),
+            (AmoOp::Min, 0x8000_0000, 0x0000_0001, 0x8000_0000),
+            (AmoOp::Min, 0x0000_0000, 0xffff_ffff, 0xffff_ffff),
+            (AmoOp::Max, 0x8000_0000, 0x0000_0001, 0x0000_0001),
+            (AmoOp::Max, 0x0000_0000, 0xffff_ffff, 0x0000_0000),
+            (AmoOp::MinUnsigned, 0x8000_0000, 0x0000_0001, 0x0000_0001),
+            (AmoOp::MinUnsigned, 0x0000_0000, 0xffff_ffff, 0x0000_0000),
+            (AmoOp::MaxUnsigned, 0x8000_0000, 0x0000_0001, 0x8000_0000),
+            (AmoOp::MaxUnsigned, 0x0000_0000, 0xffff_ffff, 0xffff_ffff),
+        ] {
+            assert_eq!(rt; amo(op, old, arg), new, "{op:?} of {old:08x} and {arg:08x}");
+        }
+    }
+}
