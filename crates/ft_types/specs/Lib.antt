@@ -1,0 +1,5 @@
+pub mod Counts
+pub mod Rows
+pub mod Devices
+pub mod Sets
+pub mod Text

@@ -1,0 +1,151 @@
+//! Rows of one count per hart.
+
+ghost use Rattle.std.specs.Prelude.{◌≡◌, ◌<◌, ◌≤◌, ◌^◌, ◌↔◌, ℕ, List, length, replicate, slice_index, slice_set, IsTrue, IfSome, IsSome, Some};
+ghost use Rattle.std.specs.List.{AllByRecursion};
+ghost use Rattle.ft_types.specs.Counts.{IsCount, lesser, greater, zipped, IsWithin};
+
+use crate::names::{COUNT_LIMIT, Count, Hart};
+use std::marker::Model;
+
+/// One count per hart. Contracts see the list of the counts, by rising hart.
+#[derive(Clone, Copy, Debug, PartialEq, Eq)]
+pub struct Counts {
+    row: [u64; 8],
+    harts: u8,
+}
+
+impl Model for Counts {
+    ghost use Rattle.std.specs.Prelude.{ℕ, List, take, length, ◌-◌, ◌++◌, replicate};
+    ghost use Rattle.ft_types.specs.Rows.{IsRow, words_of_view, length_of_view};
+
+    ghost Value = { List ℕ };
+
+    ghost view = { λ c. take c.harts c.row };
+
+    ghost invariant = { λ c. IsRow c.row c.harts };
+
+    ghost inverse = { λ xs. record { row = xs ++ replicate (8 - length xs) 0; harts = length xs } };
+
+    ghost inverse_ok = { λ a h. Prim.cc (words_of_view a.row a.harts h, length_of_view a.row a.harts h) };
+}
+
+fn least(row: [u64; 8], other: [u64; 8]) -> [u64; 8]
+    ensures { result ≡ lesser row other }
+{
+    let mut least = row;
+    for i in 0..8usize {
+        least[i] = row[i].min(other[i]);
+    }
+    least
+}
+
+fn greatest(row: [u64; 8], other: [u64; 8]) -> [u64; 8]
+    ensures { result ≡ greater row other }
+{
+    let mut greatest = row;
+    for i in 0..8usize {
+        greatest[i] = row[i].max(other[i]);
+    }
+    greatest
+}
+
+impl Counts {
+    /// All counts 0.
+    pub fn zero(harts: u8) -> Counts
+        requires { harts ≤ 8 }
+        ensures { result ≡ replicate harts 0 }
+    {
+        Counts { row: [0; 8], harts }
+    }
+
+    /// The counts of these harts: `None` where there are more than 8 or one is no count.
+    pub fn from_slice(counts: &[u64]) -> Option<Counts>
+        ensures value { IfSome result (λ c. c ≡ counts.now) }
+        ensures exact { IsSome result ↔ ((length counts.now ≤ 8) × AllByRecursion IsCount counts.now) }
+    {
+        if counts.len() > 8 {
+            return None;
+        }
+        let mut row = [0; 8];
+        for (i, count) in counts.iter().enumerate() {
+            if *count >= COUNT_LIMIT {
+                return None;
+            }
+            row[i] = *count;
+        }
+        Some(Counts {
+            row,
+            harts: counts.len() as u8,
+        })
+    }
+
+    /// The number of harts.
+    pub fn harts(&self) -> u8
+        ensures value { result ≡ length self.now }
+        ensures limit { result ≤ 8 }
+    {
+        self.harts
+    }
+
+    /// The counts, by rising hart.
+    pub fn as_slice(&self) -> &[Count]
+        ensures value { result.now ≡ self.now }
+        ensures limit { length result.now ≤ 8 }
+        ensures counts { AllByRecursion IsCount result.now }
+    {
+        &self.row[..self.harts as usize]
+    }
+
+    /// A hart's count.
+    pub fn get(&self, hart: Hart) -> Count
+        requires { hart < length self.now }
+        ensures value { result ≡ slice_index self.now hart }
+        ensures limit { result < 2 ^ 48 }
+    {
+        self.row[hart.index()]
+    }
+
+    /// Changes a hart's count.
+    pub fn set(&mut self, hart: Hart, count: Count)
+        requires hart { hart < length self.old }
+        requires count { count < COUNT_LIMIT }
+        ensures { self.new ≡ slice_set self.old hart count }
+    {
+        self.row[hart.index()] = count;
+    }
+
+    /// Hart by hart, the smaller count.
+    pub fn meet(self, other: Counts) -> Counts
+        requires { length self ≡ length other }
+        ensures { result ≡ lesser self other }
+    {
+        Counts {
+            row: least(self.row, other.row),
+            harts: self.harts,
+        }
+    }
+
+    /// Hart by hart, the greater count.
+    pub fn max(self, other: Counts) -> Counts
+        requires { length self ≡ length other }
+        ensures { result ≡ greater self other }
+    {
+        Counts {
+            row: greatest(self.row, other.row),
+            harts: self.harts,
+        }
+    }
+
+    /// Whether each count is at most the other's.
+    pub fn within(self, other: Counts) -> bool
+        requires { length self ≡ length other }
+        ensures { IsTrue result ↔ IsWithin self other }
+    {
+        for i in 0..8usize {
+            if self.row[i] > other.row[i] {
+                return false;
+            }
+        }
+        true
+    }
+}

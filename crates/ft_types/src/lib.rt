@@ -1,0 +1,29 @@
+//! The words that every other crate speaks in: harts, keepers, terms, pages and counts; guests; devices that are read
+//! and written; the lines, numbers and words of text files.
+#![tactic(auto)]
+
+mod counts;
+mod device;
+mod errors;
+mod guest;
+mod line_buffer;
+mod memory_device;
+mod names;
+mod sets;
+mod text;
+
+pub use counts::Counts;
+pub use device::{Sink, Source, write_all};
+pub use errors::{Failed, Memory};
+pub use guest::Guest;
+pub use line_buffer::LineBuffer;
+pub use memory_device::{MemorySink, MemorySource};
+pub use names::{
+    COUNT_LIMIT, Count, HART_LIMIT, Hart, KEEPER_LIMIT, Keeper, PAGE_BYTES, PAGE_LIMIT, PageNo,
+    Term, Want,
+};
+pub use sets::{HartSet, KeeperSet, NumberSet};
+pub use text::{first_line, read_number, read_word, word_text};
+
+#[cfg(test)]
+mod tests;

@@ -1,0 +1,165 @@
+//! Harts, keepers, pages, terms and counts.
+
+ghost use Rattle.std.specs.Prelude.{◌≡◌, ◌<◌, ℕ};
+
+use std::marker::Model;
+
+/// The number of harts that a machine has at the most.
+pub const HART_LIMIT: u8 = 8;
+
+/// The number of keepers that there are at the most.
+pub const KEEPER_LIMIT: u8 = 5;
+
+/// The number of pages that a machine has at the most.
+pub const PAGE_LIMIT: u8 = 64;
+
+/// The number of bytes of a page.
+pub const PAGE_BYTES: usize = 4096;
+
+/// One more than the greatest count.
+pub const COUNT_LIMIT: u64 = 1 << 48;
+
+/// A number of steps of one hart, below `COUNT_LIMIT`.
+pub type Count = u64;
+
+/// A term: 0 means boot, and granted ones count from 1.
+pub type Term = u32;
+
+/// A hart, by its number.
+#[derive(Clone, Copy, Debug, PartialEq, Eq)]
+pub struct Hart {
+    number: u8,
+}
+
+impl Model for Hart {
+    ghost Value = { ℕ };
+
+    ghost view = { λ h. h.number };
+
+    ghost invariant = { λ h. h.number < 8 };
+
+    ghost inverse = { λ n. record { number = n } };
+}
+
+impl Hart {
+    /// The hart of this number.
+    #[inline(always)]
+    pub fn new(number: u8) -> Hart
+        requires { number < HART_LIMIT }
+        ensures { result ≡ number }
+    {
+        Hart { number }
+    }
+
+    /// The hart's number, below `HART_LIMIT`.
+    #[inline(always)]
+    pub fn number(self) -> u8
+        ensures value { result ≡ self }
+        ensures below { result < 8 }
+    {
+        self.number
+    }
+
+    /// The hart's number, as the index of a row.
+    #[inline(always)]
+    pub fn index(self) -> usize
+        ensures value { result ≡ self }
+        ensures below { result < 8 }
+    {
+        self.number as usize
+    }
+}
+
+/// A keeper, by its number.
+#[derive(Clone, Copy, Debug, PartialEq, Eq)]
+pub struct Keeper {
+    number: u8,
+}
+
+impl Model for Keeper {
+    ghost Value = { ℕ };
+
+    ghost view = { λ k. k.number };
+
+    ghost invariant = { λ k. k.number < 5 };
+
+    ghost inverse = { λ n. record { number = n } };
+}
+
+impl Keeper {
+    /// The keeper of this number.
+    pub fn new(number: u8) -> Keeper
+        requires { number < KEEPER_LIMIT }
+        ensures { result ≡ number }
+    {
+        Keeper { number }
+    }
+
+    /// The keeper's number, below `KEEPER_LIMIT`.
+    pub fn number(self) -> u8
+        ensures value { result ≡ self }
+        ensures below { result < 5 }
+    {
+        self.number
+    }
+
+    /// The keeper's number, as the index of a row.
+    pub fn index(self) -> usize
+        ensures value { result ≡ self }
+        ensures below { result < 5 }
+    {
+        self.number as usize
+    }
+}
+
+/// A page of RAM, by its number: page `p` begins `p * PAGE_BYTES` bytes after the first address of RAM.
+#[derive(Clone, Copy, Debug, PartialEq, Eq)]
+pub struct PageNo {
+    number: u8,
+}
+
+impl Model for PageNo {
+    ghost Value = { ℕ };
+
+    ghost view = { λ p. p.number };
+
+    ghost invariant = { λ p. p.number < 64 };
+
+    ghost inverse = { λ n. record { number = n } };
+}
+
+impl PageNo {
+    /// The page of this number.
+    #[inline(always)]
+    pub fn new(number: u8) -> PageNo
+        requires { number < PAGE_LIMIT }
+        ensures { result ≡ number }
+    {
+        PageNo { number }
+    }
+
+    /// The page's number, below `PAGE_LIMIT`.
+    #[inline(always)]
+    pub fn number(self) -> u8
+        ensures value { result ≡ self }
+        ensures below { result < 64 }
+    {
+        self.number
+    }
+
+    /// The page's number, as the index of a row.
+    #[inline(always)]
+    pub fn index(self) -> usize
+        ensures value { result ≡ self }
+        ensures below { result < 64 }
+    {
+        self.number as usize
+    }
+}
+
+/// What a hart wants to do with a page.
+#[derive(Clone, Copy, Debug, PartialEq, Eq)]
+pub enum Want {
+    Read,
+    Write,
+}
