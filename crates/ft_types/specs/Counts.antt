@@ -1,6 +1,5 @@
 -- Rows of one count per hart, and their order.
-use Rattle.std.specs.Prelude.{◌≡◌, ℕ, ◌^◌, ◌-◌, ◌<◌, ◌≤◌, List, [], ◌∷◌, ◌++◌, length, drop, replicate, slice_index_or, min, max}
-use Rattle.std.specs.List.{AllByRecursion}
+use Rattle.std.specs.Prelude.{ℕ, ◌^◌, ◌<◌, ◌≤◌, List, [], ◌∷◌, slice_index_or, min, max}
 
 -- the count of a hart, 0 where the row has none
 abbrev pub count_at : List ℕ → ℕ → ℕ

@@ -15,7 +15,7 @@ pub struct Counts {
 }
 
 impl Model for Counts {
-    ghost use Rattle.std.specs.Prelude.{ℕ, List, take, length, ◌-◌, ◌++◌, replicate};
+    ghost use Rattle.std.specs.Prelude.{ℕ, List, take, length, ◌-◌, ◌++◌, replicate, refl};
     ghost use Rattle.ft_types.specs.Rows.{IsRow, words_of_view, length_of_view};
 
     ghost Value = { List ℕ };
@@ -26,7 +26,7 @@ impl Model for Counts {
 
     ghost inverse = { λ xs. record { row = xs ++ replicate (8 - length xs) 0; harts = length xs } };
 
-    ghost inverse_ok = { λ a h. Prim.cc (words_of_view a.row a.harts h, length_of_view a.row a.harts h) };
+    ghost inverse_ok = { λ a h. Prim.rw (words_of_view a.row a.harts h, length_of_view a.row a.harts h) refl };
 }
 
 fn least(row: [u64; 8], other: [u64; 8]) -> [u64; 8]

@@ -1,6 +1,6 @@
 //! Small sets of harts and of keepers.
 
-ghost use Rattle.std.specs.Prelude.{◌≡◌, ◌<◌, ℕ, length, replicate, false, true, slice_index_or, slice_set, IsTrue, ◌↔◌};
+ghost use Rattle.std.specs.Prelude.{◌≡◌, ◌<◌, ◌≤◌, ℕ, length, replicate, false, true, slice_index_or, slice_set, IsTrue, ◌↔◌};
 ghost use Rattle.ft_types.specs.Sets.{IsMember};
 
 use std::marker::Model;
