@@ -1,10 +1,11 @@
 -- The interleaving's machine at a cut, hart by hart and page by page.
-use Rattle.std.proofs.Common.{◌≡◌, ◌≢◌, ◌⊎◌, inl, inr, ℕ, ◌+◌, ◌≤◌, true, false, cond, List, [], ◌∷◌, ◌++◌, Option, Some, None, MatchOption, filter, refl, sym, ap, subst, ◌∙◌, arith, le_trans, lt-ltb, le-ltb}
+use Rattle.std.proofs.Common.{◌≡◌, ◌≢◌, ◌⊎◌, inl, inr, ℕ, ◌+◌, ◌≤◌, true, false, cond, List, [], ◌∷◌, ◌++◌, Option, Some, None, MatchOption, filter, refl, sym, ap, subst, ◌∙◌, arith, le_trans, lt-ltb, le-ltb, ◌<◌, true≢false}
 use Rattle.std.proofs.lemmas.Bool.{cases_Bool, cases_lt}
 use Rattle.interleaving.specs.Lists.{Each}
-use Rattle.interleaving.specs.Machine.{Machine, System, Turn, Write, Writes, written, after, after_all, counts, step_of, steps, inside, Runs, run}
-use Rattle.interleaving.specs.AsItWas.{HartAsItWas, PageAsItWas, PageUnwritten}
-use Rattle.interleaving.proofs.Put.{same_or_not, put_same, put_other, written_other, bump_le}
+use Rattle.interleaving.specs.Log.{bump}
+use Rattle.interleaving.specs.Machine.{Machine, System, Turn, Step, Write, Writes, written, after, after_all, counts, step_of, steps, inside, Runs, run}
+use Rattle.interleaving.specs.AsItWas.{HartAsItWas, HartWasThere, PageAsItWas, PageUnwritten, PageHasWriter}
+use Rattle.interleaving.proofs.Put.{same_or_not, put_same, put_other, written_other, bump_other, bump_le}
 use Rattle.interleaving.proofs.Pull.{counts_step}
 
 -- a page that is written does not depend on what was there
@@ -121,7 +122,70 @@ pub hart_as_it_was : {Hart Page Input : Type 0} (system : System Hart Page Input
 hart_as_it_was system m front rest cut hart runs at_cut = hart_from system cut m m front rest hart runs refl at_cut
 
 pub page_as_it_was : {Hart Page Input : Type 0} (system : System Hart Page Input) → PageAsItWas system
-page_as_it_was system m front rest t cut page is_inside writes none = last_written system cut m m front rest t page is_inside writes none
+page_as_it_was system m front t rest cut page last =
+    last_written system cut m m front rest t page last.is_inside last.writes last.none_later
 
 pub page_unwritten : {Hart Page Input : Type 0} (system : System Hart Page Input) → PageUnwritten system
 page_unwritten system m turns cut page none = unwritten system cut m m turns page none
+
+pub hart_was_there : {Hart Page Input : Type 0} (system : System Hart Page Input) → HartWasThere system
+hart_was_there system m [] cut hart runs from to = ([], [], refl, (omega arith))
+hart_was_there system m (a ∷ turns) cut hart runs from to =
+    elim (cases_lt (counts system m hart) (cut hart)) [
+      | inl below ↦
+          let (front, rest, is, reached) =
+          hart_was_there system (after m (step_of system m a)) turns cut hart runs.1 (grown below) to in
+          (a ∷ front, rest, ap (λ ts. a ∷ ts) is, reached)
+      | inr over ↦ ([], a ∷ turns, refl, (omega arith))
+    ]
+  where
+    counted : counts system (after m (step_of system m a)) hart ≡ bump (counts system m) a.hart hart
+    counted = ap (λ n. n hart) (counts_step system m a runs.0)
+
+    grown : counts system m hart < cut hart → counts system (after m (step_of system m a)) hart ≤ cut hart
+    grown below =
+        elim (same_or_not a.hart hart) [
+          | inl same ↦
+              let f : bump (counts system m) a.hart hart ≡ counts system m a.hart + 1 =
+              put_same (counts system m) a.hart hart (counts system m a.hart + 1) same in
+              let g : counts system m a.hart ≡ counts system m hart = ap (counts system m) same in
+              omega (arith, counted)
+          | inr ne ↦
+              let f : bump (counts system m) a.hart hart ≡ counts system m hart = bump_other (counts system m) a.hart hart ne in
+              omega (arith, counted)
+        ]
+
+writes_or_not : {Page : Type 0} (w : Option (Write Page)) (page : ℕ) →
+    MatchOption w ⊥ (λ w. w.page ≡ page) ⊎ (MatchOption w ⊥ (λ w. w.page ≡ page) → ⊥)
+writes_or_not None page = inr (λ h. h)
+writes_or_not (Some w) page = same_or_not w.page page
+
+pub page_has_writer : {Hart Page Input : Type 0} (system : System Hart Page Input) → PageHasWriter system
+page_has_writer system m [] cut page = inl tt
+page_has_writer {Hart} {Page} {Input} system m (a ∷ turns) cut page =
+    elim (page_has_writer system next turns cut page) [
+      | inr (front, t, rest, is, last) ↦
+          inr (
+            a ∷ front,
+            t,
+            rest,
+            ap (λ ts. a ∷ ts) is,
+            record { is_inside = last.is_inside; writes = last.writes; none_later = last.none_later },
+          )
+      | inl none ↦
+          elim (cases_Bool (inside system cut s)) [
+            | inr outside ↦ inl ((λ is_inside. absurd (true≢false (sym is_inside ∙ outside))), none)
+            | inl is_inside ↦
+                elim (writes_or_not s.effect.write page) [
+                  | inl writes ↦
+                      inr ([], a, turns, refl, record { is_inside = is_inside; writes = writes; none_later = none })
+                  | inr not ↦ inl ((λ is_inside. not), none)
+                ]
+          ]
+    ]
+  where
+    s : Step Hart Page Input
+    s = step_of system m a
+
+    next : Machine Hart Page
+    next = after m s

@@ -1,13 +1,13 @@
 -- More of schedules: each beginning stands at a cut of its own, and there is always a whole one.
-use Rattle.std.proofs.Common.{◌≡◌, inl, inr, ℕ, ◌+◌, ◌<◌, ◌≤◌, min, List, [], ◌∷◌, refl, ap, arith, le_trans, lt-ltb, le-ltb}
+use Rattle.std.proofs.Common.{◌≡◌, inl, inr, ℕ, ◌+◌, ◌<◌, ◌≤◌, min, List, [], ◌∷◌, ◌++◌, refl, ap, arith, le_trans, lt-ltb, le-ltb}
 use Rattle.std.proofs.lemmas.Bool.{cases_lt}
 use Rattle.interleaving.specs.Machine.{Machine, System, Turn, after, counts, step_of, run}
-use Rattle.interleaving.specs.Log.{Edge, Log, IsCut, IsClosed, IsMet, Begins, counts_after, bump}
-use Rattle.interleaving.specs.Beginnings.{Reached, OwnOrder, order_at}
+use Rattle.interleaving.specs.Log.{Edge, Log, IsCut, IsClosed, IsMet, Begins, counts_after, turns_of, bump}
+use Rattle.interleaving.specs.Beginnings.{Reached, Extends, OwnOrder, order_at}
 use Rattle.interleaving.proofs.Put.{same_or_not, put_same, bump_same, bump_other, bump_le}
 use Rattle.interleaving.proofs.Order.{bump_closed}
 use Rattle.interleaving.proofs.Pull.{Rest, tail, counts_step}
-use Rattle.interleaving.proofs.Replay.{confluence, rest_of}
+use Rattle.interleaving.proofs.Replay.{Followed, followed, confluence, rest_of}
 
 counts_after_le : (now : ℕ → ℕ) (order : List ℕ) (hart : ℕ) → now hart ≤ counts_after now order hart
 counts_after_le now [] hart = omega arith
@@ -119,11 +119,57 @@ pub own_order : {Hart Page Input : Type 0} (system : System Hart Page Input) →
 own_order system log m turns cut honest is_cut =
     let whole =
     own_from system log cut is_cut.closed m turns log.start (rest_of system log m turns honest)
-    (λ hart. let a : log.start hart ≤ cut hart = is_cut.from_start hart in let b : log.start hart ≡ counts system m hart = honest.start hart in omega arith) in (
-      whole.0,
-      λ hart.
+    (λ hart. let a : log.start hart ≤ cut hart = is_cut.from_start hart in let b : log.start hart ≡ counts system m hart = honest.start hart in omega arith) in
+    record {
+      begins = whole.0;
+      complete =
+          λ hart.
           let a : cut hart ≤ log.end hart = is_cut.to_end hart in
           let b : log.end hart ≡ counts system (run system m turns) hart = honest.end hart in
           let c : counts_after log.start (order_at system m turns cut) hart ≡ min (counts system (run system m turns) hart) (cut hart) = whole.1 hart in
-          omega arith,
-    )
+          omega arith;
+    }
+
+begins_append : (edges : List Edge) (cut now : ℕ → ℕ) (order rest : List ℕ) → Begins edges cut now order →
+    Begins edges cut (counts_after now order) rest → Begins edges cut now (order ++ rest)
+begins_append edges cut now [] rest first second = second
+begins_append edges cut now (hart ∷ order) rest first second =
+    (first.0, begins_append edges cut (bump now hart) order rest first.1 second)
+
+counts_after-append : (now : ℕ → ℕ) (order rest : List ℕ) → counts_after now (order ++ rest) ≡ counts_after (counts_after now order) rest
+counts_after-append now [] rest = refl
+counts_after-append now (hart ∷ order) rest = counts_after-append (bump now hart) order rest
+
+pub extends : {Hart Page Input : Type 0} (system : System Hart Page Input) → Extends system
+extends {Hart} {Page} {Input} system log m turns cut order honest is_cut begins = (
+  rest,
+  record {
+    begins = begins_append log.edges cut log.start order rest begins whole.0;
+    complete =
+        λ hart.
+        let a : cut hart ≤ log.end hart = is_cut.to_end hart in
+        let b : log.end hart ≡ counts system (run system here f.left) hart = f.rest.end hart in
+        let c : counts_after (counts_after log.start order) rest hart ≡ min (counts system (run system here f.left) hart) (cut hart) = whole.1 hart in
+        let d : counts_after log.start (order ++ rest) hart ≡ counts_after (counts_after log.start order) rest hart =
+        ap (λ n. n hart) (counts_after-append log.start order rest) in
+        omega arith;
+  },
+)
+  where
+    f : Followed system log m turns cut log.start order
+    f = followed system log m turns cut order honest is_cut begins
+
+    here : Machine Hart Page
+    here = run system m (turns_of log.inputs log.start order)
+
+    rest : List ℕ
+    rest = order_at system here f.left cut
+
+    whole : IsWhole system log cut is_cut.closed here f.left (counts_after log.start order)
+    whole =
+        own_from system log cut is_cut.closed here f.left (counts_after log.start order) f.rest
+        (λ hart.
+        let a : counts_after log.start order hart ≤ cut hart =
+        counts_after_fit log.edges cut log.start order begins is_cut.from_start hart in
+        let b : counts system here hart ≡ counts_after log.start order hart = ap (λ n. n hart) f.counts_are in
+        omega arith)

@@ -1,14 +1,17 @@
 -- Closed cuts: the greater of two, the greatest below a bound; edges that say nothing new.
-use Rattle.std.proofs.Common.{◌≡◌, ◌⊎◌, inl, inr, ℕ, zero, suc, ◌+◌, ◌<◌, ◌≤◌, max, true, false, cond, List, [], ◌∷◌, Contains, nat_lt, refl, sym, ap, subst, ◌∙◌, arith, le_trans, lt-ltb, le-ltb}
+use Rattle.std.proofs.Common.{◌≡◌, ◌⊎◌, inl, inr, ℕ, zero, suc, ◌+◌, ◌<◌, ◌≤◌, true, false, cond, List, [], ◌∷◌, Contains, nat_lt, refl, sym, ap, subst, ◌∙◌, arith, le_trans, lt-ltb, le-ltb}
 use Rattle.std.proofs.lemmas.Bool.{cases_lt}
 use Rattle.std.proofs.lemmas.List.Elements.{Contains-append_cases, Contains-append_left, Contains-append_right}
-use Rattle.interleaving.specs.Lists.{put}
-use Rattle.interleaving.specs.Log.{Edge, Place, Before, Own, Across, Through, IsClosed, IsMet}
-use Rattle.interleaving.specs.Cuts.{IsGreatest, IsEnough, IsSameOrder}
-use Rattle.interleaving.proofs.Put.{same_or_not, put_same, put_other}
-use Rattle.interleaving.proofs.Order.{before_inside}
+use Rattle.interleaving.specs.Lists.{IsWithin}
+use Rattle.interleaving.specs.Log.{Edge, Place, Before, Own, Across, Through, IsClosed, IsMet, Begins, bump}
+use Rattle.interleaving.specs.Cuts.{StartIsClosed, GreaterIsClosed, IsGreatest, IsBroken, ClosedOrBroken, IsLowering, LoweringKeeps, lowered, IsEnough, ImpliedMayGo}
+use Rattle.interleaving.proofs.Put.{same_or_not, put_same, put_other, bump_le}
+use Rattle.interleaving.proofs.Order.{before_inside, bump_closed}
 
-pub greater_closed : (edges : List Edge) (a b : ℕ → ℕ) → IsClosed edges a → IsClosed edges b → IsClosed edges (λ h. max (a h) (b h))
+pub start_closed : StartIsClosed
+start_closed edges start later e is_edge below = let h : start e.hart ≤ e.step = later e is_edge in absurd (omega arith)
+
+pub greater_closed : GreaterIsClosed
 greater_closed edges a b ca cb e is_edge below =
     elim (cases_lt e.step (a e.hart)) [
       | inl less ↦ let h : e.count ≤ a e.other = ca e is_edge less in omega arith
@@ -26,11 +29,7 @@ here_or_later x xs y h = elim (Contains-append_cases (x ∷ []) xs y h) [ inl on
 pub here : {A : Type 0} (x : A) (xs : List A) → Contains (x ∷ xs) x
 here x xs = Contains-append_left (x ∷ []) xs x (0, (omega arith), refl)
 
--- the edge is broken at the cut
-abbrev IsBroken : (ℕ → ℕ) → Edge → Type 0
-IsBroken cut e = (e.step < cut e.hart) × (cut e.other < e.count)
-
-find_broken : (edges : List Edge) (cut : ℕ → ℕ) → IsClosed edges cut ⊎ ((e : Edge) × Contains edges e × IsBroken cut e)
+pub find_broken : ClosedOrBroken
 find_broken [] cut = inl (λ e (k, below, is). absurd (omega arith))
 find_broken (x ∷ edges) cut =
     elim (find_broken edges cut) [
@@ -97,49 +96,69 @@ asked_less (x ∷ edges) cut lower le e is_edge was now =
           ]
     ]
 
--- what is greatest below the bound with one broken edge's hart stopped in front of it, is greatest below the bound
-lower_one : (edges : List Edge) (bound : ℕ → ℕ) (e : Edge) → Contains edges e → IsBroken bound e →
-    (asked edges (put bound e.hart e.step) < asked edges bound → (cut : ℕ → ℕ) × IsGreatest edges (put bound e.hart e.step) cut) →
-    (cut : ℕ → ℕ) × IsGreatest edges bound cut
-lower_one edges bound e is_edge (step, short) rec = (found.0, record { closed = g.closed; below = λ h. le_trans (g.below h) (falls h); greatest = best })
+pub lowering : LoweringKeeps
+lowering edges bound e is_edge (step, short) = record { less = less; below = falls; keeps = under }
   where
-    lower : ℕ → ℕ
-    lower = put bound e.hart e.step
-
-    at_hart : (h : ℕ) → e.hart ≡ h → lower h ≡ e.step
+    at_hart : (h : ℕ) → e.hart ≡ h → lowered bound e h ≡ e.step
     at_hart h = put_same bound e.hart h e.step
 
-    falls : (h : ℕ) → lower h ≤ bound h
+    less : lowered bound e e.hart < bound e.hart
+    less = let f : lowered bound e e.hart ≡ e.step = at_hart e.hart refl in omega (arith, step)
+
+    falls : (h : ℕ) → lowered bound e h ≤ bound h
     falls h =
         elim (same_or_not e.hart h) [
-          | inl same ↦ let f : lower h ≡ e.step = at_hart h same in let k : bound e.hart ≡ bound h = ap bound same in omega arith
-          | inr ne ↦ let f : lower h ≡ bound h = put_other bound e.hart h e.step ne in omega arith
+          | inl same ↦
+              let f : lowered bound e h ≡ e.step = at_hart h same in
+              let k : bound e.hart ≡ bound h = ap bound same in
+              omega (arith, step)
+          | inr ne ↦ let f : lowered bound e h ≡ bound h = put_other bound e.hart h e.step ne in omega arith
         ]
 
-    found : (cut : ℕ → ℕ) × IsGreatest edges lower cut
-    found = rec (asked_less edges bound lower falls e is_edge step (let f : lower e.hart ≡ e.step = at_hart e.hart refl in omega arith))
-
-    g : IsGreatest edges lower found.0
-    g = found.1
-
-    best : (other : ℕ → ℕ) → IsClosed edges other → ((hart : ℕ) → other hart ≤ bound hart) → (hart : ℕ) → other hart ≤ found.0 hart
-    best other closed below = g.greatest other closed under
+    under : (cut : ℕ → ℕ) → IsClosed edges cut → IsWithin cut bound → IsWithin cut (lowered bound e)
+    under cut closed below h =
+        elim (same_or_not e.hart h) [
+          | inl same ↦
+              let f : lowered bound e h ≡ e.step = at_hart h same in
+              let k : cut e.hart ≡ cut h = ap cut same in
+              omega (arith, not_past)
+          | inr ne ↦
+              let f : lowered bound e h ≡ bound h = put_other bound e.hart h e.step ne in
+              let b : cut h ≤ bound h = below h in
+              omega arith
+        ]
       where
-        not_past : other e.hart ≤ e.step
+        not_past : cut e.hart ≤ e.step
         not_past =
-            elim (cases_lt e.step (other e.hart)) [
+            elim (cases_lt e.step (cut e.hart)) [
               | inl past ↦
-                  let c : e.count ≤ other e.other = closed e is_edge past in let d : other e.other ≤ bound e.other = below e.other in absurd (omega arith)
+                  let c : e.count ≤ cut e.other = closed e is_edge past in
+                  let d : cut e.other ≤ bound e.other = below e.other in
+                  absurd (omega (arith, short))
               | inr fine ↦ fine
             ]
 
-        under : (h : ℕ) → other h ≤ lower h
-        under h =
-            elim (same_or_not e.hart h) [
-              | inl same ↦
-                  let f : lower h ≡ e.step = at_hart h same in let k : other e.hart ≡ other h = ap other same in omega (arith, not_past)
-              | inr ne ↦ let f : lower h ≡ bound h = put_other bound e.hart h e.step ne in let b : other h ≤ bound h = below h in omega arith
-            ]
+-- what is greatest below the bound with one broken edge's hart stopped in front of it, is greatest below the bound
+lower_one : (edges : List Edge) (bound : ℕ → ℕ) (e : Edge) → Contains edges e → IsBroken bound e →
+    (asked edges (lowered bound e) < asked edges bound → (cut : ℕ → ℕ) × IsGreatest edges (lowered bound e) cut) →
+    (cut : ℕ → ℕ) × IsGreatest edges bound cut
+lower_one edges bound e is_edge (step, short) rec = (
+  found.0,
+  record {
+    closed = found.1.closed;
+    below = λ h. le_trans (found.1.below h) (low.below h);
+    greatest = λ other closed below. found.1.greatest other closed (low.keeps other closed below);
+  },
+)
+  where
+    low : IsLowering edges bound e
+    low = lowering edges bound e is_edge (step, short)
+
+    found : (cut : ℕ → ℕ) × IsGreatest edges (lowered bound e) cut
+    found =
+        rec
+        (asked_less edges bound (lowered bound e) low.below e is_edge step
+        (let f : lowered bound e e.hart ≡ e.step = put_same bound e.hart e.hart e.step refl in omega arith))
 
 greatest_by : (fuel : ℕ) (edges : List Edge) (bound : ℕ → ℕ) → asked edges bound ≤ fuel → IsClosed edges bound ⊎ ((e : Edge) × Contains edges e × IsBroken bound e) →
     (cut : ℕ → ℕ) × IsGreatest edges bound cut
@@ -148,7 +167,7 @@ greatest_by fuel edges bound enough (inl closed) =
 greatest_by zero edges bound enough (inr (e, is_edge, broken)) = lower_one edges bound e is_edge broken (λ less. absurd (omega arith))
 greatest_by (suc fuel) edges bound enough (inr (e, is_edge, broken)) =
     lower_one edges bound e is_edge broken
-    (λ less. greatest_by fuel edges (put bound e.hart e.step) (omega arith) (find_broken edges (put bound e.hart e.step)))
+    (λ less. greatest_by fuel edges (lowered bound e) (omega arith) (find_broken edges (lowered bound e)))
 
 pub greatest : (edges : List Edge) (bound : ℕ → ℕ) → (cut : ℕ → ℕ) × IsGreatest edges bound cut
 greatest edges bound = greatest_by (asked edges bound) edges bound (omega arith) (find_broken edges bound)
@@ -202,7 +221,24 @@ few_met few all start enough now hart from_start closed met e is_edge here_is st
           ]
     ]
 
-pub same_order : (few all : List Edge) (start : ℕ → ℕ) → IsEnough few all start → IsSameOrder few all start
+begins_few : (few all : List Edge) (start : ℕ → ℕ) → IsEnough few all start → (cut now : ℕ → ℕ) (order : List ℕ) →
+    IsWithin start now → IsClosed few now → Begins few cut now order → Begins all cut now order
+begins_few few all start enough cut now [] from closed begins = tt
+begins_few few all start enough cut now (hart ∷ order) from closed begins = (
+  (begins.0.0, few_met few all start enough now hart from closed begins.0.1),
+  begins_few few all start enough cut (bump now hart) order (λ i. le_trans (from i) (bump_le now hart i))
+      (bump_closed few now hart closed begins.0.1) begins.1,
+)
+
+begins_among : (few all : List Edge) → ((e : Edge) → Contains few e → Contains all e) → (cut now : ℕ → ℕ) (order : List ℕ) →
+    Begins all cut now order → Begins few cut now order
+begins_among few all among cut now [] begins = tt
+begins_among few all among cut now (hart ∷ order) begins = (
+  (begins.0.0, λ e is_edge here_is stands. begins.0.1 e (among e is_edge) here_is stands),
+  begins_among few all among cut (bump now hart) order begins.1,
+)
+
+pub same_order : ImpliedMayGo
 same_order few all start enough =
     record {
       cuts = λ cut from. (few_closed few all start enough cut from, λ closed e is_edge below. closed e (enough.among e is_edge) below);
@@ -210,4 +246,9 @@ same_order few all start enough =
       met =
           λ now hart from closed.
           (few_met few all start enough now hart from closed, λ met e is_edge here_is stands. met e (enough.among e is_edge) here_is stands);
+      schedules =
+          λ cut order. (
+            begins_few few all start enough cut start order (λ i. omega arith) enough.start_closed,
+            begins_among few all enough.among cut start order,
+          );
     }

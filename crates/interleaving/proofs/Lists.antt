@@ -1,10 +1,11 @@
 -- Machines whose harts and pages stand in lists.
-use Rattle.std.proofs.Common.{◌≡◌, ◌≢◌, ◌⊎◌, inl, inr, ℕ, zero, suc, ◌<◌, false, List, [], ◌∷◌, Option, Some, None, MatchOption, option_map, slice_get, slice_set, length, refl, sym, ap, subst, ◌∙◌, arith, true≢false}
+use Rattle.std.proofs.Common.{◌≡◌, ◌≢◌, ◌⊎◌, inl, inr, ℕ, zero, suc, ◌<◌, true, false, List, [], ◌∷◌, Option, Some, None, MatchOption, option_map, slice_get, slice_set, length, refl, sym, ap, subst, ◌∙◌, arith, true≢false}
+use Rattle.std.proofs.lemmas.Bool.{cases_Bool}
 use Rattle.std.proofs.lemmas.Option.{slice_get_within}
 use Rattle.interleaving.specs.Lists.{put}
 use Rattle.interleaving.specs.Machine.{Turn, Step, Write, written, after, step_of, Runs, run, at}
 use Rattle.interleaving.specs.Log.{turns_of, IsReplayed}
-use Rattle.interleaving.specs.Stored.{Store, Hardware, written_in, stored_after, goes, run_from, halted_of, effect_of, system_of, view, RunsStored, OneOutcome}
+use Rattle.interleaving.specs.Stored.{Store, Hardware, written_in, stored_after, goes, run_from, halted_of, effect_of, system_of, view, RunsStored, StoredRuns, OneOutcome}
 use Rattle.interleaving.proofs.Put.{same_or_not, put_same, put_other}
 use Rattle.interleaving.proofs.Replay.{confluence}
 
@@ -82,15 +83,43 @@ module _ {Hart Page Input : Type 0} (hardware : Hardware Hart Page Input) where
       let (result, run_is, result_is) = runs_stored next turns (subst (λ m. Runs (system_of hardware) m turns) (sym view_is) runs.1) in
       (result, ap (λ o. run_from hardware o turns) goes_is ∙ run_is, result_is ∙ ap (λ m. run (system_of hardware) m turns) view_is)
 
+  some_is : {A : Type 0} (a b : A) → Some a ≡ Some b → a ≡ b
+  some_is a b e = cc
+
+  not_some : {A : Type 0} (o : Option A) (a : A) → o ≡ None → o ≡ Some a → ⊥
+  not_some o a e f = let g = sym e ∙ f in cc
+
+  none_goes : (s : Store Hart Page) (t : Turn Input) (hart : Option Hart) → halted_of hardware hart ≡ true →
+      goes hardware s t hart ≡ None
+  none_goes s t None halted = refl
+  none_goes s t (Some hart) halted = rw halted refl
+
+  pub stored_runs : StoredRuns hardware
+  stored_runs s [] result is = (tt, ap (view hardware) (sym (some_is s result is)))
+  stored_runs s (t ∷ turns) result is =
+      elim (cases_Bool (halted_of hardware (slice_get s.harts t.hart))) [
+        | inl halted ↦
+            absurd
+            (not_some (run_from hardware (goes hardware s t (slice_get s.harts t.hart)) turns) result
+            (ap (λ o. run_from hardware o turns) (none_goes s t (slice_get s.harts t.hart) halted)) is)
+        | inr goes_is ↦
+            let (next, next_is, view_is) = goes_on s t (slice_get s.harts t.hart) refl goes_is in
+            let (runs, run_is) =
+            stored_runs next turns result (sym (ap (λ o. run_from hardware o turns) next_is) ∙ is) in (
+              (goes_is, subst (λ m. Runs (system_of hardware) m turns) view_is runs),
+              run_is ∙ ap (λ m. run (system_of hardware) m turns) view_is,
+            )
+      ]
+
   pub one_outcome : OneOutcome hardware
-  one_outcome log s turns cut one other honest is_cut begins_one whole_one begins_other whole_other =
+  one_outcome log s turns cut one other honest is_cut first second =
       (result₁.0, result₁.1, result₂.1 ∙ ap Some (sym same), at₁)
     where
       replay₁ : IsReplayed (system_of hardware) log (view hardware s) turns cut one
-      replay₁ = confluence (system_of hardware) log (view hardware s) turns cut one honest is_cut begins_one
+      replay₁ = confluence (system_of hardware) log (view hardware s) turns cut one honest is_cut first.begins
 
       replay₂ : IsReplayed (system_of hardware) log (view hardware s) turns cut other
-      replay₂ = confluence (system_of hardware) log (view hardware s) turns cut other honest is_cut begins_other
+      replay₂ = confluence (system_of hardware) log (view hardware s) turns cut other honest is_cut second.begins
 
       result₁ : (result : Store Hart Page) × (run_from hardware (Some s) (turns_of log.inputs log.start one) ≡ Some result) × (view hardware result ≡ run (system_of hardware) (view hardware s) (turns_of log.inputs log.start one))
       result₁ = runs_stored s (turns_of log.inputs log.start one) replay₁.runs
@@ -99,7 +128,7 @@ module _ {Hart Page Input : Type 0} (hardware : Hardware Hart Page Input) where
       result₂ = runs_stored s (turns_of log.inputs log.start other) replay₂.runs
 
       at₁ : view hardware result₁.0 ≡ at (system_of hardware) (view hardware s) turns cut
-      at₁ = result₁.2 ∙ replay₁.outcome whole_one
+      at₁ = result₁.2 ∙ replay₁.outcome first.complete
 
       same : result₁.0 ≡ result₂.0
-      same = same_store result₁.0 result₂.0 (at₁ ∙ sym (result₂.2 ∙ replay₂.outcome whole_other))
+      same = same_store result₁.0 result₂.0 (at₁ ∙ sym (result₂.2 ∙ replay₂.outcome second.complete))

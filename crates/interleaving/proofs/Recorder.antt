@@ -1,12 +1,12 @@
 -- What a recorder writes of a run is an honest log.
-use Rattle.std.proofs.Common.{◌≡◌, ◌⊎◌, inl, inr, ℕ, ◌+◌, ◌==◌, ◌&&◌, ◌<◌, ◌≤◌, Bool, true, false, cond, if◌then◌else◌, List, [], ◌∷◌, ◌++◌, Option, Some, None, MatchOption, Contains, refl, sym, ap, subst, arith, le_trans, append_assoc, eq-eqb, eqb-true, true≢false}
+use Rattle.std.proofs.Common.{◌≡◌, ◌≢◌, ◌∙◌, ne_eqb, ◌⊎◌, inl, inr, ℕ, ◌+◌, ◌==◌, ◌&&◌, ◌<◌, ◌≤◌, Bool, true, false, cond, if◌then◌else◌, List, [], ◌∷◌, ◌++◌, Option, Some, None, MatchOption, Contains, refl, sym, ap, subst, arith, le_trans, append_assoc, eq-eqb, eqb-true, true≢false}
 use Rattle.std.proofs.lemmas.Bool.{cases_Bool}
 use Rattle.std.proofs.lemmas.List.Elements.{Contains-append_cases, Contains-append_left, Contains-append_right}
 use Rattle.interleaving.specs.Lists.{Each, EachPair}
 use Rattle.interleaving.specs.Machine.{Write, Writes, System, Machine, Turn, Step, after, counts, step_of, steps, Runs}
 use Rattle.interleaving.specs.Log.{Edge, Before, Across, Through, IsMet, EachMet, Conflict, place, bump}
-use Rattle.interleaving.specs.Recorder.{is_write, has, edge_after, edges_at, edges_for, recorded, RecordsHonestly}
-use Rattle.interleaving.proofs.Put.{put_same, bump_same, bump_le}
+use Rattle.interleaving.specs.Recorder.{is_write, has, edge_after, edges_at, edges_for, recorded, RecordsHonestly, input_at, log_of, RecordsEachRun}
+use Rattle.interleaving.proofs.Put.{same_or_not, put_same, bump_same, bump_le}
 use Rattle.interleaving.proofs.Pull.{counts_step}
 use Rattle.interleaving.proofs.Cuts.{here_or_later, here}
 
@@ -299,3 +299,57 @@ module _ {Hart Page Input : Type 0} (system : System Hart Page Input) where
     where
       start : log.start ≡ counts system m
       start = λ i hart. recording.start hart i
+
+  -- each step comes at or after its hart's count
+  from_now : (now : ℕ → ℕ) (xs : List (Step Hart Page Input)) → InTurn now xs → Each (λ s. now s.hart ≤ system.count s.found) xs
+  from_now now [] turn = tt
+  from_now now (t ∷ rest) turn = (
+    (let e : system.count t.found ≡ now t.hart = turn.0 in omega arith),
+    each_map (λ s. bump now t.hart s.hart ≤ system.count s.found) (λ s. now s.hart ≤ system.count s.found)
+        (λ s le. le_trans (bump_le now t.hart s.hart) le) rest (from_now (bump now t.hart) rest turn.1),
+  )
+
+  input_here : (idle : Input) (t : Step Hart Page Input) (rest : List (Step Hart Page Input)) →
+      input_at system idle (t ∷ rest) t.hart (system.count t.found) ≡ t.input
+  input_here idle t rest =
+      rw (eq-eqb t.hart t.hart refl, eq-eqb (system.count t.found) (system.count t.found) refl) refl
+
+  input_later : (idle : Input) (t : Step Hart Page Input) (rest : List (Step Hart Page Input)) (hart count : ℕ) →
+      (t.hart ≡ hart → system.count t.found ≢ count) →
+      input_at system idle (t ∷ rest) hart count ≡ input_at system idle rest hart count
+  input_later idle t rest hart count apart =
+      elim (same_or_not t.hart hart) [
+        | inl same ↦ rw (eq-eqb t.hart hart same, ne_eqb (system.count t.found) count (apart same)) refl
+        | inr ne ↦ rw (ne_eqb t.hart hart ne) refl
+      ]
+
+  -- each step finds its input by its hart and its number
+  inputs_found : (idle : Input) (now : ℕ → ℕ) (xs : List (Step Hart Page Input)) → InTurn now xs →
+      Each (λ s. s.input ≡ input_at system idle xs s.hart (system.count s.found)) xs
+  inputs_found idle now [] turn = tt
+  inputs_found idle now (t ∷ rest) turn = (
+    sym (input_here idle t rest),
+    each_map (λ s. (bump now t.hart s.hart ≤ system.count s.found) × (s.input ≡ input_at system idle rest s.hart (system.count s.found)))
+        (λ s. s.input ≡ input_at system idle (t ∷ rest) s.hart (system.count s.found))
+        (λ s (from, is). is ∙ sym (input_later idle t rest s.hart (system.count s.found) (later s from))) rest
+        (each_both (λ s. bump now t.hart s.hart ≤ system.count s.found)
+        (λ s. s.input ≡ input_at system idle rest s.hart (system.count s.found)) rest
+        (from_now (bump now t.hart) rest turn.1) (inputs_found idle (bump now t.hart) rest turn.1)),
+  )
+    where
+      later : (s : Step Hart Page Input) → bump now t.hart s.hart ≤ system.count s.found → t.hart ≡ s.hart →
+          system.count t.found ≢ system.count s.found
+      later s from same is =
+          let a : bump now t.hart s.hart ≡ now t.hart + 1 = put_same now t.hart s.hart (now t.hart + 1) same in
+          let b : system.count t.found ≡ now t.hart = turn.0 in
+          absurd (omega arith)
+
+  pub records_each_run : RecordsEachRun system
+  records_each_run idle m turns runs =
+      records_honestly (log_of system idle m turns) m turns runs
+      (record {
+        edges = refl;
+        inputs = inputs_found idle (counts system m) (steps system m turns) (in_turn m turns runs);
+        start = λ hart. refl;
+        end = λ hart. refl;
+      })

@@ -2,9 +2,10 @@
 use Rattle.std.proofs.Common.{◌≡◌, ◌≢◌, ◌⊎◌, inl, inr, ℕ, ◌<◌, ◌≤◌, false, List, [], ◌∷◌, filter, refl, sym, ap, subst, ◌∙◌, arith, lt-ltb, le-ltb, le_trans}
 use Rattle.std.proofs.lemmas.Bool.{cases_lt}
 use Rattle.interleaving.specs.Machine.{Machine, System, Turn, after, after_all, counts, step_of, steps, inside, Runs, run, at}
-use Rattle.interleaving.specs.Log.{Log, IsClosed, IsMet, EachMet, IsHonest, MayGo, Begins, counts_after, turns_of, Confluence, bump}
+use Rattle.interleaving.specs.Log.{Log, IsClosed, IsMet, EachMet, IsHonest, IsCut, MayGo, Begins, counts_after, turns_of, GoesOn, Confluence, bump}
 use Rattle.interleaving.proofs.Put.{same_or_not, put_other, bump_other, bump_le}
 use Rattle.interleaving.proofs.Pulled.{Pulled, pulled_filter}
+use Rattle.interleaving.proofs.Stuck.{stuck_or_goes_on}
 use Rattle.interleaving.proofs.Pull.{Rest, next, turn_of, tail, goes, advance, pull, counts_step}
 
 module _ {Hart Page Input : Type 0} (system : System Hart Page Input) (log : Log Input) where
@@ -92,7 +93,7 @@ module _ {Hart Page Input : Type 0} (system : System Hart Page Input) (log : Log
   -- while a hart is below the cut, the first step that is left inside it may go
   pub progress : (m : Machine Hart Page) (turns : List (Turn Input)) (cut : ℕ → ℕ) → Rest system log m turns → IsClosed log.edges cut →
       ((hart : ℕ) → cut hart ≤ log.end hart) → (below : ℕ) → counts system m below < cut below →
-      (next : ℕ) × MayGo log.edges cut (counts system m) next × (system.halted (m.harts next) ≡ false)
+      GoesOn system log.edges cut (counts system m) m
   progress m [] cut r closed fits below under =
       let top : cut below ≤ log.end below = fits below in let e : log.end below ≡ counts system m below = r.end below in absurd (omega arith)
   progress m (a ∷ turns) cut r closed fits below under =
@@ -122,6 +123,20 @@ rest_of system log m turns honest =
     start : log.start ≡ counts system m
     start = λ i hart. honest.start hart i
 
+-- a replay of an honest log follows its interleaving from the start
+pub followed : {Hart Page Input : Type 0} (system : System Hart Page Input) (log : Log Input) (m : Machine Hart Page)
+    (turns : List (Turn Input)) (cut : ℕ → ℕ) (order : List ℕ) → IsHonest system log m turns → IsCut log cut →
+    Begins log.edges cut log.start order → Followed system log m turns cut log.start order
+followed system log m turns cut order honest is_cut begins =
+    subst (λ n. Followed system log m turns cut n order) (sym start)
+    (
+    follow system log m turns cut order (rest_of system log m turns honest) is_cut.to_end
+    (subst (λ n. Begins log.edges cut n order) start begins)
+    )
+  where
+    start : log.start ≡ counts system m
+    start = λ i hart. honest.start hart i
+
 -- the theorem
 pub confluence : {Hart Page Input : Type 0} (system : System Hart Page Input) → Confluence system
 confluence {Hart} {Page} {Input} system log m turns cut order honest is_cut begins =
@@ -130,27 +145,27 @@ confluence {Hart} {Page} {Input} system log m turns cut order honest is_cut begi
       outcome =
           λ complete.
           sym (f.at_cut ∙ none_inside system log after_order f.left cut f.rest.runs (λ hart. let e : counts system after_order hart ≡ cut hart = here hart ∙ complete hart in omega arith));
+      goes_on = goes_on;
       not_stuck =
-          λ below under.
-          subst
-          (λ n. (next : ℕ) × MayGo log.edges cut n next × (system.halted (after_order.harts next) ≡ false))
-          f.counts_are
-          (
-          progress system log after_order f.left cut f.rest is_cut.closed is_cut.to_end below
-          (subst (λ n. n < cut below) (sym (here below)) under)
-          );
+          λ stuck.
+          stuck_or_goes_on system log.edges cut (counts_after log.start order) after_order stuck
+          (goes_on stuck.below.0 stuck.below.1);
     }
   where
-    start : log.start ≡ counts system m
-    start = λ i hart. honest.start hart i
-
     f : Followed system log m turns cut log.start order
-    f =
-        subst (λ n. Followed system log m turns cut n order) (sym start)
-        (follow system log m turns cut order (rest_of system log m turns honest) is_cut.to_end (subst (λ n. Begins log.edges cut n order) start begins))
+    f = followed system log m turns cut order honest is_cut begins
 
     after_order : Machine Hart Page
     after_order = run system m (turns_of log.inputs log.start order)
 
     here : (hart : ℕ) → counts system after_order hart ≡ counts_after log.start order hart
     here hart = ap (λ n. n hart) f.counts_are
+
+    goes_on : (hart : ℕ) → counts_after log.start order hart < cut hart →
+        GoesOn system log.edges cut (counts_after log.start order) after_order
+    goes_on hart under =
+        subst (λ n. GoesOn system log.edges cut n after_order) f.counts_are
+        (
+        progress system log after_order f.left cut f.rest is_cut.closed is_cut.to_end hart
+        (subst (λ n. n < cut hart) (sym (here hart)) under)
+        )

@@ -1,7 +1,7 @@
--- More of schedules: each beginning stands at a cut of its own, and there is always a whole one.
-use Rattle.std.specs.Prelude.{ℕ, ◌≡◌, List, map, filter}
+-- More of schedules: each beginning stands at a cut of its own and goes on to a schedule, and there always is one.
+use Rattle.std.specs.Prelude.{ℕ, ◌≡◌, List, ◌++◌, map, filter}
 use Rattle.interleaving.specs.Machine.{Machine, System, Turn, steps, inside, run, at}
-use Rattle.interleaving.specs.Log.{Log, IsHonest, IsCut, Begins, counts_after, turns_of}
+use Rattle.interleaving.specs.Log.{Log, IsHonest, IsCut, Begins, IsSchedule, counts_after, turns_of}
 
 module _ {Hart Page Input : Type 0} (system : System Hart Page Input) where
   -- the counts that a beginning reaches are a cut, and its machine is the interleaving's there
@@ -9,14 +9,22 @@ module _ {Hart Page Input : Type 0} (system : System Hart Page Input) where
   Reached =
       (log : Log Input) (m : Machine Hart Page) (turns : List (Turn Input)) (cut : ℕ → ℕ) (order : List ℕ) →
       IsHonest system log m turns → IsCut log cut → Begins log.edges cut log.start order →
-      IsCut log (counts_after log.start order) × (run system m (turns_of log.inputs log.start order) ≡ at system m turns (counts_after log.start order))
+      IsCut log (counts_after log.start order) ×
+      (run system m (turns_of log.inputs log.start order) ≡ at system m turns (counts_after log.start order))
+
+  -- each beginning is that of a schedule
+  abbrev pub Extends : Type 0
+  Extends =
+      (log : Log Input) (m : Machine Hart Page) (turns : List (Turn Input)) (cut : ℕ → ℕ) (order : List ℕ) →
+      IsHonest system log m turns → IsCut log cut → Begins log.edges cut log.start order →
+      (rest : List ℕ) × IsSchedule log cut (order ++ rest)
 
   -- the harts of the interleaving's steps inside the cut, in its order
   abbrev pub order_at : Machine Hart Page → List (Turn Input) → (ℕ → ℕ) → List ℕ
   order_at m turns cut = map (λ s. s.hart) (filter (inside system cut) (steps system m turns))
 
-  -- the interleaving's own order is a whole schedule
+  -- the interleaving's own order is a schedule
   abbrev pub OwnOrder : Type 0
   OwnOrder =
-      (log : Log Input) (m : Machine Hart Page) (turns : List (Turn Input)) (cut : ℕ → ℕ) → IsHonest system log m turns → IsCut log cut →
-      Begins log.edges cut log.start (order_at m turns cut) × ((hart : ℕ) → counts_after log.start (order_at m turns cut) hart ≡ cut hart)
+      (log : Log Input) (m : Machine Hart Page) (turns : List (Turn Input)) (cut : ℕ → ℕ) →
+      IsHonest system log m turns → IsCut log cut → IsSchedule log cut (order_at m turns cut)

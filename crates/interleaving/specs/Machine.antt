@@ -2,6 +2,7 @@
 use Rattle.std.specs.Prelude.{ℕ, ◌≡◌, ◌+◌, Bool, false, List, [], ◌∷◌, Option, Some, None, MatchOption, Contains, filter, nat_lt}
 use Rattle.interleaving.specs.Lists.{put, Each}
 
+-- the state of each hart, and the contents of each page, by number
 pub record Machine (Hart Page : Type 0) : Type 0 where
   pub harts : ℕ → Hart
   pub pages : ℕ → Page
@@ -21,15 +22,18 @@ pub record Effect (Hart Page : Type 0) : Type 0 where
 abbrev pub Writes : {Hart Page : Type 0} → Effect Hart Page → ℕ → Type 0
 Writes effect page = MatchOption effect.write ⊥ (λ w. w.page ≡ page)
 
--- what a hart does next, by its state, its inputs and the pages; nothing where it is halted, and then `effect` is idle
+-- what a hart does in a step, by its state, its inputs and the pages; a halted hart takes none, whatever `effect` says of it
 pub record System (Hart Page Input : Type 0) : Type 0 where
   pub count : Hart → ℕ  -- how many steps it has taken
   pub halted : Hart → Bool
   pub effect : Hart → Input → (ℕ → Page) → Effect Hart Page
+  -- a step counts itself
   pub counted : (hart : Hart) (input : Input) (pages : ℕ → Page) → halted hart ≡ false →
       count (effect hart input pages).hart ≡ count hart + 1
+  -- a page that is written is touched
   pub within : (hart : Hart) (input : Input) (pages : ℕ → Page) (page : ℕ) → halted hart ≡ false →
       Writes (effect hart input pages) page → Contains (effect hart input pages).touched page
+  -- pages that are not touched do not matter
   pub local : (hart : Hart) (input : Input) (pages others : ℕ → Page) → halted hart ≡ false →
       ((page : ℕ) → Contains (effect hart input pages).touched page → pages page ≡ others page) →
       effect hart input pages ≡ effect hart input others
@@ -46,6 +50,7 @@ pub record Step (Hart Page Input : Type 0) : Type 0 where
   pub input : Input
   pub effect : Effect Hart Page
 
+-- the pages after the write, where there is one
 abbrev pub written : {Page : Type 0} → (ℕ → Page) → Option (Write Page) → ℕ → Page
 written pages None = pages
 written pages (Some w) = put pages w.page w.contents
@@ -54,6 +59,7 @@ written pages (Some w) = put pages w.page w.contents
 abbrev pub after : {Hart Page Input : Type 0} → Machine Hart Page → Step Hart Page Input → Machine Hart Page
 after m s = record { harts = put m.harts s.hart s.effect.hart; pages = written m.pages s.effect.write }
 
+-- the machine after the effects of these steps, in order
 abbrev pub after_all : {Hart Page Input : Type 0} → Machine Hart Page → List (Step Hart Page Input) → Machine Hart Page
 after_all m [] = m
 after_all m (s ∷ rest) = after_all (after m s) rest
@@ -63,6 +69,7 @@ module _ {Hart Page Input : Type 0} (system : System Hart Page Input) where
   abbrev pub counts : Machine Hart Page → ℕ → ℕ
   counts m hart = system.count (m.harts hart)
 
+  -- the step that the turn takes on this machine
   abbrev pub step_of : Machine Hart Page → Turn Input → Step Hart Page Input
   step_of m t =
       record {

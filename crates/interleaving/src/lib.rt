@@ -1,52 +1,65 @@
 //! Whatever order the harts of a replay go in, as far as the log's edges let them, the machine comes out the same.
 #![tactic(auto)]
 
-ghost use Rattle.std.specs.Prelude.{ℕ, ◌+◌, ◌≤◌, List, max};
 ghost use Rattle.interleaving.specs.Machine.{System};
-ghost use Rattle.interleaving.specs.Log.{Confluence, Edge, IsClosed};
-ghost use Rattle.interleaving.specs.Cuts.{IsGreatest, IsEnough, IsSameOrder};
-ghost use Rattle.interleaving.specs.Beginnings.{Reached, OwnOrder};
-ghost use Rattle.interleaving.specs.Stored.{Hardware, RunsStored, OneOutcome};
-ghost use Rattle.interleaving.specs.Recorder.{RecordsHonestly};
-ghost use Rattle.interleaving.specs.AsItWas.{HartAsItWas, PageAsItWas, PageUnwritten};
+ghost use Rattle.interleaving.specs.Log.{Confluence, StuckOrGoesOn, OneOfThree};
+ghost use Rattle.interleaving.specs.Cuts.{StartIsClosed, GreaterIsClosed, HasGreatest, ClosedOrBroken};
+ghost use Rattle.interleaving.specs.Cuts.{LoweringKeeps, ImpliedMayGo};
+ghost use Rattle.interleaving.specs.Beginnings.{Reached, Extends, OwnOrder};
+ghost use Rattle.interleaving.specs.Stored.{Hardware, RunsStored, StoredRuns, OneOutcome};
+ghost use Rattle.interleaving.specs.Recorder.{RecordsHonestly, RecordsEachRun};
+ghost use Rattle.interleaving.specs.AsItWas.{HartAsItWas, HartWasThere};
+ghost use Rattle.interleaving.specs.AsItWas.{PageAsItWas, PageUnwritten, PageHasWriter};
 
 /// A replay of an honest log to a closed cut runs, never gets stuck, and ends where the log's interleaving was.
 pub fn confluence<H, P, I>()
-    ensures { (system : System H P I) → Confluence system }
+    ensures confluence { (system : System H P I) → Confluence system }
+    ensures stuck_or_goes_on { (system : System H P I) → StuckOrGoesOn system }
+    ensures one_of_three { (system : System H P I) → OneOfThree system }
 {}
 
 /// The machine at a cut, hart by hart and page by page, is as it was in the interleaving's run.
 pub fn as_it_was<H, P, I>()
     ensures hart { (system : System H P I) → HartAsItWas system }
+    ensures hart_was_there { (system : System H P I) → HartWasThere system }
     ensures page { (system : System H P I) → PageAsItWas system }
     ensures unwritten { (system : System H P I) → PageUnwritten system }
+    ensures no_third_case { (system : System H P I) → PageHasWriter system }
 {}
 
-/// The greater of two closed cuts is closed, and below each bound there is a greatest.
+/// The greater of two closed cuts is closed, below each bound there is a greatest, and lowering leads to it.
 pub fn closed_cuts()
-    ensures greater { (edges : List Edge) (a b : ℕ → ℕ) → IsClosed edges a → IsClosed edges b → IsClosed edges (λ hart. max (a hart) (b hart)) }
-    ensures greatest { (edges : List Edge) (bound : ℕ → ℕ) → (cut : ℕ → ℕ) × IsGreatest edges bound cut }
+    ensures start { StartIsClosed }
+    ensures greater { GreaterIsClosed }
+    ensures greatest { HasGreatest }
+    ensures closed_or_broken { ClosedOrBroken }
+    ensures lowering { LoweringKeeps }
 {}
 
 /// Edges that others imply can be dropped.
 pub fn implied_edges()
-    ensures { (few all : List Edge) (start : ℕ → ℕ) → IsEnough few all start → IsSameOrder few all start }
+    ensures { ImpliedMayGo }
 {}
 
-/// Each beginning of a schedule stands at a cut of its own, and the interleaving's own order is a whole schedule.
+/// Each beginning of a schedule stands at a cut of its own and goes on to a schedule, and the interleaving's own order is
+/// one.
 pub fn schedules<H, P, I>()
     ensures reached { (system : System H P I) → Reached system }
+    ensures extends { (system : System H P I) → Extends system }
     ensures own_order { (system : System H P I) → OwnOrder system }
 {}
 
-/// The same for a machine whose harts and pages stand in lists: whole schedules leave one store.
+/// The same for a machine whose harts and pages stand in lists: its runs are those of the theory, and schedules leave one
+/// store.
 pub fn stored<H, P, I>()
     ensures runs { (hardware : Hardware H P I) → RunsStored hardware }
+    ensures only_runs { (hardware : Hardware H P I) → StoredRuns hardware }
     ensures one_outcome { (hardware : Hardware H P I) → OneOutcome hardware }
 {}
 
 /// Each run has an honest log: one with an edge from the last step that wrote a page to each that touches it, and from
 /// each that touched it since to one that writes it.
 pub fn recording<H, P, I>()
-    ensures { (system : System H P I) → RecordsHonestly system }
+    ensures honest { (system : System H P I) → RecordsHonestly system }
+    ensures each_run { (system : System H P I) → RecordsEachRun system }
 {}

@@ -1,5 +1,8 @@
-use Rattle.interleaving.proofs.Recorder.{records_honestly}
+use Rattle.interleaving.proofs.Recorder.{records_honestly, records_each_run}
 use Rattle.interleaving.proofs.recording.Goals as goal
 
-pub returns : goal.returns
-returns g c = λ system. records_honestly system
+pub returns-clause-honest : goal.returns-clause-honest
+returns-clause-honest g c = λ system. records_honestly system
+
+pub returns-clause-each_run : goal.returns-clause-each_run
+returns-clause-each_run g c = λ system. records_each_run system
