@@ -1,0 +1,14 @@
+//! What can be wrong with an image file.
+
+/// Why an image file isn't read.
+#[derive(Clone, Copy, Debug, PartialEq, Eq)]
+pub enum ImageFault {
+    /// The line of this number, from 1, has another form.
+    BadLine(usize),
+    /// There are too many harts, pages or words.
+    TooLarge,
+    /// The first line isn't one of a number of harts.
+    NoHarts,
+    /// Memory ran out.
+    Memory,
+}
