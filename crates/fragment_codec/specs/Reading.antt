@@ -1,0 +1,115 @@
+-- Reading a body from left to right: private words, which the laws in proofs/ tie to the spelling.
+use Rattle.std.specs.Prelude.{◌≡◌, ℕ, zero, suc, Bool, ◌&&◌, List, [], ◌∷◌, length, take, drop, Option, Some, None, Result, Ok, Err, nat_lt, ◌==◌, if◌then◌else◌}
+use Rattle.std.specs.Int.{Width, w16, w32, w64, byte_len, from_le_bytes}
+use Rattle.ft_types.specs.declared.guest.Guest.{Guest}
+use Rattle.fragment_codec.specs.declared.types.Key.{Key}
+use Rattle.input_log.specs.declared.Input.{Input as HartInput}
+use Rattle.input_log.specs.declared.Input.TheVariants.{Timer, Word, Bell}
+use Rattle.fragment_codec.specs.declared.types.Record.{Record}
+use Rattle.fragment_codec.specs.declared.types.Record.TheVariants.{Edge as EdgeRecord, Input as InputRecord}
+use Rattle.fragment_codec.specs.declared.reading.BodyError.{BodyError}
+use Rattle.fragment_codec.specs.declared.reading.BodyError.TheVariants.{Memory, Broken}
+use Rattle.fragment_codec.specs.Frames.{FragmentParts, OpeningParts, is_fragment, is_opening}
+
+infixl 10 ◌>>=◌
+abbrev pub ◌>>=◌ : {A B : Type 0} → Option A → (A → Option B) → Option B
+(Some x) >>= f = f x
+None >>= f = None
+
+-- What a function returned, seen by view, is what reading gives, unless memory ran out.
+abbrev pub Fails : {Y : Type 0} → BodyError → Option Y → Type 0
+Fails Memory read = Unit {0}
+Fails Broken read = read ≡ None
+
+abbrev pub Gives : {X Y : Type 0} → (X → Y) → Result X BodyError → Option Y → Type 0
+Gives view (Ok x) read = read ≡ Some (view x)
+Gives view (Err e) read = Fails e read
+
+-- A field is a value and the bytes after it.
+unfoldable pub number_at : Width → List ℕ → Option (ℕ × List ℕ)
+number_at w bytes = if nat_lt (length bytes) (byte_len w) then None else Some (from_le_bytes w (take (byte_len w) bytes), drop (byte_len w) bytes)
+
+unfoldable pub byte_at : List ℕ → Option (ℕ × List ℕ)
+byte_at [] = None
+byte_at (b ∷ bytes) = Some (b, bytes)
+
+unfoldable pub digest_at : List ℕ → Option (List ℕ × List ℕ)
+digest_at bytes = if nat_lt (length bytes) 32 then None else Some (take 32 bytes, drop 32 bytes)
+
+unfoldable pub input_of : ℕ → ℕ → Option HartInput
+input_of kind value =
+    if kind == 0 then (if value == 0 then Some Timer else None)
+    else if kind == 1 then Some (Word value)
+    else if kind == 2 then (if nat_lt value 8 then Some (Bell value) else None)
+    else None
+
+unfoldable pub edge_at : ℕ → List ℕ → Option (Record × List ℕ)
+edge_at hart bytes = do
+  at ← number_at w64 bytes
+  other ← byte_at at.1
+  after ← number_at w64 other.1
+  if nat_lt other.0 8 then Some (EdgeRecord (record { hart = hart; at = at.0; other = other.0; after = after.0 }), after.1) else None
+
+unfoldable pub heard_at : List ℕ → Option (Record × List ℕ)
+heard_at bytes = do
+  at ← number_at w64 bytes
+  kind ← byte_at at.1
+  value ← number_at w32 kind.1
+  input ← input_of kind.0 value.0
+  Some (InputRecord at.0 input, value.1)
+
+unfoldable pub record_at : ℕ → List ℕ → Option (Record × List ℕ)
+record_at hart bytes = do
+  kind ← byte_at bytes
+  if kind.0 == 1 then edge_at hart kind.1 else if kind.0 == 2 then heard_at kind.1 else None
+
+-- so many of one kind, one after the other
+unfoldable pub many : {X : Type 0} → (List ℕ → Option (X × List ℕ)) → ℕ → List ℕ → Option (List X × List ℕ)
+many item zero bytes = Some ([], bytes)
+many item (suc n) bytes = do
+  first ← item bytes
+  others ← many item n first.1
+  Some (first.0 ∷ others.0, others.1)
+
+-- the guest and the key that a log body begins with
+unfoldable pub place_at : List ℕ → Option (Guest × Key × List ℕ)
+place_at bytes = do
+  digest ← digest_at bytes
+  harts ← byte_at digest.1
+  hart ← byte_at harts.1
+  term ← number_at w32 hart.1
+  place ← number_at w32 term.1
+  if nat_lt hart.0 8 then Some (record { digest = digest.0; harts = harts.0 }, record { term = term.0; hart = hart.0; place = place.0 }, place.1) else None
+
+-- what stands behind them
+unfoldable pub rest_of : Guest → Key → List ℕ → Option FragmentParts
+rest_of guest key bytes = do
+  from ← number_at w64 bytes
+  to ← number_at w64 from.1
+  count ← number_at w16 to.1
+  records ← many (record_at key.hart) count.0 count.1
+  let parts : FragmentParts = record { guest = guest; key = key; from = from.0; to = to.0; records = records.0 } in
+      if length records.1 == 0 then (if is_fragment parts then Some parts else None) else None
+
+-- the whole of a log body
+unfoldable pub log_of : List ℕ → Option FragmentParts
+log_of bytes = do
+  place ← place_at bytes
+  rest_of place.0 place.1 place.2
+
+-- the whole of an opening body
+unfoldable pub opening_of : List ℕ → Option OpeningParts
+opening_of bytes = do
+  digest ← digest_at bytes
+  harts ← byte_at digest.1
+  term ← number_at w32 harts.1
+  parent ← number_at w32 term.1
+  if nat_lt 8 harts.0 then None else (do
+    base ← many (number_at w64) harts.0 parent.1
+    let parts : OpeningParts = record {
+      guest = record { digest = digest.0; harts = harts.0 };
+      term = term.0;
+      parent = parent.0;
+      base = base.0;
+    } in
+        if length base.1 == 0 then (if is_opening parts then Some parts else None) else None)

@@ -1,0 +1,283 @@
+//! Frames, from a stream in any pieces.
+
+ghost use Rattle.std.specs.Prelude.{◌≡◌, ◌≢◌, ◌↔◌, ◌⊎◌, ◌+◌, ◌-◌, ◌<◌, ◌≤◌, ◌++◌, ℕ, List, [], length, take, drop, slice_index, Option, Some, None, Ok, Err, IfOk, IfErr, OnOk, OnErr, IsTrue, IsOk, vec_capacity, min};
+ghost use Rattle.std.specs.List.{flat_map, AllByRecursion};
+ghost use Rattle.fragment_codec.specs.Reading.{Gives};
+ghost use Rattle.fragment_codec.specs.Streams.{spelling, IsFrame, is_other, is_body_len, head_of, IsWhole, HasDigest, IsPartial, HasFault, Splits, Unread, Keeps, Advances, frame_of};
+ghost use Rattle.fragment_codec.specs.Fronts.{IsFront};
+
+use crate::fault::FrameFault;
+use crate::frame::Frame;
+use crate::front::Front;
+use crate::reading::{BodyError, read_log, read_opening};
+use ft_types::Memory;
+use sha2::{Digest, Sha256};
+use std::alloc::{AllocError, Global};
+use std::marker::Model;
+
+/// The most bytes in a frame.
+const FRAME_LIMIT: usize = 4708;
+
+fn differs_at(bytes: &[u8], i: usize, byte: u8) -> bool
+    ensures { result ≡ is_other bytes.now i byte }
+{
+    i < bytes.len() && bytes[i] != byte
+}
+
+fn is_right_len(kind: u8, len: u32) -> bool
+    ensures { result ≡ is_body_len kind len }
+{
+    if kind == 1 {
+        60 <= len && len <= 4668
+    } else {
+        49 <= len && len <= 105
+    }
+}
+
+#[tactic(auto, unfolding(crate::specs::Streams::head_of))]
+fn head(bytes: &[u8]) -> Result<Option<usize>, FrameFault>
+    ensures { result ≡ head_of bytes.now }
+{
+    if differs_at(bytes, 0, 0x56) || differs_at(bytes, 1, 0x46) {
+        return Err(FrameFault::Magic);
+    }
+    if differs_at(bytes, 2, 1) {
+        return Err(FrameFault::Version);
+    }
+    if differs_at(bytes, 3, 1) && differs_at(bytes, 3, 2) {
+        return Err(FrameFault::Kind);
+    }
+    if bytes.len() < 8 {
+        return Ok(None);
+    }
+    let (_, behind) = bytes.split_at(4);
+    let (len, _) = behind.split_at(4);
+    let len = u32::from_le_bytes([len[0], len[1], len[2], len[3]]);
+    if is_right_len(bytes[3], len) {
+        Ok(Some(len as usize + 40))
+    } else {
+        Err(FrameFault::Length)
+    }
+}
+
+fn is_sealed(bytes: &[u8]) -> bool
+    requires { 32 ≤ length bytes.now }
+    ensures { IsTrue result ↔ HasDigest bytes.now }
+{
+    let (front, seal) = bytes.split_at(bytes.len() - 32);
+    let digest = Sha256::digest(front);
+    seal == digest.as_slice()
+}
+
+#[tactic(auto, unfolding(crate::specs::Streams::frame_of))]
+fn read_body(alloc: Global, kind: u8, body: &[u8]) -> Result<Frame, BodyError>
+    ensures { Gives (λ f. f) result (frame_of kind body.now) }
+{
+    if kind == 1 {
+        Ok(Frame::Log(read_log(alloc, body)?))
+    } else {
+        Ok(Frame::Opening(read_opening(body)?))
+    }
+}
+
+/// What stands at the front of the bytes.
+fn front(alloc: Global, bytes: &[u8]) -> Result<Front, FrameFault>
+    ensures front { IfOk result (λ f. IsFront bytes.now f) }
+    ensures fault { IfErr result (λ e. (e ≡ FrameFault.Memory) ⊎ HasFault bytes.now e) }
+{
+    let Some(n) = head(bytes)? else {
+        return Ok(Front::Partial);
+    };
+    if bytes.len() < n {
+        return Ok(Front::Partial);
+    }
+    let (whole, _) = bytes.split_at(n);
+    if !is_sealed(whole) {
+        return Err(FrameFault::Digest);
+    }
+    let (text, _) = whole.split_at(n - 32);
+    let (_, body) = text.split_at(8);
+    match read_body(alloc, bytes[3], body) {
+        Ok(frame) => Ok(Front::Whole(frame, n)),
+        Err(BodyError::Memory) => Err(FrameFault::Memory),
+        Err(BodyError::Broken) => Err(FrameFault::Body),
+    }
+}
+
+/// Moves bytes from the front of the piece behind the bytes held, until these are `end`.
+fn fill_to(held: &mut Vec<u8>, piece: &[u8], end: usize) -> usize
+    requires room { end ≤ vec_capacity held.old }
+    ensures taken { result ≡ min (end - length held.old.items) (length piece.now) }
+    ensures items { held.new.items ≡ held.old.items ++ take result piece.now }
+    ensures len { length held.new.items ≡ length held.old.items + result }
+    ensures capacity { vec_capacity held.old ≤ vec_capacity held.new }
+{
+    let taken = end.saturating_sub(held.len()).min(piece.len());
+    let (front, _) = piece.split_at(taken);
+    let _room = held.extend_from_slice(front);
+    taken
+}
+
+/// Moves bytes from the front of the piece behind the bytes held, up to the end of a frame.
+fn fill(held: &mut Vec<u8>, piece: &[u8]) -> usize
+    requires room { FRAME_LIMIT ≤ vec_capacity held.old }
+    requires partial { IsPartial held.old.items }
+    ensures taken { result ≤ length piece.now }
+    ensures items { held.new.items ≡ held.old.items ++ take result piece.now }
+    ensures capacity { FRAME_LIMIT ≤ vec_capacity held.new }
+    ensures partial { IsPartial held.new.items → result ≡ length piece.now }
+    ensures whole { (n : ℕ) → head_of held.new.items ≡ Ok (Some n) → length held.new.items ≤ n }
+{
+    let first = fill_to(held, piece, 8);
+    let (_, rest) = piece.split_at(first);
+    match head(held) {
+        Ok(Some(n)) => first + fill_to(held, rest, n),
+        Ok(None) => first,
+        Err(_) => first,
+    }
+}
+
+/// Reads frames from the front of the bytes, and says what is left and the fault that stands there.
+fn read_frames<'a>(
+    alloc: Global,
+    bytes: &'a [u8],
+    frames: &mut Vec<Frame>,
+) -> Result<(&'a [u8], Option<FrameFault>), AllocError>
+    ensures stream { IfOk result (λ x. flat_map spelling frames.new.items ++ x.0.now ≡ flat_map spelling frames.old.items ++ bytes.now) }
+    ensures frames { AllByRecursion IsFrame frames.old.items → AllByRecursion IsFrame frames.new.items }
+    ensures rest { IfOk result (λ x. Keeps x.0.now x.0.now x.1) }
+{
+    let mut rest = bytes;
+    loop {
+        match front(alloc, rest) {
+            Ok(Front::Partial) => return Ok((rest, None)),
+            Ok(Front::Whole(frame, n)) => {
+                frames.push(frame)?;
+                let (_, after) = rest.split_at(n);
+                rest = after;
+            }
+            Err(FrameFault::Memory) => return Err(AllocError),
+            Err(fault) => return Ok((rest, Some(fault))),
+        }
+    }
+}
+
+/// Holds the rest of a stream that has met no fault.
+fn keep(held: &mut Vec<u8>, rest: &[u8], fault: Option<FrameFault>)
+    requires room { FRAME_LIMIT ≤ vec_capacity held.old }
+    requires len { fault ≡ None → length rest.now ≤ FRAME_LIMIT }
+    ensures kept { fault ≡ None → held.new.items ≡ rest.now }
+    ensures capacity { FRAME_LIMIT ≤ vec_capacity held.new }
+{
+    held.clear();
+    if fault.is_none() {
+        let _room = held.extend_from_slice(rest);
+    }
+}
+
+fn try_advance(
+    alloc: Global,
+    held: &mut Vec<u8>,
+    piece: &[u8],
+) -> Result<(Vec<Frame>, Option<FrameFault>), AllocError>
+    requires room { FRAME_LIMIT ≤ vec_capacity held.old }
+    requires partial { IsPartial held.old.items }
+    ensures capacity { FRAME_LIMIT ≤ vec_capacity held.new }
+    ensures ok { IfOk result (λ x. Advances held.old.items piece.now x.0.items x.1 held.new.items) }
+    ensures err { OnErr result (take (length held.old.items) held.new.items ≡ held.old.items) }
+{
+    let mut frames = Vec::new(alloc);
+    let taken = fill(held, piece);
+    match front(alloc, held) {
+        Ok(Front::Partial) => Ok((frames, None)),
+        Ok(Front::Whole(frame, _)) => {
+            frames.push(frame)?;
+            let (_, behind) = piece.split_at(taken);
+            let (rest, fault) = read_frames(alloc, behind, &mut frames)?;
+            keep(held, rest, fault);
+            Ok((frames, fault))
+        }
+        Err(FrameFault::Memory) => Err(AllocError),
+        Err(fault) => Ok((frames, Some(fault))),
+    }
+}
+
+fn advance(
+    alloc: Global,
+    held: &mut Vec<u8>,
+    piece: &[u8],
+) -> Result<(Vec<Frame>, Option<FrameFault>), AllocError>
+    requires room { FRAME_LIMIT ≤ vec_capacity held.old }
+    requires partial { IsPartial held.old.items }
+    ensures capacity { FRAME_LIMIT ≤ vec_capacity held.new }
+    ensures ok { IfOk result (λ x. Advances held.old.items piece.now x.0.items x.1 held.new.items) }
+    ensures err { OnErr result (held.new.items ≡ held.old.items) }
+{
+    let len = held.len();
+    let advanced = try_advance(alloc, held, piece);
+    if advanced.is_err() {
+        held.truncate(len);
+    }
+    advanced
+}
+
+/// A stream of frames that comes in pieces.
+#[derive(Drop)]
+pub struct Feed {
+    held: Vec<u8>,
+    fault: Option<FrameFault>,
+}
+
+impl Model for Feed {
+    ghost use Rattle.std.specs.Prelude.{◌≡◌, ◌≤◌, None, vec_capacity};
+    ghost use Rattle.fragment_codec.specs.Streams.{Unread, IsPartial};
+
+    ghost Value = { Unread };
+
+    ghost view = { λ a. record { rest = a.held.items; fault = a.fault } };
+
+    ghost invariant = { λ a. (4708 ≤ vec_capacity a.held) × (a.fault ≡ None → IsPartial a.held.items) };
+}
+
+impl Feed {
+    /// A stream of which nothing has come.
+    pub fn new(alloc: Global) -> Result<Feed, Memory>
+        ensures { IfOk result (λ feed. feed ≡ record { rest = []; fault = None }) }
+    {
+        Ok(Feed {
+            held: Vec::with_capacity(alloc, FRAME_LIMIT)?,
+            fault: None,
+        })
+    }
+
+    /// Takes the next piece of the stream, and gives the frames that are whole now.
+    pub fn push(&mut self, alloc: Global, piece: &[u8]) -> Result<Vec<Frame>, FrameFault>
+        // A stream that has met its fault answers it from then on.
+        ensures failed { (f : FrameFault) → self.old.fault ≡ Some f → (result ≡ Err f) × (self.new ≡ self.old) }
+
+        // The frames given are those at the front, and all of them.
+        ensures ok { IfOk result (λ frames. Advances self.old.rest piece.now frames.items self.new.fault self.new.rest) }
+        ensures ok_only { OnOk result (self.old.fault ≡ None) }
+        ensures ok_fault { IfOk result (λ frames. self.new.fault ≢ None → frames.items ≢ []) }
+
+        // A fault other than want of memory is the stream's, where no frame was completed.
+        ensures fault { IfErr result (λ f. f ≢ FrameFault.Memory → self.new.fault ≡ Some f) }
+        ensures found { IfErr result (λ f. f ≢ FrameFault.Memory → self.old.fault ≡ None → HasFault (self.old.rest ++ piece.now) f) }
+
+        // Want of memory changes nothing.
+        ensures memory { IfErr result (λ f. f ≡ FrameFault.Memory → self.new ≡ self.old) }
+
+        // What is held back is no whole frame.
+        ensures partial { self.new.fault ≡ None → IsPartial self.new.rest }
+    {
+        if let Some(fault) = self.fault {
+            return Err(fault);
+        }
+        let (frames, fault) = advance(alloc, &mut self.held, piece)?;
+        self.fault = fault;
+        match fault {
+            Some(fault) if frames.is_empty() => Err(fault),
+            _ => Ok(frames),
+        }
+    }
+}

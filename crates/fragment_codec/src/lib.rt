@@ -1,0 +1,18 @@
+//! Frames of a log as bytes, and bytes as frames, in whatever pieces they come.
+#![tactic(auto)]
+
+mod fault;
+mod feed;
+mod frame;
+mod front;
+mod laws;
+mod reading;
+mod types;
+mod writing;
+
+pub use fault::FrameFault;
+pub use feed::Feed;
+pub use frame::{Fragment, Frame, Opening};
+pub use laws::{lasting_fault, one_fault, one_reading, one_spelling, short_rest};
+pub use types::{Key, Record};
+pub use writing::write_frame;

@@ -1,0 +1,274 @@
+//! Bodies of frames, from bytes.
+
+ghost use Rattle.std.specs.Prelude.{◌≡◌, ◌≤◌, List, length, Option, Some, None, if◌then◌else◌};
+ghost use Rattle.fragment_codec.specs.Frames.{OpeningParts, is_opening};
+ghost use Rattle.std.specs.Int.{w16, w32, w64};
+ghost use Rattle.fragment_codec.specs.Reading.{Gives, number_at, byte_at, digest_at, input_of, edge_at, heard_at, record_at, many, place_at, rest_of, log_of, opening_of};
+
+use crate::frame::{Fragment, Opening};
+use crate::types::{Key, Record};
+use arrayvec::ArrayVec;
+use edge_log::Edge;
+use ft_types::{Counts, Guest, Hart, Term};
+use input_log::Input;
+use std::alloc::{AllocError, AllocFailed, Global};
+
+/// Why a body was not read.
+#[derive(Debug, Drop)]
+pub enum BodyError {
+    Memory,
+    Broken,
+}
+
+impl From<AllocError> for BodyError {
+    ghost use Rattle.std.specs.Prelude.{◌≡◌};
+    ghost use Rattle.fragment_codec.specs.declared.reading.BodyError.TheVariants.{Memory};
+
+    ghost from_gives = { λ _ e. e ≡ Memory };
+
+    fn from(_e: AllocError) -> BodyError {
+        BodyError::Memory
+    }
+}
+
+impl<T: Drop> From<AllocFailed<T>> for BodyError {
+    ghost use Rattle.std.specs.Prelude.{◌≡◌};
+    ghost use Rattle.fragment_codec.specs.declared.reading.BodyError.TheVariants.{Memory};
+
+    ghost from_gives = { λ _ e. e ≡ Memory };
+
+    fn from(_e: AllocFailed<T>) -> BodyError {
+        BodyError::Memory
+    }
+}
+
+#[tactic(auto, unfolding(crate::specs::Reading::byte_at))]
+fn u8_at(bytes: &[u8]) -> Result<(u8, &[u8]), BodyError>
+    ensures { Gives (λ x. (x.0, x.1.now)) result (byte_at bytes.now) }
+{
+    match bytes {
+        [] => Err(BodyError::Broken),
+        [byte, rest @ ..] => Ok((*byte, rest)),
+    }
+}
+
+#[tactic(auto, unfolding(crate::specs::Reading::number_at))]
+fn u16_at(bytes: &[u8]) -> Result<(u16, &[u8]), BodyError>
+    ensures { Gives (λ x. (x.0, x.1.now)) result (number_at w16 bytes.now) }
+{
+    if bytes.len() < 2 {
+        return Err(BodyError::Broken);
+    }
+    let (front, rest) = bytes.split_at(2);
+    let number = u16::from_le_bytes([front[0], front[1]]);
+    Ok((number, rest))
+}
+
+#[tactic(auto, unfolding(crate::specs::Reading::number_at))]
+fn u32_at(bytes: &[u8]) -> Result<(u32, &[u8]), BodyError>
+    ensures { Gives (λ x. (x.0, x.1.now)) result (number_at w32 bytes.now) }
+{
+    if bytes.len() < 4 {
+        return Err(BodyError::Broken);
+    }
+    let (front, rest) = bytes.split_at(4);
+    let number = u32::from_le_bytes([front[0], front[1], front[2], front[3]]);
+    Ok((number, rest))
+}
+
+#[tactic(auto, unfolding(crate::specs::Reading::number_at))]
+fn u64_at(bytes: &[u8]) -> Result<(u64, &[u8]), BodyError>
+    ensures { Gives (λ x. (x.0, x.1.now)) result (number_at w64 bytes.now) }
+{
+    if bytes.len() < 8 {
+        return Err(BodyError::Broken);
+    }
+    let (front, rest) = bytes.split_at(8);
+    let number = u64::from_le_bytes([
+        front[0], front[1], front[2], front[3], front[4], front[5], front[6], front[7],
+    ]);
+    Ok((number, rest))
+}
+
+#[tactic(auto, unfolding(crate::specs::Reading::digest_at))]
+fn digest_of(bytes: &[u8]) -> Result<([u8; 32], &[u8]), BodyError>
+    ensures { Gives (λ x. (x.0, x.1.now)) result (digest_at bytes.now) }
+{
+    if bytes.len() < 32 {
+        return Err(BodyError::Broken);
+    }
+    let (front, rest) = bytes.split_at(32);
+    let mut digest = [0; 32];
+    digest.copy_from_slice(front);
+    Ok((digest, rest))
+}
+
+#[tactic(auto, unfolding(crate::specs::Reading::input_of))]
+fn make_input(kind: u8, value: u32) -> Result<Input, BodyError>
+    ensures { Gives (λ x. x) result (input_of kind value) }
+{
+    match kind {
+        0 if value == 0 => Ok(Input::Timer),
+        1 => Ok(Input::Word(value)),
+        2 if value < 8 => Ok(Input::Bell(Hart::new(value as u8))),
+        _ => Err(BodyError::Broken),
+    }
+}
+
+#[tactic(auto, unfolding(crate::specs::Reading::edge_at))]
+fn read_edge(hart: Hart, bytes: &[u8]) -> Result<(Record, &[u8]), BodyError>
+    ensures { Gives (λ x. (x.0, x.1.now)) result (edge_at hart bytes.now) }
+{
+    let (at, rest) = u64_at(bytes)?;
+    let (other, rest) = u8_at(rest)?;
+    let (after, rest) = u64_at(rest)?;
+    if other < 8 {
+        let edge = Edge {
+            hart,
+            at,
+            other: Hart::new(other),
+            after,
+        };
+        Ok((Record::Edge(edge), rest))
+    } else {
+        Err(BodyError::Broken)
+    }
+}
+
+#[tactic(auto, unfolding(crate::specs::Reading::heard_at))]
+fn read_heard(bytes: &[u8]) -> Result<(Record, &[u8]), BodyError>
+    ensures { Gives (λ x. (x.0, x.1.now)) result (heard_at bytes.now) }
+{
+    let (at, rest) = u64_at(bytes)?;
+    let (kind, rest) = u8_at(rest)?;
+    let (value, rest) = u32_at(rest)?;
+    let input = make_input(kind, value)?;
+    Ok((Record::Input(at, input), rest))
+}
+
+#[tactic(auto, unfolding(crate::specs::Reading::record_at))]
+fn read_record(hart: Hart, bytes: &[u8]) -> Result<(Record, &[u8]), BodyError>
+    ensures { Gives (λ x. (x.0, x.1.now)) result (record_at hart bytes.now) }
+{
+    let (kind, rest) = u8_at(bytes)?;
+    match kind {
+        1 => read_edge(hart, rest),
+        2 => read_heard(rest),
+        _ => Err(BodyError::Broken),
+    }
+}
+
+fn read_records(
+    alloc: Global,
+    hart: Hart,
+    count: u16,
+    bytes: &[u8],
+) -> Result<(Vec<Record>, &[u8]), BodyError>
+    ensures { Gives (λ x. (x.0.items, x.1.now)) result (many (record_at hart) count bytes.now) }
+{
+    let mut records = Vec::new(alloc);
+    let mut rest = bytes;
+    for _ in 0..count {
+        match read_record(hart, rest) {
+            Ok((record, after)) => {
+                records.push(record)?;
+                rest = after;
+            }
+            Err(error) => return Err(error),
+        }
+    }
+    Ok((records, rest))
+}
+
+fn read_counts(count: u8, bytes: &[u8]) -> Result<(ArrayVec<u64, 8>, &[u8]), BodyError>
+    requires { count ≤ 8 }
+    ensures { Gives (λ x. (x.0.items, x.1.now)) result (many (number_at w64) count bytes.now) }
+{
+    let mut counts = ArrayVec::new();
+    let mut rest = bytes;
+    for _ in 0..count {
+        let (number, after) = u64_at(rest)?;
+        counts.push(number);
+        rest = after;
+    }
+    Ok((counts, rest))
+}
+
+#[tactic(auto, unfolding(crate::specs::Reading::place_at))]
+fn read_place(bytes: &[u8]) -> Result<(Guest, Key, &[u8]), BodyError>
+    ensures { Gives (λ x. (x.0, x.1, x.2.now)) result (place_at bytes.now) }
+{
+    let (digest, rest) = digest_of(bytes)?;
+    let (harts, rest) = u8_at(rest)?;
+    let (hart, rest) = u8_at(rest)?;
+    let (term, rest) = u32_at(rest)?;
+    let (place, rest) = u32_at(rest)?;
+    if hart < 8 {
+        let hart = Hart::new(hart);
+        Ok((Guest { digest, harts }, Key { term, hart, place }, rest))
+    } else {
+        Err(BodyError::Broken)
+    }
+}
+
+#[tactic(auto, unfolding(crate::specs::Reading::rest_of))]
+fn read_rest(alloc: Global, guest: Guest, key: Key, bytes: &[u8]) -> Result<Fragment, BodyError>
+    ensures { Gives (λ x. x) result (rest_of guest key bytes.now) }
+{
+    let (from, rest) = u64_at(bytes)?;
+    let (to, rest) = u64_at(rest)?;
+    let (count, rest) = u16_at(rest)?;
+    match read_records(alloc, key.hart, count, rest) {
+        Ok((records, rest)) => {
+            if !rest.is_empty() {
+                return Err(BodyError::Broken);
+            }
+            match Fragment::new(guest, key, from, to, records) {
+                Some(fragment) => Ok(fragment),
+                None => Err(BodyError::Broken),
+            }
+        }
+        Err(error) => Err(error),
+    }
+}
+
+#[tactic(auto, unfolding(crate::specs::Reading::log_of))]
+pub fn read_log(alloc: Global, body: &[u8]) -> Result<Fragment, BodyError>
+    ensures { Gives (λ x. x) result (log_of body.now) }
+{
+    match read_place(body) {
+        Ok((guest, key, rest)) => read_rest(alloc, guest, key, rest),
+        Err(error) => Err(error),
+    }
+}
+
+fn make_opening(guest: Guest, term: Term, parent: Term, base: &[u64]) -> Result<Opening, BodyError>
+    ensures { let parts : OpeningParts = record { guest = guest; term = term; parent = parent; base = base.now } in
+        Gives (λ x. x) result (if is_opening parts then Some parts else None) }
+{
+    match Counts::from_slice(base) {
+        Some(counts) => match Opening::new(guest, term, parent, counts) {
+            Some(opening) => Ok(opening),
+            None => Err(BodyError::Broken),
+        },
+        None => Err(BodyError::Broken),
+    }
+}
+
+#[tactic(auto, unfolding(crate::specs::Reading::opening_of))]
+pub fn read_opening(body: &[u8]) -> Result<Opening, BodyError>
+    ensures { Gives (λ x. x) result (opening_of body.now) }
+{
+    let (digest, rest) = digest_of(body)?;
+    let (harts, rest) = u8_at(rest)?;
+    let (term, rest) = u32_at(rest)?;
+    let (parent, rest) = u32_at(rest)?;
+    if harts > 8 {
+        return Err(BodyError::Broken);
+    }
+    let (base, rest) = read_counts(harts, rest)?;
+    if !rest.is_empty() {
+        return Err(BodyError::Broken);
+    }
+    make_opening(Guest { digest, harts }, term, parent, &base)
+}
