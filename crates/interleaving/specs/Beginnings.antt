@@ -12,6 +12,12 @@ module _ {Hart Page Input : Type 0} (system : System Hart Page Input) where
       IsCut log (counts_after log.start order) ×
       (run system m (turns_of log.inputs log.start order) ≡ at system m turns (counts_after log.start order))
 
+  -- the start of an honest log is a cut, and so is its end
+  abbrev pub EndsAreCuts : Type 0
+  EndsAreCuts =
+      (log : Log Input) (m : Machine Hart Page) (turns : List (Turn Input)) → IsHonest system log m turns →
+      IsCut log log.start × IsCut log log.end
+
   -- each beginning is that of a schedule
   abbrev pub Extends : Type 0
   Extends =

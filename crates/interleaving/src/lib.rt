@@ -5,11 +5,14 @@ ghost use Rattle.interleaving.specs.Machine.{System};
 ghost use Rattle.interleaving.specs.Log.{Confluence, StuckOrGoesOn, OneOfThree};
 ghost use Rattle.interleaving.specs.Cuts.{StartIsClosed, GreaterIsClosed, HasGreatest, ClosedOrBroken};
 ghost use Rattle.interleaving.specs.Cuts.{LoweringKeeps, ImpliedMayGo};
-ghost use Rattle.interleaving.specs.Beginnings.{Reached, Extends, OwnOrder};
+ghost use Rattle.interleaving.specs.Beginnings.{Reached, EndsAreCuts, Extends, OwnOrder};
 ghost use Rattle.interleaving.specs.Stored.{Hardware, RunsStored, StoredRuns, OneOutcome};
 ghost use Rattle.interleaving.specs.Recorder.{RecordsHonestly, RecordsEachRun};
+ghost use Rattle.interleaving.specs.Examples.{EndsAlike, StartMatters, HandOversLoseOrder};
 ghost use Rattle.interleaving.specs.AsItWas.{HartAsItWas, HartWasThere};
 ghost use Rattle.interleaving.specs.AsItWas.{PageAsItWas, PageUnwritten, PageHasWriter};
+
+pub mod counters;
 
 /// A replay of an honest log to a closed cut runs, never gets stuck, and ends where the log's interleaving was.
 pub fn confluence<H, P, I>()
@@ -45,6 +48,7 @@ pub fn implied_edges()
 /// one.
 pub fn schedules<H, P, I>()
     ensures reached { (system : System H P I) → Reached system }
+    ensures ends_are_cuts { (system : System H P I) → EndsAreCuts system }
     ensures extends { (system : System H P I) → Extends system }
     ensures own_order { (system : System H P I) → OwnOrder system }
 {}
@@ -62,4 +66,12 @@ pub fn stored<H, P, I>()
 pub fn recording<H, P, I>()
     ensures honest { (system : System H P I) → RecordsHonestly system }
     ensures each_run { (system : System H P I) → RecordsEachRun system }
+{}
+
+/// The definitions at work: an honest log, two of whose schedules end alike, and two logs that lack one part of honesty
+/// each, so that a schedule of theirs goes wrong.
+pub fn examples()
+    ensures ends_alike { EndsAlike }
+    ensures start_matters { StartMatters }
+    ensures hand_overs_lose_order { HandOversLoseOrder }
 {}

@@ -1,8 +1,11 @@
-use Rattle.interleaving.proofs.Beginnings.{reached, extends, own_order}
+use Rattle.interleaving.proofs.Beginnings.{reached, ends_are_cuts, extends, own_order}
 use Rattle.interleaving.proofs.schedules.Goals as goal
 
 pub returns-clause-reached : goal.returns-clause-reached
 returns-clause-reached g c = λ system. reached system
+
+pub returns-clause-ends_are_cuts : goal.returns-clause-ends_are_cuts
+returns-clause-ends_are_cuts g c = λ system. ends_are_cuts system
 
 pub returns-clause-extends : goal.returns-clause-extends
 returns-clause-extends g c = λ system. extends system
