@@ -44,6 +44,13 @@ impl LineBuffer {
         }
     }
 
+    /// The text so far.
+    pub fn as_slice(&self) -> &[u8]
+        ensures { result.now ≡ self.now }
+    {
+        &self.bytes[..self.len]
+    }
+
     /// Adds text at the end.
     pub fn push(&mut self, piece: &[u8])
         requires { length self.old + length piece.now ≤ 96 }

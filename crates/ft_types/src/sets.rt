@@ -1,6 +1,6 @@
 //! Small sets of harts and of keepers.
 
-ghost use Rattle.std.specs.Prelude.{◌≡◌, ◌<◌, ◌≤◌, ℕ, length, replicate, false, true, slice_index_or, slice_set, IsTrue, ◌↔◌};
+ghost use Rattle.std.specs.Prelude.{◌≡◌, ◌<◌, ◌≤◌, ℕ, length, replicate, false, true, slice_index_or, slice_set, IsTrue, ◌↔◌, count_by};
 ghost use Rattle.ft_types.specs.Sets.{IsMember};
 
 use std::marker::Model;
@@ -58,13 +58,15 @@ impl NumberSet {
 
     /// The number of members.
     pub fn len(self) -> usize
-        ensures { result ≤ 8 }
+        ensures { result ≡ count_by (λ member. member) self }
     {
         self.members.iter().filter(|member| **member).count()
     }
 
     /// Whether there is no member.
-    pub fn is_empty(self) -> bool {
-        self.members.iter().all(|member| !*member)
+    pub fn is_empty(self) -> bool
+        ensures { IsTrue result ↔ (count_by (λ member. member) self ≡ 0) }
+    {
+        self.len() == 0
     }
 }
