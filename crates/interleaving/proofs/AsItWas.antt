@@ -7,6 +7,7 @@ use Rattle.interleaving.specs.Machine.{Machine, System, Turn, Step, Write, Write
 use Rattle.interleaving.specs.AsItWas.{HartAsItWas, HartWasThere, PageAsItWas, PageUnwritten, PageHasWriter}
 use Rattle.interleaving.proofs.Put.{same_or_not, put_same, put_other, written_other, bump_other, bump_le}
 use Rattle.interleaving.proofs.Pull.{counts_step}
+use Rattle.interleaving.proofs.Runs.{runs_front, counts_grow}
 
 -- a page that is written does not depend on what was there
 written_same : {Page : Type 0} (f g : ℕ → Page) (w : Option (Write Page)) (page : ℕ) → MatchOption w ⊥ (λ w. w.page ≡ page) → written f w page ≡ written g w page
@@ -80,12 +81,6 @@ module _ {Hart Page Input : Type 0} (system : System Hart Page Input) (cut : ℕ
             ]
       ]
 
-  counts_grow : (m : Machine Hart Page) (front rest : List (Turn Input)) (hart n : ℕ) → Runs system m (front ++ rest) → n ≤ counts system m hart →
-      n ≤ counts system (run system m front) hart
-  counts_grow m [] rest hart n runs le = le
-  counts_grow m (a ∷ front) rest hart n runs le =
-      counts_grow (after m (step_of system m a)) front rest hart n runs.1 (later_le m a hart n runs.0 le)
-
   hart_from : (c m : Machine Hart Page) (front rest : List (Turn Input)) (hart : ℕ) → Runs system m (front ++ rest) → c.harts hart ≡ m.harts hart →
       counts system (run system m front) hart ≡ cut hart → (cut_from c m (front ++ rest)).harts hart ≡ (run system m front).harts hart
   hart_from c m [] rest hart runs same at_cut = hart_outside c m rest hart runs (omega arith) ∙ same
@@ -113,8 +108,9 @@ module _ {Hart Page Input : Type 0} (system : System Hart Page Input) (cut : ℕ
       passed over is =
           let moved : counts system (after m (step_of system m a)) hart ≡ counts system m a.hart + 1 =
           ap (λ k. k hart) (counts_step system m a runs.0) ∙ put_same (counts system m) a.hart hart (counts system m a.hart + 1) is in
-          let grown : counts system m a.hart + 1 ≤ counts system (run system (after m (step_of system m a)) front) hart =
-          counts_grow (after m (step_of system m a)) front rest hart (counts system m a.hart + 1) runs.1 (omega arith) in
+          let next : Machine Hart Page = after m (step_of system m a) in
+          let grown : counts system next hart ≤ counts system (run system next front) hart =
+          counts_grow system next front (runs_front system next front rest runs.1) hart in
           let over_hart : cut hart ≤ counts system m a.hart = subst (λ h. cut h ≤ counts system m a.hart) is over in
           omega arith
 

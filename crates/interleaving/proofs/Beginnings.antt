@@ -1,13 +1,14 @@
 -- More of schedules: each beginning stands at a cut of its own, and there is always a whole one.
-use Rattle.std.proofs.Common.{◌≡◌, inl, inr, ℕ, ◌+◌, ◌<◌, ◌≤◌, min, List, [], ◌∷◌, ◌++◌, refl, sym, ap, subst, map, ◌∙◌, arith, le_trans, lt-ltb, le-ltb}
+use Rattle.std.proofs.Common.{◌≡◌, inl, inr, ℕ, ◌+◌, ◌<◌, ◌≤◌, min, List, [], ◌∷◌, ◌++◌, refl, sym, ap, subst, arith, le_trans, lt-ltb, le-ltb}
 use Rattle.std.proofs.lemmas.Bool.{cases_lt}
 use Rattle.interleaving.specs.Lists.{IsWithin}
-use Rattle.interleaving.specs.Machine.{Machine, System, Turn, after, counts, step_of, Runs, run}
+use Rattle.interleaving.specs.Machine.{Machine, System, Turn, after, counts, step_of, run}
 use Rattle.interleaving.specs.Log.{Edge, Log, IsCut, IsClosed, IsMet, Begins, counts_after, turns_of, bump}
 use Rattle.interleaving.specs.Beginnings.{Reached, EndsAreCuts, Extends, OwnOrder, order_at}
 use Rattle.interleaving.proofs.Put.{same_or_not, put_same, bump_same, bump_other, bump_le}
 use Rattle.interleaving.proofs.Order.{bump_closed}
 use Rattle.interleaving.proofs.Pull.{Rest, tail, counts_step}
+use Rattle.interleaving.proofs.Runs.{counts_grow}
 use Rattle.interleaving.proofs.Replay.{Followed, followed, confluence, rest_of}
 
 counts_after_le : (now : ℕ → ℕ) (order : List ℕ) (hart : ℕ) → now hart ≤ counts_after now order hart
@@ -174,22 +175,6 @@ extends {Hart} {Page} {Input} system log m turns cut order honest is_cut begins 
         counts_after_fit log.edges cut log.start order begins is_cut.from_start hart in
         let b : counts system here hart ≡ counts_after log.start order hart = ap (λ n. n hart) f.counts_are in
         omega arith)
-
--- each hart's count only grows
-pub counts_grow : {Hart Page Input : Type 0} (system : System Hart Page Input) (m : Machine Hart Page) (turns : List (Turn Input)) →
-    Runs system m turns → IsWithin (counts system m) (counts system (run system m turns))
-counts_grow system m [] runs hart = omega arith
-counts_grow system m (a ∷ turns) runs hart =
-    le_trans (subst (λ n. counts system m hart ≤ n hart) (sym (counts_step system m a runs.0)) (bump_le (counts system m) a.hart hart))
-    (counts_grow system (after m (step_of system m a)) turns runs.1 hart)
-
--- the counts that a run leaves are those of its harts' order
-pub counts_run : {Hart Page Input : Type 0} (system : System Hart Page Input) (m : Machine Hart Page) (turns : List (Turn Input)) →
-    Runs system m turns → counts system (run system m turns) ≡ counts_after (counts system m) (map (λ t. t.hart) turns)
-counts_run system m [] runs = refl
-counts_run system m (a ∷ turns) runs =
-    counts_run system (after m (step_of system m a)) turns runs.1 ∙
-    ap (λ n. counts_after n (map (λ t. t.hart) turns)) (counts_step system m a runs.0)
 
 closed_end : {Hart Page Input : Type 0} (system : System Hart Page Input) (log : Log Input) (m : Machine Hart Page) (turns : List (Turn Input)) →
     Rest system log m turns → IsClosed log.edges (counts system (run system m turns))

@@ -1,17 +1,11 @@
 -- Facts on given edges, decided by computing.
-use Rattle.std.proofs.Common.{◌≡◌, ◌≢◌, subst, inl, inr, ℕ, ◌==◌, ◌&&◌, ◌<◌, ◌≤◌, Bool, true, false, cond, not, List, [], ◌∷◌, Contains, nat_lt, sym, ◌∙◌, refl, arith, eq-eqb, lt-ltb, le-ltb, true≢false}
+use Rattle.std.proofs.Common.{◌≡◌, ◌≢◌, inl, inr, ℕ, ◌==◌, ◌&&◌, ◌<◌, ◌≤◌, Bool, true, false, cond, not, List, [], ◌∷◌, nat_lt, sym, ◌∙◌, refl, eq-eqb, lt-ltb, le-ltb, true≢false}
 use Rattle.std.proofs.lemmas.Bool.{cases_lt}
 use Rattle.interleaving.specs.Lists.{Each}
 use Rattle.interleaving.specs.Machine.{Step}
 use Rattle.interleaving.specs.Log.{Edge, IsClosed, IsMet, EachMet, Begins, counts_after, bump}
 use Rattle.interleaving.proofs.Put.{bump_other}
-use Rattle.interleaving.proofs.Cuts.{here_or_later}
-
--- what holds of each element holds of one that is contained
-pub each_at : {A : Type 0} (P : A → Type 0) (xs : List A) → Each P xs → (x : A) → Contains xs x → P x
-each_at P [] each x (k, below, is) = absurd (omega arith)
-each_at P (y ∷ xs) each x is_in =
-    elim (here_or_later y xs x is_in) [ inl is ↦ subst P is each.0 | inr later ↦ each_at P xs each.1 x later ]
+use Rattle.interleaving.proofs.Each.{each_at}
 
 both_true : (b c : Bool) → (b && c) ≡ true → (b ≡ true) × (c ≡ true)
 both_true true c h = (refl, h)
@@ -38,7 +32,7 @@ closed_at [] cut = true
 closed_at (e ∷ edges) cut = holds (nat_lt e.step (cut e.hart)) e.count (cut e.other) && closed_at edges cut
 
 pub closed_by : (edges : List Edge) (cut : ℕ → ℕ) → closed_at edges cut ≡ true → IsClosed edges cut
-closed_by edges cut h = each_at (λ e. e.step < cut e.hart → e.count ≤ cut e.other) edges (each edges h)
+closed_by edges cut h e = each_at (λ e. e.step < cut e.hart → e.count ≤ cut e.other) edges e (each edges h)
   where
     each : (es : List Edge) → closed_at es cut ≡ true → Each (λ e. e.step < cut e.hart → e.count ≤ cut e.other) es
     each [] h = tt
@@ -51,8 +45,8 @@ met_at [] now hart = true
 met_at (e ∷ edges) now hart = holds (e.hart == hart && e.step == now hart) e.count (now e.other) && met_at edges now hart
 
 met_by : (edges : List Edge) (now : ℕ → ℕ) (hart : ℕ) → met_at edges now hart ≡ true → IsMet edges now hart
-met_by edges now hart h =
-    each_at (λ e. e.hart ≡ hart → e.step ≡ now hart → e.count ≤ now e.other) edges (each edges h)
+met_by edges now hart h e =
+    each_at (λ e. e.hart ≡ hart → e.step ≡ now hart → e.count ≤ now e.other) edges e (each edges h)
   where
     each : (es : List Edge) → met_at es now hart ≡ true → Each (λ e. e.hart ≡ hart → e.step ≡ now hart → e.count ≤ now e.other) es
     each [] h = tt

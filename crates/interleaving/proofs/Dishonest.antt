@@ -9,7 +9,7 @@ use Rattle.interleaving.specs.declared.counters.Counter.{Counter}
 use Rattle.interleaving.proofs.Put.{bump_swap}
 use Rattle.interleaving.proofs.Order.{before_inside}
 use Rattle.interleaving.proofs.Cuts.{here}
-use Rattle.interleaving.proofs.Beginnings.{counts_grow, counts_run}
+use Rattle.interleaving.proofs.Runs.{counts_grow, counts_run}
 use Rattle.interleaving.proofs.Decided.{closed_by, each_met_by, begins_by}
 
 -- what the hart loaded last

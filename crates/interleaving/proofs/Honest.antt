@@ -6,7 +6,8 @@ use Rattle.interleaving.specs.Counters.{counters}
 use Rattle.interleaving.specs.Examples.{system, three, crossing, crossing_log, own_order, other_order, EndsAlike}
 use Rattle.interleaving.specs.declared.counters.Act.TheVariants as act
 use Rattle.interleaving.proofs.Put.{same_or_not}
-use Rattle.interleaving.proofs.Beginnings.{ends_are_cuts, counts_run}
+use Rattle.interleaving.proofs.Runs.{counts_run}
+use Rattle.interleaving.proofs.Beginnings.{ends_are_cuts}
 use Rattle.interleaving.proofs.Recorder.{records_each_run}
 use Rattle.interleaving.proofs.Decided.{begins_by, counts_after_absent}
 

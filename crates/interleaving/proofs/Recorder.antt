@@ -9,6 +9,7 @@ use Rattle.interleaving.specs.Recorder.{is_write, has, edge_after, edges_at, edg
 use Rattle.interleaving.proofs.Put.{same_or_not, put_same, bump_same, bump_le}
 use Rattle.interleaving.proofs.Pull.{counts_step}
 use Rattle.interleaving.proofs.Cuts.{here_or_later, here}
+use Rattle.interleaving.proofs.Each.{each_from, each_more, each_both, pairs_more}
 
 is_write_true : {Page : Type 0} (w : Option (Write Page)) (page : ℕ) → MatchOption w ⊥ (λ w. w.page ≡ page) → is_write w page ≡ true
 is_write_true None page h = absurd h
@@ -25,10 +26,6 @@ has_true (x ∷ xs) page h =
       | inl is ↦ rw (eq-eqb x page is) refl
       | inr later ↦ elim (x == page) as (λ b. cond b true (has xs page) ≡ true) [ true ↦ refl | false ↦ has_true xs page later ]
     ]
-
-each_map : {A : Type 0} (P Q : A → Type 0) → ((x : A) → P x → Q x) → (xs : List A) → Each P xs → Each Q xs
-each_map P Q f [] h = tt
-each_map P Q f (x ∷ xs) h = (f x h.0, each_map P Q f xs h.1)
 
 -- one step of `edges_at`
 abbrev picked : Bool → Bool → Edge → List Edge → List Edge
@@ -94,7 +91,7 @@ module _ {Hart Page Input : Type 0} (system : System Hart Page Input) where
       AllPast (bump now t.hart) (t ∷ past)
   past_bump now past t is all = (
     (let e : bump now t.hart t.hart ≡ now t.hart + 1 = bump_same now t.hart in omega arith),
-    each_map (λ s. system.count s.found < now s.hart) (λ s. system.count s.found < bump now t.hart s.hart)
+    each_more (λ s. system.count s.found < now s.hart) (λ s. system.count s.found < bump now t.hart s.hart)
         (λ s less. le_trans less (bump_le now t.hart s.hart)) past all,
   )
 
@@ -178,7 +175,7 @@ module _ {Hart Page Input : Type 0} (system : System Hart Page Input) where
     first,
     elim (cases_Bool b) [
       | inl writes ↦
-          each_map (λ s. InOrder edges s u)
+          each_more (λ s. InOrder edges s u)
           (λ s. Contains s.effect.touched page → Writes s.effect page ⊎ Writes t.effect page → Before edges (place system s) (place system t))
           (λ s before touches either.
           let w = true_is_write u.effect.write page writes in
@@ -228,7 +225,7 @@ module _ {Hart Page Input : Type 0} (system : System Hart Page Input) where
       ((e : Edge) → Contains (edges_for system past t t.effect.touched) e → Contains edges e) → EachPair (λ u s. InOrder edges s u) past → AllWithin past →
       Each (λ s. InOrder edges s t) past
   for_step edges past t some order within =
-      each_map
+      each_more
       (λ s.
       (page : ℕ) → Contains t.effect.touched page → Contains s.effect.touched page → Writes s.effect page ⊎ Writes t.effect page →
       Before edges (place system s) (place system t))
@@ -238,18 +235,10 @@ module _ {Hart Page Input : Type 0} (system : System Hart Page Input) where
       (λ page touches.
       at_page edges past t page (λ e is_edge. some e (edges_for_has past t t.effect.touched page e touches is_edge)) order within))
 
-  each_both : (P Q : Step Hart Page Input → Type 0) (xs : List (Step Hart Page Input)) → Each P xs → Each Q xs → Each (λ s. P s × Q s) xs
-  each_both P Q [] p q = tt
-  each_both P Q (x ∷ xs) p q = ((p.0, q.0), each_both P Q xs p.1 q.1)
-
-  each_unit : (xs : List (Step Hart Page Input)) → Each (λ s. Unit {0}) xs
-  each_unit [] = tt
-  each_unit (x ∷ xs) = (tt, each_unit xs)
-
   ordered_from : (edges : List Edge) (past rest : List (Step Hart Page Input)) → ((e : Edge) → Contains (recorded system past rest) e → Contains edges e) →
       EachPair (λ u s. InOrder edges s u) past → AllWithin past → AllWithin rest →
       EachPair (InOrder edges) rest × Each (λ s. Each (InOrder edges s) rest) past
-  ordered_from edges past [] some order within_past within = (tt, each_unit past)
+  ordered_from edges past [] some order within_past within = (tt, each_from (λ s. Unit {0}) past (λ s is_past. tt))
   ordered_from edges past (t ∷ rest) some order within_past within =
       let mine =
       for_step edges past t
@@ -267,11 +256,6 @@ module _ {Hart Page Input : Type 0} (system : System Hart Page Input) where
     (λ page writes. system.within (m.harts t.hart) t.input m.pages page runs.0 writes),
     steps_within (after m (step_of system m t)) turns runs.1,
   )
-
-  pairs_map : (P Q : Step Hart Page Input → Step Hart Page Input → Type 0) → ((s t : Step Hart Page Input) → P s t → Q s t) →
-      (xs : List (Step Hart Page Input)) → EachPair P xs → EachPair Q xs
-  pairs_map P Q f [] h = tt
-  pairs_map P Q f (x ∷ xs) h = (each_map (P x) (Q x) (f x) xs h.0, pairs_map P Q f xs h.1)
 
   pub records_honestly : RecordsHonestly system
   records_honestly log m turns runs recording =
@@ -291,7 +275,7 @@ module _ {Hart Page Input : Type 0} (system : System Hart Page Input) where
             (subst (λ es. EachMet es (counts system m) (steps system m turns)) (sym recording.edges)
             (met_from [] (counts system m) [] (steps system m turns) (λ e (k, below, is). absurd (omega arith)) tt (in_turn m turns runs)));
         ordered =
-            pairs_map (InOrder log.edges) (λ s t. Conflict system s t → Before log.edges (place system s) (place system t)) (λ s t f conflict. f conflict.1)
+            pairs_more (InOrder log.edges) (λ s t. Conflict system s t → Before log.edges (place system s) (place system t)) (λ s t f conflict. f conflict.1)
             (steps system m turns)
             (ordered_from log.edges [] (steps system m turns) (λ e is_edge. subst (λ es. Contains es e) (sym recording.edges) is_edge) tt tt
             (steps_within m turns runs)).0;
@@ -305,7 +289,7 @@ module _ {Hart Page Input : Type 0} (system : System Hart Page Input) where
   from_now now [] turn = tt
   from_now now (t ∷ rest) turn = (
     (let e : system.count t.found ≡ now t.hart = turn.0 in omega arith),
-    each_map (λ s. bump now t.hart s.hart ≤ system.count s.found) (λ s. now s.hart ≤ system.count s.found)
+    each_more (λ s. bump now t.hart s.hart ≤ system.count s.found) (λ s. now s.hart ≤ system.count s.found)
         (λ s le. le_trans (bump_le now t.hart s.hart) le) rest (from_now (bump now t.hart) rest turn.1),
   )
 
@@ -329,7 +313,7 @@ module _ {Hart Page Input : Type 0} (system : System Hart Page Input) where
   inputs_found idle now [] turn = tt
   inputs_found idle now (t ∷ rest) turn = (
     sym (input_here idle t rest),
-    each_map (λ s. (bump now t.hart s.hart ≤ system.count s.found) × (s.input ≡ input_at system idle rest s.hart (system.count s.found)))
+    each_more (λ s. (bump now t.hart s.hart ≤ system.count s.found) × (s.input ≡ input_at system idle rest s.hart (system.count s.found)))
         (λ s. s.input ≡ input_at system idle (t ∷ rest) s.hart (system.count s.found))
         (λ s (from, is). is ∙ sym (input_later idle t rest s.hart (system.count s.found) (later s from))) rest
         (each_both (λ s. bump now t.hart s.hart ≤ system.count s.found)

@@ -87,7 +87,7 @@ turn_of t = record { hart = t.hart; input = t.act }
 abbrev pub turns_as : List declared.Turn → List (Turn Act)
 turns_as = map turn_of
 
--- the turn was taken, or its hart is halted or not there
+-- the turn was taken, or its hart is halted or not there and nothing changed
 abbrev pub Went : Store Counter ℕ → Turn Act → Bool → Store Counter ℕ → Type 0
 Went old t true new = goes counters old t (slice_get old.harts t.hart) ≡ Some new
-Went old t false new = goes counters old t (slice_get old.harts t.hart) ≡ None
+Went old t false new = (goes counters old t (slice_get old.harts t.hart) ≡ None) × (new ≡ old)

@@ -36,7 +36,7 @@ pub struct Counters {
 impl Counters {
     /// The machine after these turns; none where one is of a hart that is not there, or whose count is full.
     pub fn run(mut self, turns: &[Turn]) -> Option<Counters>
-        ensures { option_map store_of result ≡ run_from counters (Some (store_of self)) (turns_as turns.now) }
+        ensures outcome { option_map store_of result ≡ run_from counters (Some (store_of self)) (turns_as turns.now) }
     {
         for turn in turns {
             if !self.step(*turn) {
@@ -47,7 +47,7 @@ impl Counters {
     }
 
     fn step(&mut self, turn: Turn) -> bool
-        ensures { Went (store_of self.old) (turn_of turn) result (store_of self.new) }
+        ensures went { Went (store_of self.old) (turn_of turn) result (store_of self.new) }
     {
         let Some(&hart) = self.harts.get(turn.hart) else {
             return false;

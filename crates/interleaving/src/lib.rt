@@ -41,7 +41,7 @@ pub fn closed_cuts()
 
 /// Edges that others imply can be dropped.
 pub fn implied_edges()
-    ensures { ImpliedMayGo }
+    ensures same_order { ImpliedMayGo }
 {}
 
 /// Each beginning of a schedule stands at a cut of its own and goes on to a schedule, and the interleaving's own order is

@@ -1,0 +1,45 @@
+-- Runs, one after another.
+use Rattle.std.proofs.Common.{◌≡◌, ◌≤◌, List, [], ◌∷◌, ◌++◌, map, refl, sym, ap, subst, ◌∙◌, arith, le_trans}
+use Rattle.interleaving.specs.Lists.{IsWithin}
+use Rattle.interleaving.specs.Machine.{System, Machine, Turn, after, counts, step_of, steps, Runs, run}
+use Rattle.interleaving.specs.Log.{counts_after}
+use Rattle.interleaving.proofs.Put.{bump_le}
+use Rattle.interleaving.proofs.Pull.{counts_step}
+
+module _ {Hart Page Input : Type 0} (system : System Hart Page Input) where
+  pub steps_append : (m : Machine Hart Page) (xs ys : List (Turn Input)) →
+      steps system m (xs ++ ys) ≡ steps system m xs ++ steps system (run system m xs) ys
+  steps_append m [] ys = refl
+  steps_append m (x ∷ xs) ys = ap (λ rest. step_of system m x ∷ rest) (steps_append (after m (step_of system m x)) xs ys)
+
+  pub run_append : (m : Machine Hart Page) (xs ys : List (Turn Input)) →
+      run system m (xs ++ ys) ≡ run system (run system m xs) ys
+  run_append m [] ys = refl
+  run_append m (x ∷ xs) ys = run_append (after m (step_of system m x)) xs ys
+
+  pub runs_append : (m : Machine Hart Page) (xs ys : List (Turn Input)) → Runs system m xs →
+      Runs system (run system m xs) ys → Runs system m (xs ++ ys)
+  runs_append m [] ys h k = k
+  runs_append m (x ∷ xs) ys h k = (h.0, runs_append (after m (step_of system m x)) xs ys h.1 k)
+
+  -- the front of what runs, runs
+  pub runs_front : (m : Machine Hart Page) (xs ys : List (Turn Input)) → Runs system m (xs ++ ys) → Runs system m xs
+  runs_front m [] ys runs = tt
+  runs_front m (x ∷ xs) ys runs = (runs.0, runs_front (after m (step_of system m x)) xs ys runs.1)
+
+  -- each hart's count only grows
+  pub counts_grow : (m : Machine Hart Page) (turns : List (Turn Input)) → Runs system m turns →
+      IsWithin (counts system m) (counts system (run system m turns))
+  counts_grow m [] runs hart = omega arith
+  counts_grow m (a ∷ turns) runs hart =
+      le_trans
+      (subst (λ n. counts system m hart ≤ n hart) (sym (counts_step system m a runs.0)) (bump_le (counts system m) a.hart hart))
+      (counts_grow (after m (step_of system m a)) turns runs.1 hart)
+
+  -- the counts that a run leaves are those of its harts' order
+  pub counts_run : (m : Machine Hart Page) (turns : List (Turn Input)) → Runs system m turns →
+      counts system (run system m turns) ≡ counts_after (counts system m) (map (λ t. t.hart) turns)
+  counts_run m [] runs = refl
+  counts_run m (a ∷ turns) runs =
+      counts_run (after m (step_of system m a)) turns runs.1 ∙
+      ap (λ n. counts_after n (map (λ t. t.hart) turns)) (counts_step system m a runs.0)
