@@ -2,4 +2,4 @@ use Rattle.interleaving.proofs.Cuts.{same_order}
 use Rattle.interleaving.proofs.implied_edges.Goals as goal
 
 pub returns : goal.returns
-returns c = same_order
+returns c = record { same_order = same_order }
