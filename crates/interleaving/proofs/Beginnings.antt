@@ -4,7 +4,7 @@ use Rattle.std.proofs.lemmas.Bool.{cases_lt}
 use Rattle.interleaving.specs.Lists.{IsWithin}
 use Rattle.interleaving.specs.Machine.{Machine, System, Turn, after, counts, step_of, run}
 use Rattle.interleaving.specs.Log.{Edge, Log, IsCut, IsClosed, IsMet, Begins, counts_after, turns_of, bump}
-use Rattle.interleaving.specs.Beginnings.{Reached, EndsAreCuts, Extends, OwnOrder, order_at}
+use Rattle.interleaving.specs.Beginnings.{FrontBegins, Reached, EndsAreCuts, Extends, OwnOrder, order_at}
 use Rattle.interleaving.proofs.Put.{same_or_not, put_same, bump_same, bump_other, bump_le}
 use Rattle.interleaving.proofs.Order.{bump_closed}
 use Rattle.interleaving.proofs.Pull.{Rest, tail, counts_step}
@@ -131,6 +131,10 @@ own_order system log m turns cut honest is_cut =
           let c : counts_after log.start (order_at system m turns cut) hart ≡ min (counts system (run system m turns) hart) (cut hart) = whole.1 hart in
           omega arith;
     }
+
+pub front_begins : FrontBegins
+front_begins edges cut now [] rest begins = tt
+front_begins edges cut now (hart ∷ order) rest begins = (begins.0, front_begins edges cut (bump now hart) order rest begins.1)
 
 begins_append : (edges : List Edge) (cut now : ℕ → ℕ) (order rest : List ℕ) → Begins edges cut now order →
     Begins edges cut (counts_after now order) rest → Begins edges cut now (order ++ rest)

@@ -3,7 +3,7 @@ use Rattle.std.proofs.Common.{◌≡◌, inl, inr, ℕ, refl, sym, ap, subst, �
 use Rattle.interleaving.specs.Log.{IsHonest, IsComplete, counts_after}
 use Rattle.interleaving.specs.Stored.{view}
 use Rattle.interleaving.specs.Counters.{counters}
-use Rattle.interleaving.specs.Examples.{system, three, crossing, crossing_log, own_order, other_order, EndsAlike}
+use Rattle.interleaving.specs.Examples.{counting, three, crossing, crossing_log, own_order, other_order, EndsAlike}
 use Rattle.interleaving.specs.declared.counters.Act.TheVariants as act
 use Rattle.interleaving.proofs.Put.{same_or_not}
 use Rattle.interleaving.proofs.Runs.{counts_run}
@@ -11,8 +11,8 @@ use Rattle.interleaving.proofs.Beginnings.{ends_are_cuts}
 use Rattle.interleaving.proofs.Recorder.{records_each_run}
 use Rattle.interleaving.proofs.Decided.{begins_by, counts_after_absent}
 
-honest : IsHonest system crossing_log (view counters three) crossing
-honest = records_each_run system (act.Load 0) (view counters three) crossing (refl, (refl, (refl, (refl, (refl, tt)))))
+honest : IsHonest counting crossing_log (view counters three) crossing
+honest = records_each_run counting (act.Load 0) (view counters three) crossing (refl, (refl, (refl, (refl, (refl, tt)))))
 
 -- each order takes the harts equally far
 orders_agree : (hart : ℕ) → counts_after crossing_log.start other_order hart ≡ counts_after crossing_log.start own_order hart
@@ -36,13 +36,13 @@ orders_agree hart =
     Agree h = counts_after crossing_log.start other_order h ≡ counts_after crossing_log.start own_order h
 
 own_complete : IsComplete crossing_log.end crossing_log.start own_order
-own_complete hart = sym (ap (λ n. n hart) (counts_run system (view counters three) crossing honest.runs))
+own_complete hart = sym (ap (λ n. n hart) (counts_run counting (view counters three) crossing honest.runs))
 
 pub ends_alike : EndsAlike
 ends_alike =
     record {
       honest = honest;
-      is_cut = (ends_are_cuts system crossing_log (view counters three) crossing honest).1;
+      is_cut = (ends_are_cuts counting crossing_log (view counters three) crossing honest).1;
       one = record { begins = begins_by crossing_log.edges crossing_log.end crossing_log.start own_order refl; complete = own_complete };
       other =
           record {

@@ -1,10 +1,16 @@
 -- Runs, one after another.
-use Rattle.std.proofs.Common.{◌≡◌, ◌≤◌, List, [], ◌∷◌, ◌++◌, map, refl, sym, ap, subst, ◌∙◌, arith, le_trans}
+use Rattle.std.proofs.Common.{ℕ, ◌≡◌, ◌≤◌, List, [], ◌∷◌, ◌++◌, map, refl, sym, ap, subst, ◌∙◌, arith, le_trans}
 use Rattle.interleaving.specs.Lists.{IsWithin}
 use Rattle.interleaving.specs.Machine.{System, Machine, Turn, after, counts, step_of, steps, Runs, run}
-use Rattle.interleaving.specs.Log.{counts_after}
+use Rattle.interleaving.specs.Log.{bump, counts_after, turns_of}
 use Rattle.interleaving.proofs.Put.{bump_le}
 use Rattle.interleaving.proofs.Pull.{counts_step}
+
+-- the harts of a beginning's turns are its order
+pub harts_of_turns : {Input : Type 0} (inputs : ℕ → ℕ → Input) (now : ℕ → ℕ) (order : List ℕ) →
+    map (λ t. t.hart) (turns_of inputs now order) ≡ order
+harts_of_turns inputs now [] = refl
+harts_of_turns inputs now (hart ∷ order) = ap (λ rest. hart ∷ rest) (harts_of_turns inputs (bump now hart) order)
 
 module _ {Hart Page Input : Type 0} (system : System Hart Page Input) where
   pub steps_append : (m : Machine Hart Page) (xs ys : List (Turn Input)) →

@@ -1,7 +1,13 @@
 -- More of schedules: each beginning stands at a cut of its own and goes on to a schedule, and there always is one.
 use Rattle.std.specs.Prelude.{ℕ, ◌≡◌, List, ◌++◌, map, filter}
 use Rattle.interleaving.specs.Machine.{Machine, System, Turn, steps, inside, run, at}
-use Rattle.interleaving.specs.Log.{Log, IsHonest, IsCut, Begins, IsSchedule, counts_after, turns_of}
+use Rattle.interleaving.specs.Log.{Edge, Log, IsHonest, IsCut, Begins, IsSchedule, counts_after, turns_of}
+
+-- a front of a beginning is a beginning
+abbrev pub FrontBegins : Type 0
+FrontBegins =
+    (edges : List Edge) (cut now : ℕ → ℕ) (order rest : List ℕ) →
+    Begins edges cut now (order ++ rest) → Begins edges cut now order
 
 module _ {Hart Page Input : Type 0} (system : System Hart Page Input) where
   -- the counts that a beginning reaches are a cut, and its machine is the interleaving's there
@@ -18,7 +24,7 @@ module _ {Hart Page Input : Type 0} (system : System Hart Page Input) where
       (log : Log Input) (m : Machine Hart Page) (turns : List (Turn Input)) → IsHonest system log m turns →
       IsCut log log.start × IsCut log log.end
 
-  -- each beginning is that of a schedule
+  -- each beginning of an honest log's is that of a schedule
   abbrev pub Extends : Type 0
   Extends =
       (log : Log Input) (m : Machine Hart Page) (turns : List (Turn Input)) (cut : ℕ → ℕ) (order : List ℕ) →

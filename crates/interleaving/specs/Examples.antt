@@ -1,5 +1,5 @@
 -- Three small logs of the counters: an honest one, and two that lack one part of honesty each, and go wrong.
-use Rattle.std.specs.Prelude.{ℕ, ◌≡◌, ◌≢◌, ◌==◌, List, [], ◌∷◌, Option, Some, map, if◌then◌else◌}
+use Rattle.std.specs.Prelude.{ℕ, ◌≡◌, ◌≢◌, ◌↔◌, ◌==◌, List, [], ◌∷◌, Option, Some, map, if◌then◌else◌}
 use Rattle.interleaving.specs.Machine.{Machine, System, Turn, counts, steps, Runs, run, at}
 use Rattle.interleaving.specs.Log.{Edge, Log, HasInputs, EachMet, IsOrdered, IsClosed, IsHonest, IsCut, IsSchedule, turns_of}
 use Rattle.interleaving.specs.Recorder.{log_of}
@@ -18,6 +18,13 @@ module _ {Hart Page Input : Type 0} (system : System Hart Page Input) where
     pub end : (hart : ℕ) → log.end hart ≡ counts system (run system m turns) hart
     pub met : EachMet log.edges log.start (steps system m turns)
 
+  -- these are the parts of honesty
+  abbrev pub PartsOfHonesty : Type 0
+  PartsOfHonesty =
+      (log : Log Input) (m : Machine Hart Page) (turns : List (Turn Input)) →
+      IsHonest system log m turns ↔
+      (Tells log m turns × IsClosed log.edges log.start × IsOrdered system log.edges (steps system m turns))
+
   -- a schedule of the log to its end does not leave the machine of its interleaving
   pub record GoesWrong (log : Log Input) (m : Machine Hart Page) (turns : List (Turn Input)) (order : List ℕ) : Type 0 where
     pub is_cut : IsCut log log.end
@@ -25,8 +32,8 @@ module _ {Hart Page Input : Type 0} (system : System Hart Page Input) where
     pub differs : run system m (turns_of log.inputs log.start order) ≢ at system m turns log.end
 
 -- the counters as a system
-abbrev pub system : System (Option Counter) (Option ℕ) Act
-system = system_of counters
+abbrev pub counting : System (Option Counter) (Option ℕ) Act
+counting = system_of counters
 
 -- a hart with this count, which loaded this
 abbrev pub hart_at : ℕ → ℕ → Counter
@@ -50,7 +57,7 @@ abbrev pub crossing : List (Turn Act)
 crossing = stores 0 0 ∷ loads 1 ∷ stores 0 0 ∷ stores 2 1 ∷ stores 1 1 ∷ []
 
 abbrev pub crossing_log : Log Act
-crossing_log = log_of system (act.Load 0) (view counters three) crossing
+crossing_log = log_of counting (act.Load 0) (view counters three) crossing
 
 -- what it leaves
 abbrev pub crossed : Store Counter ℕ
@@ -65,7 +72,7 @@ other_order = 2 ∷ 0 ∷ 1 ∷ 1 ∷ 0 ∷ []
 
 -- both are schedules to the end, and leave the same
 pub record EndsAlike : Type 0 where
-  pub honest : IsHonest system crossing_log (view counters three) crossing
+  pub honest : IsHonest counting crossing_log (view counters three) crossing
   pub is_cut : IsCut crossing_log crossing_log.end
   pub one : IsSchedule crossing_log crossing_log.end own_order
   pub other : IsSchedule crossing_log crossing_log.end other_order
@@ -92,16 +99,16 @@ early_log =
     record {
       edges = early_edge ∷ [];
       inputs = λ hart count. if hart == 0 then act.Store 0 else act.Load 0;
-      start = counts system (view counters late);
-      end = counts system (run system (view counters late) passing);
+      start = counts counting (view counters late);
+      end = counts counting (run counting (view counters late) passing);
     }
 
 -- all of honesty but a closed start does not do: hart 1 may load first
 pub record StartMatters : Type 0 where
-  pub tells : Tells system early_log (view counters late) passing
-  pub ordered : IsOrdered system early_log.edges (steps system (view counters late) passing)
+  pub tells : Tells counting early_log (view counters late) passing
+  pub ordered : IsOrdered counting early_log.edges (steps counting (view counters late) passing)
   pub not_closed : IsClosed early_log.edges early_log.start → ⊥
-  pub wrong : GoesWrong system early_log (view counters late) passing (1 ∷ 0 ∷ [])
+  pub wrong : GoesWrong counting early_log (view counters late) passing (1 ∷ 0 ∷ [])
 
 -- A log with the edges of hand-overs alone: the taker of a page hands it on before it has taken a step.
 
@@ -129,13 +136,13 @@ handed_log =
     record {
       edges = map edge_of hand_overs;
       inputs = λ hart count. if hart == 0 then act.Store 0 else act.Load 0;
-      start = counts system (view counters three);
-      end = counts system (run system (view counters three) handing_on);
+      start = counts counting (view counters three);
+      end = counts counting (run counting (view counters three) handing_on);
     }
 
 -- all of honesty but the order of the conflict does not do: hart 2 may load first
 pub record HandOversLoseOrder : Type 0 where
-  pub tells : Tells system handed_log (view counters three) handing_on
+  pub tells : Tells counting handed_log (view counters three) handing_on
   pub closed : IsClosed handed_log.edges handed_log.start
-  pub lost : IsOrdered system handed_log.edges (steps system (view counters three) handing_on) → ⊥
-  pub wrong : GoesWrong system handed_log (view counters three) handing_on (2 ∷ 0 ∷ [])
+  pub lost : IsOrdered counting handed_log.edges (steps counting (view counters three) handing_on) → ⊥
+  pub wrong : GoesWrong counting handed_log (view counters three) handing_on (2 ∷ 0 ∷ [])

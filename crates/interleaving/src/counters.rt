@@ -211,6 +211,6 @@ mod tests {
         crate::schedules::<Counter, u64, Act>();
         crate::stored::<Counter, u64, Act>();
         crate::recording::<Counter, u64, Act>();
-        crate::examples();
+        crate::examples::<Counter, u64, Act>();
     }
 }

@@ -5,10 +5,10 @@ ghost use Rattle.interleaving.specs.Machine.{System};
 ghost use Rattle.interleaving.specs.Log.{Confluence, StuckOrGoesOn, OneOfThree};
 ghost use Rattle.interleaving.specs.Cuts.{StartIsClosed, GreaterIsClosed, HasGreatest, ClosedOrBroken};
 ghost use Rattle.interleaving.specs.Cuts.{LoweringKeeps, ImpliedMayGo};
-ghost use Rattle.interleaving.specs.Beginnings.{Reached, EndsAreCuts, Extends, OwnOrder};
+ghost use Rattle.interleaving.specs.Beginnings.{FrontBegins, Reached, EndsAreCuts, Extends, OwnOrder};
 ghost use Rattle.interleaving.specs.Stored.{Hardware, RunsStored, StoredRuns, OneOutcome};
 ghost use Rattle.interleaving.specs.Recorder.{RecordsHonestly, RecordsEachRun};
-ghost use Rattle.interleaving.specs.Examples.{EndsAlike, StartMatters, HandOversLoseOrder};
+ghost use Rattle.interleaving.specs.Examples.{PartsOfHonesty, EndsAlike, StartMatters, HandOversLoseOrder};
 ghost use Rattle.interleaving.specs.AsItWas.{HartAsItWas, HartWasThere};
 ghost use Rattle.interleaving.specs.AsItWas.{PageAsItWas, PageUnwritten, PageHasWriter};
 
@@ -47,6 +47,7 @@ pub fn implied_edges()
 /// Each beginning of a schedule stands at a cut of its own and goes on to a schedule, and the interleaving's own order is
 /// one.
 pub fn schedules<H, P, I>()
+    ensures front { FrontBegins }
     ensures reached { (system : System H P I) → Reached system }
     ensures ends_are_cuts { (system : System H P I) → EndsAreCuts system }
     ensures extends { (system : System H P I) → Extends system }
@@ -70,8 +71,9 @@ pub fn recording<H, P, I>()
 
 /// The definitions at work: an honest log, two of whose schedules end alike, and two logs that lack one part of honesty
 /// each, so that a schedule of theirs goes wrong.
-pub fn examples()
+pub fn examples<H, P, I>()
     ensures ends_alike { EndsAlike }
+    ensures parts_of_honesty { (system : System H P I) → PartsOfHonesty system }
     ensures start_matters { StartMatters }
     ensures hand_overs_lose_order { HandOversLoseOrder }
 {}

@@ -1,5 +1,8 @@
-use Rattle.interleaving.proofs.Beginnings.{reached, ends_are_cuts, extends, own_order}
+use Rattle.interleaving.proofs.Beginnings.{front_begins, reached, ends_are_cuts, extends, own_order}
 use Rattle.interleaving.proofs.schedules.Goals as goal
+
+pub returns-clause-front : goal.returns-clause-front
+returns-clause-front g c = front_begins
 
 pub returns-clause-reached : goal.returns-clause-reached
 returns-clause-reached g c = λ system. reached system
