@@ -10,7 +10,8 @@ use Rattle.interleaving.proofs.Pull.{counts_step}
 use Rattle.interleaving.proofs.Runs.{runs_front, counts_grow}
 
 -- a page that is written does not depend on what was there
-written_same : {Page : Type 0} (f g : ℕ → Page) (w : Option (Write Page)) (page : ℕ) → MatchOption w ⊥ (λ w. w.page ≡ page) → written f w page ≡ written g w page
+written_same : {Page : Type 0} (f g : ℕ → Page) (w : Option (Write Page)) (page : ℕ) →
+    MatchOption w ⊥ (λ w. w.page ≡ page) → written f w page ≡ written g w page
 written_same f g None page is = absurd is
 written_same f g (Some w) page is = put_same f w.page page w.contents is ∙ sym (put_same g w.page page w.contents is)
 
@@ -54,12 +55,14 @@ module _ {Hart Page Input : Type 0} (system : System Hart Page Input) (cut : ℕ
         | false ↦ last_written c (after m (step_of system m a)) front rest t page is_inside writes none
       ]
 
-  later_le : (m : Machine Hart Page) (a : Turn Input) (hart n : ℕ) → system.halted (m.harts a.hart) ≡ false → n ≤ counts system m hart →
+  later_le : (m : Machine Hart Page) (a : Turn Input) (hart n : ℕ) → system.halted (m.harts a.hart) ≡ false →
+      n ≤ counts system m hart →
       n ≤ counts system (after m (step_of system m a)) hart
   later_le m a hart n runs le = subst (λ k. n ≤ k hart) (sym (counts_step system m a runs)) (le_trans le (bump_le (counts system m) a.hart hart))
 
   -- a hart that has reached the cut
-  hart_outside : (c m : Machine Hart Page) (turns : List (Turn Input)) (hart : ℕ) → Runs system m turns → cut hart ≤ counts system m hart →
+  hart_outside : (c m : Machine Hart Page) (turns : List (Turn Input)) (hart : ℕ) → Runs system m turns →
+      cut hart ≤ counts system m hart →
       (cut_from c m turns).harts hart ≡ c.harts hart
   hart_outside c m [] hart runs reached = refl
   hart_outside c m (a ∷ turns) hart runs reached =
@@ -81,7 +84,8 @@ module _ {Hart Page Input : Type 0} (system : System Hart Page Input) (cut : ℕ
             ]
       ]
 
-  hart_from : (c m : Machine Hart Page) (front rest : List (Turn Input)) (hart : ℕ) → Runs system m (front ++ rest) → c.harts hart ≡ m.harts hart →
+  hart_from : (c m : Machine Hart Page) (front rest : List (Turn Input)) (hart : ℕ) → Runs system m (front ++ rest) →
+      c.harts hart ≡ m.harts hart →
       counts system (run system m front) hart ≡ cut hart → (cut_from c m (front ++ rest)).harts hart ≡ (run system m front).harts hart
   hart_from c m [] rest hart runs same at_cut = hart_outside c m rest hart runs (omega arith) ∙ same
   hart_from c m (a ∷ front) rest hart runs same at_cut =
@@ -97,7 +101,8 @@ module _ {Hart Page Input : Type 0} (system : System Hart Page Input) (cut : ℕ
             )
       ]
     where
-      both : (a.hart ≡ hart) ⊎ (a.hart ≢ hart) → (after c (step_of system m a)).harts hart ≡ (after m (step_of system m a)).harts hart
+      both : (a.hart ≡ hart) ⊎ (a.hart ≢ hart) →
+          (after c (step_of system m a)).harts hart ≡ (after m (step_of system m a)).harts hart
       both (inl is) =
           put_same c.harts a.hart hart (step_of system m a).effect.hart is ∙ sym (put_same m.harts a.hart hart (step_of system m a).effect.hart is)
       both (inr ne) =

@@ -15,27 +15,33 @@ counts_after_le : (now : ℕ → ℕ) (order : List ℕ) (hart : ℕ) → now ha
 counts_after_le now [] hart = omega arith
 counts_after_le now (next ∷ order) hart = le_trans (bump_le now next hart) (counts_after_le (bump now next) order hart)
 
-begins_own : (edges : List Edge) (cut now : ℕ → ℕ) (order : List ℕ) → Begins edges cut now order → Begins edges (counts_after now order) now order
+begins_own : (edges : List Edge) (cut now : ℕ → ℕ) (order : List ℕ) → Begins edges cut now order →
+    Begins edges (counts_after now order) now order
 begins_own edges cut now [] b = tt
 begins_own edges cut now (next ∷ order) b =
     let f : bump now next next ≡ now next + 1 = bump_same now next in
     let g : bump now next next ≤ counts_after (bump now next) order next = counts_after_le (bump now next) order next in
     (((omega arith), b.0.1), begins_own edges cut (bump now next) order b.1)
 
-bump_fits : (cut now : ℕ → ℕ) (next : ℕ) → now next < cut next → ((hart : ℕ) → now hart ≤ cut hart) → (hart : ℕ) → bump now next hart ≤ cut hart
+bump_fits : (cut now : ℕ → ℕ) (next : ℕ) → now next < cut next → ((hart : ℕ) → now hart ≤ cut hart) → (hart : ℕ) →
+    bump now next hart ≤ cut hart
 bump_fits cut now next less fits hart =
     elim (same_or_not next hart) [
       | inl same ↦
-          let f : bump now next hart ≡ now next + 1 = put_same now next hart (now next + 1) same in let g : cut next ≡ cut hart = ap cut same in omega arith
+          let f : bump now next hart ≡ now next + 1 = put_same now next hart (now next + 1) same in
+          let g : cut next ≡ cut hart = ap cut same in
+          omega arith
       | inr ne ↦ let f : bump now next hart ≡ now hart = bump_other now next hart ne in let g : now hart ≤ cut hart = fits hart in omega arith
     ]
 
-counts_after_fit : (edges : List Edge) (cut now : ℕ → ℕ) (order : List ℕ) → Begins edges cut now order → ((hart : ℕ) → now hart ≤ cut hart) →
+counts_after_fit : (edges : List Edge) (cut now : ℕ → ℕ) (order : List ℕ) → Begins edges cut now order →
+    ((hart : ℕ) → now hart ≤ cut hart) →
     (hart : ℕ) → counts_after now order hart ≤ cut hart
 counts_after_fit edges cut now [] b fits = fits
 counts_after_fit edges cut now (next ∷ order) b fits = counts_after_fit edges cut (bump now next) order b.1 (bump_fits cut now next b.0.0 fits)
 
-closed_after : (edges : List Edge) (cut now : ℕ → ℕ) (order : List ℕ) → Begins edges cut now order → IsClosed edges now → IsClosed edges (counts_after now order)
+closed_after : (edges : List Edge) (cut now : ℕ → ℕ) (order : List ℕ) → Begins edges cut now order →
+    IsClosed edges now → IsClosed edges (counts_after now order)
 closed_after edges cut now [] b closed = closed
 closed_after edges cut now (next ∷ order) b closed = closed_after edges cut (bump now next) order b.1 (bump_closed edges now next closed b.0.1)
 
@@ -57,7 +63,8 @@ module _ {Hart Page Input : Type 0} (system : System Hart Page Input) (log : Log
       Begins log.edges cut now (order_at system m turns cut) ×
       ((hart : ℕ) → counts_after now (order_at system m turns cut) hart ≡ min (counts system (run system m turns) hart) (cut hart))
 
-  met_inside : (edges : List Edge) (all now : ℕ → ℕ) (hart : ℕ) → IsClosed edges cut → ((h : ℕ) → now h ≡ min (all h) (cut h)) → all hart < cut hart → IsMet edges all hart → IsMet edges now hart
+  met_inside : (edges : List Edge) (all now : ℕ → ℕ) (hart : ℕ) → IsClosed edges cut →
+      ((h : ℕ) → now h ≡ min (all h) (cut h)) → all hart < cut hart → IsMet edges all hart → IsMet edges now hart
   met_inside edges all now hart closed is less met e is_edge here stands =
       let f : now hart ≡ min (all hart) (cut hart) = is hart in
       let g : now e.other ≡ min (all e.other) (cut e.other) = is e.other in
@@ -66,7 +73,8 @@ module _ {Hart Page Input : Type 0} (system : System Hart Page Input) (log : Log
       let b : e.count ≤ cut e.other = closed e is_edge (omega arith) in
       omega arith
 
-  own_from : (m : Machine Hart Page) (turns : List (Turn Input)) (now : ℕ → ℕ) → Rest system log m turns → ((hart : ℕ) → now hart ≡ min (counts system m hart) (cut hart)) → IsWhole m turns now
+  own_from : (m : Machine Hart Page) (turns : List (Turn Input)) (now : ℕ → ℕ) → Rest system log m turns →
+      ((hart : ℕ) → now hart ≡ min (counts system m hart) (cut hart)) → IsWhole m turns now
   own_from m [] now r is = (tt, is)
   own_from m (a ∷ turns) now r is =
       elim (cases_lt (counts system m a.hart) (cut a.hart)) [
@@ -82,7 +90,8 @@ module _ {Hart Page Input : Type 0} (system : System Hart Page Input) (log : Log
       count_is : (hart : ℕ) → counts system (after m (step_of system m a)) hart ≡ bump (counts system m) a.hart hart
       count_is hart = ap (λ n. n hart) (counts_step system m a r.runs.0)
 
-      gone : counts system m a.hart < cut a.hart → (hart : ℕ) → bump now a.hart hart ≡ min (counts system (after m (step_of system m a)) hart) (cut hart)
+      gone : counts system m a.hart < cut a.hart → (hart : ℕ) →
+          bump now a.hart hart ≡ min (counts system (after m (step_of system m a)) hart) (cut hart)
       gone less hart =
           elim (same_or_not a.hart hart) [
             | inl same ↦
@@ -100,7 +109,8 @@ module _ {Hart Page Input : Type 0} (system : System Hart Page Input) (log : Log
                 omega arith
           ]
 
-      stayed : cut a.hart ≤ counts system m a.hart → (hart : ℕ) → now hart ≡ min (counts system (after m (step_of system m a)) hart) (cut hart)
+      stayed : cut a.hart ≤ counts system m a.hart → (hart : ℕ) →
+          now hart ≡ min (counts system (after m (step_of system m a)) hart) (cut hart)
       stayed over hart =
           elim (same_or_not a.hart hart) [
             | inl same ↦
@@ -142,7 +152,8 @@ begins_append edges cut now [] rest first second = second
 begins_append edges cut now (hart ∷ order) rest first second =
     (first.0, begins_append edges cut (bump now hart) order rest first.1 second)
 
-counts_after-append : (now : ℕ → ℕ) (order rest : List ℕ) → counts_after now (order ++ rest) ≡ counts_after (counts_after now order) rest
+counts_after-append : (now : ℕ → ℕ) (order rest : List ℕ) →
+    counts_after now (order ++ rest) ≡ counts_after (counts_after now order) rest
 counts_after-append now [] rest = refl
 counts_after-append now (hart ∷ order) rest = counts_after-append (bump now hart) order rest
 
@@ -180,7 +191,8 @@ extends {Hart} {Page} {Input} system log m turns cut order honest is_cut begins 
         let b : counts system here hart ≡ counts_after log.start order hart = ap (λ n. n hart) f.counts_are in
         omega arith)
 
-closed_end : {Hart Page Input : Type 0} (system : System Hart Page Input) (log : Log Input) (m : Machine Hart Page) (turns : List (Turn Input)) →
+closed_end : {Hart Page Input : Type 0} (system : System Hart Page Input) (log : Log Input) (m : Machine Hart Page)
+    (turns : List (Turn Input)) →
     Rest system log m turns → IsClosed log.edges (counts system (run system m turns))
 closed_end system log m [] r = r.closed
 closed_end system log m (a ∷ turns) r = closed_end system log (after m (step_of system m a)) turns (tail system log m a turns r)

@@ -63,7 +63,8 @@ asked_more : (x : Edge) (edges : List Edge) (cut : ℕ → ℕ) → asked edges 
 asked_more x edges cut =
     elim (nat_lt x.step (cut x.hart)) as (λ b. asked edges cut ≤ cond b (1 + asked edges cut) (asked edges cut)) [ true ↦ omega arith | false ↦ omega arith ]
 
-asked_le : (edges : List Edge) (cut lower : ℕ → ℕ) → ((hart : ℕ) → lower hart ≤ cut hart) → asked edges lower ≤ asked edges cut
+asked_le : (edges : List Edge) (cut lower : ℕ → ℕ) → ((hart : ℕ) → lower hart ≤ cut hart) →
+    asked edges lower ≤ asked edges cut
 asked_le [] cut lower le = omega arith
 asked_le (x ∷ edges) cut lower le =
     let ih : asked edges lower ≤ asked edges cut = asked_le edges cut lower le in
@@ -75,7 +76,8 @@ asked_le (x ∷ edges) cut lower le =
       | inr over ↦ rw (le-ltb x.step (lower x.hart) over) (le_trans ih (asked_more x edges cut))
     ]
 
-asked_less : (edges : List Edge) (cut lower : ℕ → ℕ) → ((hart : ℕ) → lower hart ≤ cut hart) → (e : Edge) → Contains edges e → e.step < cut e.hart →
+asked_less : (edges : List Edge) (cut lower : ℕ → ℕ) → ((hart : ℕ) → lower hart ≤ cut hart) → (e : Edge) →
+    Contains edges e → e.step < cut e.hart →
     lower e.hart ≤ e.step → asked edges lower < asked edges cut
 asked_less [] cut lower le e (k, less, is) was now = absurd (omega arith)
 asked_less (x ∷ edges) cut lower le e is_edge was now =
@@ -160,7 +162,8 @@ lower_one edges bound e is_edge (step, short) rec = (
         (asked_less edges bound (lowered bound e) low.below e is_edge step
         (let f : lowered bound e e.hart ≡ e.step = put_same bound e.hart e.hart e.step refl in omega arith))
 
-greatest_by : (fuel : ℕ) (edges : List Edge) (bound : ℕ → ℕ) → asked edges bound ≤ fuel → IsClosed edges bound ⊎ ((e : Edge) × Contains edges e × IsBroken bound e) →
+greatest_by : (fuel : ℕ) (edges : List Edge) (bound : ℕ → ℕ) → asked edges bound ≤ fuel →
+    IsClosed edges bound ⊎ ((e : Edge) × Contains edges e × IsBroken bound e) →
     (cut : ℕ → ℕ) × IsGreatest edges bound cut
 greatest_by fuel edges bound enough (inl closed) =
     (bound, record { closed = closed; below = λ h. omega arith; greatest = λ other c under. under })
@@ -172,12 +175,14 @@ greatest_by (suc fuel) edges bound enough (inr (e, is_edge, broken)) =
 pub greatest : (edges : List Edge) (bound : ℕ → ℕ) → (cut : ℕ → ℕ) × IsGreatest edges bound cut
 greatest edges bound = greatest_by (asked edges bound) edges bound (omega arith) (find_broken edges bound)
 
-before_among : (few all : List Edge) → ((e : Edge) → Contains few e → Contains all e) → {a b : Place} → Before few a b → Before all a b
+before_among : (few all : List Edge) → ((e : Edge) → Contains few e → Contains all e) → {a b : Place} →
+    Before few a b → Before all a b
 before_among few all among (Own same less) = Own same less
 before_among few all among (Across e is_edge other less hart from) = Across e (among e is_edge) other less hart from
 before_among few all among (Through p q) = Through (before_among few all among p) (before_among few all among q)
 
-few_closed : (few all : List Edge) (start : ℕ → ℕ) → IsEnough few all start → (cut : ℕ → ℕ) → ((hart : ℕ) → start hart ≤ cut hart) → IsClosed few cut → IsClosed all cut
+few_closed : (few all : List Edge) (start : ℕ → ℕ) → IsEnough few all start → (cut : ℕ → ℕ) →
+    ((hart : ℕ) → start hart ≤ cut hart) → IsClosed few cut → IsClosed all cut
 few_closed few all start enough cut from_start closed e is_edge below =
     elim (enough.implied e is_edge) [
       | inl early ↦ le_trans early (from_start e.other)
@@ -188,7 +193,8 @@ few_closed few all start enough cut from_start closed e is_edge below =
           omega arith
     ]
 
-before_few : (few all : List Edge) (start : ℕ → ℕ) → IsEnough few all start → {a b : Place} → Before all a b → start a.hart ≤ a.step → Before few a b
+before_few : (few all : List Edge) (start : ℕ → ℕ) → IsEnough few all start → {a b : Place} → Before all a b →
+    start a.hart ≤ a.step → Before few a b
 before_few few all start enough (Own same less) from = Own same less
 before_few few all start enough (Across {a = a} {b = b} e is_edge other less hart behind) from =
     elim (enough.implied e is_edge) [
@@ -207,7 +213,8 @@ before_few few all start enough (Through {a = a} {b = b} {c = c} p q) from =
     ])
     )
 
-few_met : (few all : List Edge) (start : ℕ → ℕ) → IsEnough few all start → (now : ℕ → ℕ) (hart : ℕ) → ((other : ℕ) → start other ≤ now other) → IsClosed few now →
+few_met : (few all : List Edge) (start : ℕ → ℕ) → IsEnough few all start → (now : ℕ → ℕ) (hart : ℕ) →
+    ((other : ℕ) → start other ≤ now other) → IsClosed few now →
     IsMet few now hart → IsMet all now hart
 few_met few all start enough now hart from_start closed met e is_edge here_is stands =
     elim (enough.implied e is_edge) [
@@ -230,7 +237,8 @@ begins_few few all start enough cut now (hart ∷ order) from closed begins = (
       (bump_closed few now hart closed begins.0.1) begins.1,
 )
 
-begins_among : (few all : List Edge) → ((e : Edge) → Contains few e → Contains all e) → (cut now : ℕ → ℕ) (order : List ℕ) →
+begins_among : (few all : List Edge) → ((e : Edge) → Contains few e → Contains all e) →
+    (cut now : ℕ → ℕ) (order : List ℕ) →
     Begins all cut now order → Begins few cut now order
 begins_among few all among cut now [] begins = tt
 begins_among few all among cut now (hart ∷ order) begins = (

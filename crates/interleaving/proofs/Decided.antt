@@ -48,7 +48,8 @@ met_by : (edges : List Edge) (now : ℕ → ℕ) (hart : ℕ) → met_at edges n
 met_by edges now hart h e =
     each_at (λ e. e.hart ≡ hart → e.step ≡ now hart → e.count ≤ now e.other) edges e (each edges h)
   where
-    each : (es : List Edge) → met_at es now hart ≡ true → Each (λ e. e.hart ≡ hart → e.step ≡ now hart → e.count ≤ now e.other) es
+    each : (es : List Edge) → met_at es now hart ≡ true →
+        Each (λ e. e.hart ≡ hart → e.step ≡ now hart → e.count ≤ now e.other) es
     each [] h = tt
     each (e ∷ es) h =
         let b = both_true (holds (e.hart == hart && e.step == now hart) e.count (now e.other)) (met_at es now hart) h in (
@@ -74,7 +75,8 @@ begins_at edges cut now [] = true
 begins_at edges cut now (hart ∷ rest) =
     (nat_lt (now hart) (cut hart) && met_at edges now hart) && begins_at edges cut (bump now hart) rest
 
-pub begins_by : (edges : List Edge) (cut now : ℕ → ℕ) (order : List ℕ) → begins_at edges cut now order ≡ true → Begins edges cut now order
+pub begins_by : (edges : List Edge) (cut now : ℕ → ℕ) (order : List ℕ) → begins_at edges cut now order ≡ true →
+    Begins edges cut now order
 begins_by edges cut now [] h = tt
 begins_by edges cut now (hart ∷ rest) h =
     let b = both_true (nat_lt (now hart) (cut hart) && met_at edges now hart) (begins_at edges cut (bump now hart) rest) h in
@@ -82,7 +84,8 @@ begins_by edges cut now (hart ∷ rest) h =
     ((less_true (now hart) (cut hart) c.0, met_by edges now hart c.1), begins_by edges cut (bump now hart) rest b.1)
 
 -- a hart that does not go keeps its count
-pub counts_after_absent : (now : ℕ → ℕ) (order : List ℕ) (hart : ℕ) → Each (λ next. next ≢ hart) order → counts_after now order hart ≡ now hart
+pub counts_after_absent : (now : ℕ → ℕ) (order : List ℕ) (hart : ℕ) → Each (λ next. next ≢ hart) order →
+    counts_after now order hart ≡ now hart
 counts_after_absent now [] hart absent = refl
 counts_after_absent now (next ∷ order) hart absent =
     counts_after_absent (bump now next) order hart absent.1 ∙ bump_other now next hart absent.0

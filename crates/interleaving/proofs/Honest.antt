@@ -15,7 +15,8 @@ honest : IsHonest counting crossing_log (view counters three) crossing
 honest = records_each_run counting (act.Load 0) (view counters three) crossing (refl, (refl, (refl, (refl, (refl, tt)))))
 
 -- each order takes the harts equally far
-orders_agree : (hart : ℕ) → counts_after crossing_log.start other_order hart ≡ counts_after crossing_log.start own_order hart
+orders_agree : (hart : ℕ) →
+    counts_after crossing_log.start other_order hart ≡ counts_after crossing_log.start own_order hart
 orders_agree hart =
     elim (same_or_not 0 hart) [
       | inl is ↦ subst Agree is refl

@@ -22,7 +22,8 @@ get_set_other (y ∷ xs) (suc i) zero x ne = refl
 get_set_other (y ∷ xs) (suc i) (suc j) x ne = get_set_other xs i j x (λ e. ne (ap suc e))
 
 -- a write to a list is a `put`
-pub get_set : {A : Type 0} (xs : List A) (i : ℕ) (x : A) → i < length xs → slice_get (slice_set xs i x) ≡ put (slice_get xs) i (Some x)
+pub get_set : {A : Type 0} (xs : List A) (i : ℕ) (x : A) → i < length xs →
+    slice_get (slice_set xs i x) ≡ put (slice_get xs) i (Some x)
 get_set {A} xs i x below = λ p j. at_each j (same_or_not i j) p
   where
     at_each : (j : ℕ) → (i ≡ j) ⊎ (i ≢ j) → slice_get (slice_set xs i x) j ≡ put (slice_get xs) i (Some x) j
@@ -55,7 +56,8 @@ module _ {Hart Page Input : Type 0} (hardware : Hardware Hart Page Input) where
   abbrev shape : Store Hart Page → Turn Input → Option Hart → Step (Option Hart) (Option Page) Input
   shape s t hart = record { hart = t.hart; found = hart; input = t.input; effect = effect_of hardware hart t.input (slice_get s.pages) }
 
-  goes_on : (s : Store Hart Page) (t : Turn Input) (hart : Option Hart) → slice_get s.harts t.hart ≡ hart → halted_of hardware hart ≡ false →
+  goes_on : (s : Store Hart Page) (t : Turn Input) (hart : Option Hart) → slice_get s.harts t.hart ≡ hart →
+      halted_of hardware hart ≡ false →
       (next : Store Hart Page) × (goes hardware s t (slice_get s.harts t.hart) ≡ Some next) × (view hardware next ≡ after (view hardware s) (step_of (system_of hardware) (view hardware s) t))
   goes_on s t None e runs = absurd (true≢false runs)
   goes_on s t (Some hart) e runs = (next, ap (goes hardware s t) e ∙ goes_next, view_is ∙ ap (λ o. after (view hardware s) (shape s t o)) (sym e))
@@ -121,10 +123,14 @@ module _ {Hart Page Input : Type 0} (hardware : Hardware Hart Page Input) where
       replay₂ : IsReplayed (system_of hardware) log (view hardware s) turns cut other
       replay₂ = confluence (system_of hardware) log (view hardware s) turns cut other honest is_cut second.begins
 
-      result₁ : (result : Store Hart Page) × (run_from hardware (Some s) (turns_of log.inputs log.start one) ≡ Some result) × (view hardware result ≡ run (system_of hardware) (view hardware s) (turns_of log.inputs log.start one))
+      result₁ : (result : Store Hart Page) ×
+          (run_from hardware (Some s) (turns_of log.inputs log.start one) ≡ Some result) ×
+          (view hardware result ≡ run (system_of hardware) (view hardware s) (turns_of log.inputs log.start one))
       result₁ = runs_stored s (turns_of log.inputs log.start one) replay₁.runs
 
-      result₂ : (result : Store Hart Page) × (run_from hardware (Some s) (turns_of log.inputs log.start other) ≡ Some result) × (view hardware result ≡ run (system_of hardware) (view hardware s) (turns_of log.inputs log.start other))
+      result₂ : (result : Store Hart Page) ×
+          (run_from hardware (Some s) (turns_of log.inputs log.start other) ≡ Some result) ×
+          (view hardware result ≡ run (system_of hardware) (view hardware s) (turns_of log.inputs log.start other))
       result₂ = runs_stored s (turns_of log.inputs log.start other) replay₂.runs
 
       at₁ : view hardware result₁.0 ≡ at (system_of hardware) (view hardware s) turns cut

@@ -8,7 +8,8 @@ use Rattle.interleaving.proofs.Pulled.{Pulled, Here, There, IsApart, pulled_each
 use Rattle.interleaving.proofs.Order.{before_inside, bump_closed, bump_met, pulled_met}
 
 module _ {Hart Page Input : Type 0} (system : System Hart Page Input) where
-  pub counts_step : (m : Machine Hart Page) (t : Turn Input) → system.halted (m.harts t.hart) ≡ false → counts system (after m (step_of system m t)) ≡ bump (counts system m) t.hart
+  pub counts_step : (m : Machine Hart Page) (t : Turn Input) → system.halted (m.harts t.hart) ≡ false →
+      counts system (after m (step_of system m t)) ≡ bump (counts system m) t.hart
   counts_step m t runs = λ p hart. at_each hart p
     where
       at_each : (hart : ℕ) → counts system (after m (step_of system m t)) hart ≡ bump (counts system m) t.hart hart
@@ -25,7 +26,8 @@ module _ {Hart Page Input : Type 0} (system : System Hart Page Input) (log : Log
     pub end : (hart : ℕ) → log.end hart ≡ counts system (run system m turns) hart
     pub closed : IsClosed log.edges (counts system m)
     pub met : EachMet log.edges (counts system m) (steps system m turns)
-    pub ordered : EachPair (λ s t. Conflict system s t → Before log.edges (place system s) (place system t)) (steps system m turns)
+    pub ordered : EachPair (λ s t. Conflict system s t → Before log.edges (place system s) (place system t))
+        (steps system m turns)
 
   -- what the hart does next by the log
   abbrev pub turn_of : Machine Hart Page → ℕ → Turn Input
@@ -34,7 +36,8 @@ module _ {Hart Page Input : Type 0} (system : System Hart Page Input) (log : Log
   abbrev pub next : Machine Hart Page → ℕ → Step Hart Page Input
   next m hart = step_of system m (turn_of m hart)
 
-  pub tail : (m : Machine Hart Page) (a : Turn Input) (turns : List (Turn Input)) → Rest m (a ∷ turns) → Rest (after m (step_of system m a)) turns
+  pub tail : (m : Machine Hart Page) (a : Turn Input) (turns : List (Turn Input)) → Rest m (a ∷ turns) →
+      Rest (after m (step_of system m a)) turns
   tail m a turns r =
       record {
         runs = r.runs.1;
@@ -50,7 +53,8 @@ module _ {Hart Page Input : Type 0} (system : System Hart Page Input) (log : Log
       Pulled (next m hart) (steps system m turns) (steps system (after m (next m hart)) left) → system.halted (m.harts hart) ≡ false
   goes m turns left hart r p = (pulled_each (next m hart) (λ s. system.halted s.found ≡ false) p r.runs).0
 
-  pub advance : (m : Machine Hart Page) (turns left : List (Turn Input)) (hart : ℕ) → Rest m turns → IsMet log.edges (counts system m) hart →
+  pub advance : (m : Machine Hart Page) (turns left : List (Turn Input)) (hart : ℕ) → Rest m turns →
+      IsMet log.edges (counts system m) hart →
       Pulled (next m hart) (steps system m turns) (steps system (after m (next m hart)) left) → Rest (after m (next m hart)) left
   advance m turns left hart r met p =
       record {
@@ -65,7 +69,8 @@ module _ {Hart Page Input : Type 0} (system : System Hart Page Input) (log : Log
       }
 
   -- a step that stands before one that may go already does not conflict with it
-  pub no_conflict : (m : Machine Hart Page) (s t : Step Hart Page Input) → IsClosed log.edges (counts system m) → IsMet log.edges (counts system m) t.hart →
+  pub no_conflict : (m : Machine Hart Page) (s t : Step Hart Page Input) → IsClosed log.edges (counts system m) →
+      IsMet log.edges (counts system m) t.hart →
       system.count s.found ≡ counts system m s.hart → system.count t.found ≡ counts system m t.hart →
       (Conflict system s t → Before log.edges (place system s) (place system t)) → Conflict system s t → ⊥
   no_conflict m s t closed met s_at t_at ordered conflict =
@@ -77,7 +82,8 @@ module _ {Hart Page Input : Type 0} (system : System Hart Page Input) (log : Log
       omega arith
 
   -- the hart's next step stands first
-  pull_first : (m : Machine Hart Page) (a : Turn Input) (turns : List (Turn Input)) (hart : ℕ) → Rest m (a ∷ turns) → a.hart ≡ hart →
+  pull_first : (m : Machine Hart Page) (a : Turn Input) (turns : List (Turn Input)) (hart : ℕ) → Rest m (a ∷ turns) →
+      a.hart ≡ hart →
       (left : List (Turn Input)) × Pulled (next m hart) (steps system m (a ∷ turns)) (steps system (after m (next m hart)) left)
   pull_first m a turns hart r same = (
     turns,
@@ -88,7 +94,8 @@ module _ {Hart Page Input : Type 0} (system : System Hart Page Input) (log : Log
       is_input = λ i. record { hart = a.hart; input = r.inputs.0 i }
 
   -- or behind that of another hart
-  pull_behind : (m : Machine Hart Page) (a : Turn Input) (turns : List (Turn Input)) (hart : ℕ) → Rest m (a ∷ turns) → IsMet log.edges (counts system m) hart →
+  pull_behind : (m : Machine Hart Page) (a : Turn Input) (turns : List (Turn Input)) (hart : ℕ) → Rest m (a ∷ turns) →
+      IsMet log.edges (counts system m) hart →
       a.hart ≢ hart →
       (left : List (Turn Input)) × Pulled (next (after m (step_of system m a)) hart) (steps system (after m (step_of system m a)) turns)
       (steps system (after (after m (step_of system m a)) (next (after m (step_of system m a)) hart)) left) →
@@ -175,7 +182,8 @@ module _ {Hart Page Input : Type 0} (system : System Hart Page Input) (log : Log
           ap s-shape (sym (put_other m.harts hart a.hart t.effect.hart (λ e. ne (sym e))))
 
   -- the hart's next step, from where it stands
-  pub pull : (m : Machine Hart Page) (turns : List (Turn Input)) (hart : ℕ) → Rest m turns → counts system m hart < log.end hart →
+  pub pull : (m : Machine Hart Page) (turns : List (Turn Input)) (hart : ℕ) → Rest m turns →
+      counts system m hart < log.end hart →
       IsMet log.edges (counts system m) hart →
       (left : List (Turn Input)) × Pulled (next m hart) (steps system m turns) (steps system (after m (next m hart)) left)
   pull m [] hart r below met = let e : log.end hart ≡ counts system m hart = r.end hart in absurd (omega arith)

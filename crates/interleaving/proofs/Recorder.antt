@@ -11,11 +11,13 @@ use Rattle.interleaving.proofs.Pull.{counts_step}
 use Rattle.interleaving.proofs.Cuts.{here_or_later, here}
 use Rattle.interleaving.proofs.Each.{each_from, each_more, each_both, pairs_more}
 
-is_write_true : {Page : Type 0} (w : Option (Write Page)) (page : ℕ) → MatchOption w ⊥ (λ w. w.page ≡ page) → is_write w page ≡ true
+is_write_true : {Page : Type 0} (w : Option (Write Page)) (page : ℕ) → MatchOption w ⊥ (λ w. w.page ≡ page) →
+    is_write w page ≡ true
 is_write_true None page h = absurd h
 is_write_true (Some w) page h = eq-eqb w.page page h
 
-true_is_write : {Page : Type 0} (w : Option (Write Page)) (page : ℕ) → is_write w page ≡ true → MatchOption w ⊥ (λ w. w.page ≡ page)
+true_is_write : {Page : Type 0} (w : Option (Write Page)) (page : ℕ) → is_write w page ≡ true →
+    MatchOption w ⊥ (λ w. w.page ≡ page)
 true_is_write None page h = true≢false (sym h)
 true_is_write (Some w) page h = eqb-true w.page page h
 
@@ -31,7 +33,8 @@ has_true (x ∷ xs) page h =
 abbrev picked : Bool → Bool → Edge → List Edge → List Edge
 picked b c x more = if b then x ∷ [] else (if c then x ∷ more else more)
 
-picked_cases : (b c : Bool) (x : Edge) (more : List Edge) (e : Edge) → Contains (picked b c x more) e → (x ≡ e) ⊎ Contains more e
+picked_cases : (b c : Bool) (x : Edge) (more : List Edge) (e : Edge) → Contains (picked b c x more) e →
+    (x ≡ e) ⊎ Contains more e
 picked_cases true c x more e h = elim (here_or_later x [] e h) [ inl is ↦ inl is | inr (k, below, is) ↦ absurd (omega arith) ]
 picked_cases false true x more e h = here_or_later x more e h
 picked_cases false false x more e h = inr h
@@ -42,7 +45,8 @@ picked_first false true x more h = here x more
 picked_first false false x more (inl h) = absurd (true≢false (sym h))
 picked_first false false x more (inr h) = absurd (true≢false (sym h))
 
-picked_later : (b c : Bool) (x : Edge) (more : List Edge) (e : Edge) → b ≡ false → Contains more e → Contains (picked b c x more) e
+picked_later : (b c : Bool) (x : Edge) (more : List Edge) (e : Edge) → b ≡ false → Contains more e →
+    Contains (picked b c x more) e
 picked_later true c x more e h later = absurd (true≢false h)
 picked_later false true x more e h later = Contains-append_right (x ∷ []) more e later
 picked_later false false x more e h later = later
@@ -53,7 +57,8 @@ module _ {Hart Page Input : Type 0} (system : System Hart Page Input) where
   InTurn now [] = Unit {0}
   InTurn now (t ∷ rest) = (system.count t.found ≡ now t.hart) × InTurn (bump now t.hart) rest
 
-  in_turn : (m : Machine Hart Page) (turns : List (Turn Input)) → Runs system m turns → InTurn (counts system m) (steps system m turns)
+  in_turn : (m : Machine Hart Page) (turns : List (Turn Input)) → Runs system m turns →
+      InTurn (counts system m) (steps system m turns)
   in_turn m [] runs = tt
   in_turn m (t ∷ turns) runs = (
     refl,
@@ -69,7 +74,8 @@ module _ {Hart Page Input : Type 0} (system : System Hart Page Input) where
     step : system.count t.found ≡ e.step
     met : e.count ≤ now e.other
 
-  edges_at_of : (now : ℕ → ℕ) (past : List (Step Hart Page Input)) (t : Step Hart Page Input) (page : ℕ) (e : Edge) → AllPast now past →
+  edges_at_of : (now : ℕ → ℕ) (past : List (Step Hart Page Input)) (t : Step Hart Page Input) (page : ℕ) (e : Edge) →
+      AllPast now past →
       Contains (edges_at system past t page) e → IsEdgeOf now t e
   edges_at_of now [] t page e all (k, below, is) = absurd (omega arith)
   edges_at_of now (s ∷ past) t page e all h =
@@ -80,14 +86,16 @@ module _ {Hart Page Input : Type 0} (system : System Hart Page Input) where
         | inr later ↦ edges_at_of now past t page e all.1 later
       ]
 
-  edges_for_of : (now : ℕ → ℕ) (past : List (Step Hart Page Input)) (t : Step Hart Page Input) (pages : List ℕ) (e : Edge) → AllPast now past →
+  edges_for_of : (now : ℕ → ℕ) (past : List (Step Hart Page Input)) (t : Step Hart Page Input) (pages : List ℕ)
+      (e : Edge) → AllPast now past →
       Contains (edges_for system past t pages) e → IsEdgeOf now t e
   edges_for_of now past t [] e all (k, below, is) = absurd (omega arith)
   edges_for_of now past t (page ∷ pages) e all h =
       elim (Contains-append_cases (edges_at system past t page) (edges_for system past t pages) e h)
       [ inl first ↦ edges_at_of now past t page e all first | inr later ↦ edges_for_of now past t pages e all later ]
 
-  past_bump : (now : ℕ → ℕ) (past : List (Step Hart Page Input)) (t : Step Hart Page Input) → system.count t.found ≡ now t.hart → AllPast now past →
+  past_bump : (now : ℕ → ℕ) (past : List (Step Hart Page Input)) (t : Step Hart Page Input) →
+      system.count t.found ≡ now t.hart → AllPast now past →
       AllPast (bump now t.hart) (t ∷ past)
   past_bump now past t is all = (
     (let e : bump now t.hart t.hart ≡ now t.hart + 1 = bump_same now t.hart in omega arith),
@@ -96,7 +104,8 @@ module _ {Hart Page Input : Type 0} (system : System Hart Page Input) where
   )
 
   -- what is recorded later is of later steps
-  recorded_later : (now : ℕ → ℕ) (past rest : List (Step Hart Page Input)) (e : Edge) → AllPast now past → InTurn now rest →
+  recorded_later : (now : ℕ → ℕ) (past rest : List (Step Hart Page Input)) (e : Edge) → AllPast now past →
+      InTurn now rest →
       Contains (recorded system past rest) e → now e.hart ≤ e.step
   recorded_later now past [] e all turn (k, below, is) = absurd (omega arith)
   recorded_later now past (t ∷ rest) e all turn h =
@@ -112,7 +121,8 @@ module _ {Hart Page Input : Type 0} (system : System Hart Page Input) where
       ]
 
   -- each step's edges are met
-  met_from : (done : List Edge) (now : ℕ → ℕ) (past rest : List (Step Hart Page Input)) → ((e : Edge) → Contains done e → e.step < now e.hart) →
+  met_from : (done : List Edge) (now : ℕ → ℕ) (past rest : List (Step Hart Page Input)) →
+      ((e : Edge) → Contains done e → e.step < now e.hart) →
       AllPast now past → InTurn now rest → EachMet (done ++ recorded system past rest) now rest
   met_from done now past [] was all turn = tt
   met_from done now past (t ∷ rest) was all turn = (
@@ -163,7 +173,8 @@ module _ {Hart Page Input : Type 0} (system : System Hart Page Input) where
   abbrev AllWithin : List (Step Hart Page Input) → Type 0
   AllWithin xs = Each (λ s. (page : ℕ) → Writes s.effect page → Contains s.effect.touched page) xs
 
-  by_edge : (edges : List Edge) (s t : Step Hart Page Input) → Contains edges (edge_after system t s) → Before edges (place system s) (place system t)
+  by_edge : (edges : List Edge) (s t : Step Hart Page Input) → Contains edges (edge_after system t s) →
+      Before edges (place system s) (place system t)
   by_edge edges s t is_edge = Across (edge_after system t s) is_edge refl (omega arith) refl (omega arith)
 
   -- the steps that meet t at this page are before it
@@ -193,7 +204,8 @@ module _ {Hart Page Input : Type 0} (system : System Hart Page Input) where
       c : Bool
       c = is_write t.effect.write page && has u.effect.touched page
 
-      first : Contains u.effect.touched page → Writes u.effect page ⊎ Writes t.effect page → Before edges (place system u) (place system t)
+      first : Contains u.effect.touched page → Writes u.effect page ⊎ Writes t.effect page →
+          Before edges (place system u) (place system t)
       first touches (inl w) =
           by_edge edges u t
           (some (edge_after system t u)
@@ -204,7 +216,8 @@ module _ {Hart Page Input : Type 0} (system : System Hart Page Input) where
           (picked_first b c (edge_after system t u) (edges_at system past t page)
           (inr (rw (is_write_true t.effect.write page w, has_true u.effect.touched page touches) refl))))
 
-  edges_for_has : (past : List (Step Hart Page Input)) (t : Step Hart Page Input) (pages : List ℕ) (page : ℕ) (e : Edge) → Contains pages page →
+  edges_for_has : (past : List (Step Hart Page Input)) (t : Step Hart Page Input) (pages : List ℕ) (page : ℕ)
+      (e : Edge) → Contains pages page →
       Contains (edges_at system past t page) e → Contains (edges_for system past t pages) e
   edges_for_has past t [] page e (k, below, is) h = absurd (omega arith)
   edges_for_has past t (x ∷ pages) page e in_pages h =
@@ -235,7 +248,8 @@ module _ {Hart Page Input : Type 0} (system : System Hart Page Input) where
       (λ page touches.
       at_page edges past t page (λ e is_edge. some e (edges_for_has past t t.effect.touched page e touches is_edge)) order within))
 
-  ordered_from : (edges : List Edge) (past rest : List (Step Hart Page Input)) → ((e : Edge) → Contains (recorded system past rest) e → Contains edges e) →
+  ordered_from : (edges : List Edge) (past rest : List (Step Hart Page Input)) →
+      ((e : Edge) → Contains (recorded system past rest) e → Contains edges e) →
       EachPair (λ u s. InOrder edges s u) past → AllWithin past → AllWithin rest →
       EachPair (InOrder edges) rest × Each (λ s. Each (InOrder edges s) rest) past
   ordered_from edges past [] some order within_past within = (tt, each_from (λ s. Unit {0}) past (λ s is_past. tt))
@@ -250,7 +264,8 @@ module _ {Hart Page Input : Type 0} (system : System Hart Page Input) where
       (within.0, within_past) within.1 in
       ((next.1.0, next.0), each_both (λ s. InOrder edges s t) (λ s. Each (InOrder edges s) rest) past mine next.1.1)
 
-  steps_within : (m : Machine Hart Page) (turns : List (Turn Input)) → Runs system m turns → AllWithin (steps system m turns)
+  steps_within : (m : Machine Hart Page) (turns : List (Turn Input)) → Runs system m turns →
+      AllWithin (steps system m turns)
   steps_within m [] runs = tt
   steps_within m (t ∷ turns) runs = (
     (λ page writes. system.within (m.harts t.hart) t.input m.pages page runs.0 writes),
@@ -285,7 +300,8 @@ module _ {Hart Page Input : Type 0} (system : System Hart Page Input) where
       start = λ i hart. recording.start hart i
 
   -- each step comes at or after its hart's count
-  from_now : (now : ℕ → ℕ) (xs : List (Step Hart Page Input)) → InTurn now xs → Each (λ s. now s.hart ≤ system.count s.found) xs
+  from_now : (now : ℕ → ℕ) (xs : List (Step Hart Page Input)) → InTurn now xs →
+      Each (λ s. now s.hart ≤ system.count s.found) xs
   from_now now [] turn = tt
   from_now now (t ∷ rest) turn = (
     (let e : system.count t.found ≡ now t.hart = turn.0 in omega arith),

@@ -18,7 +18,8 @@ module _ {Hart Page Input : Type 0} (system : System Hart Page Input) (log : Log
     pub counts_are : counts system (run system m (turns_of log.inputs now order)) ≡ counts_after now order
 
   -- the first hart goes, and then the others
-  follow_one : (m : Machine Hart Page) (turns left : List (Turn Input)) (cut : ℕ → ℕ) (hart : ℕ) (order : List ℕ) → Rest system log m turns →
+  follow_one : (m : Machine Hart Page) (turns left : List (Turn Input)) (cut : ℕ → ℕ) (hart : ℕ) (order : List ℕ) →
+      Rest system log m turns →
       counts system m hart < cut hart → Pulled (next system log m hart) (steps system m turns) (steps system (after m (next system log m hart)) left) →
       Followed (after m (next system log m hart)) left cut (bump (counts system m) hart) order → Followed m turns cut (counts system m) (hart ∷ order)
   follow_one m turns left cut hart order r below p f =
@@ -30,11 +31,14 @@ module _ {Hart Page Input : Type 0} (system : System Hart Page Input) (log : Log
         counts_are = f.counts_are;
       }
 
-  pub follow : (m : Machine Hart Page) (turns : List (Turn Input)) (cut : ℕ → ℕ) (order : List ℕ) → Rest system log m turns →
+  pub follow : (m : Machine Hart Page) (turns : List (Turn Input)) (cut : ℕ → ℕ) (order : List ℕ) →
+      Rest system log m turns →
       ((hart : ℕ) → cut hart ≤ log.end hart) → Begins log.edges cut (counts system m) order → Followed m turns cut (counts system m) order
   follow m turns cut [] r fits b = record { left = turns; runs = tt; rest = r; at_cut = refl; counts_are = refl }
   follow m turns cut (hart ∷ order) r fits b =
-      let below : counts system m hart < log.end hart = let top : cut hart ≤ log.end hart = fits hart in let under : counts system m hart < cut hart = b.0.0 in omega arith in
+      let below : counts system m hart < log.end hart = let top : cut hart ≤ log.end hart = fits hart in
+      let under : counts system m hart < cut hart = b.0.0 in
+      omega arith in
       let (left, p) = pull system log m turns hart r below b.0.1 in
       let now-is : counts system (after m (next system log m hart)) ≡ bump (counts system m) hart =
       counts_step system m (turn_of system log m hart) (goes system log m turns left hart r p) in
@@ -48,11 +52,13 @@ module _ {Hart Page Input : Type 0} (system : System Hart Page Input) (log : Log
       )
 
   -- no step of an interleaving is inside a cut that it began at
-  pub none_inside : (m : Machine Hart Page) (turns : List (Turn Input)) (cut : ℕ → ℕ) → Runs system m turns → ((hart : ℕ) → cut hart ≤ counts system m hart) →
+  pub none_inside : (m : Machine Hart Page) (turns : List (Turn Input)) (cut : ℕ → ℕ) → Runs system m turns →
+      ((hart : ℕ) → cut hart ≤ counts system m hart) →
       at system m turns cut ≡ m
   none_inside m turns cut runs reached = ap (after_all m) (none m turns runs reached)
     where
-      none : (m : Machine Hart Page) (turns : List (Turn Input)) → Runs system m turns → ((hart : ℕ) → cut hart ≤ counts system m hart) → filter (inside system cut) (steps system m turns) ≡ []
+      none : (m : Machine Hart Page) (turns : List (Turn Input)) → Runs system m turns →
+          ((hart : ℕ) → cut hart ≤ counts system m hart) → filter (inside system cut) (steps system m turns) ≡ []
       none m [] runs reached = refl
       none m (a ∷ turns) runs reached =
           rw (le-ltb (counts system m a.hart) (cut a.hart) (reached a.hart))
@@ -91,11 +97,14 @@ module _ {Hart Page Input : Type 0} (system : System Hart Page Input) (log : Log
           either (inr apart) = subst (λ n. e.count ≤ n) (bump_other now passed e.other apart) (met e is_edge here (stands ∙ sym same))
 
   -- while a hart is below the cut, the first step that is left inside it may go
-  pub progress : (m : Machine Hart Page) (turns : List (Turn Input)) (cut : ℕ → ℕ) → Rest system log m turns → IsClosed log.edges cut →
+  pub progress : (m : Machine Hart Page) (turns : List (Turn Input)) (cut : ℕ → ℕ) → Rest system log m turns →
+      IsClosed log.edges cut →
       ((hart : ℕ) → cut hart ≤ log.end hart) → (below : ℕ) → counts system m below < cut below →
       GoesOn system log.edges cut (counts system m) m
   progress m [] cut r closed fits below under =
-      let top : cut below ≤ log.end below = fits below in let e : log.end below ≡ counts system m below = r.end below in absurd (omega arith)
+      let top : cut below ≤ log.end below = fits below in
+      let e : log.end below ≡ counts system m below = r.end below in
+      absurd (omega arith)
   progress m (a ∷ turns) cut r closed fits below under =
       elim (cases_lt (counts system m a.hart) (cut a.hart)) [
         | inl less ↦ (a.hart, (less, r.met.0), r.runs.0)
@@ -109,7 +118,8 @@ module _ {Hart Page Input : Type 0} (system : System Hart Page Input) (log : Log
       ]
 
 -- an honest log's interleaving, as a replay finds it at the start
-pub rest_of : {Hart Page Input : Type 0} (system : System Hart Page Input) (log : Log Input) (m : Machine Hart Page) (turns : List (Turn Input)) → IsHonest system log m turns → Rest system log m turns
+pub rest_of : {Hart Page Input : Type 0} (system : System Hart Page Input) (log : Log Input) (m : Machine Hart Page)
+    (turns : List (Turn Input)) → IsHonest system log m turns → Rest system log m turns
 rest_of system log m turns honest =
     record {
       runs = honest.runs;

@@ -37,7 +37,8 @@ met_or_unmet (x ∷ edges) now hart =
           ]
     ]
   where
-    with_first : IsMet edges now hart → (x.hart ≡ hart → x.step ≡ now hart → x.count ≤ now x.other) → IsMet (x ∷ edges) now hart
+    with_first : IsMet edges now hart → (x.hart ≡ hart → x.step ≡ now hart → x.count ≤ now x.other) →
+        IsMet (x ∷ edges) now hart
     with_first met first e is_edge =
         elim (here_or_later x edges e is_edge) [
           | inl is ↦
@@ -86,7 +87,8 @@ module _ {Hart Page Input : Type 0} (system : System Hart Page Input) (edges : L
       ]
 
   -- of the first harts one is below the cut, or each has reached it
-  below_or_reached : (crew : ℕ) → ((hart : ℕ) × (now hart < cut hart)) ⊎ ((hart : ℕ) → hart < crew → cut hart ≤ now hart)
+  below_or_reached : (crew : ℕ) →
+      ((hart : ℕ) × (now hart < cut hart)) ⊎ ((hart : ℕ) → hart < crew → cut hart ≤ now hart)
   below_or_reached zero = inr (λ hart less. absurd (omega arith))
   below_or_reached (suc crew) =
       elim (below_or_reached crew) [

@@ -76,7 +76,8 @@ pub record EndsAlike : Type 0 where
   pub is_cut : IsCut crossing_log crossing_log.end
   pub one : IsSchedule crossing_log crossing_log.end own_order
   pub other : IsSchedule crossing_log crossing_log.end other_order
-  pub one_ends : run_from counters (Some three) (turns_of crossing_log.inputs crossing_log.start own_order) ≡ Some crossed
+  pub one_ends : run_from counters (Some three)
+      (turns_of crossing_log.inputs crossing_log.start own_order) ≡ Some crossed
   pub other_ends :
       run_from counters (Some three) (turns_of crossing_log.inputs crossing_log.start other_order) ≡ Some crossed
 
