@@ -21,7 +21,8 @@ module _ {Hart Page Input : Type 0} (system : System Hart Page Input) (cut : ℕ
   cut_from c m turns = after_all c (filter (inside system cut) (steps system m turns))
 
   unwritten : (c m : Machine Hart Page) (turns : List (Turn Input)) (page : ℕ) →
-      Each (λ s. inside system cut s ≡ true → Writes s.effect page → ⊥) (steps system m turns) → (cut_from c m turns).pages page ≡ c.pages page
+      Each (λ s. inside system cut s ≡ true → Writes s.effect page → ⊥) (steps system m turns) →
+      (cut_from c m turns).pages page ≡ c.pages page
   unwritten c m [] page none = refl
   unwritten c m (a ∷ turns) page none =
       elim (cases_Bool (inside system cut (step_of system m a))) [
@@ -35,8 +36,10 @@ module _ {Hart Page Input : Type 0} (system : System Hart Page Input) (cut : ℕ
       ]
 
   last_written : (c m : Machine Hart Page) (front rest : List (Turn Input)) (t : Turn Input) (page : ℕ) →
-      inside system cut (step_of system (run system m front) t) ≡ true → Writes (step_of system (run system m front) t).effect page →
-      Each (λ s. inside system cut s ≡ true → Writes s.effect page → ⊥) (steps system (run system m (front ++ t ∷ [])) rest) →
+      inside system cut (step_of system (run system m front) t) ≡ true →
+      Writes (step_of system (run system m front) t).effect page →
+      Each (λ s. inside system cut s ≡ true → Writes s.effect page → ⊥)
+      (steps system (run system m (front ++ t ∷ [])) rest) →
       (cut_from c m (front ++ t ∷ rest)).pages page ≡ (run system m (front ++ t ∷ [])).pages page
   last_written c m [] rest t page is_inside writes none =
       rw is_inside
@@ -48,17 +51,21 @@ module _ {Hart Page Input : Type 0} (system : System Hart Page Input) (cut : ℕ
       elim (inside system cut (step_of system m a)) as
       (λ b.
       (after_all c
-      (cond b (step_of system m a ∷ filter (inside system cut) (steps system (after m (step_of system m a)) (front ++ t ∷ rest)))
+      (cond b (step_of system m a ∷ filter (inside system cut)
+      (steps system (after m (step_of system m a)) (front ++ t ∷ rest)))
       (filter (inside system cut) (steps system (after m (step_of system m a)) (front ++ t ∷ rest))))).pages page ≡
       (run system m ((a ∷ front) ++ t ∷ [])).pages page) [
-        | true ↦ last_written (after c (step_of system m a)) (after m (step_of system m a)) front rest t page is_inside writes none
+        | true ↦
+            last_written (after c (step_of system m a))
+            (after m (step_of system m a)) front rest t page is_inside writes none
         | false ↦ last_written c (after m (step_of system m a)) front rest t page is_inside writes none
       ]
 
   later_le : (m : Machine Hart Page) (a : Turn Input) (hart n : ℕ) → system.halted (m.harts a.hart) ≡ false →
       n ≤ counts system m hart →
       n ≤ counts system (after m (step_of system m a)) hart
-  later_le m a hart n runs le = subst (λ k. n ≤ k hart) (sym (counts_step system m a runs)) (le_trans le (bump_le (counts system m) a.hart hart))
+  later_le m a hart n runs le =
+      subst (λ k. n ≤ k hart) (sym (counts_step system m a runs)) (le_trans le (bump_le (counts system m) a.hart hart))
 
   -- a hart that has reached the cut
   hart_outside : (c m : Machine Hart Page) (turns : List (Turn Input)) (hart : ℕ) → Runs system m turns →
@@ -68,31 +75,39 @@ module _ {Hart Page Input : Type 0} (system : System Hart Page Input) (cut : ℕ
   hart_outside c m (a ∷ turns) hart runs reached =
       elim (same_or_not a.hart hart) [
         | inl same ↦
-            rw (le-ltb (counts system m a.hart) (cut a.hart) (subst (λ h. cut h ≤ counts system m h) (sym same) reached))
-            (hart_outside c (after m (step_of system m a)) turns hart runs.1 (later_le m a hart (cut hart) runs.0 reached))
+            rw (le-ltb (counts system m a.hart) (cut a.hart)
+            (subst (λ h. cut h ≤ counts system m h) (sym same) reached))
+            (hart_outside c (after m (step_of system m a)) turns hart runs.1
+            (later_le m a hart (cut hart) runs.0 reached))
         | inr ne ↦
             elim (inside system cut (step_of system m a)) as
             (λ b.
             (after_all c
-            (cond b (step_of system m a ∷ filter (inside system cut) (steps system (after m (step_of system m a)) turns))
+            (cond b (step_of system m a ∷ filter (inside system cut)
+            (steps system (after m (step_of system m a)) turns))
             (filter (inside system cut) (steps system (after m (step_of system m a)) turns)))).harts hart ≡
             c.harts hart) [
               | true ↦
-                  hart_outside (after c (step_of system m a)) (after m (step_of system m a)) turns hart runs.1 (later_le m a hart (cut hart) runs.0 reached) ∙
+                  hart_outside (after c (step_of system m a)) (after m (step_of system m a)) turns hart runs.1
+                  (later_le m a hart (cut hart) runs.0 reached) ∙
                   put_other c.harts a.hart hart (step_of system m a).effect.hart ne
-              | false ↦ hart_outside c (after m (step_of system m a)) turns hart runs.1 (later_le m a hart (cut hart) runs.0 reached)
+              | false ↦
+                  hart_outside c (after m (step_of system m a)) turns hart runs.1
+                  (later_le m a hart (cut hart) runs.0 reached)
             ]
       ]
 
   hart_from : (c m : Machine Hart Page) (front rest : List (Turn Input)) (hart : ℕ) → Runs system m (front ++ rest) →
       c.harts hart ≡ m.harts hart →
-      counts system (run system m front) hart ≡ cut hart → (cut_from c m (front ++ rest)).harts hart ≡ (run system m front).harts hart
+      counts system (run system m front) hart ≡ cut hart →
+      (cut_from c m (front ++ rest)).harts hart ≡ (run system m front).harts hart
   hart_from c m [] rest hart runs same at_cut = hart_outside c m rest hart runs (omega arith) ∙ same
   hart_from c m (a ∷ front) rest hart runs same at_cut =
       elim (cases_lt (counts system m a.hart) (cut a.hart)) [
         | inl less ↦
             rw (lt-ltb (counts system m a.hart) (cut a.hart) less)
-            (hart_from (after c (step_of system m a)) (after m (step_of system m a)) front rest hart runs.1 (both (same_or_not a.hart hart)) at_cut)
+            (hart_from (after c (step_of system m a)) (after m (step_of system m a)) front rest hart runs.1
+            (both (same_or_not a.hart hart)) at_cut)
         | inr over ↦
             rw (le-ltb (counts system m a.hart) (cut a.hart) over)
             (
@@ -104,7 +119,8 @@ module _ {Hart Page Input : Type 0} (system : System Hart Page Input) (cut : ℕ
       both : (a.hart ≡ hart) ⊎ (a.hart ≢ hart) →
           (after c (step_of system m a)).harts hart ≡ (after m (step_of system m a)).harts hart
       both (inl is) =
-          put_same c.harts a.hart hart (step_of system m a).effect.hart is ∙ sym (put_same m.harts a.hart hart (step_of system m a).effect.hart is)
+          put_same c.harts a.hart hart (step_of system m a).effect.hart is ∙
+          sym (put_same m.harts a.hart hart (step_of system m a).effect.hart is)
       both (inr ne) =
           put_other c.harts a.hart hart (step_of system m a).effect.hart ne ∙
           (same ∙ sym (put_other m.harts a.hart hart (step_of system m a).effect.hart ne))
@@ -112,7 +128,8 @@ module _ {Hart Page Input : Type 0} (system : System Hart Page Input) (cut : ℕ
       passed : cut a.hart ≤ counts system m a.hart → a.hart ≢ hart
       passed over is =
           let moved : counts system (after m (step_of system m a)) hart ≡ counts system m a.hart + 1 =
-          ap (λ k. k hart) (counts_step system m a runs.0) ∙ put_same (counts system m) a.hart hart (counts system m a.hart + 1) is in
+          ap (λ k. k hart) (counts_step system m a runs.0) ∙
+          put_same (counts system m) a.hart hart (counts system m a.hart + 1) is in
           let next : Machine Hart Page = after m (step_of system m a) in
           let grown : counts system next hart ≤ counts system (run system next front) hart =
           counts_grow system next front (runs_front system next front rest runs.1) hart in
@@ -152,7 +169,8 @@ hart_was_there system m (a ∷ turns) cut hart runs from to =
               let g : counts system m a.hart ≡ counts system m hart = ap (counts system m) same in
               omega (arith, counted)
           | inr ne ↦
-              let f : bump (counts system m) a.hart hart ≡ counts system m hart = bump_other (counts system m) a.hart hart ne in
+              let f : bump (counts system m) a.hart hart ≡ counts system m hart =
+              bump_other (counts system m) a.hart hart ne in
               omega (arith, counted)
         ]
 

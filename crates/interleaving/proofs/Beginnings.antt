@@ -31,28 +31,38 @@ bump_fits cut now next less fits hart =
           let f : bump now next hart ≡ now next + 1 = put_same now next hart (now next + 1) same in
           let g : cut next ≡ cut hart = ap cut same in
           omega arith
-      | inr ne ↦ let f : bump now next hart ≡ now hart = bump_other now next hart ne in let g : now hart ≤ cut hart = fits hart in omega arith
+      | inr ne ↦
+          let f : bump now next hart ≡ now hart = bump_other now next hart ne in
+          let g : now hart ≤ cut hart = fits hart in omega arith
     ]
 
 counts_after_fit : (edges : List Edge) (cut now : ℕ → ℕ) (order : List ℕ) → Begins edges cut now order →
     ((hart : ℕ) → now hart ≤ cut hart) →
     (hart : ℕ) → counts_after now order hart ≤ cut hart
 counts_after_fit edges cut now [] b fits = fits
-counts_after_fit edges cut now (next ∷ order) b fits = counts_after_fit edges cut (bump now next) order b.1 (bump_fits cut now next b.0.0 fits)
+counts_after_fit edges cut now (next ∷ order) b fits =
+    counts_after_fit edges cut (bump now next) order b.1 (bump_fits cut now next b.0.0 fits)
 
 closed_after : (edges : List Edge) (cut now : ℕ → ℕ) (order : List ℕ) → Begins edges cut now order →
     IsClosed edges now → IsClosed edges (counts_after now order)
 closed_after edges cut now [] b closed = closed
-closed_after edges cut now (next ∷ order) b closed = closed_after edges cut (bump now next) order b.1 (bump_closed edges now next closed b.0.1)
+closed_after edges cut now (next ∷ order) b closed =
+    closed_after edges cut (bump now next) order b.1 (bump_closed edges now next closed b.0.1)
 
 pub reached : {Hart Page Input : Type 0} (system : System Hart Page Input) → Reached system
-reached system log m turns cut order honest is_cut begins = (own, (confluence system log m turns (counts_after log.start order) order honest own (begins_own log.edges cut log.start order begins)).outcome (λ hart. refl))
+reached system log m turns cut order honest is_cut begins = (
+  own,
+  (confluence system log m turns (counts_after log.start order) order honest own
+      (begins_own log.edges cut log.start order begins)).outcome (λ hart. refl),
+)
   where
     own : IsCut log (counts_after log.start order)
     own =
         record {
           from_start = counts_after_le log.start order;
-          to_end = λ hart. le_trans (counts_after_fit log.edges cut log.start order begins is_cut.from_start hart) (is_cut.to_end hart);
+          to_end =
+              λ hart. le_trans (counts_after_fit log.edges cut log.start order begins is_cut.from_start hart)
+              (is_cut.to_end hart);
           closed = closed_after log.edges cut log.start order begins honest.closed;
         }
 
@@ -61,7 +71,8 @@ module _ {Hart Page Input : Type 0} (system : System Hart Page Input) (log : Log
   abbrev IsWhole : Machine Hart Page → List (Turn Input) → (ℕ → ℕ) → Type 0
   IsWhole m turns now =
       Begins log.edges cut now (order_at system m turns cut) ×
-      ((hart : ℕ) → counts_after now (order_at system m turns cut) hart ≡ min (counts system (run system m turns) hart) (cut hart))
+      ((hart : ℕ) → counts_after now (order_at system m turns cut) hart ≡ min
+      (counts system (run system m turns) hart) (cut hart))
 
   met_inside : (edges : List Edge) (all now : ℕ → ℕ) (hart : ℕ) → IsClosed edges cut →
       ((h : ℕ) → now h ≡ min (all h) (cut h)) → all hart < cut hart → IsMet edges all hart → IsMet edges now hart
@@ -80,11 +91,22 @@ module _ {Hart Page Input : Type 0} (system : System Hart Page Input) (log : Log
       elim (cases_lt (counts system m a.hart) (cut a.hart)) [
         | inl less ↦
             let n : now a.hart ≡ min (counts system m a.hart) (cut a.hart) = is a.hart in
-            let rest = own_from (after m (step_of system m a)) turns (bump now a.hart) (tail system log m a turns r) (gone less) in
-            rw (lt-ltb (counts system m a.hart) (cut a.hart) less)
-            ((((omega arith), met_inside log.edges (counts system m) now a.hart closed is less r.met.0), rest.0), rest.1)
+            let rest =
+            own_from (after m (step_of system m a)) turns (bump now a.hart) (tail system log m a turns r) (gone less) in
+            rw (lt-ltb (counts system m a.hart) (cut a.hart) less) (
+              (
+                (
+                  (omega arith),
+                  met_inside log.edges
+                      (counts system m) now a.hart closed is less r.met.0,
+                ),
+                rest.0,
+              ),
+              rest.1,
+            )
         | inr over ↦
-            rw (le-ltb (counts system m a.hart) (cut a.hart) over) (own_from (after m (step_of system m a)) turns now (tail system log m a turns r) (stayed over))
+            rw (le-ltb (counts system m a.hart) (cut a.hart) over)
+            (own_from (after m (step_of system m a)) turns now (tail system log m a turns r) (stayed over))
       ]
     where
       count_is : (hart : ℕ) → counts system (after m (step_of system m a)) hart ≡ bump (counts system m) a.hart hart
@@ -96,16 +118,20 @@ module _ {Hart Page Input : Type 0} (system : System Hart Page Input) (log : Log
           elim (same_or_not a.hart hart) [
             | inl same ↦
                 let f : bump now a.hart hart ≡ now a.hart + 1 = put_same now a.hart hart (now a.hart + 1) same in
-                let g : bump (counts system m) a.hart hart ≡ counts system m a.hart + 1 = put_same (counts system m) a.hart hart (counts system m a.hart + 1) same in
+                let g : bump (counts system m) a.hart hart ≡ counts system m a.hart + 1 =
+                put_same (counts system m) a.hart hart (counts system m a.hart + 1) same in
                 let n : now a.hart ≡ min (counts system m a.hart) (cut a.hart) = is a.hart in
                 let k : cut a.hart ≡ cut hart = ap cut same in
-                let c : counts system (after m (step_of system m a)) hart ≡ bump (counts system m) a.hart hart = count_is hart in
+                let c : counts system (after m (step_of system m a)) hart ≡
+                bump (counts system m) a.hart hart = count_is hart in
                 omega arith
             | inr ne ↦
                 let f : bump now a.hart hart ≡ now hart = bump_other now a.hart hart ne in
-                let g : bump (counts system m) a.hart hart ≡ counts system m hart = bump_other (counts system m) a.hart hart ne in
+                let g : bump (counts system m) a.hart hart ≡ counts system m hart =
+                bump_other (counts system m) a.hart hart ne in
                 let n : now hart ≡ min (counts system m hart) (cut hart) = is hart in
-                let c : counts system (after m (step_of system m a)) hart ≡ bump (counts system m) a.hart hart = count_is hart in
+                let c : counts system (after m (step_of system m a)) hart ≡
+                bump (counts system m) a.hart hart = count_is hart in
                 omega arith
           ]
 
@@ -114,16 +140,20 @@ module _ {Hart Page Input : Type 0} (system : System Hart Page Input) (log : Log
       stayed over hart =
           elim (same_or_not a.hart hart) [
             | inl same ↦
-                let g : bump (counts system m) a.hart hart ≡ counts system m a.hart + 1 = put_same (counts system m) a.hart hart (counts system m a.hart + 1) same in
+                let g : bump (counts system m) a.hart hart ≡ counts system m a.hart + 1 =
+                put_same (counts system m) a.hart hart (counts system m a.hart + 1) same in
                 let n : now hart ≡ min (counts system m hart) (cut hart) = is hart in
                 let k : cut a.hart ≡ cut hart = ap cut same in
                 let j : counts system m a.hart ≡ counts system m hart = ap (counts system m) same in
-                let c : counts system (after m (step_of system m a)) hart ≡ bump (counts system m) a.hart hart = count_is hart in
+                let c : counts system (after m (step_of system m a)) hart ≡
+                bump (counts system m) a.hart hart = count_is hart in
                 omega arith
             | inr ne ↦
-                let g : bump (counts system m) a.hart hart ≡ counts system m hart = bump_other (counts system m) a.hart hart ne in
+                let g : bump (counts system m) a.hart hart ≡ counts system m hart =
+                bump_other (counts system m) a.hart hart ne in
                 let n : now hart ≡ min (counts system m hart) (cut hart) = is hart in
-                let c : counts system (after m (step_of system m a)) hart ≡ bump (counts system m) a.hart hart = count_is hart in
+                let c : counts system (after m (step_of system m a)) hart ≡
+                bump (counts system m) a.hart hart = count_is hart in
                 omega arith
           ]
 
@@ -131,20 +161,24 @@ pub own_order : {Hart Page Input : Type 0} (system : System Hart Page Input) →
 own_order system log m turns cut honest is_cut =
     let whole =
     own_from system log cut is_cut.closed m turns log.start (rest_of system log m turns honest)
-    (λ hart. let a : log.start hart ≤ cut hart = is_cut.from_start hart in let b : log.start hart ≡ counts system m hart = honest.start hart in omega arith) in
+    (λ hart.
+    let a : log.start hart ≤ cut hart = is_cut.from_start hart in
+    let b : log.start hart ≡ counts system m hart = honest.start hart in omega arith) in
     record {
       begins = whole.0;
       complete =
           λ hart.
           let a : cut hart ≤ log.end hart = is_cut.to_end hart in
           let b : log.end hart ≡ counts system (run system m turns) hart = honest.end hart in
-          let c : counts_after log.start (order_at system m turns cut) hart ≡ min (counts system (run system m turns) hart) (cut hart) = whole.1 hart in
+          let c : counts_after log.start (order_at system m turns cut) hart ≡
+          min (counts system (run system m turns) hart) (cut hart) = whole.1 hart in
           omega arith;
     }
 
 pub front_begins : FrontBegins
 front_begins edges cut now [] rest begins = tt
-front_begins edges cut now (hart ∷ order) rest begins = (begins.0, front_begins edges cut (bump now hart) order rest begins.1)
+front_begins edges cut now (hart ∷ order) rest begins =
+    (begins.0, front_begins edges cut (bump now hart) order rest begins.1)
 
 begins_append : (edges : List Edge) (cut now : ℕ → ℕ) (order rest : List ℕ) → Begins edges cut now order →
     Begins edges cut (counts_after now order) rest → Begins edges cut now (order ++ rest)
@@ -166,7 +200,8 @@ extends {Hart} {Page} {Input} system log m turns cut order honest is_cut begins 
         λ hart.
         let a : cut hart ≤ log.end hart = is_cut.to_end hart in
         let b : log.end hart ≡ counts system (run system here f.left) hart = f.rest.end hart in
-        let c : counts_after (counts_after log.start order) rest hart ≡ min (counts system (run system here f.left) hart) (cut hart) = whole.1 hart in
+        let c : counts_after (counts_after log.start order) rest hart ≡
+        min (counts system (run system here f.left) hart) (cut hart) = whole.1 hart in
         let d : counts_after log.start (order ++ rest) hart ≡ counts_after (counts_after log.start order) rest hart =
         ap (λ n. n hart) (counts_after-append log.start order rest) in
         omega arith;
@@ -195,7 +230,8 @@ closed_end : {Hart Page Input : Type 0} (system : System Hart Page Input) (log :
     (turns : List (Turn Input)) →
     Rest system log m turns → IsClosed log.edges (counts system (run system m turns))
 closed_end system log m [] r = r.closed
-closed_end system log m (a ∷ turns) r = closed_end system log (after m (step_of system m a)) turns (tail system log m a turns r)
+closed_end system log m (a ∷ turns) r =
+    closed_end system log (after m (step_of system m a)) turns (tail system log m a turns r)
 
 pub ends_are_cuts : {Hart Page Input : Type 0} (system : System Hart Page Input) → EndsAreCuts system
 ends_are_cuts system log m turns honest = (
@@ -203,7 +239,8 @@ ends_are_cuts system log m turns honest = (
   record {
     from_start = grows;
     to_end = λ hart. omega arith;
-    closed = subst (λ n. IsClosed log.edges n) (sym end) (closed_end system log m turns (rest_of system log m turns honest));
+    closed =
+        subst (λ n. IsClosed log.edges n) (sym end) (closed_end system log m turns (rest_of system log m turns honest));
   },
 )
   where
@@ -214,5 +251,6 @@ ends_are_cuts system log m turns honest = (
     grows hart =
         let a : log.start hart ≡ counts system m hart = honest.start hart in
         let b : log.end hart ≡ counts system (run system m turns) hart = honest.end hart in
-        let c : counts system m hart ≤ counts system (run system m turns) hart = counts_grow system m turns honest.runs hart in
+        let c : counts system m hart ≤ counts system (run system m turns) hart =
+        counts_grow system m turns honest.runs hart in
         omega arith

@@ -15,12 +15,15 @@ pub greater_closed : GreaterIsClosed
 greater_closed edges a b ca cb e is_edge below =
     elim (cases_lt e.step (a e.hart)) [
       | inl less ↦ let h : e.count ≤ a e.other = ca e is_edge less in omega arith
-      | inr more ↦ let less : e.step < b e.hart = omega arith in let h : e.count ≤ b e.other = cb e is_edge less in omega arith
+      | inr more ↦
+          let less : e.step < b e.hart = omega arith in
+          let h : e.count ≤ b e.other = cb e is_edge less in omega arith
     ]
 
 -- an edge of x ∷ xs
 pub here_or_later : {A : Type 0} (x : A) (xs : List A) (y : A) → Contains (x ∷ xs) y → (x ≡ y) ⊎ Contains xs y
-here_or_later x xs y h = elim (Contains-append_cases (x ∷ []) xs y h) [ inl one ↦ inl (only one) | inr later ↦ inr later ]
+here_or_later x xs y h =
+    elim (Contains-append_cases (x ∷ []) xs y h) [ inl one ↦ inl (only one) | inr later ↦ inr later ]
   where
     only : Contains (x ∷ []) y → x ≡ y
     only (zero, below, is) = is
@@ -40,7 +43,8 @@ find_broken (x ∷ edges) cut =
                 inl
                 (λ e is_edge below.
                 elim (here_or_later x edges e is_edge) [
-                  | inl is ↦ let h : cut e.hart ≤ e.step = subst (λ x. cut x.hart ≤ x.step) is above in absurd (omega arith)
+                  | inl is ↦
+                      let h : cut e.hart ≤ e.step = subst (λ x. cut x.hart ≤ x.step) is above in absurd (omega arith)
                   | inr later ↦ closed e later below
                 ])
             | inl below ↦
@@ -49,7 +53,11 @@ find_broken (x ∷ edges) cut =
                   | inr met ↦
                       inl
                       (λ e is_edge below.
-                      elim (here_or_later x edges e is_edge) [ inl is ↦ subst (λ x. x.count ≤ cut x.other) is met | inr later ↦ closed e later below ])
+                      elim (here_or_later x edges e is_edge) [
+                        | inl is ↦ subst
+                            (λ x. x.count ≤ cut x.other) is met
+                        | inr later ↦ closed e later below
+                      ])
                 ]
           ]
     ]
@@ -61,7 +69,8 @@ asked (x ∷ edges) cut = cond (nat_lt x.step (cut x.hart)) (1 + asked edges cut
 
 asked_more : (x : Edge) (edges : List Edge) (cut : ℕ → ℕ) → asked edges cut ≤ asked (x ∷ edges) cut
 asked_more x edges cut =
-    elim (nat_lt x.step (cut x.hart)) as (λ b. asked edges cut ≤ cond b (1 + asked edges cut) (asked edges cut)) [ true ↦ omega arith | false ↦ omega arith ]
+    elim (nat_lt x.step (cut x.hart)) as
+    (λ b. asked edges cut ≤ cond b (1 + asked edges cut) (asked edges cut)) [ true ↦ omega arith | false ↦ omega arith ]
 
 asked_le : (edges : List Edge) (cut lower : ℕ → ℕ) → ((hart : ℕ) → lower hart ≤ cut hart) →
     asked edges lower ≤ asked edges cut
@@ -167,7 +176,8 @@ greatest_by : (fuel : ℕ) (edges : List Edge) (bound : ℕ → ℕ) → asked e
     (cut : ℕ → ℕ) × IsGreatest edges bound cut
 greatest_by fuel edges bound enough (inl closed) =
     (bound, record { closed = closed; below = λ h. omega arith; greatest = λ other c under. under })
-greatest_by zero edges bound enough (inr (e, is_edge, broken)) = lower_one edges bound e is_edge broken (λ less. absurd (omega arith))
+greatest_by zero edges bound enough (inr (e, is_edge, broken)) =
+    lower_one edges bound e is_edge broken (λ less. absurd (omega arith))
 greatest_by (suc fuel) edges bound enough (inr (e, is_edge, broken)) =
     lower_one edges bound e is_edge broken
     (λ less. greatest_by fuel edges (lowered bound e) (omega arith) (find_broken edges (lowered bound e)))
@@ -199,7 +209,8 @@ before_few few all start enough (Own same less) from = Own same less
 before_few few all start enough (Across {a = a} {b = b} e is_edge other less hart behind) from =
     elim (enough.implied e is_edge) [
       | inl early ↦ let f : start a.hart ≡ start e.other = ap start other in absurd (omega arith)
-      | inr (by, is_by, by_hart, by_other, step, count) ↦ Across by is_by (other ∙ sym by_other) (omega arith) (hart ∙ sym by_hart) (omega arith)
+      | inr (by, is_by, by_hart, by_other, step, count) ↦
+          Across by is_by (other ∙ sym by_other) (omega arith) (hart ∙ sym by_hart) (omega arith)
     ]
 before_few few all start enough (Through {a = a} {b = b} {c = c} p q) from =
     Through (before_few few all start enough p from)
@@ -207,7 +218,9 @@ before_few few all start enough (Through {a = a} {b = b} {c = c} p q) from =
     before_few few all start enough q
     (elim (cases_lt b.step (start b.hart)) [
       | inl early ↦
-          let h : a.step < start a.hart = before_inside all start (few_closed few all start enough start (λ h. omega arith) enough.start_closed) p early in
+          let h : a.step < start a.hart =
+          before_inside all start
+          (few_closed few all start enough start (λ h. omega arith) enough.start_closed) p early in
           absurd (omega arith)
       | inr fine ↦ fine
     ])
@@ -249,11 +262,19 @@ begins_among few all among cut now (hart ∷ order) begins = (
 pub same_order : ImpliedMayGo
 same_order few all start enough =
     record {
-      cuts = λ cut from. (few_closed few all start enough cut from, λ closed e is_edge below. closed e (enough.among e is_edge) below);
+      cuts =
+          λ cut from. (
+            few_closed few all start enough cut from,
+            λ closed e is_edge below. closed e
+                (enough.among e is_edge) below,
+          );
       before = λ a b from. (before_among few all enough.among, λ p. before_few few all start enough p from);
       met =
-          λ now hart from closed.
-          (few_met few all start enough now hart from closed, λ met e is_edge here_is stands. met e (enough.among e is_edge) here_is stands);
+          λ now hart from closed. (
+            few_met few all start enough now hart from closed,
+            λ met e is_edge here_is stands. met e
+                (enough.among e is_edge) here_is stands,
+          );
       schedules =
           λ cut order. (
             begins_few few all start enough cut start order (λ i. omega arith) enough.start_closed,

@@ -20,7 +20,11 @@ holds b low high = cond b (not (nat_lt high low)) true
 
 holds_le : (b : Bool) (low high : ℕ) → holds b low high ≡ true → b ≡ true → low ≤ high
 holds_le true low high h is =
-    elim (cases_lt high low) [ inl less ↦ absurd (not_true (nat_lt high low) h (lt-ltb high low less)) | inr fine ↦ fine ]
+    elim (cases_lt high low) [
+      | inl less ↦ absurd
+          (not_true (nat_lt high low) h (lt-ltb high low less))
+      | inr fine ↦ fine
+    ]
   where
     not_true : (b : Bool) → not b ≡ true → b ≡ true → ⊥
     not_true true h is = true≢false (sym h)
@@ -37,12 +41,16 @@ closed_by edges cut h e = each_at (λ e. e.step < cut e.hart → e.count ≤ cut
     each : (es : List Edge) → closed_at es cut ≡ true → Each (λ e. e.step < cut e.hart → e.count ≤ cut e.other) es
     each [] h = tt
     each (e ∷ es) h =
-        let b = both_true (holds (nat_lt e.step (cut e.hart)) e.count (cut e.other)) (closed_at es cut) h in
-        ((λ less. holds_le (nat_lt e.step (cut e.hart)) e.count (cut e.other) b.0 (lt-ltb e.step (cut e.hart) less)), each es b.1)
+        let b = both_true (holds (nat_lt e.step (cut e.hart)) e.count (cut e.other)) (closed_at es cut) h in (
+          (λ less. holds_le (nat_lt e.step (cut e.hart)) e.count (cut e.other) b.0
+              (lt-ltb e.step (cut e.hart) less)),
+          each es b.1,
+        )
 
 abbrev met_at : List Edge → (ℕ → ℕ) → ℕ → Bool
 met_at [] now hart = true
-met_at (e ∷ edges) now hart = holds (e.hart == hart && e.step == now hart) e.count (now e.other) && met_at edges now hart
+met_at (e ∷ edges) now hart =
+    holds (e.hart == hart && e.step == now hart) e.count (now e.other) && met_at edges now hart
 
 met_by : (edges : List Edge) (now : ℕ → ℕ) (hart : ℕ) → met_at edges now hart ≡ true → IsMet edges now hart
 met_by edges now hart h e =
@@ -52,7 +60,8 @@ met_by edges now hart h e =
         Each (λ e. e.hart ≡ hart → e.step ≡ now hart → e.count ≤ now e.other) es
     each [] h = tt
     each (e ∷ es) h =
-        let b = both_true (holds (e.hart == hart && e.step == now hart) e.count (now e.other)) (met_at es now hart) h in (
+        let b =
+        both_true (holds (e.hart == hart && e.step == now hart) e.count (now e.other)) (met_at es now hart) h in (
           λ here stands.
               holds_le (e.hart == hart && e.step == now hart) e.count (now e.other) b.0
               (rw (eq-eqb e.hart hart here, eq-eqb e.step (now hart) stands) refl),
@@ -79,7 +88,8 @@ pub begins_by : (edges : List Edge) (cut now : ℕ → ℕ) (order : List ℕ) �
     Begins edges cut now order
 begins_by edges cut now [] h = tt
 begins_by edges cut now (hart ∷ rest) h =
-    let b = both_true (nat_lt (now hart) (cut hart) && met_at edges now hart) (begins_at edges cut (bump now hart) rest) h in
+    let b =
+    both_true (nat_lt (now hart) (cut hart) && met_at edges now hart) (begins_at edges cut (bump now hart) rest) h in
     let c = both_true (nat_lt (now hart) (cut hart)) (met_at edges now hart) b.0 in
     ((less_true (now hart) (cut hart) c.0, met_by edges now hart c.1), begins_by edges cut (bump now hart) rest b.1)
 

@@ -52,14 +52,16 @@ early_order = Across early_edge (here early_edge []) refl (omega arith) refl (om
 early_complete : IsComplete early_log.end early_log.start (1 ∷ 0 ∷ [])
 early_complete hart =
     ap (λ n. n hart)
-    (bump_swap early_log.start 1 0 (omega arith) ∙ sym (counts_run counting (view counters late) passing early_tells.runs))
+    (bump_swap early_log.start 1 0 (omega arith) ∙
+    sym (counts_run counting (view counters late) passing early_tells.runs))
 
 pub start_matters : StartMatters
 start_matters =
     record {
       tells = early_tells;
       ordered = (((λ conflict. early_order), tt), (tt, tt));
-      not_closed = λ closed. let h : 8 ≤ 7 = closed early_edge (here early_edge []) (omega arith) in absurd (omega arith);
+      not_closed =
+          λ closed. let h : 8 ≤ 7 = closed early_edge (here early_edge []) (omega arith) in absurd (omega arith);
       wrong =
           record {
             is_cut =
@@ -90,11 +92,14 @@ handed_tells =
 handed_complete : IsComplete handed_log.end handed_log.start (2 ∷ 0 ∷ [])
 handed_complete hart =
     ap (λ n. n hart)
-    (bump_swap handed_log.start 2 0 (omega arith) ∙ sym (counts_run counting (view counters three) handing_on handed_tells.runs))
+    (bump_swap handed_log.start 2 0 (omega arith) ∙
+    sym (counts_run counting (view counters three) handing_on handed_tells.runs))
 
 -- hart 2's step alone is a closed cut
 not_before : Before handed_log.edges (record { hart = 0; step = 0 }) (record { hart = 2; step = 0 }) → ⊥
-not_before before = let h : 0 < 0 = before_inside handed_log.edges alone (closed_by handed_log.edges alone refl) before (omega arith) in omega arith
+not_before before =
+    let h : 0 < 0 =
+    before_inside handed_log.edges alone (closed_by handed_log.edges alone refl) before (omega arith) in omega arith
   where
     alone : ℕ → ℕ
     alone hart = cond (hart == 2) 1 0
@@ -106,7 +111,8 @@ hand_overs_lose_order =
       closed = closed_by handed_log.edges handed_log.start refl;
       lost =
           λ ordered.
-          not_before (ordered.0.0 ((λ e. omega arith), (0, (0, (omega arith), refl), (0, (omega arith), refl), inl refl)));
+          not_before (ordered.0.0
+          ((λ e. omega arith), (0, (0, (omega arith), refl), (0, (omega arith), refl), inl refl)));
       wrong =
           record {
             is_cut =

@@ -12,7 +12,8 @@ use Rattle.interleaving.proofs.Recorder.{records_each_run}
 use Rattle.interleaving.proofs.Decided.{begins_by, counts_after_absent}
 
 honest : IsHonest counting crossing_log (view counters three) crossing
-honest = records_each_run counting (act.Load 0) (view counters three) crossing (refl, (refl, (refl, (refl, (refl, tt)))))
+honest =
+    records_each_run counting (act.Load 0) (view counters three) crossing (refl, (refl, (refl, (refl, (refl, tt)))))
 
 -- each order takes the harts equally far
 orders_agree : (hart : ℕ) →
@@ -27,8 +28,10 @@ orders_agree hart =
                 elim (same_or_not 2 hart) [
                   | inl is ↦ subst Agree is refl
                   | inr not_2 ↦
-                      counts_after_absent crossing_log.start other_order hart (not_2, (not_0, (not_1, (not_1, (not_0, tt))))) ∙
-                      sym (counts_after_absent crossing_log.start own_order hart (not_0, (not_1, (not_0, (not_2, (not_1, tt))))))
+                      counts_after_absent crossing_log.start other_order hart
+                      (not_2, (not_0, (not_1, (not_1, (not_0, tt))))) ∙
+                      sym (counts_after_absent crossing_log.start own_order hart
+                      (not_0, (not_1, (not_0, (not_2, (not_1, tt))))))
                 ]
           ]
     ]
@@ -44,7 +47,11 @@ ends_alike =
     record {
       honest = honest;
       is_cut = (ends_are_cuts counting crossing_log (view counters three) crossing honest).1;
-      one = record { begins = begins_by crossing_log.edges crossing_log.end crossing_log.start own_order refl; complete = own_complete };
+      one =
+          record {
+            begins = begins_by crossing_log.edges crossing_log.end crossing_log.start own_order refl;
+            complete = own_complete;
+          };
       other =
           record {
             begins = begins_by crossing_log.edges crossing_log.end crossing_log.start other_order refl;

@@ -27,7 +27,9 @@ pub get_set : {A : Type 0} (xs : List A) (i : ℕ) (x : A) → i < length xs →
 get_set {A} xs i x below = λ p j. at_each j (same_or_not i j) p
   where
     at_each : (j : ℕ) → (i ≡ j) ⊎ (i ≢ j) → slice_get (slice_set xs i x) j ≡ put (slice_get xs) i (Some x) j
-    at_each j (inl same) = subst (λ j. slice_get (slice_set xs i x) j ≡ Some x) same (get_set_same xs i x below) ∙ sym (put_same (slice_get xs) i j (Some x) same)
+    at_each j (inl same) =
+        subst (λ j. slice_get (slice_set xs i x) j ≡ Some x) same (get_set_same xs i x below) ∙
+        sym (put_same (slice_get xs) i j (Some x) same)
     at_each j (inr ne) = get_set_other xs i j x ne ∙ sym (put_other (slice_get xs) i j (Some x) ne)
 
 -- a list is what stands at each number
@@ -35,7 +37,9 @@ pub list_from_gets : {A : Type 0} (xs ys : List A) → ((i : ℕ) → slice_get 
 list_from_gets [] [] same = refl
 list_from_gets [] (y ∷ ys) same = let e = same 0 in cc
 list_from_gets (x ∷ xs) [] same = let e = same 0 in cc
-list_from_gets (x ∷ xs) (y ∷ ys) same = let e = same 0 in let r : xs ≡ ys = list_from_gets xs ys (λ i. same (suc i)) in cc
+list_from_gets (x ∷ xs) (y ∷ ys) same =
+    let e = same 0 in
+    let r : xs ≡ ys = list_from_gets xs ys (λ i. same (suc i)) in cc
 
 module _ {Hart Page Input : Type 0} (hardware : Hardware Hart Page Input) where
   same_store : (a b : Store Hart Page) → view hardware a ≡ view hardware b → a ≡ b
@@ -48,19 +52,29 @@ module _ {Hart Page Input : Type 0} (hardware : Hardware Hart Page Input) where
 
   pages_after : (pages : List Page) (w : Option (Write Page)) →
       ((page : ℕ) → MatchOption w ⊥ (λ w. w.page ≡ page) → (contents : Page) × (slice_get pages page ≡ Some contents)) →
-      slice_get (written_in pages w) ≡ written (slice_get pages) (option_map (λ w. record { page = w.page; contents = Some w.contents }) w)
+      slice_get (written_in pages w) ≡
+      written (slice_get pages) (option_map (λ w. record { page = w.page; contents = Some w.contents }) w)
   pages_after pages None there = refl
   pages_after pages (Some w) there =
       let found = there w.page refl in get_set pages w.page w.contents (slice_get_within pages w.page found.0 found.1)
 
   abbrev shape : Store Hart Page → Turn Input → Option Hart → Step (Option Hart) (Option Page) Input
-  shape s t hart = record { hart = t.hart; found = hart; input = t.input; effect = effect_of hardware hart t.input (slice_get s.pages) }
+  shape s t hart =
+      record {
+        hart = t.hart;
+        found = hart;
+        input = t.input;
+        effect = effect_of hardware hart t.input
+            (slice_get s.pages);
+      }
 
   goes_on : (s : Store Hart Page) (t : Turn Input) (hart : Option Hart) → slice_get s.harts t.hart ≡ hart →
       halted_of hardware hart ≡ false →
-      (next : Store Hart Page) × (goes hardware s t (slice_get s.harts t.hart) ≡ Some next) × (view hardware next ≡ after (view hardware s) (step_of (system_of hardware) (view hardware s) t))
+      (next : Store Hart Page) × (goes hardware s t (slice_get s.harts t.hart) ≡ Some next) ×
+      (view hardware next ≡ after (view hardware s) (step_of (system_of hardware) (view hardware s) t))
   goes_on s t None e runs = absurd (true≢false runs)
-  goes_on s t (Some hart) e runs = (next, ap (goes hardware s t) e ∙ goes_next, view_is ∙ ap (λ o. after (view hardware s) (shape s t o)) (sym e))
+  goes_on s t (Some hart) e runs =
+      (next, ap (goes hardware s t) e ∙ goes_next, view_is ∙ ap (λ o. after (view hardware s) (shape s t o)) (sym e))
     where
       next : Store Hart Page
       next = stored_after s t.hart (hardware.effect hart t.input (slice_get s.pages))
@@ -72,7 +86,9 @@ module _ {Hart Page Input : Type 0} (hardware : Hardware Hart Page Input) where
       view_is =
           λ i.
           record {
-            harts = get_set s.harts t.hart (hardware.effect hart t.input (slice_get s.pages)).hart (slice_get_within s.harts t.hart hart e) i;
+            harts =
+                get_set s.harts t.hart (hardware.effect hart t.input (slice_get s.pages)).hart
+                (slice_get_within s.harts t.hart hart e) i;
             pages =
                 pages_after s.pages (hardware.effect hart t.input (slice_get s.pages)).write
                 (λ page writes. hardware.there hart t.input (slice_get s.pages) page runs writes) i;
@@ -82,8 +98,13 @@ module _ {Hart Page Input : Type 0} (hardware : Hardware Hart Page Input) where
   runs_stored s [] runs = (s, refl, refl)
   runs_stored s (t ∷ turns) runs =
       let (next, goes_is, view_is) = goes_on s t (slice_get s.harts t.hart) refl runs.0 in
-      let (result, run_is, result_is) = runs_stored next turns (subst (λ m. Runs (system_of hardware) m turns) (sym view_is) runs.1) in
-      (result, ap (λ o. run_from hardware o turns) goes_is ∙ run_is, result_is ∙ ap (λ m. run (system_of hardware) m turns) view_is)
+      let (result, run_is, result_is) =
+      runs_stored next turns (subst (λ m. Runs (system_of hardware) m turns) (sym view_is) runs.1) in (
+        result,
+        ap (λ o. run_from hardware o turns) goes_is ∙ run_is,
+        result_is ∙
+            ap (λ m. run (system_of hardware) m turns) view_is,
+      )
 
   some_is : {A : Type 0} (a b : A) → Some a ≡ Some b → a ≡ b
   some_is a b e = cc

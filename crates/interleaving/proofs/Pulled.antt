@@ -44,12 +44,15 @@ module _ {Hart Page Input : Type 0} (t : Step Hart Page Input) where
   pulled_filter test passes (Here {rest = rest}) m = rw passes refl
   pulled_filter test passes (There {s = s} {rest = rest} {left = left} apart p) m =
       elim (test s) as
-      (λ b. after_all m (cond b (s ∷ filter test rest) (filter test rest)) ≡ after_all (after m t) (cond b (s ∷ filter test left) (filter test left))) [
-        | true ↦ pulled_filter test passes p (after m s) ∙ ap (λ n. after_all n (filter test left)) (after_swap m s apart)
+      (λ b. after_all m (cond b (s ∷ filter test rest) (filter test rest)) ≡ after_all (after m t)
+      (cond b (s ∷ filter test left) (filter test left))) [
+        | true ↦
+            pulled_filter test passes p (after m s) ∙ ap (λ n. after_all n (filter test left)) (after_swap m s apart)
         | false ↦ pulled_filter test passes p m
       ]
 
   pub pulled_all : {all left : List (Step Hart Page Input)} → Pulled t all left → (m : Machine Hart Page) →
       after_all m all ≡ after_all (after m t) left
   pulled_all Here m = refl
-  pulled_all (There {s = s} {left = left} apart p) m = pulled_all p (after m s) ∙ ap (λ n. after_all n left) (after_swap m s apart)
+  pulled_all (There {s = s} {left = left} apart p) m =
+      pulled_all p (after m s) ∙ ap (λ n. after_all n left) (after_swap m s apart)

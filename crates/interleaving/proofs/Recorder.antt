@@ -26,7 +26,8 @@ has_true [] page (k, below, is) = absurd (omega arith)
 has_true (x ∷ xs) page h =
     elim (here_or_later x xs page h) [
       | inl is ↦ rw (eq-eqb x page is) refl
-      | inr later ↦ elim (x == page) as (λ b. cond b true (has xs page) ≡ true) [ true ↦ refl | false ↦ has_true xs page later ]
+      | inr later ↦
+          elim (x == page) as (λ b. cond b true (has xs page) ≡ true) [ true ↦ refl | false ↦ has_true xs page later ]
     ]
 
 -- one step of `edges_at`
@@ -35,7 +36,8 @@ picked b c x more = if b then x ∷ [] else (if c then x ∷ more else more)
 
 picked_cases : (b c : Bool) (x : Edge) (more : List Edge) (e : Edge) → Contains (picked b c x more) e →
     (x ≡ e) ⊎ Contains more e
-picked_cases true c x more e h = elim (here_or_later x [] e h) [ inl is ↦ inl is | inr (k, below, is) ↦ absurd (omega arith) ]
+picked_cases true c x more e h =
+    elim (here_or_later x [] e h) [ inl is ↦ inl is | inr (k, below, is) ↦ absurd (omega arith) ]
 picked_cases false true x more e h = here_or_later x more e h
 picked_cases false false x more e h = inr h
 
@@ -80,9 +82,12 @@ module _ {Hart Page Input : Type 0} (system : System Hart Page Input) where
   edges_at_of now [] t page e all (k, below, is) = absurd (omega arith)
   edges_at_of now (s ∷ past) t page e all h =
       elim
-      (picked_cases (is_write s.effect.write page) (is_write t.effect.write page && has s.effect.touched page) (edge_after system t s)
+      (picked_cases (is_write s.effect.write page) (is_write t.effect.write page && has s.effect.touched page)
+      (edge_after system t s)
       (edges_at system past t page) e h) [
-        | inl is ↦ subst (λ e. IsEdgeOf now t e) is (let p : system.count s.found < now s.hart = all.0 in record { hart = refl; step = refl; met = omega arith })
+        | inl is ↦
+            subst (λ e. IsEdgeOf now t e) is (let p : system.count s.found < now s.hart = all.0 in
+            record { hart = refl; step = refl; met = omega arith })
         | inr later ↦ edges_at_of now past t page e all.1 later
       ]
 
@@ -117,7 +122,8 @@ module _ {Hart Page Input : Type 0} (system : System Hart Page Input) where
             let c : system.count t.found ≡ now t.hart = turn.0 in
             omega arith
         | inr later ↦
-            le_trans (bump_le now t.hart e.hart) (recorded_later (bump now t.hart) (t ∷ past) rest e (past_bump now past t turn.0 all) turn.1 later)
+            le_trans (bump_le now t.hart e.hart)
+            (recorded_later (bump now t.hart) (t ∷ past) rest e (past_bump now past t turn.0 all) turn.1 later)
       ]
 
   -- each step's edges are met
@@ -140,13 +146,18 @@ module _ {Hart Page Input : Type 0} (system : System Hart Page Input) where
       met : IsMet (done ++ (mine ++ later)) now t.hart
       met e is_edge is_here stands =
           elim (Contains-append_cases done (mine ++ later) e is_edge) [
-            | inl old ↦ let a : e.step < now e.hart = was e old in let b : now e.hart ≡ now t.hart = ap now is_here in absurd (omega arith)
+            | inl old ↦
+                let a : e.step < now e.hart = was e old in
+                let b : now e.hart ≡ now t.hart = ap now is_here in absurd (omega arith)
             | inr new ↦
                 elim (Contains-append_cases mine later e new) [
                   | inl own ↦ (edges_for_of now past t t.effect.touched e all own).met
                   | inr next ↦
-                      let a : bump now t.hart e.hart ≤ e.step = recorded_later (bump now t.hart) (t ∷ past) rest e (past_bump now past t turn.0 all) turn.1 next in
-                      let b : bump now t.hart e.hart ≡ now t.hart + 1 = put_same now t.hart e.hart (now t.hart + 1) (sym is_here) in
+                      let a : bump now t.hart e.hart ≤ e.step =
+                      recorded_later (bump now t.hart) (t ∷ past) rest e
+                      (past_bump now past t turn.0 all) turn.1 next in
+                      let b : bump now t.hart e.hart ≡ now t.hart + 1 =
+                      put_same now t.hart e.hart (now t.hart + 1) (sym is_here) in
                       absurd (omega arith)
                 ]
           ]
@@ -154,7 +165,9 @@ module _ {Hart Page Input : Type 0} (system : System Hart Page Input) where
       was_next : (e : Edge) → Contains (done ++ mine) e → e.step < bump now t.hart e.hart
       was_next e is_edge =
           elim (Contains-append_cases done mine e is_edge) [
-            | inl old ↦ let a : e.step < now e.hart = was e old in let b : now e.hart ≤ bump now t.hart e.hart = bump_le now t.hart e.hart in omega arith
+            | inl old ↦
+                let a : e.step < now e.hart = was e old in
+                let b : now e.hart ≤ bump now t.hart e.hart = bump_le now t.hart e.hart in omega arith
             | inr own ↦
                 let of = edges_for_of now past t t.effect.touched e all own in
                 let a : system.count t.found ≡ e.step = of.step in
@@ -165,7 +178,9 @@ module _ {Hart Page Input : Type 0} (system : System Hart Page Input) where
 
   -- both touch one page, and one of them writes it
   abbrev Meet : Step Hart Page Input → Step Hart Page Input → Type 0
-  Meet s t = (page : ℕ) × Contains s.effect.touched page × Contains t.effect.touched page × (Writes s.effect page ⊎ Writes t.effect page)
+  Meet s t =
+      (page : ℕ) × Contains s.effect.touched page × Contains t.effect.touched page ×
+      (Writes s.effect page ⊎ Writes t.effect page)
 
   abbrev InOrder : List Edge → Step Hart Page Input → Step Hart Page Input → Type 0
   InOrder edges s t = Meet s t → Before edges (place system s) (place system t)
@@ -179,21 +194,26 @@ module _ {Hart Page Input : Type 0} (system : System Hart Page Input) where
 
   -- the steps that meet t at this page are before it
   at_page : (edges : List Edge) (past : List (Step Hart Page Input)) (t : Step Hart Page Input) (page : ℕ) →
-      ((e : Edge) → Contains (edges_at system past t page) e → Contains edges e) → EachPair (λ u s. InOrder edges s u) past → AllWithin past →
-      Each (λ s. Contains s.effect.touched page → Writes s.effect page ⊎ Writes t.effect page → Before edges (place system s) (place system t)) past
+      ((e : Edge) → Contains (edges_at system past t page) e → Contains edges e) →
+      EachPair (λ u s. InOrder edges s u) past → AllWithin past →
+      Each (λ s. Contains s.effect.touched page → Writes s.effect page ⊎ Writes t.effect page → Before edges
+      (place system s) (place system t)) past
   at_page edges [] t page some order within = tt
   at_page edges (u ∷ past) t page some order within = (
     first,
     elim (cases_Bool b) [
       | inl writes ↦
           each_more (λ s. InOrder edges s u)
-          (λ s. Contains s.effect.touched page → Writes s.effect page ⊎ Writes t.effect page → Before edges (place system s) (place system t))
+          (λ s. Contains s.effect.touched page → Writes s.effect page ⊎ Writes t.effect page → Before edges
+          (place system s) (place system t))
           (λ s before touches either.
           let w = true_is_write u.effect.write page writes in
           Through (before (page, touches, within.0 page w, inr w)) (first (within.0 page w) (inl w)))
           past order.0
       | inr reads ↦
-          at_page edges past t page (λ e is_edge. some e (picked_later b c (edge_after system t u) (edges_at system past t page) e reads is_edge)) order.1
+          at_page edges past t page
+          (λ e is_edge. some e
+          (picked_later b c (edge_after system t u) (edges_at system past t page) e reads is_edge)) order.1
           within.1
     ],
   )
@@ -209,7 +229,8 @@ module _ {Hart Page Input : Type 0} (system : System Hart Page Input) where
       first touches (inl w) =
           by_edge edges u t
           (some (edge_after system t u)
-          (picked_first b c (edge_after system t u) (edges_at system past t page) (inl (is_write_true u.effect.write page w))))
+          (picked_first b c (edge_after system t u) (edges_at system past t page)
+          (inl (is_write_true u.effect.write page w))))
       first touches (inr w) =
           by_edge edges u t
           (some (edge_after system t u)
@@ -225,7 +246,9 @@ module _ {Hart Page Input : Type 0} (system : System Hart Page Input) where
         | inl is ↦
             Contains-append_left (edges_at system past t x) (edges_for system past t pages) e
             (subst (λ x. Contains (edges_at system past t x) e) (sym is) h)
-        | inr later ↦ Contains-append_right (edges_at system past t x) (edges_for system past t pages) e (edges_for_has past t pages page e later h)
+        | inr later ↦
+            Contains-append_right (edges_at system past t x) (edges_for system past t pages) e
+            (edges_for_has past t pages page e later h)
       ]
 
   each_page : (Q : ℕ → Type 0) (P : Step Hart Page Input → ℕ → Type 0) (xs : List (Step Hart Page Input)) →
@@ -235,18 +258,22 @@ module _ {Hart Page Input : Type 0} (system : System Hart Page Input) where
 
   -- those that meet t at all are before it
   for_step : (edges : List Edge) (past : List (Step Hart Page Input)) (t : Step Hart Page Input) →
-      ((e : Edge) → Contains (edges_for system past t t.effect.touched) e → Contains edges e) → EachPair (λ u s. InOrder edges s u) past → AllWithin past →
+      ((e : Edge) → Contains (edges_for system past t t.effect.touched) e → Contains edges e) →
+      EachPair (λ u s. InOrder edges s u) past → AllWithin past →
       Each (λ s. InOrder edges s t) past
   for_step edges past t some order within =
       each_more
       (λ s.
-      (page : ℕ) → Contains t.effect.touched page → Contains s.effect.touched page → Writes s.effect page ⊎ Writes t.effect page →
+      (page : ℕ) → Contains t.effect.touched page → Contains s.effect.touched page →
+      Writes s.effect page ⊎ Writes t.effect page →
       Before edges (place system s) (place system t))
       (λ s. InOrder edges s t) (λ s h (page, ours, theirs, either). h page theirs ours either) past
       (each_page (Contains t.effect.touched)
-      (λ s page. Contains s.effect.touched page → Writes s.effect page ⊎ Writes t.effect page → Before edges (place system s) (place system t)) past
+      (λ s page. Contains s.effect.touched page → Writes s.effect page ⊎ Writes t.effect page → Before edges
+      (place system s) (place system t)) past
       (λ page touches.
-      at_page edges past t page (λ e is_edge. some e (edges_for_has past t t.effect.touched page e touches is_edge)) order within))
+      at_page edges past t page
+      (λ e is_edge. some e (edges_for_has past t t.effect.touched page e touches is_edge)) order within))
 
   ordered_from : (edges : List Edge) (past rest : List (Step Hart Page Input)) →
       ((e : Edge) → Contains (recorded system past rest) e → Contains edges e) →
@@ -256,11 +283,15 @@ module _ {Hart Page Input : Type 0} (system : System Hart Page Input) where
   ordered_from edges past (t ∷ rest) some order within_past within =
       let mine =
       for_step edges past t
-      (λ e is_edge. some e (Contains-append_left (edges_for system past t t.effect.touched) (recorded system (t ∷ past) rest) e is_edge)) order
+      (λ e is_edge. some e
+      (Contains-append_left (edges_for system past t t.effect.touched)
+      (recorded system (t ∷ past) rest) e is_edge)) order
       within_past in
       let next =
       ordered_from edges (t ∷ past) rest
-      (λ e is_edge. some e (Contains-append_right (edges_for system past t t.effect.touched) (recorded system (t ∷ past) rest) e is_edge)) (mine, order)
+      (λ e is_edge. some e
+      (Contains-append_right (edges_for system past t t.effect.touched) (recorded system (t ∷ past) rest) e is_edge))
+      (mine, order)
       (within.0, within_past) within.1 in
       ((next.1.0, next.0), each_both (λ s. InOrder edges s t) (λ s. Each (InOrder edges s) rest) past mine next.1.1)
 
@@ -288,11 +319,15 @@ module _ {Hart Page Input : Type 0} (system : System Hart Page Input) where
         met =
             subst (λ now. EachMet log.edges now (steps system m turns)) (sym start)
             (subst (λ es. EachMet es (counts system m) (steps system m turns)) (sym recording.edges)
-            (met_from [] (counts system m) [] (steps system m turns) (λ e (k, below, is). absurd (omega arith)) tt (in_turn m turns runs)));
+            (met_from [] (counts system m) [] (steps system m turns) (λ e (k, below, is). absurd (omega arith)) tt
+            (in_turn m turns runs)));
         ordered =
-            pairs_more (InOrder log.edges) (λ s t. Conflict system s t → Before log.edges (place system s) (place system t)) (λ s t f conflict. f conflict.1)
+            pairs_more (InOrder log.edges)
+            (λ s t. Conflict system s t → Before log.edges (place system s) (place system t))
+            (λ s t f conflict. f conflict.1)
             (steps system m turns)
-            (ordered_from log.edges [] (steps system m turns) (λ e is_edge. subst (λ es. Contains es e) (sym recording.edges) is_edge) tt tt
+            (ordered_from log.edges [] (steps system m turns)
+            (λ e is_edge. subst (λ es. Contains es e) (sym recording.edges) is_edge) tt tt
             (steps_within m turns runs)).0;
       }
     where
@@ -329,7 +364,8 @@ module _ {Hart Page Input : Type 0} (system : System Hart Page Input) where
   inputs_found idle now [] turn = tt
   inputs_found idle now (t ∷ rest) turn = (
     sym (input_here idle t rest),
-    each_more (λ s. (bump now t.hart s.hart ≤ system.count s.found) × (s.input ≡ input_at system idle rest s.hart (system.count s.found)))
+    each_more (λ s. (bump now t.hart s.hart ≤ system.count s.found) ×
+        (s.input ≡ input_at system idle rest s.hart (system.count s.found)))
         (λ s. s.input ≡ input_at system idle (t ∷ rest) s.hart (system.count s.found))
         (λ s (from, is). is ∙ sym (input_later idle t rest s.hart (system.count s.found) (later s from))) rest
         (each_both (λ s. bump now t.hart s.hart ≤ system.count s.found)

@@ -1,4 +1,4 @@
--- A replay of a log follows what is left of its interleaving: it runs, never gets stuck, and ends where the interleaving was.
+-- A replay of a log follows what is left of its interleaving: it runs, never gets stuck, and ends where that was.
 use Rattle.std.proofs.Common.{◌≡◌, ◌≢◌, ◌⊎◌, inl, inr, ℕ, ◌<◌, ◌≤◌, false, List, [], ◌∷◌, filter, refl, sym, ap, subst, ◌∙◌, arith, lt-ltb, le-ltb, le_trans}
 use Rattle.std.proofs.lemmas.Bool.{cases_lt}
 use Rattle.interleaving.specs.Machine.{Machine, System, Turn, after, after_all, counts, step_of, steps, inside, Runs, run, at}
@@ -20,20 +20,25 @@ module _ {Hart Page Input : Type 0} (system : System Hart Page Input) (log : Log
   -- the first hart goes, and then the others
   follow_one : (m : Machine Hart Page) (turns left : List (Turn Input)) (cut : ℕ → ℕ) (hart : ℕ) (order : List ℕ) →
       Rest system log m turns →
-      counts system m hart < cut hart → Pulled (next system log m hart) (steps system m turns) (steps system (after m (next system log m hart)) left) →
-      Followed (after m (next system log m hart)) left cut (bump (counts system m) hart) order → Followed m turns cut (counts system m) (hart ∷ order)
+      counts system m hart < cut hart →
+      Pulled (next system log m hart) (steps system m turns) (steps system (after m (next system log m hart)) left) →
+      Followed (after m (next system log m hart)) left cut (bump (counts system m) hart) order →
+      Followed m turns cut (counts system m) (hart ∷ order)
   follow_one m turns left cut hart order r below p f =
       record {
         left = f.left;
         runs = (goes system log m turns left hart r p, f.runs);
         rest = f.rest;
-        at_cut = pulled_filter (next system log m hart) (inside system cut) (lt-ltb (counts system m hart) (cut hart) below) p m ∙ f.at_cut;
+        at_cut =
+            pulled_filter (next system log m hart) (inside system cut)
+            (lt-ltb (counts system m hart) (cut hart) below) p m ∙ f.at_cut;
         counts_are = f.counts_are;
       }
 
   pub follow : (m : Machine Hart Page) (turns : List (Turn Input)) (cut : ℕ → ℕ) (order : List ℕ) →
       Rest system log m turns →
-      ((hart : ℕ) → cut hart ≤ log.end hart) → Begins log.edges cut (counts system m) order → Followed m turns cut (counts system m) order
+      ((hart : ℕ) → cut hart ≤ log.end hart) → Begins log.edges cut (counts system m) order →
+      Followed m turns cut (counts system m) order
   follow m turns cut [] r fits b = record { left = turns; runs = tt; rest = r; at_cut = refl; counts_are = refl }
   follow m turns cut (hart ∷ order) r fits b =
       let below : counts system m hart < log.end hart = let top : cut hart ≤ log.end hart = fits hart in
@@ -64,7 +69,8 @@ module _ {Hart Page Input : Type 0} (system : System Hart Page Input) (log : Log
           rw (le-ltb (counts system m a.hart) (cut a.hart) (reached a.hart))
           (
           none (after m (step_of system m a)) turns runs.1
-          (λ hart. subst (λ n. cut hart ≤ n hart) (sym (counts_step system m a runs.0)) (le_trans (reached hart) (bump_le (counts system m) a.hart hart)))
+          (λ hart. subst (λ n. cut hart ≤ n hart) (sym (counts_step system m a runs.0))
+          (le_trans (reached hart) (bump_le (counts system m) a.hart hart)))
           )
 
   -- what may go towards a closed cut once a hart that has reached it goes on, may go before
@@ -94,7 +100,8 @@ module _ {Hart Page Input : Type 0} (system : System Hart Page Input) (log : Log
               let k : cut e.hart ≡ cut next = ap cut here in
               let j : e.count ≤ cut e.other = closed e is_edge (omega (arith, less)) in
               omega arith
-          either (inr apart) = subst (λ n. e.count ≤ n) (bump_other now passed e.other apart) (met e is_edge here (stands ∙ sym same))
+          either (inr apart) =
+              subst (λ n. e.count ≤ n) (bump_other now passed e.other apart) (met e is_edge here (stands ∙ sym same))
 
   -- while a hart is below the cut, the first step that is left inside it may go
   pub progress : (m : Machine Hart Page) (turns : List (Turn Input)) (cut : ℕ → ℕ) → Rest system log m turns →
@@ -109,12 +116,21 @@ module _ {Hart Page Input : Type 0} (system : System Hart Page Input) (log : Log
       elim (cases_lt (counts system m a.hart) (cut a.hart)) [
         | inl less ↦ (a.hart, (less, r.met.0), r.runs.0)
         | inr over ↦
-            let ne : a.hart ≢ below = λ e. let f : cut below ≤ counts system m below = subst (λ n. cut n ≤ counts system m n) e over in omega arith in
+            let ne : a.hart ≢ below =
+            λ e. let f : cut below ≤ counts system m below =
+            subst (λ n. cut n ≤ counts system m n) e over in omega arith in
             let (next, may, runs) =
             progress (after m (step_of system m a)) turns cut (tail system log m a turns r) closed fits below
-            (subst (λ n. n below < cut below) (sym (counts_step system m a r.runs.0)) (subst (λ n. n < cut below) (sym (bump_other (counts system m) a.hart below ne)) under)) in
-            let (apart, go) = go_before cut (counts system m) a.hart next closed over (subst (λ n. MayGo log.edges cut n next) (counts_step system m a r.runs.0) may) in
-            (next, go, subst (λ h. system.halted h ≡ false) (put_other m.harts a.hart next (step_of system m a).effect.hart apart) runs)
+            (subst (λ n. n below < cut below) (sym (counts_step system m a r.runs.0))
+            (subst (λ n. n < cut below) (sym (bump_other (counts system m) a.hart below ne)) under)) in
+            let (apart, go) =
+            go_before cut (counts system m) a.hart next closed over
+            (subst (λ n. MayGo log.edges cut n next) (counts_step system m a r.runs.0) may) in (
+              next,
+              go,
+              subst (λ h. system.halted h ≡ false)
+                  (put_other m.harts a.hart next (step_of system m a).effect.hart apart) runs,
+            )
       ]
 
 -- an honest log's interleaving, as a replay finds it at the start
@@ -154,7 +170,8 @@ confluence {Hart} {Page} {Input} system log m turns cut order honest is_cut begi
       runs = f.runs;
       outcome =
           λ complete.
-          sym (f.at_cut ∙ none_inside system log after_order f.left cut f.rest.runs (λ hart. let e : counts system after_order hart ≡ cut hart = here hart ∙ complete hart in omega arith));
+          sym (f.at_cut ∙ none_inside system log after_order f.left cut f.rest.runs (λ hart.
+          let e : counts system after_order hart ≡ cut hart = here hart ∙ complete hart in omega arith));
       goes_on = goes_on;
       not_stuck =
           λ stuck.

@@ -16,7 +16,8 @@ module _ {Hart Page Input : Type 0} (system : System Hart Page Input) where
   pub steps_append : (m : Machine Hart Page) (xs ys : List (Turn Input)) →
       steps system m (xs ++ ys) ≡ steps system m xs ++ steps system (run system m xs) ys
   steps_append m [] ys = refl
-  steps_append m (x ∷ xs) ys = ap (λ rest. step_of system m x ∷ rest) (steps_append (after m (step_of system m x)) xs ys)
+  steps_append m (x ∷ xs) ys =
+      ap (λ rest. step_of system m x ∷ rest) (steps_append (after m (step_of system m x)) xs ys)
 
   pub run_append : (m : Machine Hart Page) (xs ys : List (Turn Input)) →
       run system m (xs ++ ys) ≡ run system (run system m xs) ys
@@ -39,7 +40,8 @@ module _ {Hart Page Input : Type 0} (system : System Hart Page Input) where
   counts_grow m [] runs hart = omega arith
   counts_grow m (a ∷ turns) runs hart =
       le_trans
-      (subst (λ n. counts system m hart ≤ n hart) (sym (counts_step system m a runs.0)) (bump_le (counts system m) a.hart hart))
+      (subst (λ n. counts system m hart ≤ n hart) (sym (counts_step system m a runs.0))
+      (bump_le (counts system m) a.hart hart))
       (counts_grow (after m (step_of system m a)) turns runs.1 hart)
 
   -- the counts that a run leaves are those of its harts' order

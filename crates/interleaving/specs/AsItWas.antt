@@ -23,8 +23,8 @@ module _ {Hart Page Input : Type 0} (system : System Hart Page Input) where
   NoneWrites cut page = Each (λ s. inside system cut s ≡ true → Writes s.effect page → ⊥)
 
   -- the turn after `front` is inside the cut and writes the page, and none does so later
-  pub record IsLastWriter (m : Machine Hart Page) (front : List (Turn Input)) (t : Turn Input) (rest : List (Turn Input))
-      (cut : ℕ → ℕ) (page : ℕ) : Type 0 where
+  pub record IsLastWriter (m : Machine Hart Page) (front : List (Turn Input)) (t : Turn Input)
+      (rest : List (Turn Input)) (cut : ℕ → ℕ) (page : ℕ) : Type 0 where
     pub is_inside : inside system cut (step_of system (run system m front) t) ≡ true
     pub writes : Writes (step_of system (run system m front) t).effect page
     pub none_later : NoneWrites cut page (steps system (run system m (front ++ t ∷ [])) rest)

@@ -1,4 +1,5 @@
--- A system small enough to follow by hand: its harts count their steps, store their counts on pages, and load what is there.
+-- A system small enough to follow by hand: its harts count their steps, store their counts on pages, and load what
+-- is there.
 use Rattle.std.specs.Prelude.{ℕ, ◌≡◌, ◌+◌, ◌-◌, ◌^◌, ◌==◌, Bool, true, false, List, [], ◌∷◌, Option, Some, None, Contains, MatchOption, map, option_map, unwrap_or, slice_get, refl}
 use Rattle.std.proofs.Common.{ap, subst, arith}
 use Rattle.interleaving.specs.Machine.{Write, Effect, Writes, Turn}

@@ -11,7 +11,8 @@ StartIsClosed =
 -- the greater of two closed cuts, hart by hart, is closed
 abbrev pub GreaterIsClosed : Type 0
 GreaterIsClosed =
-    (edges : List Edge) (a b : ℕ → ℕ) → IsClosed edges a → IsClosed edges b → IsClosed edges (λ hart. max (a hart) (b hart))
+    (edges : List Edge) (a b : ℕ → ℕ) → IsClosed edges a → IsClosed edges b →
+    IsClosed edges (λ hart. max (a hart) (b hart))
 
 -- the greatest closed cut below a bound
 pub record IsGreatest (edges : List Edge) (bound cut : ℕ → ℕ) : Type 0 where

@@ -26,7 +26,8 @@ module _ {Hart Page Input : Type 0} (system : System Hart Page Input) where
       (Tells log m turns × IsClosed log.edges log.start × IsOrdered system log.edges (steps system m turns))
 
   -- a schedule of the log to its end does not leave the machine of its interleaving
-  pub record GoesWrong (log : Log Input) (m : Machine Hart Page) (turns : List (Turn Input)) (order : List ℕ) : Type 0 where
+  pub record GoesWrong (log : Log Input) (m : Machine Hart Page) (turns : List (Turn Input))
+      (order : List ℕ) : Type 0 where
     pub is_cut : IsCut log log.end
     pub schedule : IsSchedule log log.end order
     pub differs : run system m (turns_of log.inputs log.start order) ≢ at system m turns log.end
@@ -49,6 +50,7 @@ stores hart page = record { hart = hart; input = act.Store page }
 
 -- An honest log, the recorder's, of three harts and two pages.
 
+-- three harts and two pages, all at 0
 abbrev pub three : Store Counter ℕ
 three = record { harts = hart_at 0 0 ∷ hart_at 0 0 ∷ hart_at 0 0 ∷ []; pages = 0 ∷ 0 ∷ [] }
 
@@ -56,6 +58,7 @@ three = record { harts = hart_at 0 0 ∷ hart_at 0 0 ∷ hart_at 0 0 ∷ []; pag
 abbrev pub crossing : List (Turn Act)
 crossing = stores 0 0 ∷ loads 1 ∷ stores 0 0 ∷ stores 2 1 ∷ stores 1 1 ∷ []
 
+-- its log
 abbrev pub crossing_log : Log Act
 crossing_log = log_of counting (act.Load 0) (view counters three) crossing
 
@@ -63,10 +66,11 @@ crossing_log = log_of counting (act.Load 0) (view counters three) crossing
 abbrev pub crossed : Store Counter ℕ
 crossed = record { harts = hart_at 2 0 ∷ hart_at 2 1 ∷ hart_at 1 0 ∷ []; pages = 2 ∷ 2 ∷ [] }
 
--- the order of the interleaving, and another
+-- the order of the interleaving
 abbrev pub own_order : List ℕ
 own_order = 0 ∷ 1 ∷ 0 ∷ 2 ∷ 1 ∷ []
 
+-- another
 abbrev pub other_order : List ℕ
 other_order = 2 ∷ 0 ∷ 1 ∷ 1 ∷ 0 ∷ []
 
@@ -95,6 +99,7 @@ passing = stores 0 0 ∷ loads 1 ∷ []
 abbrev pub early_edge : Edge
 early_edge = record { hart = 1; step = 0; other = 0; count = 8 }
 
+-- the log with this edge alone
 abbrev pub early_log : Log Act
 early_log =
     record {
@@ -124,14 +129,16 @@ pub record HandOver : Type 0 where
 abbrev pub edge_of : HandOver → Edge
 edge_of h = record { hart = h.taker; step = h.taken; other = h.giver; count = h.given }
 
--- hart 0 stores and hands the page to hart 1, that to hart 2, and hart 2 loads
+-- hart 0 stores, and hart 2 loads what it stored
 abbrev pub handing_on : List (Turn Act)
 handing_on = stores 0 0 ∷ loads 2 ∷ []
 
+-- between them page 0 goes from hart 0 to hart 1, and from that to hart 2
 abbrev pub hand_overs : List HandOver
 hand_overs =
     record { giver = 0; given = 1; taker = 1; taken = 0 } ∷ record { giver = 1; given = 0; taker = 2; taken = 0 } ∷ []
 
+-- the log with the edges of these alone
 abbrev pub handed_log : Log Act
 handed_log =
     record {

@@ -22,8 +22,8 @@ pub record Place : Type 0 where
   pub hart : ℕ
   pub step : ℕ
 
--- the order that the edges demand: the least in which a hart's steps follow one another, and each edge holds of its step
--- and of the later ones
+-- the order that the edges demand: the least in which a hart's steps follow one another, and each edge holds of its
+-- step and of the later ones
 pub data Before (edges : List Edge) : Place → Place → Type 0 where
   Own : {a b : Place} → a.hart ≡ b.hart → a.step < b.step → Before edges a b
   Across : {a b : Place} (e : Edge) → Contains edges e → a.hart ≡ e.other → a.step < e.count → b.hart ≡ e.hart →
@@ -78,8 +78,9 @@ module _ {Hart Page Input : Type 0} (system : System Hart Page Input) where
   abbrev pub IsOrdered : List Edge → List (Step Hart Page Input) → Type 0
   IsOrdered edges = EachPair (λ s t. Conflict s t → Before edges (place s) (place t))
 
-  -- the log tells of this interleaving: its inputs, what it began and ended with, edges that hold of it and an order that
-  -- has its conflicts; and no edge asks for more than the start of a step below the start
+  -- the log tells of this interleaving: it has its inputs and its counts at the start and at the end, its edges hold of
+  -- it, and the order that they demand has each of its conflicts. That the start is closed keeps edges of steps before
+  -- the start out of that order, since no schedule looks at them
   pub record IsHonest (log : Log Input) (m : Machine Hart Page) (turns : List (Turn Input)) : Type 0 where
     pub runs : Runs system m turns
     pub inputs : HasInputs log (steps system m turns)

@@ -22,7 +22,7 @@ pub record Effect (Hart Page : Type 0) : Type 0 where
 abbrev pub Writes : {Hart Page : Type 0} → Effect Hart Page → ℕ → Type 0
 Writes effect page = MatchOption effect.write ⊥ (λ w. w.page ≡ page)
 
--- what a hart does in a step, by its state, its inputs and the pages; a halted hart takes none, whatever `effect` says of it
+-- what a hart does in a step, by its state, its inputs and the pages; a halted hart takes none, whatever `effect` says
 pub record System (Hart Page Input : Type 0) : Type 0 where
   pub count : Hart → ℕ  -- how many steps it has taken
   pub halted : Hart → Bool

@@ -128,7 +128,8 @@ module _ {Hart Page Input : Type 0} (hardware : Hardware Hart Page Input) where
   abbrev pub RunsStored : Type 0
   RunsStored =
       (s : Store Hart Page) (turns : List (Turn Input)) → Runs system_of (view s) turns →
-      (result : Store Hart Page) × (run_from (Some s) turns ≡ Some result) × (view result ≡ run system_of (view s) turns)
+      (result : Store Hart Page) × (run_from (Some s) turns ≡ Some result) ×
+      (view result ≡ run system_of (view s) turns)
 
   -- and nowhere else
   abbrev pub StoredRuns : Type 0

@@ -44,8 +44,8 @@ pub fn implied_edges()
     ensures same_order { ImpliedMayGo }
 {}
 
-/// Each beginning of a schedule stands at a cut of its own and goes on to a schedule, and the interleaving's own order is
-/// one.
+/// Each beginning of a schedule stands at a cut of its own and goes on to a schedule, and the interleaving's own order
+/// is one.
 pub fn schedules<H, P, I>()
     ensures front { FrontBegins }
     ensures reached { (system : System H P I) → Reached system }
@@ -54,8 +54,8 @@ pub fn schedules<H, P, I>()
     ensures own_order { (system : System H P I) → OwnOrder system }
 {}
 
-/// The same for a machine whose harts and pages stand in lists: its runs are those of the theory, and schedules leave one
-/// store.
+/// The same for a machine whose harts and pages stand in lists: its runs are those of the theory, and schedules leave
+/// one store.
 pub fn stored<H, P, I>()
     ensures runs { (hardware : Hardware H P I) → RunsStored hardware }
     ensures only_runs { (hardware : Hardware H P I) → StoredRuns hardware }
