@@ -7,8 +7,8 @@ use Rattle.interleaving.specs.Machine.{Write, Writes, System, Machine, Turn, Ste
 use Rattle.interleaving.specs.Log.{Edge, Before, Across, Through, IsMet, EachMet, Conflict, place, bump}
 use Rattle.interleaving.specs.Recorder.{is_write, has, edge_after, edges_at, edges_for, recorded, RecordsHonestly, input_at, log_of, RecordsEachRun}
 use Rattle.interleaving.proofs.Put.{same_or_not, put_same, bump_same, bump_le}
-use Rattle.interleaving.proofs.Pull.{counts_step}
 use Rattle.interleaving.proofs.Cuts.{here_or_later, here}
+use Rattle.interleaving.proofs.Runs.{InTurn, in_turn, from_now}
 use Rattle.interleaving.proofs.Each.{each_from, each_more, each_both, pairs_more}
 
 is_write_true : {Page : Type 0} (w : Option (Write Page)) (page : ℕ) → MatchOption w ⊥ (λ w. w.page ≡ page) →
@@ -54,20 +54,6 @@ picked_later false true x more e h later = Contains-append_right (x ∷ []) more
 picked_later false false x more e h later = later
 
 module _ {Hart Page Input : Type 0} (system : System Hart Page Input) where
-  -- each step's number is its hart's count
-  abbrev InTurn : (ℕ → ℕ) → List (Step Hart Page Input) → Type 0
-  InTurn now [] = Unit {0}
-  InTurn now (t ∷ rest) = (system.count t.found ≡ now t.hart) × InTurn (bump now t.hart) rest
-
-  in_turn : (m : Machine Hart Page) (turns : List (Turn Input)) → Runs system m turns →
-      InTurn (counts system m) (steps system m turns)
-  in_turn m [] runs = tt
-  in_turn m (t ∷ turns) runs = (
-    refl,
-    subst (λ n. InTurn n (steps system (after m (step_of system m t)) turns)) (counts_step system m t runs.0)
-        (in_turn (after m (step_of system m t)) turns runs.1),
-  )
-
   abbrev AllPast : (ℕ → ℕ) → List (Step Hart Page Input) → Type 0
   AllPast now past = Each (λ s. system.count s.found < now s.hart) past
 
@@ -110,7 +96,7 @@ module _ {Hart Page Input : Type 0} (system : System Hart Page Input) where
 
   -- what is recorded later is of later steps
   recorded_later : (now : ℕ → ℕ) (past rest : List (Step Hart Page Input)) (e : Edge) → AllPast now past →
-      InTurn now rest →
+      InTurn system now rest →
       Contains (recorded system past rest) e → now e.hart ≤ e.step
   recorded_later now past [] e all turn (k, below, is) = absurd (omega arith)
   recorded_later now past (t ∷ rest) e all turn h =
@@ -129,7 +115,7 @@ module _ {Hart Page Input : Type 0} (system : System Hart Page Input) where
   -- each step's edges are met
   met_from : (done : List Edge) (now : ℕ → ℕ) (past rest : List (Step Hart Page Input)) →
       ((e : Edge) → Contains done e → e.step < now e.hart) →
-      AllPast now past → InTurn now rest → EachMet (done ++ recorded system past rest) now rest
+      AllPast now past → InTurn system now rest → EachMet (done ++ recorded system past rest) now rest
   met_from done now past [] was all turn = tt
   met_from done now past (t ∷ rest) was all turn = (
     met,
@@ -313,14 +299,14 @@ module _ {Hart Page Input : Type 0} (system : System Hart Page Input) where
         closed =
             λ e is_edge below.
             let a : counts system m e.hart ≤ e.step =
-            recorded_later (counts system m) [] (steps system m turns) e tt (in_turn m turns runs) (subst (λ es. Contains es e) recording.edges is_edge) in
+            recorded_later (counts system m) [] (steps system m turns) e tt (in_turn system m turns runs) (subst (λ es. Contains es e) recording.edges is_edge) in
             let b : log.start e.hart ≡ counts system m e.hart = recording.start e.hart in
             absurd (omega arith);
         met =
             subst (λ now. EachMet log.edges now (steps system m turns)) (sym start)
             (subst (λ es. EachMet es (counts system m) (steps system m turns)) (sym recording.edges)
             (met_from [] (counts system m) [] (steps system m turns) (λ e (k, below, is). absurd (omega arith)) tt
-            (in_turn m turns runs)));
+            (in_turn system m turns runs)));
         ordered =
             pairs_more (InOrder log.edges)
             (λ s t. Conflict system s t → Before log.edges (place system s) (place system t))
@@ -333,16 +319,6 @@ module _ {Hart Page Input : Type 0} (system : System Hart Page Input) where
     where
       start : log.start ≡ counts system m
       start = λ i hart. recording.start hart i
-
-  -- each step comes at or after its hart's count
-  from_now : (now : ℕ → ℕ) (xs : List (Step Hart Page Input)) → InTurn now xs →
-      Each (λ s. now s.hart ≤ system.count s.found) xs
-  from_now now [] turn = tt
-  from_now now (t ∷ rest) turn = (
-    (let e : system.count t.found ≡ now t.hart = turn.0 in omega arith),
-    each_more (λ s. bump now t.hart s.hart ≤ system.count s.found) (λ s. now s.hart ≤ system.count s.found)
-        (λ s le. le_trans (bump_le now t.hart s.hart) le) rest (from_now (bump now t.hart) rest turn.1),
-  )
 
   input_here : (idle : Input) (t : Step Hart Page Input) (rest : List (Step Hart Page Input)) →
       input_at system idle (t ∷ rest) t.hart (system.count t.found) ≡ t.input
@@ -359,7 +335,7 @@ module _ {Hart Page Input : Type 0} (system : System Hart Page Input) where
       ]
 
   -- each step finds its input by its hart and its number
-  inputs_found : (idle : Input) (now : ℕ → ℕ) (xs : List (Step Hart Page Input)) → InTurn now xs →
+  inputs_found : (idle : Input) (now : ℕ → ℕ) (xs : List (Step Hart Page Input)) → InTurn system now xs →
       Each (λ s. s.input ≡ input_at system idle xs s.hart (system.count s.found)) xs
   inputs_found idle now [] turn = tt
   inputs_found idle now (t ∷ rest) turn = (
@@ -370,7 +346,7 @@ module _ {Hart Page Input : Type 0} (system : System Hart Page Input) where
         (λ s (from, is). is ∙ sym (input_later idle t rest s.hart (system.count s.found) (later s from))) rest
         (each_both (λ s. bump now t.hart s.hart ≤ system.count s.found)
         (λ s. s.input ≡ input_at system idle rest s.hart (system.count s.found)) rest
-        (from_now (bump now t.hart) rest turn.1) (inputs_found idle (bump now t.hart) rest turn.1)),
+        (from_now system (bump now t.hart) rest turn.1) (inputs_found idle (bump now t.hart) rest turn.1)),
   )
     where
       later : (s : Step Hart Page Input) → bump now t.hart s.hart ≤ system.count s.found → t.hart ≡ s.hart →
@@ -385,7 +361,7 @@ module _ {Hart Page Input : Type 0} (system : System Hart Page Input) where
       records_honestly (log_of system idle m turns) m turns runs
       (record {
         edges = refl;
-        inputs = inputs_found idle (counts system m) (steps system m turns) (in_turn m turns runs);
+        inputs = inputs_found idle (counts system m) (steps system m turns) (in_turn system m turns runs);
         start = λ hart. refl;
         end = λ hart. refl;
       })

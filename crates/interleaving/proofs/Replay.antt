@@ -5,7 +5,7 @@ use Rattle.interleaving.specs.Machine.{Machine, System, Turn, after, after_all, 
 use Rattle.interleaving.specs.Log.{Log, IsClosed, IsMet, EachMet, IsHonest, IsCut, MayGo, Begins, counts_after, turns_of, GoesOn, Confluence, bump}
 use Rattle.interleaving.proofs.Put.{same_or_not, put_other, bump_other, bump_le}
 use Rattle.interleaving.proofs.Pulled.{Pulled, pulled_filter}
-use Rattle.interleaving.proofs.Stuck.{stuck_or_goes_on}
+use Rattle.interleaving.proofs.Stuck.{stuck_cannot_go_on}
 use Rattle.interleaving.proofs.Pull.{Rest, next, turn_of, tail, goes, advance, pull, counts_step}
 
 module _ {Hart Page Input : Type 0} (system : System Hart Page Input) (log : Log Input) where
@@ -175,7 +175,7 @@ confluence {Hart} {Page} {Input} system log m turns cut order honest is_cut begi
       goes_on = goes_on;
       not_stuck =
           λ stuck.
-          stuck_or_goes_on system log.edges cut (counts_after log.start order) after_order stuck
+          stuck_cannot_go_on system log.edges cut (counts_after log.start order) after_order stuck
           (goes_on stuck.below.0 stuck.below.1);
     }
   where

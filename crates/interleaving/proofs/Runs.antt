@@ -1,10 +1,11 @@
 -- Runs, one after another.
 use Rattle.std.proofs.Common.{ℕ, ◌≡◌, ◌≤◌, List, [], ◌∷◌, ◌++◌, map, refl, sym, ap, subst, ◌∙◌, arith, le_trans}
-use Rattle.interleaving.specs.Lists.{IsWithin}
-use Rattle.interleaving.specs.Machine.{System, Machine, Turn, after, counts, step_of, steps, Runs, run}
+use Rattle.interleaving.specs.Lists.{IsWithin, Each}
+use Rattle.interleaving.specs.Machine.{System, Machine, Turn, Step, after, counts, step_of, steps, Runs, run}
 use Rattle.interleaving.specs.Log.{bump, counts_after, turns_of}
 use Rattle.interleaving.proofs.Put.{bump_le}
 use Rattle.interleaving.proofs.Pull.{counts_step}
+use Rattle.interleaving.proofs.Each.{each_more}
 
 -- the harts of a beginning's turns are its order
 pub harts_of_turns : {Input : Type 0} (inputs : ℕ → ℕ → Input) (now : ℕ → ℕ) (order : List ℕ) →
@@ -51,3 +52,27 @@ module _ {Hart Page Input : Type 0} (system : System Hart Page Input) where
   counts_run m (a ∷ turns) runs =
       counts_run (after m (step_of system m a)) turns runs.1 ∙
       ap (λ n. counts_after n (map (λ t. t.hart) turns)) (counts_step system m a runs.0)
+
+  -- each step's number is its hart's count
+  abbrev pub InTurn : (ℕ → ℕ) → List (Step Hart Page Input) → Type 0
+  InTurn now [] = Unit {0}
+  InTurn now (t ∷ rest) = (system.count t.found ≡ now t.hart) × InTurn (bump now t.hart) rest
+
+  pub in_turn : (m : Machine Hart Page) (turns : List (Turn Input)) → Runs system m turns →
+      InTurn (counts system m) (steps system m turns)
+  in_turn m [] runs = tt
+  in_turn m (t ∷ turns) runs = (
+    refl,
+    subst (λ n. InTurn n (steps system (after m (step_of system m t)) turns)) (counts_step system m t runs.0)
+        (in_turn (after m (step_of system m t)) turns runs.1),
+  )
+
+  -- each step comes at or after its hart's count
+  pub from_now : (now : ℕ → ℕ) (xs : List (Step Hart Page Input)) → InTurn now xs →
+      Each (λ s. now s.hart ≤ system.count s.found) xs
+  from_now now [] turn = tt
+  from_now now (t ∷ rest) turn = (
+    (let e : system.count t.found ≡ now t.hart = turn.0 in omega arith),
+    each_more (λ s. bump now t.hart s.hart ≤ system.count s.found) (λ s. now s.hart ≤ system.count s.found)
+        (λ s le. le_trans (bump_le now t.hart s.hart) le) rest (from_now (bump now t.hart) rest turn.1),
+  )

@@ -3,12 +3,12 @@ use Rattle.std.proofs.Common.{◌≡◌, ◌⊎◌, inl, inr, ℕ, zero, suc, �
 use Rattle.std.proofs.lemmas.Bool.{cases_Bool, cases_lt}
 use Rattle.std.proofs.lemmas.List.Elements.{Contains-append_right}
 use Rattle.interleaving.specs.Machine.{Machine, System}
-use Rattle.interleaving.specs.Log.{Edge, IsMet, HasUnmet, GoesOn, StuckOrGoesOn, OneOfThree}
+use Rattle.interleaving.specs.Log.{Edge, IsMet, HasUnmet, GoesOn, StuckCannotGoOn, OneOfThree}
 use Rattle.interleaving.proofs.Put.{same_or_not}
 use Rattle.interleaving.proofs.Cuts.{here, here_or_later}
 
-pub stuck_or_goes_on : {Hart Page Input : Type 0} (system : System Hart Page Input) → StuckOrGoesOn system
-stuck_or_goes_on system edges cut now m stuck (next, (less, met), runs) =
+pub stuck_cannot_go_on : {Hart Page Input : Type 0} (system : System Hart Page Input) → StuckCannotGoOn system
+stuck_cannot_go_on system edges cut now m stuck (next, (less, met), runs) =
     elim (stuck.held next less) [
       | inl halted ↦ true≢false (sym halted ∙ runs)
       | inr (e, is_edge, here_is, stands, short) ↦

@@ -1,7 +1,8 @@
 -- Laws of closed cuts, and of edges that say nothing new.
 use Rattle.std.specs.Prelude.{ℕ, ◌≡◌, ◌<◌, ◌≤◌, ◌⊎◌, ◌↔◌, max, List, Contains}
 use Rattle.interleaving.specs.Lists.{put, IsWithin}
-use Rattle.interleaving.specs.Log.{Edge, Place, Before, IsClosed, IsMet, Begins}
+use Rattle.interleaving.specs.Machine.{System, Machine, Turn}
+use Rattle.interleaving.specs.Log.{Edge, Log, Place, Before, IsClosed, IsMet, IsHonest, Begins}
 
 -- a start below which no edge names a step is closed
 abbrev pub StartIsClosed : Type 0
@@ -68,6 +69,13 @@ pub record IsSameOrder (few all : List Edge) (start : ℕ → ℕ) : Type 0 wher
   pub met : (now : ℕ → ℕ) (hart : ℕ) → IsWithin start now → IsClosed few now → IsMet few now hart ↔ IsMet all now hart
   pub schedules : (cut : ℕ → ℕ) (order : List ℕ) → Begins few cut start order ↔ Begins all cut start order
 
--- edges that are implied may be dropped
+-- where few edges imply the others, these may be dropped
 abbrev pub ImpliedMayGo : Type 0
 ImpliedMayGo = (few all : List Edge) (start : ℕ → ℕ) → IsEnough few all start → IsSameOrder few all start
+
+-- and a log that was honest stays so
+abbrev pub StaysHonest : {Hart Page Input : Type 0} → System Hart Page Input → Type 0
+StaysHonest {Hart} {Page} {Input} system =
+    (log : Log Input) (few : List Edge) (m : Machine Hart Page) (turns : List (Turn Input)) →
+    IsHonest system log m turns → IsEnough few log.edges log.start →
+    IsHonest system (record { edges = few; inputs = log.inputs; start = log.start; end = log.end }) m turns

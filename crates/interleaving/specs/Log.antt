@@ -80,7 +80,7 @@ module _ {Hart Page Input : Type 0} (system : System Hart Page Input) where
 
   -- the log tells of this interleaving: it has its inputs and its counts at the start and at the end, its edges hold of
   -- it, and the order that they demand has each of its conflicts. That the start is closed keeps edges of steps before
-  -- the start out of that order, since no schedule looks at them
+  -- it, at which no schedule looks, from ordering the steps after it
   pub record IsHonest (log : Log Input) (m : Machine Hart Page) (turns : List (Turn Input)) : Type 0 where
     pub runs : Runs system m turns
     pub inputs : HasInputs log (steps system m turns)
@@ -153,8 +153,8 @@ module _ {Hart Page Input : Type 0} (system : System Hart Page Input) where
       IsReplayed log m turns cut order
 
   -- a machine is not both stuck and able to go on
-  abbrev pub StuckOrGoesOn : Type 0
-  StuckOrGoesOn =
+  abbrev pub StuckCannotGoOn : Type 0
+  StuckCannotGoOn =
       (edges : List Edge) (cut now : ℕ → ℕ) (m : Machine Hart Page) →
       IsStuck edges cut now m → GoesOn edges cut now m → ⊥
 

@@ -207,7 +207,7 @@ mod tests {
         crate::confluence::<Counter, u64, Act>();
         crate::as_it_was::<Counter, u64, Act>();
         crate::closed_cuts();
-        crate::implied_edges();
+        crate::implied_edges::<Counter, u64, Act>();
         crate::schedules::<Counter, u64, Act>();
         crate::stored::<Counter, u64, Act>();
         crate::recording::<Counter, u64, Act>();

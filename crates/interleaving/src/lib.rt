@@ -2,9 +2,9 @@
 #![tactic(auto)]
 
 ghost use Rattle.interleaving.specs.Machine.{System};
-ghost use Rattle.interleaving.specs.Log.{Confluence, StuckOrGoesOn, OneOfThree};
+ghost use Rattle.interleaving.specs.Log.{Confluence, StuckCannotGoOn, OneOfThree};
 ghost use Rattle.interleaving.specs.Cuts.{StartIsClosed, GreaterIsClosed, HasGreatest, ClosedOrBroken};
-ghost use Rattle.interleaving.specs.Cuts.{LoweringKeeps, ImpliedMayGo};
+ghost use Rattle.interleaving.specs.Cuts.{LoweringKeeps, ImpliedMayGo, StaysHonest};
 ghost use Rattle.interleaving.specs.Beginnings.{FrontBegins, Reached, EndsAreCuts, Extends, OwnOrder};
 ghost use Rattle.interleaving.specs.Stored.{Hardware, RunsStored, StoredRuns, OneOutcome};
 ghost use Rattle.interleaving.specs.Recorder.{RecordsHonestly, RecordsEachRun};
@@ -17,7 +17,7 @@ pub mod counters;
 /// A replay of an honest log to a closed cut runs, never gets stuck, and ends where the log's interleaving was.
 pub fn confluence<H, P, I>()
     ensures confluence { (system : System H P I) → Confluence system }
-    ensures stuck_or_goes_on { (system : System H P I) → StuckOrGoesOn system }
+    ensures stuck_cannot_go_on { (system : System H P I) → StuckCannotGoOn system }
     ensures one_of_three { (system : System H P I) → OneOfThree system }
 {}
 
@@ -39,9 +39,10 @@ pub fn closed_cuts()
     ensures lowering { LoweringKeeps }
 {}
 
-/// Edges that others imply can be dropped.
-pub fn implied_edges()
+/// Edges that the start or another edge implies can be dropped.
+pub fn implied_edges<H, P, I>()
     ensures same_order { ImpliedMayGo }
+    ensures stays_honest { (system : System H P I) → StaysHonest system }
 {}
 
 /// Each beginning of a schedule stands at a cut of its own and goes on to a schedule, and the interleaving's own order
