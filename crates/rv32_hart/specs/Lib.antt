@@ -5,3 +5,4 @@ pub mod Csrs
 pub mod Kept
 pub mod Access
 pub mod Step
+pub mod Granted

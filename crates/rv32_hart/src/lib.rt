@@ -15,3 +15,4 @@ pub use outcome::Tick;
 pub use pages::Pages;
 pub use registers::{Csrs, Received};
 pub use state::HartState;
+pub use step::tick;

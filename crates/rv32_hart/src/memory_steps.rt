@@ -2,7 +2,7 @@
 ghost use Rattle.std.specs.Prelude.{◌≡◌, ℕ, ◌+◌, ◌-◌, ◌*◌, ◌/◌, ◌%◌, ◌^◌, ◌<◌, ◌≤◌, ◌==◌, true, length};
 ghost use Rattle.rv32_hart.specs.Ram.{page_of, may_read, may_write, put, with_page};
 ghost use Rattle.rv32_hart.specs.Access.{load_access, load_device, loaded, load_width, in_ram, page_at, offset_at, store_access, stored, store_width, device_step, amo_access};
-ghost use Rattle.rv32_hart.specs.Step.{granted, Goes, GoesAlone};
+ghost use Rattle.rv32_hart.specs.Granted.{granted, Goes, GoesAlone};
 
 use super::hart_core::HartCore;
 use super::outcome::Tick;

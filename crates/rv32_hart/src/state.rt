@@ -12,7 +12,7 @@ use std::vec::Vec;
 /// A hart's state. Contracts see the record of its parts.
 #[derive(Drop)]
 pub struct HartState {
-    core: HartCore,
+    pub(crate) core: HartCore,
 }
 
 impl Model for HartState {
