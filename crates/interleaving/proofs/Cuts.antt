@@ -108,7 +108,8 @@ asked_less (x ∷ edges) cut lower le e is_edge was now =
     ]
 
 pub lowering : LoweringKeeps
-lowering edges bound e is_edge (step, short) = record { less = less; below = falls; keeps = under }
+lowering edges bound e is_edge (step, short) =
+    record { less = less; below = falls; keeps = under; greatest = passed_on }
   where
     at_hart : (h : ℕ) → e.hart ≡ h → lowered bound e h ≡ e.step
     at_hart h = put_same bound e.hart h e.step
@@ -149,18 +150,19 @@ lowering edges bound e is_edge (step, short) = record { less = less; below = fal
               | inr fine ↦ fine
             ]
 
--- what is greatest below the bound with one broken edge's hart stopped in front of it, is greatest below the bound
+    passed_on : (cut : ℕ → ℕ) → IsGreatest edges (lowered bound e) cut → IsGreatest edges bound cut
+    passed_on cut g =
+        record {
+          closed = g.closed;
+          below = λ h. le_trans (g.below h) (falls h);
+          greatest = λ other closed below. g.greatest other closed (under other closed below);
+        }
+
+-- the greatest below the lowered bound, which fewer edges ask something of
 lower_one : (edges : List Edge) (bound : ℕ → ℕ) (e : Edge) → Contains edges e → IsBroken bound e →
     (asked edges (lowered bound e) < asked edges bound → (cut : ℕ → ℕ) × IsGreatest edges (lowered bound e) cut) →
     (cut : ℕ → ℕ) × IsGreatest edges bound cut
-lower_one edges bound e is_edge (step, short) rec = (
-  found.0,
-  record {
-    closed = found.1.closed;
-    below = λ h. le_trans (found.1.below h) (low.below h);
-    greatest = λ other closed below. found.1.greatest other closed (low.keeps other closed below);
-  },
-)
+lower_one edges bound e is_edge (step, short) rec = (found.0, low.greatest found.0 found.1)
   where
     low : IsLowering edges bound e
     low = lowering edges bound e is_edge (step, short)

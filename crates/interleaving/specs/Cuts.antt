@@ -38,13 +38,15 @@ abbrev pub ClosedOrBroken : Type 0
 ClosedOrBroken =
     (edges : List Edge) (bound : ℕ → ℕ) → IsClosed edges bound ⊎ ((e : Edge) × Contains edges e × IsBroken bound e)
 
--- lowering one hart that an edge forbids makes the bound less, and keeps each closed cut below it
+-- lowering one hart that an edge forbids makes the bound less, and keeps each closed cut below it, so that what is the
+-- greatest there is the greatest below the bound
 pub record IsLowering (edges : List Edge) (bound : ℕ → ℕ) (e : Edge) : Type 0 where
   pub less : lowered bound e e.hart < bound e.hart
   pub below : IsWithin (lowered bound e) bound
   pub keeps : (cut : ℕ → ℕ) → IsClosed edges cut → IsWithin cut bound → IsWithin cut (lowered bound e)
+  pub greatest : (cut : ℕ → ℕ) → IsGreatest edges (lowered bound e) cut → IsGreatest edges bound cut
 
--- so whoever lowers one hart after another until no edge is broken has the greatest
+-- this holds for each edge that is broken, so lowering until none is leads to the greatest
 abbrev pub LoweringKeeps : Type 0
 LoweringKeeps =
     (edges : List Edge) (bound : ℕ → ℕ) (e : Edge) → Contains edges e → IsBroken bound e → IsLowering edges bound e
