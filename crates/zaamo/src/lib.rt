@@ -7,14 +7,23 @@ ghost use Rattle.zaamo.specs.Amo.{amo_result};
 /// Which atomic memory operation: how the new word is made.
 #[derive(Clone, Copy, Debug, PartialEq, Eq)]
 pub enum AmoOp {
+    /// AMOADD.W.
     Add,
+    /// AMOSWAP.W.
     Swap,
+    /// AMOXOR.W.
     Xor,
+    /// AMOAND.W.
     And,
+    /// AMOOR.W.
     Or,
+    /// AMOMIN.W: the less of two signed words.
     Min,
+    /// AMOMAX.W: the greater of two signed words.
     Max,
+    /// AMOMINU.W.
     MinUnsigned,
+    /// AMOMAXU.W.
     MaxUnsigned,
 }
 
