@@ -1,11 +1,11 @@
 // The words of the instructions.
 ghost use Rattle.std.specs.Prelude.{◌≡◌, ◌^◌, ◌<◌, ◌+◌, Some};
 ghost use Rattle.rv32_isa.specs.Fields.{opcode as opcode_of, rd as rd_of, rs1 as rs1_of, rs2 as rs2_of, funct3 as funct3_of, funct7 as funct7_of, imm_i, imm_s, imm_b, IsSignExtended, IsEven};
-ghost use Rattle.rv32_isa.specs.Decode.{comparison_of, load_of, store_of, imm_op_of, shift_of, reg_op_of, amo_of, op_at, system_at, amo_at, decode_of};
+ghost use Rattle.rv32_isa.specs.Decode.{comparison_of, load_of, store_of, imm_op_of, shift_of, reg_op_of, amo_of, branch_at, op_imm_at, op_at, system_at, amo_at, decode_of};
 ghost use Rattle.rv32_isa.specs.Encode.{comparison_code, load_code, store_code, imm_op_code, csr_op_code, shift_code, shift_funct7, reg_op_code, reg_op_funct7, amo_code, r_form, i_form, s_form, b_form, u_form, j_form, encoding};
 
 use super::instruction::{Comparison, CsrOp, ImmOp, Instr, LoadKind, RegOp, ShiftOp, StoreKind};
-use super::operands::{CsrNumber, Reg, Uimm5, UpperImm};
+use super::operands::{BranchOffset, CsrNumber, Reg, ShiftAmount, Uimm5, UpperImm};
 use zaamo::AmoOp;
 
 fn code_of_comparison(comparison: Comparison) -> u32
@@ -261,6 +261,35 @@ fn j_word(imm: u32, rd: Reg, opcode: u32) -> u32
         + opcode
 }
 
+fn branch_word(comparison: Comparison, rs1: Reg, rs2: Reg, offset: BranchOffset) -> u32
+    ensures value { result ≡ encoding (Instr.Branch comparison rs1 rs2 offset) }
+    ensures opcode { opcode_of result ≡ 0b1100011 }
+    ensures row { branch_at result ≡ Some (Instr.Branch comparison rs1 rs2 offset) }
+{
+    b_word(
+        offset.word(),
+        rs2,
+        rs1,
+        code_of_comparison(comparison),
+        0b1100011,
+    )
+}
+
+fn shift_word(op: ShiftOp, rd: Reg, rs1: Reg, amount: ShiftAmount) -> u32
+    ensures value { result ≡ encoding (Instr.ShiftImm op rd rs1 amount) }
+    ensures opcode { opcode_of result ≡ 0b0010011 }
+    ensures row { op_imm_at result ≡ Some (Instr.ShiftImm op rd rs1 amount) }
+{
+    r_word(
+        funct7_of_shift(op),
+        amount.places(),
+        rs1,
+        code_of_shift(op),
+        rd,
+        0b0010011,
+    )
+}
+
 fn op_word(op: RegOp, rd: Reg, rs1: Reg, rs2: Reg) -> u32
     ensures value { result ≡ encoding (Instr.Op op rd rs1 rs2) }
     ensures opcode { opcode_of result ≡ 0b0110011 }
@@ -335,15 +364,7 @@ pub fn encode(instr: Instr) -> u32
             rs1,
             rs2,
             offset,
-        } => {
-            b_word(
-                offset.word(),
-                rs2,
-                rs1,
-                code_of_comparison(comparison),
-                0b1100011,
-            )
-        }
+        } => branch_word(comparison, rs1, rs2, offset),
         Instr::Load { kind, rd, rs1, imm } => {
             i_word(imm.word(), rs1.number(), code_of_load(kind), rd, 0b0000011)
         }
@@ -361,16 +382,7 @@ pub fn encode(instr: Instr) -> u32
             rd,
             rs1,
             amount,
-        } => {
-            r_word(
-                funct7_of_shift(op),
-                amount.places(),
-                rs1,
-                code_of_shift(op),
-                rd,
-                0b0010011,
-            )
-        }
+        } => shift_word(op, rd, rs1, amount),
         Instr::Op { op, rd, rs1, rs2 } => op_word(op, rd, rs1, rs2),
         Instr::Fence => 0x0000_000f,
         Instr::Ecall => 0x0000_0073,
