@@ -1,2 +1,6 @@
 pub mod LineFacts
 pub mod OneFault
+pub mod BootFacts
+pub mod MachineFacts
+pub mod RamFacts
+pub mod TextFacts

@@ -1,1 +1,3 @@
 pub mod Image
+pub mod Machine
+pub mod Text

@@ -4,6 +4,11 @@
 mod fault;
 mod image;
 mod lines;
+mod machine;
+mod page;
+mod text;
 
 pub use fault::ImageFault;
 pub use image::{Image, read_image};
+pub use machine::Machine;
+pub use page::Page;

@@ -1,0 +1,78 @@
+-- What every machine keeps.
+use Rattle.std.proofs.Common.{◌≡◌, ℕ, zero, suc, ◌+◌, ◌-◌, ◌*◌, ◌≤◌, List, [], ◌∷◌, length, take, drop, map, replicate, slice_set, refl, ap, arith, length-append, length-set}
+use Rattle.std.specs.List.{flat_map, range_with_len, AllByRecursion}
+use Rattle.std.proofs.lemmas.List.{length-replicate}
+use Rattle.std.proofs.lemmas.Grind.{common_steps}
+use Rattle.guest_image.specs.Image.{ImageContents, Fits}
+use Rattle.rv32_hart.specs.Hart.{Hart, boot_hart}
+use Rattle.guest_image.specs.Machine.{AreInPlace, IsMachine, word_bytes, page_with, pages_with, boot_harts, boot_machine}
+
+-- ---- at the start
+
+boot_in_place : (harts place n : ℕ) → AreInPlace harts place (map (boot_hart harts) (range_with_len place n))
+unfolding boot_hart
+boot_in_place harts place zero = tt
+boot_in_place harts place (suc n) = (refl, refl, boot_in_place harts (place + 1) n)
+
+boot_count : (harts place n : ℕ) → length (map (boot_hart harts) (range_with_len place n)) ≡ n
+boot_count harts place zero = refl
+boot_count harts place (suc n) = ap suc (boot_count harts (place + 1) n)
+
+bytes_size : (ws : List ℕ) → length (flat_map word_bytes ws) ≡ 4 * length ws
+bytes_size [] = refl
+bytes_size (w ∷ ws) = omega (arith, bytes_size ws)
+
+page_size : (ws : List ℕ) → length ws ≤ 1024 → length (page_with ws) ≡ 4096
+unfolding page_with
+page_size ws h =
+    omega (
+      arith,
+      length-append (flat_map word_bytes ws) (replicate (4096 - 4 * length ws) 0),
+      bytes_size ws,
+      length-replicate {A = ℕ} (4096 - 4 * length ws) 0,
+    )
+
+taken : (n : ℕ) (xs : List ℕ) → length (take n xs) ≤ n
+taken n xs = grind (arith, common_steps)
+
+pages_count : (n : ℕ) (ws : List ℕ) → length (pages_with n ws) ≡ n
+unfolding pages_with
+pages_count zero ws = refl
+pages_count (suc n) ws = ap suc (pages_count n (drop 1024 ws))
+
+pages_sizes : (n : ℕ) (ws : List ℕ) → AllByRecursion (λ page. length page ≡ 4096) (pages_with n ws)
+unfolding pages_with
+pages_sizes zero ws = tt
+pages_sizes (suc n) ws = (page_size (take 1024 ws) (taken 1024 ws), pages_sizes n (drop 1024 ws))
+
+pub boot_whole : (i : ImageContents) → Fits i → IsMachine (boot_machine i)
+boot_whole i fits =
+    let harts : length (boot_harts i.harts) ≡ i.harts = boot_count i.harts 0 i.harts in
+    let pages : length (pages_with i.pages i.words) ≡ i.pages = pages_count i.pages i.words in
+    record {
+      some_harts = omega (arith, fits.some_harts);
+      harts = omega (arith, fits.harts);
+      places = rw harts (boot_in_place i.harts 0 i.harts);
+      some_pages = omega (arith, fits.some_pages);
+      pages = omega (arith, fits.pages);
+      bytes = pages_sizes i.pages i.words;
+    }
+
+-- ---- a hart is put in its place
+
+set_in_place : (harts place i : ℕ) (hs : List Hart) (h : Hart) → h.number ≡ place + i → h.harts ≡ harts → AreInPlace harts place hs → AreInPlace harts place (slice_set hs i h)
+set_in_place harts place i [] h e f p = tt
+set_in_place harts place zero (x ∷ hs) h e f p = (omega arith, f, p.2)
+set_in_place harts place (suc i) (x ∷ hs) h e f p = (p.0, p.1, set_in_place harts (place + 1) i hs h (omega arith) f p.2)
+
+pub whole_with_hart : (hs : List Hart) (ps : List (List ℕ)) (i : ℕ) (h : Hart) → h.number ≡ i → h.harts ≡ length hs → IsMachine (record { harts = hs; pages = ps }) → IsMachine (record { harts = slice_set hs i h; pages = ps })
+whole_with_hart hs ps i h e f p =
+    let size : length (slice_set hs i h) ≡ length hs = length-set hs i h in
+    record {
+      some_harts = omega (arith, p.some_harts);
+      harts = omega (arith, p.harts);
+      places = rw size (set_in_place (length hs) 0 i hs h (omega arith) f p.places);
+      some_pages = p.some_pages;
+      pages = p.pages;
+      bytes = p.bytes;
+    }

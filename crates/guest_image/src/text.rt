@@ -1,0 +1,229 @@
+//! The text of a machine.
+
+ghost use Rattle.std.specs.Prelude.{◌≡◌, ℕ, ◌+◌, ◌*◌, ◌^◌, ◌<◌, ◌≤◌, ◌++◌, length, drop};
+ghost use Rattle.ft_types.specs.Devices.{Writes};
+ghost use Rattle.guest_image.specs.Text.{numbered, status, spaced, hart_line, csr_line, device_line, register_line, output_line, count_line, rung_name, heard_name, hart_lines, bell_lines, hart_tables, hart_text, ram_line};
+ghost use Rattle.guest_image.specs.Machine.{words_of};
+
+use ft_types::{Failed, LineBuffer, Sink};
+use rv32_hart::HartState;
+
+fn status_text(halted: bool) -> &'static [u8]
+    ensures text { result.now ≡ status halted }
+    ensures short { length result.now ≤ 8 }
+{
+    if halted { b" halted" } else { b" running" }
+}
+
+#[tactic(auto, unfolding(crate::specs::Text::hart_line))]
+fn write_hart_line<W: Sink>(hart: &HartState, out: &mut W) -> Result<(), Failed>
+    ensures { Writes result (W.bytes out.old) (W.bytes out.new) (W.failures out.old) (W.failures out.new) (hart_line hart.now) }
+{
+    let mut text = LineBuffer::new();
+    text.push(b"hart ");
+    text.push_number(u64::from(hart.number().number()));
+    text.push(b" count ");
+    text.push_number(hart.count());
+    text.push(b" pc ");
+    text.push_word(hart.pc());
+    text.push(status_text(hart.is_halted()));
+    text.write(out)
+}
+
+fn push_words(text: &mut LineBuffer, words: &[u32])
+    requires { length text.old + 9 * length words.now < 96 }
+    ensures text { text.new ≡ text.old ++ spaced words.now }
+    ensures length { length text.new ≡ length text.old + 9 * length words.now }
+{
+    for word in words {
+        text.push(b" ");
+        text.push_word(*word);
+    }
+}
+
+#[tactic(auto, unfolding(crate::specs::Text::csr_line))]
+fn write_csr_line<W: Sink>(hart: &HartState, out: &mut W) -> Result<(), Failed>
+    ensures { Writes result (W.bytes out.old) (W.bytes out.new) (W.failures out.old) (W.failures out.new) (csr_line hart.now) }
+{
+    let mut text = LineBuffer::new();
+    text.push(b"csr");
+    let words = hart.csr_words();
+    push_words(&mut text, &words);
+    text.write(out)
+}
+
+#[tactic(auto, unfolding(crate::specs::Text::device_line))]
+fn write_device_line<W: Sink>(hart: &HartState, out: &mut W) -> Result<(), Failed>
+    ensures { Writes result (W.bytes out.old) (W.bytes out.new) (W.failures out.old) (W.failures out.new) (device_line hart.now) }
+{
+    let mut text = LineBuffer::new();
+    text.push(b"dev");
+    let words = hart.device_words();
+    push_words(&mut text, &words);
+    text.write(out)
+}
+
+#[tactic(auto, unfolding(crate::specs::Text::register_line))]
+fn write_register<W: Sink>(number: usize, value: u32, out: &mut W) -> Result<(), Failed>
+    ensures { Writes result (W.bytes out.old) (W.bytes out.new) (W.failures out.old) (W.failures out.new) (register_line number value) }
+{
+    let mut text = LineBuffer::new();
+    if value == 0 {
+        return Ok(());
+    }
+    text.push(b"x");
+    text.push_number(number as u64);
+    text.push(b" ");
+    text.push_word(value);
+    text.write(out)
+}
+
+#[tactic(auto, unfolding(crate::specs::Text::output_line))]
+fn write_output<W: Sink>(number: usize, output: (u64, u32), out: &mut W) -> Result<(), Failed>
+    ensures { Writes result (W.bytes out.old) (W.bytes out.new) (W.failures out.old) (W.failures out.new) (output_line number output) }
+{
+    let mut text = LineBuffer::new();
+    text.push(b"out ");
+    text.push_number(number as u64);
+    text.push(b" step ");
+    text.push_number(output.0);
+    text.push(b" word ");
+    text.push_word(output.1);
+    text.write(out)
+}
+
+#[tactic(auto, unfolding(crate::specs::Text::count_line))]
+fn write_count<W: Sink>(name: &[u8], number: usize, value: u64, out: &mut W) -> Result<(), Failed>
+    requires { length name.now ≤ 10 }
+    ensures { Writes result (W.bytes out.old) (W.bytes out.new) (W.failures out.old) (W.failures out.new) (count_line name.now number value) }
+{
+    if value == 0 {
+        return Ok(());
+    }
+    let mut text = LineBuffer::new();
+    text.push(name);
+    text.push_number(number as u64);
+    text.push(b" ");
+    text.push_number(value);
+    text.write(out)
+}
+
+#[tactic(auto, unfolding(crate::specs::Text::ram_line))]
+fn write_ram_word<W: Sink>(number: u32, value: u32, out: &mut W) -> Result<(), Failed>
+    requires { number < 2 ^ 20 }
+    ensures { Writes result (W.bytes out.old) (W.bytes out.new) (W.failures out.old) (W.failures out.new) (ram_line number value) }
+{
+    if value == 0 {
+        return Ok(());
+    }
+    let mut text = LineBuffer::new();
+    text.push_word(0x8000_0000 + number * 4);
+    text.push(b" ");
+    text.push_word(value);
+    text.write(out)
+}
+
+fn write_registers<W: Sink>(first: usize, values: &[u32], out: &mut W) -> Result<(), Failed>
+    requires { first + length values.now < 2 ^ 32 }
+    ensures { Writes result (W.bytes out.old) (W.bytes out.new) (W.failures out.old) (W.failures out.new) (numbered register_line first values.now) }
+{
+    for (i, value) in values.iter().enumerate() {
+        write_register(first + i, *value, out)?;
+    }
+    Ok(())
+}
+
+fn write_outputs<W: Sink>(outputs: &[(u64, u32)], out: &mut W) -> Result<(), Failed>
+    ensures { Writes result (W.bytes out.old) (W.bytes out.new) (W.failures out.old) (W.failures out.new) (numbered output_line 0 outputs.now) }
+{
+    for (i, output) in outputs.iter().enumerate() {
+        write_output(i, *output, out)?;
+    }
+    Ok(())
+}
+
+fn write_counts<W: Sink>(name: &[u8], counts: &[u64], out: &mut W) -> Result<(), Failed>
+    requires { length name.now ≤ 10 }
+    ensures { Writes result (W.bytes out.old) (W.bytes out.new) (W.failures out.old) (W.failures out.new) (numbered (count_line name.now) 0 counts.now) }
+{
+    for (i, count) in counts.iter().enumerate() {
+        write_count(name, i, *count, out)?;
+    }
+    Ok(())
+}
+
+fn write_hart_registers<W: Sink>(hart: &HartState, out: &mut W) -> Result<(), Failed>
+    ensures { Writes result (W.bytes out.old) (W.bytes out.new) (W.failures out.old) (W.failures out.new) (numbered register_line 1 (drop 1 hart.now.registers)) }
+{
+    write_registers(1, hart.registers(), out)
+}
+
+fn write_hart_outputs<W: Sink>(hart: &HartState, out: &mut W) -> Result<(), Failed>
+    ensures { Writes result (W.bytes out.old) (W.bytes out.new) (W.failures out.old) (W.failures out.new) (numbered output_line 0 hart.now.outputs) }
+{
+    write_outputs(hart.outputs(), out)
+}
+
+fn write_hart_rung<W: Sink>(hart: &HartState, out: &mut W) -> Result<(), Failed>
+    ensures { Writes result (W.bytes out.old) (W.bytes out.new) (W.failures out.old) (W.failures out.new) (numbered (count_line rung_name) 0 hart.now.rung) }
+{
+    write_counts(b"rung ", hart.rung(), out)
+}
+
+fn write_hart_heard<W: Sink>(hart: &HartState, out: &mut W) -> Result<(), Failed>
+    ensures { Writes result (W.bytes out.old) (W.bytes out.new) (W.failures out.old) (W.failures out.new) (numbered (count_line heard_name) 0 hart.now.received.heard) }
+{
+    write_counts(b"heard ", hart.heard(), out)
+}
+
+#[tactic(auto, unfolding(crate::specs::Text::hart_lines))]
+fn write_hart_lines<W: Sink>(hart: &HartState, out: &mut W) -> Result<(), Failed>
+    ensures { Writes result (W.bytes out.old) (W.bytes out.new) (W.failures out.old) (W.failures out.new) (hart_lines hart.now) }
+{
+    write_hart_line(hart, out)?;
+    write_csr_line(hart, out)?;
+    write_device_line(hart, out)
+}
+
+#[tactic(auto, unfolding(crate::specs::Text::bell_lines))]
+fn write_bell_lines<W: Sink>(hart: &HartState, out: &mut W) -> Result<(), Failed>
+    ensures { Writes result (W.bytes out.old) (W.bytes out.new) (W.failures out.old) (W.failures out.new) (bell_lines hart.now) }
+{
+    write_hart_rung(hart, out)?;
+    write_hart_heard(hart, out)
+}
+
+#[tactic(auto, unfolding(crate::specs::Text::hart_tables))]
+fn write_hart_tables<W: Sink>(hart: &HartState, out: &mut W) -> Result<(), Failed>
+    ensures { Writes result (W.bytes out.old) (W.bytes out.new) (W.failures out.old) (W.failures out.new) (hart_tables hart.now) }
+{
+    write_hart_registers(hart, out)?;
+    write_hart_outputs(hart, out)?;
+    write_bell_lines(hart, out)
+}
+
+/// Writes the text of a hart.
+#[tactic(auto, unfolding(crate::specs::Text::hart_text))]
+pub(crate) fn write_hart<W: Sink>(hart: &HartState, out: &mut W) -> Result<(), Failed>
+    ensures { Writes result (W.bytes out.old) (W.bytes out.new) (W.failures out.old) (W.failures out.new) (hart_text hart.now) }
+{
+    write_hart_lines(hart, out)?;
+    write_hart_tables(hart, out)
+}
+
+/// Writes the lines of a page's words.
+pub(crate) fn write_page<W: Sink>(number: u32, bytes: &[u8], out: &mut W) -> Result<(), Failed>
+    requires number { number < 64 }
+    requires size { length bytes.now ≤ 4096 }
+    ensures { Writes result (W.bytes out.old) (W.bytes out.new) (W.failures out.old) (W.failures out.new) (numbered ram_line (number * 1024) (words_of bytes.now)) }
+{
+    let mut rest = bytes;
+    let mut place = number * 1024;
+    while rest.len() >= 4 {
+        let value = u32::from_le_bytes([rest[0], rest[1], rest[2], rest[3]]);
+        write_ram_word(place, value, out)?;
+        rest = &rest[4..];
+        place += 1;
+    }
+    Ok(())
+}
