@@ -12,10 +12,11 @@ use Rattle.input_log.specs.declared.Input.{Input as HartInput}
 use Rattle.input_log.specs.declared.Input.TheVariants.{Timer, Word, Bell}
 use Rattle.fragment_codec.specs.declared.types.Record.{Record}
 use Rattle.fragment_codec.specs.declared.types.Record.TheVariants.{Edge as EdgeRecord, Input as InputRecord}
-use Rattle.fragment_codec.specs.Frames.{FragmentParts, OpeningParts, IsFragment, IsOpening, FitsGuest, is_fragment, is_opening, log_body, opening_body, IsBytes, FitsInput, FitsRecord, number, input_bytes, record_bytes}
+use Rattle.fragment_codec.specs.Rules.{FragmentParts, OpeningParts, IsFragment, IsOpening}
+use Rattle.fragment_codec.specs.Spelling.{log_body, opening_body, number, input_bytes, record_bytes}
 use Rattle.fragment_codec.specs.Reading.{◌>>=◌, number_at, byte_at, digest_at, input_of, edge_at, heard_at, record_at, many, place_at, rest_of, log_of, opening_of}
-use Rattle.fragment_codec.proofs.Rules.{is_fragment-len, is_opening-harts}
-use Rattle.fragment_codec.proofs.Fields.{bind_some, chosen_some, chosen, some_is, Reads, reads_byte, reads_digest, reads16, reads32, reads64, one, many_all, many_again}
+use Rattle.fragment_codec.proofs.Rules.{FitsInput, FitsRecord, records_fit, counts_fit}
+use Rattle.fragment_codec.proofs.Fields.{IsBytes, bind_some, chosen_some, chosen, some_is, Reads, reads_byte, reads_digest, reads16, reads32, reads64, one, many_all, many_again}
 
 input_of_is : (kind value : ℕ) (i : HartInput) → value < 2 ^ 32 → input_of kind value ≡ Some i → (kind ∷ number w32 value ≡ input_bytes i) × FitsInput i
 unfolding input_of input_bytes
@@ -121,16 +122,9 @@ guard_then false o y e = (refl, e)
 many_whole : {X : Type 0} (item : List ℕ → Option (X × List ℕ)) (text : X → List ℕ) (Fits : X → Type 0) (r : Reads item text Fits) (xs : List X) → AllByRecursion Fits xs → many item (length xs) (flat_map text xs) ≡ Some (xs, [])
 many_whole item text Fits r xs h = ap (many item (length xs)) (sym (append-nil (flat_map text xs))) ∙ many_again item text Fits r xs [] h
 
-pub record FitsKey (k : Key) : Type 0 where
-  pub hart : k.hart < 8
-  pub term : k.term < 2 ^ 32
-  pub place : k.place < 2 ^ 32
-
 pub record GotPlace (bytes : List ℕ) (g : Guest) (k : Key) (rest : List ℕ) : Type 0 where
   pub parts : bytes ≡ g.digest ++ (g.harts ∷ k.hart ∷ (number w32 k.term ++ (number w32 k.place ++ rest)))
   pub rest_fits : IsBytes rest
-  pub guest : FitsGuest g
-  pub key : FitsKey k
 
 place_all : (bytes : List ℕ) (x : Guest × Key × List ℕ) → IsBytes bytes → place_at bytes ≡ Some x → GotPlace bytes x.0 x.1 x.2
 unfolding place_at
@@ -144,7 +138,6 @@ place_all bytes x fits e =
     let fh = reads_byte.rest d.0.1 h.0.0 h.0.1 fd h.1 in
     let fk = reads_byte.rest h.0.1 k.0.0 k.0.1 fh k.1 in
     let ft = reads32.rest k.0.1 t.0.0 t.0.1 fk t.1 in
-    let fd0 = reads_digest.fits bytes d.0.0 d.0.1 fits d.1 in
     let made : Guest × Key × List ℕ = (record { digest = d.0.0; harts = h.0.0 }, record { term = t.0.0; hart = k.0.0; place = p.0.0 }, p.0.1) in
     let g = chosen_some (ltb k.0.0 8) (Some made) x p.2 in
     subst (λ (y : Guest × Key × List ℕ). GotPlace bytes y.0 y.1 y.2) (some_is made x g.1) (record {
@@ -154,11 +147,9 @@ place_all bytes x fits e =
           reads32.parts k.0.1 t.0.0 t.0.1 fk t.1 ∙ ap (λ (x : List ℕ). number w32 t.0.0 ++ x) (
           reads32.parts t.0.1 p.0.0 p.0.1 ft p.1))));
       rest_fits = reads32.rest t.0.1 p.0.0 p.0.1 ft p.1;
-      guest = record { len = fd0.len; bytes = fd0.bytes; harts = reads_byte.fits d.0.1 h.0.0 h.0.1 fd h.1 };
-      key = record { hart = ltb-true k.0.0 8 g.0; term = reads32.fits k.0.1 t.0.0 t.0.1 fk t.1; place = reads32.fits t.0.1 p.0.0 p.0.1 ft p.1 };
     })
 
-pub log_all : (bytes : List ℕ) (f : FragmentParts) → IsBytes bytes → log_of bytes ≡ Some f → (bytes ≡ log_body f) × IsFragment f
+pub log_all : (bytes : List ℕ) (f : FragmentParts) → IsBytes bytes → log_of bytes ≡ Some f → bytes ≡ log_body f
 unfolding log_of rest_of log_body
 log_all bytes f fits e =
     let q = bind_some (place_at bytes) _ f e in
@@ -167,8 +158,7 @@ log_all bytes f fits e =
     let n = bind_some (number_at w16 z.0.1) _ f z.2 in
     let r = bind_some (many (record_at q.0.1.hart) n.0.0 n.0.1) _ f n.2 in
     let parts : FragmentParts = record { guest = q.0.0; key = q.0.1; from = a.0.0; to = z.0.0; records = r.0.0 } in
-    let g0 = chosen_some (eqb (length r.0.1) 0) _ f r.2 in
-    let g1 = chosen_some (is_fragment parts) (Some parts) f g0.1 in
+    let g0 = chosen_some (eqb (length r.0.1) 0) (Some parts) f r.2 in
     let g = place_all bytes q.0 fits q.1 in
     let fa = reads64.rest q.0.2 a.0.0 a.0.1 g.rest_fits a.1 in
     let fz = reads64.rest a.0.1 z.0.0 z.0.1 fa z.1 in
@@ -181,37 +171,25 @@ log_all bytes f fits e =
     reads64.parts a.0.1 z.0.0 z.0.1 fa z.1 ∙ ap (λ (x : List ℕ). number w64 z.0.0 ++ x) (
     reads16.parts z.0.1 n.0.0 n.0.1 fz n.1 ∙ ap (λ (x : List ℕ). number w16 n.0.0 ++ x) last ∙ ap (λ (q : ℕ). number w16 q ++ flat_map record_bytes r.0.0) (sym m.2))) in
     let whole : bytes ≡ log_body parts = g.parts ∙ ap (λ (x : List ℕ). q.0.0.digest ++ (q.0.0.harts ∷ q.0.1.hart ∷ (number w32 q.0.1.term ++ (number w32 q.0.1.place ++ x)))) inner in
-    subst (λ (y : FragmentParts). (bytes ≡ log_body y) × IsFragment y) (some_is parts f g1.1) (
-      whole,
-      record {
-        right = g1.0;
-        guest = g.guest;
-        hart = g.key.hart;
-        term = g.key.term;
-        place = g.key.place;
-        from = reads64.fits q.0.2 a.0.0 a.0.1 g.rest_fits a.1;
-        to = reads64.fits a.0.1 z.0.0 z.0.1 fa z.1;
-        records = m.3;
-      },
-    )
+    subst (λ (y : FragmentParts). bytes ≡ log_body y) (some_is parts f g0.1) whole
 
 pub log_again : (f : FragmentParts) → IsFragment f → log_of (log_body f) ≡ Some f
 unfolding log_of rest_of log_body byte_at place_at
 log_again f h =
-    let len = is_fragment-len f h.right in
+    let limit = h.records.limit in
+    let hart : f.key.hart < 8 = omega (arith, h.key.hart, h.guest.limit) in
     rw (
-      reads_digest.again f.guest.digest _ (record { len = h.guest.len; bytes = h.guest.bytes }),
-      reads32.again f.key.term _ h.term,
-      reads32.again f.key.place _ h.place,
-      lt-ltb f.key.hart 8 h.hart,
-      reads64.again f.from _ h.from,
-      reads64.again f.to _ h.to,
-      reads16.again (length f.records) _ (omega (arith, len)),
-      many_whole (record_at f.key.hart) record_bytes (FitsRecord f.key.hart) (reads_record f.key.hart) f.records h.records,
-      h.right,
+      reads_digest.again f.guest.digest _ h.guest.digest,
+      reads32.again f.key.term _ h.key.term,
+      reads32.again f.key.place _ h.key.place,
+      lt-ltb f.key.hart 8 hart,
+      reads64.again f.from _ (omega (arith, h.some, h.end)),
+      reads64.again f.to _ (omega (arith, h.end)),
+      reads16.again (length f.records) _ (omega (arith, limit)),
+      many_whole (record_at f.key.hart) record_bytes (FitsRecord f.key.hart) (reads_record f.key.hart) f.records (records_fit f h),
     ) refl
 
-pub opening_all : (bytes : List ℕ) (o : OpeningParts) → IsBytes bytes → opening_of bytes ≡ Some o → (bytes ≡ opening_body o) × IsOpening o
+pub opening_all : (bytes : List ℕ) (o : OpeningParts) → IsBytes bytes → opening_of bytes ≡ Some o → bytes ≡ opening_body o
 unfolding opening_of opening_body
 opening_all bytes o fits e =
     let d = bind_some (digest_at bytes) _ o e in
@@ -226,8 +204,7 @@ opening_all bytes o fits e =
       parent = p.0.0;
       base = r.0.0;
     } in
-    let g0 = chosen_some (eqb (length r.0.1) 0) _ o r.2 in
-    let g1 = chosen_some (is_opening parts) (Some parts) o g0.1 in
+    let g0 = chosen_some (eqb (length r.0.1) 0) (Some parts) o r.2 in
     let fd = reads_digest.rest bytes d.0.0 d.0.1 fits d.1 in
     let fh = reads_byte.rest d.0.1 h.0.0 h.0.1 fd h.1 in
     let ft = reads32.rest h.0.1 t.0.0 t.0.1 fh t.1 in
@@ -235,27 +212,16 @@ opening_all bytes o fits e =
     let m = many_all (number_at w64) (number w64) (λ n. n < 2 ^ 64) reads64 h.0.0 p.0.1 r.0.0 r.0.1 fp r.1 in
     let nothing : r.0.1 ≡ [] = nil_from_length r.0.1 (eqb-true _ _ g0.0) in
     let last : p.0.1 ≡ flat_map (number w64) r.0.0 = m.0 ∙ ap (λ (x : List ℕ). flat_map (number w64) r.0.0 ++ x) nothing ∙ append-nil (flat_map (number w64) r.0.0) in
-    let fd0 = reads_digest.fits bytes d.0.0 d.0.1 fits d.1 in
     let whole : bytes ≡ opening_body parts =
     reads_digest.parts bytes d.0.0 d.0.1 fits d.1 ∙ ap (λ (x : List ℕ). d.0.0 ++ x) (
     reads_byte.parts d.0.1 h.0.0 h.0.1 fd h.1 ∙ ap (λ (x : List ℕ). h.0.0 ∷ x) (
     reads32.parts h.0.1 t.0.0 t.0.1 fh t.1 ∙ ap (λ (x : List ℕ). number w32 t.0.0 ++ x) (
     reads32.parts t.0.1 p.0.0 p.0.1 ft p.1 ∙ ap (λ (x : List ℕ). number w32 p.0.0 ++ x) last))) in
-    subst (λ (y : OpeningParts). (bytes ≡ opening_body y) × IsOpening y) (some_is parts o g1.1) (
-      whole,
-      record {
-        right = g1.0;
-        guest = record { len = fd0.len; bytes = fd0.bytes; harts = reads_byte.fits d.0.1 h.0.0 h.0.1 fd h.1 };
-        term = reads32.fits h.0.1 t.0.0 t.0.1 fh t.1;
-        parent = reads32.fits t.0.1 p.0.0 p.0.1 ft p.1;
-        base = m.3;
-      },
-    )
+    subst (λ (y : OpeningParts). bytes ≡ opening_body y) (some_is parts o g0.1) whole
 
 pub opening_again : (o : OpeningParts) → IsOpening o → opening_of (opening_body o) ≡ Some o
 unfolding opening_of opening_body byte_at
 opening_again o h =
-    let harts = is_opening-harts o h.right in
-    let low : ltb 8 o.guest.harts ≡ false = le-ltb 8 o.guest.harts harts.0 in
-    let base : many (number_at w64) o.guest.harts (flat_map (number w64) o.base) ≡ Some (o.base, []) = ap (λ (n : ℕ). many (number_at w64) n (flat_map (number w64) o.base)) (sym harts.1) ∙ many_whole (number_at w64) (number w64) (λ n. n < 2 ^ 64) reads64 o.base h.base in
-    rw (reads_digest.again o.guest.digest _ (record { len = h.guest.len; bytes = h.guest.bytes }), reads32.again o.term _ h.term, reads32.again o.parent _ h.parent, low, base, h.right) refl
+    let low : ltb 8 o.guest.harts ≡ false = le-ltb 8 o.guest.harts h.guest.limit in
+    let base : many (number_at w64) o.guest.harts (flat_map (number w64) o.base) ≡ Some (o.base, []) = ap (λ (n : ℕ). many (number_at w64) n (flat_map (number w64) o.base)) (sym h.base) ∙ many_whole (number_at w64) (number w64) (λ n. n < 2 ^ 64) reads64 o.base (counts_fit o h) in
+    rw (reads_digest.again o.guest.digest _ h.guest.digest, reads32.again o.term _ h.term, reads32.again o.parent _ (omega (arith, h.parent, h.term)), low, base) refl

@@ -1,18 +1,17 @@
 -- A field that is read is the field that was written, and what was written is read again.
-use Rattle.std.proofs.Common.{◌≡◌, ℕ, zero, suc, ◌+◌, ◌^◌, ◌<◌, ◌≤◌, Bool, true, false, cond, ltb, eqb, List, [], ◌∷◌, ◌++◌, length, get_or, take, drop, Option, Some, None, refl, sym, ap, subst, ◌∙◌, append_assoc, arith, inl, inr, ◌⊎◌}
+use Rattle.std.proofs.Common.{◌≡◌, ℕ, zero, suc, ◌+◌, ◌^◌, ◌<◌, ◌≤◌, Bool, true, false, cond, ltb, eqb, List, [], ◌∷◌, ◌++◌, length, get_or, slice_index, take, drop, Option, Some, None, refl, sym, ap, subst, ◌∙◌, append_assoc, arith, inl, inr, ◌⊎◌}
 use Rattle.std.specs.Int.{Width, w16, w32, w64, byte_len, from_le_bytes, to_le_bytes}
 use Rattle.std.specs.List.{flat_map, AllByRecursion}
 use Rattle.std.proofs.lemmas.Bool.{cases_lt, ltb-false, le-ltb, ltb-true, lt-ltb, eqb-true, eqb-false, eq-eqb}
 use Rattle.std.proofs.lemmas.List.{take_at, drop_at, take-append-drop, length-append, length-take, get_or-drop, get_or-take, get_or_past, append-nil}
 use Rattle.std.proofs.lemmas.List.Concat.{flat_map-cons}
 use Rattle.std.proofs.lemmas.Nat.{le_bytes_2, le_bytes_4, le_bytes_8, from_le_bytes-to_le_bytes_2, from_le_bytes-to_le_bytes_4, from_le_bytes-to_le_bytes_8}
-use Rattle.edge_log.specs.declared.Edge.{Edge}
-use Rattle.input_log.specs.declared.Input.{Input as HartInput}
-use Rattle.input_log.specs.declared.Input.TheVariants.{Timer, Word, Bell}
-use Rattle.fragment_codec.specs.declared.types.Record.{Record}
-use Rattle.fragment_codec.specs.declared.types.Record.TheVariants.{Edge as EdgeRecord, Input as InputRecord}
-use Rattle.fragment_codec.specs.Frames.{IsBytes, FitsInput, FitsRecord, number, input_bytes, record_bytes}
-use Rattle.fragment_codec.specs.Reading.{◌>>=◌, number_at, byte_at, digest_at, input_of, edge_at, heard_at, record_at, many}
+use Rattle.fragment_codec.specs.Rules.{IsDigest}
+use Rattle.fragment_codec.specs.Spelling.{number}
+use Rattle.fragment_codec.specs.Reading.{◌>>=◌, number_at, byte_at, digest_at, many}
+
+abbrev pub IsBytes : List ℕ → Type 0
+IsBytes bytes = (i : ℕ) → slice_index bytes i < 256
 
 pub IsBytes-drop : (n : ℕ) (bytes : List ℕ) → IsBytes bytes → IsBytes (drop n bytes)
 IsBytes-drop n bytes h i = rw get_or-drop (h (n + i))
@@ -154,10 +153,6 @@ reads_byte = record {
 }
 
 -- ---- digests
-
-pub record IsDigest (d : List ℕ) : Type 0 where
-  pub len : length d ≡ 32
-  pub bytes : IsBytes d
 
 digest_found : (bytes d rest : List ℕ) → digest_at bytes ≡ Some (d, rest) → (32 ≤ length bytes) × (take 32 bytes ≡ d) × (drop 32 bytes ≡ rest)
 unfolding digest_at

@@ -11,7 +11,8 @@ use Rattle.input_log.specs.declared.Input.{Input as HartInput}
 use Rattle.input_log.specs.declared.Input.TheVariants.{Timer, Word, Bell}
 use Rattle.fragment_codec.specs.declared.types.Record.{Record}
 use Rattle.fragment_codec.specs.declared.types.Record.TheVariants.{Edge as EdgeRecord, Input as InputRecord}
-use Rattle.fragment_codec.specs.Frames.{FragmentParts, OpeningParts, number, input_bytes, record_bytes, log_body, opening_body}
+use Rattle.fragment_codec.specs.Rules.{FragmentParts, OpeningParts}
+use Rattle.fragment_codec.specs.Spelling.{number, input_bytes, record_bytes, log_body, opening_body}
 
 pub four_parts : (out a b : List ℕ) (k o : ℕ) → (((out ++ k ∷ []) ++ a) ++ o ∷ []) ++ b ≡ out ++ (k ∷ (a ++ (o ∷ b)))
 four_parts out a b k o = simp append_assoc

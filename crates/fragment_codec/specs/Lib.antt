@@ -1,5 +1,7 @@
 pub mod Faults
-pub mod Frames
+pub mod Rules
+pub mod Slots
+pub mod Spelling
 pub mod Reading
 pub mod Streams
 pub mod Fronts

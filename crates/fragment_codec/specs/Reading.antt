@@ -7,9 +7,11 @@ use Rattle.input_log.specs.declared.Input.{Input as HartInput}
 use Rattle.input_log.specs.declared.Input.TheVariants.{Timer, Word, Bell}
 use Rattle.fragment_codec.specs.declared.types.Record.{Record}
 use Rattle.fragment_codec.specs.declared.types.Record.TheVariants.{Edge as EdgeRecord, Input as InputRecord}
+use Rattle.fragment_codec.specs.declared.frame.Frame.{Frame}
+use Rattle.fragment_codec.specs.declared.frame.Frame.TheVariants.{Log, Opening}
 use Rattle.fragment_codec.specs.declared.reading.BodyError.{BodyError}
 use Rattle.fragment_codec.specs.declared.reading.BodyError.TheVariants.{Memory, Broken}
-use Rattle.fragment_codec.specs.Frames.{FragmentParts, OpeningParts, is_fragment, is_opening}
+use Rattle.fragment_codec.specs.Rules.{FragmentParts, OpeningParts}
 
 infixl 10 ◌>>=◌
 abbrev pub ◌>>=◌ : {A B : Type 0} → Option A → (A → Option B) → Option B
@@ -24,6 +26,15 @@ Fails Broken read = read ≡ None
 abbrev pub Gives : {X Y : Type 0} → (X → Y) → Result X BodyError → Option Y → Type 0
 Gives view (Ok x) read = read ≡ Some (view x)
 Gives view (Err e) read = Fails e read
+
+-- what a function made of what reading gives: a value that keeps the rules, or a refusal where it keeps none or nothing was read
+abbrev pub Refuses : {X : Type 0} → (X → Type 0) → BodyError → Option X → Type 0
+Refuses Rules Memory read = Unit {0}
+Refuses {X} Rules Broken read = (x : X) → read ≡ Some x → Rules x → ⊥
+
+abbrev pub Makes : {X : Type 0} → (X → Type 0) → Result X BodyError → Option X → Type 0
+Makes Rules (Ok x) read = (read ≡ Some x) × Rules x
+Makes Rules (Err e) read = Refuses Rules e read
 
 -- A field is a value and the bytes after it.
 unfoldable pub number_at : Width → List ℕ → Option (ℕ × List ℕ)
@@ -88,8 +99,7 @@ rest_of guest key bytes = do
   to ← number_at w64 from.1
   count ← number_at w16 to.1
   records ← many (record_at key.hart) count.0 count.1
-  let parts : FragmentParts = record { guest = guest; key = key; from = from.0; to = to.0; records = records.0 } in
-      if length records.1 == 0 then (if is_fragment parts then Some parts else None) else None
+  if length records.1 == 0 then Some (record { guest = guest; key = key; from = from.0; to = to.0; records = records.0 }) else None
 
 -- the whole of a log body
 unfoldable pub log_of : List ℕ → Option FragmentParts
@@ -106,10 +116,13 @@ opening_of bytes = do
   parent ← number_at w32 term.1
   if nat_lt 8 harts.0 then None else (do
     base ← many (number_at w64) harts.0 parent.1
-    let parts : OpeningParts = record {
+    if length base.1 == 0 then Some (record {
       guest = record { digest = digest.0; harts = harts.0 };
       term = term.0;
       parent = parent.0;
       base = base.0;
-    } in
-        if length base.1 == 0 then (if is_opening parts then Some parts else None) else None)
+    }) else None)
+
+-- the whole of a body of this kind
+unfoldable pub frame_of : ℕ → List ℕ → Option Frame
+frame_of kind body = if kind == 1 then (log_of body >>= λ f. Some (Log f)) else (opening_of body >>= λ o. Some (Opening o))

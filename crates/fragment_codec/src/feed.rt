@@ -2,9 +2,9 @@
 
 ghost use Rattle.std.specs.Prelude.{◌≡◌, ◌≢◌, ◌↔◌, ◌⊎◌, ◌+◌, ◌-◌, ◌<◌, ◌≤◌, ◌++◌, ℕ, List, [], length, take, drop, slice_index, Option, Some, None, Ok, Err, IfOk, IfErr, OnOk, OnErr, IsTrue, IsOk, vec_capacity, min};
 ghost use Rattle.std.specs.List.{flat_map, AllByRecursion};
-ghost use Rattle.fragment_codec.specs.Reading.{Gives};
-ghost use Rattle.fragment_codec.specs.Streams.{spelling, IsFrame, is_other, is_body_len, head_of, IsWhole, HasDigest, IsPartial, HasFault, Splits, Unread, Keeps, Advances, frame_of};
-ghost use Rattle.fragment_codec.specs.Fronts.{IsFront};
+ghost use Rattle.fragment_codec.specs.Reading.{Makes, frame_of};
+ghost use Rattle.fragment_codec.specs.Streams.{spelling, IsFrame, is_other, is_body_len, head_of, IsWhole, HasDigest, IsPartial, HasFault, Splits, Unread, Keeps, Follows};
+ghost use Rattle.fragment_codec.specs.Fronts.{IsFront, Advances};
 
 use crate::fault::FrameFault;
 use crate::frame::Frame;
@@ -69,9 +69,9 @@ fn is_sealed(bytes: &[u8]) -> bool
     seal == digest.as_slice()
 }
 
-#[tactic(auto, unfolding(crate::specs::Streams::frame_of))]
+#[tactic(auto, unfolding(crate::specs::Reading::frame_of))]
 fn read_body(alloc: Global, kind: u8, body: &[u8]) -> Result<Frame, BodyError>
-    ensures { Gives (λ f. f) result (frame_of kind body.now) }
+    ensures { Makes IsFrame result (frame_of kind body.now) }
 {
     if kind == 1 {
         Ok(Frame::Log(read_log(alloc, body)?))
@@ -242,7 +242,8 @@ impl Model for Feed {
 impl Feed {
     /// A stream of which nothing has come.
     pub fn new(alloc: Global) -> Result<Feed, Memory>
-        ensures { IfOk result (λ feed. feed ≡ record { rest = []; fault = None }) }
+        ensures follows { IfOk result (λ feed. Follows [] [] feed) }
+        ensures sound { IfOk result (λ feed. feed.fault ≡ None) }
     {
         Ok(Feed {
             held: Vec::with_capacity(alloc, FRAME_LIMIT)?,
@@ -250,24 +251,24 @@ impl Feed {
         })
     }
 
-    /// Takes the next piece of the stream, and gives the frames that are whole now.
+    /// Takes the next piece of the stream, and gives the frames that it completes.
     pub fn push(&mut self, alloc: Global, piece: &[u8]) -> Result<Vec<Frame>, FrameFault>
-        // A stream that has met its fault answers it from then on.
-        ensures failed { (f : FrameFault) → self.old.fault ≡ Some f → (result ≡ Err f) × (self.new ≡ self.old) }
+        // The frames given so far are all whole right frames at the front of the stream so far, however it was cut.
+        ensures given { (stream : List ℕ) (given : List Frame) → Follows stream given self.old →
+            IfOk result (λ frames. Follows (stream ++ piece.now) (given ++ frames.items) self.new) }
 
-        // The frames given are those at the front, and all of them.
-        ensures ok { IfOk result (λ frames. Advances self.old.rest piece.now frames.items self.new.fault self.new.rest) }
-        ensures ok_only { OnOk result (self.old.fault ≡ None) }
-        ensures ok_fault { IfOk result (λ frames. self.new.fault ≢ None → frames.items ≢ []) }
+        // A fault is the stream's, and the piece completes no frame.
+        ensures fault { (stream : List ℕ) (given : List Frame) → Follows stream given self.old →
+            IfErr result (λ f. f ≢ FrameFault.Memory → Follows (stream ++ piece.now) given self.new) }
 
-        // A fault other than want of memory is the stream's, where no frame was completed.
-        ensures fault { IfErr result (λ f. f ≢ FrameFault.Memory → self.new.fault ≡ Some f) }
-        ensures found { IfErr result (λ f. f ≢ FrameFault.Memory → self.old.fault ≡ None → HasFault (self.old.rest ++ piece.now) f) }
+        // A fault is answered as soon as no frame is completed, and from then on always.
+        ensures for_good { (f : FrameFault) → (self.old.fault ≡ Some f → result ≡ Err f) × (result ≡ Err f → f ≢ FrameFault.Memory → self.new.fault ≡ Some f) }
+        ensures at_once { IfOk result (λ frames. frames.items ≡ [] → self.new.fault ≡ None) }
 
         // Want of memory changes nothing.
         ensures memory { IfErr result (λ f. f ≡ FrameFault.Memory → self.new ≡ self.old) }
 
-        // What is held back is no whole frame.
+        // What is held is less than a whole frame.
         ensures partial { self.new.fault ≡ None → IsPartial self.new.rest }
     {
         if let Some(fault) = self.fault {

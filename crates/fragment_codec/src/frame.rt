@@ -1,14 +1,16 @@
 //! A piece of a hart's log, and the opening of a term.
 
-ghost use Rattle.std.specs.Prelude.{◌≡◌, ℕ, ◌<◌, ◌≤◌, ◌^◌, if◌then◌else◌, Option, Some, None, length, List, true, Bool, drop, suc, max};
-ghost use Rattle.fragment_codec.specs.Frames.{FragmentParts, OpeningParts, is_fragment, is_opening, slot_after, are_right, is_source, all_counts, all_zero, count_of, free_slot, is_count};
+ghost use Rattle.std.specs.Prelude.{◌≡◌, ◌↔◌, ℕ, ◌<◌, ◌≤◌, Option, Some, None, length, List, All, IsTrue, IsSome, IfSome, IfOk};
+ghost use Rattle.fragment_codec.specs.Rules.{IsDigest, IsGuest, IsKey, AreRecords, FragmentParts, OpeningParts, IsFragment, IsOpening, count_of};
+ghost use Rattle.fragment_codec.specs.Slots.{is_source, slot_after};
 
 use crate::types::{Key, Record};
-use ft_types::{COUNT_LIMIT, Count, Counts, Guest, Hart, Term};
+use ft_types::{COUNT_LIMIT, Count, Counts, Guest, Hart, Memory, Term};
 use input_log::Input;
+use std::alloc::Global;
 use std::marker::Model;
 
-/// What happened to a hart between two counts.
+/// What happened to a hart from one count to a later one.
 #[derive(Drop)]
 pub struct Fragment {
     guest: Guest,
@@ -19,17 +21,16 @@ pub struct Fragment {
 }
 
 impl Model for Fragment {
-    ghost use Rattle.std.specs.Prelude.{◌≡◌, true};
-    ghost use Rattle.fragment_codec.specs.Frames.{FragmentParts, is_fragment};
+    ghost use Rattle.fragment_codec.specs.Rules.{FragmentParts, IsFragment};
 
     ghost Value = { FragmentParts };
 
     ghost view = { λ a. record { guest = a.guest; key = a.key; from = a.from; to = a.to; records = a.records.items } };
 
-    ghost invariant = { λ a. is_fragment (record { guest = a.guest; key = a.key; from = a.from; to = a.to; records = a.records.items }) ≡ true };
+    ghost invariant = { λ a. IsFragment (record { guest = a.guest; key = a.key; from = a.from; to = a.to; records = a.records.items }) };
 }
 
-/// How a term begins: with which counts of which term.
+/// How a term begins: with which counts of which earlier term.
 #[derive(Drop)]
 pub struct Opening {
     guest: Guest,
@@ -39,21 +40,41 @@ pub struct Opening {
 }
 
 impl Model for Opening {
-    ghost use Rattle.std.specs.Prelude.{◌≡◌, true};
-    ghost use Rattle.fragment_codec.specs.Frames.{OpeningParts, is_opening};
+    ghost use Rattle.fragment_codec.specs.Rules.{OpeningParts, IsOpening};
 
     ghost Value = { OpeningParts };
 
     ghost view = { λ a. record { guest = a.guest; term = a.term; parent = a.parent; base = a.base } };
 
-    ghost invariant = { λ a. is_opening (record { guest = a.guest; term = a.term; parent = a.parent; base = a.base }) ≡ true };
+    ghost invariant = { λ a. IsOpening (record { guest = a.guest; term = a.term; parent = a.parent; base = a.base }) };
 }
 
 /// A frame of a log.
 #[derive(Drop)]
 pub enum Frame {
+    /// A piece of a hart's log.
     Log(Fragment),
+    /// The opening of a term.
     Opening(Opening),
+}
+
+fn is_digest(digest: &[u8]) -> bool
+    ensures { IsTrue result ↔ IsDigest digest.now }
+{
+    digest.len() == 32
+}
+
+fn is_guest(guest: &Guest) -> bool
+    ensures { IsTrue result ↔ IsGuest guest.now }
+{
+    is_digest(&guest.digest) && 1 <= guest.harts && guest.harts <= 8
+}
+
+fn is_key(harts: u8, key: &Key) -> bool
+    ensures { IsTrue result ↔ IsKey harts key.now }
+{
+    let _place = key.place;
+    key.hart.number() < harts && 1 <= key.term
 }
 
 fn keeps_source(harts: u8, input: Input) -> bool
@@ -75,7 +96,7 @@ fn count(record: &Record) -> Count
 }
 
 /// The slot behind a record, where it keeps the rules.
-#[tactic(auto, unfolding(crate::specs::Frames::slot_after))]
+#[tactic(auto, unfolding(crate::specs::Slots::slot_after))]
 fn next_slot(harts: u8, hart: Hart, to: Count, at: Count, slot: u8, fact: &Record) -> Option<u8>
     requires { slot ≤ 16 }
     ensures slot { result ≡ slot_after harts hart to at slot fact.now }
@@ -109,11 +130,14 @@ fn next_slot(harts: u8, hart: Hart, to: Count, at: Count, slot: u8, fact: &Recor
     }
 }
 
-#[tactic(auto, unfolding(crate::specs::Frames::are_right))]
-fn keep_order(records: &[Record], harts: u8, hart: Hart, from: Count, to: Count) -> bool
+#[tactic(auto, unfolding(crate::specs::Slots::are_right))]
+fn are_records(records: &[Record], harts: u8, hart: Hart, from: Count, to: Count) -> bool
     requires { harts ≤ 8 }
-    ensures { result ≡ are_right harts hart to from 0 records.now }
+    ensures { IsTrue result ↔ AreRecords harts hart from to records.now }
 {
+    if records.len() > 256 {
+        return false;
+    }
     let mut at = from;
     let mut slot = 0;
     for record in records {
@@ -128,46 +152,42 @@ fn keep_order(records: &[Record], harts: u8, hart: Hart, from: Count, to: Count)
     true
 }
 
-#[tactic(auto, unfolding(crate::specs::Frames::all_counts))]
-fn are_counts(base: &[u64]) -> bool
-    ensures { result ≡ all_counts base.now }
+fn are_zero(base: &[Count]) -> bool
+    ensures { IsTrue result ↔ All (λ n. n ≡ 0) base.now }
 {
-    for count in base {
-        if *count >= COUNT_LIMIT {
-            return false;
-        }
-    }
-    true
+    base.iter().all(|count| *count == 0)
 }
 
-#[tactic(auto, unfolding(crate::specs::Frames::all_zero))]
-fn are_zero(base: &[u64]) -> bool
-    ensures { result ≡ all_zero base.now }
+fn is_fragment(guest: &Guest, key: &Key, from: Count, to: Count, records: &[Record]) -> bool
+    ensures { let parts : FragmentParts = record { guest = guest.now; key = key.now; from = from; to = to; records = records.now } in
+        IsTrue result ↔ IsFragment parts }
 {
-    for count in base {
-        if *count != 0 {
-            return false;
-        }
-    }
-    true
+    is_guest(guest)
+        && is_key(guest.harts, key)
+        && from < to
+        && to < COUNT_LIMIT
+        && are_records(records, guest.harts, key.hart, from, to)
+}
+
+fn is_opening(guest: &Guest, term: Term, parent: Term, base: Counts) -> bool
+    ensures { let parts : OpeningParts = record { guest = guest.now; term = term; parent = parent; base = base } in
+        IsTrue result ↔ IsOpening parts }
+{
+    is_guest(guest)
+        && base.harts() == guest.harts
+        && 1 <= term
+        && parent < term
+        && (parent != 0 || are_zero(base.as_slice()))
 }
 
 impl Fragment {
     /// The fragment of these parts, or `None` exactly where they break a rule.
-    #[tactic(auto, unfolding(crate::specs::Frames::is_fragment))]
     pub fn new(guest: Guest, key: Key, from: Count, to: Count, records: Vec<Record>) -> Option<Self>
-        ensures { let parts : FragmentParts = record { guest = guest; key = key; from = from; to = to; records = records.items } in
-            result ≡ (if is_fragment parts then Some parts else None) }
+        ensures exact { let parts : FragmentParts = record { guest = guest; key = key; from = from; to = to; records = records.items } in
+            IsSome result ↔ IsFragment parts }
+        ensures parts { IfSome result (λ f. f ≡ record { guest = guest; key = key; from = from; to = to; records = records.items }) }
     {
-        let right = 1 <= guest.harts
-            && guest.harts <= 8
-            && key.hart.number() < guest.harts
-            && 1 <= key.term
-            && from < to
-            && to < COUNT_LIMIT
-            && records.len() <= 256
-            && keep_order(&records, guest.harts, key.hart, from, to);
-        if right {
+        if is_fragment(&guest, &key, from, to, &records) {
             Some(Fragment {
                 guest,
                 key,
@@ -180,35 +200,53 @@ impl Fragment {
         }
     }
 
+    /// An equal fragment.
+    pub fn copy(&self, alloc: Global) -> Result<Fragment, Memory>
+        ensures { IfOk result (λ f. f ≡ self.now) }
+    {
+        let mut records = Vec::with_capacity(alloc, self.records.len())?;
+        records.extend_from_slice(&self.records)?;
+        Ok(Fragment {
+            guest: self.guest,
+            key: self.key,
+            from: self.from,
+            to: self.to,
+            records,
+        })
+    }
+
+    /// The guest whose log it is of.
     pub fn guest(&self) -> Guest
         ensures { result ≡ self.now.guest }
     {
         self.guest
     }
 
+    /// Which fragment it is.
     pub fn key(&self) -> Key
         ensures { result ≡ self.now.key }
     {
         self.key
     }
 
+    /// The count at which it begins.
     pub fn from(&self) -> Count
         ensures { result ≡ self.now.from }
     {
         self.from
     }
 
+    /// The count up to which it goes.
     pub fn to(&self) -> Count
         ensures { result ≡ self.now.to }
     {
         self.to
     }
 
-    /// The records, of a fragment that keeps every rule.
+    /// The records, in their order.
     pub fn records(&self) -> &[Record]
         ensures records { result.now ≡ self.now.records }
-        ensures right { is_fragment self.now ≡ true }
-        ensures len { length result.now ≤ 256 }
+        ensures rules { IsFragment self.now }
     {
         &self.records
     }
@@ -216,19 +254,12 @@ impl Fragment {
 
 impl Opening {
     /// The opening of these parts, or `None` exactly where they break a rule.
-    #[tactic(auto, unfolding(crate::specs::Frames::is_opening))]
     pub fn new(guest: Guest, term: Term, parent: Term, base: Counts) -> Option<Self>
-        ensures { let parts : OpeningParts = record { guest = guest; term = term; parent = parent; base = base } in
-            result ≡ (if is_opening parts then Some parts else None) }
+        ensures exact { let parts : OpeningParts = record { guest = guest; term = term; parent = parent; base = base } in
+            IsSome result ↔ IsOpening parts }
+        ensures parts { IfSome result (λ o. o ≡ record { guest = guest; term = term; parent = parent; base = base }) }
     {
-        let right = 1 <= guest.harts
-            && guest.harts <= 8
-            && base.harts() == guest.harts
-            && 1 <= term
-            && parent < term
-            && are_counts(base.as_slice())
-            && (parent != 0 || are_zero(base.as_slice()));
-        if right {
+        if is_opening(&guest, term, parent, base) {
             Some(Opening {
                 guest,
                 term,
@@ -240,29 +271,56 @@ impl Opening {
         }
     }
 
+    /// An equal opening.
+    pub fn copy(&self) -> Opening
+        ensures { result ≡ self.now }
+    {
+        Opening {
+            guest: self.guest,
+            term: self.term,
+            parent: self.parent,
+            base: self.base,
+        }
+    }
+
+    /// The guest whose term it opens.
     pub fn guest(&self) -> Guest
         ensures { result ≡ self.now.guest }
     {
         self.guest
     }
 
+    /// The term that it opens.
     pub fn term(&self) -> Term
         ensures { result ≡ self.now.term }
     {
         self.term
     }
 
+    /// The term from which it goes on: 0 for boot.
     pub fn parent(&self) -> Term
         ensures { result ≡ self.now.parent }
     {
         self.parent
     }
 
-    /// The counts, of an opening that keeps every rule.
+    /// The counts at which the parent is left.
     pub fn base(&self) -> Counts
         ensures base { result ≡ self.now.base }
-        ensures right { is_opening self.now ≡ true }
+        ensures rules { IsOpening self.now }
     {
         self.base
+    }
+}
+
+impl Frame {
+    /// An equal frame.
+    pub fn copy(&self, alloc: Global) -> Result<Frame, Memory>
+        ensures { IfOk result (λ f. f ≡ self.now) }
+    {
+        match self {
+            Frame::Log(fragment) => Ok(Frame::Log(fragment.copy(alloc)?)),
+            Frame::Opening(opening) => Ok(Frame::Opening(opening.copy())),
+        }
     }
 }

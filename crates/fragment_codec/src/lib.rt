@@ -13,6 +13,6 @@ mod writing;
 pub use fault::FrameFault;
 pub use feed::Feed;
 pub use frame::{Fragment, Frame, Opening};
-pub use laws::{lasting_fault, one_fault, one_reading, one_spelling, short_rest};
+pub use laws::{any_cutting, lasting_fault, one_fault, one_reading, one_spelling, short_rest};
 pub use types::{Key, Record};
 pub use writing::write_frame;

@@ -1,9 +1,9 @@
 //! Bodies of frames, from bytes.
 
-ghost use Rattle.std.specs.Prelude.{◌≡◌, ◌≤◌, List, length, Option, Some, None, if◌then◌else◌};
-ghost use Rattle.fragment_codec.specs.Frames.{OpeningParts, is_opening};
+ghost use Rattle.std.specs.Prelude.{◌≡◌, ◌≤◌, List, length, Option, Some, None};
+ghost use Rattle.fragment_codec.specs.Rules.{OpeningParts, IsFragment, IsOpening};
 ghost use Rattle.std.specs.Int.{w16, w32, w64};
-ghost use Rattle.fragment_codec.specs.Reading.{Gives, number_at, byte_at, digest_at, input_of, edge_at, heard_at, record_at, many, place_at, rest_of, log_of, opening_of};
+ghost use Rattle.fragment_codec.specs.Reading.{Gives, Makes, number_at, byte_at, digest_at, input_of, edge_at, heard_at, record_at, many, place_at, rest_of, log_of, opening_of};
 
 use crate::frame::{Fragment, Opening};
 use crate::types::{Key, Record};
@@ -213,7 +213,7 @@ fn read_place(bytes: &[u8]) -> Result<(Guest, Key, &[u8]), BodyError>
 
 #[tactic(auto, unfolding(crate::specs::Reading::rest_of))]
 fn read_rest(alloc: Global, guest: Guest, key: Key, bytes: &[u8]) -> Result<Fragment, BodyError>
-    ensures { Gives (λ x. x) result (rest_of guest key bytes.now) }
+    ensures { Makes IsFragment result (rest_of guest key bytes.now) }
 {
     let (from, rest) = u64_at(bytes)?;
     let (to, rest) = u64_at(rest)?;
@@ -234,7 +234,7 @@ fn read_rest(alloc: Global, guest: Guest, key: Key, bytes: &[u8]) -> Result<Frag
 
 #[tactic(auto, unfolding(crate::specs::Reading::log_of))]
 pub fn read_log(alloc: Global, body: &[u8]) -> Result<Fragment, BodyError>
-    ensures { Gives (λ x. x) result (log_of body.now) }
+    ensures { Makes IsFragment result (log_of body.now) }
 {
     match read_place(body) {
         Ok((guest, key, rest)) => read_rest(alloc, guest, key, rest),
@@ -244,7 +244,7 @@ pub fn read_log(alloc: Global, body: &[u8]) -> Result<Fragment, BodyError>
 
 fn make_opening(guest: Guest, term: Term, parent: Term, base: &[u64]) -> Result<Opening, BodyError>
     ensures { let parts : OpeningParts = record { guest = guest; term = term; parent = parent; base = base.now } in
-        Gives (λ x. x) result (if is_opening parts then Some parts else None) }
+        Makes IsOpening result (Some parts) }
 {
     match Counts::from_slice(base) {
         Some(counts) => match Opening::new(guest, term, parent, counts) {
@@ -257,7 +257,7 @@ fn make_opening(guest: Guest, term: Term, parent: Term, base: &[u64]) -> Result<
 
 #[tactic(auto, unfolding(crate::specs::Reading::opening_of))]
 pub fn read_opening(body: &[u8]) -> Result<Opening, BodyError>
-    ensures { Gives (λ x. x) result (opening_of body.now) }
+    ensures { Makes IsOpening result (opening_of body.now) }
 {
     let (digest, rest) = digest_of(body)?;
     let (harts, rest) = u8_at(rest)?;

@@ -1,7 +1,7 @@
 //! Frames, to bytes.
 
 ghost use Rattle.std.specs.Prelude.{◌≡◌, ℕ, ◌+◌, ◌*◌, ◌^◌, ◌<◌, ◌≤◌, List, ◌++◌, ◌∷◌, length, true, OnOk, OnErr};
-ghost use Rattle.fragment_codec.specs.Frames.{number, input_bytes, record_bytes, log_body, opening_body, headed, sealed, is_fragment, is_opening};
+ghost use Rattle.fragment_codec.specs.Spelling.{number, input_bytes, record_bytes, log_body, opening_body, headed, sealed};
 ghost use Rattle.std.specs.Int.{w32};
 ghost use Rattle.ft_types.specs.Devices.{Writes};
 ghost use Rattle.fragment_codec.specs.Streams.{spelling};
@@ -26,7 +26,7 @@ fn put(out: &mut Body, bytes: &[u8])
     let _fits = out.try_extend_from_slice(bytes);
 }
 
-#[tactic(auto, unfolding(crate::specs::Frames::input_bytes, crate::specs::Frames::number))]
+#[tactic(auto, unfolding(crate::specs::Spelling::input_bytes, crate::specs::Spelling::number))]
 fn put_input(out: &mut Body, input: Input)
     requires { length out.old.items + 5 ≤ 4668 }
     ensures items { out.new.items ≡ out.old.items ++ input_bytes input }
@@ -41,7 +41,7 @@ fn put_input(out: &mut Body, input: Input)
     put(out, &value.to_le_bytes());
 }
 
-#[tactic(auto, unfolding(crate::specs::Frames::record_bytes, crate::specs::Frames::number))]
+#[tactic(auto, unfolding(crate::specs::Spelling::record_bytes, crate::specs::Spelling::number))]
 fn put_record(out: &mut Body, record: &Record)
     requires { length out.old.items + 18 ≤ 4668 }
     ensures items { out.new.items ≡ out.old.items ++ record_bytes record.now }
@@ -62,7 +62,7 @@ fn put_record(out: &mut Body, record: &Record)
     }
 }
 
-#[tactic(auto, unfolding(crate::specs::Frames::number))]
+#[tactic(auto, unfolding(crate::specs::Spelling::number))]
 fn put_place(out: &mut Body, guest: &Guest, key: &Key)
     requires { length out.old.items + 42 ≤ 4668 }
     ensures items { out.new.items ≡ out.old.items ++ (guest.now.digest ++ (guest.now.harts ∷ key.now.hart ∷ (number w32 key.now.term ++ number w32 key.now.place))) }
@@ -74,7 +74,7 @@ fn put_place(out: &mut Body, guest: &Guest, key: &Key)
     put(out, &key.place.to_le_bytes());
 }
 
-#[tactic(auto, unfolding(crate::specs::Frames::log_body, crate::specs::Frames::number))]
+#[tactic(auto, unfolding(crate::specs::Spelling::log_body, crate::specs::Spelling::number))]
 fn log_bytes(fragment: &Fragment) -> Body
     ensures { result.items ≡ log_body fragment.now }
 {
@@ -90,7 +90,7 @@ fn log_bytes(fragment: &Fragment) -> Body
     out
 }
 
-#[tactic(auto, unfolding(crate::specs::Frames::opening_body, crate::specs::Frames::number))]
+#[tactic(auto, unfolding(crate::specs::Spelling::opening_body, crate::specs::Spelling::number))]
 fn opening_bytes(opening: &Opening) -> Body
     ensures { result.items ≡ opening_body opening.now }
 {
@@ -107,7 +107,7 @@ fn opening_bytes(opening: &Opening) -> Body
     out
 }
 
-#[tactic(auto, unfolding(crate::specs::Frames::headed, crate::specs::Frames::number))]
+#[tactic(auto, unfolding(crate::specs::Spelling::headed, crate::specs::Spelling::number))]
 fn head_of_body(kind: u8, len: u32) -> [u8; 8]
     ensures { (body : List ℕ) → length body ≡ len → result ++ body ≡ headed kind body }
 {

@@ -1,5 +1,5 @@
 use Rattle.std.proofs.Common.{◌≡◌, ◌∙◌, ap, arith, length, ◌++◌, List, ℕ}
-use Rattle.fragment_codec.specs.Frames.{number, record_bytes}
+use Rattle.fragment_codec.specs.Spelling.{number, record_bytes}
 use Rattle.fragment_codec.proofs.Texts.{log_started, log_goes_on}
 use Rattle.fragment_codec.proofs.writing.log_bytes.Goals as goal
 

@@ -1,7 +1,7 @@
 use Rattle.std.proofs.Common.{◌≡◌, ◌≤◌, ◌+◌, ◌*◌, length, take}
 use Rattle.std.specs.Int.{w64}
 use Rattle.std.specs.List.{flat_map}
-use Rattle.fragment_codec.specs.Frames.{number}
+use Rattle.fragment_codec.specs.Spelling.{number}
 use Rattle.fragment_codec.proofs.Texts.{opening_front}
 use Rattle.fragment_codec.proofs.writing.opening_bytes.Given as goal
 

@@ -1,0 +1,5 @@
+use Rattle.fragment_codec.proofs.Readings.{one_feed}
+use Rattle.fragment_codec.proofs.laws.any_cutting.Goals as goal
+
+pub returns : goal.returns
+returns c = one_feed

@@ -1,0 +1,110 @@
+-- What a fragment and an opening are: the rules of frames, version 1.
+use Rattle.std.specs.Prelude.{◌≡◌, ◌≢◌, ℕ, ◌<◌, ◌≤◌, ◌^◌, Bool, false, ◌==◌, List, [], ◌∷◌, length, slice_index, All, count_by, ◌⊎◌}
+use Rattle.std.specs.List.{AllByRecursion}
+use Rattle.ft_types.specs.Counts.{IsCount}
+use Rattle.ft_types.specs.declared.guest.Guest.{Guest}
+use Rattle.input_log.specs.declared.Input.{Input as HartInput}
+use Rattle.input_log.specs.declared.Input.TheVariants.{Timer, Word, Bell}
+use Rattle.fragment_codec.specs.declared.types.Key.{Key}
+use Rattle.fragment_codec.specs.declared.types.Record.{Record}
+use Rattle.fragment_codec.specs.declared.types.Record.TheVariants.{Edge as EdgeRecord, Input as InputRecord}
+
+-- ---- guests and keys
+
+-- a digest has 32 bytes
+pub record IsDigest (digest : List ℕ) : Type 0 where
+  pub len : length digest ≡ 32
+  pub bytes : (i : ℕ) → slice_index digest i < 256
+
+-- a guest has 1 to 8 harts
+pub record IsGuest (guest : Guest) : Type 0 where
+  pub digest : IsDigest guest.digest
+  pub some : 1 ≤ guest.harts
+  pub limit : guest.harts ≤ 8
+
+-- a key of a guest with so many harts: terms count from 1, and term and place have 32 bits
+pub record IsKey (harts : ℕ) (key : Key) : Type 0 where
+  pub hart : key.hart < harts
+  pub granted : 1 ≤ key.term
+  pub term : key.term < 2 ^ 32
+  pub place : key.place < 2 ^ 32
+
+-- ---- records
+
+-- where a record stands
+abbrev pub count_of : Record → ℕ
+count_of (EdgeRecord edge) = edge.at
+count_of (InputRecord at input) = at
+
+-- a word has 32 bits, and a bell was rung by a hart of the guest
+abbrev pub IsInputOf : ℕ → HartInput → Type 0
+IsInputOf harts Timer = Unit {0}
+IsInputOf harts (Word word) = word < 2 ^ 32
+IsInputOf harts (Bell source) = source < harts
+
+-- an edge is the hart's own, and names another hart of the guest and at least one step of it
+abbrev pub IsFactOf : ℕ → ℕ → Record → Type 0
+IsFactOf harts hart (EdgeRecord edge) = (edge.hart ≡ hart) × (edge.other < harts) × (edge.other ≢ hart) × (1 ≤ edge.after) × IsCount edge.after
+IsFactOf harts hart (InputRecord at input) = IsInputOf harts input
+
+-- a record of the hart that stands at least at `from` and below `to`
+abbrev pub IsRecordOf : ℕ → ℕ → ℕ → ℕ → Record → Type 0
+IsRecordOf harts hart from to fact = IsFactOf harts hart fact × (from ≤ count_of fact) × (count_of fact < to)
+
+-- Of two records the first may stand before the second: counts do not fall, and at one count edges stand before inputs,
+-- with strictly rising `other`.
+abbrev pub MayPrecede : Record → Record → Type 0
+MayPrecede (EdgeRecord first) (EdgeRecord second) = (first.at < second.at) ⊎ ((first.at ≡ second.at) × (first.other < second.other))
+MayPrecede (EdgeRecord first) (InputRecord at input) = first.at ≤ at
+MayPrecede (InputRecord at input) (EdgeRecord second) = at < second.at
+MayPrecede (InputRecord at input) (InputRecord next other) = at ≤ next
+
+-- each record may stand before each later one
+abbrev pub AreInOrder : List Record → Type 0
+AreInOrder [] = Unit {0}
+AreInOrder (fact ∷ facts) = AllByRecursion (MayPrecede fact) facts × AreInOrder facts
+
+-- the record is an input at this count
+abbrev pub is_input_at : ℕ → Record → Bool
+is_input_at count (EdgeRecord edge) = false
+is_input_at count (InputRecord at input) = at == count
+
+-- the records of a fragment: at most 256, each right by itself, in order, with at most 8 inputs at one count
+pub record AreRecords (harts hart from to : ℕ) (records : List Record) : Type 0 where
+  pub limit : length records ≤ 256
+  pub each : AllByRecursion (IsRecordOf harts hart from to) records
+  pub order : AreInOrder records
+  pub inputs : (count : ℕ) → count_by (is_input_at count) records ≤ 8
+
+-- ---- fragments and openings
+
+pub record FragmentParts : Type 0 where
+  pub guest : Guest
+  pub key : Key
+  pub from : ℕ
+  pub to : ℕ
+  pub records : List Record
+
+-- what happened to a hart of the guest from one count to a later one
+pub record IsFragment (f : FragmentParts) : Type 0 where
+  pub guest : IsGuest f.guest
+  pub key : IsKey f.guest.harts f.key
+  pub some : f.from < f.to
+  pub end : IsCount f.to
+  pub records : AreRecords f.guest.harts f.key.hart f.from f.to f.records
+
+pub record OpeningParts : Type 0 where
+  pub guest : Guest
+  pub term : ℕ
+  pub parent : ℕ
+  pub base : List ℕ
+
+-- A term begins with one count per hart of an earlier term, or from boot, where the parent is 0 and all counts are 0.
+pub record IsOpening (o : OpeningParts) : Type 0 where
+  pub guest : IsGuest o.guest
+  pub granted : 1 ≤ o.term
+  pub term : o.term < 2 ^ 32
+  pub parent : o.parent < o.term
+  pub base : length o.base ≡ o.guest.harts
+  pub counts : AllByRecursion IsCount o.base
+  pub boot : o.parent ≡ 0 → All (λ n. n ≡ 0) o.base

@@ -1,0 +1,39 @@
+-- The one spelling of a frame, version 1: its fields in the order of the tables, each number with its lowest byte first.
+use Rattle.std.specs.Prelude.{ℕ, List, ◌∷◌, ◌++◌, length}
+use Rattle.std.specs.List.{flat_map}
+use Rattle.std.specs.Int.{Width, w16, w32, w64, to_le_bytes}
+use Rattle.sha2.specs.Sha256.{sha256}
+use Rattle.input_log.specs.declared.Input.{Input as HartInput}
+use Rattle.input_log.specs.declared.Input.TheVariants.{Timer, Word, Bell}
+use Rattle.fragment_codec.specs.declared.types.Record.{Record}
+use Rattle.fragment_codec.specs.declared.types.Record.TheVariants.{Edge as EdgeRecord, Input as InputRecord}
+use Rattle.fragment_codec.specs.Rules.{FragmentParts, OpeningParts}
+
+-- a number, the lowest byte first
+unfoldable pub number : Width → ℕ → List ℕ
+number w n = to_le_bytes w n
+
+unfoldable pub input_bytes : HartInput → List ℕ
+input_bytes Timer = 0 ∷ number w32 0
+input_bytes (Word w) = 1 ∷ number w32 w
+input_bytes (Bell source) = 2 ∷ number w32 source
+
+unfoldable pub record_bytes : Record → List ℕ
+record_bytes (EdgeRecord edge) = 1 ∷ (number w64 edge.at ++ (edge.other ∷ number w64 edge.after))
+record_bytes (InputRecord at input) = 2 ∷ (number w64 at ++ input_bytes input)
+
+unfoldable pub log_body : FragmentParts → List ℕ
+log_body f =
+    f.guest.digest ++ (f.guest.harts ∷ f.key.hart ∷ (number w32 f.key.term ++ (number w32 f.key.place
+    ++ (number w64 f.from ++ (number w64 f.to ++ (number w16 (length f.records) ++ flat_map record_bytes f.records))))))
+
+unfoldable pub opening_body : OpeningParts → List ℕ
+opening_body o = o.guest.digest ++ (o.guest.harts ∷ (number w32 o.term ++ (number w32 o.parent ++ flat_map (number w64) o.base)))
+
+-- magic, version, kind, the body's length, the body
+unfoldable pub headed : ℕ → List ℕ → List ℕ
+headed kind body = 0x56 ∷ 0x46 ∷ 1 ∷ kind ∷ (number w32 (length body) ++ body)
+
+-- and the digest of all before it
+unfoldable pub sealed : List ℕ → List ℕ
+sealed bytes = bytes ++ sha256 bytes
