@@ -6,3 +6,6 @@ pub mod Kept
 pub mod Access
 pub mod Step
 pub mod Granted
+pub mod CountedSteps
+pub mod Local
+pub mod Hardware

@@ -1,5 +1,5 @@
 //! A hart's state.
-ghost use Rattle.std.specs.Prelude.{◌≡◌, ◌<◌, ◌≤◌, length, drop, IfOk};
+ghost use Rattle.std.specs.Prelude.{◌≡◌, ◌<◌, ◌≤◌, ◌↔◌, length, drop, IfOk, IsTrue};
 ghost use Rattle.rv32_hart.specs.Hart.{boot_hart, csr_words, device_words};
 
 use super::hart_core::HartCore;
@@ -180,4 +180,40 @@ impl HartState {
             },
         })
     }
+
+    /// Whether both states are equal.
+    pub fn same(&self, other: &HartState) -> bool
+        ensures { IsTrue result ↔ (self.now ≡ other.now) }
+    {
+        let mine = &self.core;
+        let theirs = &other.core;
+        if mine.number != theirs.number || mine.harts != theirs.harts {
+            return false;
+        }
+        if mine.pc != theirs.pc || mine.count != theirs.count || mine.halted != theirs.halted {
+            return false;
+        }
+        if mine.registers != theirs.registers || mine.rung != theirs.rung {
+            return false;
+        }
+        if mine.csrs != theirs.csrs || mine.received != theirs.received {
+            return false;
+        }
+        same_outputs(mine.outputs.as_slice(), theirs.outputs.as_slice())
+    }
+}
+
+/// Whether both lists of outputs are equal.
+fn same_outputs(outputs: &[(Count, u32)], others: &[(Count, u32)]) -> bool
+    ensures { IsTrue result ↔ (outputs.now ≡ others.now) }
+{
+    if outputs.len() != others.len() {
+        return false;
+    }
+    for i in 0..outputs.len() {
+        if outputs[i] != others[i] {
+            return false;
+        }
+    }
+    true
 }
