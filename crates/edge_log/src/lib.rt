@@ -1,7 +1,13 @@
 //! Ownership edges: which step of a hart comes after how many steps of another.
 #![tactic(auto)]
 
+mod log;
+mod row;
+#[cfg(test)]
+mod tests;
+
 use ft_types::{Count, Hart};
+pub use log::EdgeLog;
 
 /// Step `at` of `hart`, and each later one of it, comes after the first `after` steps of `other`.
 #[derive(Clone, Copy, Debug, PartialEq, Eq)]
@@ -14,4 +20,13 @@ pub struct Edge {
     pub other: Hart,
     /// How many steps that hart has taken by then, at the least.
     pub after: Count,
+}
+
+/// What became of an edge that was added.
+#[derive(Clone, Copy, Debug, PartialEq, Eq)]
+pub enum Added {
+    /// The log has it.
+    New,
+    /// The start or another edge of the log says as much, and the log stays as it was.
+    Implied,
 }

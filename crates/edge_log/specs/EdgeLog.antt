@@ -1,0 +1,45 @@
+-- Logs of edges, and what they say in the theory's words.
+use Rattle.std.specs.Prelude.{ℕ, ◌≡◌, ◌<◌, ◌≤◌, List, [], length, slice_index_or, map, All}
+use Rattle.std.specs.List.{flat_map}
+use Rattle.ft_types.specs.Counts.{count_at}
+use Rattle.interleaving.specs.Log as theory
+use Rattle.edge_log.specs.declared.Edge.{Edge}
+
+-- the counts that it begins at, and each hart's edges, by rising step and other hart
+pub record Edges : Type 0 where
+  pub start : List ℕ
+  pub rows : List (List Edge)
+
+-- a hart's edges
+abbrev pub row_of : Edges → ℕ → List Edge
+row_of log hart = slice_index_or log.rows hart []
+
+-- an edge, in the theory's words
+abbrev pub edge_as : Edge → theory.Edge
+edge_as e = record { hart = e.hart; step = e.at; other = e.other; count = e.after }
+
+-- the edges of all harts, in the theory's words
+abbrev pub edges_of : Edges → List theory.Edge
+edges_of log = flat_map (map edge_as) log.rows
+
+-- each hart's count at the start
+abbrev pub start_of : Edges → ℕ → ℕ
+start_of log = count_at log.start
+
+-- an edge between the machine's harts, at no step before the start, nor before that of an edge of its hart in the log
+pub record MayAdd (log : Edges) (e : Edge) : Type 0 where
+  pub hart : e.hart < length log.start
+  pub other : e.other < length log.start
+  pub from_start : count_at log.start e.hart ≤ e.at
+  pub last : All (λ x. x.at ≤ e.at) (row_of log e.hart)
+
+-- the edge is of this hart, to one of the machine's, and its step is not before the start
+pub record IsOfHart (start : List ℕ) (hart : ℕ) (e : Edge) : Type 0 where
+  pub own : e.hart ≡ hart
+  pub other : e.other < length start
+  pub from_start : count_at start hart ≤ e.at
+
+pub record IsLog (start : List ℕ) (rows : List (List Edge)) : Type 0 where
+  pub harts : length start ≤ 8
+  pub eight : length rows ≡ 8
+  pub own : (hart : ℕ) → All (IsOfHart start hart) (slice_index_or rows hart [])

@@ -1,0 +1,62 @@
+-- The edges of one hart, in their order.
+use Rattle.std.specs.Prelude.{ℕ, ◌≡◌, ◌<◌, ◌≤◌, List, ◌∷◌, ◌++◌, length, slice_index, All, AllPairs, Contains}
+use Rattle.std.specs.List.{HoldsAt}
+use Rattle.edge_log.specs.declared.Edge.{Edge}
+
+-- a's step is no later than b's, and at the same step a's other hart is lower
+pub record ComesBefore (a b : Edge) : Type 0 where
+  pub no_later : a.at ≤ b.at
+  pub lower : a.at ≡ b.at → a.other < b.other
+
+-- b's step is no later than a's, and at the same step b's other hart is no higher
+pub record CannotComeBefore (a b : Edge) : Type 0 where
+  pub no_earlier : b.at ≤ a.at
+  pub no_lower : a.at ≡ b.at → b.other ≤ a.other
+
+-- both are to the same hart, at the same step
+pub record IsTwin (a b : Edge) : Type 0 where
+  pub at : a.at ≡ b.at
+  pub other : a.other ≡ b.other
+
+-- such an edge stands at the place
+abbrev pub TwinStands : List Edge → ℕ → Edge → Type 0
+TwinStands edges place edge = (place < length edges) × HoldsAt (λ e. IsTwin e edge) edges place
+
+-- the edge is put in its place, where an edge to the same hart at the same step makes way
+pub record IsPut (old : List Edge) (edge : Edge) (new : List Edge) : Type 0 where
+  pub front : List Edge
+  pub twin : List Edge
+  pub back : List Edge
+  pub was : old ≡ front ++ (twin ++ back)
+  pub is : new ≡ front ++ edge ∷ back
+  pub before : All (λ e. ComesBefore e edge) front
+  pub made_way : All (λ e. IsTwin e edge) twin
+  pub behind : All (λ e. ComesBefore edge e) back
+
+-- an edge to the same hart, at no later step, asks for as many of its steps
+pub record AsksAsMuch (by edge : Edge) : Type 0 where
+  pub other : by.other ≡ edge.other
+  pub at : by.at ≤ edge.at
+  pub after : edge.after ≤ by.after
+
+-- one of the edges asks for as much
+abbrev pub SaysAsMuch : List Edge → Edge → Type 0
+SaysAsMuch edges edge = (by : Edge) × Contains edges by × AsksAsMuch by edge
+
+-- a row, with the greatest count that its edges ask of each hart, 0 where there is none
+pub record EdgesOfOne : Type 0 where
+  pub edges : List Edge
+  pub reached : List ℕ
+
+-- an edge to the hart asks for this
+pub record AsksFor (hart count : ℕ) (edge : Edge) : Type 0 where
+  pub other : edge.other ≡ hart
+  pub after : edge.after ≡ count
+
+pub record IsRow (edges : List Edge) (reached : List ℕ) : Type 0 where
+  pub harts : length reached ≡ 8
+  pub rising : AllPairs ComesBefore edges
+  pub others : All (λ e. e.other < 8) edges
+  pub most : All (λ e. e.after ≤ slice_index reached e.other) edges
+  pub asked : (hart : ℕ) → hart < 8 → 0 < slice_index reached hart →
+      (e : Edge) × Contains edges e × AsksFor hart (slice_index reached hart) e

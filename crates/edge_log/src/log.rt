@@ -1,0 +1,146 @@
+//! The edges that a log keeps.
+
+ghost use Rattle.std.specs.Prelude.{◌≡◌, ℕ, ◌+◌, ◌<◌, ◌≤◌, ◌==◌, ◌↔◌, ◌≢◌, All, Any, AllPairs, List, [], ◌∷◌, ◌++◌, Ok, length, filter, IsTrue, IfOk, IfSome, IfNone};
+ghost use Rattle.ft_types.specs.Counts.{count_at};
+ghost use Rattle.interleaving.specs.Log.{Edge as edge_of_theory};
+ghost use Rattle.interleaving.specs.Cuts.{IsImplied, IsEnough, IsSameOrder};
+ghost use Rattle.edge_log.specs.Rows.{ComesBefore, IsPut};
+ghost use Rattle.edge_log.specs.EdgeLog.{row_of, edge_as, edges_of, start_of, MayAdd, IsOfHart};
+
+use crate::row::Row;
+use crate::{Added, Edge};
+use ft_types::{Count, Counts, Hart, Memory};
+use std::alloc::Global;
+use std::marker::Model;
+use std::option::Option;
+use std::result::Result;
+
+/// Edges between the harts of one machine, with those dropped that its start or another edge implies.
+///
+/// Contracts see the start, and for each hart the list of its edges, by rising step and other hart.
+#[derive(Drop)]
+pub struct EdgeLog {
+    start: Counts,
+    rows: [Row; 8],
+}
+
+impl Model for EdgeLog {
+    ghost use Rattle.std.specs.Prelude.{map};
+    ghost use Rattle.edge_log.specs.EdgeLog.{Edges, IsLog};
+
+    ghost Value = { Edges };
+
+    ghost view = { λ l. record { start = l.start; rows = map (λ r. r.edges) l.rows } };
+
+    ghost invariant = { λ l. IsLog l.start (map (λ r. r.edges) l.rows) };
+}
+
+impl EdgeLog {
+    /// A log without edges, from these counts on.
+    pub fn new(alloc: Global, start: Counts) -> EdgeLog
+        ensures start { result.start ≡ start }
+        ensures edges { edges_of result ≡ [] }
+        ensures rows { (hart : ℕ) → row_of result hart ≡ [] }
+    {
+        EdgeLog {
+            start,
+            rows: [
+                Row::new(alloc),
+                Row::new(alloc),
+                Row::new(alloc),
+                Row::new(alloc),
+                Row::new(alloc),
+                Row::new(alloc),
+                Row::new(alloc),
+                Row::new(alloc),
+            ],
+        }
+    }
+
+    /// An equal log.
+    pub fn copy(&self) -> Result<EdgeLog, Memory>
+        ensures { IfOk result (λ log. log ≡ self.now) }
+    {
+        Ok(EdgeLog {
+            start: self.start,
+            rows: [
+                self.rows[0].copy()?,
+                self.rows[1].copy()?,
+                self.rows[2].copy()?,
+                self.rows[3].copy()?,
+                self.rows[4].copy()?,
+                self.rows[5].copy()?,
+                self.rows[6].copy()?,
+                self.rows[7].copy()?,
+            ],
+        })
+    }
+
+    /// The counts that the log begins at.
+    pub fn start(&self) -> Counts
+        ensures { result ≡ self.now.start }
+    {
+        self.start
+    }
+
+    /// All edges of a hart.
+    pub fn of_hart(&self, hart: Hart) -> &[Edge]
+        ensures value { result.now ≡ row_of self.now hart }
+        ensures rising { AllPairs ComesBefore result.now }
+        ensures own { All (IsOfHart self.now.start hart) result.now }
+    {
+        self.rows[hart.index()].edges()
+    }
+
+    /// The edges of a hart at a count.
+    pub fn at(&self, hart: Hart, count: Count) -> &[Edge]
+        ensures value { result.now ≡ filter (λ e. e.at == count) (row_of self.now hart) }
+        ensures rising { AllPairs (λ a b. a.other < b.other) result.now }
+    {
+        self.rows[hart.index()].at(count)
+    }
+
+    /// The first count, from this one on, at which the hart has an edge.
+    pub fn next(&self, hart: Hart, count: Count) -> Option<Count>
+        ensures found { IfSome result (λ n. (count ≤ n) × Any (λ e. e.at ≡ n) (row_of self.now hart)) }
+        ensures first { IfSome result (λ n. All (λ e. count ≤ e.at → n ≤ e.at) (row_of self.now hart)) }
+        ensures none { IfNone result (All (λ e. e.at < count) (row_of self.now hart)) }
+    {
+        self.rows[hart.index()].next(count)
+    }
+
+    /// Whether the edge may be added: it is between harts of the machine, at no step before the start or that of an earlier
+    /// edge of its hart.
+    pub fn may_add(&self, edge: &Edge) -> bool
+        ensures { IsTrue result ↔ MayAdd self.now edge.now }
+    {
+        let harts = self.start.harts();
+        if edge.hart.number() >= harts || edge.other.number() >= harts {
+            return false;
+        }
+        let from = self.start.get(edge.hart);
+        from <= edge.at && self.rows[edge.hart.index()].ends_by(edge.at)
+    }
+
+    /// Adds an edge, unless the start or an edge of the log implies it.
+    pub fn add(&mut self, edge: Edge) -> Result<Added, Memory>
+        requires { MayAdd self.old edge }
+        ensures start { self.new.start ≡ self.old.start }
+        // Implied exactly where the theory says so.
+        ensures implied { (result ≡ Ok Added.Implied) ↔ IsImplied (edges_of self.old) (start_of self.old) (edge_as edge) }
+        // New: it stands in its place, where an edge between the same harts at the same step makes way.
+        ensures put { result ≡ Ok Added.New → IsPut (row_of self.old edge.hart) edge (row_of self.new edge.hart) }
+        ensures others_kept { (hart : ℕ) → hart ≢ edge.hart → row_of self.new hart ≡ row_of self.old hart }
+        ensures kept { (result ≡ Ok Added.New → ⊥) → self.new ≡ self.old }
+        ensures latest { All (λ e. e.at ≤ edge.at) (row_of self.new edge.hart) }
+        // What is kept says all that was added: the same order, closed cuts and schedules.
+        ensures enough { IfOk result (λ _. (all : List edge_of_theory) → IsEnough (edges_of self.old) all (start_of self.old) → IsEnough (edges_of self.new) (all ++ edge_as edge ∷ []) (start_of self.new)) }
+        ensures same_order { IfOk result (λ _. (all : List edge_of_theory) → IsEnough (edges_of self.old) all (start_of self.old) → IsSameOrder (edges_of self.new) (all ++ edge_as edge ∷ []) (start_of self.new)) }
+    {
+        if edge.after <= self.start.get(edge.other) {
+            return Ok(Added::Implied);
+        }
+        let row = &mut self.rows[edge.hart.index()];
+        row.add(edge)
+    }
+}

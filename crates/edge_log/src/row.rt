@@ -1,0 +1,185 @@
+//! The edges of one hart.
+
+ghost use Rattle.std.specs.Prelude.{◌≡◌, ℕ, ◌<◌, ◌≤◌, ◌==◌, ◌↔◌, All, Any, AllPairs, Ok, [], replicate, length, filter, IsTrue, OnOk, OnErr, IfOk, IfSome, IfNone};
+ghost use Rattle.std.specs.List.{AllWithin};
+ghost use Rattle.std.specs.List.Sorted.{IsNonDecreasingBy};
+ghost use Rattle.edge_log.specs.Rows.{ComesBefore, IsPut, SaysAsMuch, CannotComeBefore, TwinStands};
+
+use crate::{Added, Edge};
+use ft_types::{Count, Memory};
+use std::alloc::Global;
+use std::marker::Model;
+use std::option::Option;
+use std::result::Result;
+
+/// The edges of one hart, by rising step and other hart.
+#[derive(Drop)]
+pub(crate) struct Row {
+    edges: Vec<Edge>,
+    // The greatest `after` of the edges to each hart, 0 where there is none.
+    reached: [Count; 8],
+}
+
+impl Model for Row {
+    ghost use Rattle.edge_log.specs.Rows.{EdgesOfOne, IsRow};
+
+    ghost Value = { EdgesOfOne };
+
+    ghost view = { λ r. record { edges = r.edges.items; reached = r.reached } };
+
+    ghost invariant = { λ r. IsRow r.edges.items r.reached };
+}
+
+fn comes_before(one: &Edge, other: &Edge) -> bool
+    ensures { IsTrue result ↔ ComesBefore one.now other.now }
+{
+    one.at < other.at || (one.at == other.at && one.other.number() < other.other.number())
+}
+
+/// Where the edge belongs.
+fn place_of(edges: &[Edge], edge: &Edge) -> usize
+    requires { AllPairs ComesBefore edges.now }
+    ensures within { result ≤ length edges.now }
+    ensures before { AllWithin (λ e. ComesBefore e edge.now) edges.now 0 result }
+    ensures behind { AllWithin (λ e. CannotComeBefore e edge.now) edges.now result (length edges.now) }
+{
+    let mut place = edges.len();
+    while place > 0 {
+        if comes_before(&edges[place - 1], edge) {
+            break;
+        }
+        place -= 1;
+    }
+    place
+}
+
+/// Whether an edge to the same hart at the same step stands there.
+fn has_twin(edges: &[Edge], place: usize, edge: &Edge) -> bool
+    ensures { IsTrue result ↔ TwinStands edges.now place edge.now }
+{
+    match edges.get(place) {
+        Some(there) => there.at == edge.at && there.other == edge.other,
+        None => false,
+    }
+}
+
+/// Puts the edge in its place, where an edge to the same hart at the same step makes way.
+fn put(edges: &mut Vec<Edge>, edge: Edge) -> Result<(), Memory>
+    requires rising { AllPairs ComesBefore edges.old.items }
+    requires last { All (λ e. e.at ≤ edge.at) edges.old.items }
+    ensures ok { OnOk result (IsPut edges.old.items edge edges.new.items) }
+    ensures err { OnErr result (edges.new.items ≡ edges.old.items) }
+{
+    let place = place_of(edges, &edge);
+    if has_twin(edges, place, &edge) {
+        edges[place] = edge;
+        return Ok(());
+    }
+    edges.insert(place, edge)?;
+    Ok(())
+}
+
+/// Where the edges of this count and later ones begin.
+fn first_from(edges: &[Edge], count: Count) -> usize
+    requires { IsNonDecreasingBy (λ e. e.at) edges.now }
+    ensures within { result ≤ length edges.now }
+    ensures before { AllWithin (λ e. e.at < count) edges.now 0 result }
+    ensures from { AllWithin (λ e. count ≤ e.at) edges.now result (length edges.now) }
+{
+    edges.partition_point(|e| e.at < count)
+}
+
+/// Where the edges of later counts begin.
+fn first_after(edges: &[Edge], count: Count) -> usize
+    requires { IsNonDecreasingBy (λ e. e.at) edges.now }
+    ensures within { result ≤ length edges.now }
+    ensures upto { AllWithin (λ e. e.at ≤ count) edges.now 0 result }
+    ensures after { AllWithin (λ e. count < e.at) edges.now result (length edges.now) }
+{
+    edges.partition_point(|e| e.at <= count)
+}
+
+impl Row {
+    /// A row without edges.
+    pub(crate) fn new(alloc: Global) -> Row
+        ensures edges { result.edges ≡ [] }
+    {
+        Row {
+            edges: Vec::new(alloc),
+            reached: [0; 8],
+        }
+    }
+
+    /// An equal row.
+    pub(crate) fn copy(&self) -> Result<Row, Memory>
+        ensures { IfOk result (λ r. r ≡ self.now) }
+    {
+        Ok(Row {
+            edges: self.edges.clone()?,
+            reached: self.reached,
+        })
+    }
+
+    /// All edges.
+    pub(crate) fn edges(&self) -> &[Edge]
+        ensures value { result.now ≡ self.now.edges }
+        ensures rising { AllPairs ComesBefore result.now }
+    {
+        self.edges.as_slice()
+    }
+
+    /// The edges of a count.
+    pub(crate) fn at(&self, count: Count) -> &[Edge]
+        ensures value { result.now ≡ filter (λ e. e.at == count) self.now.edges }
+        ensures rising { AllPairs (λ a b. a.other < b.other) result.now }
+    {
+        let edges = self.edges.as_slice();
+        let rest = &edges[first_from(edges, count)..];
+        &rest[..first_after(rest, count)]
+    }
+
+    /// The first count, from this one on, that has an edge.
+    pub(crate) fn next(&self, count: Count) -> Option<Count>
+        ensures found { IfSome result (λ n. (count ≤ n) × Any (λ e. e.at ≡ n) self.now.edges) }
+        ensures first { IfSome result (λ n. All (λ e. count ≤ e.at → n ≤ e.at) self.now.edges) }
+        ensures none { IfNone result (All (λ e. e.at < count) self.now.edges) }
+    {
+        let edges = self.edges.as_slice();
+        let place = first_from(edges, count);
+        if place < edges.len() {
+            Some(edges[place].at)
+        } else {
+            None
+        }
+    }
+
+    /// Whether no edge is of a later count.
+    pub(crate) fn ends_by(&self, count: Count) -> bool
+        ensures { IsTrue result ↔ All (λ e. e.at ≤ count) self.now.edges }
+    {
+        let edges = self.edges.as_slice();
+        if edges.len() == 0 {
+            return true;
+        }
+        edges[edges.len() - 1].at <= count
+    }
+
+    /// Adds an edge, no earlier than the others, unless one of them says as much.
+    pub(crate) fn add(&mut self, edge: Edge) -> Result<Added, Memory>
+        requires last { All (λ e. e.at ≤ edge.at) self.old.edges }
+        requires some { 0 < edge.after }
+        ensures implied { (result ≡ Ok Added.Implied) ↔ SaysAsMuch self.old.edges edge }
+        ensures put { result ≡ Ok Added.New → IsPut self.old.edges edge self.new.edges }
+        ensures kept { (result ≡ Ok Added.New → ⊥) → self.new.edges ≡ self.old.edges }
+    {
+        let to = edge.other.index();
+        if edge.after <= self.reached[to] {
+            return Ok(Added::Implied);
+        }
+        let mut reached = self.reached;
+        reached[to] = edge.after;
+        put(&mut self.edges, edge)?;
+        self.reached = reached;
+        Ok(Added::New)
+    }
+}
