@@ -16,3 +16,6 @@ pub use pages::Pages;
 pub use registers::{Csrs, Received};
 pub use state::HartState;
 pub use step::tick;
+
+#[cfg(test)]
+mod tests;
