@@ -1,0 +1,4 @@
+pub mod Laid
+pub mod Places
+pub mod Slots
+pub mod Ticks

@@ -1,0 +1,20 @@
+use Rattle.std.proofs.Common.{◌≡◌, sym, ◌∙◌}
+use Rattle.page_book.proofs.Ticks.{tick_kept}
+use Rattle.page_book.proofs.Slots.{ram_tells}
+use Rattle.page_book.proofs.lease.Lease.tick.Goals as goal
+
+pub invariant_of-self : goal.invariant_of-self
+invariant_of-self c =
+    tick_kept _ c.tick.new.state c.tick.new.pages c.self.invariant c.in-Done.ensures.done
+
+pub returns-in-Miss : goal.returns-in-Miss
+returns-in-Miss c =
+    let pages = ram_tells c.tick.new.pages c.self.inside.pages c.in-Miss.ensures.pages_kept in
+    let state = c.in-Miss.ensures.hart_kept in
+    (rw (pages, state) c.self.view_is, rw (← c.self.view_is) c.in-Miss.ensures.miss)
+
+pub returns-in-Memory : goal.returns-in-Memory
+returns-in-Memory c =
+    let pages = ram_tells c.tick.new.pages c.self.inside.pages c.in-Memory.ensures.pages_kept in
+    let state = c.in-Memory.ensures.hart_kept in
+    (rw (pages, state) c.self.view_is, rw (← c.self.view_is) c.in-Memory.ensures.memory)

@@ -1,0 +1,81 @@
+-- Leases, as contracts see them.
+use Rattle.std.specs.Prelude.{◌≡◌, ◌≢◌, ◌≤◌, ◌<◌, ◌⊎◌, ◌+◌, ◌^◌, ℕ, List, [], ◌∷◌, length, replicate, slice_get, slice_set, slice_index_or, Bool, true, false, Option, Some, None}
+use Rattle.ft_types.specs.declared.names.Want.{Want}
+use Rattle.rv32_hart.specs.Ram.{Ram}
+use Rattle.rv32_hart.specs.Hart.{Hart}
+use Rattle.rv32_hart.specs.Step.{IsTaken, IsMissing, IsOutput}
+use Rattle.rv32_hart.specs.declared.outcome.Tick.{Tick}
+use Rattle.rv32_hart.specs.declared.outcome.Tick.TheVariants.{Done, Miss, Halted, Memory}
+use Rattle.page_book.specs.declared.lease_pages.Slot.{Slot}
+use Rattle.page_book.specs.declared.lease_pages.Slot.TheVariants.{Missing, Readable, Writable}
+use Rattle.page_book.specs.Slots.{ram_of, slot_at, want_of, base_of}
+use Rattle.guest_image.specs.Machine.{MachineState}
+
+pub record LeaseView : Type 0 where
+  pub hart : ℕ
+  pub base : Hart  -- the hart as it was lent
+  pub present : Hart
+  pub bases : List (Option (List ℕ))  -- each page to be written, as it was lent
+  pub slots : List Slot  -- the pages at present
+  pub steps : ℕ
+  pub stop : ℕ  -- the count that the lease does not go past
+
+-- what every lease keeps
+pub record IsLease (l : LeaseView) : Type 0 where
+  pub stop : l.stop < 2 ^ 48
+  pub as_many : length l.bases ≡ length l.slots
+  pub number : l.present.number ≡ l.base.number
+  pub harts : l.present.harts ≡ l.base.harts
+  pub count : l.present.count ≡ l.base.count + l.steps
+
+-- a lease of a hart in this state, without steps and pages
+abbrev pub fresh : ℕ → Hart → ℕ → ℕ → LeaseView
+fresh hart state pages stop =
+    record {
+      hart = hart;
+      base = state;
+      present = state;
+      bases = replicate pages None;
+      slots = replicate pages Missing;
+      steps = 0;
+      stop = stop;
+    }
+
+-- the page as it was lent
+abbrev pub base_at : LeaseView → ℕ → Option (List ℕ)
+base_at l page = base_of (slot_at l.slots page) (slice_index_or l.bases page None)
+
+-- after 1,024 steps, at its stop, and after a step that halts or rings
+abbrev pub IsFull : LeaseView → Type 0
+IsFull l = (1024 ≤ l.steps) ⊎ ((l.stop ≤ l.present.count) ⊎ ((l.present.halted ≡ true) ⊎ (l.present.rung ≢ l.base.rung)))
+
+-- the lease after one more step, which left this hart and these pages
+abbrev pub stepped : LeaseView → Hart → List Slot → LeaseView
+stepped l present slots = record l { present = present; slots = slots; steps = l.steps + 1 }
+
+-- What a tick did: one step of the hart, without inputs, on the pages that the lease has. Else nothing has changed.
+abbrev pub Ticks : Tick → LeaseView → LeaseView → Type 0
+Ticks Done l new = (new ≡ stepped l new.present new.slots) × IsTaken [] l.present (ram_of l.slots) new.present (ram_of new.slots)
+Ticks (Miss page want) l new = (new ≡ l) × IsMissing [] l.present (ram_of l.slots) (page, want)
+Ticks Halted l new = ⊥
+Ticks Memory l new = (new ≡ l) × IsOutput [] l.present (ram_of l.slots)
+
+-- what the lease has of a page was lent by this machine, with this right
+pub record IsLentAt (machine : MachineState) (taken : List (Option Want)) (l : LeaseView) (page : ℕ) : Type 0 where
+  pub right : want_of (slot_at l.slots page) ≡ slice_index_or taken page None
+  pub contents : (bytes : List ℕ) → base_at l page ≡ Some bytes → slice_get machine.pages page ≡ Some bytes
+
+-- the hart and the pages were lent by this machine, with these rights
+pub record IsLent (machine : MachineState) (taken : List (Option Want)) (l : LeaseView) : Type 0 where
+  pub state : slice_get machine.harts l.hart ≡ Some l.base
+  pub as_many : length l.slots ≡ length machine.pages
+  pub pages : (page : ℕ) → page < length l.slots → IsLentAt machine taken l page
+
+-- the lease with a page to read
+abbrev pub with_page_to_read : LeaseView → ℕ → List ℕ → LeaseView
+with_page_to_read l page here = record l { slots = slice_set l.slots page (Readable here) }
+
+-- the lease with a page to write, kept as it was lent and as it is at present
+abbrev pub with_page_to_write : LeaseView → ℕ → List ℕ → List ℕ → LeaseView
+with_page_to_write l page base present =
+    record l { bases = slice_set l.bases page (Some base); slots = slice_set l.slots page (Writable present) }

@@ -1,0 +1,4 @@
+pub mod Faults
+pub mod Slots
+pub mod Leases
+pub mod Books

@@ -1,0 +1,278 @@
+//! The book.
+
+ghost use Rattle.std.specs.Prelude.{◌≡◌, ◌≢◌, ◌<◌, ◌≤◌, ◌^◌, ◌⊎◌, ◌+◌, ◌↔◌, ◌++◌, ◌∷◌, ℕ, List, [], length, replicate, map, slice_set, slice_get, slice_index_or, Some, None, Ok, Err, true, false, IfOk, IfErr, OnOk, OnErr, IsTrue};
+ghost use Rattle.std.specs.Vec.{vec_len, vec_capacity};
+ghost use Rattle.ft_types.specs.Counts.{count_at};
+ghost use Rattle.ft_types.specs.Sets.{IsMember};
+ghost use Rattle.page_book.specs.Slots.{slot_at, want_of};
+ghost use Rattle.page_book.specs.Leases.{LeaseView, fresh, IsFull};
+ghost use Rattle.page_book.specs.Books.{BookView, IsOurs, laid, laid_pages, with_slot, added, right_of, stands_against, open_at, IsLentBy};
+
+use crate::answers::{BookFault, Need};
+use crate::lease::Lease;
+use crate::lease_pages::Slot;
+use crate::mode::{Leg, Mode, Replaying};
+use crate::stretch::Stretch;
+use ft_types::{COUNT_LIMIT, Counts, Hart, HartSet, Memory, PageNo, Want};
+use guest_image::{Machine, Page};
+use std::alloc::Global;
+use std::marker::Model;
+
+/// What the book knows of an open lease: the right that it has on each page.
+#[derive(Clone, Copy, Debug, PartialEq, Eq)]
+pub struct OpenLease {
+    taken: [Option<Want>; 64],
+}
+
+/// A machine with the journal of the steps that led to it. Harts and pages go out on leases, and come back with steps.
+#[derive(Drop)]
+pub struct Book<M: Mode> {
+    start: Machine,
+    machine: Machine,
+    journal: Vec<Stretch>,
+    leases: [Option<OpenLease>; 8],
+    mode: M,
+}
+
+impl<M: Mode> Model for Book<M> {
+    ghost use Rattle.page_book.specs.Books.{BookView, IsBook};
+
+    ghost Value = { BookView M };
+
+    ghost view = { λ b. record { start = b.start; machine = b.machine; journal = b.journal.items; leases = b.leases; mode = b.mode } };
+
+    ghost invariant = { λ b. IsBook b.machine b.leases };
+}
+
+impl Book<Replaying> {
+    /// A book without steps, which obeys a leg.
+    pub fn begin(alloc: Global, start: Machine, leg: Leg) -> Result<Book<Replaying>, Memory>
+        ensures { IfOk result (λ b. b ≡ record { start = start; machine = start; journal = []; leases = replicate 8 None; mode = leg }) }
+    {
+        let machine = start.copy()?;
+        Ok(Book {
+            start,
+            machine,
+            journal: Vec::new(alloc),
+            leases: [None; 8],
+            mode: Replaying::new(leg),
+        })
+    }
+}
+
+fn stands_in_the_way(held: Option<Want>, asked: Want) -> bool
+    ensures { result ≡ stands_against held asked }
+{
+    match held {
+        None => false,
+        Some(Want::Write) => true,
+        Some(Want::Read) => asked == Want::Write,
+    }
+}
+
+fn held_by(lease: &Option<OpenLease>, page: PageNo) -> Option<Want>
+    ensures { result ≡ right_of lease.now page }
+{
+    match lease {
+        None => None,
+        Some(open) => open.taken[page.index()],
+    }
+}
+
+/// The harts but this one whose open leases hold a right on the page that stands against the asked one.
+fn holders(leases: &[Option<OpenLease>; 8], hart: Hart, page: PageNo, want: Want) -> HartSet {
+    let mut harts = HartSet::new();
+    for number in 0..8u8 {
+        if number != hart.number()
+            && stands_in_the_way(held_by(&leases[number as usize], page), want)
+        {
+            harts = harts.with(number);
+        }
+    }
+    harts
+}
+
+fn give(lease: &mut Lease, page: PageNo, here: &Page, want: Want) -> Result<(), Memory>
+    requires { page < length lease.old.slots }
+    ensures hart { lease.new.hart ≡ lease.old.hart }
+    ensures slots { length lease.new.slots ≡ length lease.old.slots }
+{
+    match (want, lease.right(page)) {
+        (Want::Read, None) => lease.take_to_read(page, here.copy()?),
+        (Want::Write, None | Some(Want::Read)) => {
+            let base = here.copy()?;
+            lease.take_to_write(page, base, here.copy()?);
+        }
+        _ => {}
+    }
+    Ok(())
+}
+
+/// Writes what a slot has into the machine, where it was written.
+fn lay_slot(machine: &mut Machine, page: PageNo, slot: Slot)
+    requires { page < length machine.old.pages }
+    ensures { machine.new ≡ record machine.old { pages = with_slot machine.old.pages page slot } }
+{
+    match slot {
+        Slot::Writable(new) => machine.put_page(page, new),
+        Slot::Missing => {}
+        Slot::Readable(same) => drop(same),
+    }
+}
+
+/// Writes the pages that were written into the machine.
+fn lay(machine: &mut Machine, slots: Vec<Slot>)
+    requires same { length slots.items ≡ length machine.old.pages }
+    requires limit { length slots.items ≤ 64 }
+    ensures { machine.new ≡ record machine.old { pages = laid_pages machine.old.pages slots.items } }
+{
+    let mut number = 0u8;
+    for slot in slots {
+        lay_slot(machine, PageNo::new(number), slot);
+        number += 1;
+    }
+}
+
+/// Puts the lease's hart and pages back, and says how many steps it has.
+fn take_back(machine: &mut Machine, lease: Lease) -> u64
+    requires state { slice_get machine.old.harts lease.hart ≡ Some lease.base }
+    requires as_many { length lease.slots ≡ length machine.old.pages }
+    ensures machine { machine.new ≡ laid machine.old lease }
+    ensures steps { result ≡ lease.steps }
+{
+    let _pages = machine.pages();
+    let hart = lease.hart();
+    let (present, slots, steps) = lease.spend();
+    machine.put_hart(hart, present);
+    lay(machine, slots);
+    steps
+}
+
+/// Adds a stretch to a journal that has room for it. One without steps adds nothing.
+fn add_stretch(journal: &mut Vec<Stretch>, hart: Hart, steps: u64)
+    requires { vec_len journal.old < vec_capacity journal.old }
+    ensures { journal.new.items ≡ added journal.old.items hart steps }
+{
+    if steps > 0 {
+        journal.push(Stretch { hart, steps }).unwrap();
+    }
+}
+
+impl<M: Mode> Book<M> {
+    /// The machine as of the settled steps.
+    pub fn machine(&self) -> &Machine
+        ensures { result.now ≡ self.now.machine }
+    {
+        &self.machine
+    }
+
+    /// The settled steps, in order.
+    pub fn journal(&self) -> &[Stretch]
+        ensures { result.now ≡ self.now.journal }
+    {
+        self.journal.as_slice()
+    }
+
+    /// The settled counts.
+    pub fn counts(&self) -> Counts
+        ensures { length result ≡ length self.now.machine.harts }
+    {
+        let mut counts = Counts::zero(self.machine.harts());
+        for number in 0..self.machine.harts() {
+            let hart = Hart::new(number);
+            counts.set(hart, self.machine.hart(hart).count().min(COUNT_LIMIT - 1));
+        }
+        counts
+    }
+
+    /// Lends a hart.
+    pub fn lease(&mut self, alloc: Global, hart: Hart) -> Result<Lease, BookFault>
+        requires { hart < length self.old.machine.harts }
+        ensures err { OnErr result (self.new ≡ self.old) }
+    {
+        if self.leases[hart.index()].is_some() {
+            return Err(BookFault::Leased);
+        }
+        let state = self.machine.hart(hart);
+        if state.is_halted() {
+            return Err(BookFault::Halted);
+        }
+        let stop = self.mode.stop(hart);
+        if state.count() >= stop {
+            return Err(BookFault::AtLimit);
+        }
+        let lease = Lease::fresh(alloc, hart, state, self.machine.pages(), stop)?;
+        self.leases[hart.index()] = Some(OpenLease { taken: [None; 64] });
+        Ok(lease)
+    }
+
+    fn is_ours(&self, lease: &Lease) -> bool
+        ensures { IsTrue result ↔ IsOurs self.now lease.now }
+    {
+        match &self.leases[lease.hart().index()] {
+            None => false,
+            Some(open) => lease.is_lent(&self.machine, &open.taken),
+        }
+    }
+
+    /// Gives the lease a page, unless another open lease holds a right that stands against it.
+    pub fn need(&mut self, lease: &mut Lease, page: PageNo, want: Want) -> Result<Need, BookFault>
+        requires { page < length self.old.machine.pages }
+        ensures foreign { (result ≡ Err BookFault.Foreign) ↔ ¬ (IsOurs self.old lease.old) }
+    {
+        if !self.is_ours(lease) {
+            return Err(BookFault::Foreign);
+        }
+        let harts = holders(&self.leases, lease.hart(), page, want);
+        if !harts.is_empty() {
+            return Ok(Need::HeldBy(harts));
+        }
+        give(lease, page, self.machine.page(page), want)?;
+        let right = lease.right(page);
+        if let Some(open) = &mut self.leases[lease.hart().index()] {
+            open.taken[page.index()] = right;
+        }
+        Ok(Need::Given)
+    }
+
+    /// Adds the lease's steps, where it is this book's. Otherwise it comes back.
+    pub fn settle(&mut self, lease: Lease) -> Result<(), (Lease, BookFault)>
+        ensures ours { OnOk result (IsOurs self.old lease) }
+        ensures foreign { IfErr result (λ e. e.1 ≡ BookFault.Foreign → ¬ (IsOurs self.old lease)) }
+        ensures back { IfErr result (λ e. e.0 ≡ lease) }
+        ensures kept { OnErr result (self.new ≡ self.old) }
+        ensures machine { OnOk result (self.new.machine ≡ laid self.old.machine lease) }
+        ensures journal { OnOk result (self.new.journal ≡ added self.old.journal lease.hart lease.steps) }
+    {
+        if !self.is_ours(&lease) {
+            return Err((lease, BookFault::Foreign));
+        }
+        if self.journal.reserve(1).is_err() {
+            return Err((lease, BookFault::Memory));
+        }
+        let hart = lease.hart();
+        let steps = take_back(&mut self.machine, lease);
+        add_stretch(&mut self.journal, hart, steps);
+        self.leases[hart.index()] = None;
+        Ok(())
+    }
+
+    /// Ends the lease without its steps.
+    pub fn discard(&mut self, lease: Lease) -> Result<(), BookFault>
+        ensures ok { OnOk result (self.new ≡ record self.old { leases = slice_set self.old.leases lease.hart None }) }
+        ensures ours { OnOk result (IsOurs self.old lease) }
+        ensures foreign { IfErr result (λ f. (f ≡ BookFault.Foreign) × ¬ (IsOurs self.old lease)) }
+        ensures kept { OnErr result (self.new ≡ self.old) }
+    {
+        let ours = self.is_ours(&lease);
+        let hart = lease.hart();
+        let (present, slots, _) = lease.spend();
+        drop(present);
+        drop(slots);
+        if !ours {
+            return Err(BookFault::Foreign);
+        }
+        self.leases[hart.index()] = None;
+        Ok(())
+    }
+}

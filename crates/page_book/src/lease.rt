@@ -1,0 +1,218 @@
+//! A lease: one hart's state and some pages, on loan from a book.
+
+ghost use Rattle.std.specs.Prelude.{◌≡◌, ◌≢◌, ◌<◌, ◌≤◌, ◌^◌, ◌⊎◌, ◌+◌, ◌↔◌, ℕ, List, [], length, replicate, map, slice_set, slice_index_or, Some, None, true, false, IfOk, OnOk, OnErr, IsTrue};
+ghost use Rattle.page_book.specs.Slots.{slot_at, want_of, base_of};
+ghost use Rattle.page_book.specs.Leases.{LeaseView, fresh, IsFull, Ticks, IsLent, IsLentAt, base_at, with_page_to_read, with_page_to_write};
+
+use crate::lease_pages::{LeasePages, Slot};
+use ft_types::{Count, Hart, Memory, PageNo, Want};
+use guest_image::{Machine, Page};
+use rv32_hart::{HartState, Tick, tick};
+use std::alloc::Global;
+use std::marker::Model;
+
+/// The most steps of one lease.
+pub const LEASE_STEPS: u64 = 1024;
+
+/// One hart's state and some pages, on loan from a book. It has to be spent, by `Book::settle` or `Book::discard`.
+pub struct Lease {
+    hart: Hart,
+    base: HartState,
+    present: HartState,
+    /// The contents that each page to be written had when it came.
+    bases: Vec<Option<Page>>,
+    pages: LeasePages,
+    steps: u64,
+    stop: Count,
+}
+
+impl Model for Lease {
+    ghost use Rattle.page_book.specs.Leases.{LeaseView, IsLease};
+
+    ghost Value = { LeaseView };
+
+    ghost view = { λ l. record { hart = l.hart; base = l.base; present = l.present; bases = l.bases.items; slots = l.pages; steps = l.steps; stop = l.stop } };
+
+    ghost invariant = { λ l. IsLease (record { hart = l.hart; base = l.base; present = l.present; bases = l.bases.items; slots = l.pages; steps = l.steps; stop = l.stop }) };
+}
+
+fn no_pages(alloc: Global, pages: u8) -> Result<Vec<Option<Page>>, Memory>
+    ensures { IfOk result (λ v. v.items ≡ replicate pages None) }
+{
+    let mut all = Vec::with_capacity(alloc, pages as usize)?;
+    for _page in 0..pages {
+        all.push(None)?;
+    }
+    Ok(all)
+}
+
+/// Whether the page that was lent, where one was, is this page.
+fn is_base(slot: &Slot, kept: &Option<Page>, here: &Page) -> bool
+    ensures { IsTrue result ↔ ((bytes : List ℕ) → base_of slot.now kept.now ≡ Some bytes → here.now ≡ bytes) }
+{
+    match (slot, kept) {
+        (Slot::Missing, _) | (Slot::Writable(_), None) => true,
+        (Slot::Readable(page), _) => here.same(page),
+        (Slot::Writable(_), Some(page)) => here.same(page),
+    }
+}
+
+impl Lease {
+    /// A lease of a hart in this state, without steps and pages.
+    pub(crate) fn fresh(
+        alloc: Global,
+        hart: Hart,
+        state: &HartState,
+        pages: u8,
+        stop: Count,
+    ) -> Result<Lease, Memory>
+        requires pages { pages ≤ 64 }
+        requires stop { stop < 2 ^ 48 }
+        ensures { IfOk result (λ l. l ≡ fresh hart state.now pages stop) }
+    {
+        let base = state.copy()?;
+        let present = state.copy()?;
+        let bases = no_pages(alloc, pages)?;
+        let pages = LeasePages::missing(alloc, pages)?;
+        Ok(Lease {
+            hart,
+            base,
+            present,
+            bases,
+            pages,
+            steps: 0,
+            stop,
+        })
+    }
+
+    /// The hart.
+    pub fn hart(&self) -> Hart
+        ensures { result ≡ self.now.hart }
+    {
+        self.hart
+    }
+
+    /// The hart's present count.
+    pub fn count(&self) -> Count
+        ensures { result ≡ self.now.present.count }
+    {
+        self.present.count()
+    }
+
+    /// How many steps the lease has.
+    pub fn steps(&self) -> u64
+        ensures { result ≡ self.now.steps }
+    {
+        self.steps
+    }
+
+    /// The right that the lease has on a page.
+    pub fn right(&self, page: PageNo) -> Option<Want>
+        requires { page < length self.now.slots }
+        ensures { result ≡ want_of (slot_at self.now.slots page) }
+    {
+        self.pages.right(page)
+    }
+
+    /// Whether the lease takes no further step: after 1,024 steps, after a step that halts or rings, and at its stop.
+    #[inline(always)]
+    pub fn full(&self) -> bool
+        ensures { IsTrue result ↔ IsFull self.now }
+    {
+        self.steps >= LEASE_STEPS
+            || self.present.count() >= self.stop
+            || self.present.is_halted()
+            || self.present.rung().as_slice() != self.base.rung().as_slice()
+    }
+
+    /// One step, where the lease is not full.
+    #[inline(always)]
+    pub fn tick(&mut self) -> Tick
+        requires { ¬ (IsFull self.old) }
+        ensures { Ticks result self.old self.new }
+    {
+        match tick(&mut self.present, &[], &mut self.pages) {
+            Tick::Done => {
+                self.steps += 1;
+                Tick::Done
+            }
+            Tick::Miss(page, want) => Tick::Miss(page, want),
+            Tick::Halted => Tick::Halted,
+            Tick::Memory => Tick::Memory,
+        }
+    }
+
+    /// Takes a page in to read.
+    pub(crate) fn take_to_read(&mut self, page: PageNo, here: Page)
+        requires page { page < length self.old.slots }
+        ensures { self.new ≡ with_page_to_read self.old page here }
+    {
+        drop(self.pages.put(page, Slot::Readable(here)));
+    }
+
+    /// Takes a page in to write, given twice over.
+    pub(crate) fn take_to_write(&mut self, page: PageNo, base: Page, present: Page)
+        requires page { page < length self.old.slots }
+        ensures { self.new ≡ with_page_to_write self.old page base present }
+    {
+        self.bases[page.index()] = Some(base);
+        drop(self.pages.put(page, Slot::Writable(present)));
+    }
+
+    /// Whether the lease's hart and pages were lent by the machine, with these rights.
+    pub(crate) fn is_lent(&self, machine: &Machine, taken: &[Option<Want>; 64]) -> bool
+        requires { self.now.hart < length machine.now.harts }
+        ensures { IsTrue result ↔ IsLent machine.now taken.now self.now }
+    {
+        machine.hart(self.hart).same(&self.base)
+            && machine.pages() as usize == self.pages.len()
+            && self.pages_are_lent(machine, taken)
+    }
+
+    fn pages_are_lent(&self, machine: &Machine, taken: &[Option<Want>; 64]) -> bool
+        requires { length self.now.slots ≡ length machine.now.pages }
+        ensures { IsTrue result ↔ ((page : ℕ) → page < length self.now.slots → IsLentAt machine.now taken.now self.now page) }
+    {
+        for number in 0..machine.pages() {
+            if !self.page_is_lent(PageNo::new(number), machine, taken) {
+                return false;
+            }
+        }
+        true
+    }
+
+    fn page_is_lent(&self, page: PageNo, machine: &Machine, taken: &[Option<Want>; 64]) -> bool
+        requires slots { page < length self.now.slots }
+        requires pages { page < length machine.now.pages }
+        ensures { IsTrue result ↔ IsLentAt machine.now taken.now self.now page }
+    {
+        self.pages.right(page) == taken[page.index()]
+            && is_base(
+                self.pages.slot(page),
+                &self.bases[page.index()],
+                machine.page(page),
+            )
+    }
+
+    /// What the lease has now. The lease is gone.
+    pub(crate) fn spend(self) -> (HartState, Vec<Slot>, u64)
+        ensures hart { result.0 ≡ self.present }
+        ensures slots { result.1.items ≡ self.slots }
+        ensures steps { result.2 ≡ self.steps }
+        ensures number { result.0.number ≡ self.base.number }
+        ensures harts { result.0.harts ≡ self.base.harts }
+    {
+        let Lease {
+            hart: _,
+            base,
+            present,
+            bases,
+            pages,
+            steps,
+            stop: _,
+        } = self;
+        drop(base);
+        drop(bases);
+        (present, pages.into_slots(), steps)
+    }
+}

@@ -1,0 +1,19 @@
+//! Books: a machine with the journal of the steps that led to it, and leases of its harts and pages.
+#![tactic(auto)]
+
+mod answers;
+mod book;
+mod lease;
+mod lease_pages;
+mod mode;
+mod stretch;
+
+pub use answers::{BookFault, Keep, Need};
+pub use book::Book;
+pub use lease::Lease;
+pub use lease_pages::{LeasePages, Slot};
+pub use mode::{Leg, Mode, Replaying};
+pub use stretch::Stretch;
+
+#[cfg(test)]
+mod tests;
