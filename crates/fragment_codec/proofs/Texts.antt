@@ -55,28 +55,26 @@ pub opening_front-base : (o : OpeningParts) → opening_front o (flat_map (numbe
 unfolding opening_body
 opening_front-base o = refl
 
-pub ordered_text : (out : List ℕ) (e : Edge) → (((out ++ 1 ∷ []) ++ to_le_bytes w64 e.at) ++ e.other ∷ []) ++ to_le_bytes w64 e.after ≡ out ++ record_bytes (EdgeRecord e)
-unfolding record_bytes number
-ordered_text out e = four_parts out (to_le_bytes w64 e.at) (to_le_bytes w64 e.after) 1 e.other
+pub edge_text : (o0 o1 o2 o3 o4 : List ℕ) (e : Edge) (other : ℕ) → o1 ≡ o0 ++ 1 ∷ [] → o2 ≡ o1 ++ number w64 e.at → other ≡ e.other → o3 ≡ o2 ++ other ∷ [] → o4 ≡ o3 ++ number w64 e.after → o4 ≡ o0 ++ record_bytes (EdgeRecord e)
+unfolding record_bytes
+edge_text o0 o1 o2 o3 o4 e other e1 e2 same e3 e4 = rw (e4, e3, same, e2, e1) (four_parts o0 (number w64 e.at) (number w64 e.after) 1 e.other)
 
 five_parts : (d t p f e c : List ℕ) (h k : ℕ) → ((([] ++ (d ++ (h ∷ k ∷ (t ++ p)))) ++ f) ++ e) ++ c ≡ d ++ (h ∷ k ∷ (t ++ (p ++ (f ++ (e ++ (c ++ []))))))
 five_parts d t p f e c h k = simp (append_assoc, append-nil)
 
 -- what is written before the records
 pub log_start : (f : FragmentParts) →
-    ((([] ++ (f.guest.digest ++ (f.guest.harts ∷ f.key.hart ∷ (number w32 f.key.term ++ number w32 f.key.place)))) ++ to_le_bytes w64 f.from) ++ to_le_bytes w64 f.to) ++ to_le_bytes w16 (length f.records) ≡ log_front f []
-unfolding number
-log_start f = five_parts f.guest.digest (to_le_bytes w32 f.key.term) (to_le_bytes w32 f.key.place) (to_le_bytes w64 f.from) (to_le_bytes w64 f.to) (to_le_bytes w16 (length f.records)) f.guest.harts f.key.hart
+    ((([] ++ (f.guest.digest ++ (f.guest.harts ∷ f.key.hart ∷ (number w32 f.key.term ++ number w32 f.key.place)))) ++ number w64 f.from) ++ number w64 f.to) ++ number w16 (length f.records) ≡ log_front f []
+log_start f = five_parts f.guest.digest (number w32 f.key.term) (number w32 f.key.place) (number w64 f.from) (number w64 f.to) (number w16 (length f.records)) f.guest.harts f.key.hart
 
 pub log_more : (f : FragmentParts) (rs : List Record) (i : ℕ) (d : Record) → i < length rs → log_front f (flat_map record_bytes (take i rs)) ++ record_bytes (get_or rs i d) ≡ log_front f (flat_map record_bytes (take (i + 1) rs))
 log_more f rs i d lt = log_front-append f (flat_map record_bytes (take i rs)) (record_bytes (get_or rs i d)) ∙ ap (log_front f) (sym (ap (flat_map record_bytes) (take_more rs i d lt) ∙ flat_map-append record_bytes (take i rs) (get_or rs i d ∷ []) ∙ ap (λ (x : List ℕ). flat_map record_bytes (take i rs) ++ x) (append-nil (record_bytes (get_or rs i d)))))
 
-pub log_started : (f : FragmentParts) (g : Guest) (k : Key) (o0 o1 o2 o3 o4 b1 b2 b3 : List ℕ) (from to n : ℕ) → o0 ≡ []
-    → o1 ≡ o0 ++ (g.digest ++ (g.harts ∷ k.hart ∷ (number w32 k.term ++ number w32 k.place))) → o2 ≡ o1 ++ b1 → o3 ≡ o2 ++ b2 → o4 ≡ o3 ++ b3
-    → g ≡ f.guest → k ≡ f.key → from ≡ f.from → to ≡ f.to → n ≡ length f.records
-    → b1 ≡ to_le_bytes w64 from → b2 ≡ to_le_bytes w64 to → b3 ≡ to_le_bytes w16 n → o4 ≡ log_front f []
-log_started f g k o0 o1 o2 o3 o4 b1 b2 b3 from to n e0 e1 e2 e3 e4 eg ek ef et en h1 h2 h3 =
-    rw (e4, e3, e2, e1, e0, h1, h2, h3, eg, ek, ef, et, en) (log_start f)
+pub log_started : (f : FragmentParts) (g : Guest) (k : Key) (o0 o1 o2 o3 o4 : List ℕ) (from to n : ℕ) → o0 ≡ []
+    → o1 ≡ o0 ++ (g.digest ++ (g.harts ∷ k.hart ∷ (number w32 k.term ++ number w32 k.place))) → o2 ≡ o1 ++ number w64 from → o3 ≡ o2 ++ number w64 to → o4 ≡ o3 ++ number w16 n
+    → g ≡ f.guest → k ≡ f.key → from ≡ f.from → to ≡ f.to → n ≡ length f.records → o4 ≡ log_front f []
+log_started f g k o0 o1 o2 o3 o4 from to n e0 e1 e2 e3 e4 eg ek ef et en =
+    rw (e4, e3, e2, e1, e0, eg, ek, ef, et, en) (log_start f)
 
 pub log_goes_on : (f : FragmentParts) (rs : List Record) (i : ℕ) (r : Record) (old new : List ℕ) → i < length rs → r ≡ get_or rs i r → new ≡ old ++ record_bytes r
     → old ≡ log_front f (flat_map record_bytes (take i rs)) → new ≡ log_front f (flat_map record_bytes (take (i + 1) rs))

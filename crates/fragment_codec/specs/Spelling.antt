@@ -13,20 +13,24 @@ use Rattle.fragment_codec.specs.Rules.{FragmentParts, OpeningParts}
 unfoldable pub number : Width → ℕ → List ℕ
 number w n = to_le_bytes w n
 
+-- an input: its kind, and the value, which is 0 for Timer, the word, or the ringing hart
 unfoldable pub input_bytes : HartInput → List ℕ
 input_bytes Timer = 0 ∷ number w32 0
 input_bytes (Word w) = 1 ∷ number w32 w
 input_bytes (Bell source) = 2 ∷ number w32 source
 
+-- an edge of 18 bytes, or an input of 14
 unfoldable pub record_bytes : Record → List ℕ
 record_bytes (EdgeRecord edge) = 1 ∷ (number w64 edge.at ++ (edge.other ∷ number w64 edge.after))
 record_bytes (InputRecord at input) = 2 ∷ (number w64 at ++ input_bytes input)
 
+-- digest, harts, hart, term, place, from, to, number of records, records
 unfoldable pub log_body : FragmentParts → List ℕ
 log_body f =
     f.guest.digest ++ (f.guest.harts ∷ f.key.hart ∷ (number w32 f.key.term ++ (number w32 f.key.place
     ++ (number w64 f.from ++ (number w64 f.to ++ (number w16 (length f.records) ++ flat_map record_bytes f.records))))))
 
+-- digest, harts, term, parent, base
 unfoldable pub opening_body : OpeningParts → List ℕ
 opening_body o = o.guest.digest ++ (o.guest.harts ∷ (number w32 o.term ++ (number w32 o.parent ++ flat_map (number w64) o.base)))
 
@@ -34,6 +38,6 @@ opening_body o = o.guest.digest ++ (o.guest.harts ∷ (number w32 o.term ++ (num
 unfoldable pub headed : ℕ → List ℕ → List ℕ
 headed kind body = 0x56 ∷ 0x46 ∷ 1 ∷ kind ∷ (number w32 (length body) ++ body)
 
--- and the digest of all before it
+-- and the digest of all before it: SHA-256 of FIPS 180-4, section 6.2
 unfoldable pub sealed : List ℕ → List ℕ
 sealed bytes = bytes ++ sha256 bytes

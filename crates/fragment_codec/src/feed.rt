@@ -10,6 +10,7 @@ use crate::fault::FrameFault;
 use crate::frame::Frame;
 use crate::front::Front;
 use crate::reading::{BodyError, read_log, read_opening};
+use byteorder::{ByteOrder, LittleEndian};
 use ft_types::Memory;
 use sha2::{Digest, Sha256};
 use std::alloc::{AllocError, Global};
@@ -34,7 +35,7 @@ fn is_right_len(kind: u8, len: u32) -> bool
     }
 }
 
-#[tactic(auto, unfolding(crate::specs::Streams::head_of))]
+#[tactic(auto, using(crate::proofs::Numbers::little_32), unfolding(crate::specs::Streams::head_of))]
 fn head(bytes: &[u8]) -> Result<Option<usize>, FrameFault>
     ensures { result ≡ head_of bytes.now }
 {
@@ -52,7 +53,7 @@ fn head(bytes: &[u8]) -> Result<Option<usize>, FrameFault>
     }
     let (_, behind) = bytes.split_at(4);
     let (len, _) = behind.split_at(4);
-    let len = u32::from_le_bytes([len[0], len[1], len[2], len[3]]);
+    let len = LittleEndian::read_u32(len);
     if is_right_len(bytes[3], len) {
         Ok(Some(len as usize + 40))
     } else {

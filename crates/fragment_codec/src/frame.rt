@@ -204,14 +204,21 @@ impl Fragment {
     pub fn copy(&self, alloc: Global) -> Result<Fragment, Memory>
         ensures { IfOk result (λ f. f ≡ self.now) }
     {
-        let mut records = Vec::with_capacity(alloc, self.records.len())?;
-        records.extend_from_slice(&self.records)?;
-        Ok(Fragment {
-            guest: self.guest,
-            key: self.key,
-            from: self.from,
-            to: self.to,
+        let Fragment {
+            guest,
+            key,
+            from,
+            to,
             records,
+        } = self;
+        let mut copies = Vec::with_capacity(alloc, records.len())?;
+        copies.extend_from_slice(records)?;
+        Ok(Fragment {
+            guest: *guest,
+            key: *key,
+            from: *from,
+            to: *to,
+            records: copies,
         })
     }
 
@@ -275,11 +282,17 @@ impl Opening {
     pub fn copy(&self) -> Opening
         ensures { result ≡ self.now }
     {
+        let Opening {
+            guest,
+            term,
+            parent,
+            base,
+        } = self;
         Opening {
-            guest: self.guest,
-            term: self.term,
-            parent: self.parent,
-            base: self.base,
+            guest: *guest,
+            term: *term,
+            parent: *parent,
+            base: *base,
         }
     }
 

@@ -16,3 +16,6 @@ pub use frame::{Fragment, Frame, Opening};
 pub use laws::{any_cutting, lasting_fault, one_fault, one_reading, one_spelling, short_rest};
 pub use types::{Key, Record};
 pub use writing::write_frame;
+
+#[cfg(test)]
+mod tests;

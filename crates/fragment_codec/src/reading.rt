@@ -8,6 +8,7 @@ ghost use Rattle.fragment_codec.specs.Reading.{Gives, Makes, number_at, byte_at,
 use crate::frame::{Fragment, Opening};
 use crate::types::{Key, Record};
 use arrayvec::ArrayVec;
+use byteorder::{ByteOrder, LittleEndian};
 use edge_log::Edge;
 use ft_types::{Counts, Guest, Hart, Term};
 use input_log::Input;
@@ -52,7 +53,7 @@ fn u8_at(bytes: &[u8]) -> Result<(u8, &[u8]), BodyError>
     }
 }
 
-#[tactic(auto, unfolding(crate::specs::Reading::number_at))]
+#[tactic(auto, using(crate::proofs::Numbers::little_16), unfolding(crate::specs::Reading::number_at))]
 fn u16_at(bytes: &[u8]) -> Result<(u16, &[u8]), BodyError>
     ensures { Gives (λ x. (x.0, x.1.now)) result (number_at w16 bytes.now) }
 {
@@ -60,11 +61,10 @@ fn u16_at(bytes: &[u8]) -> Result<(u16, &[u8]), BodyError>
         return Err(BodyError::Broken);
     }
     let (front, rest) = bytes.split_at(2);
-    let number = u16::from_le_bytes([front[0], front[1]]);
-    Ok((number, rest))
+    Ok((LittleEndian::read_u16(front), rest))
 }
 
-#[tactic(auto, unfolding(crate::specs::Reading::number_at))]
+#[tactic(auto, using(crate::proofs::Numbers::little_32), unfolding(crate::specs::Reading::number_at))]
 fn u32_at(bytes: &[u8]) -> Result<(u32, &[u8]), BodyError>
     ensures { Gives (λ x. (x.0, x.1.now)) result (number_at w32 bytes.now) }
 {
@@ -72,11 +72,10 @@ fn u32_at(bytes: &[u8]) -> Result<(u32, &[u8]), BodyError>
         return Err(BodyError::Broken);
     }
     let (front, rest) = bytes.split_at(4);
-    let number = u32::from_le_bytes([front[0], front[1], front[2], front[3]]);
-    Ok((number, rest))
+    Ok((LittleEndian::read_u32(front), rest))
 }
 
-#[tactic(auto, unfolding(crate::specs::Reading::number_at))]
+#[tactic(auto, using(crate::proofs::Numbers::little_64), unfolding(crate::specs::Reading::number_at))]
 fn u64_at(bytes: &[u8]) -> Result<(u64, &[u8]), BodyError>
     ensures { Gives (λ x. (x.0, x.1.now)) result (number_at w64 bytes.now) }
 {
@@ -84,10 +83,7 @@ fn u64_at(bytes: &[u8]) -> Result<(u64, &[u8]), BodyError>
         return Err(BodyError::Broken);
     }
     let (front, rest) = bytes.split_at(8);
-    let number = u64::from_le_bytes([
-        front[0], front[1], front[2], front[3], front[4], front[5], front[6], front[7],
-    ]);
-    Ok((number, rest))
+    Ok((LittleEndian::read_u64(front), rest))
 }
 
 #[tactic(auto, unfolding(crate::specs::Reading::digest_at))]

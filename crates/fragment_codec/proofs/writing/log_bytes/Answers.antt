@@ -1,12 +1,11 @@
 use Rattle.std.proofs.Common.{◌≡◌, ◌∙◌, ap, arith, length, ◌++◌, List, ℕ}
-use Rattle.fragment_codec.specs.Spelling.{number, record_bytes}
 use Rattle.fragment_codec.proofs.Texts.{log_started, log_goes_on}
 use Rattle.fragment_codec.proofs.writing.log_bytes.Goals as goal
 
 pub loop-record-init : goal.loop-record-init
 loop-record-init c = record {
-  text = log_started c.args.fragment.now c.guest.result c.key.result _ _ _ _ _ _ _ _ _ _ _ c.new-out.ensures c.put_place.ensures.items c.put.ensures.items c.put-2.ensures.items c.put-3.ensures.items c.guest.ensures c.key.ensures c.from.ensures c.to.ensures (ap length c.records-records.ensures.records) c.to_le_bytes.ensures c.to_le_bytes-2.ensures c.to_le_bytes-3.ensures;
-  len = omega (arith, ap length c.new-out.ensures, c.put_place.ensures.len, c.put.ensures.len, c.put-2.ensures.len, c.put-3.ensures.len, ap length c.to_le_bytes.ensures, ap length c.to_le_bytes-2.ensures, ap length c.to_le_bytes-3.ensures);
+  text = log_started c.args.fragment.now c.guest.result c.key.result _ _ _ _ _ _ _ _ c.new-out.ensures c.put_place.ensures.items c.put_u64.ensures.items c.put_u64-2.ensures.items c.put_u16.ensures.items c.guest.ensures c.key.ensures c.from.ensures c.to.ensures (ap length c.records-records.ensures.records);
+  len = omega (arith, ap length c.new-out.ensures, c.put_place.ensures.len, c.put_u64.ensures.len, c.put_u64-2.ensures.len, c.put_u16.ensures.len);
 }
 
 pub loop-record-preserved : goal.loop-record-preserved
