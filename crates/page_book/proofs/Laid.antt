@@ -3,7 +3,7 @@ use Rattle.std.proofs.Common.{◌≡◌, ℕ, zero, suc, ◌+◌, ◌<◌, List,
 use Rattle.guest_image.specs.Machine.{MachineState}
 use Rattle.page_book.specs.declared.lease_pages.Slot.{Slot}
 use Rattle.page_book.specs.declared.lease_pages.Slot.TheVariants.{Missing, Readable, Writable}
-use Rattle.page_book.specs.Books.{laid_pages, page_after, with_slot}
+use Rattle.page_book.specs.Leases.{laid_pages, page_after, with_slot}
 
 pub length-laid_pages : (ps : List (List ℕ)) (ss : List Slot) → length (laid_pages ps ss) ≡ length ps
 length-laid_pages [] ss = refl

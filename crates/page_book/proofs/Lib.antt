@@ -1,4 +1,9 @@
+pub mod Given
+pub mod Journals
 pub mod Laid
 pub mod Places
+pub mod Runs
+pub mod Shown
 pub mod Slots
+pub mod Ticked
 pub mod Ticks

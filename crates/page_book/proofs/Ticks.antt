@@ -8,7 +8,9 @@ use Rattle.rv32_hart.specs.Step.{IsTaken}
 use Rattle.rv32_hart.specs.CountedSteps.{Counted, effect_counted}
 use Rattle.page_book.specs.declared.lease_pages.Slot.{Slot}
 use Rattle.page_book.specs.Slots.{ram_of, present_bytes}
-use Rattle.page_book.specs.Leases.{LeaseView, IsLease, stepped}
+use Rattle.page_book.specs.Leases.{LeaseView, stepped}
+use Rattle.page_book.specs.Runs.{IsLease}
+use Rattle.page_book.proofs.Ticked.{ticked}
 use Rattle.page_book.proofs.Slots.{length-map}
 
 pub taken_counted : (h after : Hart) (ram left : Ram) → IsTaken [] h ram after left → Counted h after
@@ -33,4 +35,5 @@ tick_kept l after slots p t =
       number = c.number ∙ p.number;
       harts = c.harts ∙ p.harts;
       count = c.count ∙ omega (arith, p.count);
+      runs = ticked l after slots t p.runs;
     }

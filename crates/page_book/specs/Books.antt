@@ -5,9 +5,8 @@ use Rattle.ft_types.specs.declared.names.Want.TheVariants.{Read, Write}
 use Rattle.guest_image.specs.Machine.{MachineState}
 use Rattle.page_book.specs.declared.book.OpenLease.{OpenLease}
 use Rattle.page_book.specs.declared.stretch.Stretch.{Stretch}
-use Rattle.page_book.specs.declared.lease_pages.Slot.{Slot}
-use Rattle.page_book.specs.declared.lease_pages.Slot.TheVariants.{Missing, Readable, Writable}
-use Rattle.page_book.specs.Leases.{LeaseView, IsLent}
+use Rattle.page_book.specs.Leases.{LeaseView, IsLent, laid}
+use Rattle.page_book.specs.Runs.{LeadsTo}
 
 pub record BookView (M : Type 0) : Type 0 where
   pub start : MachineState
@@ -20,8 +19,11 @@ pub record BookView (M : Type 0) : Type 0 where
 abbrev pub open_at : List (Option OpenLease) → ℕ → Option OpenLease
 open_at leases hart = slice_index_or leases hart None
 
--- what every book keeps
-pub record IsBook (machine : MachineState) (leases : List (Option OpenLease)) : Type 0 where
+-- what every book keeps: the journal leads from the start to the machine, and leases are of harts that there are
+pub record IsBook (start machine : MachineState) (journal : List Stretch) (leases : List (Option OpenLease)) : Type 0 where
+  pub run : LeadsTo start journal machine
+  pub harts : length machine.harts ≡ length start.harts
+  pub pages : length machine.pages ≡ length start.pages
   pub rows : length leases ≡ 8
   pub known : (hart : ℕ) → length machine.harts ≤ hart → open_at leases hart ≡ None
 
@@ -32,27 +34,6 @@ IsLentBy (Some lent) machine l = IsLent machine lent.taken l
 -- the lease is the book's open lease of its hart: it has the hart, the pages and the rights that the book lent
 abbrev pub IsOurs : {M : Type 0} → BookView M → LeaseView → Type 0
 IsOurs b l = IsLentBy (open_at b.leases l.hart) b.machine l
-
--- the pages, with those that were written in their places
-abbrev pub page_after : List ℕ → Slot → List ℕ
-page_after page Missing = page
-page_after page (Readable same) = page
-page_after page (Writable new) = new
-
-abbrev pub laid_pages : List (List ℕ) → List Slot → List (List ℕ)
-laid_pages [] slots = []
-laid_pages (page ∷ pages) [] = page ∷ pages
-laid_pages (page ∷ pages) (slot ∷ slots) = page_after page slot ∷ laid_pages pages slots
-
--- the pages, with what one slot has in its place where it was written
-abbrev pub with_slot : List (List ℕ) → ℕ → Slot → List (List ℕ)
-with_slot pages page Missing = pages
-with_slot pages page (Readable same) = pages
-with_slot pages page (Writable new) = slice_set pages page new
-
--- the machine with the lease's hart and pages
-abbrev pub laid : MachineState → LeaseView → MachineState
-laid m l = record { harts = slice_set m.harts l.hart l.present; pages = laid_pages m.pages l.slots }
 
 -- a lease without steps adds nothing
 abbrev pub added : List Stretch → ℕ → ℕ → List Stretch

@@ -20,14 +20,6 @@ pub record LeaseView : Type 0 where
   pub steps : ℕ
   pub stop : ℕ  -- the count that the lease does not go past
 
--- what every lease keeps
-pub record IsLease (l : LeaseView) : Type 0 where
-  pub stop : l.stop < 2 ^ 48
-  pub as_many : length l.bases ≡ length l.slots
-  pub number : l.present.number ≡ l.base.number
-  pub harts : l.present.harts ≡ l.base.harts
-  pub count : l.present.count ≡ l.base.count + l.steps
-
 -- a lease of a hart in this state, without steps and pages
 abbrev pub fresh : ℕ → Hart → ℕ → ℕ → LeaseView
 fresh hart state pages stop =
@@ -79,3 +71,24 @@ with_page_to_read l page here = record l { slots = slice_set l.slots page (Reada
 abbrev pub with_page_to_write : LeaseView → ℕ → List ℕ → List ℕ → LeaseView
 with_page_to_write l page base present =
     record l { bases = slice_set l.bases page (Some base); slots = slice_set l.slots page (Writable present) }
+
+-- the pages, with those that were written in their places
+abbrev pub page_after : List ℕ → Slot → List ℕ
+page_after page Missing = page
+page_after page (Readable same) = page
+page_after page (Writable new) = new
+
+abbrev pub laid_pages : List (List ℕ) → List Slot → List (List ℕ)
+laid_pages [] slots = []
+laid_pages (page ∷ pages) [] = page ∷ pages
+laid_pages (page ∷ pages) (slot ∷ slots) = page_after page slot ∷ laid_pages pages slots
+
+-- the pages, with what one slot has in its place where it was written
+abbrev pub with_slot : List (List ℕ) → ℕ → Slot → List (List ℕ)
+with_slot pages page Missing = pages
+with_slot pages page (Readable same) = pages
+with_slot pages page (Writable new) = slice_set pages page new
+
+-- the machine with the lease's hart and pages
+abbrev pub laid : MachineState → LeaseView → MachineState
+laid m l = record { harts = slice_set m.harts l.hart l.present; pages = laid_pages m.pages l.slots }

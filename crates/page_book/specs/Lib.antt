@@ -1,4 +1,5 @@
 pub mod Faults
 pub mod Slots
 pub mod Leases
+pub mod Runs
 pub mod Books

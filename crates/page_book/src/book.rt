@@ -5,8 +5,9 @@ ghost use Rattle.std.specs.Vec.{vec_len, vec_capacity};
 ghost use Rattle.ft_types.specs.Counts.{count_at};
 ghost use Rattle.ft_types.specs.Sets.{IsMember};
 ghost use Rattle.page_book.specs.Slots.{slot_at, want_of};
-ghost use Rattle.page_book.specs.Leases.{LeaseView, fresh, IsFull};
-ghost use Rattle.page_book.specs.Books.{BookView, IsOurs, laid, laid_pages, with_slot, added, right_of, stands_against, open_at, IsLentBy};
+ghost use Rattle.page_book.specs.Leases.{LeaseView, fresh, IsFull, base_at, laid, laid_pages, with_slot};
+ghost use Rattle.page_book.specs.Runs.{LeadsTo, IsRunOf};
+ghost use Rattle.page_book.specs.Books.{BookView, IsOurs, added, right_of, stands_against, open_at, IsLentBy};
 
 use crate::answers::{BookFault, Need};
 use crate::lease::Lease;
@@ -41,7 +42,7 @@ impl<M: Mode> Model for Book<M> {
 
     ghost view = { λ b. record { start = b.start; machine = b.machine; journal = b.journal.items; leases = b.leases; mode = b.mode } };
 
-    ghost invariant = { λ b. IsBook b.machine b.leases };
+    ghost invariant = { λ b. IsBook b.start b.machine b.journal.items b.leases };
 }
 
 impl Book<Replaying> {
@@ -93,7 +94,8 @@ fn holders(leases: &[Option<OpenLease>; 8], hart: Hart, page: PageNo, want: Want
 }
 
 fn give(lease: &mut Lease, page: PageNo, here: &Page, want: Want) -> Result<(), Memory>
-    requires { page < length lease.old.slots }
+    requires page { page < length lease.old.slots }
+    requires lent { (bytes : List ℕ) → base_at lease.old page ≡ Some bytes → bytes ≡ here.now }
     ensures hart { lease.new.hart ≡ lease.old.hart }
     ensures slots { length lease.new.slots ≡ length lease.old.slots }
 {
@@ -139,6 +141,7 @@ fn take_back(machine: &mut Machine, lease: Lease) -> u64
     requires as_many { length lease.slots ≡ length machine.old.pages }
     ensures machine { machine.new ≡ laid machine.old lease }
     ensures steps { result ≡ lease.steps }
+    ensures runs { IsRunOf lease }
 {
     let _pages = machine.pages();
     let hart = lease.hart();
@@ -161,7 +164,8 @@ fn add_stretch(journal: &mut Vec<Stretch>, hart: Hart, steps: u64)
 impl<M: Mode> Book<M> {
     /// The machine as of the settled steps.
     pub fn machine(&self) -> &Machine
-        ensures { result.now ≡ self.now.machine }
+        ensures value { result.now ≡ self.now.machine }
+        ensures run { LeadsTo self.now.start self.now.journal self.now.machine }
     {
         &self.machine
     }

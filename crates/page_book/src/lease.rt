@@ -1,7 +1,8 @@
 //! A lease: one hart's state and some pages, on loan from a book.
 
 ghost use Rattle.std.specs.Prelude.{◌≡◌, ◌≢◌, ◌<◌, ◌≤◌, ◌^◌, ◌⊎◌, ◌+◌, ◌↔◌, ℕ, List, [], length, replicate, map, slice_set, slice_index_or, Some, None, true, false, IfOk, OnOk, OnErr, IsTrue};
-ghost use Rattle.page_book.specs.Slots.{slot_at, want_of, base_of};
+ghost use Rattle.page_book.specs.Slots.{slot_at, want_of, base_of, is_writable};
+ghost use Rattle.page_book.specs.Runs.{IsRunOf};
 ghost use Rattle.page_book.specs.Leases.{LeaseView, fresh, IsFull, Ticks, IsLent, IsLentAt, base_at, with_page_to_read, with_page_to_write};
 
 use crate::lease_pages::{LeasePages, Slot};
@@ -27,7 +28,8 @@ pub struct Lease {
 }
 
 impl Model for Lease {
-    ghost use Rattle.page_book.specs.Leases.{LeaseView, IsLease};
+    ghost use Rattle.page_book.specs.Leases.{LeaseView};
+    ghost use Rattle.page_book.specs.Runs.{IsLease};
 
     ghost Value = { LeaseView };
 
@@ -145,6 +147,7 @@ impl Lease {
     /// Takes a page in to read.
     pub(crate) fn take_to_read(&mut self, page: PageNo, here: Page)
         requires page { page < length self.old.slots }
+        requires missing { slot_at self.old.slots page ≡ Slot.Missing }
         ensures { self.new ≡ with_page_to_read self.old page here }
     {
         drop(self.pages.put(page, Slot::Readable(here)));
@@ -153,6 +156,9 @@ impl Lease {
     /// Takes a page in to write, given twice over.
     pub(crate) fn take_to_write(&mut self, page: PageNo, base: Page, present: Page)
         requires page { page < length self.old.slots }
+        requires unwritten { is_writable (slot_at self.old.slots page) ≡ false }
+        requires lent { (bytes : List ℕ) → base_at self.old page ≡ Some bytes → bytes ≡ base }
+        requires same { present ≡ base }
         ensures { self.new ≡ with_page_to_write self.old page base present }
     {
         self.bases[page.index()] = Some(base);
@@ -201,6 +207,7 @@ impl Lease {
         ensures steps { result.2 ≡ self.steps }
         ensures number { result.0.number ≡ self.base.number }
         ensures harts { result.0.harts ≡ self.base.harts }
+        ensures runs { IsRunOf self }
     {
         let Lease {
             hart: _,

@@ -7,6 +7,18 @@ pub invariant_of-self : goal.invariant_of-self
 invariant_of-self c =
     tick_kept _ c.tick.new.state c.tick.new.pages c.self.invariant c.in-Done.ensures.done
 
+pub invariant_of-self-in-Miss : goal.invariant_of-self-in-Miss
+invariant_of-self-in-Miss c =
+    let pages = ram_tells c.tick.new.pages c.self.inside.pages c.in-Miss.ensures.pages_kept in
+    let state = c.in-Miss.ensures.hart_kept in
+    rw (pages, state) c.self.invariant
+
+pub invariant_of-self-in-Memory : goal.invariant_of-self-in-Memory
+invariant_of-self-in-Memory c =
+    let pages = ram_tells c.tick.new.pages c.self.inside.pages c.in-Memory.ensures.pages_kept in
+    let state = c.in-Memory.ensures.hart_kept in
+    rw (pages, state) c.self.invariant
+
 pub returns-in-Miss : goal.returns-in-Miss
 returns-in-Miss c =
     let pages = ram_tells c.tick.new.pages c.self.inside.pages c.in-Miss.ensures.pages_kept in

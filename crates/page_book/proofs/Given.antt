@@ -1,0 +1,141 @@
+-- Leases that begin, and that get a page.
+use Rattle.std.proofs.Common.{◌≡◌, ℕ, zero, suc, ◌+◌, ◌<◌, ◌⊎◌, inl, inr, List, [], ◌∷◌, length, replicate, slice_get, slice_set, slice_index_or, Bool, true, false, Option, None, Some, refl, ap, sym, ◌∙◌, arith, length-set, ◌^◌}
+use Rattle.std.proofs.lemmas.List.{length-replicate}
+use Rattle.rv32_hart.specs.Hart.{Hart}
+use Rattle.guest_image.specs.Machine.{MachineState}
+use Rattle.page_book.specs.declared.lease_pages.Slot.{Slot}
+use Rattle.page_book.specs.declared.lease_pages.Slot.TheVariants.{Missing, Readable, Writable}
+use Rattle.page_book.specs.Slots.{slot_at, base_of, is_writable}
+use Rattle.page_book.specs.Leases.{LeaseView, base_at, fresh, laid, laid_pages, page_after, with_page_to_read, with_page_to_write}
+use Rattle.page_book.specs.Runs.{run_of, turns_in_a_row, StandsIn, IsRunOf, IsLease}
+
+set-get_same : {A : Type 0} (xs : List A) (i : ℕ) (x : A) → slice_get xs i ≡ Some x → slice_set xs i x ≡ xs
+set-get_same [] i x e = refl
+set-get_same (y ∷ ys) zero x e = let same : y ≡ x = cc in ap (λ z. z ∷ ys) (sym same)
+set-get_same (y ∷ ys) (suc i) x e = ap (λ l. y ∷ l) (set-get_same ys i x e)
+
+laid_pages-missing : (pages : List (List ℕ)) (n : ℕ) → laid_pages pages (replicate n Missing) ≡ pages
+laid_pages-missing [] n = refl
+laid_pages-missing (p ∷ pages) zero = refl
+laid_pages-missing (p ∷ pages) (suc n) = ap (λ l. p ∷ l) (laid_pages-missing pages n)
+
+-- a lease without steps leads to the machine itself
+pub fresh_runs : (hart : ℕ) (state : Hart) (pages stop : ℕ) → IsRunOf (fresh hart state pages stop)
+fresh_runs hart state pages stop m on =
+    let made : List Hart → List (List ℕ) → Option MachineState = λ hs ps. Some (record { harts = hs; pages = ps }) in
+    sym (ap (λ hs. made hs (laid_pages m.pages (replicate pages Missing))) (set-get_same m.harts hart state on.state)
+    ∙ ap (made m.harts) (laid_pages-missing m.pages pages))
+
+-- a page that was missing
+base-set_missing : (slots : List Slot) (page : ℕ) (new : Slot) (other : ℕ) (kept : Option (List ℕ)) (bytes : List ℕ) →
+    slot_at slots page ≡ Missing → base_of (slot_at slots other) kept ≡ Some bytes →
+    base_of (slot_at (slice_set slots page new) other) kept ≡ Some bytes
+base-set_missing [] page new other kept bytes e f = f
+base-set_missing (s ∷ slots) zero new zero kept bytes e f =
+    let none : None ≡ Some bytes = sym (ap (λ (x : Slot). base_of x kept) e) ∙ f in cc
+base-set_missing (s ∷ slots) zero new (suc other) kept bytes e f = f
+base-set_missing (s ∷ slots) (suc page) new zero kept bytes e f = f
+base-set_missing (s ∷ slots) (suc page) new (suc other) kept bytes e f = base-set_missing slots page new other kept bytes e f
+
+laid_pages-set_read : (pages : List (List ℕ)) (slots : List Slot) (page : ℕ) (here : List ℕ) → slot_at slots page ≡ Missing →
+    laid_pages pages (slice_set slots page (Readable here)) ≡ laid_pages pages slots
+laid_pages-set_read [] slots page here e = refl
+laid_pages-set_read (p ∷ pages) [] page here e = refl
+laid_pages-set_read (p ∷ pages) (s ∷ slots) zero here e = ap (λ x. x ∷ laid_pages pages slots) (sym (ap (page_after p) e))
+laid_pages-set_read (p ∷ pages) (s ∷ slots) (suc page) here e = ap (λ l. page_after p s ∷ l) (laid_pages-set_read pages slots page here e)
+
+pub read_runs : (l : LeaseView) (page : ℕ) (here : List ℕ) → slot_at l.slots page ≡ Missing → IsRunOf l → IsRunOf (with_page_to_read l page here)
+read_runs l page here e runs m on =
+    let before : StandsIn m l = record {
+      state = on.state;
+      as_many = sym (length-set l.slots page (Readable here)) ∙ on.as_many;
+      contents = λ other bytes f.
+          on.contents other bytes (base-set_missing l.slots page (Readable here) other (slice_index_or l.bases other None) bytes e f);
+    } in
+    runs m before ∙ ap (λ ps. let w : MachineState = record { harts = slice_set m.harts l.hart l.present; pages = ps } in Some w)
+    (sym (laid_pages-set_read m.pages l.slots page here e))
+
+-- a page that was not written yet
+unwritten_kept : (p : List ℕ) (s : Slot) → is_writable s ≡ false → page_after p s ≡ p
+unwritten_kept p Missing e = refl
+unwritten_kept p (Readable x) e = refl
+unwritten_kept p (Writable x) e = cc
+
+laid_pages-set_write : (pages : List (List ℕ)) (slots : List Slot) (page : ℕ) (x : List ℕ) → is_writable (slot_at slots page) ≡ false →
+    slice_get pages page ≡ Some x → laid_pages pages (slice_set slots page (Writable x)) ≡ laid_pages pages slots
+laid_pages-set_write [] slots page x e f = refl
+laid_pages-set_write (p ∷ pages) [] page x e f = refl
+laid_pages-set_write (p ∷ pages) (s ∷ slots) zero x e f =
+    let same : p ≡ x = cc in ap (λ y. y ∷ laid_pages pages slots) (sym same ∙ sym (unwritten_kept p s e))
+laid_pages-set_write (p ∷ pages) (s ∷ slots) (suc page) x e f = ap (λ l. page_after p s ∷ l) (laid_pages-set_write pages slots page x e f)
+
+slot-set_same : (slots : List Slot) (page : ℕ) (new : Slot) → page < length slots → slot_at (slice_set slots page new) page ≡ new
+slot-set_same [] page new lt = absurd (omega arith)
+slot-set_same (s ∷ slots) zero new lt = refl
+slot-set_same (s ∷ slots) (suc page) new lt = slot-set_same slots page new (omega arith)
+
+kept-set_same : (bases : List (Option (List ℕ))) (page : ℕ) (base : List ℕ) → page < length bases →
+    slice_index_or (slice_set bases page (Some base)) page None ≡ Some base
+kept-set_same [] page base lt = absurd (omega arith)
+kept-set_same (b ∷ bases) zero base lt = refl
+kept-set_same (b ∷ bases) (suc page) base lt = kept-set_same bases page base (omega arith)
+
+-- at another page nothing has changed; at this one, what was lent is the base
+base-set_write : (slots : List Slot) (bases : List (Option (List ℕ))) (page : ℕ) (base present : List ℕ) (other : ℕ) (bytes : List ℕ) →
+    page < length slots → page < length bases →
+    (base_of (slot_at slots page) (slice_index_or bases page None) ≡ Some bytes → bytes ≡ base) →
+    base_of (slot_at slots other) (slice_index_or bases other None) ≡ Some bytes →
+    base_of (slot_at (slice_set slots page (Writable present)) other) (slice_index_or (slice_set bases page (Some base)) other None) ≡ Some bytes
+base-set_write [] bases page base present other bytes lt le lent f = absurd (omega arith)
+base-set_write (s ∷ slots) [] page base present other bytes lt le lent f = absurd (omega arith)
+base-set_write (s ∷ slots) (b ∷ bases) zero base present zero bytes lt le lent f = ap (λ x. Some x) (sym (lent f))
+base-set_write (s ∷ slots) (b ∷ bases) zero base present (suc other) bytes lt le lent f = f
+base-set_write (s ∷ slots) (b ∷ bases) (suc page) base present zero bytes lt le lent f = f
+base-set_write (s ∷ slots) (b ∷ bases) (suc page) base present (suc other) bytes lt le lent f =
+    base-set_write slots bases page base present other bytes (omega arith) (omega arith) lent f
+
+pub write_runs : (l : LeaseView) (page : ℕ) (base : List ℕ) → page < length l.slots → length l.bases ≡ length l.slots →
+    is_writable (slot_at l.slots page) ≡ false → ((bytes : List ℕ) → base_at l page ≡ Some bytes → bytes ≡ base) →
+    IsRunOf l → IsRunOf (with_page_to_write l page base base)
+write_runs l page base lt many unwritten lent runs m on =
+    let le : page < length l.bases = omega (arith, many) in
+    let before : StandsIn m l = record {
+      state = on.state;
+      as_many = sym (length-set l.slots page (Writable base)) ∙ on.as_many;
+      contents = λ other bytes f. on.contents other bytes (base-set_write l.slots l.bases page base base other bytes lt le (lent bytes) f);
+    } in
+    let here : slice_get m.pages page ≡ Some base =
+    on.contents page base (rw (slot-set_same l.slots page (Writable base) lt) (kept-set_same l.bases page base le)) in
+    runs m before ∙ ap (λ ps. let w : MachineState = record { harts = slice_set m.harts l.hart l.present; pages = ps } in Some w)
+    (sym (laid_pages-set_write m.pages l.slots page base unwritten here))
+
+pub fresh_kept : (hart : ℕ) (state : Hart) (pages stop : ℕ) → stop < 2 ^ 48 → IsLease (fresh hart state pages stop)
+fresh_kept hart state pages stop lt = record {
+  stop = lt;
+  as_many = length-replicate {A = Option (List ℕ)} pages None ∙ sym (length-replicate {A = Slot} pages Missing);
+  number = refl;
+  harts = refl;
+  count = omega arith;
+  runs = fresh_runs hart state pages stop;
+}
+
+pub read_kept : (l : LeaseView) (page : ℕ) (here : List ℕ) → slot_at l.slots page ≡ Missing → IsLease l → IsLease (with_page_to_read l page here)
+read_kept l page here missing p = record {
+  stop = p.stop;
+  as_many = p.as_many ∙ sym (length-set l.slots page (Readable here));
+  number = p.number;
+  harts = p.harts;
+  count = p.count;
+  runs = read_runs l page here missing p.runs;
+}
+
+pub write_kept : (l : LeaseView) (page : ℕ) (base : List ℕ) → page < length l.slots → is_writable (slot_at l.slots page) ≡ false →
+    ((bytes : List ℕ) → base_at l page ≡ Some bytes → bytes ≡ base) → IsLease l → IsLease (with_page_to_write l page base base)
+write_kept l page base lt unwritten lent p = record {
+  stop = p.stop;
+  as_many = length-set l.bases page (Some base) ∙ p.as_many ∙ sym (length-set l.slots page (Writable base));
+  number = p.number;
+  harts = p.harts;
+  count = p.count;
+  runs = write_runs l page base lt p.as_many unwritten lent p.runs;
+}

@@ -1,0 +1,51 @@
+-- Journals as runs of a machine.
+use Rattle.std.specs.Prelude.{◌≡◌, ◌<◌, ◌+◌, ◌^◌, ℕ, List, [], ◌∷◌, ◌++◌, length, replicate, slice_get, Option, Some}
+use Rattle.interleaving.specs.Machine.{Turn}
+use Rattle.interleaving.specs.Stored.{run_from}
+use Rattle.input_log.specs.declared.Input.{Input}
+use Rattle.rv32_hart.specs.Hart.{Hart}
+use Rattle.rv32_hart.specs.Hardware.{hardware}
+use Rattle.guest_image.specs.Machine.{MachineState}
+use Rattle.page_book.specs.declared.stretch.Stretch.{Stretch}
+use Rattle.page_book.specs.Leases.{LeaseView, base_at, laid}
+
+-- a step of a hart, without inputs
+abbrev pub turn_of : ℕ → Turn (List Input)
+turn_of hart = record { hart = hart; input = [] }
+
+-- so many steps of a hart in a row
+abbrev pub turns_in_a_row : ℕ → ℕ → List (Turn (List Input))
+turns_in_a_row hart steps = replicate steps (turn_of hart)
+
+-- the steps of a journal
+abbrev pub journal_turns : List Stretch → List (Turn (List Input))
+journal_turns [] = []
+journal_turns (s ∷ rest) = turns_in_a_row s.hart s.steps ++ journal_turns rest
+
+-- the machine after these turns; none where one is of a hart that is halted or not there
+abbrev pub run_of : MachineState → List (Turn (List Input)) → Option MachineState
+run_of m turns = run_from (hardware (length m.pages)) (Some m) turns
+
+-- the lease's hart and pages stand in this machine as they were lent
+pub record StandsIn (m : MachineState) (l : LeaseView) : Type 0 where
+  pub state : slice_get m.harts l.hart ≡ Some l.base
+  pub as_many : length l.slots ≡ length m.pages
+  pub contents : (page : ℕ) (bytes : List ℕ) → base_at l page ≡ Some bytes → slice_get m.pages page ≡ Some bytes
+
+-- whatever machine the hart and pages were lent by, the lease's steps take it to what the lease has now
+abbrev pub IsRunOf : LeaseView → Type 0
+IsRunOf l = (m : MachineState) → StandsIn m l → run_of m (turns_in_a_row l.hart l.steps) ≡ Some (laid m l)
+
+-- what every lease keeps: its steps are those of its hart, one after the other, on every machine that its hart and pages
+-- stand in
+pub record IsLease (l : LeaseView) : Type 0 where
+  pub stop : l.stop < 2 ^ 48
+  pub as_many : length l.bases ≡ length l.slots
+  pub number : l.present.number ≡ l.base.number
+  pub harts : l.present.harts ≡ l.base.harts
+  pub count : l.present.count ≡ l.base.count + l.steps
+  pub runs : IsRunOf l
+
+-- the journal leads from the start to the machine
+abbrev pub LeadsTo : MachineState → List Stretch → MachineState → Type 0
+LeadsTo start journal machine = run_of start (journal_turns journal) ≡ Some machine
