@@ -73,8 +73,8 @@ impl Image {
         ensures { result ≡ guest_of self.now }
     {
         Guest {
-            digest: self.digest,
-            harts: self.harts,
+            digest: self.digest(),
+            harts: self.harts(),
         }
     }
 

@@ -93,33 +93,33 @@ fn write_output<W: Sink>(number: usize, output: (u64, u32), out: &mut W) -> Resu
 }
 
 #[tactic(auto, unfolding(crate::specs::Text::count_line))]
-fn write_count<W: Sink>(name: &[u8], number: usize, value: u64, out: &mut W) -> Result<(), Failed>
+fn write_count<W: Sink>(name: &[u8], number: usize, count: u64, out: &mut W) -> Result<(), Failed>
     requires { length name.now ≤ 10 }
-    ensures { Writes result (W.bytes out.old) (W.bytes out.new) (W.failures out.old) (W.failures out.new) (count_line name.now number value) }
+    ensures { Writes result (W.bytes out.old) (W.bytes out.new) (W.failures out.old) (W.failures out.new) (count_line name.now number count) }
 {
-    if value == 0 {
+    if count == 0 {
         return Ok(());
     }
     let mut text = LineBuffer::new();
     text.push(name);
     text.push_number(number as u64);
     text.push(b" ");
-    text.push_number(value);
+    text.push_number(count);
     text.write(out)
 }
 
 #[tactic(auto, unfolding(crate::specs::Text::ram_line))]
-fn write_ram_word<W: Sink>(number: u32, value: u32, out: &mut W) -> Result<(), Failed>
+fn write_ram_word<W: Sink>(number: u32, contents: u32, out: &mut W) -> Result<(), Failed>
     requires { number < 2 ^ 20 }
-    ensures { Writes result (W.bytes out.old) (W.bytes out.new) (W.failures out.old) (W.failures out.new) (ram_line number value) }
+    ensures { Writes result (W.bytes out.old) (W.bytes out.new) (W.failures out.old) (W.failures out.new) (ram_line number contents) }
 {
-    if value == 0 {
+    if contents == 0 {
         return Ok(());
     }
     let mut text = LineBuffer::new();
     text.push_word(0x8000_0000 + number * 4);
     text.push(b" ");
-    text.push_word(value);
+    text.push_word(contents);
     text.write(out)
 }
 
