@@ -1,22 +1,20 @@
 -- What is read of a body is spelled so, and what is spelled so is read.
-use Rattle.std.proofs.Common.{◌≡◌, ℕ, zero, suc, ◌+◌, ◌^◌, ◌<◌, ◌≤◌, Bool, true, false, cond, ltb, eqb, List, [], ◌∷◌, ◌++◌, length, get_or, take, drop, Option, Some, None, refl, sym, ap, subst, ◌∙◌, append_assoc, arith, inl, inr, ◌⊎◌}
-use Rattle.std.specs.Int.{Width, w16, w32, w64}
+use Rattle.std.proofs.Common.{◌≡◌, ℕ, ◌^◌, ◌<◌, Bool, true, false, cond, ltb, eqb, List, [], ◌∷◌, ◌++◌, length, Option, Some, None, refl, sym, ap, subst, ◌∙◌, append_assoc, arith, inl, inr}
+use Rattle.std.specs.Int.{w16, w32, w64}
 use Rattle.std.specs.List.{flat_map, AllByRecursion}
-use Rattle.std.proofs.lemmas.Bool.{ltb-false, le-ltb, ltb-true, lt-ltb, eqb-true, eqb-false, eq-eqb}
+use Rattle.std.proofs.lemmas.Bool.{le-ltb, ltb-true, lt-ltb, eqb-true}
 use Rattle.std.proofs.lemmas.List.{append-nil, nil_from_length}
-use Rattle.std.proofs.lemmas.Bool.Decides.{nat_tests}
 use Rattle.ft_types.specs.declared.guest.Guest.{Guest}
 use Rattle.fragment_codec.specs.declared.types.Key.{Key}
-use Rattle.edge_log.specs.declared.Edge.{Edge}
 use Rattle.input_log.specs.declared.Input.{Input as HartInput}
 use Rattle.input_log.specs.declared.Input.TheVariants.{Timer, Word, Bell}
 use Rattle.fragment_codec.specs.declared.types.Record.{Record}
 use Rattle.fragment_codec.specs.declared.types.Record.TheVariants.{Edge as EdgeRecord, Input as InputRecord}
 use Rattle.fragment_codec.specs.Rules.{FragmentParts, OpeningParts, IsFragment, IsOpening}
 use Rattle.fragment_codec.specs.Spelling.{log_body, opening_body, number, input_bytes, record_bytes}
-use Rattle.fragment_codec.specs.Reading.{◌>>=◌, number_at, byte_at, digest_at, input_of, edge_at, heard_at, record_at, many, place_at, rest_of, log_of, opening_of}
+use Rattle.fragment_codec.specs.Reading.{number_at, byte_at, digest_at, input_of, edge_at, heard_at, record_at, many, place_at, rest_of, log_of, opening_of}
 use Rattle.fragment_codec.proofs.Rules.{FitsInput, FitsRecord, records_fit, counts_fit}
-use Rattle.fragment_codec.proofs.Fields.{IsBytes, bind_some, chosen_some, chosen, some_is, Reads, reads_byte, reads_digest, reads16, reads32, reads64, one, many_all, many_again}
+use Rattle.fragment_codec.proofs.Fields.{IsBytes, bind_some, chosen_some, chosen, some_is, Reads, reads_byte, reads_digest, reads16, reads32, reads64, many_all, many_again}
 
 input_of_is : (kind value : ℕ) (i : HartInput) → value < 2 ^ 32 → input_of kind value ≡ Some i → (kind ∷ number w32 value ≡ input_bytes i) × FitsInput i
 unfolding input_of input_bytes

@@ -1,5 +1,5 @@
 -- The numbers that `byteorder` reads are std's.
-use Rattle.std.proofs.Common.{◌≡◌, ℕ, List, slice_index, arith}
+use Rattle.std.proofs.Common.{◌≡◌, ℕ, List, arith}
 use Rattle.std.specs.Int.{w16, w32, w64, from_le_bytes}
 use Rattle.byteorder.specs.Endian.{little_number}
 

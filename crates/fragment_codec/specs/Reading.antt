@@ -1,5 +1,5 @@
 -- Reading a body from left to right: private words, which the laws in proofs/ tie to the spelling.
-use Rattle.std.specs.Prelude.{◌≡◌, ℕ, zero, suc, Bool, ◌&&◌, List, [], ◌∷◌, length, take, drop, Option, Some, None, Result, Ok, Err, nat_lt, ◌==◌, if◌then◌else◌}
+use Rattle.std.specs.Prelude.{◌≡◌, ℕ, zero, suc, List, [], ◌∷◌, length, take, drop, Option, Some, None, Result, Ok, Err, nat_lt, ◌==◌, if◌then◌else◌}
 use Rattle.std.specs.Int.{Width, w16, w32, w64, byte_len, from_le_bytes}
 use Rattle.ft_types.specs.declared.guest.Guest.{Guest}
 use Rattle.fragment_codec.specs.declared.types.Key.{Key}

@@ -1,6 +1,6 @@
 -- The order of records as a test walks through it: at one count, edges have the slots 0 to 7, by the other hart, and inputs
 -- the slots 8 to 15. Private words, which the laws in proofs/ tie to the rules.
-use Rattle.std.specs.Prelude.{◌≡◌, ℕ, ◌^◌, suc, Bool, true, false, ◌&&◌, ◌==◌, not, nat_lt, nat_le, if◌then◌else◌, max, List, [], ◌∷◌, Option, Some, None}
+use Rattle.std.specs.Prelude.{ℕ, ◌^◌, suc, Bool, true, false, ◌&&◌, ◌==◌, not, nat_lt, nat_le, if◌then◌else◌, max, List, [], ◌∷◌, Option, Some, None}
 use Rattle.input_log.specs.declared.Input.{Input as HartInput}
 use Rattle.input_log.specs.declared.Input.TheVariants.{Timer, Word, Bell}
 use Rattle.fragment_codec.specs.declared.types.Record.{Record}

@@ -2,7 +2,7 @@
 
 use super::*;
 use edge_log::Edge;
-use ft_types::{Counts, Failed, Guest, Hart, MemorySink};
+use ft_types::{Counts, Failed, Guest, Hart, Memory, MemorySink};
 use input_log::Input;
 use sha2::{Digest, Sha256};
 use std::alloc::{AllocError, Global};
@@ -368,5 +368,31 @@ fn frame_before_fault(rt: HostRuntime) -> Result<(), Fail> {
     assert!(rt; matches!(feed.push(rt.alloc(), &[]), Err(FrameFault::Version)));
     assert!(rt; matches!(feed.push(rt.alloc(), &OPENING), Err(FrameFault::Version)));
     assert_eq!(rt; FrameFault::Version.number(), 2);
+    Ok(())
+}
+
+/// A call to which memory is refused changes nothing: the same piece again gives its frame.
+#[test]
+fn refused_memory(rt: HostRuntime) -> Result<(), Fail> {
+    let mut feed = match Feed::new(rt.alloc()) {
+        Ok(feed) => feed,
+        Err(Memory) => Feed::new(rt.alloc())?,
+    };
+    let (front, back) = OPENING.split_at(50);
+    assert_eq!(rt; feed.push(rt.alloc(), front)?.len(), 0);
+    for piece in [back, WORD.as_slice(), LOG.as_slice()] {
+        let frames = match feed.push(rt.alloc(), piece) {
+            Err(FrameFault::Memory) => feed.push(rt.alloc(), piece)?,
+            Err(_) => return Err(Fail::from("there is no fault")),
+            Ok(frames) => frames,
+        };
+        assert_eq!(rt; frames.len(), 1);
+        for frame in &frames {
+            let _copy = match frame.copy(rt.alloc()) {
+                Ok(copy) => copy,
+                Err(Memory) => frame.copy(rt.alloc())?,
+            };
+        }
+    }
     Ok(())
 }

@@ -1,5 +1,4 @@
-use Rattle.std.proofs.Common.{◌≡◌, sym, ap, ◌∙◌, drop, refl, true, false}
-use Rattle.fragment_codec.specs.Slots.{are_right}
+use Rattle.std.proofs.Common.{arith, sym, ◌∙◌, refl}
 use Rattle.fragment_codec.proofs.Order.{slot_after-le, right_records, records_right}
 use Rattle.fragment_codec.proofs.Rules.{are_right-step, are_right-none, are_right-all}
 use Rattle.fragment_codec.proofs.frame.are_records.Goals as goal
@@ -18,4 +17,4 @@ returns-in-None c =
 pub returns : goal.returns
 returns c =
     let yes = are_right-all _ _ _ _ _ c.args.records.now c.loop-record.record-index c.loop-record-test.false in
-    (λ e. right_records _ _ _ _ _ c.requires c.if-records-gt256.false (sym c.loop-record.invariant.rest ∙ yes), λ h. refl)
+    (λ e. right_records _ _ _ _ _ c.requires (omega arith) (sym c.loop-record.invariant.rest ∙ yes), λ h. refl)

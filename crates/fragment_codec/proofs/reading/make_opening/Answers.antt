@@ -1,4 +1,4 @@
-use Rattle.std.proofs.Common.{◌≡◌, sym, subst}
+use Rattle.std.proofs.Common.{sym, subst}
 use Rattle.fragment_codec.specs.Rules.{OpeningParts, IsOpening}
 use Rattle.fragment_codec.proofs.Fields.{some_is}
 use Rattle.fragment_codec.proofs.Rules.{opening_counts}

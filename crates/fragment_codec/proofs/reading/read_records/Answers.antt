@@ -1,4 +1,4 @@
-use Rattle.fragment_codec.specs.Reading.{many, record_at}
+use Rattle.fragment_codec.specs.Reading.{record_at}
 use Rattle.fragment_codec.proofs.Loop.{goes_on, ends, is_done}
 use Rattle.fragment_codec.proofs.reading.read_records.Goals as goal
 

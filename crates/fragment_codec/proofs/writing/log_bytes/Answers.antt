@@ -1,4 +1,4 @@
-use Rattle.std.proofs.Common.{◌≡◌, ◌∙◌, ap, arith, length, ◌++◌, List, ℕ}
+use Rattle.std.proofs.Common.{ap, arith, length}
 use Rattle.fragment_codec.proofs.Texts.{log_started, log_goes_on}
 use Rattle.fragment_codec.proofs.writing.log_bytes.Goals as goal
 

@@ -1,8 +1,7 @@
-use Rattle.std.proofs.Common.{◌≡◌, refl, ◌∙◌, List, ℕ, ◌++◌}
+use Rattle.std.proofs.Common.{refl, ◌∙◌}
 use Rattle.std.proofs.lemmas.Result.{err_from_is_err_and}
 use Rattle.ft_types.proofs.Writings.{appends_then}
-use Rattle.fragment_codec.specs.Spelling.{headed, sealed}
-use Rattle.fragment_codec.proofs.Writes.{Stops, stops_front, stops_after, stops_equal, writes_then, writes_equal}
+use Rattle.fragment_codec.proofs.Writes.{stops_front, stops_after, stops_equal, writes_then, writes_equal}
 use Rattle.fragment_codec.proofs.Seals.{sealed_parts}
 use Rattle.fragment_codec.proofs.writing.write_sealed.Goals as goal
 
