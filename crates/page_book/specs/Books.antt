@@ -1,8 +1,11 @@
 -- Books, as contracts see them.
-use Rattle.std.specs.Prelude.{◌≡◌, ◌≤◌, ◌<◌, ◌+◌, ◌^◌, ℕ, List, [], ◌∷◌, ◌++◌, length, slice_get, slice_set, slice_index_or, Bool, true, false, Option, Some, None, if◌then◌else◌, ◌==◌}
+use Rattle.std.specs.Prelude.{◌≡◌, ◌≤◌, ◌<◌, ◌+◌, ◌^◌, ℕ, List, [], ◌∷◌, ◌++◌, length, slice_get, slice_set, slice_index_or, Bool, true, false, Option, Some, None, if◌then◌else◌, ◌==◌, nat_le, replicate}
 use Rattle.ft_types.specs.declared.names.Want.{Want}
 use Rattle.ft_types.specs.declared.names.Want.TheVariants.{Read, Write}
 use Rattle.guest_image.specs.Machine.{MachineState}
+use Rattle.rv32_hart.specs.Hart.{Hart}
+use Rattle.page_book.specs.declared.answers.BookFault.{BookFault}
+use Rattle.page_book.specs.declared.answers.BookFault.TheVariants.{Leased, Halted, AtLimit}
 use Rattle.page_book.specs.declared.book.OpenLease.{OpenLease}
 use Rattle.page_book.specs.declared.stretch.Stretch.{Stretch}
 use Rattle.page_book.specs.Leases.{LeaseView, IsLent, laid}
@@ -49,3 +52,12 @@ stands_against (Some Read) Write = true
 abbrev pub right_of : Option OpenLease → ℕ → Option Want
 right_of None page = None
 right_of (Some lent) page = slice_index_or lent.taken page None
+
+-- why a hart is not lent, in this order: it has an open lease, it is halted, or it is at its stop
+abbrev pub refusal : Option OpenLease → Hart → ℕ → Option BookFault
+refusal (Some lent) h stop = Some Leased
+refusal None h stop = if h.halted then Some Halted else (if nat_le stop h.count then Some AtLimit else None)
+
+-- a lease of no page
+abbrev pub nothing_taken : OpenLease
+nothing_taken = record { taken = replicate 64 None }

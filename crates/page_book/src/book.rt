@@ -7,7 +7,8 @@ ghost use Rattle.ft_types.specs.Sets.{IsMember};
 ghost use Rattle.page_book.specs.Slots.{slot_at, want_of};
 ghost use Rattle.page_book.specs.Leases.{LeaseView, fresh, IsFull, base_at, laid, laid_pages, with_slot};
 ghost use Rattle.page_book.specs.Runs.{LeadsTo, IsRunOf};
-ghost use Rattle.page_book.specs.Books.{BookView, IsOurs, added, right_of, stands_against, open_at, IsLentBy};
+ghost use Rattle.page_book.specs.Books.{BookView, IsOurs, added, right_of, stands_against, open_at, IsLentBy, refusal, nothing_taken};
+ghost use Rattle.rv32_hart.specs.Hart.{Hart as HartRecord};
 
 use crate::answers::{BookFault, Need};
 use crate::lease::Lease;
@@ -189,9 +190,17 @@ impl<M: Mode> Book<M> {
         counts
     }
 
-    /// Lends a hart.
+    /// Lends a hart, unless it has an open lease, is halted, or is at its stop.
     pub fn lease(&mut self, alloc: Global, hart: Hart) -> Result<Lease, BookFault>
         requires { hart < length self.old.machine.harts }
+        ensures lent { IfOk result (λ l. (h : HartRecord) → slice_get self.old.machine.harts hart ≡ Some h →
+            (l ≡ fresh hart h (length self.old.machine.pages) (count_at (M.stops self.old.mode) hart))
+            × (refusal (open_at self.old.leases hart) h (count_at (M.stops self.old.mode) hart) ≡ None)) }
+        ensures kept_open { OnOk result (self.new ≡ record self.old { leases = slice_set self.old.leases hart (Some nothing_taken) }) }
+        ensures refused { IfErr result (λ f. f ≢ BookFault.Memory → (h : HartRecord) → slice_get self.old.machine.harts hart ≡ Some h →
+            refusal (open_at self.old.leases hart) h (count_at (M.stops self.old.mode) hart) ≡ Some f) }
+        ensures memory { IfErr result (λ f. f ≡ BookFault.Memory → (h : HartRecord) → slice_get self.old.machine.harts hart ≡ Some h →
+            refusal (open_at self.old.leases hart) h (count_at (M.stops self.old.mode) hart) ≡ None) }
         ensures err { OnErr result (self.new ≡ self.old) }
     {
         if self.leases[hart.index()].is_some() {
