@@ -16,6 +16,10 @@ for crate in zaamo rv32_isa; do
         "$work/crates/$crate/"
 done
 cp -R "$here/decode_bench" "$work/crates/"
+# The gate reads each .rt file as a part of a crate, so the sources of benchmarks end in .rt.txt.
+for file in "$work/crates/decode_bench"/src/*.rt.txt; do
+    mv "$file" "${file%.txt}"
+done
 printf 'zaamo:\nrv32_isa: zaamo\ndecode_bench: rv32_isa anyhow\n' > "$work/crates.txt"
 (cd "$work/crates/decode_bench" && rt run > "$work/build.txt" 2>&1) || {
     tail "$work/build.txt"

@@ -17,6 +17,10 @@ for crate in interleaving ft_types input_log edge_log fragment_codec; do
     grep "^$crate:" "$top/crates.txt" >> "$work/crates.txt"
 done
 cp -R "$here/frames_bench" "$work/crates/"
+# The gate reads each .rt file as a part of a crate, so the sources of benchmarks end in .rt.txt.
+for file in "$work/crates/frames_bench"/src/*.rt.txt; do
+    mv "$file" "${file%.txt}"
+done
 echo 'frames_bench: fragment_codec ft_types input_log edge_log sha2 anyhow' >> "$work/crates.txt"
 (cd "$work/crates/frames_bench" && rt run > "$work/build.txt" 2>&1) || {
     tail "$work/build.txt"

@@ -20,6 +20,10 @@ for crate in ft_types zaamo rv32_isa input_log interleaving rv32_hart; do
     grep "^$crate:" "$top/crates.txt" >> "$work/crates.txt"
 done
 cp -R "$here/interpreter_bench" "$work/crates/"
+# The gate reads each .rt file as a part of a crate, so the sources of benchmarks end in .rt.txt.
+for file in "$work/crates/interpreter_bench"/src/*.rt.txt; do
+    mv "$file" "${file%.txt}"
+done
 echo 'interpreter_bench: ft_types rv32_hart anyhow' >> "$work/crates.txt"
 (cd "$work/crates/interpreter_bench" && rt run > "$work/build.txt" 2>&1) || {
     tail "$work/build.txt"
