@@ -117,6 +117,7 @@ fresh_kept hart state pages stop lt = record {
   harts = refl;
   count = omega arith;
   runs = fresh_runs hart state pages stop;
+  within = inl refl;
 }
 
 pub read_kept : (l : LeaseView) (page : ℕ) (here : List ℕ) → slot_at l.slots page ≡ Missing → IsLease l → IsLease (with_page_to_read l page here)
@@ -127,6 +128,7 @@ read_kept l page here missing p = record {
   harts = p.harts;
   count = p.count;
   runs = read_runs l page here missing p.runs;
+  within = p.within;
 }
 
 pub write_kept : (l : LeaseView) (page : ℕ) (base : List ℕ) → page < length l.slots → is_writable (slot_at l.slots page) ≡ false →
@@ -138,4 +140,5 @@ write_kept l page base lt unwritten lent p = record {
   harts = p.harts;
   count = p.count;
   runs = write_runs l page base lt p.as_many unwritten lent p.runs;
+  within = p.within;
 }

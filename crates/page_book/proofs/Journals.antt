@@ -1,5 +1,5 @@
 -- Journals that go on.
-use Rattle.std.proofs.Common.{◌≡◌, ◌==◌, ℕ, zero, suc, ◌+◌, ◌<◌, ◌≤◌, slice_index_or, List, [], ◌∷◌, ◌++◌, length, slice_set, Bool, true, false, Option, None, Some, refl, ap, sym, ◌∙◌, append_assoc, append-nil, length-set, if◌then◌else◌, arith}
+use Rattle.std.proofs.Common.{◌≡◌, ◌==◌, ℕ, zero, suc, ◌+◌, ◌<◌, ◌≤◌, slice_index_or, List, [], ◌∷◌, ◌++◌, length, slice_set, Bool, true, false, Option, None, Some, refl, ap, sym, ◌∙◌, append_assoc, append-nil, length-set, if◌then◌else◌, arith, slice_get, replicate, ◌⊎◌, inl, inr}
 use Rattle.std.proofs.lemmas.Bool.Decides.{nat_tests}
 use Rattle.interleaving.specs.Machine.{Turn}
 use Rattle.interleaving.specs.Stored.{run_from}
@@ -12,7 +12,10 @@ use Rattle.page_book.specs.declared.lease_pages.Slot.{Slot}
 use Rattle.page_book.specs.declared.book.OpenLease.{OpenLease}
 use Rattle.page_book.specs.Slots.{slot_at, base_of}
 use Rattle.page_book.specs.Leases.{LeaseView, laid, IsLent}
-use Rattle.page_book.specs.Runs.{journal_turns, turns_in_a_row, run_of, StandsIn, IsRunOf, LeadsTo}
+use Rattle.interleaving.specs.Log.{Begins, counts_after, bump}
+use Rattle.interleaving.proofs.Put.{same_or_not, bump_same, bump_other}
+use Rattle.ft_types.specs.Counts.{count_at}
+use Rattle.page_book.specs.Runs.{journal_turns, turns_in_a_row, run_of, StandsIn, IsRunOf, IsLease, LeadsTo, harts_of, steps_taken, counts_of, BeginsSchedule}
 use Rattle.page_book.specs.Books.{added, IsBook, IsLentBy, open_at}
 use Rattle.page_book.proofs.Laid.{length-laid_pages}
 use Rattle.page_book.proofs.Runs.{run_from-append}
@@ -60,7 +63,7 @@ stands m taken l p = record {
 
 pub stands_ours : (lent : Option OpenLease) (m : MachineState) (l : LeaseView) → IsLentBy lent m l → StandsIn m l
 stands_ours None m l p = absurd p
-stands_ours (Some lent) m l p = stands m lent.taken l p
+stands_ours (Some lent) m l p = stands m lent.taken l p.1
 
 row-set : (leases : List (Option OpenLease)) (i other : ℕ) → open_at leases other ≡ None → open_at (slice_set leases i None) other ≡ None
 row-set [] i other e = e
@@ -69,15 +72,119 @@ row-set (x ∷ leases) zero (suc other) e = e
 row-set (x ∷ leases) (suc i) zero e = e
 row-set (x ∷ leases) (suc i) (suc other) e = row-set leases i other e
 
+row-set_some : (leases : List (Option OpenLease)) (i other : ℕ) (lent : OpenLease) → open_at (slice_set leases i None) other ≡ Some lent →
+    open_at leases other ≡ Some lent
+row-set_some [] i other lent e = e
+row-set_some (x ∷ leases) zero zero lent e = cc
+row-set_some (x ∷ leases) zero (suc other) lent e = e
+row-set_some (x ∷ leases) (suc i) zero lent e = e
+row-set_some (x ∷ leases) (suc i) (suc other) lent e = row-set_some leases i other lent e
+
+-- ---- schedules
+
+begins_append : (cut now : ℕ → ℕ) (front rest : List ℕ) → Begins [] cut now front → Begins [] cut (counts_after now front) rest → Begins [] cut now (front ++ rest)
+begins_append cut now [] rest p q = q
+begins_append cut now (h ∷ front) rest p q = (p.0, begins_append cut (bump now h) front rest p.1 q)
+
+counts_after-append : (now : ℕ → ℕ) (front rest : List ℕ) → counts_after now (front ++ rest) ≡ counts_after (counts_after now front) rest
+counts_after-append now [] rest = refl
+counts_after-append now (h ∷ front) rest = counts_after-append (bump now h) front rest
+
+begins_row : (cut now : ℕ → ℕ) (hart n : ℕ) → now hart + n ≤ cut hart → Begins [] cut now (replicate n hart)
+begins_row cut now hart zero le = tt
+begins_row cut now hart (suc n) le =
+    ((omega arith, λ e at. absurd (omega (arith, at.1))), begins_row cut (bump now hart) hart n (omega (arith, bump_same now hart, le)))
+
+counts_row : (now : ℕ → ℕ) (hart n : ℕ) → counts_after now (replicate n hart) hart ≡ now hart + n
+counts_row now hart zero = omega arith
+counts_row now hart (suc n) = counts_row (bump now hart) hart n ∙ omega (arith, bump_same now hart)
+
+counts_row_other : (now : ℕ → ℕ) (hart n other : ℕ) → (hart ≡ other → ⊥) → counts_after now (replicate n hart) other ≡ now other
+counts_row_other now hart zero other ne = refl
+counts_row_other now hart (suc n) other ne = counts_row_other (bump now hart) hart n other ne ∙ bump_other now hart other ne
+
+harts_of-append : (front rest : List Stretch) → harts_of (front ++ rest) ≡ harts_of front ++ harts_of rest
+harts_of-append [] rest = refl
+harts_of-append (s ∷ front) rest =
+    ap (λ l. replicate s.steps s.hart ++ l) (harts_of-append front rest) ∙ sym (append_assoc (replicate s.steps s.hart) (harts_of front) (harts_of rest))
+
+harts_added : (journal : List Stretch) (hart steps : ℕ) → harts_of (added journal hart steps) ≡ harts_of journal ++ replicate steps hart
+harts_added journal hart steps = of (steps == 0) refl
+  where
+    of : (b : Bool) → (steps == 0) ≡ b →
+        harts_of (if b then journal else journal ++ record { hart = hart; steps = steps } ∷ []) ≡ harts_of journal ++ replicate steps hart
+    of true e =
+        let none : steps ≡ 0 = grind (arith, nat_tests) in
+        rw none (sym (append-nil (harts_of journal)))
+    of false e =
+        harts_of-append journal (record { hart = hart; steps = steps } ∷ []) ∙ ap (λ l. harts_of journal ++ l) (append-nil (replicate steps hart))
+
+get-set_here : {A : Type 0} (xs : List A) (i : ℕ) (v w : A) → slice_get xs i ≡ Some w → slice_get (slice_set xs i v) i ≡ Some v
+get-set_here [] i v w e = cc
+get-set_here (x ∷ xs) zero v w e = refl
+get-set_here (x ∷ xs) (suc i) v w e = get-set_here xs i v w e
+
+get-set_there : {A : Type 0} (xs : List A) (i : ℕ) (v : A) (other : ℕ) → (i ≡ other → ⊥) → slice_get (slice_set xs i v) other ≡ slice_get xs other
+get-set_there [] i v other ne = refl
+get-set_there (x ∷ xs) zero v zero ne = absurd (ne refl)
+get-set_there (x ∷ xs) zero v (suc other) ne = refl
+get-set_there (x ∷ xs) (suc i) v zero ne = refl
+get-set_there (x ∷ xs) (suc i) v (suc other) ne = get-set_there xs i v other (λ e. ne (ap suc e))
+
+module _ (start m : MachineState) (journal : List Stretch) (l : LeaseView) (stops : List ℕ) (p : IsLease l) (on : StandsIn m l)
+    (counted : (hart : ℕ) → counts_after (counts_of start) (harts_of journal) hart ≡ counts_of m hart) where
+  abbrev before : ℕ → ℕ
+  before = counts_after (counts_of start) (harts_of journal)
+
+  base_count : before l.hart ≡ l.base.count
+  base_count = counted l.hart ∙ ap steps_taken on.state
+
+  pub counts_go_on : (hart : ℕ) → counts_after (counts_of start) (harts_of (added journal l.hart l.steps)) hart ≡ counts_of (laid m l) hart
+  counts_go_on hart =
+      ap (λ (hs : List ℕ). counts_after (counts_of start) hs hart) (harts_added journal l.hart l.steps)
+      ∙ ap (λ (f : ℕ → ℕ). f hart) (counts_after-append (counts_of start) (harts_of journal) (replicate l.steps l.hart))
+      ∙ elim (same_or_not l.hart hart) [
+        | inl same ↦
+            ap (counts_after before (replicate l.steps l.hart)) (sym same)
+            ∙ counts_row before l.hart l.steps
+            ∙ omega (arith, base_count, p.count)
+            ∙ sym (ap steps_taken (get-set_here m.harts l.hart l.present l.base on.state))
+            ∙ ap (counts_of (laid m l)) same
+        | inr ne ↦
+            counts_row_other before l.hart l.steps hart ne
+            ∙ counted hart
+            ∙ sym (ap steps_taken (get-set_there m.harts l.hart l.present hart ne))
+      ]
+
+  pub schedule_goes_on : l.stop ≤ count_at stops l.hart → BeginsSchedule stops start journal → BeginsSchedule stops start (added journal l.hart l.steps)
+  schedule_goes_on stop begins =
+      rw (harts_added journal l.hart l.steps)
+      (begins_append (count_at stops) (counts_of start) (harts_of journal) (replicate l.steps l.hart) begins
+      (elim p.within [
+        | inl none ↦ rw none tt
+        | inr le ↦ begins_row (count_at stops) before l.hart l.steps (omega (arith, base_count, p.count, le, stop))
+      ]))
+
+stop_of : (lent : Option OpenLease) (m : MachineState) (l : LeaseView) (bound : ℕ) → IsLentBy lent m l → ((o : OpenLease) → lent ≡ Some o → o.stop ≤ bound) →
+    l.stop ≤ bound
+stop_of None m l bound ours stopped = absurd ours
+stop_of (Some o) m l bound ours stopped = let le = stopped o refl in omega (arith, ours.0, le)
+
 -- a book that has taken a lease back
-pub settled_kept : (start m : MachineState) (journal : List Stretch) (leases : List (Option OpenLease)) (l : LeaseView) →
-    IsBook start m journal leases → IsRunOf l → IsLentBy (open_at leases l.hart) m l →
-    IsBook start (laid m l) (added journal l.hart l.steps) (slice_set leases l.hart None)
-settled_kept start m journal leases l p runs ours = record {
-  run = settled start m journal l p.run p.pages runs (stands_ours (open_at leases l.hart) m l ours);
-  harts = length-set m.harts l.hart l.present ∙ p.harts;
-  pages = length-laid_pages m.pages l.slots ∙ p.pages;
-  rows = length-set leases l.hart None ∙ p.rows;
-  known = λ hart le.
-      row-set leases l.hart hart (p.known hart (omega (arith, le, length-set m.harts l.hart l.present)));
-}
+pub settled_kept : (start m : MachineState) (journal : List Stretch) (leases : List (Option OpenLease)) (stops : List ℕ) (l : LeaseView) →
+    IsBook start m journal leases stops → IsLease l → IsLentBy (open_at leases l.hart) m l →
+    IsBook start (laid m l) (added journal l.hart l.steps) (slice_set leases l.hart None) stops
+settled_kept start m journal leases stops l p lease ours =
+    let on : StandsIn m l = stands_ours (open_at leases l.hart) m l ours in
+    record {
+      run = settled start m journal l p.run p.pages lease.runs on;
+      harts = length-set m.harts l.hart l.present ∙ p.harts;
+      pages = length-laid_pages m.pages l.slots ∙ p.pages;
+      rows = length-set leases l.hart None ∙ p.rows;
+      known = λ hart le.
+          row-set leases l.hart hart (p.known hart (omega (arith, le, length-set m.harts l.hart l.present)));
+      stopped = λ hart lent e. p.stopped hart lent (row-set_some leases l.hart hart lent e);
+      begins = schedule_goes_on start m journal l stops lease on p.counted
+          (stop_of (open_at leases l.hart) m l (count_at stops l.hart) ours (λ o e. p.stopped l.hart o e)) p.begins;
+      counted = counts_go_on start m journal l stops lease on p.counted;
+    }

@@ -9,12 +9,7 @@ use Rattle.rv32_hart.specs.Hardware.{hardware}
 use Rattle.rv32_hart.specs.Local.{step_counted}
 use Rattle.guest_image.specs.Machine.{MachineState}
 use Rattle.page_book.specs.declared.stretch.Stretch.{Stretch}
-use Rattle.page_book.specs.Runs.{turn_of, turns_in_a_row, journal_turns, run_of, LeadsTo}
-
--- the harts that go, step by step
-harts_of : List Stretch → List ℕ
-harts_of [] = []
-harts_of (s ∷ rest) = replicate s.steps s.hart ++ harts_of rest
+use Rattle.page_book.specs.Runs.{harts_of, turn_of, turns_in_a_row, journal_turns, run_of, LeadsTo}
 
 map-replicate : {A B : Type 0} (f : A → B) (n : ℕ) (x : A) → map f (replicate n x) ≡ replicate n (f x)
 map-replicate f zero x = refl
@@ -25,7 +20,6 @@ map-append f [] ys = refl
 map-append f (x ∷ xs) ys = ap (λ l. f x ∷ l) (map-append f xs ys)
 
 turns_by_hart : (journal : List Stretch) → journal_turns journal ≡ map turn_of (harts_of journal)
-unfolding harts_of
 turns_by_hart [] = refl
 turns_by_hart (s ∷ rest) =
     ap (λ l. turns_in_a_row s.hart s.steps ++ l) (turns_by_hart rest)

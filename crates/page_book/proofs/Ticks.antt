@@ -1,14 +1,15 @@
 -- What a step leaves of a lease.
-use Rattle.std.proofs.Common.{◌≡◌, ℕ, ◌+◌, List, [], length, slice_get, length-set, Option, None, Some, refl, ap, sym, ◌∙◌, arith}
+use Rattle.std.proofs.Common.{◌≡◌, ℕ, ◌+◌, List, [], length, ◌<◌, ◌≤◌, ◌⊎◌, inl, inr, slice_get, length-set, Option, None, Some, refl, ap, sym, ◌∙◌, arith}
 use Rattle.interleaving.specs.Machine.{Write}
 use Rattle.interleaving.specs.Stored.{written_in}
+use Rattle.std.proofs.lemmas.Bool.{cases_lt}
 use Rattle.rv32_hart.specs.Ram.{Ram}
 use Rattle.rv32_hart.specs.Hart.{Hart}
 use Rattle.rv32_hart.specs.Step.{IsTaken}
 use Rattle.rv32_hart.specs.CountedSteps.{Counted, effect_counted}
 use Rattle.page_book.specs.declared.lease_pages.Slot.{Slot}
 use Rattle.page_book.specs.Slots.{ram_of, present_bytes}
-use Rattle.page_book.specs.Leases.{LeaseView, stepped}
+use Rattle.page_book.specs.Leases.{LeaseView, stepped, IsFull}
 use Rattle.page_book.specs.Runs.{IsLease}
 use Rattle.page_book.proofs.Ticked.{ticked}
 use Rattle.page_book.proofs.Slots.{length-map}
@@ -25,8 +26,8 @@ length_shown slots = length-map present_bytes slots
 
 -- a lease after a step is a lease
 pub tick_kept : (l : LeaseView) (after : Hart) (slots : List Slot) → IsLease l →
-    IsTaken [] l.present (ram_of l.slots) after (ram_of slots) → IsLease (stepped l after slots)
-tick_kept l after slots p t =
+    IsTaken [] l.present (ram_of l.slots) after (ram_of slots) → l.present.count < l.stop → IsLease (stepped l after slots)
+tick_kept l after slots p t lt =
     let c = taken_counted l.present after (ram_of l.slots) (ram_of slots) t in
     let pages = ap (λ (r : Ram). length r.contents) t.pages in
     record {
@@ -36,4 +37,13 @@ tick_kept l after slots p t =
       harts = c.harts ∙ p.harts;
       count = c.count ∙ omega (arith, p.count);
       runs = ticked l after slots t p.runs;
+      within = inr (omega (arith, c.count, lt));
     }
+
+-- a lease that is not full is below its stop
+pub below_stop : (l : LeaseView) → (IsFull l → ⊥) → l.present.count < l.stop
+below_stop l not_full =
+    elim (cases_lt l.present.count l.stop) [
+      | inl lt ↦ lt
+      | inr le ↦ absurd (not_full (inr (inl le)))
+    ]

@@ -9,7 +9,9 @@ use Rattle.page_book.specs.declared.answers.BookFault.TheVariants.{Leased, Halte
 use Rattle.page_book.specs.declared.book.OpenLease.{OpenLease}
 use Rattle.page_book.specs.declared.stretch.Stretch.{Stretch}
 use Rattle.page_book.specs.Leases.{LeaseView, IsLent, laid}
-use Rattle.page_book.specs.Runs.{LeadsTo}
+use Rattle.page_book.specs.Runs.{LeadsTo, BeginsSchedule, harts_of, counts_of}
+use Rattle.interleaving.specs.Log.{counts_after}
+use Rattle.ft_types.specs.Counts.{count_at}
 
 pub record BookView (M : Type 0) : Type 0 where
   pub start : MachineState
@@ -23,16 +25,19 @@ abbrev pub open_at : List (Option OpenLease) → ℕ → Option OpenLease
 open_at leases hart = slice_index_or leases hart None
 
 -- what every book keeps: the journal leads from the start to the machine, and leases are of harts that there are
-pub record IsBook (start machine : MachineState) (journal : List Stretch) (leases : List (Option OpenLease)) : Type 0 where
+pub record IsBook (start machine : MachineState) (journal : List Stretch) (leases : List (Option OpenLease)) (stops : List ℕ) : Type 0 where
   pub run : LeadsTo start journal machine
   pub harts : length machine.harts ≡ length start.harts
   pub pages : length machine.pages ≡ length start.pages
   pub rows : length leases ≡ 8
   pub known : (hart : ℕ) → length machine.harts ≤ hart → open_at leases hart ≡ None
+  pub stopped : (hart : ℕ) (lent : OpenLease) → open_at leases hart ≡ Some lent → lent.stop ≤ count_at stops hart
+  pub begins : BeginsSchedule stops start journal
+  pub counted : (hart : ℕ) → counts_after (counts_of start) (harts_of journal) hart ≡ counts_of machine hart
 
 abbrev pub IsLentBy : Option OpenLease → MachineState → LeaseView → Type 0
 IsLentBy None machine l = ⊥
-IsLentBy (Some lent) machine l = IsLent machine lent.taken l
+IsLentBy (Some lent) machine l = (l.stop ≡ lent.stop) × IsLent machine lent.taken l
 
 -- the lease is the book's open lease of its hart: it has the hart, the pages and the rights that the book lent
 abbrev pub IsOurs : {M : Type 0} → BookView M → LeaseView → Type 0
@@ -59,5 +64,5 @@ refusal (Some lent) h stop = Some Leased
 refusal None h stop = if h.halted then Some Halted else (if nat_le stop h.count then Some AtLimit else None)
 
 -- a lease of no page
-abbrev pub nothing_taken : OpenLease
-nothing_taken = record { taken = replicate 64 None }
+abbrev pub nothing_taken : ℕ → OpenLease
+nothing_taken stop = record { stop = stop; taken = replicate 64 None }

@@ -1,7 +1,9 @@
 -- Journals as runs of a machine.
-use Rattle.std.specs.Prelude.{◌≡◌, ◌<◌, ◌+◌, ◌^◌, ℕ, List, [], ◌∷◌, ◌++◌, length, replicate, slice_get, Option, Some}
+use Rattle.std.specs.Prelude.{◌≡◌, ◌<◌, ◌≤◌, ◌⊎◌, ◌+◌, ◌^◌, ℕ, List, [], ◌∷◌, ◌++◌, length, replicate, slice_get, Option, None, Some}
 use Rattle.interleaving.specs.Machine.{Turn}
 use Rattle.interleaving.specs.Stored.{run_from}
+use Rattle.interleaving.specs.Log.{Begins}
+use Rattle.ft_types.specs.Counts.{count_at}
 use Rattle.input_log.specs.declared.Input.{Input}
 use Rattle.rv32_hart.specs.Hart.{Hart}
 use Rattle.rv32_hart.specs.Hardware.{hardware}
@@ -45,7 +47,26 @@ pub record IsLease (l : LeaseView) : Type 0 where
   pub harts : l.present.harts ≡ l.base.harts
   pub count : l.present.count ≡ l.base.count + l.steps
   pub runs : IsRunOf l
+  pub within : (l.steps ≡ 0) ⊎ (l.present.count ≤ l.stop)
 
 -- the journal leads from the start to the machine
 abbrev pub LeadsTo : MachineState → List Stretch → MachineState → Type 0
 LeadsTo start journal machine = run_of start (journal_turns journal) ≡ Some machine
+
+-- the harts that go in a journal, step by step
+abbrev pub harts_of : List Stretch → List ℕ
+harts_of [] = []
+harts_of (s ∷ rest) = replicate s.steps s.hart ++ harts_of rest
+
+-- a hart that is not there has taken no step
+abbrev pub steps_taken : Option Hart → ℕ
+steps_taken None = 0
+steps_taken (Some h) = h.count
+
+-- how many steps each hart has taken
+abbrev pub counts_of : MachineState → ℕ → ℕ
+counts_of m hart = steps_taken (slice_get m.harts hart)
+
+-- the journal is the beginning of a schedule that takes each hart from the start to its stop, with no edges in its way
+abbrev pub BeginsSchedule : List ℕ → MachineState → List Stretch → Type 0
+BeginsSchedule stops start journal = Begins [] (count_at stops) (counts_of start) (harts_of journal)

@@ -6,7 +6,7 @@ ghost use Rattle.ft_types.specs.Counts.{count_at};
 ghost use Rattle.ft_types.specs.Sets.{IsMember};
 ghost use Rattle.page_book.specs.Slots.{slot_at, want_of};
 ghost use Rattle.page_book.specs.Leases.{LeaseView, fresh, IsFull, base_at, laid, laid_pages, with_slot};
-ghost use Rattle.page_book.specs.Runs.{LeadsTo, IsRunOf};
+ghost use Rattle.page_book.specs.Runs.{LeadsTo, IsLease, BeginsSchedule};
 ghost use Rattle.page_book.specs.Books.{BookView, IsOurs, added, right_of, stands_against, open_at, IsLentBy, refusal, nothing_taken};
 ghost use Rattle.rv32_hart.specs.Hart.{Hart as HartRecord};
 
@@ -15,14 +15,15 @@ use crate::lease::Lease;
 use crate::lease_pages::Slot;
 use crate::mode::{Leg, Mode, Replaying};
 use crate::stretch::Stretch;
-use ft_types::{COUNT_LIMIT, Counts, Hart, HartSet, Memory, PageNo, Want};
+use ft_types::{COUNT_LIMIT, Count, Counts, Hart, HartSet, Memory, PageNo, Want};
 use guest_image::{Machine, Page};
 use std::alloc::Global;
 use std::marker::Model;
 
-/// What the book knows of an open lease: the right that it has on each page.
+/// What the book knows of an open lease: the count that it does not go past, and the right that it has on each page.
 #[derive(Clone, Copy, Debug, PartialEq, Eq)]
 pub struct OpenLease {
+    stop: Count,
     taken: [Option<Want>; 64],
 }
 
@@ -43,7 +44,7 @@ impl<M: Mode> Model for Book<M> {
 
     ghost view = { λ b. record { start = b.start; machine = b.machine; journal = b.journal.items; leases = b.leases; mode = b.mode } };
 
-    ghost invariant = { λ b. IsBook b.start b.machine b.journal.items b.leases };
+    ghost invariant = { λ b. IsBook b.start b.machine b.journal.items b.leases (M.stops b.mode) };
 }
 
 impl Book<Replaying> {
@@ -142,7 +143,7 @@ fn take_back(machine: &mut Machine, lease: Lease) -> u64
     requires as_many { length lease.slots ≡ length machine.old.pages }
     ensures machine { machine.new ≡ laid machine.old lease }
     ensures steps { result ≡ lease.steps }
-    ensures runs { IsRunOf lease }
+    ensures kept { IsLease lease }
 {
     let _pages = machine.pages();
     let hart = lease.hart();
@@ -167,6 +168,7 @@ impl<M: Mode> Book<M> {
     pub fn machine(&self) -> &Machine
         ensures value { result.now ≡ self.now.machine }
         ensures run { LeadsTo self.now.start self.now.journal self.now.machine }
+        ensures begins { BeginsSchedule (M.stops self.now.mode) self.now.start self.now.journal }
     {
         &self.machine
     }
@@ -196,7 +198,7 @@ impl<M: Mode> Book<M> {
         ensures lent { IfOk result (λ l. (h : HartRecord) → slice_get self.old.machine.harts hart ≡ Some h →
             (l ≡ fresh hart h (length self.old.machine.pages) (count_at (M.stops self.old.mode) hart))
             × (refusal (open_at self.old.leases hart) h (count_at (M.stops self.old.mode) hart) ≡ None)) }
-        ensures kept_open { OnOk result (self.new ≡ record self.old { leases = slice_set self.old.leases hart (Some nothing_taken) }) }
+        ensures kept_open { OnOk result (self.new ≡ record self.old { leases = slice_set self.old.leases hart (Some (nothing_taken (count_at (M.stops self.old.mode) hart))) }) }
         ensures refused { IfErr result (λ f. f ≢ BookFault.Memory → (h : HartRecord) → slice_get self.old.machine.harts hart ≡ Some h →
             refusal (open_at self.old.leases hart) h (count_at (M.stops self.old.mode) hart) ≡ Some f) }
         ensures memory { IfErr result (λ f. f ≡ BookFault.Memory → (h : HartRecord) → slice_get self.old.machine.harts hart ≡ Some h →
@@ -215,7 +217,10 @@ impl<M: Mode> Book<M> {
             return Err(BookFault::AtLimit);
         }
         let lease = Lease::fresh(alloc, hart, state, self.machine.pages(), stop)?;
-        self.leases[hart.index()] = Some(OpenLease { taken: [None; 64] });
+        self.leases[hart.index()] = Some(OpenLease {
+            stop,
+            taken: [None; 64],
+        });
         Ok(lease)
     }
 
@@ -224,7 +229,7 @@ impl<M: Mode> Book<M> {
     {
         match &self.leases[lease.hart().index()] {
             None => false,
-            Some(open) => lease.is_lent(&self.machine, &open.taken),
+            Some(open) => lease.stop() == open.stop && lease.is_lent(&self.machine, &open.taken),
         }
     }
 

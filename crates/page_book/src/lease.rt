@@ -2,7 +2,7 @@
 
 ghost use Rattle.std.specs.Prelude.{◌≡◌, ◌≢◌, ◌<◌, ◌≤◌, ◌^◌, ◌⊎◌, ◌+◌, ◌↔◌, ℕ, List, [], length, replicate, map, slice_set, slice_index_or, Some, None, true, false, IfOk, OnOk, OnErr, IsTrue};
 ghost use Rattle.page_book.specs.Slots.{slot_at, want_of, base_of, is_writable};
-ghost use Rattle.page_book.specs.Runs.{IsRunOf};
+ghost use Rattle.page_book.specs.Runs.{IsLease};
 ghost use Rattle.page_book.specs.Leases.{LeaseView, fresh, IsFull, Ticks, IsLent, IsLentAt, base_at, with_page_to_read, with_page_to_write};
 
 use crate::lease_pages::{LeasePages, Slot};
@@ -99,6 +99,13 @@ impl Lease {
         ensures { result ≡ self.now.present.count }
     {
         self.present.count()
+    }
+
+    /// The count that the lease does not go past.
+    pub fn stop(&self) -> Count
+        ensures { result ≡ self.now.stop }
+    {
+        self.stop
     }
 
     /// How many steps the lease has.
@@ -207,7 +214,7 @@ impl Lease {
         ensures steps { result.2 ≡ self.steps }
         ensures number { result.0.number ≡ self.base.number }
         ensures harts { result.0.harts ≡ self.base.harts }
-        ensures runs { IsRunOf self }
+        ensures kept { IsLease self }
     {
         let Lease {
             hart: _,

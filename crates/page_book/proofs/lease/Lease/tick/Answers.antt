@@ -1,11 +1,16 @@
-use Rattle.std.proofs.Common.{◌≡◌, sym, ◌∙◌}
-use Rattle.page_book.proofs.Ticks.{tick_kept}
+use Rattle.std.proofs.Common.{◌≡◌, sym, ◌∙◌, subst}
+use Rattle.page_book.proofs.Ticks.{tick_kept, below_stop}
+use Rattle.page_book.specs.Leases.{LeaseView, IsFull}
 use Rattle.page_book.proofs.Slots.{ram_tells}
 use Rattle.page_book.proofs.lease.Lease.tick.Goals as goal
 
 pub invariant_of-self : goal.invariant_of-self
 invariant_of-self c =
-    tick_kept _ c.tick.new.state c.tick.new.pages c.self.invariant c.in-Done.ensures.done
+    let i = c.self.inside in
+    let l : LeaseView =
+    record { hart = i.hart; base = i.base; present = i.present; bases = i.bases.items; slots = i.pages; steps = i.steps; stop = i.stop } in
+    tick_kept l c.tick.new.state c.tick.new.pages c.self.invariant c.in-Done.ensures.done
+    (below_stop l (λ full. c.requires (subst (λ (v : LeaseView). IsFull v) c.self.view_is full)))
 
 pub invariant_of-self-in-Miss : goal.invariant_of-self-in-Miss
 invariant_of-self-in-Miss c =
