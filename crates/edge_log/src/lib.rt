@@ -22,6 +22,18 @@ pub struct Edge {
     pub after: Count,
 }
 
+impl Default for Edge {
+    /// The edge that asks for nothing.
+    fn default() -> Edge {
+        Edge {
+            hart: Hart::new(0),
+            at: 0,
+            other: Hart::new(0),
+            after: 0,
+        }
+    }
+}
+
 /// What became of an edge that was added.
 #[derive(Clone, Copy, Debug, PartialEq, Eq)]
 pub enum Added {

@@ -1,0 +1,4 @@
+pub mod Page
+pub mod Laws
+pub mod Histories
+mod Owed

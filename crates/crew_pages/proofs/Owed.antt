@@ -1,0 +1,168 @@
+-- The edges that an asker owes, hart by hart.
+use Rattle.std.proofs.Common.{◌≡◌, ◌≢◌, ◌↔◌, inl, inr, ℕ, zero, suc, ◌+◌, ◌<◌, ◌≤◌, Bool, true, false, List, [], ◌∷◌, ◌++◌, length, get_or, Option, Some, None, All, AllPairs, Contains, count_by, not, ◌==◌, eq-eqb, ne_eqb, refl, sym, ap, subst, ◌∙◌, arith, true≢false}
+use Rattle.std.proofs.lemmas.Bool.{cases_lt, cases_eq, cases_Bool}
+use Rattle.std.proofs.lemmas.List.Elements.{All-push, Contains-append_cases, Contains-append_left, Contains-append_right}
+use Rattle.std.specs.List.{filter}
+use Rattle.std.proofs.lemmas.List.{length_push}
+use Rattle.std.proofs.lemmas.List.Sums.{length-filter}
+use Rattle.smallvec.specs.SmallVec.{SmallVec}
+use Rattle.std.proofs.lemmas.List.Quantifiers.{all_pairs_push}
+use Rattle.ft_types.specs.declared.names.Want.{Want}
+use Rattle.interleaving.proofs.Cuts.{here, here_or_later}
+use Rattle.edge_log.specs.declared.Edge.{Edge}
+use Rattle.edge_log.specs.EdgeLog.{edge_as}
+use Rattle.crew_pages.specs.declared.right.LastWriter.{LastWriter}
+use Rattle.crew_pages.specs.declared.right.PageRight.{PageRight}
+use Rattle.crew_pages.specs.declared.right.PageRight.TheVariants as stored
+use Rattle.crew_pages.specs.Rights.{Right, Shared, right_of, has_it, stands, IsFree, after_count, IsOwed}
+
+some_is : (a b : ℕ) → Some a ≡ Some b → a ≡ b
+some_is a b e = cc
+
+module _ (r : Right) (h : ℕ) (want : Want) (at : ℕ) (n : ℕ) (xs : List Edge) where
+  abbrev pub Owed : Edge → Type 0
+  Owed x = IsOwed r h want at (edge_as x)
+
+  -- the edges to the first n harts
+  abbrev pub AreOwedTo : ℕ → List Edge → Type 0
+  AreOwedTo k ys = (x : Edge) → Contains ys x ↔ ((x.other < k) × Owed x)
+
+  -- nothing is owed to the next
+  pub same_owed : AreOwedTo n xs → ((x : Edge) → Owed x → x.other ≢ n) → AreOwedTo (n + 1) xs
+  same_owed exact none x = (
+    (λ is. let p = (exact x).0 is in let l : x.other < n = p.0 in (omega arith, p.1)),
+    (λ p.
+        elim (cases_lt x.other n) [
+          | inl less ↦ (exact x).1 (less, p.1)
+          | inr more ↦ let l : x.other < n + 1 = p.0 in absurd (none x p.1 (omega arith))
+        ]),
+  )
+
+  -- an edge is
+  module _ (after : ℕ) (lacks : has_it r h want ≡ false) (ne : n ≢ h) (small : n < 8) (is : after_count r want n ≡ Some after) where
+    abbrev e : Edge
+    e = record { hart = h; at = at; other = n; after = after }
+
+    is_owed : Owed e
+    is_owed = record { lacks = lacks; own = refl; at = refl; other = ne; is_hart = small; after = is }
+
+    same_edge : (x : Edge) → Owed x → x.other ≡ n → e ≡ x
+    same_edge x owed to =
+        let count : after ≡ x.after = some_is after x.after (sym is ∙ (ap (after_count r want) (sym to) ∙ owed.after)) in
+        λ i. record { hart = sym owed.own i; at = sym owed.at i; other = sym to i; after = count i }
+
+    pub one_owed : AreOwedTo n xs → AreOwedTo (n + 1) (xs ++ e ∷ [])
+    one_owed exact x = (
+      (λ is_in.
+          elim (Contains-append_cases xs (e ∷ []) x is_in) [
+            | inl old ↦ let p = (exact x).0 old in let l : x.other < n = p.0 in (omega arith, p.1)
+            | inr new ↦
+                elim (here_or_later e [] x new) [
+                  | inl same ↦ subst (λ x. (x.other < n + 1) × Owed x) same (let l : n < n + 1 = omega arith in l, is_owed)
+                  | inr (k, below, at) ↦ absurd (omega arith)
+                ]
+          ]),
+      (λ p.
+          elim (cases_lt x.other n) [
+            | inl less ↦ Contains-append_left xs (e ∷ []) x ((exact x).1 (less, p.1))
+            | inr more ↦
+                let l : x.other < n + 1 = p.0 in
+                Contains-append_right xs (e ∷ []) x (subst (Contains (e ∷ [])) (same_edge x p.1 (omega arith)) (here e []))
+          ]),
+    )
+
+    pub one_rises : All (λ x. x.other < n) xs → AllPairs (λ a b. a.other < b.other) xs → AllPairs (λ a b. a.other < b.other) (xs ++ e ∷ [])
+    one_rises below rising = all_pairs_push (λ a b. a.other < b.other) xs e rising (λ k d l. below k d l)
+
+    pub one_below : All (λ x. x.other < n) xs → All (λ x. x.other < n + 1) (xs ++ e ∷ [])
+    one_below below = All-push (λ x. x.other < n + 1) xs e (λ k d l. let b : (get_or xs k d).other < n = below k d l in omega arith) (let l : n < n + 1 = omega arith in l)
+
+-- what a loop over the first n harts has found so far
+pub record SoFar (r : Right) (h : ℕ) (want : Want) (at n : ℕ) (v : SmallVec Edge) : Type 0 where
+  pub room : length v.items ≤ n
+  pub inline : v.capacity ≡ 8
+  pub below : All (λ e. e.other < n) v.items
+  pub exact : AreOwedTo r h want at n v.items n v.items
+  pub rising : AllPairs (λ a b. a.other < b.other) v.items
+
+pub goes_on_same : (r : Right) (h : ℕ) (want : Want) (at n : ℕ) (v w : SmallVec Edge) → SoFar r h want at n v → w ≡ v →
+    ((x : Edge) → IsOwed r h want at (edge_as x) → x.other ≢ n) → SoFar r h want at (n + 1) w
+goes_on_same r h want at n v w so same none =
+    subst (SoFar r h want at (n + 1)) (sym same)
+    (record {
+      room = let l : length v.items ≤ n = so.room in omega arith;
+      inline = so.inline;
+      below = λ k d l. let b : (get_or v.items k d).other < n = so.below k d l in omega arith;
+      exact = same_owed r h want at n v.items so.exact none;
+      rising = so.rising;
+    })
+
+pub goes_on_one : (r : Right) (h : ℕ) (want : Want) (at n after : ℕ) (v w : SmallVec Edge) → SoFar r h want at n v → has_it r h want ≡ false →
+    n ≢ h → n < 8 → after_count r want n ≡ Some after → w.items ≡ v.items ++ record { hart = h; at = at; other = n; after = after } ∷ [] →
+    w.capacity ≡ v.capacity → SoFar r h want at (n + 1) w
+goes_on_one r h want at n after v w so lacks ne small is items capacity =
+    record {
+      room =
+          let l : length v.items ≤ n = so.room in
+          let size : length w.items ≡ length v.items + 1 = ap length items ∙ length_push v.items (record { hart = h; at = at; other = n; after = after }) in
+          omega arith;
+      inline = capacity ∙ so.inline;
+      below = rw items (one_below r h want at n v.items after lacks ne small is so.below);
+      exact = rw items (one_owed r h want at n v.items after lacks ne small is so.exact);
+      rising = rw items (one_rises r h want at n v.items after lacks ne small is so.below so.rising);
+    }
+
+pub not_other : (a b : ℕ) → not (a == b) ≡ true → a ≢ b
+not_other a b is same = true≢false (sym is ∙ ap not (eq-eqb a b same))
+
+pub same_hart : (a b : ℕ) → not (a == b) ≡ false → a ≡ b
+same_hart a b is = elim (cases_eq a b) [ inl same ↦ same | inr ne ↦ absurd (true≢false (sym (ap not (ne_eqb a b ne)) ∙ is)) ]
+
+no_flag : (xs : List Bool) → ((g : ℕ) → get_or xs g false ≡ true → ⊥) → filter (λ member. member) xs ≡ []
+no_flag [] none = refl
+no_flag (true ∷ xs) none = absurd (none 0 refl)
+no_flag (false ∷ xs) none = no_flag xs (λ g. none (suc g))
+
+-- no flag is set, so none is counted
+pub none_counted : (xs : List Bool) → ((g : ℕ) → get_or xs g false ≡ true → ⊥) → count_by (λ member. member) xs ≡ 0
+none_counted xs none = sym (length-filter (λ member. member) xs) ∙ ap length (no_flag xs none)
+
+-- none is counted, so no flag is set
+pub counted_none : (xs : List Bool) → count_by (λ member. member) xs ≡ 0 → (g : ℕ) → get_or xs g false ≡ true → ⊥
+counted_none xs zero_is = go xs (length-filter (λ member. member) xs ∙ zero_is)
+  where
+    go : (xs : List Bool) → length (filter (λ member. member) xs) ≡ 0 → (g : ℕ) → get_or xs g false ≡ true → ⊥
+    go [] e g is = true≢false (sym is)
+    go (true ∷ xs) e g is = omega arith
+    go (false ∷ xs) e zero is = true≢false (sym is)
+    go (false ∷ xs) e (suc g) is = go xs e g is
+
+-- of all harts
+pub all_owed : (r : Right) (h : ℕ) (want : Want) (at n : ℕ) (v : SmallVec Edge) → SoFar r h want at n v → 8 ≤ n → (x : Edge) →
+    Contains v.items x ↔ IsOwed r h want at (edge_as x)
+all_owed r h want at n v so all x =
+    ((λ is_in. ((so.exact x).0 is_in).1), (λ owed. (so.exact x).1 (let l : x.other < 8 = owed.is_hart in omega arith, owed)))
+
+pub count_is : (right : PageRight) (since : Option LastWriter) (readers : List Bool) (left : List (Option ℕ)) (want : Want) (n other : ℕ) (result : Option ℕ) →
+    right ≡ stored.Shared since readers left → other ≡ n →
+    ((is : ℕ → Bool) → result ≡ after_count (Shared since is (λ g. get_or left g None)) want other) → after_count (right_of right) want n ≡ result
+count_is right since readers left want n other result is same gives =
+    ap (λ (s : PageRight). after_count (right_of s) want n) is ∙
+    (ap (λ (k : ℕ). after_count (right_of (stored.Shared since readers left)) want k) (sym same) ∙ sym (gives (λ g. get_or readers g false)))
+
+pub pushed : (xs ys : List Edge) (h at other n after : ℕ) → ys ≡ xs ++ record { hart = h; at = at; other = other; after = after } ∷ [] → other ≡ n →
+    ys ≡ xs ++ record { hart = h; at = at; other = n; after = after } ∷ []
+pushed xs ys h at other n after is same =
+    is ∙ ap (λ (k : ℕ). let e : Edge = record { hart = h; at = at; other = k; after = after } in xs ++ e ∷ []) same
+
+-- where no flag is set, no right stands
+pub none_stands : (r : Right) (h : ℕ) (want : Want) (flags : List Bool) → ((g : ℕ) → (get_or flags g false ≡ true) ↔ (stands r h want g ≡ true)) →
+    count_by (λ member. member) flags ≡ 0 → IsFree r h want
+none_stands r h want flags exact zero_is g =
+    elim (cases_Bool (stands r h want g)) [ inl is ↦ absurd (counted_none flags zero_is g ((exact g).1 is)) | inr is_not ↦ is_not ]
+
+-- where one is, one does
+pub one_stands : (r : Right) (h : ℕ) (want : Want) (flags : List Bool) → ((g : ℕ) → (get_or flags g false ≡ true) ↔ (stands r h want g ≡ true)) →
+    (count_by (λ member. member) flags ≡ 0 → ⊥) → IsFree r h want → ⊥
+one_stands r h want flags exact some free =
+    some (none_counted flags (λ g is. true≢false (sym ((exact g).0 is) ∙ free g)))

@@ -1,0 +1,4 @@
+pub mod Rights
+pub mod Answers
+pub mod Page
+pub mod Histories
