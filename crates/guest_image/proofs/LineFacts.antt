@@ -26,7 +26,8 @@ digit_no_break false d e = omega arith
 hex_no_break : (k n : ℕ) → NoBreak (hex k n)
 unfolding hex
 hex_no_break zero n = tt
-hex_no_break (suc k) n = no_break-append (hex k (n / 16)) (hex_digit (n % 16) ∷ []) (hex_no_break k (n / 16)) (digit_no_break (nat_lt (n % 16) 10) (n % 16), tt)
+hex_no_break (suc k) n = no_break-append (hex k (n / 16)) (hex_digit (n % 16) ∷ []) (hex_no_break k (n / 16))
+    (digit_no_break (nat_lt (n % 16) 10) (n % 16), tt)
 
 pub word_no_break : (w : ℕ) → NoBreak (word w)
 unfolding word
@@ -59,22 +60,28 @@ line_unique (a ∷ us) (b ∷ bs) x y p q e =
     let r = line_unique us bs x y p.1 q.1 tails in
     (rw (heads, r.0) refl, r.1)
 
-pub same_setting : (bytes name text rest : List ℕ) (n : ℕ) (other : List ℕ) → NoBreak name → NoBreak text → bytes ≡ line text ++ rest → Sets bytes name n other → (text ≡ name ++ decimal n) × (rest ≡ other)
-same_setting bytes name text rest n other p q e s = line_unique text (name ++ decimal n) rest other q (no_break-append name (decimal n) p (decimal_no_break n s.1)) (sym e ∙ s.2)
+pub same_setting : (bytes name text rest : List ℕ) (n : ℕ) (other : List ℕ) → NoBreak name → NoBreak text →
+    bytes ≡ line text ++ rest → Sets bytes name n other → (text ≡ name ++ decimal n) × (rest ≡ other)
+same_setting bytes name text rest n other p q e s = line_unique text (name ++ decimal n) rest other q
+    (no_break-append name (decimal n) p (decimal_no_break n s.1)) (sym e ∙ s.2)
 
-pub same_word : (bytes text rest : List ℕ) (w : ℕ) (other : List ℕ) → NoBreak text → bytes ≡ line text ++ rest → StartsWithWord bytes w other → (text ≡ word w) × (rest ≡ other)
+pub same_word : (bytes text rest : List ℕ) (w : ℕ) (other : List ℕ) → NoBreak text → bytes ≡ line text ++ rest →
+    StartsWithWord bytes w other → (text ≡ word w) × (rest ≡ other)
 same_word bytes text rest w other q e s = line_unique text (word w) rest other q (word_no_break w) (sym e ∙ s.1)
 
 pub lacks_by_line : (bytes name : List ℕ) → NoBreak bytes → LacksSetting bytes name
 lacks_by_line bytes name p n rest s = no_line bytes (name ++ decimal n) rest p s.2
 
-pub lacks_by_text : (bytes name text rest : List ℕ) → NoBreak name → NoBreak text → bytes ≡ line text ++ rest → ((n : ℕ) → 0 < n → n < 10 ^ 15 → text ≡ name ++ decimal n → ⊥) → LacksSetting bytes name
-lacks_by_text bytes name text rest p q e none n other s = none n s.0 s.1 (same_setting bytes name text rest n other p q e s).0
+pub lacks_by_text : (bytes name text rest : List ℕ) → NoBreak name → NoBreak text → bytes ≡ line text ++ rest →
+    ((n : ℕ) → 0 < n → n < 10 ^ 15 → text ≡ name ++ decimal n → ⊥) → LacksSetting bytes name
+lacks_by_text bytes name text rest p q e none n other s = none n s.0 s.1
+    (same_setting bytes name text rest n other p q e s).0
 
 pub lacks_word_by_line : (bytes : List ℕ) → NoBreak bytes → LacksWord bytes
 lacks_word_by_line bytes p w rest s = no_line bytes (word w) rest p s.1
 
-pub lacks_word_by_text : (bytes text rest : List ℕ) → NoBreak text → bytes ≡ line text ++ rest → ((w : ℕ) → IsWord text w → ⊥) → LacksWord bytes
+pub lacks_word_by_text : (bytes text rest : List ℕ) → NoBreak text → bytes ≡ line text ++ rest →
+    ((w : ℕ) → IsWord text w → ⊥) → LacksWord bytes
 lacks_word_by_text bytes text rest q e none w other s = none w (s.0, (same_word bytes text rest w other q e s).0)
 
 pub are_words-append : (ws vs : List ℕ) → AreWords ws → AreWords vs → AreWords (ws ++ vs)
@@ -84,7 +91,8 @@ are_words-append (w ∷ ws) vs p q = (p.0, are_words-append ws vs p.1 q)
 pub words_begin : (pages : ℕ) (bytes : List ℕ) → WordsThen pages bytes [] bytes
 words_begin pages bytes = (tt, omega arith, refl)
 
-pub words_go_on : (pages : ℕ) (bytes words rest : List ℕ) (w : ℕ) (behind : List ℕ) → length words < pages * 1024 → StartsWithWord rest w behind → WordsThen pages bytes words rest → WordsThen pages bytes (words ++ w ∷ []) behind
+pub words_go_on : (pages : ℕ) (bytes words rest : List ℕ) (w : ℕ) (behind : List ℕ) → length words < pages * 1024 →
+    StartsWithWord rest w behind → WordsThen pages bytes words rest → WordsThen pages bytes (words ++ w ∷ []) behind
 words_go_on pages bytes words rest w behind room s p = (
   are_words-append words (w ∷ []) p.0 (s.0, tt),
   omega (arith, length-append words (w ∷ [])),
@@ -100,14 +108,18 @@ not_zero n m digits p q z is e =
     let same : m ≡ n = decimal_injective m n (omega (arith, is.0)) (omega arith) (sym is.1 ∙ e) in
     omega arith
 
-pub setting_is : (bytes name text rest digits : List ℕ) (n : ℕ) → (n ≡ 0 → ⊥) → bytes ≡ line text ++ rest → text ≡ name ++ digits → IsNumber digits n → Sets bytes name n rest
+pub setting_is : (bytes name text rest digits : List ℕ) (n : ℕ) → (n ≡ 0 → ⊥) → bytes ≡ line text ++ rest →
+    text ≡ name ++ digits → IsNumber digits n → Sets bytes name n rest
 setting_is bytes name text rest digits n positive e f is =
     (omega arith, is.0, e ∙ ap (λ (t : List ℕ). line t ++ rest) (f ∙ ap (λ (t : List ℕ). name ++ t) is.1))
 
-pub with_prefix : (name text digits : List ℕ) → pointwise nat_eq (take (length name) text) name ≡ true → digits ≡ drop (length name) text → text ≡ name ++ digits
+pub with_prefix : (name text digits : List ℕ) → pointwise nat_eq (take (length name) text) name ≡ true →
+    digits ≡ drop (length name) text → text ≡ name ++ digits
 with_prefix name text digits h e =
     let front : take (length name) text ≡ name = same_text (take (length name) text) name (sym h) in
     sym (take-append-drop (length name) text) ∙ rw (front, e) refl
 
-pub without_prefix : (name text digits : List ℕ) → pointwise nat_eq (take (length name) text) name ≡ false → text ≡ name ++ digits → ⊥
-without_prefix name text digits h e = other_text (take (length name) text) name (sym h) (ap (λ (t : List ℕ). take (length name) t) e ∙ take-append_seam name digits)
+pub without_prefix : (name text digits : List ℕ) → pointwise nat_eq (take (length name) text) name ≡ false →
+    text ≡ name ++ digits → ⊥
+without_prefix name text digits h e = other_text (take (length name) text) name (sym h)
+    (ap (λ (t : List ℕ). take (length name) t) e ∙ take-append_seam name digits)

@@ -32,7 +32,7 @@ page_size ws h =
       length-replicate {A = ℕ} (4096 - 4 * length ws) 0,
     )
 
-taken : (n : ℕ) (xs : List ℕ) → length (take n xs) ≤ n
+pub taken : (n : ℕ) (xs : List ℕ) → length (take n xs) ≤ n
 taken n xs = grind (arith, common_steps)
 
 pages_count : (n : ℕ) (ws : List ℕ) → length (pages_with n ws) ≡ n
@@ -60,12 +60,15 @@ boot_whole i fits =
 
 -- ---- a hart is put in its place
 
-set_in_place : (harts place i : ℕ) (hs : List Hart) (h : Hart) → h.number ≡ place + i → h.harts ≡ harts → AreInPlace harts place hs → AreInPlace harts place (slice_set hs i h)
+set_in_place : (harts place i : ℕ) (hs : List Hart) (h : Hart) → h.number ≡ place + i → h.harts ≡ harts →
+    AreInPlace harts place hs → AreInPlace harts place (slice_set hs i h)
 set_in_place harts place i [] h e f p = tt
 set_in_place harts place zero (x ∷ hs) h e f p = (omega arith, f, p.2)
-set_in_place harts place (suc i) (x ∷ hs) h e f p = (p.0, p.1, set_in_place harts (place + 1) i hs h (omega arith) f p.2)
+set_in_place harts place (suc i) (x ∷ hs) h e f p =
+    (p.0, p.1, set_in_place harts (place + 1) i hs h (omega arith) f p.2)
 
-pub whole_with_hart : (hs : List Hart) (ps : List (List ℕ)) (i : ℕ) (h : Hart) → h.number ≡ i → h.harts ≡ length hs → IsMachine (record { harts = hs; pages = ps }) → IsMachine (record { harts = slice_set hs i h; pages = ps })
+pub whole_with_hart : (hs : List Hart) (ps : List (List ℕ)) (i : ℕ) (h : Hart) → h.number ≡ i → h.harts ≡ length hs →
+    IsMachine (record { harts = hs; pages = ps }) → IsMachine (record { harts = slice_set hs i h; pages = ps })
 whole_with_hart hs ps i h e f p =
     let size : length (slice_set hs i h) ≡ length hs = length-set hs i h in
     record {

@@ -28,7 +28,8 @@ module _ {Writer : Type 0} (bytes : Writer → Option (List ℕ)) (failures : Wr
   LeftOf old now all rest = IsLeft (bytes old) (bytes now) (failures old) (failures now) all rest
 
   -- a text was written, and then another
-  pub then_writes : {A E : Type 0} (r : Result A E) (a b c : Writer) (x y : List ℕ) → Wrote a b x → WritesTo r b c y → WritesTo r a c (x ++ y)
+  pub then_writes : {A E : Type 0} (r : Result A E) (a b c : Writer) (x y : List ℕ) → Wrote a b x → WritesTo r b c y →
+      WritesTo r a c (x ++ y)
   then_writes (Ok u) a b c x y p q = (appends_then (bytes a) (bytes b) (bytes c) x y p.0 q.0, q.1 ∙ p.1)
   then_writes (Err e) a b c x y p q = (
     q.0 ∙ ap (λ (k : ℕ). (k + 1) % 2 ^ 64) p.1,
@@ -41,41 +42,53 @@ module _ {Writer : Type 0} (bytes : Writer → Option (List ℕ)) (failures : Wr
   )
 
   -- a text was not written whole, nor what comes after it
-  pub then_stops : {A E : Type 0} (r : Result A E) (e : E) (a b : Writer) (x y : List ℕ) → r ≡ Err e → Stopped a b x → WritesTo r a b (x ++ y)
+  pub then_stops : {A E : Type 0} (r : Result A E) (e : E) (a b : Writer) (x y : List ℕ) → r ≡ Err e → Stopped a b x →
+      WritesTo r a b (x ++ y)
   then_stops r e a b x y is p = rw is (p.0, (p.1.0, p.1.1 ++ y, rw p.1.2 (append_assoc p.1.0 p.1.1 y), p.1.3))
 
   -- a loop's turn that wrote what came first of the rest
-  pub goes_on : (old now new : Writer) (all rest more later : List ℕ) → rest ≡ more ++ later → LeftOf old now all rest → Wrote now new more → LeftOf old new all later
+  pub goes_on : (old now new : Writer) (all rest more later : List ℕ) → rest ≡ more ++ later →
+      LeftOf old now all rest → Wrote now new more → LeftOf old new all later
   goes_on old now new all rest more later e p q =
       let P : List ℕ → Type 0 = λ s. LeftOf old now all s in
-      left_step (bytes old) (bytes now) (bytes new) (failures old) (failures now) (failures new) all later more (subst P e p) q.0 q.1
+      left_step (bytes old) (bytes now) (bytes new) (failures old) (failures now) (failures new) all later more
+      (subst P e p) q.0 q.1
 
   -- a loop's turn that failed at it
-  pub stops : {A E : Type 0} (r : Result A E) (e : E) (old now new : Writer) (all rest more later : List ℕ) → r ≡ Err e → rest ≡ more ++ later → LeftOf old now all rest → Stopped now new more → WritesTo r old new all
+  pub stops : {A E : Type 0} (r : Result A E) (e : E) (old now new : Writer) (all rest more later : List ℕ) →
+      r ≡ Err e → rest ≡ more ++ later → LeftOf old now all rest → Stopped now new more → WritesTo r old new all
   stops r e old now new all rest more later is f p q =
       let P : List ℕ → Type 0 = λ s. LeftOf old now all s in
-      left_fails r e (bytes old) (bytes now) (bytes new) (failures old) (failures now) (failures new) all later more q.1.0 q.1.1 is (subst P f p) q.0 q.1.2 q.1.3
+      left_fails r e (bytes old) (bytes now) (bytes new) (failures old) (failures now)
+      (failures new) all later more q.1.0 q.1.1 is (subst P f p) q.0 q.1.2 q.1.3
 
 -- ---- what comes first of a rest
 
 front_at : {A : Type 0} (i : ℕ) (xs : List A) (d : A) → i < length xs → drop i xs ≡ get_or xs i d ∷ drop (i + 1) xs
 front_at i xs d h = rw add-one (drop-cons xs i d h)
 
-pub numbered_at : {A : Type 0} (t : ℕ → A → List ℕ) (k j i : ℕ) (xs : List A) (d : A) → j ≡ k + 1 → i < length xs → numbered t k (drop i xs) ≡ t k (get_or xs i d) ++ numbered t j (drop (i + 1) xs)
+pub numbered_at : {A : Type 0} (t : ℕ → A → List ℕ) (k j i : ℕ) (xs : List A) (d : A) → j ≡ k + 1 → i < length xs →
+    numbered t k (drop i xs) ≡ t k (get_or xs i d) ++ numbered t j (drop (i + 1) xs)
 numbered_at {A = A} t k j i xs d e h = rw e (ap (λ (ys : List A). numbered t k ys) (front_at i xs d h))
 
-pub flat_at : {A : Type 0} (t : A → List ℕ) (i : ℕ) (xs : List A) (x : A) → x ≡ get_or xs i x → i < length xs → flat_map t (drop i xs) ≡ t x ++ flat_map t (drop (i + 1) xs)
-flat_at {A = A} t i xs x is h = ap (λ (ys : List A). flat_map t ys) (front_at i xs x h ∙ ap (λ (y : A). y ∷ drop (i + 1) xs) (sym is))
+pub flat_at : {A : Type 0} (t : A → List ℕ) (i : ℕ) (xs : List A) (x : A) → x ≡ get_or xs i x → i < length xs →
+    flat_map t (drop i xs) ≡ t x ++ flat_map t (drop (i + 1) xs)
+flat_at {A = A} t i xs x is h = ap (λ (ys : List A). flat_map t ys)
+    (front_at i xs x h ∙ ap (λ (y : A). y ∷ drop (i + 1) xs) (sym is))
 
-pub numbered-append : {A : Type 0} (t : ℕ → A → List ℕ) (k : ℕ) (xs ys : List A) → numbered t k (xs ++ ys) ≡ numbered t k xs ++ numbered t (k + length xs) ys
+pub numbered-append : {A : Type 0} (t : ℕ → A → List ℕ) (k : ℕ) (xs ys : List A) →
+    numbered t k (xs ++ ys) ≡ numbered t k xs ++ numbered t (k + length xs) ys
 numbered-append t k [] ys = ap (λ (j : ℕ). numbered t j ys) (omega arith)
 numbered-append t k (x ∷ xs) ys =
     let place : k + 1 + length xs ≡ k + suc (length xs) = omega arith in
-    ap (λ (s : List ℕ). t k x ++ s) (numbered-append t (k + 1) xs ys ∙ ap (λ (j : ℕ). numbered t (k + 1) xs ++ numbered t j ys) place)
+    ap (λ (s : List ℕ). t k x ++ s)
+    (numbered-append t (k + 1) xs ys ∙ ap (λ (j : ℕ). numbered t (k + 1) xs ++ numbered t j ys) place)
     ∙ sym (append_assoc (t k x) (numbered t (k + 1) xs) (numbered t (k + suc (length xs)) ys))
 
 -- the first word of at least four bytes
-pub words_at : (bytes : List ℕ) → 4 ≤ length bytes → words_of bytes ≡ from_le_bytes w32 (get_or bytes 0 0 ∷ get_or bytes 1 0 ∷ get_or bytes 2 0 ∷ get_or bytes 3 0 ∷ []) ∷ words_of (drop 4 bytes)
+pub words_at : (bytes : List ℕ) → 4 ≤ length bytes → words_of bytes
+    ≡ from_le_bytes w32 (get_or bytes 0 0 ∷ get_or bytes 1 0 ∷ get_or bytes 2 0 ∷ get_or bytes 3 0 ∷ []) ∷ words_of
+    (drop 4 bytes)
 words_at [] h = absurd (omega arith)
 words_at (a ∷ []) h = absurd (omega arith)
 words_at (a ∷ b ∷ []) h = absurd (omega arith)
@@ -86,11 +99,14 @@ pub behind : (rest : List ℕ) → length (take (length rest - 4) (drop 4 rest))
 behind rest = grind (arith, common_steps)
 
 -- the line of the first word comes first of those from it on
-pub page_at : (k v : ℕ) (rest : List ℕ) → 4 ≤ length rest → v ≡ from_le_bytes w32 (get_or rest 0 0 ∷ get_or rest 1 0 ∷ get_or rest 2 0 ∷ get_or rest 3 0 ∷ []) →
-    numbered ram_line k (words_of rest) ≡ ram_line k v ++ numbered ram_line (k + 1) (words_of (take (length rest - 4) (drop 4 rest)))
+pub page_at : (k v : ℕ) (rest : List ℕ) → 4 ≤ length rest →
+    v ≡ from_le_bytes w32 (get_or rest 0 0 ∷ get_or rest 1 0 ∷ get_or rest 2 0 ∷ get_or rest 3 0 ∷ []) →
+    numbered ram_line k (words_of rest) ≡ ram_line k v ++ numbered ram_line (k + 1)
+    (words_of (take (length rest - 4) (drop 4 rest)))
 page_at k v rest h e =
     let same : take (length rest - 4) (drop 4 rest) ≡ drop 4 rest = grind (arith, common_steps) in
-    let first : words_of rest ≡ v ∷ words_of (drop 4 rest) = words_at rest h ∙ ap (λ (w : ℕ). w ∷ words_of (drop 4 rest)) (sym e) in
+    let first : words_of rest ≡ v ∷ words_of (drop 4 rest) = words_at rest h
+    ∙ ap (λ (w : ℕ). w ∷ words_of (drop 4 rest)) (sym e) in
     rw same (ap (λ (ws : List ℕ). numbered ram_line k ws) first)
 
 -- three bytes or fewer have no word
@@ -103,13 +119,19 @@ words_end (a ∷ b ∷ c ∷ d ∷ rest) h = absurd (omega arith)
 
 pub words_size : (n : ℕ) (bytes : List ℕ) → length bytes ≡ n * 4 → length (words_of bytes) ≡ n
 words_size zero bytes h = rw (words_end bytes (omega arith)) refl
-words_size (suc n) bytes h = rw (words_at bytes (omega arith)) (ap suc (words_size n (drop 4 bytes) (omega (arith, length-drop 4 bytes))))
+words_size (suc n) bytes h = rw (words_at bytes (omega arith))
+    (ap suc (words_size n (drop 4 bytes) (omega (arith, length-drop 4 bytes))))
 
 -- the lines of a page come first of those of the pages from it on
-pub ram_at : (i : ℕ) (pages : List (List ℕ)) (page d : List ℕ) → i < length pages → page ≡ get_or pages i d → length page ≡ 4096 →
-    numbered ram_line (i * 1024) (ram_words (drop i pages)) ≡ numbered ram_line (i * 1024) (words_of page) ++ numbered ram_line ((i + 1) * 1024) (ram_words (drop (i + 1) pages))
+pub ram_at : (i : ℕ) (pages : List (List ℕ)) (page d : List ℕ) → i < length pages → page ≡ get_or pages i d →
+    length page ≡ 4096 →
+    numbered ram_line (i * 1024) (ram_words (drop i pages)) ≡ numbered ram_line (i * 1024) (words_of page)
+    ++ numbered ram_line ((i + 1) * 1024) (ram_words (drop (i + 1) pages))
 ram_at i pages page d h is size =
     let place : i * 1024 + length (words_of page) ≡ (i + 1) * 1024 = omega (arith, words_size 1024 page size) in
-    ap (λ (ps : List (List ℕ)). numbered ram_line (i * 1024) (ram_words ps)) (front_at i pages d h ∙ ap (λ (p : List ℕ). p ∷ drop (i + 1) pages) (sym is))
+    ap (λ (ps : List (List ℕ)). numbered ram_line (i * 1024) (ram_words ps))
+    (front_at i pages d h ∙ ap (λ (p : List ℕ). p ∷ drop (i + 1) pages) (sym is))
     ∙ numbered-append ram_line (i * 1024) (words_of page) (ram_words (drop (i + 1) pages))
-    ∙ ap (λ (k : ℕ). numbered ram_line (i * 1024) (words_of page) ++ numbered ram_line k (ram_words (drop (i + 1) pages))) place
+    ∙ ap
+    (λ (k : ℕ). numbered ram_line (i * 1024) (words_of page) ++ numbered ram_line k (ram_words (drop (i + 1) pages)))
+    place

@@ -14,7 +14,7 @@ use std::vec::Vec;
 #[derive(Drop)]
 struct OpenPages {
     pages: Vec<Page>,
-    open: [bool; 64],
+    rights: [bool; 64],
     ghost few: { length pages.items ≤ 64 },
     ghost sized: { (i : ℕ) → i < length pages.items → length (slice_index_or pages.items i []) ≡ 4096 },
 }
@@ -29,7 +29,7 @@ impl OpenPages {
         }
         Ok(OpenPages {
             pages,
-            open: [true; 64],
+            rights: [true; 64],
         })
     }
 }
@@ -37,18 +37,18 @@ impl OpenPages {
 impl Pages for OpenPages {
     ghost use Rattle.rv32_hart.specs.Ram.{Ram};
 
-    ghost ram = { λ s. record { contents = s.pages.items; readable = s.open; writable = s.open } };
+    ghost ram = { λ s. record { contents = s.pages.items; readable = s.rights; writable = s.rights } };
 
     fn count(&self) -> u32 {
         self.pages.len() as u32
     }
 
     fn can_read(&self, page: PageNo) -> bool {
-        self.open[page.index()]
+        self.rights[page.index()]
     }
 
     fn can_write(&self, page: PageNo) -> bool {
-        self.open[page.index()]
+        self.rights[page.index()]
     }
 
     fn read_byte(&self, page: PageNo, offset: u32) -> u8 {

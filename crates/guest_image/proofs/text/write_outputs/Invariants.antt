@@ -4,4 +4,5 @@ use Rattle.guest_image.specs.Text.{numbered, output_line}
 use Rattle.guest_image.proofs.text.write_outputs.Given as goal
 
 abbrev pub invariant-loop-i : goal.invariant-loop-i
-invariant-loop-i g l = IsLeft (g.W.Sink.bytes l.fn.out) (g.W.Sink.bytes l.out) (g.W.Sink.failures l.fn.out) (g.W.Sink.failures l.out) (numbered output_line 0 l.outputs) (numbered output_line l.i (drop l.i l.outputs))
+invariant-loop-i g l = IsLeft (g.W.Sink.bytes l.fn.out) (g.W.Sink.bytes l.out) (g.W.Sink.failures l.fn.out)
+    (g.W.Sink.failures l.out) (numbered output_line 0 l.outputs) (numbered output_line l.i (drop l.i l.outputs))

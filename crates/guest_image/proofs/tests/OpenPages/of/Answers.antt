@@ -3,4 +3,6 @@ use Rattle.guest_image.proofs.tests.OpenPages.of.Goals as goal
 
 pub loop-number-preserved : goal.loop-number-preserved
 loop-number-preserved c =
-    next_page c.args.machine.now.pages c.loop-number.pages.items c.push.new.self.items c.loop-number.number c.new.result c.page.result.now c.in_ok-copy.field-0 c.new.ensures c.page.ensures c.in_ok-copy.ensures c.in_ok-push.ensures.items c.loop-number.invariant
+    next_page c.args.machine.now.pages c.loop-number.pages.items c.push.new.self.items c.loop-number.number
+    c.new.result c.page.result.now c.in_ok-copy.field-0 c.new.ensures c.page.ensures c.in_ok-copy.ensures
+    c.in_ok-push.ensures.items c.loop-number.invariant
