@@ -1,6 +1,9 @@
 -- The laws of page rights, from what is proved of any predicates.
-use Rattle.std.proofs.Common.{List, [], Contains, refl, subst, arith}
-use Rattle.crew_pages.specs.Page.{IsRight, Begins, KeepsGoingOn, KeepsGivingUp, KeepsLowering, KeepsGiving, OwesSettled, PutsBefore, OneWriter}
+use Rattle.std.proofs.Common.{List, [], Contains, refl, sym, subst, ◌∙◌, inl, inr, arith, eq-eqb, ne_eqb, true, true≢false}
+use Rattle.ft_types.specs.declared.names.Want.TheVariants.{Read, Write}
+use Rattle.interleaving.proofs.Put.{same_or_not, put_same}
+use Rattle.crew_pages.specs.Rights.{Shared, Exclusive}
+use Rattle.crew_pages.specs.Page.{IsRight, Begins, KeepsGoingOn, KeepsGivingUp, KeepsLowering, KeepsGiving, OwesSettled, PutsBefore, OneWriter, GivesIt}
 use Rattle.crew_pages.proofs.Page.{begins_ok, right_more, give_up_ok, lower_ok, given_ok, owes_settled, right_before, one_owner}
 
 none_in : {A : Type 0} (x : A) → Contains (let xs : List A = [] in xs) x → ⊥
@@ -40,3 +43,12 @@ puts_before s r a b ok some must =
 
 pub one_writer : OneWriter
 one_writer r h g owner held = one_owner r h g owner held
+
+pub gives_it : GivesIt
+gives_it (Shared since readers left) h Read n free = put_same readers h h true refl
+gives_it (Shared since readers left) h Write n free = eq-eqb h h refl
+gives_it (Exclusive owner at since left) h want n free =
+    elim (same_or_not h owner) [
+      | inl same ↦ eq-eqb owner h (sym same)
+      | inr ne ↦ absurd (true≢false (sym (rw (ne_eqb h owner ne, eq-eqb owner owner refl) refl) ∙ free owner))
+    ]

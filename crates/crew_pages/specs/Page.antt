@@ -3,7 +3,7 @@ use Rattle.std.specs.Prelude.{ℕ, ◌≡◌, ◌≢◌, ◌<◌, ◌≤◌, ◌
 use Rattle.ft_types.specs.declared.names.Want.{Want}
 use Rattle.interleaving.specs.Log.{Edge, Place, Before}
 use Rattle.crew_pages.specs.declared.right.LastWriter.{LastWriter}
-use Rattle.crew_pages.specs.Rights.{Right, Shared, Exclusive, unused, holds, owns, IsFree, IsOwed, given, give_up, lower}
+use Rattle.crew_pages.specs.Rights.{Right, Shared, Exclusive, unused, holds, owns, IsFree, has_it, IsOwed, given, give_up, lower}
 
 abbrev pub since_of : Right → Option LastWriter
 since_of (Shared since readers left) = since
@@ -156,3 +156,7 @@ PutsBefore =
 -- beside an owner no other hart holds a right
 abbrev pub OneWriter : Type 0
 OneWriter = (r : Right) (h g : ℕ) → owns r h ≡ true → holds r g ≡ true → h ≡ g
+
+-- a hart that is given what it asked for has it
+abbrev pub GivesIt : Type 0
+GivesIt = (r : Right) (h : ℕ) (want : Want) (n : ℕ) → IsFree r h want → has_it (given r h want n) h want ≡ true

@@ -1,5 +1,5 @@
--- The right to a page: many readers or one writer, and who was there before (SMP-ReVirt, "The CREW protocol": a page is
--- readable by many processors, or readable and writable by one).
+-- The right to a page, and who was there before: the concurrent-read, exclusive-write protocol of SMP-ReVirt (VEE 2008), by
+-- which a page is at any moment readable by many processors, or readable and writable by one.
 use Rattle.std.specs.Prelude.{ℕ, ◌≡◌, ◌≢◌, ◌<◌, ◌==◌, ◌&&◌, not, nat_lt, max, Bool, true, false, Option, Some, None, if◌then◌else◌, slice_index_or}
 use Rattle.ft_types.specs.declared.names.Want.{Want}
 use Rattle.ft_types.specs.declared.names.Want.TheVariants.{Read, Write}

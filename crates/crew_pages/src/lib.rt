@@ -4,7 +4,7 @@
 
 ghost use Rattle.crew_pages.specs.Histories.{KeepsOrder};
 ghost use Rattle.crew_pages.specs.Page.{Begins, KeepsGoingOn, KeepsGivingUp, KeepsLowering, KeepsGiving};
-ghost use Rattle.crew_pages.specs.Page.{OwesSettled, PutsBefore, OneWriter};
+ghost use Rattle.crew_pages.specs.Page.{OwesSettled, PutsBefore, OneWriter, GivesIt};
 
 mod right;
 #[cfg(test)]
@@ -32,4 +32,5 @@ pub fn page_order()
     ensures owes { OwesSettled }
     ensures before { PutsBefore }
     ensures one_writer { OneWriter }
+    ensures gives { GivesIt }
 {}
