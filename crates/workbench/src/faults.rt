@@ -1,0 +1,194 @@
+//! What can go wrong, and the one line that says so.
+
+ghost use Rattle.std.specs.Prelude.{◌≡◌, ◌≢◌};
+
+use crate::words::{NamedFile, Request, WordsFault};
+use fragment_codec::FrameFault;
+use ft_types::{Count, Counts, Failed, Hart, LineBuffer, Memory, Sink, write_all};
+use guest_image::ImageFault;
+use thiserror::Error;
+
+/// Why a replay has no machine.
+#[derive(Clone, Copy, Debug, PartialEq, Eq)]
+pub enum ReplayFault {
+    /// These are the counts where no hart below its end can go on, and none of them is halted.
+    Cyclic(Counts),
+    /// The least hart that halted below its end, and its count.
+    HaltedInside(Hart, Count),
+    /// The log is of another guest than the image.
+    OtherGuest,
+    /// A growth was refused.
+    Memory,
+}
+
+impl From<Memory> for ReplayFault {
+    ghost use Rattle.std.specs.Prelude.{◌≡◌};
+    ghost use Rattle.workbench.specs.declared.faults.ReplayFault.TheVariants.{Memory as NoMemory};
+
+    ghost from_gives = { λ _ e. e ≡ NoMemory };
+
+    fn from(_e: Memory) -> ReplayFault {
+        ReplayFault::Memory
+    }
+}
+
+/// Why streams gave no text.
+#[derive(Clone, Copy, Debug, PartialEq, Eq, Error)]
+pub enum StreamsFault {
+    #[error("stream {0} could not be read")]
+    Read(usize),
+    #[error("stream {0} has the frame fault {1:?}")]
+    Frame(usize, FrameFault),
+    #[error("stream {0} is of another guest")]
+    Guest(usize),
+    #[error("the log cannot be replayed: {0:?}")]
+    Replay(ReplayFault),
+    #[error("the text could not be written")]
+    Write,
+    #[error("memory was refused")]
+    Memory,
+}
+
+impl From<Memory> for StreamsFault {
+    ghost use Rattle.std.specs.Prelude.{◌≡◌};
+    ghost use Rattle.workbench.specs.declared.faults.StreamsFault.TheVariants.{Memory as NoMemory};
+
+    ghost from_gives = { λ _ e. e ≡ NoMemory };
+
+    fn from(_e: Memory) -> StreamsFault {
+        StreamsFault::Memory
+    }
+}
+
+impl From<ReplayFault> for StreamsFault {
+    fn from(fault: ReplayFault) -> StreamsFault {
+        match fault {
+            ReplayFault::Memory => StreamsFault::Memory,
+            fault => StreamsFault::Replay(fault),
+        }
+    }
+}
+
+/// Why a command failed.
+#[derive(Clone, Copy, Debug, PartialEq, Eq)]
+pub enum CommandFault {
+    /// The words have no form that there is.
+    Usage,
+    /// A file could not be opened or read.
+    File(NamedFile),
+    /// What is wrong with the image.
+    Image(ImageFault),
+    /// What is wrong with the logs, their replay or the output.
+    Streams(StreamsFault),
+    /// A growth was refused.
+    Memory,
+}
+
+impl From<Memory> for CommandFault {
+    fn from(_e: Memory) -> CommandFault {
+        CommandFault::Memory
+    }
+}
+
+/// The status that the program ends with.
+pub fn status_of(fault: &CommandFault) -> u8
+    ensures usage { fault.now ≡ CommandFault.Usage → result ≡ 2 }
+    ensures others { fault.now ≢ CommandFault.Usage → result ≡ 1 }
+{
+    match fault {
+        CommandFault::Usage => 2,
+        _ => 1,
+    }
+}
+
+fn write_numbered<W: Sink>(
+    before: &[u8],
+    number: u64,
+    after: &[u8],
+    out: &mut W,
+) -> Result<(), Failed> {
+    let mut digits = LineBuffer::new();
+    digits.push_number(number);
+    write_all(out, before)?;
+    write_all(out, digits.as_slice())?;
+    write_all(out, after)
+}
+
+fn write_image_fault<W: Sink>(fault: ImageFault, out: &mut W) -> Result<(), Failed> {
+    match fault {
+        ImageFault::BadLine(line) => {
+            write_numbered(b"fault image 1 line ", line as u64, b"\n", out)
+        }
+        ImageFault::TooLarge => write_all(out, b"fault image 2\n"),
+        ImageFault::NoHarts => write_all(out, b"fault image 3\n"),
+        ImageFault::Memory => write_all(out, b"fault memory\n"),
+    }
+}
+
+fn write_replay_fault<W: Sink>(fault: ReplayFault, out: &mut W) -> Result<(), Failed> {
+    match fault {
+        ReplayFault::Cyclic(counts) => {
+            write_all(out, b"fault replay 1 counts")?;
+            for count in counts.as_slice() {
+                write_numbered(b" ", *count, b"", out)?;
+            }
+            write_all(out, b"\n")
+        }
+        ReplayFault::HaltedInside(hart, count) => {
+            write_numbered(
+                b"fault replay 2 hart ",
+                u64::from(hart.number()),
+                b" count ",
+                out,
+            )?;
+            write_numbered(b"", count, b"\n", out)
+        }
+        ReplayFault::OtherGuest => write_all(out, b"fault stream 0 guest\n"),
+        ReplayFault::Memory => write_all(out, b"fault memory\n"),
+    }
+}
+
+fn write_streams_fault<W: Sink>(fault: StreamsFault, out: &mut W) -> Result<(), Failed> {
+    match fault {
+        StreamsFault::Read(stream) => {
+            write_numbered(b"fault stream ", stream as u64, b" read\n", out)
+        }
+        StreamsFault::Frame(stream, fault) => {
+            write_numbered(b"fault stream ", stream as u64, b" frame ", out)?;
+            write_numbered(b"", u64::from(fault.number()), b"\n", out)
+        }
+        StreamsFault::Guest(stream) => {
+            write_numbered(b"fault stream ", stream as u64, b" guest\n", out)
+        }
+        StreamsFault::Replay(fault) => write_replay_fault(fault, out),
+        StreamsFault::Write => write_all(out, b"fault write\n"),
+        StreamsFault::Memory => write_all(out, b"fault memory\n"),
+    }
+}
+
+/// Writes the line that says what went wrong with a request.
+pub fn write_fault<W: Sink>(
+    fault: &CommandFault,
+    request: &Request<'_>,
+    out: &mut W,
+) -> Result<(), Failed> {
+    match fault {
+        CommandFault::Usage => write_all(out, b"fault usage\n"),
+        CommandFault::File(file) => {
+            write_all(out, b"fault file ")?;
+            write_all(out, request.name(*file).as_bytes())?;
+            write_all(out, b"\n")
+        }
+        CommandFault::Image(fault) => write_image_fault(*fault, out),
+        CommandFault::Streams(fault) => write_streams_fault(*fault, out),
+        CommandFault::Memory => write_all(out, b"fault memory\n"),
+    }
+}
+
+/// Writes the line that says why the words are no request.
+pub fn write_words_fault<W: Sink>(fault: WordsFault, out: &mut W) -> Result<(), Failed> {
+    match fault {
+        WordsFault::Usage => write_all(out, b"fault usage\n"),
+        WordsFault::Memory => write_all(out, b"fault memory\n"),
+    }
+}

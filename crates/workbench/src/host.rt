@@ -1,0 +1,110 @@
+//! The real files and standard streams. What they hold outside is in no contract.
+
+ghost use Rattle.std.specs.Prelude.{None};
+
+use crate::files::Files;
+use ft_types::{Failed, Sink, Source};
+use std::fs;
+use std::io::{Read, Write};
+
+/// The files that a runtime reaches.
+#[derive(Drop)]
+pub struct HostFiles<'a, H: fs::Files> {
+    rt: &'a H,
+}
+
+impl<'a, H: fs::Files> HostFiles<'a, H> {
+    /// The files of this runtime.
+    pub fn new(rt: &'a H) -> HostFiles<'a, H> {
+        HostFiles { rt }
+    }
+}
+
+impl<H: fs::Files> Files for HostFiles<'_, H> {
+    type Reader = HostReader<H::File>;
+
+    type Writer = HostWriter<H::File>;
+
+    fn reader(&mut self, name: &str) -> Result<HostReader<H::File>, Failed> {
+        match fs::open(self.rt, name) {
+            Ok(file) => Ok(HostReader::new(file)),
+            Err(_) => Err(Failed),
+        }
+    }
+
+    fn maker(&mut self, name: &str) -> Result<HostWriter<H::File>, Failed> {
+        match fs::create(self.rt, name) {
+            Ok(file) => Ok(HostWriter::new(file)),
+            Err(_) => Err(Failed),
+        }
+    }
+}
+
+/// An opened file, which tells no bytes.
+#[derive(Drop)]
+pub struct HostReader<R: Read + Drop> {
+    reader: R,
+    failures: u64,
+}
+
+impl<R: Read + Drop> HostReader<R> {
+    /// A reader without failures so far.
+    pub fn new(reader: R) -> HostReader<R> {
+        HostReader {
+            reader,
+            failures: 0,
+        }
+    }
+}
+
+impl<R: Read + Drop> Source for HostReader<R> {
+    ghost left = { λ _. None };
+
+    ghost failures = { λ r. r.failures };
+
+    fn read(&mut self, piece: &mut [u8]) -> Result<usize, Failed> {
+        match self.reader.read(piece) {
+            Ok(count) => Ok(count),
+            Err(_) => {
+                self.failures = self.failures.wrapping_add(1);
+                Err(Failed)
+            }
+        }
+    }
+}
+
+/// A file that is being made or a standard stream, which tells no bytes.
+#[derive(Drop)]
+pub struct HostWriter<W: Write + Drop> {
+    writer: W,
+    failures: u64,
+}
+
+impl<W: Write + Drop> HostWriter<W> {
+    /// A writer without failures so far.
+    pub fn new(writer: W) -> HostWriter<W> {
+        HostWriter {
+            writer,
+            failures: 0,
+        }
+    }
+}
+
+impl<W: Write + Drop> Sink for HostWriter<W> {
+    ghost bytes = { λ _. None };
+
+    ghost failures = { λ w. w.failures };
+
+    fn write(&mut self, piece: &[u8]) -> Result<usize, Failed> {
+        if piece.is_empty() {
+            return Ok(0);
+        }
+        match self.writer.write(piece) {
+            Ok(count) if count > 0 => Ok(count),
+            _ => {
+                self.failures = self.failures.wrapping_add(1);
+                Err(Failed)
+            }
+        }
+    }
+}

@@ -1,0 +1,49 @@
+//! The program: it replays logs of a guest, and prints the machine that they lead to.
+#![tactic(auto)]
+
+mod command;
+mod faults;
+mod files;
+mod host;
+mod pieces;
+mod replay;
+mod streams;
+#[cfg(test)]
+mod tests;
+mod words;
+
+use crate::command::{command, no_request};
+use crate::host::{HostFiles, HostWriter};
+use crate::words::WordsFault;
+use std::process::ExitCode;
+use std::{env, io};
+
+/// The arguments, but the program's name.
+fn arguments(rt: &HostRuntime) -> io::Result<Vec<String>> {
+    let mut words = Vec::new(rt.alloc());
+    for word in env::args(rt)?.skip(1) {
+        words.push(word)?;
+    }
+    Ok(words)
+}
+
+fn fault_of(error: &io::Error) -> WordsFault {
+    match error.kind() {
+        io::ErrorKind::OutOfMemory => WordsFault::Memory,
+        _ => WordsFault::Usage,
+    }
+}
+
+fn status(rt: &HostRuntime) -> u8 {
+    let mut files = HostFiles::new(rt);
+    let mut out = HostWriter::new(rt.stdout());
+    let mut err = HostWriter::new(rt.stderr());
+    match arguments(rt) {
+        Ok(words) => command(rt.alloc(), &words, &mut files, &mut out, &mut err),
+        Err(error) => no_request(fault_of(&error), &mut err),
+    }
+}
+
+fn main(rt: HostRuntime) -> ExitCode {
+    ExitCode::from(status(&rt))
+}
