@@ -1,5 +1,0 @@
-pub mod Lists
-pub mod Entries
-pub mod Kept
-pub mod Ends
-pub mod StreamLemmas

@@ -1,3 +1,0 @@
-pub mod Streams
-pub mod Faults
-pub mod Pieces
