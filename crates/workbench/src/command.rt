@@ -88,7 +88,7 @@ fn replay_log<F: Files, W: Sink>(
     if readers.push(reader).is_err() {
         return Err(CommandFault::Memory);
     }
-    match replay_streams(alloc, image, readers.as_mut_slice(), out) {
+    match replay_streams(alloc, image, &mut readers, out) {
         Ok(()) => Ok(()),
         Err(fault) => Err(CommandFault::Streams(fault)),
     }

@@ -22,6 +22,11 @@ pub enum ReplayFault {
 }
 
 impl From<Memory> for ReplayFault {
+    ghost use Rattle.std.specs.Prelude.{◌≡◌};
+    ghost use Rattle.workbench.specs.declared.faults.ReplayFault.TheVariants.{Memory as NoMemory};
+
+    ghost from_gives = { λ _ e. e ≡ NoMemory };
+
     fn from(_e: Memory) -> ReplayFault {
         ReplayFault::Memory
     }
@@ -45,6 +50,11 @@ pub enum StreamsFault {
 }
 
 impl From<Memory> for StreamsFault {
+    ghost use Rattle.std.specs.Prelude.{◌≡◌};
+    ghost use Rattle.workbench.specs.declared.faults.StreamsFault.TheVariants.{Memory as NoMemory};
+
+    ghost from_gives = { λ _ e. e ≡ NoMemory };
+
     fn from(_e: Memory) -> StreamsFault {
         StreamsFault::Memory
     }

@@ -1,9 +1,9 @@
 //! Replay of one hart to a count.
 
-ghost use Rattle.std.specs.Prelude.{◌≡◌};
+ghost use Rattle.std.specs.Prelude.{◌≡◌, ◌<◌, ◌^◌};
 
 use crate::faults::ReplayFault;
-use ft_types::{COUNT_LIMIT, Count, Counts, Hart, Memory};
+use ft_types::{Count, Counts, Hart, Memory};
 use guest_image::{Image, Machine};
 use page_book::{Book, BookFault, Lease, Leg, Replaying};
 use rv32_hart::Tick;
@@ -54,12 +54,13 @@ fn go_on(book: &mut Book<Replaying>, mut lease: Lease) -> Result<(), Memory> {
 }
 
 /// The book of a guest with one hart that was replayed from boot to this count.
-pub fn replay_to(alloc: Global, image: &Image, end: Count) -> Result<Book<Replaying>, ReplayFault> {
+pub fn replay_to(alloc: Global, image: &Image, end: Count) -> Result<Book<Replaying>, ReplayFault>
+    requires { end < 2 ^ 48 }
+{
     let hart = first_hart();
     let start = Machine::boot(alloc, image)?;
     let mut ends = Counts::zero(1);
-    // No frame reaches further.
-    ends.set(hart, end.min(COUNT_LIMIT - 1));
+    ends.set(hart, end);
     let mut book = Book::<Replaying>::begin(alloc, start, Leg { ends })?;
     for _lease in 0..u64::MAX {
         if book.machine().harts() == 0 {

@@ -1,6 +1,13 @@
 //! From streams of frames to the text of the machine.
 
-ghost use Rattle.std.specs.Prelude.{◌≡◌, length};
+ghost use Rattle.std.specs.Prelude.{◌≡◌, ◌↔◌, ◌++◌, ◌≤◌, ℕ, List, [], length, take, Option, Some, IfOk, IfErr, IfNone, IfSome, OnOk, IsTrue, None};
+ghost use Rattle.std.specs.List.{AllByRecursion};
+ghost use Rattle.ft_types.specs.declared.guest.Guest.{Guest as GuestName};
+ghost use Rattle.fragment_codec.specs.declared.frame.Frame.{Frame as LogFrame};
+ghost use Rattle.fragment_codec.specs.Streams.{IsFrame, Follows};
+ghost use Rattle.workbench.specs.Streams.{IsPlain, guest_of, records_of};
+ghost use Rattle.workbench.specs.Pieces.{Holds};
+ghost use Rattle.workbench.specs.Faults.{IsFaultOf, IsFaultAmong, fault_in, IsPushFault, Told, Refused, Fails};
 
 use crate::faults::StreamsFault;
 use crate::pieces::Pieces;
@@ -14,18 +21,46 @@ use std::alloc::Global;
 const PIECE: usize = 4096;
 
 /// The guest of a frame.
-fn guest_of_frame(frame: &Frame) -> Guest {
+fn guest_of_frame(frame: &Frame) -> Guest
+    ensures { result ≡ guest_of frame.now }
+{
     match frame {
         Frame::Log(fragment) => fragment.guest(),
         Frame::Opening(opening) => opening.guest(),
     }
 }
 
-/// Whether the frame holds a record.
-fn has_records(frame: &Frame) -> bool {
+/// Whether the frame holds no record.
+fn is_without_records(frame: &Frame) -> bool
+    ensures { IsTrue result ↔ (records_of frame.now ≡ []) }
+{
     match frame {
-        Frame::Log(fragment) => !fragment.records().is_empty(),
-        Frame::Opening(_) => false,
+        Frame::Log(fragment) => fragment.records().is_empty(),
+        Frame::Opening(_) => true,
+    }
+}
+
+/// Whether the frame is of the guest.
+fn is_of(frame: &Frame, guest: &Guest) -> bool
+    ensures { IsTrue result ↔ (guest_of frame.now ≡ guest.now) }
+{
+    guest_of_frame(frame) == *guest
+}
+
+/// What is wrong with a frame that is right by itself.
+fn fault_of(stream: usize, guest: &Guest, frame: &Frame) -> Option<StreamsFault>
+    ensures none { IfNone result (IsPlain guest.now frame.now) }
+    ensures some { IfSome result (λ f. IsFaultOf stream guest.now frame.now f) }
+{
+    if is_of(frame, guest) {
+        if is_without_records(frame) {
+            None
+        } else {
+            // Edges and inputs are not replayed yet: to this path a body with a record is broken.
+            Some(StreamsFault::Frame(stream, FrameFault::Body))
+        }
+    } else {
+        Some(StreamsFault::Guest(stream))
     }
 }
 
@@ -35,18 +70,29 @@ fn take_frames(
     guest: &Guest,
     frames: &[Frame],
     pieces: &mut Pieces,
-) -> Result<(), StreamsFault> {
+) -> Result<(), StreamsFault>
+    ensures ok { OnOk result ((given : List LogFrame) → AllByRecursion IsFrame frames.now → Holds guest.now given pieces.old →
+        Holds guest.now (given ++ frames.now) pieces.new) }
+    ensures fault { IfErr result (λ f. (given : List LogFrame) → AllByRecursion IsFrame frames.now → Holds guest.now given pieces.old →
+        IsFaultAmong stream guest.now frames.now f) }
+{
     for frame in frames {
-        if guest_of_frame(frame) != *guest {
-            return Err(StreamsFault::Guest(stream));
+        match fault_of(stream, guest, frame) {
+            Some(fault) => return Err(fault),
+            None => pieces.add(frame)?,
         }
-        // Edges and inputs are not replayed yet: to this path a body with a record is broken.
-        if has_records(frame) {
-            return Err(StreamsFault::Frame(stream, FrameFault::Body));
-        }
-        pieces.add(frame)?;
     }
     Ok(())
+}
+
+/// The fault of a stream that a feed answers.
+fn stream_fault(stream: usize, fault: FrameFault) -> StreamsFault
+    ensures { result ≡ fault_in stream fault }
+{
+    match fault {
+        FrameFault::Memory => StreamsFault::Memory,
+        fault => StreamsFault::Frame(stream, fault),
+    }
 }
 
 /// Takes the next piece of a stream.
@@ -57,12 +103,25 @@ fn push(
     feed: &mut Feed,
     piece: &[u8],
     pieces: &mut Pieces,
-) -> Result<(), StreamsFault> {
+) -> Result<(), StreamsFault>
+    ensures ok { OnOk result ((read : List ℕ) (given : List LogFrame) → Follows read given feed.old → Holds guest.now given pieces.old →
+        (frames : List LogFrame) × Follows (read ++ piece.now) (given ++ frames) feed.new × Holds guest.now (given ++ frames) pieces.new) }
+    ensures sound { OnOk result (feed.old.fault ≡ None) }
+    ensures fault { IfErr result (λ f. (read : List ℕ) (given : List LogFrame) → Follows read given feed.old → Holds guest.now given pieces.old →
+        IsPushFault stream guest.now (read ++ piece.now) f) }
+{
     match feed.push(alloc, piece) {
         Ok(frames) => take_frames(stream, guest, frames.as_slice(), pieces),
-        Err(FrameFault::Memory) => Err(StreamsFault::Memory),
-        Err(fault) => Err(StreamsFault::Frame(stream, fault)),
+        Err(fault) => Err(stream_fault(stream, fault)),
     }
+}
+
+/// What a read has put to the front of a piece.
+fn front_of(piece: &[u8], count: usize) -> &[u8]
+    requires { count ≤ length piece.now }
+    ensures { result.now ≡ take count piece.now }
+{
+    &piece[..count]
 }
 
 /// What a stream tells. It is read to its end or its first fault.
@@ -71,7 +130,13 @@ fn read_stream<R: Source>(
     stream: usize,
     guest: &Guest,
     reader: &mut R,
-) -> Result<Pieces, StreamsFault> {
+) -> Result<Pieces, StreamsFault>
+    requires { guest.now.harts ≡ 1 }
+    ensures ok { IfOk result (λ p. Told guest.now (R.left reader.old) (R.left reader.new) p) }
+    ensures fault { IfErr result (λ f. Refused stream guest.now (R.left reader.old) (R.left reader.new) f) }
+    ensures failures { IfErr result (λ f. Fails stream (R.failures reader.old) (R.failures reader.new) f) }
+    ensures kept { OnOk result (R.failures reader.new ≡ R.failures reader.old) }
+{
     let mut pieces = Pieces::new(alloc);
     let mut feed = Feed::new(alloc)?;
     let mut piece = [0; PIECE];
@@ -80,14 +145,8 @@ fn read_stream<R: Source>(
             return Err(StreamsFault::Read(stream));
         };
         // The empty piece at the end brings out a fault behind the last frame.
-        push(
-            alloc,
-            stream,
-            guest,
-            &mut feed,
-            &piece[..count],
-            &mut pieces,
-        )?;
+        let front = front_of(&piece, count);
+        push(alloc, stream, guest, &mut feed, front, &mut pieces)?;
         if count == 0 {
             return Ok(pieces);
         }

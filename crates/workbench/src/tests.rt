@@ -255,31 +255,27 @@ fn the_end_is_what_the_places_reach(rt: HostRuntime) -> Result<(), Fail> {
     Ok(())
 }
 
-/// Whether the words, none of which is long, are refused as usage. They stand in one text, a space between two.
-fn is_usage(alloc: Global, line: &str) -> Result<bool, Fail> {
-    let mut words = Vec::new(alloc);
-    for word in line.split_whitespace() {
-        words.push(word)?;
-    }
-    let done = run(alloc, words.as_slice(), MemoryFiles::new(alloc))?;
+/// Whether the words are refused as of no form.
+fn is_usage(alloc: Global, words: &[&str]) -> Result<bool, Fail> {
+    let done = run(alloc, words, MemoryFiles::new(alloc))?;
     Ok(done.is(2, b"", b"fault usage\n"))
 }
 
 #[test]
 fn words_of_no_form(rt: HostRuntime) -> Result<(), Fail> {
     let alloc = rt.alloc();
-    assert!(rt; is_usage(alloc, "")?);
-    assert!(rt; is_usage(alloc, "help")?);
-    assert!(rt; is_usage(alloc, "help replay")?);
-    assert!(rt; is_usage(alloc, "reply image log")?);
-    assert!(rt; is_usage(alloc, "replay")?);
-    assert!(rt; is_usage(alloc, "replay image")?);
-    assert!(rt; is_usage(alloc, "replay image log log")?);
-    assert!(rt; is_usage(alloc, "replay --help")?);
-    assert!(rt; is_usage(alloc, "-V")?);
-    assert!(rt; is_usage(alloc, "replay -- image log")?);
-    assert!(rt; is_usage(alloc, "replay -image log")?);
-    assert!(rt; is_usage(alloc, "cut image log")?);
+    assert!(rt; is_usage(alloc, &[])?);
+    assert!(rt; is_usage(alloc, &["help"])?);
+    assert!(rt; is_usage(alloc, &["help", "replay"])?);
+    assert!(rt; is_usage(alloc, &["reply", "image", "log"])?);
+    assert!(rt; is_usage(alloc, &["replay"])?);
+    assert!(rt; is_usage(alloc, &["replay", "image"])?);
+    assert!(rt; is_usage(alloc, &["replay", "image", "log", "log"])?);
+    assert!(rt; is_usage(alloc, &["replay", "--help"])?);
+    assert!(rt; is_usage(alloc, &["-V"])?);
+    assert!(rt; is_usage(alloc, &["replay", "--", "image", "log"])?);
+    assert!(rt; is_usage(alloc, &["replay", "-image", "log"])?);
+    assert!(rt; is_usage(alloc, &["cut", "image", "log"])?);
     let done = replay(alloc, b"harts 2\npages 1\n", Vec::new(alloc))?;
     assert!(rt; done.is(2, b"", b"fault usage\n"));
     Ok(())
