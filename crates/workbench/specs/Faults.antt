@@ -18,7 +18,10 @@ use Rattle.workbench.specs.Pieces.{Holds}
 abbrev pub IsFirstFault : ℕ → GuestName → List ℕ → StreamsFault → Type 0
 IsFirstFault number guest stream (Frame i fault) = (i ≡ number) × (Breaks guest stream fault ⊎ ((fault ≡ Body) × HasRecord guest stream))
 IsFirstFault number guest stream (Guest i) = (i ≡ number) × HasForeign guest stream
-IsFirstFault number guest stream _ = Unit {0}
+IsFirstFault number guest stream (Read i) = Unit {0}
+IsFirstFault number guest stream Memory = Unit {0}
+IsFirstFault number guest stream (Replay fault) = ⊥
+IsFirstFault number guest stream Write = ⊥
 
 -- what is wrong with the frame: a private word
 abbrev pub IsFaultOf : ℕ → GuestName → LogFrame → StreamsFault → Type 0

@@ -1,3 +1,4 @@
 pub mod Streams
 pub mod Faults
 pub mod Pieces
+pub mod Outcome

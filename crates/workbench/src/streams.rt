@@ -1,19 +1,20 @@
 //! From streams of frames to the text of the machine.
 
-ghost use Rattle.std.specs.Prelude.{◌≡◌, ◌↔◌, ◌++◌, ◌≤◌, ℕ, List, [], length, take, Option, Some, IfOk, IfErr, IfNone, IfSome, OnOk, IsTrue, None};
+ghost use Rattle.std.specs.Prelude.{◌≡◌, ◌↔◌, ◌++◌, ◌≤◌, ◌<◌, ◌^◌, ℕ, List, [], length, take, Option, Some, IfOk, IfErr, IfNone, IfSome, OnOk, IsTrue, None};
 ghost use Rattle.std.specs.List.{AllByRecursion};
 ghost use Rattle.ft_types.specs.declared.guest.Guest.{Guest as GuestName};
 ghost use Rattle.fragment_codec.specs.declared.frame.Frame.{Frame as LogFrame};
 ghost use Rattle.fragment_codec.specs.Streams.{IsFrame, Follows};
 ghost use Rattle.workbench.specs.Streams.{IsPlain, guest_of, records_of};
+ghost use Rattle.workbench.specs.Outcome.{IsReplayFault, WritesOnlyAtTheEnd};
 ghost use Rattle.workbench.specs.Pieces.{Holds};
 ghost use Rattle.workbench.specs.Faults.{IsFaultOf, IsFaultAmong, fault_in, IsPushFault, Told, Refused, Fails};
 
-use crate::faults::StreamsFault;
+use crate::faults::{ReplayFault, StreamsFault};
 use crate::pieces::Pieces;
 use crate::replay::replay_to;
 use fragment_codec::{Feed, Frame, FrameFault};
-use ft_types::{Guest, Sink, Source};
+use ft_types::{Count, Guest, Sink, Source};
 use guest_image::Image;
 use std::alloc::Global;
 
@@ -155,6 +156,27 @@ fn read_stream<R: Source>(
     Err(StreamsFault::Memory)
 }
 
+/// Writes the text of the machine of a guest with one hart that was replayed to this count.
+fn write_replayed<W: Sink>(
+    alloc: Global,
+    image: &Image,
+    end: Count,
+    out: &mut W,
+) -> Result<(), StreamsFault>
+    requires { end < 2 ^ 48 }
+    ensures own { IfErr result IsReplayFault }
+    ensures written { WritesOnlyAtTheEnd result (W.bytes out.old) (W.bytes out.new) (W.failures out.old) (W.failures out.new) }
+{
+    match replay_to(alloc, image, end) {
+        Ok(book) => match book.machine().write_text(out) {
+            Ok(()) => Ok(()),
+            Err(_) => Err(StreamsFault::Write),
+        },
+        Err(ReplayFault::Memory) => Err(StreamsFault::Memory),
+        Err(fault) => Err(StreamsFault::Replay(fault)),
+    }
+}
+
 /// Writes the text of the machine that the frames of the streams lead to. The caller owes one stream and an image of one
 /// hart.
 pub fn replay_streams<R: Source, W: Sink>(
@@ -165,11 +187,10 @@ pub fn replay_streams<R: Source, W: Sink>(
 ) -> Result<(), StreamsFault>
     requires stream { length readers.old ≡ 1 }
     requires hart { image.now.harts ≡ 1 }
+
+    // Nothing is written before the replay is done, and then the text of a machine and nothing else.
+    ensures written { WritesOnlyAtTheEnd result (W.bytes out.old) (W.bytes out.new) (W.failures out.old) (W.failures out.new) }
 {
     let pieces = read_stream(alloc, 0, &image.guest(), &mut readers[0])?;
-    let book = replay_to(alloc, image, pieces.end())?;
-    match book.machine().write_text(out) {
-        Ok(()) => Ok(()),
-        Err(_) => Err(StreamsFault::Write),
-    }
+    write_replayed(alloc, image, pieces.end(), out)
 }
