@@ -2,19 +2,10 @@
 use Rattle.std.specs.Prelude.{◌≡◌, ℕ, List, Option, Result, Ok, Err}
 use Rattle.std.specs.Io.KnownBytes.{Keeps}
 use Rattle.ft_types.specs.Devices.{IsOneMore, Writes}
-use Rattle.fragment_codec.specs.declared.frame.Frame.{Frame as LogFrame}
-use Rattle.guest_image.specs.Image.{ImageContents, guest_of}
 use Rattle.guest_image.specs.Machine.{MachineState}
 use Rattle.guest_image.specs.Text.{machine_text}
 use Rattle.workbench.specs.declared.faults.StreamsFault.{StreamsFault}
 use Rattle.workbench.specs.declared.faults.StreamsFault.TheVariants.{Read, Frame, Guest, Replay, Write, Memory}
-use Rattle.workbench.specs.Streams.{Says, IsEnd}
-
--- the stream has no fault, and its frames reach this count
-pub record LeadsTo (image : ImageContents) (stream : List ℕ) (end : ℕ) : Type 0 where
-  pub frames : List LogFrame
-  pub says : Says (guest_of image) stream frames
-  pub reach : IsEnd frames end
 
 -- the text of a machine was written and nothing else, or a beginning of it where the writer failed; old and new are the
 -- writer's bytes before and after, f and g its counts of failures
