@@ -99,6 +99,10 @@ fn give(lease: &mut Lease, page: PageNo, here: &Page, want: Want) -> Result<(), 
     requires page { page < length lease.old.slots }
     requires lent { (bytes : List ℕ) → base_at lease.old page ≡ Some bytes → bytes ≡ here.now }
     ensures hart { lease.new.hart ≡ lease.old.hart }
+    ensures base { lease.new.base ≡ lease.old.base }
+    ensures present { lease.new.present ≡ lease.old.present }
+    ensures steps { lease.new.steps ≡ lease.old.steps }
+    ensures stop { lease.new.stop ≡ lease.old.stop }
     ensures slots { length lease.new.slots ≡ length lease.old.slots }
 {
     match (want, lease.right(page)) {
@@ -237,6 +241,13 @@ impl<M: Mode> Book<M> {
     pub fn need(&mut self, lease: &mut Lease, page: PageNo, want: Want) -> Result<Need, BookFault>
         requires { page < length self.old.machine.pages }
         ensures foreign { (result ≡ Err BookFault.Foreign) ↔ ¬ (IsOurs self.old lease.old) }
+        // The book's machine and journal and the lease's hart and steps stay as they were.
+        ensures book { self.new ≡ record self.old { leases = self.new.leases } }
+        ensures hart { lease.new.hart ≡ lease.old.hart }
+        ensures base { lease.new.base ≡ lease.old.base }
+        ensures present { lease.new.present ≡ lease.old.present }
+        ensures steps { lease.new.steps ≡ lease.old.steps }
+        ensures stop { lease.new.stop ≡ lease.old.stop }
     {
         if !self.is_ours(lease) {
             return Err(BookFault::Foreign);
