@@ -1,10 +1,8 @@
 -- The edges that an asker owes, hart by hart.
-use Rattle.std.proofs.Common.{◌≡◌, ◌≢◌, ◌↔◌, inl, inr, ℕ, zero, suc, ◌+◌, ◌<◌, ◌≤◌, Bool, true, false, List, [], ◌∷◌, ◌++◌, length, get_or, Option, Some, None, All, AllPairs, Contains, count_by, not, ◌==◌, eq-eqb, ne_eqb, refl, sym, ap, subst, ◌∙◌, arith, true≢false}
-use Rattle.std.proofs.lemmas.Bool.{cases_lt, cases_eq, cases_Bool}
+use Rattle.std.proofs.Common.{◌≡◌, ◌≢◌, ◌↔◌, inl, inr, ℕ, ◌+◌, ◌<◌, ◌≤◌, Bool, true, false, List, [], ◌∷◌, ◌++◌, length, get_or, Option, Some, None, All, AllPairs, Contains, not, ◌==◌, eq-eqb, ne_eqb, refl, sym, ap, subst, ◌∙◌, arith, true≢false}
+use Rattle.std.proofs.lemmas.Bool.{cases_lt, cases_eq}
 use Rattle.std.proofs.lemmas.List.Elements.{All-push, Contains-append_cases, Contains-append_left, Contains-append_right}
-use Rattle.std.specs.List.{filter}
 use Rattle.std.proofs.lemmas.List.{length_push}
-use Rattle.std.proofs.lemmas.List.Sums.{length-filter}
 use Rattle.smallvec.specs.SmallVec.{SmallVec}
 use Rattle.std.proofs.lemmas.List.Quantifiers.{all_pairs_push}
 use Rattle.ft_types.specs.declared.names.Want.{Want}
@@ -118,25 +116,6 @@ not_other a b is same = true≢false (sym is ∙ ap not (eq-eqb a b same))
 pub same_hart : (a b : ℕ) → not (a == b) ≡ false → a ≡ b
 same_hart a b is = elim (cases_eq a b) [ inl same ↦ same | inr ne ↦ absurd (true≢false (sym (ap not (ne_eqb a b ne)) ∙ is)) ]
 
-no_flag : (xs : List Bool) → ((g : ℕ) → get_or xs g false ≡ true → ⊥) → filter (λ member. member) xs ≡ []
-no_flag [] none = refl
-no_flag (true ∷ xs) none = absurd (none 0 refl)
-no_flag (false ∷ xs) none = no_flag xs (λ g. none (suc g))
-
--- no flag is set, so none is counted
-pub none_counted : (xs : List Bool) → ((g : ℕ) → get_or xs g false ≡ true → ⊥) → count_by (λ member. member) xs ≡ 0
-none_counted xs none = sym (length-filter (λ member. member) xs) ∙ ap length (no_flag xs none)
-
--- none is counted, so no flag is set
-pub counted_none : (xs : List Bool) → count_by (λ member. member) xs ≡ 0 → (g : ℕ) → get_or xs g false ≡ true → ⊥
-counted_none xs zero_is = go xs (length-filter (λ member. member) xs ∙ zero_is)
-  where
-    go : (xs : List Bool) → length (filter (λ member. member) xs) ≡ 0 → (g : ℕ) → get_or xs g false ≡ true → ⊥
-    go [] e g is = true≢false (sym is)
-    go (true ∷ xs) e g is = omega arith
-    go (false ∷ xs) e zero is = true≢false (sym is)
-    go (false ∷ xs) e (suc g) is = go xs e g is
-
 -- of all harts
 pub all_owed : (r : Right) (h : ℕ) (want : Want) (at n : ℕ) (v : SmallVec Edge) → SoFar r h want at n v → 8 ≤ n → (x : Edge) →
     Contains v.items x ↔ IsOwed r h want at (edge_as x)
@@ -155,14 +134,7 @@ pub pushed : (xs ys : List Edge) (h at other n after : ℕ) → ys ≡ xs ++ rec
 pushed xs ys h at other n after is same =
     is ∙ ap (λ (k : ℕ). let e : Edge = record { hart = h; at = at; other = k; after = after } in xs ++ e ∷ []) same
 
--- where no flag is set, no right stands
-pub none_stands : (r : Right) (h : ℕ) (want : Want) (flags : List Bool) → ((g : ℕ) → (get_or flags g false ≡ true) ↔ (stands r h want g ≡ true)) →
-    count_by (λ member. member) flags ≡ 0 → IsFree r h want
-none_stands r h want flags exact zero_is g =
-    elim (cases_Bool (stands r h want g)) [ inl is ↦ absurd (counted_none flags zero_is g ((exact g).1 is)) | inr is_not ↦ is_not ]
-
--- where one is, one does
+-- where a flag is set, a right stands
 pub one_stands : (r : Right) (h : ℕ) (want : Want) (flags : List Bool) → ((g : ℕ) → (get_or flags g false ≡ true) ↔ (stands r h want g ≡ true)) →
-    (count_by (λ member. member) flags ≡ 0 → ⊥) → IsFree r h want → ⊥
-one_stands r h want flags exact some free =
-    some (none_counted flags (λ g is. true≢false (sym ((exact g).0 is) ∙ free g)))
+    (((g : ℕ) → get_or flags g false ≡ true → ⊥) → ⊥) → IsFree r h want → ⊥
+one_stands r h want flags exact some free = some (λ g is. true≢false (sym ((exact g).0 is) ∙ free g))

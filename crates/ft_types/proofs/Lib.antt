@@ -1,3 +1,4 @@
 pub mod Texts
 pub mod Writings
 pub mod Zips
+pub mod Flags

@@ -65,7 +65,8 @@ impl NumberSet {
 
     /// Whether there is no member.
     pub fn is_empty(self) -> bool
-        ensures { IsTrue result ↔ (count_by (λ member. member) self ≡ 0) }
+        ensures value { IsTrue result ↔ (count_by (λ member. member) self ≡ 0) }
+        ensures none { IsTrue result ↔ ((n : ℕ) → ¬ (IsMember self n)) }
     {
         self.len() == 0
     }

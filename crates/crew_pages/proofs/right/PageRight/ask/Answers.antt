@@ -8,7 +8,7 @@ use Rattle.crew_pages.proofs.right.PageRight.ask.Goals as goal
 pub returns-then-not-is_empty-clause-not_free : goal.returns-then-not-is_empty-clause-not_free
 returns-then-not-is_empty-clause-not_free c =
     one_stands (right_of c.args.self.now) c.args.hart c.args.want c.against-against.result c.against-against.ensures
-    (λ none. true≢false (sym (c.is_empty.ensures.1 none) ∙ c.if-not-is_empty.true))
+    (λ none. true≢false (sym (c.is_empty.ensures.none.1 none) ∙ c.if-not-is_empty.true))
 
 pub returns-clause-edges : goal.returns-clause-edges
 returns-clause-edges c =
