@@ -184,6 +184,7 @@ settled_kept start m journal leases stops l p lease ours =
       known = λ hart le.
           row-set leases l.hart hart (p.known hart (omega (arith, le, length-set m.harts l.hart l.present)));
       stopped = λ hart lent e. p.stopped hart lent (row-set_some leases l.hart hart lent e);
+      rights = λ hart lent e. p.rights hart lent (row-set_some leases l.hart hart lent e);
       begins = schedule_goes_on start m journal l stops lease on p.counted
           (stop_of (open_at leases l.hart) m l (count_at stops l.hart) ours (λ o e. p.stopped l.hart o e)) p.begins;
       counted = counts_go_on start m journal l stops lease on p.counted;

@@ -1,6 +1,7 @@
 pub mod Given
 pub mod Journals
 pub mod Laid
+pub mod Ours
 pub mod OneHart
 pub mod Places
 pub mod Runs

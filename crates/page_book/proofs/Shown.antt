@@ -9,7 +9,7 @@ use Rattle.rv32_hart.specs.Access.{Access, Alone, Reading, Writing, Step, Taken,
 use Rattle.rv32_hart.specs.Step.{Contents, Wanted, bytes_of, access_write, access_wants, step_wants, step_effect, first_missing, has_right}
 use Rattle.page_book.specs.declared.lease_pages.Slot.{Slot}
 use Rattle.page_book.specs.declared.lease_pages.Slot.TheVariants.{Missing, Readable, Writable}
-use Rattle.page_book.specs.Slots.{slot_at, base_of, present_bytes, is_readable, is_writable, ram_of}
+use Rattle.page_book.specs.Slots.{slot_at, want_of, base_of, present_bytes, is_readable, is_writable, ram_of}
 use Rattle.page_book.specs.Leases.{laid_pages, page_after}
 use Rattle.page_book.proofs.Slots.{index-map, length-map}
 
@@ -125,3 +125,12 @@ base-set (s ∷ slots) zero old new e zero kept = sym (ap (λ (x : Slot). base_o
 base-set (s ∷ slots) zero old new e (suc other) kept = refl
 base-set (s ∷ slots) (suc page) old new e zero kept = refl
 base-set (s ∷ slots) (suc page) old new e (suc other) kept = base-set slots page old new e other kept
+
+-- and the rights
+pub right-set : (slots : List Slot) (page : ℕ) (old new : List ℕ) → slot_at slots page ≡ Writable old → (other : ℕ) →
+    want_of (slot_at (slice_set slots page (Writable new)) other) ≡ want_of (slot_at slots other)
+right-set [] page old new e other = refl
+right-set (s ∷ slots) zero old new e zero = sym (ap want_of e)
+right-set (s ∷ slots) zero old new e (suc other) = refl
+right-set (s ∷ slots) (suc page) old new e zero = refl
+right-set (s ∷ slots) (suc page) old new e (suc other) = right-set slots page old new e other

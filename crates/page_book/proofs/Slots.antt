@@ -64,7 +64,7 @@ slot_written inside self index page found here new f same at lt is writable made
     rw (same, at, made) (ram_written self page here (f here) there
     ∙ ap (λ (b : List ℕ). with_page (ram_of self) page (f b)) (sym (page_shown self page within ∙ ap present_bytes there)))
 
-index-replicate : (n i : ℕ) → slot_at (replicate n Missing) i ≡ Missing
+pub index-replicate : (n i : ℕ) → slot_at (replicate n Missing) i ≡ Missing
 index-replicate zero i = refl
 index-replicate (suc n) zero = refl
 index-replicate (suc n) (suc i) = index-replicate n i

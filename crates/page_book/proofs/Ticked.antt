@@ -11,17 +11,18 @@ use Rattle.rv32_hart.specs.Csrs.{received_all}
 use Rattle.rv32_hart.specs.Access.{next_step}
 use Rattle.rv32_hart.specs.Local.{step_local}
 use Rattle.rv32_hart.specs.Hardware.{hardware}
+use Rattle.ft_types.specs.declared.names.Want.{Want}
 use Rattle.guest_image.specs.Machine.{MachineState}
 use Rattle.page_book.specs.declared.lease_pages.Slot.{Slot}
 use Rattle.page_book.specs.declared.lease_pages.Slot.TheVariants.{Missing, Readable, Writable}
-use Rattle.page_book.specs.Slots.{slot_at, base_of, present_bytes, is_readable, ram_of}
-use Rattle.page_book.specs.Leases.{LeaseView, base_at, laid, laid_pages, stepped}
+use Rattle.page_book.specs.Slots.{slot_at, want_of, base_of, present_bytes, is_readable, ram_of}
+use Rattle.page_book.specs.Leases.{LeaseView, IsLent, base_at, laid, laid_pages, stepped}
 use Rattle.page_book.specs.Runs.{turn_of, turns_in_a_row, run_of, StandsIn, IsRunOf}
 use Rattle.page_book.proofs.Slots.{length-map, ram_written, ram_tells}
 use Rattle.page_book.proofs.Places.{get_within}
 use Rattle.page_book.proofs.Laid.{length-laid_pages}
 use Rattle.page_book.proofs.Runs.{run_from-append, replicate-last}
-use Rattle.page_book.proofs.Shown.{touched_readable, readable_within, shown_laid, write_right, IsWritable, right_writable, laid_pages-set, base-set}
+use Rattle.page_book.proofs.Shown.{touched_readable, readable_within, shown_laid, write_right, IsWritable, right_writable, laid_pages-set, base-set, right-set}
 
 get-set_same : {A : Type 0} (xs : List A) (i : ℕ) (v : A) → i < length xs → slice_get (slice_set xs i v) i ≡ Some v
 get-set_same [] i v lt = absurd (omega arith)
@@ -32,6 +33,7 @@ get-set_same (x ∷ xs) (suc i) v lt = get-set_same xs i v (omega arith)
 record Leaves (slots after : List Slot) (pages : List (List ℕ)) (write : Option (Write (List ℕ))) : Type 0 where
   laid_after : written_in (laid_pages pages slots) write ≡ laid_pages pages after
   bases_after : (page : ℕ) (kept : Option (List ℕ)) → base_of (slot_at after page) kept ≡ base_of (slot_at slots page) kept
+  rights_after : (page : ℕ) → want_of (slot_at after page) ≡ want_of (slot_at slots page)
   length_after : length after ≡ length slots
 
 leaves : (slots after : List Slot) (pages : List (List ℕ)) (write : Option (Write (List ℕ))) →
@@ -41,6 +43,7 @@ leaves slots after pages None e right =
     record {
       laid_after = ap (laid_pages pages) (sym same);
       bases_after = λ page kept. ap (λ (s : List Slot). base_of (slot_at s page) kept) same;
+      rights_after = λ page. ap (λ (s : List Slot). want_of (slot_at s page)) same;
       length_after = ap length same;
     }
 leaves slots after pages (Some w) e right =
@@ -52,6 +55,8 @@ leaves slots after pages (Some w) e right =
       laid_after = laid_pages-set pages slots w.page w.contents within ∙ ap (laid_pages pages) (sym same);
       bases_after = λ page kept.
           ap (λ (s : List Slot). base_of (slot_at s page) kept) same ∙ base-set slots w.page may.old w.contents may.is page kept;
+      rights_after = λ page.
+          ap (λ (s : List Slot). want_of (slot_at s page)) same ∙ right-set slots w.page may.old w.contents may.is page;
       length_after = ap length same ∙ length-set slots w.page (Writable w.contents);
     }
 
@@ -118,3 +123,19 @@ module _ (l : LeaseView) (after : Hart) (slots : List Slot) (taken : IsTaken [] 
       (run_from-append (hardware (length m.pages)) (Some m) (turns_in_a_row l.hart l.steps) (turn_of l.hart ∷ [])
       ∙ ap (λ (o : Option MachineState). run_from (hardware (length m.pages)) o (turn_of l.hart ∷ [])) (runs m before)
       ∙ ap (λ (o : Option MachineState). run_from (hardware (length m.pages)) o []) (goes_on m before))
+
+  -- whoever lent the lease before the step still did
+  pub still_lent : (m : MachineState) (rights : List (Option Want)) → IsLent m rights l → IsLent m rights (stepped l after slots)
+  still_lent m rights lent =
+      let same : Leaves l.slots slots m.pages what.write = left m.pages in
+      record {
+        state = lent.state;
+        as_many = same.length_after ∙ lent.as_many;
+        pages = λ page lt.
+            let within : page < length l.slots = omega (arith, same.length_after, lt) in
+            record {
+              right = same.rights_after page ∙ (lent.pages page within).right;
+              contents = λ bytes e.
+                  (lent.pages page within).contents bytes (sym (same.bases_after page (slice_index_or l.bases page None)) ∙ e);
+            };
+      }

@@ -1,5 +1,5 @@
 -- Books, as contracts see them.
-use Rattle.std.specs.Prelude.{◌≡◌, ◌≤◌, ◌<◌, ◌+◌, ◌^◌, ℕ, List, [], ◌∷◌, ◌++◌, length, slice_get, slice_set, slice_index_or, Bool, true, false, Option, Some, None, if◌then◌else◌, ◌==◌, nat_le, replicate}
+use Rattle.std.specs.Prelude.{◌≡◌, ◌≢◌, ◌≤◌, ◌<◌, ◌+◌, ◌^◌, ℕ, List, [], ◌∷◌, ◌++◌, length, slice_get, slice_set, slice_index_or, Bool, true, false, Option, Some, None, if◌then◌else◌, ◌==◌, nat_le, replicate}
 use Rattle.ft_types.specs.declared.names.Want.{Want}
 use Rattle.ft_types.specs.declared.names.Want.TheVariants.{Read, Write}
 use Rattle.guest_image.specs.Machine.{MachineState}
@@ -32,6 +32,7 @@ pub record IsBook (start machine : MachineState) (journal : List Stretch) (lease
   pub rows : length leases ≡ 8
   pub known : (hart : ℕ) → length machine.harts ≤ hart → open_at leases hart ≡ None
   pub stopped : (hart : ℕ) (lent : OpenLease) → open_at leases hart ≡ Some lent → lent.stop ≤ count_at stops hart
+  pub rights : (hart : ℕ) (lent : OpenLease) → open_at leases hart ≡ Some lent → length lent.taken ≡ 64
   pub begins : BeginsSchedule stops start journal
   pub counted : (hart : ℕ) → counts_after (counts_of start) (harts_of journal) hart ≡ counts_of machine hart
 
@@ -57,6 +58,25 @@ stands_against (Some Read) Write = true
 abbrev pub right_of : Option OpenLease → ℕ → Option Want
 right_of None page = None
 right_of (Some lent) page = slice_index_or lent.taken page None
+
+-- another hart's open lease has a right on the page that stands against the asked one
+abbrev pub IsHolder : List (Option OpenLease) → ℕ → ℕ → Want → ℕ → Type 0
+IsHolder leases hart page want other = (other ≢ hart) × (stands_against (right_of (open_at leases other) page) want ≡ true)
+
+-- no other hart's has
+abbrev pub IsFree : List (Option OpenLease) → ℕ → ℕ → Want → Type 0
+IsFree leases hart page want = (other : ℕ) → IsHolder leases hart page want other → ⊥
+
+-- the greater of the right that is held and the one that is given
+abbrev pub with_right : Option Want → Want → Option Want
+with_right None want = Some want
+with_right (Some held) Read = Some held
+with_right (Some held) Write = Some Write
+
+-- the open lease, once it was given the right on the page
+abbrev pub taken_with : Option OpenLease → ℕ → Want → Option OpenLease
+taken_with None page want = None
+taken_with (Some lent) page want = Some (record lent { taken = slice_set lent.taken page (with_right (slice_index_or lent.taken page None) want) })
 
 -- why a hart is not lent, in this order: it has an open lease, it is halted, or it is at its stop
 abbrev pub refusal : Option OpenLease → Hart → ℕ → Option BookFault

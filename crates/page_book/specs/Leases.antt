@@ -1,6 +1,7 @@
 -- Leases, as contracts see them.
 use Rattle.std.specs.Prelude.{◌≡◌, ◌≢◌, ◌≤◌, ◌<◌, ◌⊎◌, ◌+◌, ◌^◌, ℕ, List, [], ◌∷◌, length, replicate, slice_get, slice_set, slice_index_or, Bool, true, false, Option, Some, None}
 use Rattle.ft_types.specs.declared.names.Want.{Want}
+use Rattle.ft_types.specs.declared.names.Want.TheVariants.{Read, Write}
 use Rattle.rv32_hart.specs.Ram.{Ram}
 use Rattle.rv32_hart.specs.Hart.{Hart}
 use Rattle.rv32_hart.specs.Step.{IsTaken, IsMissing, IsOutput}
@@ -71,6 +72,18 @@ with_page_to_read l page here = record l { slots = slice_set l.slots page (Reada
 abbrev pub with_page_to_write : LeaseView → ℕ → List ℕ → List ℕ → LeaseView
 with_page_to_write l page base present =
     record l { bases = slice_set l.bases page (Some base); slots = slice_set l.slots page (Writable present) }
+
+-- the lease, which has this right on the page, with what it lacks of the asked one: a copy of the page, or nothing new
+abbrev pub with_page_beside : Option Want → Want → LeaseView → ℕ → List ℕ → LeaseView
+with_page_beside None Read l page here = with_page_to_read l page here
+with_page_beside (Some held) Read l page here = l
+with_page_beside None Write l page here = with_page_to_write l page here here
+with_page_beside (Some Read) Write l page here = with_page_to_write l page here here
+with_page_beside (Some Write) Write l page here = l
+
+-- the lease, once it was given a page that stands here
+abbrev pub with_page : LeaseView → ℕ → Want → List ℕ → LeaseView
+with_page l page want here = with_page_beside (want_of (slot_at l.slots page)) want l page here
 
 -- the pages, with those that were written in their places
 abbrev pub page_after : List ℕ → Slot → List ℕ

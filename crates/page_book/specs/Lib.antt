@@ -3,3 +3,4 @@ pub mod Slots
 pub mod Leases
 pub mod Runs
 pub mod Books
+pub mod Answers

@@ -1,13 +1,14 @@
 //! The book.
 
-ghost use Rattle.std.specs.Prelude.{◌≡◌, ◌≢◌, ◌<◌, ◌≤◌, ◌^◌, ◌⊎◌, ◌+◌, ◌↔◌, ◌++◌, ◌∷◌, ℕ, List, [], length, replicate, map, slice_set, slice_get, slice_index_or, Some, None, Ok, Err, true, false, IfOk, IfErr, OnOk, OnErr, IsTrue};
+ghost use Rattle.std.specs.Prelude.{◌≡◌, ◌≢◌, ◌<◌, ◌≤◌, ◌^◌, ◌⊎◌, ◌+◌, ◌↔◌, ◌++◌, ◌∷◌, ℕ, List, [], length, replicate, map, slice_set, slice_get, slice_index, slice_index_or, Some, None, Ok, Err, true, false, IfOk, IfErr, OnOk, OnErr, IsTrue};
 ghost use Rattle.std.specs.Vec.{vec_len, vec_capacity};
 ghost use Rattle.ft_types.specs.Counts.{count_at};
 ghost use Rattle.ft_types.specs.Sets.{IsMember};
 ghost use Rattle.page_book.specs.Slots.{slot_at, want_of};
-ghost use Rattle.page_book.specs.Leases.{LeaseView, fresh, IsFull, base_at, laid, laid_pages, with_slot};
-ghost use Rattle.page_book.specs.Runs.{LeadsTo, IsLease, BeginsSchedule};
-ghost use Rattle.page_book.specs.Books.{BookView, IsOurs, added, right_of, stands_against, open_at, IsLentBy, refusal, nothing_taken};
+ghost use Rattle.page_book.specs.Leases.{LeaseView, fresh, IsFull, base_at, laid, laid_pages, with_slot, with_page};
+ghost use Rattle.page_book.specs.Runs.{LeadsTo, IsLease, BeginsSchedule, counts_of};
+ghost use Rattle.page_book.specs.Books.{BookView, IsOurs, added, right_of, stands_against, open_at, IsLentBy, IsHolder, IsFree, with_right, taken_with, refusal, nothing_taken};
+ghost use Rattle.page_book.specs.Answers.{IfHeldBy, OnHeldBy, OnGiven};
 ghost use Rattle.rv32_hart.specs.Hart.{Hart as HartRecord};
 
 use crate::answers::{BookFault, Need};
@@ -83,7 +84,9 @@ fn held_by(lease: &Option<OpenLease>, page: PageNo) -> Option<Want>
 }
 
 /// The harts but this one whose open leases hold a right on the page that stands against the asked one.
-fn holders(leases: &[Option<OpenLease>; 8], hart: Hart, page: PageNo, want: Want) -> HartSet {
+fn holders(leases: &[Option<OpenLease>; 8], hart: Hart, page: PageNo, want: Want) -> HartSet
+    ensures { (g : ℕ) → IsMember result g ↔ IsHolder leases.now hart page want g }
+{
     let mut harts = HartSet::new();
     for number in 0..8u8 {
         if number != hart.number()
@@ -104,6 +107,8 @@ fn give(lease: &mut Lease, page: PageNo, here: &Page, want: Want) -> Result<(), 
     ensures steps { lease.new.steps ≡ lease.old.steps }
     ensures stop { lease.new.stop ≡ lease.old.stop }
     ensures slots { length lease.new.slots ≡ length lease.old.slots }
+    ensures given { OnOk result (lease.new ≡ with_page lease.old page want here.now) }
+    ensures kept { OnErr result (lease.new ≡ lease.old) }
 {
     match (want, lease.right(page)) {
         (Want::Read, None) => lease.take_to_read(page, here.copy()?),
@@ -114,6 +119,16 @@ fn give(lease: &mut Lease, page: PageNo, here: &Page, want: Want) -> Result<(), 
         _ => {}
     }
     Ok(())
+}
+
+/// The greater of the right that is held and the one that is given.
+fn with_right(held: Option<Want>, given: Want) -> Option<Want>
+    ensures { result ≡ with_right held given }
+{
+    match (held, given) {
+        (Some(held), Want::Read) => Some(held),
+        _ => Some(given),
+    }
 }
 
 /// Writes what a slot has into the machine, where it was written.
@@ -186,12 +201,13 @@ impl<M: Mode> Book<M> {
 
     /// The settled counts.
     pub fn counts(&self) -> Counts
-        ensures { length result ≡ length self.now.machine.harts }
+        ensures harts { length result ≡ length self.now.machine.harts }
+        ensures value { (hart : ℕ) → hart < length result → slice_index result hart ≡ counts_of self.now.machine hart }
     {
         let mut counts = Counts::zero(self.machine.harts());
         for number in 0..self.machine.harts() {
             let hart = Hart::new(number);
-            counts.set(hart, self.machine.hart(hart).count().min(COUNT_LIMIT - 1));
+            counts.set(hart, self.machine.hart(hart).count());
         }
         counts
     }
@@ -202,6 +218,7 @@ impl<M: Mode> Book<M> {
         ensures lent { IfOk result (λ l. (h : HartRecord) → slice_get self.old.machine.harts hart ≡ Some h →
             (l ≡ fresh hart h (length self.old.machine.pages) (count_at (M.stops self.old.mode) hart))
             × (refusal (open_at self.old.leases hart) h (count_at (M.stops self.old.mode) hart) ≡ None)) }
+        ensures ours { IfOk result (λ l. IsOurs self.new l) }
         ensures kept_open { OnOk result (self.new ≡ record self.old { leases = slice_set self.old.leases hart (Some (nothing_taken (count_at (M.stops self.old.mode) hart))) }) }
         ensures refused { IfErr result (λ f. f ≢ BookFault.Memory → (h : HartRecord) → slice_get self.old.machine.harts hart ≡ Some h →
             refusal (open_at self.old.leases hart) h (count_at (M.stops self.old.mode) hart) ≡ Some f) }
@@ -221,11 +238,20 @@ impl<M: Mode> Book<M> {
             return Err(BookFault::AtLimit);
         }
         let lease = Lease::fresh(alloc, hart, state, self.machine.pages(), stop)?;
+        self.note_lent(hart, stop);
+        Ok(lease)
+    }
+
+    /// Writes down that the hart has an open lease, of no page.
+    fn note_lent(&mut self, hart: Hart, stop: Count)
+        requires hart { hart < length self.old.machine.harts }
+        requires stop { stop ≤ count_at (M.stops self.old.mode) hart }
+        ensures { self.new ≡ record self.old { leases = slice_set self.old.leases hart (Some (nothing_taken stop)) } }
+    {
         self.leases[hart.index()] = Some(OpenLease {
             stop,
             taken: [None; 64],
         });
-        Ok(lease)
     }
 
     fn is_ours(&self, lease: &Lease) -> bool
@@ -237,10 +263,34 @@ impl<M: Mode> Book<M> {
         }
     }
 
+    /// Writes down that the hart's open lease was given the right.
+    fn note_taken(&mut self, hart: Hart, page: PageNo, want: Want)
+        ensures page { page < 64 }
+        ensures book { self.new ≡ record self.old { leases = slice_set self.old.leases hart (taken_with (open_at self.old.leases hart) page want) } }
+    {
+        if let Some(open) = &mut self.leases[hart.index()] {
+            let held = open.taken[page.index()];
+            open.taken[page.index()] = with_right(held, want);
+        }
+    }
+
     /// Gives the lease a page, unless another open lease holds a right that stands against it.
     pub fn need(&mut self, lease: &mut Lease, page: PageNo, want: Want) -> Result<Need, BookFault>
         requires { page < length self.old.machine.pages }
         ensures foreign { (result ≡ Err BookFault.Foreign) ↔ ¬ (IsOurs self.old lease.old) }
+        ensures memory { IfErr result (λ f. f ≢ BookFault.Foreign → (f ≡ BookFault.Memory) × IsFree self.old.leases lease.old.hart page want) }
+        ensures held { IfOk result (λ answer. IfHeldBy answer (λ harts. (g : ℕ) → IsMember harts g ↔ IsHolder self.old.leases lease.old.hart page want g)) }
+        ensures not_free { IfOk result (λ answer. OnHeldBy answer (IsFree self.old.leases lease.old.hart page want → ⊥)) }
+        ensures free { IfOk result (λ answer. OnGiven answer (IsFree self.old.leases lease.old.hart page want)) }
+        // The page comes as it stands in the machine, to read, or to read and to write.
+        ensures given { IfOk result (λ answer. OnGiven answer ((here : List ℕ) → slice_get self.old.machine.pages page ≡ Some here → lease.new ≡ with_page lease.old page want here)) }
+        ensures taken { IfOk result (λ answer. OnGiven answer (self.new.leases ≡ slice_set self.old.leases lease.old.hart (taken_with (open_at self.old.leases lease.old.hart) page want))) }
+        ensures ours { OnOk result (IsOurs self.new lease.new) }
+        // Where it waits or is refused, neither has changed.
+        ensures book_waits { IfOk result (λ answer. OnHeldBy answer (self.new ≡ self.old)) }
+        ensures lease_waits { IfOk result (λ answer. OnHeldBy answer (lease.new ≡ lease.old)) }
+        ensures book_kept { OnErr result (self.new ≡ self.old) }
+        ensures lease_kept { OnErr result (lease.new ≡ lease.old) }
         // The book's machine and journal and the lease's hart and steps stay as they were.
         ensures book { self.new ≡ record self.old { leases = self.new.leases } }
         ensures hart { lease.new.hart ≡ lease.old.hart }
@@ -257,10 +307,7 @@ impl<M: Mode> Book<M> {
             return Ok(Need::HeldBy(harts));
         }
         give(lease, page, self.machine.page(page), want)?;
-        let right = lease.right(page);
-        if let Some(open) = &mut self.leases[lease.hart().index()] {
-            open.taken[page.index()] = right;
-        }
+        self.note_taken(lease.hart(), page, want);
         Ok(Need::Given)
     }
 
@@ -269,9 +316,13 @@ impl<M: Mode> Book<M> {
         ensures ours { OnOk result (IsOurs self.old lease) }
         ensures foreign { IfErr result (λ e. e.1 ≡ BookFault.Foreign → ¬ (IsOurs self.old lease)) }
         ensures back { IfErr result (λ e. e.0 ≡ lease) }
+        ensures only { IfErr result (λ e. (e.1 ≡ BookFault.Foreign) ⊎ ((e.1 ≡ BookFault.Memory) × IsOurs self.old lease)) }
         ensures kept { OnErr result (self.new ≡ self.old) }
         ensures machine { OnOk result (self.new.machine ≡ laid self.old.machine lease) }
         ensures journal { OnOk result (self.new.journal ≡ added self.old.journal lease.hart lease.steps) }
+        ensures leases { OnOk result (self.new.leases ≡ slice_set self.old.leases lease.hart None) }
+        ensures start { OnOk result (self.new.start ≡ self.old.start) }
+        ensures mode { OnOk result (self.new.mode ≡ self.old.mode) }
     {
         if !self.is_ours(&lease) {
             return Err((lease, BookFault::Foreign));

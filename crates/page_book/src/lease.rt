@@ -1,6 +1,7 @@
 //! A lease: one hart's state and some pages, on loan from a book.
 
-ghost use Rattle.std.specs.Prelude.{◌≡◌, ◌≢◌, ◌<◌, ◌≤◌, ◌^◌, ◌⊎◌, ◌+◌, ◌↔◌, ℕ, List, [], length, replicate, map, slice_set, slice_index_or, Some, None, true, false, IfOk, OnOk, OnErr, IsTrue};
+ghost use Rattle.std.specs.Prelude.{◌≡◌, ◌≢◌, ◌<◌, ◌≤◌, ◌^◌, ◌⊎◌, ◌+◌, ◌↔◌, ℕ, List, [], length, replicate, map, slice_set, slice_index_or, Option, Some, None, true, false, IfOk, OnOk, OnErr, IsTrue};
+ghost use Rattle.guest_image.specs.Machine.{MachineState};
 ghost use Rattle.page_book.specs.Slots.{slot_at, want_of, base_of, is_writable};
 ghost use Rattle.page_book.specs.Runs.{IsLease};
 ghost use Rattle.page_book.specs.Leases.{LeaseView, fresh, IsFull, Ticks, IsLent, IsLentAt, base_at, with_page_to_read, with_page_to_write};
@@ -87,9 +88,10 @@ impl Lease {
         })
     }
 
-    /// The hart.
+    /// The hart. Its steps are what every lease's are.
     pub fn hart(&self) -> Hart
-        ensures { result ≡ self.now.hart }
+        ensures value { result ≡ self.now.hart }
+        ensures kept { IsLease self.now }
     {
         self.hart
     }
@@ -138,7 +140,9 @@ impl Lease {
     #[inline(always)]
     pub fn tick(&mut self) -> Tick
         requires { ¬ (IsFull self.old) }
-        ensures { Ticks result self.old self.new }
+        ensures does { Ticks result self.old self.new }
+        // Whoever lent the lease still did.
+        ensures lent { (machine : MachineState) (taken : List (Option Want)) → IsLent machine taken self.old → IsLent machine taken self.new }
     {
         match tick(&mut self.present, &[], &mut self.pages) {
             Tick::Done => {

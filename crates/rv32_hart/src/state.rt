@@ -1,5 +1,5 @@
 //! A hart's state.
-ghost use Rattle.std.specs.Prelude.{◌≡◌, ◌<◌, ◌≤◌, ◌↔◌, length, drop, IfOk, IsTrue};
+ghost use Rattle.std.specs.Prelude.{◌≡◌, ◌<◌, ◌≤◌, ◌^◌, ◌↔◌, length, drop, IfOk, IsTrue};
 ghost use Rattle.rv32_hart.specs.Hart.{boot_hart, csr_words, device_words};
 
 use super::hart_core::HartCore;
@@ -17,13 +17,13 @@ pub struct HartState {
 
 impl Model for HartState {
     ghost use Rattle.rv32_hart.specs.Hart.{Hart};
-    ghost use Rattle.rv32_hart.specs.Kept.{IsHeard};
+    ghost use Rattle.rv32_hart.specs.Kept.{IsCounted};
 
     ghost Value = { Hart };
 
     ghost view = { λ s. s.core };
 
-    ghost invariant = { λ s. IsHeard s.core.received.heard s.core.count };
+    ghost invariant = { λ s. IsCounted s.core.received.heard s.core.count };
 }
 
 impl HartState {
@@ -90,7 +90,8 @@ impl HartState {
     /// The steps taken.
     #[inline(always)]
     pub fn count(&self) -> Count
-        ensures { result ≡ self.now.count }
+        ensures value { result ≡ self.now.count }
+        ensures limit { result < 2 ^ 48 }
     {
         self.core.count
     }

@@ -1,6 +1,7 @@
 use Rattle.std.proofs.Common.{◌≡◌, sym, ◌∙◌, subst}
 use Rattle.page_book.proofs.Ticks.{tick_kept, below_stop}
-use Rattle.page_book.specs.Leases.{LeaseView, IsFull}
+use Rattle.page_book.specs.Leases.{LeaseView, IsFull, IsLent}
+use Rattle.page_book.proofs.Ticked.{still_lent}
 use Rattle.page_book.proofs.Slots.{ram_tells}
 use Rattle.page_book.proofs.lease.Lease.tick.Goals as goal
 
@@ -24,14 +25,33 @@ invariant_of-self-in-Memory c =
     let state = c.in-Memory.ensures.hart_kept in
     rw (pages, state) c.self.invariant
 
-pub returns-in-Miss : goal.returns-in-Miss
-returns-in-Miss c =
+pub returns-in-Miss-clause-does : goal.returns-in-Miss-clause-does
+returns-in-Miss-clause-does c =
     let pages = ram_tells c.tick.new.pages c.self.inside.pages c.in-Miss.ensures.pages_kept in
     let state = c.in-Miss.ensures.hart_kept in
     (rw (pages, state) c.self.view_is, rw (← c.self.view_is) c.in-Miss.ensures.miss)
 
-pub returns-in-Memory : goal.returns-in-Memory
-returns-in-Memory c =
+pub returns-in-Memory-clause-does : goal.returns-in-Memory-clause-does
+returns-in-Memory-clause-does c =
     let pages = ram_tells c.tick.new.pages c.self.inside.pages c.in-Memory.ensures.pages_kept in
     let state = c.in-Memory.ensures.hart_kept in
     (rw (pages, state) c.self.view_is, rw (← c.self.view_is) c.in-Memory.ensures.memory)
+
+pub returns-in-Done-clause-lent : goal.returns-in-Done-clause-lent
+returns-in-Done-clause-lent c m rights lent =
+    let i = c.self.inside in
+    let l : LeaseView =
+    record { hart = i.hart; base = i.base; present = i.present; bases = i.bases.items; slots = i.pages; steps = i.steps; stop = i.stop } in
+    still_lent l c.tick.new.state c.tick.new.pages c.in-Done.ensures.done m rights (subst (λ (v : LeaseView). IsLent m rights v) (sym c.self.view_is) lent)
+
+pub returns-in-Miss-clause-lent : goal.returns-in-Miss-clause-lent
+returns-in-Miss-clause-lent c m rights lent =
+    let pages = ram_tells c.tick.new.pages c.self.inside.pages c.in-Miss.ensures.pages_kept in
+    let state = c.in-Miss.ensures.hart_kept in
+    rw (pages, state) (subst (λ (v : LeaseView). IsLent m rights v) (sym c.self.view_is) lent)
+
+pub returns-in-Memory-clause-lent : goal.returns-in-Memory-clause-lent
+returns-in-Memory-clause-lent c m rights lent =
+    let pages = ram_tells c.tick.new.pages c.self.inside.pages c.in-Memory.ensures.pages_kept in
+    let state = c.in-Memory.ensures.hart_kept in
+    rw (pages, state) (subst (λ (v : LeaseView). IsLent m rights v) (sym c.self.view_is) lent)
