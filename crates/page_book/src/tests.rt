@@ -192,6 +192,46 @@ fn a_page_that_is_written_is_held(rt: HostRuntime) -> Result<(), Fail> {
     Ok(())
 }
 
+/// What the book answers a lease that asks for a page.
+fn ask(
+    book: &mut Book<Replaying>,
+    lease: &mut Lease,
+    page: PageNo,
+    want: Want,
+) -> Result<Need, BookFault> {
+    if page.number() < book.machine().pages() {
+        book.need(lease, page, want)
+    } else {
+        Err(BookFault::Foreign)
+    }
+}
+
+#[test]
+fn readers_share_and_a_writer_waits_for_all_of_them(rt: HostRuntime) -> Result<(), Fail> {
+    let mut book = book_to(rt.alloc(), TWO_LOOPS, &[9, 9])?;
+    assert_eq!(rt; book.machine().harts(), 2);
+    let Ok(mut first) = book.lease(rt.alloc(), Hart::new(0)) else {
+        return Err("lease".into());
+    };
+    let mut answers = [Err(BookFault::Memory); 4];
+    if book.machine().harts() == 2 {
+        if let Ok(mut second) = book.lease(rt.alloc(), Hart::new(1)) {
+            let page = PageNo::new(0);
+            answers[0] = ask(&mut book, &mut first, page, Want::Read);
+            answers[1] = ask(&mut book, &mut second, page, Want::Read);
+            answers[2] = ask(&mut book, &mut first, page, Want::Write);
+            let _gone = book.discard(second);
+            answers[3] = ask(&mut book, &mut first, page, Want::Write);
+        }
+    }
+    let _gone = book.discard(first);
+    assert_eq!(rt; answers[0], Ok(Need::Given));
+    assert_eq!(rt; answers[1], Ok(Need::Given));
+    assert_eq!(rt; answers[2], Ok(Need::HeldBy(NumberSet::new().with(1))));
+    assert_eq!(rt; answers[3], Ok(Need::Given));
+    Ok(())
+}
+
 #[test]
 fn faults_by_number(rt: HostRuntime) {
     assert_eq!(rt; BookFault::Leased.number(), 1);
