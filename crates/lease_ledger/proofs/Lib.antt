@@ -1,0 +1,12 @@
+mod Runs
+mod Stays
+mod Used
+mod Invariant
+mod Noted
+mod Opening
+mod Needing
+mod Settling
+mod Dropping
+mod Reached
+mod GoesOn
+mod Examples
