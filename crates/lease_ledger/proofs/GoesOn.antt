@@ -10,8 +10,9 @@ use Rattle.interleaving.proofs.Runs.{steps_append, run_append, runs_append, coun
 use Rattle.crew_pages.specs.Rights.{Right}
 use Rattle.lease_ledger.specs.Ledger.{Lease, Ledger, fresh_stub, noted, taking, lent, stepped, present, Uses, IsLease, IsOurs}
 use Rattle.lease_ledger.specs.Calls.{Answer, HeldBy, Given, Keep, opened, needed, settled}
-use Rattle.lease_ledger.specs.Laws.{lease_opened, lease_needed, lease_ticked, MayTick, GoesOn, LeasesGoOn}
-use Rattle.lease_ledger.proofs.Runs.{Taking, RunsAlike, run_unwritten, run_alike}
+use Rattle.lease_ledger.specs.Laws.{lease_opened, lease_needed, lease_ticked, MayTick, GoesOn, LeasesGoOn, TicksGoOn, IsLentMore, LendsMore}
+use Rattle.lease_ledger.proofs.Runs.{Taking, RunsAlike, run_unwritten, run_untaken, run_alike}
+use Rattle.lease_ledger.proofs.Alike.{uses_taken}
 use Rattle.lease_ledger.proofs.Noted.{noted_keeps, noted_cases, to_write_keeps, to_write_cases}
 use Rattle.lease_ledger.proofs.Invariant.{is_some_of, some_of, Ok, owned_apart}
 use Rattle.lease_ledger.proofs.Reached.{reached_ok}
@@ -73,23 +74,21 @@ module _ {Hart Page Input : Type 0} (system : System Hart Page Input) where
           | inr ne ↦ sym (put_other l.pages page q (b.machine.pages page) ne)
         ]
 
-    alike : RunsAlike system l.hart taken (lent l) (lent given_lease) l.turns
-    alike =
+    same_run : RunsAlike system l.hart taken (lent l) (lent given_lease) l.turns
+    same_run =
         run_alike system l.hart taken (lent l) (lent given_lease) l.turns lease.mine (record { hart_is = refl; pages = pages_are }) lease.runs
-        (each_more (Uses system l.stub) (Taking system l.hart taken)
-        (λ t u page touched. let (k, is, le) = u.touches page touched in is_some_of (l.stub.read_at page) k is) (steps system (lent l) l.turns)
-        lease.uses)
+        (uses_taken system l.hart l (lent l) lease.uses)
 
     present_is : present system l ≡ present system given_lease
-    present_is = ap system.count alike.ends.hart_is
+    present_is = ap system.count same_run.ends.hart_is
 
     still_lease : IsLease system given_lease
     still_lease =
         record {
           mine = lease.mine;
-          runs = subst (Each (λ s. system.halted s.found ≡ false)) alike.steps_are lease.runs;
+          runs = subst (Each (λ s. system.halted s.found ≡ false)) same_run.steps_are lease.runs;
           uses =
-              subst (Each (Uses system given_lease.stub)) alike.steps_are
+              subst (Each (Uses system given_lease.stub)) same_run.steps_are
               (each_more (Uses system l.stub) (Uses system given_lease.stub)
               (λ t u.
               record {
@@ -130,6 +129,18 @@ module _ {Hart Page Input : Type 0} (system : System Hart Page Input) where
                       | inr (same, n, none) ↦ absurd (ne same)
                     ])
               ];
+        }
+
+    pub lent_more : IsLentMore system b l given_lease page
+    lent_more =
+        record {
+          hart = sym same_run.ends.hart_is;
+          pages = λ q takes. sym (same_run.ends.pages q takes);
+          new =
+              λ not.
+              run_untaken system l.hart taken (lent given_lease) l.turns (subst (Each (λ s. system.halted s.found ≡ false)) same_run.steps_are lease.runs)
+              (subst (Each (Taking system l.hart taken)) same_run.steps_are (uses_taken system l.hart l (lent l) lease.uses)) page not ∙
+              put_same l.pages page page (b.machine.pages page) refl;
         }
 
   pub needs : (b : Ledger Hart Page Input) (l : Lease Hart Page Input) (page : ℕ) (want : Want) (right : Right) (answer : Answer) → IsLease system l →
@@ -192,3 +203,9 @@ module _ {Hart Page Input : Type 0} (system : System Hart Page Input) where
 
 pub leases_go_on : {Hart Page Input : Type 0} (system : System Hart Page Input) → LeasesGoOn system
 leases_go_on system crew start b few reached = goes_on system crew start b (reached_ok system crew few start b reached)
+
+pub ticks_go_on : {Hart Page Input : Type 0} (system : System Hart Page Input) → TicksGoOn system
+ticks_go_on system l t = run_append system (lent l) l.turns (t ∷ [])
+
+pub lends_more : {Hart Page Input : Type 0} (system : System Hart Page Input) → LendsMore system
+lends_more system b l page want edges lease ours = lent_more system b page want l lease ours edges

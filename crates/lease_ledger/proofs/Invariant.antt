@@ -66,7 +66,8 @@ among_append edges more some all f g e h =
     elim (Contains-append_cases edges some e h) [ inl a ↦ Contains-append_left more all e (f e a) | inr b ↦ Contains-append_right more all e (g e b) ]
 
 -- a fact of each hart, where one hart's is put
-pub at_put : {A : Type 0} (P : ℕ → A → Type 0) (f : ℕ → A) (h : ℕ) (x : A) → P h x → ((g : ℕ) → h ≢ g → P g (f g)) → (g : ℕ) → P g (put f h x g)
+pub at_put : {A : Type 0} (P : ℕ → A → Type 0) (f : ℕ → A) (h : ℕ) (x : A) → P h x →
+    ((g : ℕ) → h ≢ g → P g (f g)) → (g : ℕ) → P g (put f h x g)
 at_put P f h x mine others g =
     elim (same_or_not h g) [
       | inl same ↦ subst (P g) (sym (put_same f h g x same)) (subst (λ g. P g x) same mine)

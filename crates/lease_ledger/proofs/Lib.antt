@@ -5,6 +5,7 @@ mod Invariant
 mod Noted
 mod Opening
 mod Needing
+mod Alike
 mod Settling
 mod Dropping
 mod Reached

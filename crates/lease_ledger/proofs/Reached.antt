@@ -22,12 +22,13 @@ use Rattle.edge_log.specs.declared.Edge as declared
 use Rattle.crew_pages.specs.Rights.{Right, Shared, Exclusive, stands, is_against, holds, give_up}
 use Rattle.lease_ledger.specs.Ledger.{Ledger}
 use Rattle.lease_ledger.specs.Calls.{has_taken, All, settled, GivenUp, NotYet, Then, Reached, Begun, Opened, Needed, Settled, Dropped}
-use Rattle.lease_ledger.specs.Laws.{InOrder, IsOf, log_of, IsInLog, HasItsOrder, KeepsLedger, HasHonestLog, AddsItsSteps, KeepsOrder, MayAddNext, HeldByTakers, RunsInLists}
+use Rattle.lease_ledger.specs.Laws.{InOrder, IsOf, log_of, IsInLog, HasItsOrder, KeepsLedger, HasHonestLog, AddsItsSteps, LaysItsRun, KeepsOrder, MayAddNext, HeldByTakers, RunsInLists}
 use Rattle.lease_ledger.proofs.Stays.{held_before, stands_holds}
 use Rattle.lease_ledger.proofs.Invariant.{none_in, Ok}
 use Rattle.lease_ledger.proofs.Opening.{begun_ok, opened_ok}
 use Rattle.lease_ledger.proofs.Needing.{needed_ok}
-use Rattle.lease_ledger.proofs.Settling.{alike, all_is, settled_ok}
+use Rattle.lease_ledger.proofs.Settling.{all_is, settled_ok}
+use Rattle.lease_ledger.proofs.Alike.{alike, its_runs, present_is, laid_is}
 use Rattle.lease_ledger.proofs.Dropping.{dropped_ok}
 
 -- an element stands to each later one
@@ -153,7 +154,15 @@ pub adds_its_steps : {Hart Page Input : Type 0} (system : System Hart Page Input
 adds_its_steps system crew start b l few reached lease ours =
     let ok = reached_ok system crew few start b reached in
     all_is system crew start b ok l lease ours ∙
-    ap (λ new. steps system start b.journal ++ new) (sym (alike system crew start b ok l lease ours).steps_are)
+    ap (λ new. steps system start b.journal ++ new) (sym (alike system b l lease ours).steps_are)
+
+pub lays_its_run : {Hart Page Input : Type 0} (system : System Hart Page Input) → LaysItsRun system
+lays_its_run system b l keep lease ours =
+    record {
+      runs = its_runs system b l lease ours;
+      machine = laid_is system b l lease ours;
+      count = present_is system b l lease ours;
+    }
 
 pub keeps_order : {Hart Page Input : Type 0} (system : System Hart Page Input) → KeepsOrder system
 keeps_order system crew start b few reached = its_order system crew few start b reached

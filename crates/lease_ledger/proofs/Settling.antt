@@ -1,23 +1,24 @@
 -- A lease that passes the comparison is settled.
 use Rattle.std.proofs.Common.{◌≡◌, ◌≢◌, inl, inr, ℕ, is_some, unwrap_or, ◌<◌, ◌≤◌, Bool, true, false, if◌then◌else◌, List, [], ◌++◌, Option, Some, None, Contains, refl, sym, ap, subst, ◌∙◌, arith, le_trans, le_refl}
 use Rattle.std.proofs.lemmas.List.Elements.{Contains-append_cases, Contains-append_left}
-use Rattle.interleaving.specs.Lists.{put, Each, EachPair}
+use Rattle.interleaving.specs.Lists.{put, EachPair}
 use Rattle.interleaving.specs.Machine.{Writes, System, Machine, Turn, Step, counts, steps, Runs, run}
 use Rattle.interleaving.specs.Log.{Edge, Place, Before, EachMet, Conflict, place}
-use Rattle.interleaving.proofs.Put.{same_or_not, put_same, put_other}
-use Rattle.interleaving.proofs.Each.{each_at, each_more, pairs_append, pairs_more}
+use Rattle.interleaving.proofs.Put.{put_same}
+use Rattle.interleaving.proofs.Each.{each_at, pairs_append, pairs_more}
 use Rattle.interleaving.proofs.Runs.{steps_append, run_append, runs_append, counts_grow}
 use Rattle.crew_pages.specs.Rights.{Right, holds, owns, give_up, lower}
 use Rattle.crew_pages.specs.Page.{at_of, IsAmong, MayLeave}
 use Rattle.crew_pages.proofs.Page.{before_more, knows_more}
 use Rattle.crew_pages.proofs.Laws.{keeps_going_on, keeps_giving_up, keeps_lowering, puts_before}
-use Rattle.lease_ledger.specs.Ledger.{Stub, Lease, Ledger, lent, stepped, present, Uses, IsLease, IsOurs}
+use Rattle.lease_ledger.specs.Ledger.{Stub, Lease, Ledger, present, Uses, IsLease, IsOurs}
 use Rattle.lease_ledger.specs.Calls.{Keep, All, Readable, Nothing, kept, settled}
 use Rattle.lease_ledger.specs.Laws.{InOrder, IsInLog}
-use Rattle.lease_ledger.proofs.Runs.{Taking, RunsAlike, pairs_all, steps_numbered, met_more, steps_mine, run_other, run_untaken, run_alike}
+use Rattle.lease_ledger.proofs.Runs.{pairs_all, steps_numbered, met_more, steps_mine, run_other}
+use Rattle.lease_ledger.proofs.Alike.{its_runs, its_uses, present_is, laid_is}
 use Rattle.lease_ledger.proofs.Stays.{stays_kept}
 use Rattle.lease_ledger.proofs.Used.{IsPlaceOf, wrote_more, touched_more, in_wrote, in_touched, numbered, within}
-use Rattle.lease_ledger.proofs.Invariant.{StoodAt, AtFirst, ToRead, ToWrite, pending, own, read_from, write_from, now, late, is_some_of, or_le, among_nil, among_append, at_put, some_put, scene, RightAt, StubOk, LedgerOk, Ok, stub_rights}
+use Rattle.lease_ledger.proofs.Invariant.{StoodAt, AtFirst, ToRead, ToWrite, pending, own, read_from, write_from, now, late, or_le, among_nil, among_append, at_put, some_put, scene, RightAt, StubOk, LedgerOk, Ok, stub_rights}
 
 or_bound : (o : Option ℕ) (n x : ℕ) → ((k : ℕ) → o ≡ Some k → k ≤ x) → n ≤ x → unwrap_or o n ≤ x
 or_bound None n x each le = le
@@ -45,14 +46,6 @@ module _ {Hart Page Input : Type 0} (system : System Hart Page Input) (crew : �
   stub_is : StubOk system crew m b.rights l.hart l.stub
   stub_is = ok.stub l.hart l.stub ours.stub
 
-  -- on the ledger's machine the lease takes the steps that it took on what it was lent
-  pub alike : RunsAlike system l.hart taken (lent l) m l.turns
-  alike =
-      run_alike system l.hart taken (lent l) m l.turns lease.mine (record { hart_is = ours.state; pages = ours.pages }) lease.runs
-      (each_more (Uses system l.stub) (Taking system l.hart taken)
-      (λ t u page touched. let (k, is, le) = u.touches page touched in is_some_of (l.stub.read_at page) k is) (steps system (lent l) l.turns)
-      lease.uses)
-
   abbrev fresh : List (Step Hart Page Input)
   fresh = steps system m l.turns
 
@@ -71,26 +64,23 @@ module _ {Hart Page Input : Type 0} (system : System Hart Page Input) (crew : �
   abbrev closed : ℕ → Option Stub
   closed = put b.stubs l.hart None
 
-  its_runs : Runs system m l.turns
-  its_runs = subst (Each (λ s. system.halted s.found ≡ false)) alike.steps_are lease.runs
+  runs_here : Runs system m l.turns
+  runs_here = its_runs system b l lease ours
 
-  uses : Each (Uses system l.stub) fresh
-  uses = subst (Each (Uses system l.stub)) alike.steps_are lease.uses
-
-  present_is : present system l ≡ counts system end l.hart
-  present_is = ap system.count alike.ends.hart_is
+  present_here : present system l ≡ counts system end l.hart
+  present_here = present_is system b l lease ours
 
   pub all_is : all ≡ past ++ fresh
   all_is = steps_append system start b.journal l.turns ∙ ap (λ m. past ++ steps system m l.turns) (sym ok.machine)
 
   end_runs : Runs system start turns
-  end_runs = runs_append system start b.journal l.turns ok.runs (subst (λ m. Runs system m l.turns) ok.machine its_runs)
+  end_runs = runs_append system start b.journal l.turns ok.runs (subst (λ m. Runs system m l.turns) ok.machine runs_here)
 
   end_is : end ≡ run system start turns
   end_is = ap (λ m. run system m l.turns) ok.machine ∙ sym (run_append system start b.journal l.turns)
 
   grow : (g : ℕ) → counts system m g ≤ counts system end g
-  grow = counts_grow system m l.turns its_runs
+  grow = counts_grow system m l.turns runs_here
 
   started : (g : ℕ) → counts system start g ≤ counts system m g
   started g = subst (λ m. counts system start g ≤ counts system m g) (sym ok.machine) (counts_grow system start b.journal ok.runs g)
@@ -99,7 +89,7 @@ module _ {Hart Page Input : Type 0} (system : System Hart Page Input) (crew : �
   some_old e i = Contains-append_left b.edges l.stub.edges e i
 
   is_fresh : (s : Step Hart Page Input) → Contains fresh s → Uses system l.stub s
-  is_fresh s i = each_at (Uses system l.stub) fresh s uses i
+  is_fresh s i = each_at (Uses system l.stub) fresh s (its_uses system b l lease ours) i
 
   fresh_hart : (s : Step Hart Page Input) → Contains fresh s → s.hart ≡ l.hart
   fresh_hart s i = each_at (λ s. s.hart ≡ l.hart) fresh s (steps_mine system l.hart m l.turns lease.mine) i
@@ -131,7 +121,7 @@ module _ {Hart Page Input : Type 0} (system : System Hart Page Input) (crew : �
       at_put (λ g q. now (counts system m) b.stubs page g ≤ read_from (counts system end g) q page) b.stubs l.hart None
       (subst (λ o. read_from (counts system m l.hart) o page ≤ counts system end l.hart) (sym ours.stub)
       (or_bound (l.stub.read_at page) (counts system m l.hart) (counts system end l.hart)
-      (λ k e. subst (λ x. k ≤ x) present_is (lease.reads page k e)) (grow l.hart)))
+      (λ k e. subst (λ x. k ≤ x) present_here (lease.reads page k e)) (grow l.hart)))
       (λ g ne. read_from_le (counts system m g) (counts system end g) (grow g) (b.stubs g) page)
 
   late_grows : (page g : ℕ) → late (counts system m) b.stubs page g ≤ late (counts system end) closed page g
@@ -139,7 +129,7 @@ module _ {Hart Page Input : Type 0} (system : System Hart Page Input) (crew : �
       at_put (λ g q. late (counts system m) b.stubs page g ≤ write_from (counts system end g) q page) b.stubs l.hart None
       (subst (λ o. write_from (counts system m l.hart) o page ≤ counts system end l.hart) (sym ours.stub)
       (or_bound (l.stub.write_at page) (counts system m l.hart) (counts system end l.hart)
-      (λ k e. subst (λ x. k ≤ x) present_is (lease.writes page k e)) (grow l.hart)))
+      (λ k e. subst (λ x. k ≤ x) present_here (lease.writes page k e)) (grow l.hart)))
       (λ g ne. write_from_le (counts system m g) (counts system end g) (grow g) (b.stubs g) page)
 
   page_end : (page : ℕ) → EndAt page (b.rights page)
@@ -216,7 +206,7 @@ module _ {Hart Page Input : Type 0} (system : System Hart Page Input) (crew : �
         since_then =
             subst (λ g. now (counts system m) b.stubs page g ≤ system.count t.found) (sym its)
             (subst (λ x. x ≤ system.count t.found) (sym (now_is page k is)) le);
-        unsettled = (steps_numbered system m l.turns its_runs t i).from;
+        unsettled = (steps_numbered system m l.turns runs_here t i).from;
         apart = ne;
         touched = in_touched system past page s in_past first_touch;
         conflict =
@@ -244,8 +234,8 @@ module _ {Hart Page Input : Type 0} (system : System Hart Page Input) (crew : �
 
   stood_by : (k : ℕ) → StoodAt (counts system m l.hart) l.stub k → k ≤ counts system end l.hart
   stood_by k (AtFirst is) = let le : counts system m l.hart ≤ counts system end l.hart = grow l.hart in let e : k ≡ counts system m l.hart = is in omega arith
-  stood_by k (ToRead page is) = subst (λ x. k ≤ x) present_is (lease.reads page k is)
-  stood_by k (ToWrite page is) = subst (λ x. k ≤ x) present_is (lease.writes page k is)
+  stood_by k (ToRead page is) = subst (λ x. k ≤ x) present_here (lease.reads page k is)
+  stood_by k (ToWrite page is) = subst (λ x. k ≤ x) present_here (lease.writes page k is)
 
   log_end : (e : Edge) → Contains edges e → IsInLog system crew start end e
   log_end e i =
@@ -339,33 +329,8 @@ module _ {Hart Page Input : Type 0} (system : System Hart Page Input) (crew : �
             (λ page takes. stays_kept g l.hart (counts system end l.hart) (keep page) (b.rights page) (λ e. ne (sym e))));
       }
 
-  -- the machine with the lease's hart and pages is what its steps make of the ledger's
-
-  laid_is : record {
-    harts = put m.harts l.hart ((stepped system l).harts l.hart);
-    pages = λ page. if taken page then (stepped system l).pages page else m.pages page;
-  } ≡ end
-  laid_is = λ i. record { harts = λ g. hart_is g i; pages = λ page. page_is page (taken page) refl i }
-    where
-      hart_is : (g : ℕ) → put m.harts l.hart ((stepped system l).harts l.hart) g ≡ end.harts g
-      hart_is g =
-          elim (same_or_not l.hart g) [
-            | inl same ↦ put_same m.harts l.hart g ((stepped system l).harts l.hart) same ∙ (alike.ends.hart_is ∙ ap end.harts same)
-            | inr ne ↦
-                put_other m.harts l.hart g ((stepped system l).harts l.hart) ne ∙ sym (run_other system l.hart m l.turns lease.mine g ne)
-          ]
-
-      page_is : (page : ℕ) (c : Bool) → taken page ≡ c → (if c then (stepped system l).pages page else m.pages page) ≡ end.pages page
-      page_is page true e = alike.ends.pages page e
-      page_is page false e =
-          sym
-          (run_untaken system l.hart taken m l.turns its_runs
-          (each_more (Uses system l.stub) (Taking system l.hart taken)
-          (λ t u page touched. let (k, is, le) = u.touches page touched in is_some_of (l.stub.read_at page) k is) fresh uses)
-          page e)
-
   pub settled_ok : (keep : ℕ → Keep) → Ok system crew start (settled system b l keep)
   settled_ok keep =
-      subst (λ n. LedgerOk system crew start n turns edges (λ page. kept (keep page) (b.rights page) l.hart (present system l)) closed) (sym laid_is)
-      (subst (λ c. LedgerOk system crew start end turns edges (λ page. kept (keep page) (b.rights page) l.hart c) closed) (sym present_is)
+      subst (λ n. LedgerOk system crew start n turns edges (λ page. kept (keep page) (b.rights page) l.hart (present system l)) closed) (sym (laid_is system b l lease ours))
+      (subst (λ c. LedgerOk system crew start end turns edges (λ page. kept (keep page) (b.rights page) l.hart c) closed) (sym present_here)
       (settled_end keep))

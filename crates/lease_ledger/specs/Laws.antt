@@ -3,7 +3,7 @@ use Rattle.std.specs.Prelude.{ℕ, ◌≡◌, ◌≢◌, ◌≤◌, ◌<◌, ◌
 use Rattle.ft_types.specs.declared.names.Want.{Want}
 use Rattle.ft_types.specs.Counts.{count_at}
 use Rattle.interleaving.specs.Lists.{put, EachPair}
-use Rattle.interleaving.specs.Machine.{Writes, System, Machine, Turn, step_of, counts, steps, Runs, run}
+use Rattle.interleaving.specs.Machine.{Writes, System, Machine, Turn, after, step_of, counts, steps, Runs, run}
 use Rattle.interleaving.specs.Log.{Edge, Log, HasInputs, IsHonest}
 use Rattle.interleaving.specs.Cuts.{IsEnough}
 use Rattle.interleaving.specs.Recorder.{input_at}
@@ -61,6 +61,15 @@ module _ {Hart Page Input : Type 0} (system : System Hart Page Input) where
       (crew : ℕ) (start : Machine Hart Page) (b : Ledger Hart Page Input) (l : Lease Hart Page Input) → crew ≤ 8 →
       Reached system crew start b → IsLease system l → IsOurs b l →
       steps system start (b.journal ++ l.turns) ≡ steps system start b.journal ++ steps system (lent l) l.turns
+
+  -- they run on the ledger's machine too, and lead to the settled one
+  pub record IsLaid (b : Ledger Hart Page Input) (l : Lease Hart Page Input) (keep : ℕ → Keep) : Type 0 where
+    pub runs : Runs system b.machine l.turns
+    pub machine : (settled system b l keep).machine ≡ run system b.machine l.turns
+    pub count : present system l ≡ counts system (run system b.machine l.turns) l.hart
+
+  abbrev pub LaysItsRun : Type 0
+  LaysItsRun = (b : Ledger Hart Page Input) (l : Lease Hart Page Input) (keep : ℕ → Keep) → IsLease system l → IsOurs b l → IsLaid b l keep
 
   -- The order of edges.
 
@@ -149,6 +158,23 @@ module _ {Hart Page Input : Type 0} (system : System Hart Page Input) where
   abbrev pub LeasesGoOn : Type 0
   LeasesGoOn =
       (crew : ℕ) (start : Machine Hart Page) (b : Ledger Hart Page Input) → crew ≤ 8 → Reached system crew start b → GoesOn b
+
+  -- What the lease has at present: a tick goes on from there, and a page that is new to it comes from the ledger's machine.
+
+  abbrev pub TicksGoOn : Type 0
+  TicksGoOn =
+      (l : Lease Hart Page Input) (t : Turn Input) →
+      stepped system (lease_ticked l t) ≡ after (stepped system l) (step_of system (stepped system l) t)
+
+  pub record IsLentMore (b : Ledger Hart Page Input) (l next : Lease Hart Page Input) (page : ℕ) : Type 0 where
+    pub hart : (stepped system next).harts l.hart ≡ (stepped system l).harts l.hart
+    pub pages : (q : ℕ) → is_some (l.stub.read_at q) ≡ true → (stepped system next).pages q ≡ (stepped system l).pages q
+    pub new : is_some (l.stub.read_at page) ≡ false → (stepped system next).pages page ≡ b.machine.pages page
+
+  abbrev pub LendsMore : Type 0
+  LendsMore =
+      (b : Ledger Hart Page Input) (l : Lease Hart Page Input) (page : ℕ) (want : Want) (edges : List Edge) → IsLease system l → IsOurs b l →
+      IsLentMore b l (lease_needed b l page want (Given edges)) page
 
 -- The same for a machine whose harts and pages stand in lists.
 

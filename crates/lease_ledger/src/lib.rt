@@ -4,8 +4,8 @@
 
 ghost use Rattle.interleaving.specs.Machine.{System};
 ghost use Rattle.interleaving.specs.Stored.{Hardware};
-ghost use Rattle.lease_ledger.specs.Laws.{KeepsLedger, HasHonestLog, AddsItsSteps, RunsInLists};
-ghost use Rattle.lease_ledger.specs.Laws.{KeepsOrder, MayAddNext, HeldByTakers, LeasesGoOn};
+ghost use Rattle.lease_ledger.specs.Laws.{KeepsLedger, HasHonestLog, AddsItsSteps, LaysItsRun, RunsInLists};
+ghost use Rattle.lease_ledger.specs.Laws.{KeepsOrder, MayAddNext, HeldByTakers, LeasesGoOn, TicksGoOn, LendsMore};
 ghost use Rattle.lease_ledger.specs.Examples.{ForgetsCounts};
 
 #[cfg(test)]
@@ -17,6 +17,7 @@ pub fn honest_ledger<H, P, I>()
     ensures kept { (system : System H P I) → KeepsLedger system }
     ensures has_log { (system : System H P I) → HasHonestLog system }
     ensures adds_its_steps { (system : System H P I) → AddsItsSteps system }
+    ensures lays_its_run { (system : System H P I) → LaysItsRun system }
     ensures in_lists { (hardware : Hardware H P I) → RunsInLists hardware }
 {}
 
@@ -30,6 +31,8 @@ pub fn edge_order<H, P, I>()
 /// the way of an asker has taken the page.
 pub fn leases_go_on<H, P, I>()
     ensures leases { (system : System H P I) → LeasesGoOn system }
+    ensures ticks { (system : System H P I) → TicksGoOn system }
+    ensures lends_more { (system : System H P I) → LendsMore system }
     ensures held_by { (system : System H P I) → HeldByTakers system }
 {}
 
