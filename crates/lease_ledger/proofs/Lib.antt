@@ -10,4 +10,4 @@ mod Settling
 mod Dropping
 mod Reached
 mod GoesOn
-mod Examples
+mod AtWork

@@ -1,6 +1,5 @@
--- Why the type of a lease keeps the count at which it took each page: a lease that keeps all else of its type and passes the
--- comparison, but used a page before it had taken it, would settle a log that is not honest.
-use Rattle.std.specs.Prelude.{ℕ, ◌≡◌, ◌≤◌, is_some, true, [], ◌∷◌, Option, Some, Contains}
+-- The calls at work: two leases side by side, and a lease that must not be settled.
+use Rattle.std.specs.Prelude.{ℕ, ◌≡◌, ◌≤◌, ◌==◌, is_some, true, [], ◌∷◌, Option, Some, Contains}
 use Rattle.ft_types.specs.declared.names.Want.TheVariants.{Read, Write}
 use Rattle.interleaving.specs.Lists.{Each}
 use Rattle.interleaving.specs.Machine.{Machine, Writes, Turn, steps, Runs}
@@ -13,7 +12,8 @@ use Rattle.interleaving.specs.declared.counters.Act.{Act}
 use Rattle.interleaving.specs.declared.counters.Act.TheVariants as act
 use Rattle.lease_ledger.specs.Ledger as ledger
 use Rattle.lease_ledger.specs.Ledger.{begin, lent, present, IsOurs}
-use Rattle.lease_ledger.specs.Calls.{Given, Nothing, opened, needed, settled, Reached}
+use Rattle.crew_pages.specs.Rights.{give_up}
+use Rattle.lease_ledger.specs.Calls.{HeldBy, Given, All, Nothing, opened, needed, settled, Reached}
 use Rattle.lease_ledger.specs.Laws.{IsOf, lease_opened, lease_needed, lease_ticked}
 
 abbrev pub Ledger : Type 0
@@ -29,7 +29,7 @@ two = record { harts = hart_at 0 0 ∷ hart_at 0 0 ∷ []; pages = 0 ∷ 0 ∷ [
 abbrev pub start : Machine (Option Counter) (Option ℕ)
 start = view counters two
 
--- hart 0 takes page 0 to write, stores there, and keeps nothing
+-- hart 0 takes page 0 to write, and stores there
 abbrev pub writing : Ledger
 writing = opened (begin start) 0 []
 
@@ -42,6 +42,45 @@ lent_to_write = needed counting writing writer 0 Write (writing.rights 0) (Given
 abbrev pub wrote : Lease
 wrote = lease_ticked counting (lease_needed counting writing writer 0 Write (Given [])) (stores 0 0)
 
+-- Two leases side by side: hart 1 asks for page 0 while hart 0's lease has it, and again once that is settled.
+
+abbrev pub beside : Ledger
+beside = opened lent_to_write 1 []
+
+abbrev pub asker : Lease
+asker = lease_opened counting lent_to_write 1 []
+
+-- hart 0 is in its way
+abbrev pub refused : Ledger
+refused = needed counting beside asker 0 Read (beside.rights 0) (HeldBy (λ other. 0 == other))
+
+-- hart 0 settles, and keeps its right
+abbrev pub kept_on : Ledger
+kept_on = settled counting refused wrote (λ page. All)
+
+abbrev pub first_edge : Edge
+first_edge = record { hart = 1; step = 0; other = 0; count = 1 }
+
+-- it gives the right up at its count, and hart 1 loads what it stored
+abbrev pub lent_on : Ledger
+lent_on = needed counting kept_on asker 0 Read (give_up (kept_on.rights 0) 0 1) (Given (first_edge ∷ []))
+
+abbrev pub loaded : Lease
+loaded = lease_ticked counting (lease_needed counting kept_on asker 0 Read (Given (first_edge ∷ []))) (loads 1)
+
+abbrev pub both : Ledger
+both = settled counting lent_on loaded (λ page. Nothing)
+
+pub record SideBySide : Type 0 where
+  pub reached : Reached counting 2 start both
+  pub journal : both.journal ≡ stores 0 0 ∷ loads 1 ∷ []
+  pub edges : both.edges ≡ first_edge ∷ []
+  pub loads_it : both.machine.harts 1 ≡ Some (hart_at 1 1)
+
+-- Why the type of a lease keeps the count at which it took each page: a lease that keeps all else of its type and passes the
+-- comparison, but used a page before it had taken it, would settle a log that is not honest.
+
+-- hart 0 settles, and keeps nothing
 abbrev pub stored : Ledger
 stored = settled counting lent_to_write wrote (λ page. Nothing)
 

@@ -6,7 +6,7 @@ ghost use Rattle.interleaving.specs.Machine.{System};
 ghost use Rattle.interleaving.specs.Stored.{Hardware};
 ghost use Rattle.lease_ledger.specs.Laws.{KeepsLedger, HasHonestLog, AddsItsSteps, LaysItsRun, RunsInLists};
 ghost use Rattle.lease_ledger.specs.Laws.{KeepsOrder, MayAddNext, HeldByTakers, LeasesGoOn, TicksGoOn, LendsMore};
-ghost use Rattle.lease_ledger.specs.Examples.{ForgetsCounts};
+ghost use Rattle.lease_ledger.specs.Examples.{SideBySide, ForgetsCounts};
 
 #[cfg(test)]
 mod tests;
@@ -36,7 +36,9 @@ pub fn leases_go_on<H, P, I>()
     ensures held_by { (system : System H P I) → HeldByTakers system }
 {}
 
-/// A lease whose type forgot at which count it took a page would settle a log that is not honest.
-pub fn counts_matter()
-    ensures { ForgetsCounts }
+/// The calls at work: two leases side by side, of which one waits for the other's page, and a lease that must not be
+/// settled, since its type forgot at which count it took a page.
+pub fn examples()
+    ensures side_by_side { SideBySide }
+    ensures counts_matter { ForgetsCounts }
 {}

@@ -7,5 +7,5 @@ fn laws_hold() {
     crate::honest_ledger::<Counter, u64, Act>();
     crate::edge_order::<Counter, u64, Act>();
     crate::leases_go_on::<Counter, u64, Act>();
-    crate::counts_matter();
+    crate::examples();
 }

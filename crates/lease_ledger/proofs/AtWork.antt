@@ -1,19 +1,20 @@
--- A lease whose type forgot at which count it took a page settles a log that is not honest.
-use Rattle.std.proofs.Common.{◌≡◌, ◌≢◌, ◌⊎◌, inl, inr, ℕ, ◌==◌, ◌&&◌, not, is_some, ◌<◌, Bool, true, false, cond, if◌then◌else◌, [], ◌∷◌, Some, None, Contains, refl, sym, subst, ◌∙◌, arith, true≢false}
-use Rattle.std.proofs.lemmas.Bool.{ne_eqb}
+-- Two leases side by side, and a lease whose type forgot at which count it took a page and which settles a log that is not
+-- honest.
+use Rattle.std.proofs.Common.{◌≡◌, ◌≢◌, ◌⊎◌, inl, inr, ℕ, ◌==◌, ◌&&◌, not, is_some, ◌<◌, Bool, true, false, cond, if◌then◌else◌, [], ◌∷◌, Some, None, Contains, refl, sym, subst, ◌∙◌, arith, eqb-true, true≢false}
+use Rattle.std.proofs.lemmas.Bool.{and_parts, ne_eqb}
 use Rattle.ft_types.specs.declared.names.Want.TheVariants.{Read, Write}
 use Rattle.interleaving.specs.Log.{Edge, Log, Before, IsHonest}
-use Rattle.interleaving.specs.Examples.{counting, stores}
+use Rattle.interleaving.specs.Examples.{counting, loads, stores}
 use Rattle.interleaving.specs.declared.counters.Act.{Act}
 use Rattle.interleaving.proofs.Put.{same_or_not}
 use Rattle.interleaving.proofs.Cuts.{here, here_or_later}
 use Rattle.interleaving.proofs.Order.{before_inside}
 use Rattle.interleaving.proofs.Decided.{closed_by}
-use Rattle.crew_pages.specs.Rights.{count_of, IsOwed}
+use Rattle.crew_pages.specs.Rights.{Right, Shared, nobody, stands, count_of, IsOwed}
 use Rattle.lease_ledger.specs.Ledger.{begin, IsLease, IsOurs}
-use Rattle.lease_ledger.specs.Calls.{Given, Nothing, NotYet, AreOwed, Reached, Begun, Opened, Needed, Settled}
+use Rattle.lease_ledger.specs.Calls.{has_taken, HeldBy, Given, All, Nothing, NotYet, Then, AreOwed, Reached, Begun, Opened, Needed, Settled}
 use Rattle.lease_ledger.specs.Laws.{lease_needed}
-use Rattle.lease_ledger.specs.Examples.{start, writing, writer, lent_to_write, wrote, stored, reading, reader, lent_to_read, went_on, loads_from_1, edge, lent_both, honest_reader, forged, last, ForgetsCounts}
+use Rattle.lease_ledger.specs.Examples.{start, writing, writer, lent_to_write, wrote, beside, asker, refused, kept_on, first_edge, lent_on, loaded, SideBySide, stored, reading, reader, lent_to_read, went_on, loads_from_1, edge, lent_both, honest_reader, forged, last, ForgetsCounts}
 use Rattle.lease_ledger.proofs.Invariant.{none_in}
 use Rattle.lease_ledger.proofs.GoesOn.{opens, ticks, needs}
 
@@ -57,6 +58,106 @@ wrote_is =
       record { stub = ours.stub; state = ours.state; pages = ours.pages },
     )
 
+-- hart 0 wrote the page, and left at count 1
+abbrev left_by_0 : Right
+left_by_0 = Shared (Some (record { hart = 0; count = 1 })) (λ other. false) nobody
+
+abbrev edge_at : ℕ → Edge
+edge_at n = record { hart = 1; step = n; other = 0; count = 1 }
+
+is_edge : (n : ℕ) (e : Edge) → IsOwed left_by_0 1 Read n e → edge_at n ≡ e
+is_edge n e owed = go (same_or_not 0 e.other)
+  where
+    go : (0 ≡ e.other) ⊎ (0 ≢ e.other) → edge_at n ≡ e
+    go (inl same) =
+        let after : count_of (Some (record { hart = 0; count = 1 })) e.other ≡ Some e.count = owed.after in
+        let h : Some 1 ≡ Some e.count = subst (λ g. count_of (Some (record { hart = 0; count = 1 })) g ≡ Some e.count) (sym same) after in
+        let is : 1 ≡ e.count = cc in
+        λ i. record { hart = sym owed.own i; step = sym owed.at i; other = same i; count = is i }
+    go (inr ne) =
+        let after : count_of (Some (record { hart = 0; count = 1 })) e.other ≡ Some e.count = owed.after in
+        let h : None ≡ Some e.count =
+        subst (λ c. (if c then Some 1 else None) ≡ Some e.count) (ne_eqb 0 e.other ne) after in
+        absurd (cc)
+
+owes_one : (n : ℕ) → AreOwed left_by_0 1 Read n (edge_at n ∷ [])
+owes_one n =
+    record {
+      all = λ e owed. subst (Contains (edge_at n ∷ [])) (is_edge n e owed) (here (edge_at n) []);
+      only =
+          λ e i.
+          elim (here_or_later (edge_at n) [] e i) [
+            | inl is ↦
+                subst (IsOwed left_by_0 1 Read n) is
+                (record { lacks = refl; own = refl; at = refl; other = λ e. omega arith; is_hart = omega arith; after = refl })
+            | inr later ↦ absurd (none_in e later)
+          ];
+    }
+
+-- hart 1 asks while hart 0's lease is open
+
+asker_is : IsLease counting asker × IsOurs beside asker
+asker_is = opens counting lent_to_write 1 []
+
+only_hart_0 : (other : ℕ) → stands (beside.rights 0) 1 Read other ≡ true → 0 ≡ other
+only_hart_0 other against = eqb-true 0 other (and_parts (not (1 == other)) (0 == other) against).1
+
+reached_refused : Reached counting 2 start refused
+reached_refused =
+    Needed asker 0 Read (beside.rights 0) (HeldBy (λ other. 0 == other))
+    (Opened 1 [] reached_to_write (omega arith) refl (λ e i. absurd (none_in e i))) asker_is.0 asker_is.1
+    (
+    record {
+      given_up = NotYet;
+      taken = λ other against. subst (λ other. has_taken (beside.stubs other) 0 ≡ true) (only_hart_0 other against) refl;
+    }
+    )
+    ((0, refl), stands_so)
+  where
+    stands_so : (other : ℕ) → (0 == other) ≡ stands (beside.rights 0) 1 Read other
+    stands_so other =
+        elim (same_or_not 0 other) [
+          | inl same ↦ subst (λ other. (0 == other) ≡ (not (1 == other) && (0 == other))) same refl
+          | inr ne ↦ subst (λ b. b ≡ (not (1 == other) && b)) (sym (ne_eqb 0 other ne)) (sym (nobody_stands (not (1 == other))))
+        ]
+
+reached_kept_on : Reached counting 2 start kept_on
+reached_kept_on =
+    Settled wrote (λ page. All) reached_refused wrote_is.0 (record { stub = refl; state = refl; pages = wrote_is.1.pages })
+
+asks_again : IsOurs kept_on asker
+asks_again = record { stub = refl; state = refl; pages = λ page e. absurd (true≢false (sym e)) }
+
+reached_lent_on : Reached counting 2 start lent_on
+reached_lent_on =
+    Needed asker 0 Read left_by_0 (Given (first_edge ∷ [])) reached_kept_on asker_is.0 asks_again
+    (record { given_up = Then 0 NotYet refl refl; taken = λ other against. absurd (not_against (not (1 == other)) against) })
+    ((λ other. nobody_stands (not (1 == other))), owes_one 0)
+
+loaded_is : IsLease counting loaded × IsOurs lent_on loaded
+loaded_is =
+    let (lease, ours) = needs counting kept_on asker 0 Read left_by_0 (Given (first_edge ∷ [])) asker_is.0 asks_again in (
+      ticks counting (lease_needed counting kept_on asker 0 Read (Given (first_edge ∷ []))) (loads 1) lease
+          (
+          record {
+            own = refl;
+            goes = refl;
+            touches = λ page i. subst (λ q. is_some (loaded.stub.read_at q) ≡ true) (only_one 0 page i) refl;
+            writes = λ page is. absurd is;
+          }
+          ),
+      record { stub = ours.stub; state = ours.state; pages = ours.pages },
+    )
+
+pub side_by_side : SideBySide
+side_by_side =
+    record {
+      reached = Settled loaded (λ page. Nothing) reached_lent_on loaded_is.0 loaded_is.1;
+      journal = refl;
+      edges = refl;
+      loads_it = refl;
+    }
+
 reached_stored : Reached counting 2 start stored
 reached_stored = Settled wrote (λ page. Nothing) reached_to_write wrote_is.0 wrote_is.1
 
@@ -89,41 +190,11 @@ went_on_is =
       record { stub = ours.stub; state = ours.state; pages = ours.pages },
     )
 
-edge_owed : IsOwed (lent_to_read.rights 0) 1 Read 1 edge
-edge_owed = record { lacks = refl; own = refl; at = refl; other = λ e. omega arith; is_hart = omega arith; after = refl }
-
-is_edge : (e : Edge) → IsOwed (lent_to_read.rights 0) 1 Read 1 e → edge ≡ e
-is_edge e owed = go (same_or_not 0 e.other)
-  where
-    go : (0 ≡ e.other) ⊎ (0 ≢ e.other) → edge ≡ e
-    go (inl same) =
-        let after : count_of (Some (record { hart = 0; count = 1 })) e.other ≡ Some e.count = owed.after in
-        let h : Some 1 ≡ Some e.count = subst (λ g. count_of (Some (record { hart = 0; count = 1 })) g ≡ Some e.count) (sym same) after in
-        let is : 1 ≡ e.count = cc in
-        λ i. record { hart = sym owed.own i; step = sym owed.at i; other = same i; count = is i }
-    go (inr ne) =
-        let after : count_of (Some (record { hart = 0; count = 1 })) e.other ≡ Some e.count = owed.after in
-        let h : None ≡ Some e.count =
-        subst (λ c. (if c then Some 1 else None) ≡ Some e.count) (ne_eqb 0 e.other ne) after in
-        absurd (cc)
-
-went_on_owes : AreOwed (lent_to_read.rights 0) 1 Read 1 (edge ∷ [])
-went_on_owes =
-    record {
-      all = λ e owed. subst (Contains (edge ∷ [])) (is_edge e owed) (here edge []);
-      only =
-          λ e i.
-          elim (here_or_later edge [] e i) [
-            | inl is ↦ subst (IsOwed (lent_to_read.rights 0) 1 Read 1) is edge_owed
-            | inr later ↦ absurd (none_in e later)
-          ];
-    }
-
 reached_both : Reached counting 2 start lent_both
 reached_both =
     Needed went_on 0 Read (lent_to_read.rights 0) (Given (edge ∷ [])) reached_to_read went_on_is.0 went_on_is.1
     (record { given_up = NotYet; taken = λ other against. absurd (not_against (not (1 == other)) against) })
-    ((λ other. nobody_stands (not (1 == other))), went_on_owes)
+    ((λ other. nobody_stands (not (1 == other))), owes_one 1)
 
 honest_reader_is : IsLease counting honest_reader × IsOurs lent_both honest_reader
 honest_reader_is = needs counting lent_to_read went_on 0 Read (lent_to_read.rights 0) (Given (edge ∷ [])) went_on_is.0 went_on_is.1
