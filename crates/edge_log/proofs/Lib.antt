@@ -1,2 +1,2 @@
-mod Rows
-mod Logs
+pub mod Rows
+pub mod Logs

@@ -5,7 +5,7 @@ ghost use Rattle.ft_types.specs.Counts.{count_at};
 ghost use Rattle.interleaving.specs.Log.{Edge as edge_of_theory};
 ghost use Rattle.interleaving.specs.Cuts.{IsImplied, IsEnough, IsSameOrder};
 ghost use Rattle.edge_log.specs.Rows.{ComesBefore, IsPut};
-ghost use Rattle.edge_log.specs.EdgeLog.{row_of, edge_as, edges_of, start_of, MayAdd, IsOfHart};
+ghost use Rattle.edge_log.specs.EdgeLog.{row_of, edge_as, edges_of, start_of, MayAdd, IsOfHart, IsLog};
 
 use crate::row::Row;
 use crate::{Added, Edge};
@@ -96,6 +96,7 @@ impl EdgeLog {
     pub fn at(&self, hart: Hart, count: Count) -> &[Edge]
         ensures value { result.now ≡ filter (λ e. e.at == count) (row_of self.now hart) }
         ensures rising { AllPairs (λ a b. a.other < b.other) result.now }
+        ensures rules { IsLog self.now.start self.now.rows }
     {
         self.rows[hart.index()].at(count)
     }
@@ -105,6 +106,7 @@ impl EdgeLog {
         ensures found { IfSome result (λ n. (count ≤ n) × Any (λ e. e.at ≡ n) (row_of self.now hart)) }
         ensures first { IfSome result (λ n. All (λ e. count ≤ e.at → n ≤ e.at) (row_of self.now hart)) }
         ensures none { IfNone result (All (λ e. e.at < count) (row_of self.now hart)) }
+        ensures rules { IsLog self.now.start self.now.rows }
     {
         self.rows[hart.index()].next(count)
     }

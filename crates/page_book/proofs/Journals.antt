@@ -1,5 +1,5 @@
 -- Journals that go on.
-use Rattle.std.proofs.Common.{◌≡◌, ◌==◌, ℕ, zero, suc, ◌+◌, ◌<◌, ◌≤◌, slice_index_or, List, [], ◌∷◌, ◌++◌, length, slice_set, Bool, true, false, Option, None, Some, refl, ap, sym, ◌∙◌, append_assoc, append-nil, length-set, if◌then◌else◌, arith, slice_get, replicate, ◌⊎◌, inl, inr}
+use Rattle.std.proofs.Common.{◌≡◌, ◌==◌, ℕ, zero, suc, ◌+◌, ◌<◌, ◌≤◌, slice_index_or, List, [], ◌∷◌, ◌++◌, length, slice_set, Bool, true, false, Option, None, Some, refl, ap, sym, ◌∙◌, append_assoc, append-nil, length-set, if◌then◌else◌, arith, slice_get, replicate, ◌⊎◌, inl, inr, ◌≢◌, le_trans, subst}
 use Rattle.std.proofs.lemmas.Bool.Decides.{nat_tests}
 use Rattle.interleaving.specs.Machine.{Turn}
 use Rattle.interleaving.specs.Stored.{run_from}
@@ -12,10 +12,10 @@ use Rattle.page_book.specs.declared.lease_pages.Slot.{Slot}
 use Rattle.page_book.specs.declared.book.OpenLease.{OpenLease}
 use Rattle.page_book.specs.Slots.{slot_at, base_of}
 use Rattle.page_book.specs.Leases.{LeaseView, laid, IsLent}
-use Rattle.interleaving.specs.Log.{Begins, counts_after, bump}
+use Rattle.interleaving.specs.Log.{Edge, Begins, counts_after, bump}
 use Rattle.interleaving.proofs.Put.{same_or_not, bump_same, bump_other}
 use Rattle.ft_types.specs.Counts.{count_at}
-use Rattle.page_book.specs.Runs.{journal_turns, turns_in_a_row, run_of, StandsIn, IsRunOf, IsLease, LeadsTo, harts_of, steps_taken, counts_of, BeginsSchedule}
+use Rattle.page_book.specs.Runs.{journal_turns, turns_in_a_row, run_of, StandsIn, IsRunOf, IsLease, LeadsTo, harts_of, steps_taken, counts_of, MayGoTo, BeginsSchedule}
 use Rattle.page_book.specs.Books.{added, IsBook, IsLentBy, open_at}
 use Rattle.page_book.proofs.Laid.{length-laid_pages}
 use Rattle.page_book.proofs.Runs.{run_from-append}
@@ -82,18 +82,36 @@ row-set_some (x ∷ leases) (suc i) (suc other) lent e = row-set_some leases i o
 
 -- ---- schedules
 
-begins_append : (cut now : ℕ → ℕ) (front rest : List ℕ) → Begins [] cut now front → Begins [] cut (counts_after now front) rest → Begins [] cut now (front ++ rest)
-begins_append cut now [] rest p q = q
-begins_append cut now (h ∷ front) rest p q = (p.0, begins_append cut (bump now h) front rest p.1 q)
+begins_append : (edges : List Edge) (cut now : ℕ → ℕ) (front rest : List ℕ) → Begins edges cut now front → Begins edges cut (counts_after now front) rest →
+    Begins edges cut now (front ++ rest)
+begins_append edges cut now [] rest p q = q
+begins_append edges cut now (h ∷ front) rest p q = (p.0, begins_append edges cut (bump now h) front rest p.1 q)
 
 counts_after-append : (now : ℕ → ℕ) (front rest : List ℕ) → counts_after now (front ++ rest) ≡ counts_after (counts_after now front) rest
 counts_after-append now [] rest = refl
 counts_after-append now (h ∷ front) rest = counts_after-append (bump now h) front rest
 
-begins_row : (cut now : ℕ → ℕ) (hart n : ℕ) → now hart + n ≤ cut hart → Begins [] cut now (replicate n hart)
-begins_row cut now hart zero le = tt
-begins_row cut now hart (suc n) le =
-    ((omega arith, λ e at. absurd (omega (arith, at.1))), begins_row cut (bump now hart) hart n (omega (arith, bump_same now hart, le)))
+-- a hart that has been let go goes on to its stop
+begins_row : (edges : List Edge) (cut now : ℕ → ℕ) (hart stop n : ℕ) → MayGoTo edges now hart stop → now hart + n ≤ stop → stop ≤ cut hart →
+    Begins edges cut now (replicate n hart)
+begins_row edges cut now hart stop zero may le within = tt
+begins_row edges cut now hart stop (suc zero) may le within = ((omega arith, may.met), tt)
+begins_row edges cut now hart stop (suc (suc n)) may le within =
+    let next : bump now hart hart ≡ now hart + 1 = bump_same now hart in (
+      (omega arith, may.met),
+      begins_row edges cut (bump now hart) hart stop (suc n) (record {
+        met = λ e at own here. let no = may.first e at own (omega (arith, here, next)) in absurd (omega (arith, no, here, next, le));
+        first = λ e at own above. may.first e at own (omega (arith, above, next));
+      }) (omega (arith, next, le)) within,
+    )
+
+-- where the counts of the others have only grown
+may_still_go : (edges : List Edge) (now later : ℕ → ℕ) (hart stop : ℕ) → MayGoTo edges now hart stop → later hart ≡ now hart →
+    ((other : ℕ) → now other ≤ later other) → MayGoTo edges later hart stop
+may_still_go edges now later hart stop may same grown = record {
+  met = λ e at own here. le_trans (may.met e at own (here ∙ same)) (grown e.other);
+  first = λ e at own above. may.first e at own (omega (arith, above, same));
+}
 
 counts_row : (now : ℕ → ℕ) (hart n : ℕ) → counts_after now (replicate n hart) hart ≡ now hart + n
 counts_row now hart zero = omega arith
@@ -156,25 +174,60 @@ module _ (start m : MachineState) (journal : List Stretch) (l : LeaseView) (stop
             ∙ sym (ap steps_taken (get-set_there m.harts l.hart l.present hart ne))
       ]
 
-  pub schedule_goes_on : l.stop ≤ count_at stops l.hart → BeginsSchedule stops start journal → BeginsSchedule stops start (added journal l.hart l.steps)
-  schedule_goes_on stop begins =
+  pub grown : (hart : ℕ) → counts_of m hart ≤ counts_of (laid m l) hart
+  grown hart =
+      elim (same_or_not l.hart hart) [
+        | inl same ↦
+            rw (← same)
+            (let after : counts_of (laid m l) l.hart ≡ l.present.count = ap steps_taken (get-set_here m.harts l.hart l.present l.base on.state) in
+            let first : counts_of m l.hart ≡ l.base.count = ap steps_taken on.state in
+            omega (arith, after, first, p.count))
+        | inr ne ↦
+            let kept : counts_of (laid m l) hart ≡ counts_of m hart = ap steps_taken (get-set_there m.harts l.hart l.present hart ne) in
+            omega (arith, kept)
+      ]
+
+  pub others_stay : (hart : ℕ) → l.hart ≢ hart → counts_of (laid m l) hart ≡ counts_of m hart
+  others_stay hart ne = ap steps_taken (get-set_there m.harts l.hart l.present hart ne)
+
+  pub schedule_goes_on : (edges : List Edge) → l.stop ≤ count_at stops l.hart → MayGoTo edges (counts_of m) l.hart l.stop →
+      BeginsSchedule edges stops start journal → BeginsSchedule edges stops start (added journal l.hart l.steps)
+  schedule_goes_on edges stop may begins =
       rw (harts_added journal l.hart l.steps)
-      (begins_append (count_at stops) (counts_of start) (harts_of journal) (replicate l.steps l.hart) begins
+      (begins_append edges (count_at stops) (counts_of start) (harts_of journal) (replicate l.steps l.hart) begins
       (elim p.within [
         | inl none ↦ rw none tt
-        | inr le ↦ begins_row (count_at stops) before l.hart l.steps (omega (arith, base_count, p.count, le, stop))
+        | inr le ↦
+            begins_row edges (count_at stops) before l.hart l.stop l.steps
+            (may_still_go edges (counts_of m) before l.hart l.stop may (counted l.hart) (λ other. omega (arith, counted other)))
+            (omega (arith, base_count, p.count, le)) stop
       ]))
 
-stop_of : (lent : Option OpenLease) (m : MachineState) (l : LeaseView) (bound : ℕ) → IsLentBy lent m l → ((o : OpenLease) → lent ≡ Some o → o.stop ≤ bound) →
-    l.stop ≤ bound
-stop_of None m l bound ours stopped = absurd ours
-stop_of (Some o) m l bound ours stopped = let le = stopped o refl in omega (arith, ours.0, le)
+-- what the book keeps of the stop of an open lease holds of the lease's
+of_stop : (P : ℕ → Type 0) (lent : Option OpenLease) (m : MachineState) (l : LeaseView) → IsLentBy lent m l →
+    ((o : OpenLease) → lent ≡ Some o → P o.stop) → P l.stop
+of_stop P None m l ours has = absurd ours
+of_stop P (Some o) m l ours has = subst P (sym ours.0) (has o refl)
+
+-- another hart's open lease stays
+row-set_other : (leases : List (Option OpenLease)) (i other : ℕ) (lent : OpenLease) → open_at (slice_set leases i None) other ≡ Some lent → i < length leases → i ≢ other
+row-set_other [] i other lent e lt = absurd (omega arith)
+row-set_other (x ∷ leases) zero zero lent e lt = cc
+row-set_other (x ∷ leases) zero (suc other) lent e lt = λ same. absurd (omega (arith, same))
+row-set_other (x ∷ leases) (suc i) zero lent e lt = λ same. absurd (omega (arith, same))
+row-set_other (x ∷ leases) (suc i) (suc other) lent e lt =
+    let ne = row-set_other leases i other lent e (omega arith) in λ same. ne (omega (arith, same))
+
+row_within : (leases : List (Option OpenLease)) (hart : ℕ) (m : MachineState) (l : LeaseView) → IsLentBy (open_at leases hart) m l → hart < length leases
+row_within [] hart m l ours = absurd ours
+row_within (x ∷ leases) zero m l ours = omega arith
+row_within (x ∷ leases) (suc hart) m l ours = let lt = row_within leases hart m l ours in omega (arith, lt)
 
 -- a book that has taken a lease back
-pub settled_kept : (start m : MachineState) (journal : List Stretch) (leases : List (Option OpenLease)) (stops : List ℕ) (l : LeaseView) →
-    IsBook start m journal leases stops → IsLease l → IsLentBy (open_at leases l.hart) m l →
-    IsBook start (laid m l) (added journal l.hart l.steps) (slice_set leases l.hart None) stops
-settled_kept start m journal leases stops l p lease ours =
+pub settled_kept : (start m : MachineState) (journal : List Stretch) (leases : List (Option OpenLease)) (stops : List ℕ) (edges : List Edge) (l : LeaseView) →
+    IsBook start m journal leases stops edges → IsLease l → IsLentBy (open_at leases l.hart) m l →
+    IsBook start (laid m l) (added journal l.hart l.steps) (slice_set leases l.hart None) stops edges
+settled_kept start m journal leases stops edges l p lease ours =
     let on : StandsIn m l = stands_ours (open_at leases l.hart) m l ours in
     record {
       run = settled start m journal l p.run p.pages lease.runs on;
@@ -184,8 +237,29 @@ settled_kept start m journal leases stops l p lease ours =
       known = λ hart le.
           row-set leases l.hart hart (p.known hart (omega (arith, le, length-set m.harts l.hart l.present)));
       stopped = λ hart lent e. p.stopped hart lent (row-set_some leases l.hart hart lent e);
+      unhindered = λ hart lent e.
+          may_still_go edges (counts_of m) (counts_of (laid m l)) hart lent.stop (p.unhindered hart lent (row-set_some leases l.hart hart lent e))
+          (others_stay start m journal l stops lease on p.counted hart (row-set_other leases l.hart hart lent e (row_within leases l.hart m l ours)))
+          (grown start m journal l stops lease on p.counted);
       rights = λ hart lent e. p.rights hart lent (row-set_some leases l.hart hart lent e);
-      begins = schedule_goes_on start m journal l stops lease on p.counted
-          (stop_of (open_at leases l.hart) m l (count_at stops l.hart) ours (λ o e. p.stopped l.hart o e)) p.begins;
+      begins = schedule_goes_on start m journal l stops lease on p.counted edges
+          (of_stop (λ stop. stop ≤ count_at stops l.hart) (open_at leases l.hart) m l ours (p.stopped l.hart))
+          (of_stop (MayGoTo edges (counts_of m) l.hart) (open_at leases l.hart) m l ours (p.unhindered l.hart)) p.begins;
       counted = counts_go_on start m journal l stops lease on p.counted;
     }
+
+-- a book that has ended a lease
+pub ended_kept : (start m : MachineState) (journal : List Stretch) (leases : List (Option OpenLease)) (stops : List ℕ) (edges : List Edge) (hart : ℕ) →
+    IsBook start m journal leases stops edges → IsBook start m journal (slice_set leases hart None) stops edges
+ended_kept start m journal leases stops edges hart p = record {
+  run = p.run;
+  harts = p.harts;
+  pages = p.pages;
+  rows = length-set leases hart None ∙ p.rows;
+  known = λ other le. row-set leases hart other (p.known other le);
+  stopped = λ other lent e. p.stopped other lent (row-set_some leases hart other lent e);
+  unhindered = λ other lent e. p.unhindered other lent (row-set_some leases hart other lent e);
+  rights = λ other lent e. p.rights other lent (row-set_some leases hart other lent e);
+  begins = p.begins;
+  counted = p.counted;
+}

@@ -1,5 +1,6 @@
 pub mod Given
 pub mod Journals
+pub mod Obeyed
 pub mod Laid
 pub mod Ours
 pub mod OneHart

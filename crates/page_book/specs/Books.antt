@@ -9,8 +9,8 @@ use Rattle.page_book.specs.declared.answers.BookFault.TheVariants.{Leased, Halte
 use Rattle.page_book.specs.declared.book.OpenLease.{OpenLease}
 use Rattle.page_book.specs.declared.stretch.Stretch.{Stretch}
 use Rattle.page_book.specs.Leases.{LeaseView, IsLent, laid}
-use Rattle.page_book.specs.Runs.{LeadsTo, BeginsSchedule, harts_of, counts_of}
-use Rattle.interleaving.specs.Log.{counts_after}
+use Rattle.page_book.specs.Runs.{LeadsTo, MayGoTo, BeginsSchedule, harts_of, counts_of}
+use Rattle.interleaving.specs.Log.{Edge, counts_after}
 use Rattle.ft_types.specs.Counts.{count_at}
 
 pub record BookView (M : Type 0) : Type 0 where
@@ -25,15 +25,16 @@ abbrev pub open_at : List (Option OpenLease) → ℕ → Option OpenLease
 open_at leases hart = slice_index_or leases hart None
 
 -- what every book keeps: the journal leads from the start to the machine, and leases are of harts that there are
-pub record IsBook (start machine : MachineState) (journal : List Stretch) (leases : List (Option OpenLease)) (stops : List ℕ) : Type 0 where
+pub record IsBook (start machine : MachineState) (journal : List Stretch) (leases : List (Option OpenLease)) (stops : List ℕ) (edges : List Edge) : Type 0 where
   pub run : LeadsTo start journal machine
   pub harts : length machine.harts ≡ length start.harts
   pub pages : length machine.pages ≡ length start.pages
   pub rows : length leases ≡ 8
   pub known : (hart : ℕ) → length machine.harts ≤ hart → open_at leases hart ≡ None
   pub stopped : (hart : ℕ) (lent : OpenLease) → open_at leases hart ≡ Some lent → lent.stop ≤ count_at stops hart
+  pub unhindered : (hart : ℕ) (lent : OpenLease) → open_at leases hart ≡ Some lent → MayGoTo edges (counts_of machine) hart lent.stop
   pub rights : (hart : ℕ) (lent : OpenLease) → open_at leases hart ≡ Some lent → length lent.taken ≡ 64
-  pub begins : BeginsSchedule stops start journal
+  pub begins : BeginsSchedule edges stops start journal
   pub counted : (hart : ℕ) → counts_after (counts_of start) (harts_of journal) hart ≡ counts_of machine hart
 
 abbrev pub IsLentBy : Option OpenLease → MachineState → LeaseView → Type 0
@@ -78,10 +79,10 @@ abbrev pub taken_with : Option OpenLease → ℕ → Want → Option OpenLease
 taken_with None page want = None
 taken_with (Some lent) page want = Some (record lent { taken = slice_set lent.taken page (with_right (slice_index_or lent.taken page None) want) })
 
--- why a hart is not lent, in this order: it has an open lease, it is halted, or it is at its stop
+-- why a hart is not lent, whatever its edges, in this order: it has an open lease, it is halted, or it is at its limit
 abbrev pub refusal : Option OpenLease → Hart → ℕ → Option BookFault
-refusal (Some lent) h stop = Some Leased
-refusal None h stop = if h.halted then Some Halted else (if nat_le stop h.count then Some AtLimit else None)
+refusal (Some lent) h limit = Some Leased
+refusal None h limit = if h.halted then Some Halted else (if nat_le limit h.count then Some AtLimit else None)
 
 -- a lease of no page
 abbrev pub nothing_taken : ℕ → OpenLease

@@ -1,8 +1,8 @@
 -- Journals as runs of a machine.
-use Rattle.std.specs.Prelude.{◌≡◌, ◌<◌, ◌≤◌, ◌⊎◌, ◌+◌, ◌^◌, ℕ, List, [], ◌∷◌, ◌++◌, length, replicate, slice_get, Option, None, Some}
+use Rattle.std.specs.Prelude.{◌≡◌, ◌<◌, ◌≤◌, ◌⊎◌, ◌+◌, ◌^◌, ℕ, List, [], ◌∷◌, ◌++◌, length, replicate, slice_get, Option, None, Some, Contains}
 use Rattle.interleaving.specs.Machine.{Turn}
 use Rattle.interleaving.specs.Stored.{run_from}
-use Rattle.interleaving.specs.Log.{Begins}
+use Rattle.interleaving.specs.Log.{Edge, IsMet, Begins}
 use Rattle.ft_types.specs.Counts.{count_at}
 use Rattle.input_log.specs.declared.Input.{Input}
 use Rattle.rv32_hart.specs.Hart.{Hart}
@@ -67,6 +67,18 @@ steps_taken (Some h) = h.count
 abbrev pub counts_of : MachineState → ℕ → ℕ
 counts_of m hart = steps_taken (slice_get m.harts hart)
 
--- the journal is the beginning of a schedule that takes each hart from the start to its stop, with no edges in its way
-abbrev pub BeginsSchedule : List ℕ → MachineState → List Stretch → Type 0
-BeginsSchedule stops start journal = Begins [] (count_at stops) (counts_of start) (harts_of journal)
+-- The first count above the hart's at which it has an edge; its limit, where that comes no later.
+pub record IsStop (edges : List Edge) (limit hart count stop : ℕ) : Type 0 where
+  pub above : count < stop
+  pub within : stop ≤ limit
+  pub first : (e : Edge) → Contains edges e → e.hart ≡ hart → count < e.step → stop ≤ e.step
+  pub reason : (stop ≡ limit) ⊎ ((e : Edge) × Contains edges e × (e.hart ≡ hart) × (e.step ≡ stop))
+
+-- the hart may go on from these counts up to its stop: the edges of its next step are met, and no later step below the stop has any
+pub record MayGoTo (edges : List Edge) (now : ℕ → ℕ) (hart stop : ℕ) : Type 0 where
+  pub met : IsMet edges now hart
+  pub first : (e : Edge) → Contains edges e → e.hart ≡ hart → now hart < e.step → stop ≤ e.step
+
+-- the journal is the beginning of a schedule of these edges that takes each hart from the start to its stop
+abbrev pub BeginsSchedule : List Edge → List ℕ → MachineState → List Stretch → Type 0
+BeginsSchedule edges stops start journal = Begins edges (count_at stops) (counts_of start) (harts_of journal)

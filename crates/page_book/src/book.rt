@@ -6,7 +6,8 @@ ghost use Rattle.ft_types.specs.Counts.{count_at};
 ghost use Rattle.ft_types.specs.Sets.{IsMember};
 ghost use Rattle.page_book.specs.Slots.{slot_at, want_of};
 ghost use Rattle.page_book.specs.Leases.{LeaseView, fresh, IsFull, base_at, laid, laid_pages, with_slot, with_page};
-ghost use Rattle.page_book.specs.Runs.{LeadsTo, IsLease, BeginsSchedule, counts_of};
+ghost use Rattle.interleaving.specs.Log.{IsMet, HasUnmet};
+ghost use Rattle.page_book.specs.Runs.{LeadsTo, IsLease, IsStop, MayGoTo, BeginsSchedule, counts_of};
 ghost use Rattle.page_book.specs.Books.{BookView, IsOurs, added, right_of, stands_against, open_at, IsLentBy, IsHolder, IsFree, with_right, taken_with, refusal, nothing_taken};
 ghost use Rattle.page_book.specs.Answers.{IfHeldBy, OnHeldBy, OnGiven};
 ghost use Rattle.rv32_hart.specs.Hart.{Hart as HartRecord};
@@ -45,7 +46,7 @@ impl<M: Mode> Model for Book<M> {
 
     ghost view = { λ b. record { start = b.start; machine = b.machine; journal = b.journal.items; leases = b.leases; mode = b.mode } };
 
-    ghost invariant = { λ b. IsBook b.start b.machine b.journal.items b.leases (M.stops b.mode) };
+    ghost invariant = { λ b. IsBook b.start b.machine b.journal.items b.leases (M.stops b.mode) (M.obeyed b.mode) };
 }
 
 impl Book<Replaying> {
@@ -187,7 +188,7 @@ impl<M: Mode> Book<M> {
     pub fn machine(&self) -> &Machine
         ensures value { result.now ≡ self.now.machine }
         ensures run { LeadsTo self.now.start self.now.journal self.now.machine }
-        ensures begins { BeginsSchedule (M.stops self.now.mode) self.now.start self.now.journal }
+        ensures begins { BeginsSchedule (M.obeyed self.now.mode) (M.stops self.now.mode) self.now.start self.now.journal }
     {
         &self.machine
     }
@@ -212,18 +213,23 @@ impl<M: Mode> Book<M> {
         counts
     }
 
-    /// Lends a hart, unless it has an open lease, is halted, or is at its stop.
+    /// Lends a hart, unless it has an open lease, is halted, is at its limit, or has to wait for another.
     pub fn lease(&mut self, alloc: Global, hart: Hart) -> Result<Lease, BookFault>
         requires { hart < length self.old.machine.harts }
-        ensures lent { IfOk result (λ l. (h : HartRecord) → slice_get self.old.machine.harts hart ≡ Some h →
-            (l ≡ fresh hart h (length self.old.machine.pages) (count_at (M.stops self.old.mode) hart))
-            × (refusal (open_at self.old.leases hart) h (count_at (M.stops self.old.mode) hart) ≡ None)) }
-        ensures ours { IfOk result (λ l. IsOurs self.new l) }
-        ensures kept_open { OnOk result (self.new ≡ record self.old { leases = slice_set self.old.leases hart (Some (nothing_taken (count_at (M.stops self.old.mode) hart))) }) }
-        ensures refused { IfErr result (λ f. f ≢ BookFault.Memory → (h : HartRecord) → slice_get self.old.machine.harts hart ≡ Some h →
-            refusal (open_at self.old.leases hart) h (count_at (M.stops self.old.mode) hart) ≡ Some f) }
-        ensures memory { IfErr result (λ f. f ≡ BookFault.Memory → (h : HartRecord) → slice_get self.old.machine.harts hart ≡ Some h →
+        ensures lent { IfOk result (λ l. (h : HartRecord) → slice_get self.old.machine.harts hart ≡ Some h → l ≡ fresh hart h (length self.old.machine.pages) l.stop) }
+        ensures stop { IfOk result (λ l. IsStop (M.obeyed self.old.mode) (count_at (M.stops self.old.mode) hart) hart (counts_of self.old.machine hart) l.stop) }
+        ensures unrefused { OnOk result ((h : HartRecord) → slice_get self.old.machine.harts hart ≡ Some h →
             refusal (open_at self.old.leases hart) h (count_at (M.stops self.old.mode) hart) ≡ None) }
+        ensures met { OnOk result (IsMet (M.obeyed self.old.mode) (counts_of self.old.machine) hart) }
+        ensures ours { IfOk result (λ l. IsOurs self.new l) }
+        ensures kept_open { IfOk result (λ l. self.new ≡ record self.old { leases = slice_set self.old.leases hart (Some (nothing_taken l.stop)) }) }
+        ensures refused { IfErr result (λ f. f ≢ BookFault.EdgeOpen → f ≢ BookFault.Memory → (h : HartRecord) → slice_get self.old.machine.harts hart ≡ Some h →
+            refusal (open_at self.old.leases hart) h (count_at (M.stops self.old.mode) hart) ≡ Some f) }
+        // Only then is an edge asked for, and only where each is met, memory.
+        ensures later { IfErr result (λ f. (f ≡ BookFault.EdgeOpen) ⊎ (f ≡ BookFault.Memory) → (h : HartRecord) → slice_get self.old.machine.harts hart ≡ Some h →
+            refusal (open_at self.old.leases hart) h (count_at (M.stops self.old.mode) hart) ≡ None) }
+        ensures edge_open { result ≡ Err BookFault.EdgeOpen → HasUnmet (M.obeyed self.old.mode) (counts_of self.old.machine) hart }
+        ensures memory { result ≡ Err BookFault.Memory → IsMet (M.obeyed self.old.mode) (counts_of self.old.machine) hart }
         ensures err { OnErr result (self.new ≡ self.old) }
     {
         if self.leases[hart.index()].is_some() {
@@ -233,10 +239,13 @@ impl<M: Mode> Book<M> {
         if state.is_halted() {
             return Err(BookFault::Halted);
         }
-        let stop = self.mode.stop(hart);
-        if state.count() >= stop {
+        if state.count() >= self.mode.limit(hart) {
             return Err(BookFault::AtLimit);
         }
+        if self.mode.is_open(hart, &self.machine) {
+            return Err(BookFault::EdgeOpen);
+        }
+        let stop = self.mode.stop(hart, state.count());
         let lease = Lease::fresh(alloc, hart, state, self.machine.pages(), stop)?;
         self.note_lent(hart, stop);
         Ok(lease)
@@ -246,6 +255,7 @@ impl<M: Mode> Book<M> {
     fn note_lent(&mut self, hart: Hart, stop: Count)
         requires hart { hart < length self.old.machine.harts }
         requires stop { stop ≤ count_at (M.stops self.old.mode) hart }
+        requires unhindered { MayGoTo (M.obeyed self.old.mode) (counts_of self.old.machine) hart stop }
         ensures { self.new ≡ record self.old { leases = slice_set self.old.leases hart (Some (nothing_taken stop)) } }
     {
         self.leases[hart.index()] = Some(OpenLease {

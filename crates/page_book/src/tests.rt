@@ -1,6 +1,7 @@
 //! Books over machines that run.
 
 use super::*;
+use edge_log::{Edge, EdgeLog};
 use ft_types::{Counts, Hart, NumberSet, PageNo, Want};
 use guest_image::{Machine, read_image};
 use rv32_hart::Tick;
@@ -11,6 +12,9 @@ use std::test::Fail;
 static STORES_AND_HALTS: &[u8] =
     b"harts 1\npages 1\n800000b7\n02a00113\n0420a023\n0400a183\nf0000237\n00022a23\n";
 
+/// lui x1, 80001; sw x1, 0(x1); lui x4, f0000; sw x0, 20(x4), which halts: each hart stores into the second page.
+static BOTH_STORE: &[u8] = b"harts 2\npages 2\n800010b7\n0010a023\nf0000237\n00022a23\n";
+
 /// Two harts that jump to where they are.
 static TWO_LOOPS: &[u8] = b"harts 2\npages 1\n0000006f\n";
 
@@ -20,9 +24,26 @@ fn machine_of(alloc: Global, image: &[u8]) -> Result<Machine, Fail> {
 }
 
 fn book_to(alloc: Global, image: &[u8], ends: &[u64]) -> Result<Book<Replaying>, Fail> {
+    book_with(alloc, image, ends, &[])
+}
+
+/// A book that obeys these edges.
+fn book_with(
+    alloc: Global,
+    image: &[u8],
+    ends: &[u64],
+    all: &[Edge],
+) -> Result<Book<Replaying>, Fail> {
     let ends = Counts::from_slice(ends).ok_or("ends")?;
+    let mut edges = EdgeLog::new(alloc, Counts::zero(ends.harts()));
+    for edge in all {
+        if !edges.may_add(edge) {
+            return Err("edge".into());
+        }
+        let _added = edges.add(*edge).map_err(|_| "memory")?;
+    }
     let start = machine_of(alloc, image)?;
-    Ok(Book::<Replaying>::begin(alloc, start, Leg { ends }).map_err(|_| "memory")?)
+    Ok(Book::<Replaying>::begin(alloc, start, Leg { ends, edges }).map_err(|_| "memory")?)
 }
 
 /// Takes steps until the lease is full, and says how many pages it asked for.
@@ -121,6 +142,48 @@ fn a_hart_is_lent_once_and_to_its_end(rt: HostRuntime) -> Result<(), Fail> {
         refusal_of(&mut book, rt.alloc(), Hart::new(0)),
         Some(BookFault::AtLimit)
     );
+    Ok(())
+}
+
+/// Lends the hart, fills the lease and settles it. Says how many steps it has, or why the hart is not lent.
+fn go_on(book: &mut Book<Replaying>, alloc: Global, hart: Hart) -> Result<u64, BookFault> {
+    if hart.number() >= book.machine().harts() {
+        return Err(BookFault::Foreign);
+    }
+    let mut lease = book.lease(alloc, hart)?;
+    let _asked = fill(book, &mut lease);
+    let steps = lease.steps();
+    match book.settle(lease) {
+        Ok(()) => Ok(steps),
+        Err((lease, fault)) => {
+            let _gone = book.discard(lease);
+            Err(fault)
+        }
+    }
+}
+
+#[test]
+fn a_hart_waits_where_an_edge_is_open(rt: HostRuntime) -> Result<(), Fail> {
+    let (first, second) = (Hart::new(0), Hart::new(1));
+    let edge = Edge {
+        hart: second,
+        at: 1,
+        other: first,
+        after: 4,
+    };
+    let mut book = book_with(rt.alloc(), BOTH_STORE, &[4, 4], &[edge])?;
+    assert_eq!(rt; go_on(&mut book, rt.alloc(), second), Ok(1));
+    assert_eq!(rt;
+        go_on(&mut book, rt.alloc(), second),
+        Err(BookFault::EdgeOpen)
+    );
+    assert_eq!(rt; go_on(&mut book, rt.alloc(), first), Ok(4));
+    assert_eq!(rt; go_on(&mut book, rt.alloc(), second), Ok(3));
+    assert_eq!(rt;
+        go_on(&mut book, rt.alloc(), second),
+        Err(BookFault::Halted)
+    );
+    assert_eq!(rt; book.counts().as_slice(), [4, 4].as_slice());
     Ok(())
 }
 

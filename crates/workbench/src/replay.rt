@@ -3,6 +3,7 @@
 ghost use Rattle.std.specs.Prelude.{◌≡◌, ◌<◌, ◌^◌};
 
 use crate::faults::ReplayFault;
+use edge_log::EdgeLog;
 use ft_types::{Count, Counts, Hart, Memory};
 use guest_image::{Image, Machine};
 use page_book::{Book, BookFault, Lease, Leg, Replaying};
@@ -61,7 +62,8 @@ pub fn replay_to(alloc: Global, image: &Image, end: Count) -> Result<Book<Replay
     let start = Machine::boot(alloc, image)?;
     let mut ends = Counts::zero(1);
     ends.set(hart, end);
-    let mut book = Book::<Replaying>::begin(alloc, start, Leg { ends })?;
+    let edges = EdgeLog::new(alloc, Counts::zero(1));
+    let mut book = Book::<Replaying>::begin(alloc, start, Leg { ends, edges })?;
     for _lease in 0..u64::MAX {
         if book.machine().harts() == 0 {
             break;

@@ -1,4 +1,4 @@
-use Rattle.std.proofs.Common.{◌≡◌, ◌∙◌, sym, ap, arith}
+use Rattle.std.proofs.Common.{◌∙◌, sym}
 use Rattle.page_book.proofs.Places.{place_of}
 use Rattle.page_book.proofs.book.take_back.Goals as goal
 

@@ -1,4 +1,4 @@
-use Rattle.std.proofs.Common.{rules, ◌≡◌, ◌<◌, ◌≤◌, length, arith, sym, ◌∙◌}
+use Rattle.std.proofs.Common.{rules}
 use Rattle.page_book.proofs.Ours.{need_ours}
 use Rattle.page_book.proofs.book.Book.need.Goals as goal
 

@@ -1,4 +1,4 @@
-use Rattle.std.proofs.Common.{◌≡◌, sym, ◌∙◌, subst}
+use Rattle.std.proofs.Common.{sym, subst}
 use Rattle.page_book.proofs.Ticks.{tick_kept, below_stop}
 use Rattle.page_book.specs.Leases.{LeaseView, IsFull, IsLent}
 use Rattle.page_book.proofs.Ticked.{still_lent}
