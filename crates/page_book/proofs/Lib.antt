@@ -1,8 +1,10 @@
 pub mod Given
+pub mod Halted
 pub mod Journals
+pub mod Lacking
 pub mod Laid
-pub mod Ours
 pub mod OneHart
+pub mod Ours
 pub mod Places
 pub mod Runs
 pub mod Shown

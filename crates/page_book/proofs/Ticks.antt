@@ -21,7 +21,7 @@ length-written_in : (pages : List (List ℕ)) (write : Option (Write (List ℕ))
 length-written_in pages None = refl
 length-written_in pages (Some w) = length-set pages w.page w.contents
 
-length_shown : (slots : List Slot) → length (ram_of slots).contents ≡ length slots
+pub length_shown : (slots : List Slot) → length (ram_of slots).contents ≡ length slots
 length_shown slots = length-map present_bytes slots
 
 -- a lease after a step is a lease

@@ -4,3 +4,4 @@ pub mod Leases
 pub mod Runs
 pub mod Books
 pub mod Answers
+pub mod Laws

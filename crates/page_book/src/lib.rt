@@ -3,6 +3,7 @@
 
 mod answers;
 mod book;
+mod laws;
 mod lease;
 mod lease_pages;
 mod mode;
@@ -10,6 +11,7 @@ mod stretch;
 
 pub use answers::{BookFault, Keep, Need};
 pub use book::Book;
+pub use laws::{one_hart, steps_of_leases};
 pub use lease::Lease;
 pub use lease_pages::{LeasePages, Slot};
 pub use mode::{Leg, Mode, Replaying};
