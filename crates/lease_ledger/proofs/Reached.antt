@@ -22,8 +22,8 @@ use Rattle.edge_log.specs.declared.Edge as declared
 use Rattle.crew_pages.specs.Rights.{Right, Shared, Exclusive, stands, is_against, holds, give_up}
 use Rattle.lease_ledger.specs.Ledger.{Ledger}
 use Rattle.lease_ledger.specs.Calls.{has_taken, All, settled, GivenUp, NotYet, Then, Reached, Begun, Opened, Needed, Settled, Dropped}
-use Rattle.lease_ledger.specs.Laws.{InOrder, IsOf, log_of, IsInLog, HasItsOrder, KeepsLedger, HasHonestLog, AddsItsSteps, LaysItsRun, KeepsOrder, MayAddNext, HeldByTakers, RunsInLists}
-use Rattle.lease_ledger.proofs.Stays.{held_before, stands_holds}
+use Rattle.lease_ledger.specs.Laws.{InOrder, IsOf, log_of, IsInLog, HasItsOrder, KeepsLedger, HasHonestLog, AddsItsSteps, LaysItsRun, KeepsOrder, MayAddNext, KeepsRights, LeavesTheWay, HeldByTakers, RunsInLists}
+use Rattle.lease_ledger.proofs.Stays.{gone, held_before, stands_holds}
 use Rattle.lease_ledger.proofs.Invariant.{none_in, Ok}
 use Rattle.lease_ledger.proofs.Opening.{begun_ok, opened_ok}
 use Rattle.lease_ledger.proofs.Needing.{needed_ok}
@@ -167,6 +167,16 @@ lays_its_run system b l keep lease ours =
 pub keeps_order : {Hart Page Input : Type 0} (system : System Hart Page Input) → KeepsOrder system
 keeps_order system crew start b few reached = its_order system crew few start b reached
 
+pub keeps_rights : {Hart Page Input : Type 0} (system : System Hart Page Input) → KeepsRights system
+keeps_rights system crew start b few reached =
+    let ok = reached_ok system crew few start b reached in
+    record {
+      harts = λ page. (ok.page page).holders;
+      leased = λ h s is. (ok.stub h s is).is_hart;
+      held = λ h s page k is. (ok.stub h s is).held page k;
+      owned = λ h s page k is writes. (((ok.stub h s is).owned page k writes).0, (ok.stub h s is).both page k writes);
+    }
+
 -- the settled ledger has the edges of both in their order
 pub may_add_next : {Hart Page Input : Type 0} (system : System Hart Page Input) → MayAddNext system
 may_add_next system crew start b l before after next log few reached lease ours is adding =
@@ -197,6 +207,12 @@ may_add_next system crew start b l before after next log few reached lease ours 
         pair_at InOrder (b.edges ++ before) (edge_as next) after (edge_as x) (subst (EachPair InOrder) edges_are order.in_order)
         (adding.among (edge_as x) (in_log log.rows next.hart x i))
         (All-contains (IsOfHart log.start next.hart) (row_of log next.hart) x (adding.is_log.own next.hart) i).own
+
+pub leaves_the_way : LeavesTheWay
+leaves_the_way r h want leaver c other held against = (
+  (λ same. gone r leaver c held (subst (λ g. holds (give_up r leaver c) g ≡ true) (sym same) (stands_holds (give_up r leaver c) h want other against))),
+  stood_against r h want leaver c other against,
+)
 
 pub held_by_takers : {Hart Page Input : Type 0} (system : System Hart Page Input) → HeldByTakers system
 held_by_takers {Hart} {Page} {Input} system b hart page want right other yielded =

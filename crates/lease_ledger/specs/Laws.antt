@@ -10,13 +10,19 @@ use Rattle.interleaving.specs.Recorder.{input_at}
 use Rattle.interleaving.specs.Stored.{Store, Hardware, run_from, system_of, view}
 use Rattle.edge_log.specs.EdgeLog.{Edges, IsLog, edges_of, edge_as, MayAdd}
 use Rattle.edge_log.specs.declared.Edge as declared
-use Rattle.crew_pages.specs.Rights.{Right, stands}
+use Rattle.crew_pages.specs.Rights.{Right, holds, owns, stands, give_up}
 use Rattle.lease_ledger.specs.Ledger.{Stub, Lease, Ledger, fresh_stub, taking, lent, stepped, present, IsLease, IsOurs}
 use Rattle.lease_ledger.specs.Calls.{has_taken, Answer, HeldBy, Given, Keep, IsYielded, opened, needed, settled, dropped, Reached}
 
 -- the edges of one hart come in the order of its steps
 abbrev pub InOrder : Edge → Edge → Type 0
 InOrder e f = e.hart ≡ f.hart → e.step ≤ f.step
+
+-- a hart that gives a right up is in nobody's way, and puts no other there
+abbrev pub LeavesTheWay : Type 0
+LeavesTheWay =
+    (right : Right) (hart : ℕ) (want : Want) (leaver count other : ℕ) → holds right leaver ≡ true →
+    stands (give_up right leaver count) hart want other ≡ true → (leaver ≢ other) × (stands right hart want other ≡ true)
 
 module _ {Hart Page Input : Type 0} (system : System Hart Page Input) where
   -- Honesty.
@@ -112,7 +118,21 @@ module _ {Hart Page Input : Type 0} (system : System Hart Page Input) where
       (next : declared.Edge) (log : Edges) → crew ≤ 8 → Reached system crew start b → IsLease system l → IsOurs b l →
       l.stub.edges ≡ before ++ edge_as next ∷ after → IsAdding crew start b before log → MayAdd log next
 
-  -- Who is named.
+  -- Who holds what.
+
+  -- only harts that there are hold rights and have open leases, and each has the rights to what its open lease took
+  pub record HasItsRights (crew : ℕ) (b : Ledger Hart Page Input) : Type 0 where
+    pub harts : (page hart : ℕ) → holds (b.rights page) hart ≡ true → hart < crew
+    pub leased : (hart : ℕ) (s : Stub) → b.stubs hart ≡ Some s → hart < crew
+    pub held : (hart : ℕ) (s : Stub) (page k : ℕ) → b.stubs hart ≡ Some s → s.read_at page ≡ Some k →
+        (holds (b.rights page) hart ≡ true) × (counts system b.machine hart ≤ k)
+    pub owned : (hart : ℕ) (s : Stub) (page k : ℕ) → b.stubs hart ≡ Some s → s.write_at page ≡ Some k →
+        (owns (b.rights page) hart ≡ true) × (is_some (s.read_at page) ≡ true)
+
+  abbrev pub KeepsRights : Type 0
+  KeepsRights =
+      (crew : ℕ) (start : Machine Hart Page) (b : Ledger Hart Page Input) → crew ≤ 8 → Reached system crew start b → HasItsRights crew b
+
 
   -- those in the way of an asker are the harts that stood against it and whose open leases have taken the page
   abbrev pub HeldByTakers : Type 0
