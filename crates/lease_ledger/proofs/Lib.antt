@@ -10,4 +10,5 @@ mod Settling
 mod Dropping
 mod Reached
 mod GoesOn
+mod Played
 mod AtWork
