@@ -11,4 +11,5 @@ mod Dropping
 mod Reached
 mod GoesOn
 mod Played
+pub mod Laws
 mod AtWork

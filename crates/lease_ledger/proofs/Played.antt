@@ -8,9 +8,10 @@ use Rattle.interleaving.proofs.Put.{put_same, put_other}
 use Rattle.crew_pages.specs.Rights.{Right}
 use Rattle.lease_ledger.specs.Ledger.{Stub, Lease, Ledger, fresh_stub, taking, present, IsLease, IsOurs}
 use Rattle.lease_ledger.specs.Calls.{IsHeard, Answer, HeldBy, Given, Keep, IsYielded, IsAnswered, opened, needed, settled, dropped, Reached, Begun, Opened, Needed, Settled, Dropped}
-use Rattle.lease_ledger.specs.Laws.{MayTick, GoesOn, Played, Begins, Opens, Ticks, Asks, Settles, Drops, IsOut, NoneIsForeign, lease_opened, lease_needed, lease_ticked}
+use Rattle.lease_ledger.specs.Laws.{MayTick, GoesOn, Played, Begins, Opens, Ticks, Asks, Settles, Drops, IsOut, lease_opened, lease_needed, lease_ticked}
 use Rattle.lease_ledger.proofs.Invariant.{at_put, some_put}
-use Rattle.lease_ledger.proofs.GoesOn.{leases_go_on}
+use Rattle.lease_ledger.proofs.Reached.{reached_ok}
+use Rattle.lease_ledger.proofs.GoesOn.{goes_on}
 
 module _ {Hart Page Input : Type 0} (system : System Hart Page Input) (crew : ℕ) (few : crew ≤ 8) (start : Machine Hart Page) where
   -- the ledger is reached, its open leases are those that are out, and each is the ledger's
@@ -20,7 +21,7 @@ module _ {Hart Page Input : Type 0} (system : System Hart Page Input) (crew : �
     out_is : (hart : ℕ) (l : Lease Hart Page Input) → out hart ≡ Some l → IsOut system b hart l
 
   its : (b : Ledger Hart Page Input) (out : ℕ → Option (Lease Hart Page Input)) → Goes b out → GoesOn system b
-  its b out goes = leases_go_on system crew start b few goes.reached
+  its b out goes = goes_on system crew start b (reached_ok system crew few start b goes.reached)
 
   -- a lease goes out, or comes back, together with its stub
   both_put : (stubs : ℕ → Option Stub) (out : ℕ → Option (Lease Hart Page Input)) (h : ℕ) (o : Option Stub) (q : Option (Lease Hart Page Input)) →
@@ -137,6 +138,6 @@ module _ {Hart Page Input : Type 0} (system : System Hart Page Input) (crew : �
   goes _ _ (Settles {b = b} {out = out} l keep before is) = settles_on b out (goes b out before) l keep is
   goes _ _ (Drops {b = b} {out = out} l before is) = drops_on b out (goes b out before) l is
 
-pub none_is_foreign : {Hart Page Input : Type 0} (system : System Hart Page Input) → NoneIsForeign system
-none_is_foreign system crew start b out few played =
-    let g = goes system crew few start b out played in (g.reached, g.out_is)
+  pub played_on : (b : Ledger Hart Page Input) (out : ℕ → Option (Lease Hart Page Input)) → Played system crew start b out →
+      Reached system crew start b × ((hart : ℕ) (l : Lease Hart Page Input) → out hart ≡ Some l → IsOut system b hart l)
+  played_on b out played = let g = goes b out played in (g.reached, g.out_is)

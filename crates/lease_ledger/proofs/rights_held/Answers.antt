@@ -1,4 +1,4 @@
-use Rattle.lease_ledger.proofs.Reached.{keeps_rights, held_by_takers, leaves_the_way}
+use Rattle.lease_ledger.proofs.Laws.{keeps_rights, held_by_takers, leaves_the_way}
 use Rattle.lease_ledger.proofs.rights_held.Goals as goal
 
 pub returns-clause-rights : goal.returns-clause-rights
