@@ -1,0 +1,15 @@
+mod Runs
+mod Stays
+mod Used
+mod Invariant
+mod Noted
+mod Opening
+mod Needing
+mod Alike
+mod Settling
+mod Dropping
+mod Reached
+mod GoesOn
+mod Played
+pub mod Laws
+mod AtWork

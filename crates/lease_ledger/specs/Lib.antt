@@ -1,0 +1,4 @@
+pub mod Ledger
+pub mod Calls
+pub mod Laws
+pub mod Examples
