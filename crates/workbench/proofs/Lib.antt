@@ -7,3 +7,4 @@ pub mod Replayed
 pub mod Filling
 pub mod Going
 pub mod Lifted
+pub mod FirstFault

@@ -93,6 +93,12 @@ first_is_cause image stream Memory h = tt
 first_is_cause image stream (Replay r) h = absurd h
 first_is_cause image stream Write h = absurd h
 
+pub refused_first : (image : ImageContents) (guest : GuestName) (old new : Option (List ℕ)) (f : StreamsFault) → Lasts → guest ≡ guest_of image → Refused 0 guest old new f →
+    OfStream old (λ stream. IsFirstFault 0 (guest_of image) stream f)
+refused_first image guest old new f lasts is h =
+    of_begun (λ stream. IsFirstFault 0 (guest_of image) stream f) old new h.read h.consumed
+    (λ more. first_longer 0 (guest_of image) h.read more f lasts (subst (λ (g : GuestName). IsFirstFault 0 g h.read f) is h.fault))
+
 pub refused_cause : (image : ImageContents) (guest : GuestName) (old new : Option (List ℕ)) (f : StreamsFault) → Lasts → guest ≡ guest_of image → Refused 0 guest old new f →
     OfStream old (λ stream. IsCause image stream f)
 refused_cause image guest old new f lasts is h =

@@ -68,6 +68,19 @@ abbrev pub OfStream : Option (List ℕ) → (List ℕ → Type 0) → Type 0
 OfStream None P = (stream : List ℕ) × P stream
 OfStream (Some stream) P = P stream
 
+-- a fault that stands in a stream's bytes
+abbrev pub StandsInBytes : StreamsFault → Type 0
+StandsInBytes (Frame i fault) = Unit {0}
+StandsInBytes (Guest i) = Unit {0}
+StandsInBytes _ = ⊥
+
+-- this fault is the answer, unless the reader or memory failed before
+abbrev pub AnswersOnly : {A : Type 0} → Result A StreamsFault → StreamsFault → Type 0
+AnswersOnly (Ok x) f = ⊥
+AnswersOnly (Err (Read i)) f = Unit {0}
+AnswersOnly (Err Memory) f = Unit {0}
+AnswersOnly (Err e) f = e ≡ f
+
 -- a fault once the end is known: a private word
 abbrev pub IsReplayCause : ImageContents → ℕ → StreamsFault → Type 0
 IsReplayCause image end (Replay fault) = HaltsBelow image end fault

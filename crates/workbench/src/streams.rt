@@ -6,9 +6,11 @@ ghost use Rattle.ft_types.specs.declared.guest.Guest.{Guest as GuestName};
 ghost use Rattle.fragment_codec.specs.declared.frame.Frame.{Frame as LogFrame};
 ghost use Rattle.fragment_codec.specs.Streams.{IsFrame, Follows};
 ghost use Rattle.workbench.specs.Streams.{IsPlain, guest_of, records_of};
-ghost use Rattle.workbench.specs.Outcome.{machine_after, IsOutcome, WritesTextOf, IsCause, OfStream, IsReplayCause};
+ghost use Rattle.workbench.specs.Outcome.{machine_after, IsOutcome, WritesTextOf, IsCause, OfStream, IsReplayCause, StandsInBytes, AnswersOnly};
+ghost use Rattle.guest_image.specs.Image.{guest_of as guest_of_image};
+ghost use Rattle.workbench.specs.declared.faults.StreamsFault.{StreamsFault as StreamsFaultName};
 ghost use Rattle.workbench.specs.Pieces.{Holds};
-ghost use Rattle.workbench.specs.Faults.{IsFaultOf, IsFaultAmong, fault_in, IsPushFault, Told, Refused, Fails};
+ghost use Rattle.workbench.specs.Faults.{IsFirstFault, IsFaultOf, IsFaultAmong, fault_in, IsPushFault, Told, Refused, Fails};
 
 use crate::faults::{ReplayFault, StreamsFault};
 use crate::pieces::Pieces;
@@ -195,6 +197,10 @@ pub fn replay_streams<R: Source, W: Sink>(
 
     // A fault is the first one of the stream, or where the run halts below the count that its frames reach.
     ensures fault { IfErr result (λ f. (reader : R) → slice_get readers.old 0 ≡ Some reader → OfStream (R.left reader) (λ stream. IsCause image.now stream f)) }
+
+    // Where a stream has a fault in its bytes, the first one is the answer, unless the reader or memory failed before.
+    ensures exact { (reader : R) (stream : List ℕ) (f : StreamsFaultName) → slice_get readers.old 0 ≡ Some reader → R.left reader ≡ Some stream → StandsInBytes f →
+        IsFirstFault 0 (guest_of_image image.now) stream f → AnswersOnly result f }
 
     // The reader failed in this call exactly where the fault says so.
     ensures failed { IfErr result (λ f. (reader later : R) → slice_get readers.old 0 ≡ Some reader → slice_get readers.new 0 ≡ Some later → Fails 0 (R.failures reader) (R.failures later) f) }
