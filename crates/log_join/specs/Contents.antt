@@ -1,0 +1,113 @@
+-- What the maps of a store hold, and how it is seen: private words.
+use Rattle.std.specs.Prelude.{◌≡◌, ℕ, Bool, true, false, List, map, Option, Some, None, if◌then◌else◌}
+use Rattle.std.specs.List.{list_any}
+use Rattle.std.specs.Ordering.{nat_cmp, eq_by_cmp}
+use Rattle.std.specs.declared.cmp.Ordering.{Ordering}
+use Rattle.std.specs.BTreeMap.{BTreeMap, get}
+use Rattle.std.specs.FinMap as finite
+use Rattle.ft_types.specs.declared.guest.Guest.{Guest}
+use Rattle.fragment_codec.specs.declared.types.Key.{Key}
+use Rattle.fragment_codec.specs.declared.frame.Frame.{Frame}
+use Rattle.fragment_codec.specs.declared.frame.Frame.TheVariants.{Log, Opening}
+use Rattle.fragment_codec.specs.Rules.{FragmentParts, OpeningParts}
+use Rattle.log_join.specs.declared.answers.Put.{Put}
+use Rattle.log_join.specs.declared.answers.Put.TheVariants.{New, Same, Clash as Clashes}
+use Rattle.log_join.specs.declared.content.Content.{Content}
+use Rattle.log_join.specs.declared.content.Content.TheVariants.{One, Clash}
+use Rattle.log_join.specs.declared.place.Place.{Place}
+use Rattle.log_join.specs.Tests.{same_opening, same_fragment}
+use Rattle.log_join.specs.Stores.{StoreView, key_cmp, IsOpeningOf, IsFragmentOf}
+
+abbrev pub same_frame : Frame → Frame → Bool
+same_frame (Log a) (Log b) = same_fragment a b
+same_frame (Opening a) (Opening b) = same_opening a b
+same_frame a b = false
+
+-- the content is this frame alone
+abbrev pub holds : Content → Frame → Bool
+holds (One x) y = same_frame x y
+holds Clash y = false
+
+abbrev pub clashes : Content → Bool
+clashes (One x) = false
+clashes Clash = true
+
+-- ---- joins
+
+-- two contents of one key, joined
+abbrev pub joined : Content → Content → Content
+joined (One x) (One y) = if same_frame x y then One x else Clash
+joined a b = Clash
+
+-- what is here, joined with what is there where both are there
+abbrev pub marked : Option Content → Option Content → Option Content
+marked None b = None
+marked (Some a) None = Some a
+marked (Some a) (Some b) = Some (joined a b)
+
+-- some keys copied from there to here
+abbrev pub copied : Bool → Option Content → Option Content → Option Content
+copied false here there = here
+copied true here None = here
+copied true here (Some b) = Some b
+
+-- what becomes of a content when a frame comes
+abbrev pub taken : Option Content → Frame → Content
+taken None frame = One frame
+taken (Some a) frame = joined a (One frame)
+
+-- the answer to a frame
+abbrev pub put_answer : Option Content → Frame → Put
+put_answer None frame = New
+put_answer (Some a) frame = if holds a frame then Same else Clashes
+
+-- the key is one of these
+abbrev pub is_among : {K : Type 0} → (K → K → Ordering) → List K → K → Bool
+is_among cmp keys q = list_any (λ k. eq_by_cmp cmp k q) keys
+
+-- ---- the view
+
+abbrev pub opening_content : Content → Option OpeningParts
+opening_content (One (Opening o)) = Some o
+opening_content (One (Log f)) = None
+opening_content Clash = None
+
+abbrev pub fragment_content : Content → Option FragmentParts
+fragment_content (One (Log f)) = Some f
+fragment_content (One (Opening o)) = None
+fragment_content Clash = None
+
+abbrev pub key_of : Place → Key
+key_of p = record { term = p.term; hart = p.hart; place = p.place }
+
+abbrev pub place_of : Key → Place
+place_of k = record { term = k.term; hart = k.hart; place = k.place }
+
+abbrev pub openings_of : BTreeMap ℕ Content → finite.FinMap nat_cmp (Option OpeningParts)
+openings_of m = finite.from_entries (map {B = ℕ × Option OpeningParts} (λ e. (e.0, opening_content e.1)) m.entries)
+
+abbrev pub fragments_of : BTreeMap Place Content → finite.FinMap key_cmp (Option FragmentParts)
+fragments_of m = finite.from_entries (map {B = Key × Option FragmentParts} (λ e. (key_of e.0, fragment_content e.1)) m.entries)
+
+-- ---- what is kept
+
+-- what stands at a term is an opening of it
+abbrev pub FitsTerm : Guest → ℕ → Option Content → Type 0
+FitsTerm guest term None = Unit {0}
+FitsTerm guest term (Some Clash) = Unit {0}
+FitsTerm guest term (Some (One (Opening o))) = IsOpeningOf guest term o
+FitsTerm guest term (Some (One (Log f))) = ⊥
+
+-- what stands at a place is a fragment with that key
+abbrev pub FitsPlace : Guest → Place → Option Content → Type 0
+FitsPlace guest place None = Unit {0}
+FitsPlace guest place (Some Clash) = Unit {0}
+FitsPlace guest place (Some (One (Log f))) = IsFragmentOf guest (key_of place) f
+FitsPlace guest place (Some (One (Opening o))) = ⊥
+
+abbrev pub place_cmp : Place → Place → Ordering
+place_cmp a b = key_cmp (key_of a) (key_of b)
+
+pub record Fits (guest : Guest) (openings : BTreeMap ℕ Content) (fragments : BTreeMap Place Content) : Type 0 where
+  pub terms : (term : ℕ) → FitsTerm guest term (get nat_cmp openings term)
+  pub places : (place : Place) → FitsPlace guest place (get place_cmp fragments place)
