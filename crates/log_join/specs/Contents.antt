@@ -1,6 +1,7 @@
 -- What the maps of a store hold, and how it is seen: private words.
-use Rattle.std.specs.Prelude.{◌≡◌, ℕ, Bool, true, false, List, map, Option, Some, None, if◌then◌else◌}
+use Rattle.std.specs.Prelude.{◌≡◌, ℕ, Bool, true, false, not, is_some, ◌&&◌, List, map, Option, Some, None, if◌then◌else◌}
 use Rattle.std.specs.List.{list_any}
+use Rattle.std.specs.Option.{option_or}
 use Rattle.std.specs.Ordering.{nat_cmp, eq_by_cmp}
 use Rattle.std.specs.declared.cmp.Ordering.{Ordering}
 use Rattle.std.specs.BTreeMap.{BTreeMap, get}
@@ -15,6 +16,7 @@ use Rattle.log_join.specs.declared.answers.Put.TheVariants.{New, Same, Clash as 
 use Rattle.log_join.specs.declared.content.Content.{Content}
 use Rattle.log_join.specs.declared.content.Content.TheVariants.{One, Clash}
 use Rattle.log_join.specs.declared.place.Place.{Place}
+use Rattle.log_join.specs.declared.shelves.Shelves.{Shelves}
 use Rattle.log_join.specs.Tests.{same_opening, same_fragment}
 use Rattle.log_join.specs.Stores.{StoreView, key_cmp, IsOpeningOf, IsFragmentOf}
 
@@ -45,11 +47,13 @@ marked None b = None
 marked (Some a) None = Some a
 marked (Some a) (Some b) = Some (joined a b)
 
--- some keys copied from there to here
+-- what is there comes here, where it is asked for
 abbrev pub copied : Bool → Option Content → Option Content → Option Content
-copied false here there = here
-copied true here None = here
-copied true here (Some b) = Some b
+copied asked here there = if asked then option_or there here else here
+
+-- what is here and what is there, joined
+abbrev pub met : Option Content → Option Content → Option Content
+met here there = marked (copied (is_some there && not (is_some here)) here there) there
 
 -- what becomes of a content when a frame comes
 abbrev pub taken : Option Content → Frame → Content
@@ -108,6 +112,30 @@ FitsPlace guest place (Some (One (Opening o))) = ⊥
 abbrev pub place_cmp : Place → Place → Ordering
 place_cmp a b = key_cmp (key_of a) (key_of b)
 
-pub record Fits (guest : Guest) (openings : BTreeMap ℕ Content) (fragments : BTreeMap Place Content) : Type 0 where
-  pub terms : (term : ℕ) → FitsTerm guest term (get nat_cmp openings term)
-  pub places : (place : Place) → FitsPlace guest place (get place_cmp fragments place)
+-- each opening and each fragment stands at its key
+pub record Fits (guest : Guest) (s : Shelves) : Type 0 where
+  pub terms : (term : ℕ) → FitsTerm guest term (get nat_cmp s.openings term)
+  pub places : (place : Place) → FitsPlace guest place (get place_cmp s.fragments place)
+
+abbrev pub view_of : Guest → Shelves → StoreView
+view_of guest s = record { guest = guest; openings = openings_of s.openings; fragments = fragments_of s.fragments }
+
+-- nothing stands at these keys
+pub record AreFree (s : Shelves) (terms : List ℕ) (places : List Place) : Type 0 where
+  pub free_terms : (term : ℕ) → is_among nat_cmp terms term ≡ true → get nat_cmp s.openings term ≡ None
+  pub free_places : (place : Place) → is_among place_cmp places place ≡ true → get place_cmp s.fragments place ≡ None
+
+-- what stands there at these keys came here
+pub record AreCopied (old other : Shelves) (terms : List ℕ) (places : List Place) (new : Shelves) : Type 0 where
+  pub all_terms : (term : ℕ) → get nat_cmp new.openings term ≡ copied (is_among nat_cmp terms term) (get nat_cmp old.openings term) (get nat_cmp other.openings term)
+  pub all_places : (place : Place) → get place_cmp new.fragments place ≡ copied (is_among place_cmp places place) (get place_cmp old.fragments place) (get place_cmp other.fragments place)
+
+-- nothing changed, at any key
+pub record IsKept (old new : Shelves) : Type 0 where
+  pub terms : (term : ℕ) → get nat_cmp new.openings term ≡ get nat_cmp old.openings term
+  pub places : (place : Place) → get place_cmp new.fragments place ≡ get place_cmp old.fragments place
+
+-- at each key, what was here and what is there, joined
+pub record IsMet (old other new : Shelves) : Type 0 where
+  pub terms : (term : ℕ) → get nat_cmp new.openings term ≡ met (get nat_cmp old.openings term) (get nat_cmp other.openings term)
+  pub places : (place : Place) → get place_cmp new.fragments place ≡ met (get place_cmp old.fragments place) (get place_cmp other.fragments place)

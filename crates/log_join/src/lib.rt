@@ -7,6 +7,7 @@ mod content;
 mod laws;
 mod place;
 mod shelf;
+mod shelves;
 mod store;
 #[cfg(test)]
 mod tests;

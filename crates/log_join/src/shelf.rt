@@ -49,6 +49,22 @@ pub(crate) fn missing_keys<K: Ord + Copy>(
     Ok(missing)
 }
 
+/// Copies what stands there at this key.
+fn copy_one<K: Ord + Copy>(
+    alloc: Global,
+    shelf: &mut BTreeMap<K, Content>,
+    key: K,
+    theirs: &BTreeMap<K, Content>,
+) -> Result<(), Memory>
+    ensures ok { OnOk result ((q : K) → get K.cmp shelf.new q ≡ copied (eq_by_cmp K.cmp key q) (get K.cmp shelf.old q) (get K.cmp theirs.now q)) }
+    ensures err { OnErr result ((q : K) → get K.cmp shelf.new q ≡ get K.cmp shelf.old q) }
+{
+    if let Some(content) = theirs.get(&key) {
+        shelf.insert(key, content.copy(alloc)?)?;
+    }
+    Ok(())
+}
+
 /// Copies what stands there at these keys, or, where memory is refused, at some of them.
 pub(crate) fn copy_at<K: Ord + Copy>(
     alloc: Global,
@@ -60,9 +76,7 @@ pub(crate) fn copy_at<K: Ord + Copy>(
     ensures others { (q : K) → is_among K.cmp keys.now q ≡ false → get K.cmp shelf.new q ≡ get K.cmp shelf.old q }
 {
     for key in keys {
-        if let Some(content) = theirs.get(key) {
-            shelf.insert(*key, content.copy(alloc)?)?;
-        }
+        copy_one(alloc, shelf, *key, theirs)?;
     }
     Ok(())
 }
@@ -76,14 +90,21 @@ pub(crate) fn remove_at<K: Ord + Copy>(shelf: &mut BTreeMap<K, Content>, keys: &
     }
 }
 
+/// Joins a content to what stands at its key, if anything does.
+fn mark_one<K: Ord>(mine: &mut BTreeMap<K, Content>, key: &K, there: &Content)
+    ensures { (q : K) → get K.cmp mine.new q ≡ (if eq_by_cmp K.cmp key.now q then marked (get K.cmp mine.old q) (Some there.now) else get K.cmp mine.old q) }
+{
+    if let Some(here) = mine.get_mut(key) {
+        here.join(there);
+    }
+}
+
 /// Joins what stands there to what stands here, at the keys that both have.
 pub(crate) fn mark_clashes<K: Ord>(mine: &mut BTreeMap<K, Content>, theirs: &BTreeMap<K, Content>)
     ensures { (q : K) → get K.cmp mine.new q ≡ marked (get K.cmp mine.old q) (get K.cmp theirs.now q) }
 {
     for (key, there) in theirs {
-        if let Some(here) = mine.get_mut(key) {
-            here.join(there);
-        }
+        mark_one(mine, key, there);
     }
 }
 

@@ -3,16 +3,16 @@
 ghost use Rattle.std.specs.Prelude.{◌≡◌, ◌≢◌, ◌↔◌, Ok, Err, IfOk, OnOk, OnErr};
 ghost use Rattle.fragment_codec.specs.declared.frame.Frame.{Frame as frame_of_specs};
 ghost use Rattle.log_join.specs.Stores.{StoreView, opening_at, fragment_at, IsStore, IsJoin, nothing, alone, AreTerms, AreKeys, clashes_of, IsLastTerm};
-ghost use Rattle.log_join.specs.Answers.{answer_to, TellsOpening, TellsFragment};
+ghost use Rattle.log_join.specs.Answers.{answer_to, Puts, TellsOpening, TellsFragment};
 
 use crate::answers::{Found, Put, StoreFault};
 use crate::content::{Content, is_same_guest};
 use crate::place::Place;
-use crate::shelf::{copy_at, count_clashes, mark_clashes, missing_keys, put_at, remove_at};
+use crate::shelf::{count_clashes, put_at};
+use crate::shelves::Shelves;
 use fragment_codec::{Fragment, Frame, Key, Opening};
 use ft_types::{Guest, Memory, Term};
 use std::alloc::Global;
-use std::collections::BTreeMap;
 use std::marker::Model;
 
 /// What came of one guest's frames: at each key one content, or a clash of several.
@@ -21,8 +21,7 @@ use std::marker::Model;
 #[derive(Drop)]
 pub struct Store {
     guest: Guest,
-    openings: BTreeMap<Term, Content>,
-    fragments: BTreeMap<Place, Content>,
+    shelves: Shelves,
 }
 
 impl Model for Store {
@@ -32,11 +31,11 @@ impl Model for Store {
 
     ghost coded = { coded_store };
 
-    ghost use Rattle.log_join.specs.Contents.{openings_of, fragments_of, Fits};
+    ghost use Rattle.log_join.specs.Contents.{view_of, Fits};
 
-    ghost view = { λ s. record { guest = s.guest; openings = openings_of s.openings; fragments = fragments_of s.fragments } };
+    ghost view = { λ s. view_of s.guest s.shelves };
 
-    ghost invariant = { λ s. Fits s.guest s.openings s.fragments };
+    ghost invariant = { λ s. Fits s.guest s.shelves };
 }
 
 /// What a content is found as.
@@ -55,8 +54,7 @@ impl Store {
     {
         Store {
             guest,
-            openings: BTreeMap::new(alloc),
-            fragments: BTreeMap::new(alloc),
+            shelves: Shelves::new(alloc),
         }
     }
 
@@ -79,32 +77,26 @@ impl Store {
         }
     }
 
-    fn put_opening(&mut self, opening: Opening) -> Result<Put, Memory> {
+    fn put_opening(&mut self, opening: Opening) -> Result<Put, Memory>
+        ensures { Puts self.old (frame_of_specs.Opening opening) result self.new }
+    {
+        let _rules = opening.base();
         if !is_same_guest(&opening.guest(), &self.guest) {
             return Ok(Put::OtherGuest);
         }
         let term = opening.term();
-        put_at(&mut self.openings, term, Frame::Opening(opening))
+        put_at(&mut self.shelves.openings, term, Frame::Opening(opening))
     }
 
-    fn put_fragment(&mut self, fragment: Fragment) -> Result<Put, Memory> {
+    fn put_fragment(&mut self, fragment: Fragment) -> Result<Put, Memory>
+        ensures { Puts self.old (frame_of_specs.Log fragment) result self.new }
+    {
+        let _rules = fragment.records();
         if !is_same_guest(&fragment.guest(), &self.guest) {
             return Ok(Put::OtherGuest);
         }
         let place = Place::from(fragment.key());
-        put_at(&mut self.fragments, place, Frame::Log(fragment))
-    }
-
-    /// Copies what the other store has at these keys, or, where memory is refused, at some of them.
-    fn copy_missing(
-        &mut self,
-        alloc: Global,
-        other: &Store,
-        terms: &[Term],
-        places: &[Place],
-    ) -> Result<(), Memory> {
-        copy_at(alloc, &mut self.openings, terms, &other.openings)?;
-        copy_at(alloc, &mut self.fragments, places, &other.fragments)
+        put_at(&mut self.shelves.fragments, place, Frame::Log(fragment))
     }
 
     /// Takes a frame.
@@ -136,15 +128,7 @@ impl Store {
         if !is_same_guest(&self.guest, &other.guest) {
             return Err(StoreFault::OtherGuest);
         }
-        let terms = missing_keys(alloc, &self.openings, &other.openings)?;
-        let places = missing_keys(alloc, &self.fragments, &other.fragments)?;
-        if let Err(refused) = self.copy_missing(alloc, other, &terms, &places) {
-            remove_at(&mut self.openings, &terms);
-            remove_at(&mut self.fragments, &places);
-            return Err(StoreFault::from(refused));
-        }
-        mark_clashes(&mut self.openings, &other.openings);
-        mark_clashes(&mut self.fragments, &other.fragments);
+        self.shelves.join(alloc, &other.shelves)?;
         Ok(())
     }
 
@@ -153,7 +137,7 @@ impl Store {
         ensures found { TellsOpening result (opening_at self.now term) }
         ensures rules { IsStore self.now }
     {
-        found(self.openings.get(&term))
+        found(self.shelves.openings.get(&term))
     }
 
     /// What came of the fragment with this key.
@@ -161,7 +145,7 @@ impl Store {
         ensures found { TellsFragment result (fragment_at self.now key) }
         ensures rules { IsStore self.now }
     {
-        found(self.fragments.get(&Place::from(key)))
+        found(self.shelves.fragments.get(&Place::from(key)))
     }
 
     /// The terms of the openings with one content, rising.
@@ -169,7 +153,7 @@ impl Store {
         ensures { IfOk result (λ terms. AreTerms self.now terms.items) }
     {
         let mut terms = Vec::new(alloc);
-        for (term, content) in &self.openings {
+        for (term, content) in &self.shelves.openings {
             if let Content::One(_) = content {
                 terms.push(*term)?;
             }
@@ -182,7 +166,7 @@ impl Store {
         ensures { IfOk result (λ keys. AreKeys self.now keys.items) }
     {
         let mut keys = Vec::new(alloc);
-        for content in self.fragments.values() {
+        for content in self.shelves.fragments.values() {
             if let Content::One(Frame::Log(fragment)) = content {
                 keys.push(fragment.key())?;
             }
@@ -194,18 +178,18 @@ impl Store {
     pub fn clashes(&self) -> usize
         ensures { result ≡ clashes_of self.now }
     {
-        count_clashes(&self.openings) + count_clashes(&self.fragments)
+        count_clashes(&self.shelves.openings) + count_clashes(&self.shelves.fragments)
     }
 
     /// The greatest term of any key, one that clashes too, and 0 where there is none.
     pub fn last_term(&self) -> Term
         ensures { IsLastTerm self.now result }
     {
-        let opened = match self.openings.last_key_value() {
+        let opened = match self.shelves.openings.last_key_value() {
             None => 0,
             Some((term, _)) => *term,
         };
-        let logged = match self.fragments.last_key_value() {
+        let logged = match self.shelves.fragments.last_key_value() {
             None => 0,
             Some((place, _)) => place.term,
         };

@@ -1,0 +1,4 @@
+pub mod Maps
+pub mod Told
+pub mod Cells
+pub mod Joins
