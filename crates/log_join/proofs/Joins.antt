@@ -66,7 +66,7 @@ merged_cell same (Some None) v = refl
 merged_cell same (Some (Some x)) None = refl
 merged_cell same (Some (Some x)) (Some y) = elim (same x y) as (λ b. cell_of (Some (cond b (Some x) None)) ≡ cond b (One x) Clash) [ true ↦ refl | false ↦ refl ]
 
-join_absent : {X : Type 0} (same : X → X → Bool) (c : Cell X) → join_cell same c Absent ≡ c
+pub join_absent : {X : Type 0} (same : X → X → Bool) (c : Cell X) → join_cell same c Absent ≡ c
 join_absent same Absent = refl
 join_absent same (One x) = refl
 join_absent same Clash = refl

@@ -2,3 +2,6 @@ pub mod Maps
 pub mod Told
 pub mod Cells
 pub mod Joins
+pub mod Shown
+pub mod Stores
+pub mod Listed

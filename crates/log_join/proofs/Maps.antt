@@ -89,3 +89,14 @@ module _ {K : Type 0} {cmp : K → K → Ordering} (o : IsTotalOrder cmp) where
             ap (marked (marked here (Some x))) none ∙ marked_none (marked here (Some x)) ∙ sym (ap (λ b. marked here (cond b (Some x) (lookup (is_at (cmp q)) es))) back)
         | false ↦ λ t. sym (ap (λ b. marked here (cond b (Some x) (lookup (is_at (cmp q)) es))) ((eq_by_cmp_equiv o).symm q k ∙ t))
       ] refl
+
+-- ---- a copy that was undone
+
+pub undone : (asked : Bool) (new mid old : Option Content) → new ≡ cond asked None mid → (asked ≡ true → old ≡ None) → (asked ≡ false → mid ≡ old) → new ≡ old
+undone true new mid old e free others = e ∙ sym (free refl)
+undone false new mid old e free others = e ∙ others refl
+
+pub is_free : (here there : Option Content) → (is_some there && not (is_some here)) ≡ true → here ≡ None
+is_free None there e = refl
+is_free (Some x) None e = absurd (cc e)
+is_free (Some x) (Some y) e = absurd (cc e)

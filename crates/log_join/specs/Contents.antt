@@ -1,5 +1,5 @@
 -- What the maps of a store hold, and how it is seen: private words.
-use Rattle.std.specs.Prelude.{◌≡◌, ℕ, Bool, true, false, not, is_some, ◌&&◌, List, map, Option, Some, None, if◌then◌else◌}
+use Rattle.std.specs.Prelude.{◌≡◌, ℕ, Bool, true, false, not, is_some, ◌&&◌, List, [], ◌∷◌, map, Option, Some, None, if◌then◌else◌}
 use Rattle.std.specs.List.{list_any}
 use Rattle.std.specs.Option.{option_or}
 use Rattle.std.specs.Ordering.{nat_cmp, eq_by_cmp}
@@ -13,6 +13,8 @@ use Rattle.fragment_codec.specs.declared.frame.Frame.TheVariants.{Log, Opening}
 use Rattle.fragment_codec.specs.Rules.{FragmentParts, OpeningParts}
 use Rattle.log_join.specs.declared.answers.Put.{Put}
 use Rattle.log_join.specs.declared.answers.Put.TheVariants.{New, Same, Clash as Clashes}
+use Rattle.log_join.specs.declared.answers.Found.{Found}
+use Rattle.log_join.specs.declared.answers.Found.TheVariants.{Absent as FindsNone, One as FindsOne, Clash as FindsClash}
 use Rattle.log_join.specs.declared.content.Content.{Content}
 use Rattle.log_join.specs.declared.content.Content.TheVariants.{One, Clash}
 use Rattle.log_join.specs.declared.place.Place.{Place}
@@ -71,15 +73,18 @@ is_among cmp keys q = list_any (λ k. eq_by_cmp cmp k q) keys
 
 -- ---- the view
 
-abbrev pub opening_content : Content → Option OpeningParts
-opening_content (One (Opening o)) = Some o
-opening_content (One (Log f)) = None
-opening_content Clash = None
+abbrev pub opening_part : Frame → Option OpeningParts
+opening_part (Opening o) = Some o
+opening_part (Log f) = None
 
-abbrev pub fragment_content : Content → Option FragmentParts
-fragment_content (One (Log f)) = Some f
-fragment_content (One (Opening o)) = None
-fragment_content Clash = None
+abbrev pub fragment_part : Frame → Option FragmentParts
+fragment_part (Log f) = Some f
+fragment_part (Opening o) = None
+
+-- a content as the value of a finite map, which is None where contents clash
+abbrev pub content_of : {X : Type 0} → (Frame → Option X) → Content → Option X
+content_of part (One frame) = part frame
+content_of part Clash = None
 
 abbrev pub key_of : Place → Key
 key_of p = record { term = p.term; hart = p.hart; place = p.place }
@@ -87,38 +92,45 @@ key_of p = record { term = p.term; hart = p.hart; place = p.place }
 abbrev pub place_of : Key → Place
 place_of k = record { term = k.term; hart = k.hart; place = k.place }
 
-abbrev pub openings_of : BTreeMap ℕ Content → finite.FinMap nat_cmp (Option OpeningParts)
-openings_of m = finite.from_entries (map {B = ℕ × Option OpeningParts} (λ e. (e.0, opening_content e.1)) m.entries)
+-- the finite map that a map of contents is seen as
+abbrev pub shown : {K L X : Type 0} → (cmp : L → L → Ordering) → (K → L) → (Frame → Option X) → BTreeMap K Content → finite.FinMap cmp (Option X)
+shown {K} {L} {X} cmp key part m = finite.from_entries (map {B = L × Option X} (λ e. (key e.0, content_of part e.1)) m.entries)
 
-abbrev pub fragments_of : BTreeMap Place Content → finite.FinMap key_cmp (Option FragmentParts)
-fragments_of m = finite.from_entries (map {B = Key × Option FragmentParts} (λ e. (key_of e.0, fragment_content e.1)) m.entries)
+-- it is one frame
+abbrev pub is_one : Option Content → Bool
+is_one None = false
+is_one (Some (One frame)) = true
+is_one (Some Clash) = false
+
+-- the keys at which there is one frame
+abbrev pub listed : {K L : Type 0} → (K → L) → List (K × Content) → List L
+listed key [] = []
+listed key (e ∷ es) = if is_one (Some e.1) then key e.0 ∷ listed key es else listed key es
 
 -- ---- what is kept
 
--- what stands at a term is an opening of it
-abbrev pub FitsTerm : Guest → ℕ → Option Content → Type 0
-FitsTerm guest term None = Unit {0}
-FitsTerm guest term (Some Clash) = Unit {0}
-FitsTerm guest term (Some (One (Opening o))) = IsOpeningOf guest term o
-FitsTerm guest term (Some (One (Log f))) = ⊥
-
--- what stands at a place is a fragment with that key
-abbrev pub FitsPlace : Guest → Place → Option Content → Type 0
-FitsPlace guest place None = Unit {0}
-FitsPlace guest place (Some Clash) = Unit {0}
-FitsPlace guest place (Some (One (Log f))) = IsFragmentOf guest (key_of place) f
-FitsPlace guest place (Some (One (Opening o))) = ⊥
+-- what is there, if it is one frame, is of that kind and has P
+abbrev pub FitsAt : {X : Type 0} → (Frame → Option X) → (X → Type 0) → Option Content → Type 0
+FitsAt part P None = Unit {0}
+FitsAt part P (Some Clash) = Unit {0}
+FitsAt {X} part P (Some (One frame)) = (x : X) × (part frame ≡ Some x) × P x
 
 abbrev pub place_cmp : Place → Place → Ordering
 place_cmp a b = key_cmp (key_of a) (key_of b)
 
 -- each opening and each fragment stands at its key
 pub record Fits (guest : Guest) (s : Shelves) : Type 0 where
-  pub terms : (term : ℕ) → FitsTerm guest term (get nat_cmp s.openings term)
-  pub places : (place : Place) → FitsPlace guest place (get place_cmp s.fragments place)
+  pub terms : (term : ℕ) → FitsAt opening_part (IsOpeningOf guest term) (get nat_cmp s.openings term)
+  pub places : (place : Place) → FitsAt fragment_part (IsFragmentOf guest (key_of place)) (get place_cmp s.fragments place)
 
 abbrev pub view_of : Guest → Shelves → StoreView
-view_of guest s = record { guest = guest; openings = openings_of s.openings; fragments = fragments_of s.fragments }
+view_of guest s = record { guest = guest; openings = shown nat_cmp (λ term. term) opening_part s.openings; fragments = shown key_cmp key_of fragment_part s.fragments }
+
+-- what was found tells what is there
+abbrev pub TellsContent : Found → Option Content → Type 0
+TellsContent FindsNone content = content ≡ None
+TellsContent (FindsOne frame) content = content ≡ Some (One frame.now)
+TellsContent FindsClash content = content ≡ Some Clash
 
 -- nothing stands at these keys
 pub record AreFree (s : Shelves) (terms : List ℕ) (places : List Place) : Type 0 where

@@ -2,7 +2,7 @@
 
 ghost use Rattle.std.specs.Prelude.{◌≡◌, ◌&&◌, ◌<◌, ◌^◌, false, if◌then◌else◌, not, is_some, None, Some, IfOk, OnOk, OnErr, count_by};
 ghost use Rattle.std.specs.Ordering.{eq_by_cmp};
-ghost use Rattle.std.specs.BTreeMap.{get, values};
+ghost use Rattle.std.specs.BTreeMap.{get, values, IsOrdered};
 ghost use Rattle.log_join.specs.Contents.{marked, copied, taken, put_answer, is_among, clashes};
 
 use crate::answers::Put;
@@ -112,6 +112,7 @@ pub(crate) fn mark_clashes<K: Ord>(mine: &mut BTreeMap<K, Content>, theirs: &BTr
 pub(crate) fn count_clashes<K: Ord>(shelf: &BTreeMap<K, Content>) -> usize
     ensures count { result ≡ count_by clashes (values shelf.now) }
     ensures small { result < 2 ^ 63 }
+    ensures ordered { IsOrdered K.cmp shelf.now }
 {
     shelf.values().filter(|content| content.is_clash()).count()
 }

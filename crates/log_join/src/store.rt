@@ -3,6 +3,8 @@
 ghost use Rattle.std.specs.Prelude.{◌≡◌, ◌≢◌, ◌↔◌, Ok, Err, IfOk, OnOk, OnErr};
 ghost use Rattle.fragment_codec.specs.declared.frame.Frame.{Frame as frame_of_specs};
 ghost use Rattle.log_join.specs.Stores.{StoreView, opening_at, fragment_at, IsStore, IsJoin, nothing, alone, AreTerms, AreKeys, clashes_of, IsLastTerm};
+ghost use Rattle.std.specs.Option.{option_copied};
+ghost use Rattle.log_join.specs.Contents.{TellsContent};
 ghost use Rattle.log_join.specs.Answers.{answer_to, Puts, TellsOpening, TellsFragment};
 
 use crate::answers::{Found, Put, StoreFault};
@@ -39,7 +41,9 @@ impl Model for Store {
 }
 
 /// What a content is found as.
-fn found(content: Option<&Content>) -> Found<'_> {
+fn found(content: Option<&Content>) -> Found<'_>
+    ensures { TellsContent result (option_copied content.entry) }
+{
     match content {
         None => Found::Absent,
         Some(Content::One(frame)) => Found::One(frame),
@@ -152,26 +156,14 @@ impl Store {
     pub fn terms(&self, alloc: Global) -> Result<Vec<Term>, Memory>
         ensures { IfOk result (λ terms. AreTerms self.now terms.items) }
     {
-        let mut terms = Vec::new(alloc);
-        for (term, content) in &self.shelves.openings {
-            if let Content::One(_) = content {
-                terms.push(*term)?;
-            }
-        }
-        Ok(terms)
+        self.shelves.terms(alloc)
     }
 
     /// The keys of the fragments with one content, rising by term, then hart, then place.
     pub fn keys(&self, alloc: Global) -> Result<Vec<Key>, Memory>
         ensures { IfOk result (λ keys. AreKeys self.now keys.items) }
     {
-        let mut keys = Vec::new(alloc);
-        for content in self.shelves.fragments.values() {
-            if let Content::One(Frame::Log(fragment)) = content {
-                keys.push(fragment.key())?;
-            }
-        }
-        Ok(keys)
+        self.shelves.keys(alloc)
     }
 
     /// The number of keys that clash, of openings and of fragments.
@@ -185,14 +177,6 @@ impl Store {
     pub fn last_term(&self) -> Term
         ensures { IsLastTerm self.now result }
     {
-        let opened = match self.shelves.openings.last_key_value() {
-            None => 0,
-            Some((term, _)) => *term,
-        };
-        let logged = match self.shelves.fragments.last_key_value() {
-            None => 0,
-            Some((place, _)) => place.term,
-        };
-        opened.max(logged)
+        self.shelves.last_opening().max(self.shelves.last_fragment())
     }
 }
