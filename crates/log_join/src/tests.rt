@@ -200,3 +200,68 @@ fn joins_are_the_same_both_ways(rt: HostRuntime) -> Result<(), Fail> {
     assert!(rt; matches!(one.join(rt.alloc(), &foreign), Err(StoreFault::OtherGuest)));
     check_same(&rt, &one, &again)
 }
+
+/// Puts a frame again where memory was refused, which left the store as it was.
+fn put_anyway(
+    rt: &(impl Abort + Alloc<A = Global>),
+    store: &mut Store,
+    frame: Frame,
+) -> Result<Put, Fail> {
+    let again = match frame.copy(rt.alloc()) {
+        Ok(again) => again,
+        Err(Memory) => frame.copy(rt.alloc())?,
+    };
+    let keys = (store.clashes(), store.last_term());
+    match store.put(frame) {
+        Ok(put) => Ok(put),
+        Err(Memory) => {
+            assert!(rt; keys == (store.clashes(), store.last_term()));
+            Ok(store.put(again)?)
+        }
+    }
+}
+
+/// A call to which memory is refused leaves its store as it was, and does its work when it is called again.
+#[test]
+fn refused_memory(rt: HostRuntime) -> Result<(), Fail> {
+    let mut one = Store::new(rt.alloc(), guest(1));
+    let mut other = Store::new(rt.alloc(), guest(1));
+    for place in 0..20 {
+        let from = u64::from(place);
+        let frame = log(rt.alloc(), guest(1), key(1, 0, place), from, from + 1)?;
+        assert_eq!(rt; put_anyway(&rt, &mut one, frame)?, Put::New);
+        let frame = log(rt.alloc(), guest(1), key(1, 1, place), from, from + 2)?;
+        assert_eq!(rt; put_anyway(&rt, &mut other, frame)?, Put::New);
+        let frame = opening(place + 2, place + 1, 3)?;
+        assert_eq!(rt; put_anyway(&rt, &mut other, frame)?, Put::New);
+    }
+    assert_eq!(rt; put_anyway(&rt, &mut one, opening(1, 0, 0)?)?, Put::New);
+    let frame = log(rt.alloc(), guest(1), key(1, 1, 7), 0, 9)?;
+    assert_eq!(rt; put_anyway(&rt, &mut one, frame)?, Put::New);
+    if one.join(rt.alloc(), &other).is_err() {
+        assert_eq!(rt; one.clashes(), 0);
+        assert_eq!(rt; one.last_term(), 1);
+        assert_eq!(rt; one.terms(rt.alloc())?.len(), 1);
+        assert_eq!(rt; one.keys(rt.alloc())?.len(), 21);
+        assert_eq!(rt; end(&one, key(1, 1, 7)), 9);
+        assert!(rt; one.join(rt.alloc(), &other).is_ok());
+    }
+    let copy = match one.copy(rt.alloc()) {
+        Ok(copy) => copy,
+        Err(Memory) => one.copy(rt.alloc())?,
+    };
+    let terms = match copy.terms(rt.alloc()) {
+        Ok(terms) => terms,
+        Err(Memory) => copy.terms(rt.alloc())?,
+    };
+    let keys = match copy.keys(rt.alloc()) {
+        Ok(keys) => keys,
+        Err(Memory) => copy.keys(rt.alloc())?,
+    };
+    assert_eq!(rt; terms.len(), 21);
+    assert_eq!(rt; keys.len(), 39);
+    assert_eq!(rt; copy.clashes(), 1);
+    assert_eq!(rt; copy.last_term(), 21);
+    assert_eq!(rt; end(&copy, key(1, 1, 7)), 1);
+    Ok(())
+}
