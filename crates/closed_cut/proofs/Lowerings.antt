@@ -26,7 +26,7 @@ lowered_on edges a b c ab bc =
       keeps = λ other closed below. bc.keeps other closed (ab.keeps other closed below);
     }
 
-contains_map : (edges : List Edge) (e : Edge) → Contains edges e → Contains (map edge_as edges) (edge_as e)
+pub contains_map : (edges : List Edge) (e : Edge) → Contains edges e → Contains (map edge_as edges) (edge_as e)
 contains_map edges e (k, below, is) =
     (k, (let l : length (map edge_as edges) ≡ length edges = length-map edges edge_as in omega arith), get_or-map edge_as edges k e (edge_as e) below ∙ ap edge_as is)
 

@@ -1,4 +1,12 @@
 //! How far the frames of a store reach: the chain of its terms, and the greatest closed cut along it.
 #![tactic(auto)]
 
+mod ancestry;
+mod answer;
+mod gathering;
 mod lowering;
+mod walk;
+
+pub use ancestry::chain;
+pub use answer::Position;
+pub use walk::position;
