@@ -1,0 +1,1 @@
+//! Stores that frames come to.
