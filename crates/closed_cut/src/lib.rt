@@ -10,3 +10,6 @@ mod walk;
 pub use ancestry::chain;
 pub use answer::Position;
 pub use walk::position;
+
+#[cfg(test)]
+mod tests;

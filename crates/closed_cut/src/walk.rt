@@ -9,8 +9,8 @@ ghost use Rattle.closed_cut.specs.Chain.{Sound, LeadsTo};
 ghost use Rattle.closed_cut.specs.Walks.{IsLimited};
 ghost use Rattle.closed_cut.specs.Position.{base_of, IsReached, Stops, IsPosition};
 
-use crate::answer::Position;
 use crate::ancestry::{chain, opening_of};
+use crate::answer::Position;
 use crate::gathering::gather;
 use crate::lowering::greatest_closed;
 use fragment_codec::Opening;
