@@ -30,7 +30,7 @@ module _ {X : Type 0} {same : X → X → Bool} (told : (x y : X) → Decides (s
       elim (same x y) as (λ b. same x y ≡ b → join_cell same (cond b (One x) Clash) (One z) ≡ join_cell same (One x) (join_cell same (One y) (One z))) [
         | true ↦ λ t. let e = kept x y t in
             subst (λ (w : X). cond (same x z) (One x) Clash ≡ join_cell same (One x) (cond (same w z) (One w) Clash)) e
-                (elim (same x z) as (λ b. cond b (One x) Clash ≡ join_cell same (One x) (cond b (One x) Clash)) [ true ↦ sym (ap (λ b. cond b (One x) Clash) (itself x)) | false ↦ refl ])
+            (elim (same x z) as (λ b. cond b (One x) Clash ≡ join_cell same (One x) (cond b (One x) Clash)) [ true ↦ sym (ap (λ b. cond b (One x) Clash) (itself x)) | false ↦ refl ])
         | false ↦ λ t. elim (same y z) as (λ b. Clash ≡ join_cell same (One x) (cond b (One y) Clash)) [ true ↦ sym (ap (λ b. cond b (One x) Clash) t) | false ↦ refl ]
       ] refl
 

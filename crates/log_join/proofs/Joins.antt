@@ -27,8 +27,8 @@ keys_total = then_total (on_total (λ (k : Key). k.term) nat_cmp_total) (then_to
 pub keys_exact : (a b : Key) → key_cmp a b ≡ Equal → a ≡ b
 keys_exact a b h =
     ap (λ (p : ℕ × (ℕ × ℕ)). let k : Key = record { term = p.0; hart = p.1.0; place = p.1.1 } in k)
-        (exact_pairs nat_cmp (λ (x y : ℕ × ℕ). ordering_then (nat_cmp x.0 y.0) (nat_cmp x.1 y.1)) exact_unsigned (exact_pairs nat_cmp nat_cmp exact_unsigned exact_unsigned)
-            (a.term, (a.hart, a.place)) (b.term, (b.hart, b.place)) h)
+    (exact_pairs nat_cmp (λ (x y : ℕ × ℕ). ordering_then (nat_cmp x.0 y.0) (nat_cmp x.1 y.1)) exact_unsigned (exact_pairs nat_cmp nat_cmp exact_unsigned exact_unsigned)
+    (a.term, (a.hart, a.place)) (b.term, (b.hart, b.place)) h)
 
 -- ---- stores that have the same cells are one
 
@@ -111,16 +111,16 @@ module _ (os : CellsJoin same_opening) (fs : CellsJoin same_fragment) where
   pub associates : Associates
   associates a b c ab bc left right h k m n =
       one_store left right (k.guest ∙ h.guest ∙ sym n.guest)
-          (λ t. k.openings t ∙ ap (λ x. join_cell same_opening x (opening_at c t)) (h.openings t) ∙ os.associative (opening_at a t) (opening_at b t) (opening_at c t)
-              ∙ sym (n.openings t ∙ ap (join_cell same_opening (opening_at a t)) (m.openings t)))
-          (λ q. k.fragments q ∙ ap (λ x. join_cell same_fragment x (fragment_at c q)) (h.fragments q) ∙ fs.associative (fragment_at a q) (fragment_at b q) (fragment_at c q)
-              ∙ sym (n.fragments q ∙ ap (join_cell same_fragment (fragment_at a q)) (m.fragments q)))
+      (λ t. k.openings t ∙ ap (λ x. join_cell same_opening x (opening_at c t)) (h.openings t) ∙ os.associative (opening_at a t) (opening_at b t) (opening_at c t)
+      ∙ sym (n.openings t ∙ ap (join_cell same_opening (opening_at a t)) (m.openings t)))
+      (λ q. k.fragments q ∙ ap (λ x. join_cell same_fragment x (fragment_at c q)) (h.fragments q) ∙ fs.associative (fragment_at a q) (fragment_at b q) (fragment_at c q)
+      ∙ sym (n.fragments q ∙ ap (join_cell same_fragment (fragment_at a q)) (m.fragments q)))
 
   pub commutes : Commutes
   commutes a b ab ba g h k =
       one_store ab ba (h.guest ∙ g ∙ sym k.guest)
-          (λ t. h.openings t ∙ os.commutative (opening_at a t) (opening_at b t) ∙ sym (k.openings t))
-          (λ q. h.fragments q ∙ fs.commutative (fragment_at a q) (fragment_at b q) ∙ sym (k.fragments q))
+      (λ t. h.openings t ∙ os.commutative (opening_at a t) (opening_at b t) ∙ sym (k.openings t))
+      (λ q. h.fragments q ∙ fs.commutative (fragment_at a q) (fragment_at b q) ∙ sym (k.fragments q))
 
   pub idempotent_stores : Idempotent
   idempotent_stores a joined h =
@@ -129,5 +129,5 @@ module _ (os : CellsJoin same_opening) (fs : CellsJoin same_fragment) where
 pub unit_of_stores : HasUnit
 unit_of_stores a joined guest h =
     one_store joined a h.guest
-        (λ t. h.openings t ∙ ap (λ c. join_cell same_opening (opening_at a t) (cell_of c)) (map.get-empty nat_cmp t) ∙ join_absent same_opening (opening_at a t))
-        (λ q. h.fragments q ∙ ap (λ c. join_cell same_fragment (fragment_at a q) (cell_of c)) (map.get-empty key_cmp q) ∙ join_absent same_fragment (fragment_at a q))
+    (λ t. h.openings t ∙ ap (λ c. join_cell same_opening (opening_at a t) (cell_of c)) (map.get-empty nat_cmp t) ∙ join_absent same_opening (opening_at a t))
+    (λ q. h.fragments q ∙ ap (λ c. join_cell same_fragment (fragment_at a q) (cell_of c)) (map.get-empty key_cmp q) ∙ join_absent same_fragment (fragment_at a q))

@@ -90,26 +90,14 @@ module _ {K L : Type 0} {R : L → L → Ordering} (o : IsTotalOrder R) (key : K
 
     pub listed_exact : ((a b : L) → R a b ≡ Equal → a ≡ b) → (m : BTreeMap K Content) (q : K) → IsOrdered by_key m → FitsAt part P (get by_key m q) →
         Contains (listed key m.entries) (key q) ↔ ((x : X) × (cell_of (finite.get (shown R key part m) (key q)) ≡ One x))
-    listed_exact exact m q rising fits =
-        (λ h.
-            let one = one_there (get by_key m q) fits (sym (listed_at q m.entries rising) ∙ list_any-from_Contains (eq_by_cmp_equiv o) (key q) (listed key m.entries) h) in
-            (one.0, cell_shown o key part m q ∙ one.1),
-        λ h. found_in exact (key q) (listed key m.entries) (listed_at q m.entries rising ∙ there_one (get by_key m q) h.0 (sym (cell_shown o key part m q) ∙ h.1)))
+    listed_exact exact m q rising fits = (
+      λ h.
+          let one = one_there (get by_key m q) fits (sym (listed_at q m.entries rising) ∙ list_any-from_Contains (eq_by_cmp_equiv o) (key q) (listed key m.entries) h) in
+          (one.0, cell_shown o key part m q ∙ one.1),
+      λ h. found_in exact (key q) (listed key m.entries) (listed_at q m.entries rising ∙ there_one (get by_key m q) h.0 (sym (cell_shown o key part m q) ∙ h.1)),
+    )
 
--- ---- there or not
-
-module _ {X : Type 0} (part : Frame → Option X) where
-  pub some_there : (c : Option Content) → cell part c ≢ Absent → IsSome c
-  some_there None h = absurd (h refl)
-  some_there (Some c) h = refl
-
-  value_there : (v : Option X) → cell_of (Some v) ≢ Absent
-  value_there None e = cc e
-  value_there (Some x) e = cc e
-
-  pub there_some : (c : Option Content) → IsSome c → cell part c ≢ Absent
-  there_some None h e = cc h
-  there_some (Some c) h e = value_there (content_of part c) e
+-- ---- no entries
 
 none_of : {K : Type 0} (test : K → Bool) (es : List (K × Content)) → ¬ (0 < length es) → IsSome (lookup test es) → ⊥
 none_of test [] h s = cc s

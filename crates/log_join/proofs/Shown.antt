@@ -4,7 +4,8 @@ use Rattle.std.specs.Prelude.{is_some, Option, Some, None}
 use Rattle.std.specs.Bool.{Decides}
 use Rattle.std.specs.declared.cmp.Ordering.{Ordering}
 use Rattle.std.specs.declared.cmp.Ordering.TheVariants.{Equal}
-use Rattle.std.specs.Option.{option_map, option_or}
+use Rattle.std.specs.List.{AllByRecursion}
+use Rattle.std.specs.Option.{option_map}
 use Rattle.std.specs.Ordering.{eq_by_cmp, is_eq}
 use Rattle.std.specs.Cmp.{IsTotalOrder, eq_by_cmp_equiv, Equal-is}
 use Rattle.std.specs.Map.{lookup}
@@ -28,6 +29,11 @@ pub record Agrees {X : Type 0} (part : Frame → Option X) (same : X → X → B
 
 abbrev pub cell : {X : Type 0} → (Frame → Option X) → Option Content → Cell X
 cell part c = cell_of (option_map (content_of part) c)
+
+pub fits_weaker : {X : Type 0} (part : Frame → Option X) (P Q : X → Type 0) → ((x : X) → P x → Q x) → (c : Option Content) → FitsAt part P c → FitsAt part Q c
+fits_weaker part P Q weaker None h = tt
+fits_weaker part P Q weaker (Some Clashed) h = tt
+fits_weaker part P Q weaker (Some (OneFrame f)) (x, is, p) = (x, is, weaker x p)
 
 module _ {X : Type 0} (part : Frame → Option X) (P : X → Type 0) where
   -- what one content is
@@ -114,7 +120,7 @@ module _ {K L X : Type 0} {R : L → L → Ordering} (o : IsTotalOrder R) (key :
   taken_shown P {same} agrees m n k f x is fits taken_at total q =
       let old = get by_key m q in
       let one : cell_of (finite.get (finite.insert (finite.empty {R = R}) (key k) (Some x)) (key q)) ≡ cell_of (cond (eq_by_cmp by_key q k) (Some (Some x)) None) =
-          ap cell_of (finite.get-insert o finite.empty (key k) (Some x) (key q) ∙ ap (cond (eq_by_cmp by_key q k) (Some (Some x))) (finite.get-empty R (key q))) in
+      ap cell_of (finite.get-insert o finite.empty (key k) (Some x) (key q) ∙ ap (cond (eq_by_cmp by_key q k) (Some (Some x))) (finite.get-empty R (key q))) in
       cell_shown n q ∙ ap (cell part) (taken_at q)
       ∙ elim (eq_by_cmp by_key k q) as (λ b. eq_by_cmp by_key k q ≡ b → cell part (cond b (Some (taken (get by_key m k) f)) old) ≡ join_cell same (cell part old) (cell_of (cond b (Some (Some x)) None))) [
         | true ↦ λ t. taken_cell part (P k) agrees (get by_key m k) f x (fits k) is ∙ sym (ap (λ c. join_cell same (cell part c) (One x)) (tied_get total m k q t))
@@ -144,7 +150,13 @@ module _ {K L X : Type 0} {R : L → L → Ordering} (o : IsTotalOrder R) (key :
       ((q : K) → get by_key n q ≡ cond (eq_by_cmp by_key k q) (Some (taken (get by_key m k) f)) (get by_key m q)) → (q : K) → FitsAt part (P q) (get by_key n q)
   taken_fits P m n k f x is p exact fits taken_at q =
       subst (FitsAt part (P q)) (sym (taken_at q))
-          (elim (eq_by_cmp by_key k q) as (λ b. eq_by_cmp by_key k q ≡ b → FitsAt part (P q) (cond b (Some (taken (get by_key m k) f)) (get by_key m q))) [
-            | true ↦ λ t. subst (λ (z : K). FitsAt part (P z) (Some (taken (get by_key m k) f))) (exact k q ((Equal-is (by_key k q)).0 t)) (fits_taken part (P k) (get by_key m k) f x (fits k) is p)
-            | false ↦ λ t. fits q
-          ] refl)
+      (elim (eq_by_cmp by_key k q) as (λ b. eq_by_cmp by_key k q ≡ b → FitsAt part (P q) (cond b (Some (taken (get by_key m k) f)) (get by_key m q))) [
+        | true ↦ λ t. subst (λ (z : K). FitsAt part (P z) (Some (taken (get by_key m k) f))) (exact k q ((Equal-is (by_key k q)).0 t)) (fits_taken part (P k) (get by_key m k) f x (fits k) is p)
+        | false ↦ λ t. fits q
+      ] refl)
+
+-- what stands at the entries of a map fits
+pub entries_fit : {K X : Type 0} (cmp : K → K → Ordering) (part : Frame → Option X) (P : K → X → Type 0) (m : BTreeMap K Content) → ((q : K) → FitsAt part (P q) (get cmp m q)) →
+    (es : List (K × Content)) → AllByRecursion (λ e. get cmp m e.0 ≡ Some e.1) es → AllByRecursion (λ e. FitsAt part (P e.0) (Some e.1)) es
+entries_fit cmp part P m fits [] h = tt
+entries_fit cmp part P m fits (e ∷ es) h = (subst (FitsAt part (P e.0)) h.0 (fits e.0), entries_fit cmp part P m fits es h.1)

@@ -1,12 +1,14 @@
 -- What a store shows, from what its two maps have at each key.
-use Rattle.std.proofs.Common.{◌≡◌, refl, sym, ap, subst, ◌∙◌, Bool, true, false, cond, ℕ}
-use Rattle.std.specs.Prelude.{◌≢◌, Option, Some, None, Result, Ok, Err, IfOk, OnOk, OnErr, IsOk}
+use Rattle.std.proofs.Common.{◌≡◌, refl, sym, ap, subst, ◌∙◌, Bool, true, false, cond, ℕ, ◌≤◌, ◌<◌, arith, inl, inr, ⊎_elim}
+use Rattle.std.specs.Prelude.{◌≢◌, ◌⊎◌, max, IsSome, Option, Some, None, Result, Ok, Err, IfOk, OnOk, OnErr, IsOk}
 use Rattle.std.specs.declared.cmp.Ordering.{Ordering}
 use Rattle.std.specs.declared.cmp.Ordering.TheVariants.{Equal}
 use Rattle.std.specs.Ordering.{nat_cmp, eq_by_cmp}
 use Rattle.std.specs.Cmp.{IsTotalOrder, nat_cmp_total}
 use Rattle.std.specs.BTreeMap.{BTreeMap, get}
 use Rattle.std.specs.FinMap as finite
+use Rattle.std.proofs.Math.Nat.{le-max_left, le-max_right, max-le}
+use Rattle.std.proofs.lemmas.Bool.{cases_lt}
 use Rattle.std.proofs.lemmas.Cmp.{on_total}
 use Rattle.std.proofs.lemmas.Map.Lookups.{exact_unsigned}
 use Rattle.ft_types.specs.declared.guest.Guest.{Guest}
@@ -25,12 +27,13 @@ use Rattle.log_join.specs.declared.place.Place.{Place}
 use Rattle.log_join.specs.declared.shelves.Shelves.{Shelves}
 use Rattle.log_join.specs.Cells.{Cell, Absent, One, Clash, join_cell, cell_of}
 use Rattle.log_join.specs.Tests.{same_guest, same_opening, same_fragment}
-use Rattle.log_join.specs.Stores.{StoreView, key_cmp, opening_at, fragment_at, IsOpeningOf, IsFragmentOf, IsStore, IsJoin, nothing, alone}
+use Rattle.log_join.specs.Stores.{StoreView, key_cmp, opening_at, fragment_at, IsOpeningOf, IsFragmentOf, IsStore, IsJoin, IsLastTerm, nothing, alone}
 use Rattle.log_join.specs.Answers.{answer, answer_to, Puts, TellsOpening, TellsFragment}
 use Rattle.log_join.specs.Contents.{same_frame, taken, put_answer, met, shown, opening_part, fragment_part, key_of, place_of, place_cmp, TellsContent, FitsAt, Fits, view_of, IsKept, IsMet}
 use Rattle.log_join.proofs.Told.{guests_told, openings_told, fragments_told}
 use Rattle.log_join.proofs.Maps.{tied_get}
 use Rattle.log_join.proofs.Joins.{keys_total, keys_exact, one_store, join_absent}
+use Rattle.log_join.proofs.Present.{some_there, there_some}
 use Rattle.log_join.proofs.Shown.{Agrees, cell, one_fits, answer_is, fits_met, cell_shown, taken_shown, met_shown, same_shown, taken_fits}
 
 -- ---- openings and fragments as parts of frames
@@ -68,8 +71,8 @@ is_store guest s fits = record {
 pub same_view : (guest : Guest) (s n : Shelves) → IsKept s n → view_of guest n ≡ view_of guest s
 same_view guest s n kept =
     one_store (view_of guest n) (view_of guest s) refl
-        (λ t. same_shown nat_cmp_total (λ (z : ℕ). z) opening_part s.openings n.openings kept.terms t)
-        (λ k. same_shown keys_total key_of fragment_part s.fragments n.fragments kept.places (place_of k))
+    (λ t. same_shown nat_cmp_total (λ (z : ℕ). z) opening_part s.openings n.openings kept.terms t)
+    (λ k. same_shown keys_total key_of fragment_part s.fragments n.fragments kept.places (place_of k))
 
 pub met_view : (guest : Guest) (s other n : Shelves) → Fits guest s → Fits guest other → IsMet s other n → IsJoin (view_of guest s) (view_of guest other) (view_of guest n)
 met_view guest s other n fits others meets = record {
@@ -239,10 +242,42 @@ tells_fragment (FindsOne r) c P e h =
 pub from_nothing : (guest : Guest) (a c : StoreView) → guest ≡ a.guest → IsJoin (nothing guest) a c → c ≡ a
 from_nothing guest a c g h =
     one_store c a (h.guest ∙ g)
-        (λ t. h.openings t ∙ ap (λ x. join_cell same_opening (cell_of x) (opening_at a t)) (finite.get-empty nat_cmp t))
-        (λ k. h.fragments k ∙ ap (λ x. join_cell same_fragment (cell_of x) (fragment_at a k)) (finite.get-empty key_cmp k))
+    (λ t. h.openings t ∙ ap (λ x. join_cell same_opening (cell_of x) (opening_at a t)) (finite.get-empty nat_cmp t))
+    (λ k. h.fragments k ∙ ap (λ x. join_cell same_fragment (cell_of x) (fragment_at a k)) (finite.get-empty key_cmp k))
 
 -- what holds in any case holds at an error
 pub though_err : {T E : Type 0} (r : Result T E) (P : Type 0) → P → OnErr r P
 though_err (Ok x) P p = tt
 though_err (Err e) P p = p
+
+-- ---- the greatest term
+
+one_of_two : (m n : ℕ) → (max m n ≡ m) ⊎ (max m n ≡ n)
+one_of_two m n =
+    ⊎_elim
+    (λ (h : m < n). let up : max m n ≤ n = max-le (omega arith) (omega arith) in inr (omega (arith, up, le-max_right m n)))
+    (λ (h : n ≤ m). let up : max m n ≤ m = max-le (omega arith) (omega arith) in inl (omega (arith, up, le-max_left m n)))
+    (cases_lt m n)
+
+pub last_is : (guest : Guest) (s : Shelves) (opened logged : ℕ) →
+    ((t : ℕ) → IsSome (get nat_cmp s.openings t) → t ≤ opened) → (opened ≡ 0) ⊎ IsSome (get nat_cmp s.openings opened) →
+    ((p : Place) → IsSome (get place_cmp s.fragments p) → p.term ≤ logged) → (logged ≡ 0) ⊎ ((p : Place) × (p.term ≡ logged) × IsSome (get place_cmp s.fragments p)) →
+    IsLastTerm (view_of guest s) (max opened logged)
+last_is guest s opened logged above own over held =
+    let last = max opened logged in
+    let open_cell = λ (t : ℕ). cell_shown nat_cmp_total (λ (z : ℕ). z) opening_part s.openings t in
+    let log_cell = λ (p : Place). cell_shown keys_total key_of fragment_part s.fragments p in
+    let view = view_of guest s in
+    record {
+      openings = λ t h. le_trans (above t (some_there opening_part (get nat_cmp s.openings t) (λ e. h (open_cell t ∙ e)))) (le-max_left opened logged);
+      fragments = λ k h. le_trans (over (place_of k) (some_there fragment_part (get place_cmp s.fragments (place_of k)) (λ e. h (log_cell (place_of k) ∙ e)))) (le-max_right opened logged);
+      there = ⊎_elim
+          (λ e. subst (λ (n : ℕ). (n ≡ 0) ⊎ ((opening_at view n ≢ Absent) ⊎ ((key : Key) × (key.term ≡ n) × (fragment_at view key ≢ Absent)))) (sym e)
+          (⊎_elim inl (λ h. inr (inl (λ a. there_some opening_part (get nat_cmp s.openings opened) h (sym (open_cell opened) ∙ a)))) own))
+          (λ e. subst (λ (n : ℕ). (n ≡ 0) ⊎ ((opening_at view n ≢ Absent) ⊎ ((key : Key) × (key.term ≡ n) × (fragment_at view key ≢ Absent)))) (sym e)
+          (⊎_elim inl (λ h. inr (inr (key_of h.0, h.1, λ a. there_some fragment_part (get place_cmp s.fragments h.0) h.2 (sym (log_cell h.0) ∙ a)))) held))
+          (one_of_two opened logged);
+    }
+  where
+    le_trans : {a b c : ℕ} → a ≤ b → b ≤ c → a ≤ c
+    le_trans h k = omega arith

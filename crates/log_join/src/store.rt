@@ -177,6 +177,8 @@ impl Store {
     pub fn last_term(&self) -> Term
         ensures { IsLastTerm self.now result }
     {
-        self.shelves.last_opening().max(self.shelves.last_fragment())
+        self.shelves
+            .last_opening()
+            .max(self.shelves.last_fragment())
     }
 }

@@ -22,7 +22,7 @@ loop-key-preserved g c = λ q.
     let here = get cmp c.args.shelf.now q in
     let there = get cmp c.args.theirs.now q in
     let more : is_among cmp (take (i + 1) ks) q ≡ (is_among cmp (take i ks) q || eq_by_cmp cmp key q) =
-        among_more g.met.K.Ord.total ks i key q c.loop-key-test.true ∙ ap (λ k. is_among cmp (take i ks) q || eq_by_cmp cmp k q) (sym c.key-item.is) in
+    among_more g.met.K.Ord.total ks i key q c.loop-key-test.true ∙ ap (λ k. is_among cmp (take i ks) q || eq_by_cmp cmp k q) (sym c.key-item.is) in
     c.in_ok-copy_one.ensures.ok q
     ∙ ap (λ x. copied (eq_by_cmp cmp key q) x there) (c.loop-key.invariant q)
     ∙ copied_again (is_among cmp (take i ks) q) (eq_by_cmp cmp key q) here there

@@ -21,11 +21,11 @@ returns-clause-ok c = record {
       let there = get nat_cmp c.args.other.now.openings t in
       c.mark_clashes.ensures t
       ∙ ap (λ x. marked x there) (c.in_ok-copy_all.ensures.ok.all_terms t
-          ∙ ap (λ b. copied b here there) (ap (λ ks. is_among nat_cmp ks t) c.deref.ensures.value ∙ c.in_ok-terms.ensures t));
+      ∙ ap (λ b. copied b here there) (ap (λ ks. is_among nat_cmp ks t) c.deref.ensures.value ∙ c.in_ok-terms.ensures t));
   places = λ p.
       let here = get place_cmp c.args.self.now.fragments p in
       let there = get place_cmp c.args.other.now.fragments p in
       c.mark_clashes-2.ensures p
       ∙ ap (λ x. marked x there) (c.in_ok-copy_all.ensures.ok.all_places p
-          ∙ ap (λ b. copied b here there) (ap (λ ks. is_among place_cmp ks p) c.deref-2.ensures.value ∙ c.in_ok-places.ensures p));
+      ∙ ap (λ b. copied b here there) (ap (λ ks. is_among place_cmp ks p) c.deref-2.ensures.value ∙ c.in_ok-places.ensures p));
 }

@@ -18,6 +18,6 @@ returns-clause-joined c =
     let one : guest ≡ c.other.inside.guest = (guests_told _ _).0 (sym c.if-not-is_same_guest.ensures) in
     let fits = subst (λ (g : Guest). Fits g other) (sym one) c.other.invariant in
     subst (λ (v : StoreView). IsJoin c.args.self.now v (view_of guest n)) c.other.view_is
-        (subst (λ (g : Guest). IsJoin c.args.self.now (view_of g other) (view_of guest n)) one
-            (subst (λ (v : StoreView). IsJoin v (view_of guest other) (view_of guest n)) c.self.view_is
-                (met_view guest s other n c.self.invariant fits c.in_ok-join.ensures.ok)))
+    (subst (λ (g : Guest). IsJoin c.args.self.now (view_of g other) (view_of guest n)) one
+    (subst (λ (v : StoreView). IsJoin v (view_of guest other) (view_of guest n)) c.self.view_is
+    (met_view guest s other n c.self.invariant fits c.in_ok-join.ensures.ok)))

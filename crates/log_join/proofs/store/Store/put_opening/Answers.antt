@@ -15,7 +15,7 @@ returns c =
     let o = c.args.opening in
     let own = sym c.guest.ensures ∙ (guests_told _ _).0 (sym c.if-not-is_same_guest.ensures) in
     let h : IsTaken nat_cmp s.openings n o.term (Opening o) c.put_at.result =
-        subst (λ (t : ℕ). IsTaken nat_cmp s.openings n t (Opening o) c.put_at.result) c.term-term.ensures
-            (record { answers = c.put_at.ensures.answer; takes = c.put_at.ensures.taken; keeps = c.put_at.ensures.err; lacks = c.put_at.ensures.memory }) in
+    subst (λ (t : ℕ). IsTaken nat_cmp s.openings n t (Opening o) c.put_at.result) c.term-term.ensures
+    (record { answers = c.put_at.ensures.answer; takes = c.put_at.ensures.taken; keeps = c.put_at.ensures.err; lacks = c.put_at.ensures.memory }) in
     subst (λ (v : StoreView). Puts v (Opening o) c.put_at.result (view_of c.self.inside.guest (record s { openings = n }))) c.self.view_is
-        (puts_opening c.self.inside.guest s n o c.put_at.result c.self.invariant own h)
+    (puts_opening c.self.inside.guest s n o c.put_at.result c.self.invariant own h)
