@@ -1,11 +1,11 @@
 //! The chain of a store's terms.
 
-ghost use Rattle.std.specs.Prelude.{◌≡◌, ◌↔◌, ◌<◌, ℕ, None, Contains, IsTrue, IfOk, IfSome, IfNone};
+ghost use Rattle.std.specs.Prelude.{◌≡◌, ◌↔◌, ◌-◌, ◌<◌, ℕ, IsTrue, IfOk, IfSome, IfNone, length, slice_get, unwrap_or};
 ghost use Rattle.std.specs.List.Sorted.{IsNonDecreasing};
 ghost use Rattle.fragment_codec.specs.Rules.{OpeningParts};
 ghost use Rattle.log_join.specs.Cells.{One};
 ghost use Rattle.log_join.specs.Stores.{opening_at, IsStore};
-ghost use Rattle.closed_cut.specs.Chain.{Sound, IsTop, LeadsTo, IsChain};
+ghost use Rattle.closed_cut.specs.Chain.{Sound, LeadsTo, IsChain};
 ghost use Rattle.closed_cut.specs.Walks.{AreSound, ComesAfter};
 
 use fragment_codec::{Frame, Opening};
@@ -61,6 +61,13 @@ fn sound_terms(alloc: Global, store: &Store) -> Result<Vec<Term>, Memory>
     Ok(sound)
 }
 
+/// The last of the terms, 0 where there is none.
+pub(crate) fn last_of(terms: &[Term]) -> Term
+    ensures { result ≡ unwrap_or (slice_get terms.now (length terms.now - 1)) 0 }
+{
+    terms.last().copied().unwrap_or(0)
+}
+
 /// A sound term and its ancestors, the oldest first; none for term 0.
 fn line_of(alloc: Global, store: &Store, top: Term) -> Result<Vec<Term>, Memory>
     requires { 0 < top → Sound store.now top }
@@ -81,6 +88,5 @@ pub fn chain(alloc: Global, store: &Store) -> Result<Vec<Term>, Memory>
     ensures { IfOk result (λ terms. IsChain store.now terms.items) }
 {
     let sound = sound_terms(alloc, store)?;
-    let top = sound.last().copied().unwrap_or(0);
-    line_of(alloc, store, top)
+    line_of(alloc, store, last_of(&sound))
 }

@@ -8,6 +8,7 @@ use crate::lowering::greatest_closed;
 use edge_log::Edge;
 use fragment_codec::{Fragment, Frame, Key, Opening, Record};
 use ft_types::{Count, Counts, Guest, Hart, Memory, Term};
+use input_log::Input;
 use log_join::{Put, Store};
 use std::alloc::Global;
 use std::process::Abort;
@@ -55,7 +56,7 @@ fn open(
     Ok(put(alloc, store, &Frame::Opening(opening))?)
 }
 
-/// Puts a piece of a hart's log.
+/// Puts a piece of a hart's log, with an input at its last step.
 fn hold(
     alloc: Global,
     store: &mut Store,
@@ -69,6 +70,7 @@ fn hold(
     for edge in edges {
         records.push(Record::Edge(*edge))?;
     }
+    records.push(Record::Input(to.saturating_sub(1), Input::Timer))?;
     let fragment = Fragment::new(guest, key, from, to, records).ok_or("a fragment")?;
     Ok(put(alloc, store, &Frame::Log(fragment))?)
 }
@@ -240,8 +242,8 @@ fn random_edges(alloc: Global, count: u64, start: u64) -> Result<Vec<Edge>, Memo
 {
     let mut edges = Vec::new(alloc);
     let mut seed = start;
-    for _ in 0..count {
-        seed = next(seed);
+    for place in 0..count {
+        seed = next(seed.wrapping_add(place));
         let hart = (seed >> 60) % 8;
         let other = (seed >> 50) % 8;
         let edge = edge(

@@ -9,7 +9,7 @@ ghost use Rattle.closed_cut.specs.Chain.{Sound, LeadsTo};
 ghost use Rattle.closed_cut.specs.Walks.{IsLimited};
 ghost use Rattle.closed_cut.specs.Position.{base_of, IsReached, Stops, IsPosition};
 
-use crate::ancestry::{chain, opening_of};
+use crate::ancestry::{chain, last_of, opening_of};
 use crate::answer::Position;
 use crate::gathering::gather;
 use crate::lowering::greatest_closed;
@@ -109,7 +109,7 @@ pub fn position(alloc: Global, store: &Store) -> Result<Position, Memory>
             top: 0,
         });
     };
-    let top = terms.last().copied().unwrap_or(0);
+    let top = last_of(&terms);
     let Some(root) = opening_of(store, *first) else {
         unreachable!()
     };

@@ -14,12 +14,11 @@ returns-in_default-clause-position c =
     refl (λ h. rw c.zero.ensures (zero_row c.min.result h)) refl
 
 -- the chain, as it is walked
-line : (c : goal.In-Some-opening_of) → IsLine c.args.store.now c.in-Some.first.now c.in-Some.rest.now c.unwrap_or-top.result
+line : (c : goal.In-Some-opening_of) → IsLine c.args.store.now c.in-Some.first.now c.in-Some.rest.now c.last_of-top.result
 line c =
-    line_of_chain c.args.store.now c.in_ok-terms.terms.items c.in-Some.first.now c.in-Some.rest.now c.unwrap_or-top.result c.in_ok-terms.ensures
+    line_of_chain c.args.store.now c.in_ok-terms.terms.items c.in-Some.first.now c.in-Some.rest.now c.last_of-top.result c.in_ok-terms.ensures
     (sym c.as_slice.ensures.value ∙ c.in-Some.ensures.cases.0)
-    (c.unwrap_or-top.ensures ∙
-    ap (λ o. unwrap_or o 0) (c.copied.ensures ∙ (c.last.ensures.value ∙ ap (λ l. slice_get l (length l - 1)) c.deref.ensures.value)))
+    (rw c.deref.ensures.value at c.last_of-top.ensures)
 
 pub walk-requires-clause-root : goal.walk-requires-clause-root
 walk-requires-clause-root c =
@@ -31,7 +30,7 @@ pub walk-requires-clause-rest : goal.walk-requires-clause-rest
 walk-requires-clause-rest c =
     let root = c.in-Some-opening_of.root.now in
     let same = (c.opening_of.ensures.rules.openings c.in-Some.first.now root c.in-Some-opening_of.ensures.one).same_term in
-    subst (λ t. LeadsTo c.args.store.now t c.in-Some.rest.now c.unwrap_or-top.result) (sym same) (line c).leads
+    subst (λ t. LeadsTo c.args.store.now t c.in-Some.rest.now c.last_of-top.result) (sym same) (line c).leads
 
 pub walk-requires-clause-sound : goal.walk-requires-clause-sound
 walk-requires-clause-sound c = (line c).is_top.sound
@@ -41,12 +40,11 @@ returns-clause-position c =
     let store = c.args.store.now in
     let root = c.in-Some-opening_of.root.now in
     let first = c.in-Some.first.now in
-    let top = c.unwrap_or-top.result in
+    let top = c.last_of-top.result in
     let l : IsLine store first c.in-Some.rest.now top =
     line_of_chain store c.in_ok-terms.terms.items first c.in-Some.rest.now top c.in_ok-terms.ensures
     (sym c.as_slice.ensures.value ∙ c.in-Some.ensures.cases.0)
-    (c.unwrap_or-top.ensures ∙
-    ap (λ o. unwrap_or o 0) (c.copied.ensures ∙ (c.last.ensures.value ∙ ap (λ l. slice_get l (length l - 1)) c.deref.ensures.value))) in
+    (rw c.deref.ensures.value at c.last_of-top.ensures) in
     let same = (c.opening_of.ensures.rules.openings first root c.in-Some-opening_of.ensures.one).same_term in
     both_then c.walk.result c.walk.ensures.top c.walk.ensures.stops
     (λ p is stops.
