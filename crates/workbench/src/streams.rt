@@ -21,7 +21,7 @@ use guest_image::Image;
 use std::alloc::Global;
 
 /// How many bytes are read at once.
-const PIECE: usize = 4096;
+pub const PIECE: usize = 4096;
 
 /// The guest of a frame.
 fn guest_of_frame(frame: &Frame) -> Guest
@@ -89,7 +89,7 @@ fn take_frames(
 }
 
 /// The fault of a stream that a feed answers.
-fn stream_fault(stream: usize, fault: FrameFault) -> StreamsFault
+pub fn stream_fault(stream: usize, fault: FrameFault) -> StreamsFault
     ensures { result ≡ fault_in stream fault }
 {
     match fault {
@@ -120,7 +120,7 @@ fn push(
 }
 
 /// What a read has put to the front of a piece.
-fn front_of(piece: &[u8], count: usize) -> &[u8]
+pub fn front_of(piece: &[u8], count: usize) -> &[u8]
     requires { count ≤ length piece.now }
     ensures { result.now ≡ take count piece.now }
 {
