@@ -1,6 +1,6 @@
 -- Lowering counts by edges, until they are closed.
-use Rattle.std.proofs.Common.{◌≡◌, ◌≢◌, inl, inr, ℕ, ◌+◌, ◌-◌, ◌<◌, ◌≤◌, List, All, Contains, map, set, length, get_or, refl, sym, ap, subst, arith, le_refl, le_trans, ◌∙◌, length-set, get_or-set_same, get_or-set_other}
-use Rattle.std.specs.List.{AllWithin, HoldsAt}
+use Rattle.std.proofs.Common.{◌≡◌, inl, inr, ℕ, ◌+◌, ◌-◌, ◌<◌, ◌≤◌, List, Contains, map, set, length, get_or, refl, sym, ap, subst, arith, le_refl, le_trans, ◌∙◌, length-set, get_or-set_same, get_or-set_other}
+use Rattle.std.specs.List.{AllWithin}
 use Rattle.std.specs.List.Sorted.{IsPermutation, IsNonDecreasingBy}
 use Rattle.std.proofs.lemmas.Bool.{cases_lt, cases_eq}
 use Rattle.std.proofs.lemmas.List.{get_or-map, get_or_default, length-map}

@@ -1,5 +1,5 @@
 -- What the walks over all harts of a term gather, and the greatest closed cut that it gives.
-use Rattle.std.proofs.Common.{◌≡◌, ◌≢◌, inl, inr, ℕ, zero, suc, ◌+◌, ◌<◌, ◌≤◌, min, List, [], ◌∷◌, ◌++◌, All, Contains, map, set, length, get_or, Option, Some, None, MatchOption, ◌↔◌, refl, sym, ap, subst, ◌∙◌, arith, add-one, le_refl, length-set, get_or-set_same, get_or-set_other}
+use Rattle.std.proofs.Common.{◌≡◌, inl, inr, ℕ, zero, suc, ◌+◌, ◌<◌, ◌≤◌, min, List, [], ◌∷◌, ◌++◌, Contains, map, set, length, get_or, Option, Some, None, MatchOption, ◌↔◌, refl, sym, ap, subst, ◌∙◌, arith, add-one, length-set, get_or-set_same, get_or-set_other}
 use Rattle.std.specs.List.{filter_map, AllByRecursion}
 use Rattle.std.proofs.lemmas.Bool.{cases_lt, cases_eq}
 use Rattle.std.proofs.lemmas.List.Elements.{Contains-append_cases, Contains-append_left, Contains-append_right, Contains-get_or}
@@ -18,10 +18,10 @@ use Rattle.fragment_codec.specs.declared.types.Record.TheVariants.{Edge as EdgeR
 use Rattle.fragment_codec.specs.Rules.{FragmentParts, OpeningParts, IsRecordOf}
 use Rattle.log_join.specs.Cells.{Cell, Absent, One, Clash}
 use Rattle.log_join.specs.Stores.{StoreView, opening_at, IsStore}
-use Rattle.closed_cut.specs.Position.{edge_in, edges_of, pieces_of, Goes, Avail, Fits, IsReached}
-use Rattle.closed_cut.specs.Lowering.{IsOf, AreOf}
+use Rattle.closed_cut.specs.Position.{edge_in, edges_of, pieces_of, Goes, Avail, IsReached}
+use Rattle.closed_cut.specs.Lowering.{AreOf}
 use Rattle.closed_cut.specs.Walks.{cell_edges, hart_edges, all_edges, IsGathered, IsLimited}
-use Rattle.closed_cut.proofs.Lowerings.{Found, found, contains_map}
+use Rattle.closed_cut.proofs.Lowerings.{found, contains_map}
 use Rattle.closed_cut.proofs.Walking.{one_same}
 
 -- ---- walks

@@ -1,12 +1,12 @@
 -- Walks over a hart's pieces.
-use Rattle.std.proofs.Common.{◌≡◌, ℕ, zero, suc, ◌+◌, ◌<◌, ◌≤◌, ◌^◌, List, ◌++◌, refl, sym, ap, subst, ◌∙◌, arith, add-one, append_assoc}
+use Rattle.std.proofs.Common.{◌≡◌, ℕ, ◌+◌, ◌<◌, ◌^◌, List, ◌++◌, refl, sym, ap, subst, ◌∙◌, arith, add-one, append_assoc}
 use Rattle.std.specs.List.{filter_map}
 use Rattle.edge_log.specs.declared.Edge.{Edge}
 use Rattle.fragment_codec.specs.Rules.{FragmentParts}
-use Rattle.log_join.specs.Cells.{Cell, Absent, One, Clash}
+use Rattle.log_join.specs.Cells.{Cell, One}
 use Rattle.log_join.specs.Stores.{StoreView, IsStore}
 use Rattle.closed_cut.specs.Position.{edge_in, pieces_of, Goes}
-use Rattle.closed_cut.specs.Walks.{cell_edges, hart_edges, IsGathered}
+use Rattle.closed_cut.specs.Walks.{cell_edges, hart_edges}
 
 pub one_same : {X : Type 0} {x y : X} {cell : Cell X} → cell ≡ One x → cell ≡ One y → x ≡ y
 one_same a b = cc

@@ -1,5 +1,4 @@
-use Rattle.std.proofs.Common.{◌≡◌, ◌-◌, length, slice_get, unwrap_or, sym, ap, subst, ◌∙◌}
-use Rattle.std.specs.Option.{option_copied}
+use Rattle.std.proofs.Common.{◌≡◌, ◌-◌, length, slice_get, unwrap_or}
 use Rattle.closed_cut.proofs.Chains.{ok_then, top_of, chain_is}
 use Rattle.closed_cut.proofs.ancestry.chain.Goals as goal
 

@@ -1,6 +1,5 @@
-use Rattle.std.proofs.Common.{◌≡◌, ◌<◌, ◌↔◌, Contains, true, false, refl, sym, subst, arith, ◌∙◌, true≢false}
-use Rattle.ft_types.specs.Counts.{IsWithin}
-use Rattle.closed_cut.specs.Chain.{Sound, Root}
+use Rattle.std.proofs.Common.{◌<◌, Contains, refl, sym, arith, ◌∙◌, true≢false}
+use Rattle.closed_cut.specs.Chain.{Root}
 use Rattle.closed_cut.proofs.Chains.{search_tells, sound_by_parent}
 use Rattle.closed_cut.proofs.ancestry.is_sound.Goals as goal
 

@@ -1,6 +1,5 @@
-use Rattle.std.proofs.Common.{◌≡◌, ◌<◌, [], ◌∷◌, ◌++◌, reverse, refl, sym, ap, subst, arith, ◌∙◌}
+use Rattle.std.proofs.Common.{[], ◌∷◌, sym, arith}
 use Rattle.std.proofs.lemmas.List.{reverse-append}
-use Rattle.closed_cut.specs.Chain.{Sound, LeadsTo}
 use Rattle.closed_cut.proofs.Chains.{term_above, sound_parent}
 use Rattle.closed_cut.proofs.ancestry.line_of.Goals as goal
 

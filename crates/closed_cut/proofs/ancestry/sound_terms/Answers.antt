@@ -1,4 +1,4 @@
-use Rattle.std.proofs.Common.{◌≡◌, ◌<◌, length, get_or, true, false, true≢false, refl, sym, subst, arith, ◌∙◌}
+use Rattle.std.proofs.Common.{◌≡◌, ◌<◌, length, get_or, true≢false, refl, sym, subst, arith, ◌∙◌}
 use Rattle.log_join.specs.Cells.{One}
 use Rattle.log_join.specs.Stores.{opening_at, AreTerms}
 use Rattle.closed_cut.specs.Chain.{Sound}

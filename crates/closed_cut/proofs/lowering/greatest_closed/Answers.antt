@@ -1,4 +1,4 @@
-use Rattle.std.proofs.Common.{subst, sym, ap, rules}
+use Rattle.std.proofs.Common.{rules}
 use Rattle.std.proofs.lemmas.List.Sorted.{IsNonDecreasingBy-from_sort_by_key, All-permutation}
 use Rattle.ft_types.specs.Counts.{count_at}
 use Rattle.closed_cut.specs.Lowering.{IsOf}

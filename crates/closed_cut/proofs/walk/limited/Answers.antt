@@ -1,4 +1,4 @@
-use Rattle.std.proofs.Common.{refl, sym}
+use Rattle.std.proofs.Common.{sym}
 use Rattle.closed_cut.proofs.Reach.{limited_some}
 use Rattle.closed_cut.proofs.walk.limited.Goals as goal
 

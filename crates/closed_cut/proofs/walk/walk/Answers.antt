@@ -1,10 +1,9 @@
-use Rattle.std.proofs.Common.{◌≡◌, ◌+◌, ◌<◌, ◌≤◌, ℕ, length, drop, Some, refl, true≢false, le_of_eq, sym, ap, subst, arith, ◌∙◌}
+use Rattle.std.proofs.Common.{◌≡◌, ◌+◌, ◌≤◌, drop, Some, refl, true≢false, le_of_eq, sym, subst, arith, ◌∙◌}
 use Rattle.std.proofs.lemmas.List.{drop_all}
 use Rattle.ft_types.specs.Counts.{count_at, IsWithin}
-use Rattle.log_join.specs.Stores.{StoreView}
 use Rattle.closed_cut.specs.Chain.{LeadsTo}
 use Rattle.closed_cut.specs.Position.{base_of, IsReached, Last, Short, On}
-use Rattle.closed_cut.proofs.Chains.{IsNext, next_of, next_within, leads_in_chain, row_same}
+use Rattle.closed_cut.proofs.Chains.{next_of, next_within, leads_in_chain}
 use Rattle.closed_cut.proofs.Reach.{base_many}
 use Rattle.closed_cut.proofs.walk.walk.Goals as goal
 
