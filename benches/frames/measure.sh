@@ -10,7 +10,7 @@ trap 'rm -rf "$work"' EXIT
 
 # The crate, what it stands on, and the program that calls it, in a workspace of their own.
 mkdir "$work/crates"
-for crate in interleaving ft_types input_log edge_log fragment_codec; do
+for crate in interleaving ft_types input_log edge_log fragment_codec log_join; do
     mkdir "$work/crates/$crate"
     cp -R "$top/crates/$crate/src" "$top/crates/$crate/specs" "$top/crates/$crate/proofs" \
         "$work/crates/$crate/" 2>/dev/null || true
@@ -21,7 +21,7 @@ cp -R "$here/frames_bench" "$work/crates/"
 for file in "$work/crates/frames_bench"/src/*.rt.txt; do
     mv "$file" "${file%.txt}"
 done
-echo 'frames_bench: fragment_codec ft_types input_log edge_log sha2 anyhow' >> "$work/crates.txt"
+echo 'frames_bench: log_join fragment_codec ft_types input_log edge_log sha2 anyhow' >> "$work/crates.txt"
 (cd "$work/crates/frames_bench" && rt run > "$work/build.txt" 2>&1) || {
     tail "$work/build.txt"
     exit 1
@@ -44,5 +44,6 @@ per_byte() {
 for kind in edges inputs small; do
     a=$(per_byte push "$kind")
     b=$(per_byte hash "$kind")
-    awk "BEGIN { printf \"%-7s push %s, hash %s instructions per byte, ratio %.3f\n\", \"$kind\", $a, $b, $a / $b }"
+    c=$(per_byte join "$kind")
+    awk "BEGIN { printf \"%-7s push %s, join %s, hash %s instructions per byte, ratios %.3f and %.3f\n\", \"$kind\", $a, $c, $b, $a / $b, $c / $b }"
 done

@@ -3,19 +3,18 @@ use Rattle.std.proofs.Common.{◌≡◌, ◌≢◌, inl, inr, ℕ, is_some, ◌�
 use Rattle.ft_types.specs.declared.names.Want.{Want}
 use Rattle.interleaving.specs.Lists.{put, Each}
 use Rattle.interleaving.specs.Log.{Edge}
-use Rattle.interleaving.specs.Machine.{Writes, System, Machine, Turn, step_of, counts, steps}
+use Rattle.interleaving.specs.Machine.{Writes, System, Machine, Turn, after, step_of, counts, steps}
 use Rattle.interleaving.proofs.Put.{same_or_not, put_same, put_other}
 use Rattle.interleaving.proofs.Each.{each_append, each_more}
 use Rattle.interleaving.proofs.Runs.{steps_append, run_append, runs_append, counts_grow}
 use Rattle.crew_pages.specs.Rights.{Right}
 use Rattle.lease_ledger.specs.Ledger.{Lease, Ledger, fresh_stub, noted, taking, lent, stepped, present, Uses, IsLease, IsOurs}
 use Rattle.lease_ledger.specs.Calls.{Answer, HeldBy, Given, Keep, opened, needed, settled}
-use Rattle.lease_ledger.specs.Laws.{lease_opened, lease_needed, lease_ticked, MayTick, GoesOn, LeasesGoOn, TicksGoOn, IsLentMore, LendsMore}
+use Rattle.lease_ledger.specs.Laws.{lease_opened, lease_needed, lease_ticked, MayTick, GoesOn, IsLentMore}
 use Rattle.lease_ledger.proofs.Runs.{Taking, RunsAlike, run_unwritten, run_untaken, run_alike}
 use Rattle.lease_ledger.proofs.Alike.{uses_taken}
 use Rattle.lease_ledger.proofs.Noted.{noted_keeps, noted_cases, to_write_keeps, to_write_cases}
 use Rattle.lease_ledger.proofs.Invariant.{is_some_of, some_of, Ok, owned_apart}
-use Rattle.lease_ledger.proofs.Reached.{reached_ok}
 
 module _ {Hart Page Input : Type 0} (system : System Hart Page Input) where
   pub opens : (b : Ledger Hart Page Input) (h : ℕ) (edges : List Edge) →
@@ -184,6 +183,10 @@ module _ {Hart Page Input : Type 0} (system : System Hart Page Input) where
           owned_apart system crew start b ok l.hart mine.hart l.stub mine.stub ours.stub theirs.stub ne page k is takes)
           (steps system (lent l) l.turns) lease.uses))
 
+  pub tick_goes_on : (l : Lease Hart Page Input) (t : Turn Input) →
+      stepped system (lease_ticked system l t) ≡ after (stepped system l) (step_of system (stepped system l) t)
+  tick_goes_on l t = run_append system (lent l) l.turns (t ∷ [])
+
   pub goes_on : (crew : ℕ) (start : Machine Hart Page) (b : Ledger Hart Page Input) → Ok system crew start b → GoesOn system b
   goes_on crew start b ok =
       record {
@@ -200,12 +203,3 @@ module _ {Hart Page Input : Type 0} (system : System Hart Page Input) where
             λ hart s mine ne ours.
             record { stub = put_other b.stubs hart mine.hart None ne ∙ ours.stub; state = ours.state; pages = ours.pages };
       }
-
-pub leases_go_on : {Hart Page Input : Type 0} (system : System Hart Page Input) → LeasesGoOn system
-leases_go_on system crew start b few reached = goes_on system crew start b (reached_ok system crew few start b reached)
-
-pub ticks_go_on : {Hart Page Input : Type 0} (system : System Hart Page Input) → TicksGoOn system
-ticks_go_on system l t = run_append system (lent l) l.turns (t ∷ [])
-
-pub lends_more : {Hart Page Input : Type 0} (system : System Hart Page Input) → LendsMore system
-lends_more system b l page want edges lease ours = lent_more system b page want l lease ours edges

@@ -10,4 +10,6 @@ mod Settling
 mod Dropping
 mod Reached
 mod GoesOn
+mod Played
+pub mod Laws
 mod AtWork

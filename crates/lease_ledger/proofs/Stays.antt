@@ -1,11 +1,11 @@
 -- What a hart keeps of a right while others leave, are lowered or are given it, and who stands in whose way.
 use Rattle.std.proofs.Common.{◌≡◌, ◌≢◌, inl, inr, ℕ, ◌==◌, ◌≤◌, not, nat_lt, Bool, true, false, if◌then◌else◌, Some, refl, sym, ◌∙◌, le_trans, le_refl, eq-eqb, eqb-true, true≢false}
-use Rattle.std.proofs.lemmas.Bool.{and_parts, ne_eqb}
+use Rattle.std.proofs.lemmas.Bool.{and_parts, and_from, ne_eqb}
 use Rattle.ft_types.specs.declared.names.Want.{Want}
 use Rattle.ft_types.specs.declared.names.Want.TheVariants.{Read, Write}
 use Rattle.interleaving.specs.Lists.{put}
 use Rattle.interleaving.proofs.Put.{same_or_not, put_same, put_other}
-use Rattle.crew_pages.specs.Rights.{Right, Shared, Exclusive, nobody, holds, owns, stands, IsFree, has_it, given, give_up, lower}
+use Rattle.crew_pages.specs.Rights.{Right, Shared, Exclusive, nobody, holds, owns, stands, is_against, IsFree, has_it, given, give_up, lower}
 use Rattle.crew_pages.specs.Page.{at_of}
 use Rattle.lease_ledger.specs.Calls.{Keep, All, Readable, Nothing, kept}
 
@@ -154,3 +154,25 @@ pub at_given : (r : Right) (h n : ℕ) (want : Want) → (owns r h ≡ true → 
 at_given (Shared since readers left) h n Read le o = absurd (true≢false (sym o))
 at_given (Shared since readers left) h n Write le o = le_refl n
 at_given (Exclusive owner at since left) h n want le o = le o
+
+-- whoever stands against an asker stood against it before another left
+pub stood_against : (r : Right) (h : ℕ) (want : Want) (g c other : ℕ) → stands (give_up r g c) h want other ≡ true → stands r h want other ≡ true
+stood_against (Shared since readers left) h Read g c other e = e
+stood_against (Shared since readers left) h Write g c other e =
+    let p = and_parts (not (h == other)) (put readers g false other) e in
+    and_from (not (h == other)) (readers other) p.0 (held_before (Shared since readers left) g c other p.1)
+stood_against (Exclusive owner at since left) h want g c other e =
+    let r : Right = Exclusive owner at since left in
+    and_from (not (h == other)) (owner == other) (and_parts (not (h == other)) (is_against (give_up r g c) want other) e).0
+    (held_before r g c other (stands_holds (give_up r g c) h want other e))
+
+-- and stands against it when another has left
+pub still_against : (r : Right) (h : ℕ) (want : Want) (g c other : ℕ) → g ≢ other → holds r g ≡ true → stands r h want other ≡ true →
+    stands (give_up r g c) h want other ≡ true
+still_against (Shared since readers left) h Read g c other ne held e = e
+still_against (Shared since readers left) h Write g c other ne held e =
+    let p = and_parts (not (h == other)) (readers other) e in
+    and_from (not (h == other)) (put readers g false other) p.0 (put_other readers g other false ne ∙ p.1)
+still_against (Exclusive owner at since left) h want g c other ne held e =
+    absurd
+    (ne (sym (eqb-true owner g held) ∙ eqb-true owner other (and_parts (not (h == other)) (owner == other) e).1))

@@ -1,5 +1,5 @@
 -- What holds of every ledger that calls lead to.
-use Rattle.std.specs.Prelude.{ℕ, ◌≡◌, ◌≢◌, ◌≤◌, ◌<◌, ◌↔◌, is_some, true, false, List, [], ◌∷◌, ◌++◌, Option, Some, Contains, length}
+use Rattle.std.specs.Prelude.{ℕ, ◌≡◌, ◌≢◌, ◌≤◌, ◌<◌, ◌↔◌, is_some, true, false, List, [], ◌∷◌, ◌++◌, Option, Some, None, Contains, length}
 use Rattle.ft_types.specs.declared.names.Want.{Want}
 use Rattle.ft_types.specs.Counts.{count_at}
 use Rattle.interleaving.specs.Lists.{put, EachPair}
@@ -10,13 +10,19 @@ use Rattle.interleaving.specs.Recorder.{input_at}
 use Rattle.interleaving.specs.Stored.{Store, Hardware, run_from, system_of, view}
 use Rattle.edge_log.specs.EdgeLog.{Edges, IsLog, edges_of, edge_as, MayAdd}
 use Rattle.edge_log.specs.declared.Edge as declared
-use Rattle.crew_pages.specs.Rights.{Right, stands}
-use Rattle.lease_ledger.specs.Ledger.{Stub, Lease, Ledger, fresh_stub, taking, lent, stepped, present, IsLease, IsOurs}
-use Rattle.lease_ledger.specs.Calls.{has_taken, Answer, HeldBy, Given, Keep, IsYielded, opened, needed, settled, dropped, Reached}
+use Rattle.crew_pages.specs.Rights.{Right, holds, owns, stands, give_up}
+use Rattle.lease_ledger.specs.Ledger.{Stub, Lease, Ledger, begin, fresh_stub, taking, lent, stepped, present, IsLease, IsOurs}
+use Rattle.lease_ledger.specs.Calls.{IsHeard, has_taken, Answer, HeldBy, Given, IsAnswered, Keep, IsYielded, opened, needed, settled, dropped, Reached}
 
 -- the edges of one hart come in the order of its steps
 abbrev pub InOrder : Edge → Edge → Type 0
 InOrder e f = e.hart ≡ f.hart → e.step ≤ f.step
+
+-- a hart that gives a right up is in nobody's way, and puts no other there
+abbrev pub LeavesTheWay : Type 0
+LeavesTheWay =
+    (right : Right) (hart : ℕ) (want : Want) (leaver count other : ℕ) → holds right leaver ≡ true →
+    stands (give_up right leaver count) hart want other ≡ true → (leaver ≢ other) × (stands right hart want other ≡ true)
 
 module _ {Hart Page Input : Type 0} (system : System Hart Page Input) where
   -- Honesty.
@@ -112,7 +118,20 @@ module _ {Hart Page Input : Type 0} (system : System Hart Page Input) where
       (next : declared.Edge) (log : Edges) → crew ≤ 8 → Reached system crew start b → IsLease system l → IsOurs b l →
       l.stub.edges ≡ before ++ edge_as next ∷ after → IsAdding crew start b before log → MayAdd log next
 
-  -- Who is named.
+  -- Who holds what.
+
+  -- only harts that there are hold rights and have open leases, and each has the rights to what its open lease took
+  pub record HasItsRights (crew : ℕ) (b : Ledger Hart Page Input) : Type 0 where
+    pub harts : (page hart : ℕ) → holds (b.rights page) hart ≡ true → hart < crew
+    pub leased : (hart : ℕ) (s : Stub) → b.stubs hart ≡ Some s → hart < crew
+    pub held : (hart : ℕ) (s : Stub) (page k : ℕ) → b.stubs hart ≡ Some s → s.read_at page ≡ Some k →
+        (holds (b.rights page) hart ≡ true) × (counts system b.machine hart ≤ k)
+    pub owned : (hart : ℕ) (s : Stub) (page k : ℕ) → b.stubs hart ≡ Some s → s.write_at page ≡ Some k →
+        (owns (b.rights page) hart ≡ true) × (is_some (s.read_at page) ≡ true)
+
+  abbrev pub KeepsRights : Type 0
+  KeepsRights =
+      (crew : ℕ) (start : Machine Hart Page) (b : Ledger Hart Page Input) → crew ≤ 8 → Reached system crew start b → HasItsRights crew b
 
   -- those in the way of an asker are the harts that stood against it and whose open leases have taken the page
   abbrev pub HeldByTakers : Type 0
@@ -158,6 +177,35 @@ module _ {Hart Page Input : Type 0} (system : System Hart Page Input) where
   abbrev pub LeasesGoOn : Type 0
   LeasesGoOn =
       (crew : ℕ) (start : Machine Hart Page) (b : Ledger Hart Page Input) → crew ≤ 8 → Reached system crew start b → GoesOn b
+
+  -- The ledgers of callers who change their leases by the calls alone, with the leases that are out, by hart.
+  pub data Played (crew : ℕ) (start : Machine Hart Page) : Ledger Hart Page Input → (ℕ → Option (Lease Hart Page Input)) → Type 0 where
+    Begins : Played crew start (begin start) (λ hart. None)
+    Opens : {b : Ledger Hart Page Input} {out : ℕ → Option (Lease Hart Page Input)} (hart : ℕ) (edges : List Edge) → Played crew start b out →
+        hart < crew → out hart ≡ None → ((e : Edge) → Contains edges e → IsHeard system crew b.machine hart e) →
+        Played crew start (opened b hart edges) (put out hart (Some (lease_opened b hart edges)))
+    Ticks : {b : Ledger Hart Page Input} {out : ℕ → Option (Lease Hart Page Input)} (l : Lease Hart Page Input) (t : Turn Input) →
+        Played crew start b out → out l.hart ≡ Some l → MayTick l t → Played crew start b (put out l.hart (Some (lease_ticked l t)))
+    Asks : {b : Ledger Hart Page Input} {out : ℕ → Option (Lease Hart Page Input)} (l : Lease Hart Page Input) (page : ℕ) (want : Want)
+        (right : Right) (answer : Answer) → Played crew start b out → out l.hart ≡ Some l → IsYielded system b l.hart page want right →
+        IsAnswered right l.hart want (present system l) answer →
+        Played crew start (needed system b l page want right answer) (put out l.hart (Some (lease_needed b l page want answer)))
+    Settles : {b : Ledger Hart Page Input} {out : ℕ → Option (Lease Hart Page Input)} (l : Lease Hart Page Input) (keep : ℕ → Keep) →
+        Played crew start b out → out l.hart ≡ Some l → Played crew start (settled system b l keep) (put out l.hart None)
+    Drops : {b : Ledger Hart Page Input} {out : ℕ → Option (Lease Hart Page Input)} (l : Lease Hart Page Input) → Played crew start b out →
+        out l.hart ≡ Some l → Played crew start (dropped system b l.hart l.stub) (put out l.hart None)
+
+  -- the lease is its ledger's open lease of the hart
+  pub record IsOut (b : Ledger Hart Page Input) (hart : ℕ) (l : Lease Hart Page Input) : Type 0 where
+    pub hart_is : l.hart ≡ hart
+    pub lease : IsLease system l
+    pub ours : IsOurs b l
+
+  -- then no call refuses a lease as foreign
+  abbrev pub NoneIsForeign : Type 0
+  NoneIsForeign =
+      (crew : ℕ) (start : Machine Hart Page) (b : Ledger Hart Page Input) (out : ℕ → Option (Lease Hart Page Input)) → crew ≤ 8 →
+      Played crew start b out → Reached system crew start b × ((hart : ℕ) (l : Lease Hart Page Input) → out hart ≡ Some l → IsOut b hart l)
 
   -- What the lease has at present: a tick goes on from there, and a page that is new to it comes from the ledger's machine.
 

@@ -5,7 +5,8 @@
 ghost use Rattle.interleaving.specs.Machine.{System};
 ghost use Rattle.interleaving.specs.Stored.{Hardware};
 ghost use Rattle.lease_ledger.specs.Laws.{KeepsLedger, HasHonestLog, AddsItsSteps, LaysItsRun, RunsInLists};
-ghost use Rattle.lease_ledger.specs.Laws.{KeepsOrder, MayAddNext, HeldByTakers, LeasesGoOn, TicksGoOn, LendsMore};
+ghost use Rattle.lease_ledger.specs.Laws.{KeepsOrder, MayAddNext, KeepsRights, HeldByTakers, LeavesTheWay};
+ghost use Rattle.lease_ledger.specs.Laws.{LeasesGoOn, NoneIsForeign, TicksGoOn, LendsMore};
 ghost use Rattle.lease_ledger.specs.Examples.{SideBySide, ForgetsCounts};
 
 #[cfg(test)]
@@ -27,13 +28,20 @@ pub fn edge_order<H, P, I>()
     ensures may_add { (system : System H P I) → MayAddNext system }
 {}
 
-/// A lease that only the calls change keeps its type and passes each comparison, whatever the other leases do; who is in
-/// the way of an asker has taken the page.
+/// A lease that only the calls change keeps its type and passes each comparison, whatever the other leases do; and what
+/// it has at present.
 pub fn leases_go_on<H, P, I>()
     ensures leases { (system : System H P I) → LeasesGoOn system }
+    ensures none_is_foreign { (system : System H P I) → NoneIsForeign system }
     ensures ticks { (system : System H P I) → TicksGoOn system }
     ensures lends_more { (system : System H P I) → LendsMore system }
+{}
+
+/// A hart has the rights to what its open lease took, and who is in the way of an asker has taken the page.
+pub fn rights_held<H, P, I>()
+    ensures rights { (system : System H P I) → KeepsRights system }
     ensures held_by { (system : System H P I) → HeldByTakers system }
+    ensures leaves_the_way { LeavesTheWay }
 {}
 
 /// The calls at work: two leases side by side, of which one waits for the other's page, and a lease that must not be

@@ -7,5 +7,6 @@ fn laws_hold() {
     crate::honest_ledger::<Counter, u64, Act>();
     crate::edge_order::<Counter, u64, Act>();
     crate::leases_go_on::<Counter, u64, Act>();
+    crate::rights_held::<Counter, u64, Act>();
     crate::examples();
 }

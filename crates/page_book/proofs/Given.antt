@@ -5,7 +5,12 @@ use Rattle.rv32_hart.specs.Hart.{Hart}
 use Rattle.guest_image.specs.Machine.{MachineState}
 use Rattle.page_book.specs.declared.lease_pages.Slot.{Slot}
 use Rattle.page_book.specs.declared.lease_pages.Slot.TheVariants.{Missing, Readable, Writable}
-use Rattle.page_book.specs.Slots.{slot_at, base_of, is_writable}
+use Rattle.ft_types.specs.declared.names.Want.TheVariants.{Read, Write}
+use Rattle.std.proofs.lemmas.Bool.{cases_eq}
+use Rattle.page_book.specs.declared.taken.Taken.{Taken}
+use Rattle.page_book.specs.Taken.{taken_at, right_of_taken, taking}
+use Rattle.page_book.proofs.Slots.{index-replicate, none-replicate, at-set_same, at-set_other}
+use Rattle.page_book.specs.Slots.{slot_at, want_of, base_of, is_writable}
 use Rattle.page_book.specs.Leases.{LeaseView, base_at, fresh, laid, laid_pages, page_after, with_page_to_read, with_page_to_write}
 use Rattle.page_book.specs.Runs.{run_of, turns_in_a_row, StandsIn, IsRunOf, IsLease}
 
@@ -113,6 +118,7 @@ pub fresh_kept : (hart : ℕ) (state : Hart) (pages stop : ℕ) → stop < 2 ^ 4
 fresh_kept hart state pages stop lt = record {
   stop = lt;
   as_many = length-replicate {A = Option (List ℕ)} pages None ∙ sym (length-replicate {A = Slot} pages Missing);
+  rights = λ page. ap want_of (index-replicate pages page) ∙ sym (ap right_of_taken (none-replicate {A = Taken} 64 page));
   number = refl;
   harts = refl;
   count = omega arith;
@@ -120,8 +126,28 @@ fresh_kept hart state pages stop lt = record {
   within = inl refl;
 }
 
-pub read_kept : (l : LeaseView) (page : ℕ) (here : List ℕ) → slot_at l.slots page ≡ Missing → IsLease l → IsLease (with_page_to_read l page here)
-read_kept l page here missing p = record {
+none_taken : (x : Option Taken) (n : ℕ) → right_of_taken x ≡ None → right_of_taken (Some (taking x Read n)) ≡ Some Read
+none_taken None n e = refl
+none_taken (Some x) n e = cc
+
+-- the right to one page changed, in the slots and in the counts
+rights_set : (slots : List Slot) (taken : List (Option Taken)) (page : ℕ) (new : Slot) (x : Option Taken) → page < length slots → page < length taken →
+    want_of new ≡ right_of_taken x → ((q : ℕ) → want_of (slot_at slots q) ≡ right_of_taken (taken_at taken q)) →
+    (q : ℕ) → want_of (slot_at (slice_set slots page new) q) ≡ right_of_taken (taken_at (slice_set taken page x) q)
+rights_set slots taken page new x lt row same rights q =
+    elim (cases_eq page q) [
+      | inl e ↦
+          rw (← e) (ap want_of (at-set_same slots page new Missing lt) ∙ (same ∙ sym (ap right_of_taken (at-set_same taken page x None row))))
+      | inr ne ↦
+          ap want_of (at-set_other slots page q new Missing ne) ∙ (rights q ∙ sym (ap right_of_taken (at-set_other taken page q x None ne)))
+    ]
+
+pub read_kept : (l : LeaseView) (page : ℕ) (here : List ℕ) → page < length l.slots → page < length l.taken → slot_at l.slots page ≡ Missing → IsLease l →
+    IsLease (with_page_to_read l page here)
+read_kept l page here lt row missing p = record {
+  rights =
+      rights_set l.slots l.taken page (Readable here) (Some (taking (taken_at l.taken page) Read l.present.count)) lt row
+      (sym (none_taken (taken_at l.taken page) l.present.count (sym (p.rights page) ∙ ap want_of missing))) p.rights;
   stop = p.stop;
   as_many = p.as_many ∙ sym (length-set l.slots page (Readable here));
   number = p.number;
@@ -131,9 +157,10 @@ read_kept l page here missing p = record {
   within = p.within;
 }
 
-pub write_kept : (l : LeaseView) (page : ℕ) (base : List ℕ) → page < length l.slots → is_writable (slot_at l.slots page) ≡ false →
+pub write_kept : (l : LeaseView) (page : ℕ) (base : List ℕ) → page < length l.slots → page < length l.taken → is_writable (slot_at l.slots page) ≡ false →
     ((bytes : List ℕ) → base_at l page ≡ Some bytes → bytes ≡ base) → IsLease l → IsLease (with_page_to_write l page base base)
-write_kept l page base lt unwritten lent p = record {
+write_kept l page base lt row unwritten lent p = record {
+  rights = rights_set l.slots l.taken page (Writable base) (Some (taking (taken_at l.taken page) Write l.present.count)) lt row refl p.rights;
   stop = p.stop;
   as_many = length-set l.bases page (Some base) ∙ p.as_many ∙ sym (length-set l.slots page (Writable base));
   number = p.number;

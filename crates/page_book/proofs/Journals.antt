@@ -7,7 +7,7 @@ use Rattle.input_log.specs.declared.Input.{Input}
 use Rattle.rv32_hart.specs.Hardware.{hardware}
 use Rattle.guest_image.specs.Machine.{MachineState}
 use Rattle.page_book.specs.declared.stretch.Stretch.{Stretch}
-use Rattle.ft_types.specs.declared.names.Want.{Want}
+use Rattle.page_book.specs.declared.taken.Taken.{Taken}
 use Rattle.page_book.specs.declared.lease_pages.Slot.{Slot}
 use Rattle.page_book.specs.declared.book.OpenLease.{OpenLease}
 use Rattle.page_book.specs.Slots.{slot_at, base_of}
@@ -49,11 +49,11 @@ settled start m journal l run pages runs on =
     ∙ runs m on)
 
 -- what the lease was lent stands in the machine
-pub stands : (m : MachineState) (taken : List (Option Want)) (l : LeaseView) → IsLent m taken l → StandsIn m l
+pub stands : (m : MachineState) (taken : List (Option Taken)) (l : LeaseView) → IsLent m taken l → StandsIn m l
 stands m taken l p = record {
   state = p.state;
   as_many = p.as_many;
-  contents = λ page bytes e. (p.pages page (lent_within l.slots page (slice_index_or l.bases page None) bytes e)).contents bytes e;
+  contents = λ page bytes e. (p.pages page (lent_within l.slots page (slice_index_or l.bases page None) bytes e)) bytes e;
 }
   where
     lent_within : (slots : List Slot) (page : ℕ) (kept : Option (List ℕ)) (bytes : List ℕ) → base_of (slot_at slots page) kept ≡ Some bytes → page < length slots

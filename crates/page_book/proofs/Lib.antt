@@ -1,9 +1,12 @@
+pub mod Alike
 pub mod Given
+pub mod Halted
 pub mod Journals
 pub mod Obeyed
+pub mod Lacking
 pub mod Laid
-pub mod Ours
 pub mod OneHart
+pub mod Ours
 pub mod Places
 pub mod Runs
 pub mod Shown

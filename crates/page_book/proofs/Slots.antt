@@ -1,5 +1,5 @@
 -- The RAM that slots show.
-use Rattle.std.proofs.Common.{◌≡◌, ℕ, zero, suc, ◌+◌, ◌<◌, ◌≤◌, List, [], ◌∷◌, length, map, slice_set, slice_index_or, Bool, true, false, refl, ap, sym, ◌∙◌, arith, replicate}
+use Rattle.std.proofs.Common.{◌≡◌, ℕ, zero, suc, ◌+◌, ◌<◌, ◌≤◌, List, [], ◌∷◌, length, map, slice_set, slice_index_or, Bool, true, false, refl, ap, sym, ◌∙◌, arith, replicate, Option, None, Some}
 use Rattle.std.proofs.lemmas.List.{get_or_default, length-replicate}
 use Rattle.rv32_hart.specs.Ram.{Ram, IsRam, with_page, page_of}
 use Rattle.page_book.specs.declared.lease_pages.Slot.{Slot}
@@ -100,3 +100,21 @@ slots_told (Writable x ∷ xs) (Writable y ∷ ys) c r w =
 pub ram_tells : (a b : List Slot) → ram_of a ≡ ram_of b → a ≡ b
 ram_tells a b e =
     slots_told a b (ap (λ (r : Ram). r.contents) e) (ap (λ (r : Ram). r.readable) e) (ap (λ (r : Ram). r.writable) e)
+
+-- a list that was changed at one place
+pub at-set_same : {A : Type 0} (xs : List A) (i : ℕ) (x d : A) → i < length xs → slice_index_or (slice_set xs i x) i d ≡ x
+at-set_same [] i x d lt = absurd (omega arith)
+at-set_same (y ∷ ys) zero x d lt = refl
+at-set_same (y ∷ ys) (suc i) x d lt = at-set_same ys i x d (omega arith)
+
+pub at-set_other : {A : Type 0} (xs : List A) (i j : ℕ) (x d : A) → (i ≡ j → ⊥) → slice_index_or (slice_set xs i x) j d ≡ slice_index_or xs j d
+at-set_other [] i j x d ne = refl
+at-set_other (y ∷ ys) zero zero x d ne = absurd (ne refl)
+at-set_other (y ∷ ys) zero (suc j) x d ne = refl
+at-set_other (y ∷ ys) (suc i) zero x d ne = refl
+at-set_other (y ∷ ys) (suc i) (suc j) x d ne = at-set_other ys i j x d (λ e. ne (ap suc e))
+
+pub none-replicate : {A : Type 0} (n i : ℕ) → slice_index_or (replicate n (let none : Option A = None in none)) i None ≡ None
+none-replicate zero i = refl
+none-replicate (suc n) zero = refl
+none-replicate (suc n) (suc i) = none-replicate n i

@@ -11,7 +11,7 @@ use Rattle.rv32_hart.specs.Csrs.{received_all}
 use Rattle.rv32_hart.specs.Access.{next_step}
 use Rattle.rv32_hart.specs.Local.{step_local}
 use Rattle.rv32_hart.specs.Hardware.{hardware}
-use Rattle.ft_types.specs.declared.names.Want.{Want}
+use Rattle.page_book.specs.declared.taken.Taken.{Taken}
 use Rattle.guest_image.specs.Machine.{MachineState}
 use Rattle.page_book.specs.declared.lease_pages.Slot.{Slot}
 use Rattle.page_book.specs.declared.lease_pages.Slot.TheVariants.{Missing, Readable, Writable}
@@ -124,18 +124,19 @@ module _ (l : LeaseView) (after : Hart) (slots : List Slot) (taken : IsTaken [] 
       ∙ ap (λ (o : Option MachineState). run_from (hardware (length m.pages)) o (turn_of l.hart ∷ [])) (runs m before)
       ∙ ap (λ (o : Option MachineState). run_from (hardware (length m.pages)) o []) (goes_on m before))
 
+  -- a step leaves the right to each page
+  pub rights_stay : (page : ℕ) → want_of (slot_at slots page) ≡ want_of (slot_at l.slots page)
+  rights_stay page = (left []).rights_after page
+
   -- whoever lent the lease before the step still did
-  pub still_lent : (m : MachineState) (rights : List (Option Want)) → IsLent m rights l → IsLent m rights (stepped l after slots)
-  still_lent m rights lent =
+  pub still_lent : (m : MachineState) (counts : List (Option Taken)) → IsLent m counts l → IsLent m counts (stepped l after slots)
+  still_lent m counts lent =
       let same : Leaves l.slots slots m.pages what.write = left m.pages in
       record {
         state = lent.state;
         as_many = same.length_after ∙ lent.as_many;
-        pages = λ page lt.
+        counts = lent.counts;
+        pages = λ page lt bytes e.
             let within : page < length l.slots = omega (arith, same.length_after, lt) in
-            record {
-              right = same.rights_after page ∙ (lent.pages page within).right;
-              contents = λ bytes e.
-                  (lent.pages page within).contents bytes (sym (same.bases_after page (slice_index_or l.bases page None)) ∙ e);
-            };
+            lent.pages page within bytes (sym (same.bases_after page (slice_index_or l.bases page None)) ∙ e);
       }

@@ -11,7 +11,7 @@ use Rattle.page_book.specs.declared.lease_pages.Slot.{Slot}
 use Rattle.page_book.specs.Slots.{ram_of, present_bytes}
 use Rattle.page_book.specs.Leases.{LeaseView, stepped, IsFull}
 use Rattle.page_book.specs.Runs.{IsLease}
-use Rattle.page_book.proofs.Ticked.{ticked}
+use Rattle.page_book.proofs.Ticked.{ticked, rights_stay}
 use Rattle.page_book.proofs.Slots.{length-map}
 
 pub taken_counted : (h after : Hart) (ram left : Ram) → IsTaken [] h ram after left → Counted h after
@@ -21,7 +21,7 @@ length-written_in : (pages : List (List ℕ)) (write : Option (Write (List ℕ))
 length-written_in pages None = refl
 length-written_in pages (Some w) = length-set pages w.page w.contents
 
-length_shown : (slots : List Slot) → length (ram_of slots).contents ≡ length slots
+pub length_shown : (slots : List Slot) → length (ram_of slots).contents ≡ length slots
 length_shown slots = length-map present_bytes slots
 
 -- a lease after a step is a lease
@@ -33,6 +33,7 @@ tick_kept l after slots p t lt =
     record {
       stop = p.stop;
       as_many = p.as_many ∙ sym (length_shown l.slots) ∙ sym (pages ∙ length-written_in (ram_of l.slots).contents _) ∙ length_shown slots;
+      rights = λ page. rights_stay l after slots t page ∙ p.rights page;
       number = c.number ∙ p.number;
       harts = c.harts ∙ p.harts;
       count = c.count ∙ omega (arith, p.count);

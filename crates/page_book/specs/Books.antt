@@ -8,6 +8,7 @@ use Rattle.page_book.specs.declared.answers.BookFault.{BookFault}
 use Rattle.page_book.specs.declared.answers.BookFault.TheVariants.{Leased, Halted, AtLimit}
 use Rattle.page_book.specs.declared.book.OpenLease.{OpenLease}
 use Rattle.page_book.specs.declared.stretch.Stretch.{Stretch}
+use Rattle.page_book.specs.Taken.{taken_at, right_of_taken, taking}
 use Rattle.page_book.specs.Leases.{LeaseView, IsLent, laid}
 use Rattle.page_book.specs.Runs.{LeadsTo, MayGoTo, BeginsSchedule, harts_of, counts_of}
 use Rattle.interleaving.specs.Log.{Edge, counts_after}
@@ -58,7 +59,7 @@ stands_against (Some Read) Write = true
 
 abbrev pub right_of : Option OpenLease → ℕ → Option Want
 right_of None page = None
-right_of (Some lent) page = slice_index_or lent.taken page None
+right_of (Some lent) page = right_of_taken (taken_at lent.taken page)
 
 -- another hart's open lease has a right on the page that stands against the asked one
 abbrev pub IsHolder : List (Option OpenLease) → ℕ → ℕ → Want → ℕ → Type 0
@@ -68,16 +69,10 @@ IsHolder leases hart page want other = (other ≢ hart) × (stands_against (righ
 abbrev pub IsFree : List (Option OpenLease) → ℕ → ℕ → Want → Type 0
 IsFree leases hart page want = (other : ℕ) → IsHolder leases hart page want other → ⊥
 
--- the greater of the right that is held and the one that is given
-abbrev pub with_right : Option Want → Want → Option Want
-with_right None want = Some want
-with_right (Some held) Read = Some held
-with_right (Some held) Write = Some Write
-
--- the open lease, once it was given the right on the page
-abbrev pub taken_with : Option OpenLease → ℕ → Want → Option OpenLease
-taken_with None page want = None
-taken_with (Some lent) page want = Some (record lent { taken = slice_set lent.taken page (with_right (slice_index_or lent.taken page None) want) })
+-- the open lease, once it was given the right on the page at this count
+abbrev pub taken_with : Option OpenLease → ℕ → Want → ℕ → Option OpenLease
+taken_with None page want count = None
+taken_with (Some lent) page want count = Some (record lent { taken = slice_set lent.taken page (Some (taking (taken_at lent.taken page) want count)) })
 
 -- why a hart is not lent, whatever its edges, in this order: it has an open lease, it is halted, or it is at its limit
 abbrev pub refusal : Option OpenLease → Hart → ℕ → Option BookFault

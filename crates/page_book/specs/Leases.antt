@@ -10,6 +10,8 @@ use Rattle.rv32_hart.specs.declared.outcome.Tick.TheVariants.{Done, Miss, Halted
 use Rattle.page_book.specs.declared.lease_pages.Slot.{Slot}
 use Rattle.page_book.specs.declared.lease_pages.Slot.TheVariants.{Missing, Readable, Writable}
 use Rattle.page_book.specs.Slots.{ram_of, slot_at, want_of, base_of}
+use Rattle.page_book.specs.declared.taken.Taken.{Taken}
+use Rattle.page_book.specs.Taken.{taken_at, taking}
 use Rattle.guest_image.specs.Machine.{MachineState}
 
 pub record LeaseView : Type 0 where
@@ -18,6 +20,7 @@ pub record LeaseView : Type 0 where
   pub present : Hart
   pub bases : List (Option (List ℕ))  -- each page to be written, as it was lent
   pub slots : List Slot  -- the pages at present
+  pub taken : List (Option Taken)  -- since when it has each page
   pub steps : ℕ
   pub stop : ℕ  -- the count that the lease does not go past
 
@@ -30,6 +33,7 @@ fresh hart state pages stop =
       present = state;
       bases = replicate pages None;
       slots = replicate pages Missing;
+      taken = replicate 64 None;
       steps = 0;
       stop = stop;
     }
@@ -53,25 +57,29 @@ Ticks (Miss page want) l new = (new ≡ l) × IsMissing [] l.present (ram_of l.s
 Ticks Halted l new = ⊥
 Ticks Memory l new = (new ≡ l) × IsOutput [] l.present (ram_of l.slots)
 
--- what the lease has of a page was lent by this machine, with this right
-pub record IsLentAt (machine : MachineState) (taken : List (Option Want)) (l : LeaseView) (page : ℕ) : Type 0 where
-  pub right : want_of (slot_at l.slots page) ≡ slice_index_or taken page None
-  pub contents : (bytes : List ℕ) → base_at l page ≡ Some bytes → slice_get machine.pages page ≡ Some bytes
+-- what the lease has of a page was lent by this machine
+abbrev pub IsLentAt : MachineState → LeaseView → ℕ → Type 0
+IsLentAt machine l page = (bytes : List ℕ) → base_at l page ≡ Some bytes → slice_get machine.pages page ≡ Some bytes
 
--- the hart and the pages were lent by this machine, with these rights
-pub record IsLent (machine : MachineState) (taken : List (Option Want)) (l : LeaseView) : Type 0 where
+-- the hart and the pages were lent by this machine, the pages at these counts
+pub record IsLent (machine : MachineState) (taken : List (Option Taken)) (l : LeaseView) : Type 0 where
   pub state : slice_get machine.harts l.hart ≡ Some l.base
   pub as_many : length l.slots ≡ length machine.pages
-  pub pages : (page : ℕ) → page < length l.slots → IsLentAt machine taken l page
+  pub counts : l.taken ≡ taken
+  pub pages : (page : ℕ) → page < length l.slots → IsLentAt machine l page
+
+-- the lease, which takes the page with this right at its present count
+abbrev pub with_taken : LeaseView → ℕ → Want → LeaseView
+with_taken l page want = record l { taken = slice_set l.taken page (Some (taking (taken_at l.taken page) want l.present.count)) }
 
 -- the lease with a page to read
 abbrev pub with_page_to_read : LeaseView → ℕ → List ℕ → LeaseView
-with_page_to_read l page here = record l { slots = slice_set l.slots page (Readable here) }
+with_page_to_read l page here = record (with_taken l page Read) { slots = slice_set l.slots page (Readable here) }
 
 -- the lease with a page to write, kept as it was lent and as it is at present
 abbrev pub with_page_to_write : LeaseView → ℕ → List ℕ → List ℕ → LeaseView
 with_page_to_write l page base present =
-    record l { bases = slice_set l.bases page (Some base); slots = slice_set l.slots page (Writable present) }
+    record (with_taken l page Write) { bases = slice_set l.bases page (Some base); slots = slice_set l.slots page (Writable present) }
 
 -- the lease, which has this right on the page, with what it lacks of the asked one: a copy of the page, or nothing new
 abbrev pub with_page_beside : Option Want → Want → LeaseView → ℕ → List ℕ → LeaseView

@@ -9,6 +9,8 @@ use Rattle.rv32_hart.specs.Hart.{Hart}
 use Rattle.rv32_hart.specs.Hardware.{hardware}
 use Rattle.guest_image.specs.Machine.{MachineState}
 use Rattle.page_book.specs.declared.stretch.Stretch.{Stretch}
+use Rattle.page_book.specs.Slots.{slot_at, want_of}
+use Rattle.page_book.specs.Taken.{taken_at, right_of_taken}
 use Rattle.page_book.specs.Leases.{LeaseView, base_at, laid}
 
 -- a step of a hart, without inputs
@@ -43,6 +45,7 @@ IsRunOf l = (m : MachineState) → StandsIn m l → run_of m (turns_in_a_row l.h
 pub record IsLease (l : LeaseView) : Type 0 where
   pub stop : l.stop < 2 ^ 48
   pub as_many : length l.bases ≡ length l.slots
+  pub rights : (page : ℕ) → want_of (slot_at l.slots page) ≡ right_of_taken (taken_at l.taken page)
   pub number : l.present.number ≡ l.base.number
   pub harts : l.present.harts ≡ l.base.harts
   pub count : l.present.count ≡ l.base.count + l.steps

@@ -8,25 +8,26 @@ ghost use Rattle.page_book.specs.Slots.{slot_at, want_of};
 ghost use Rattle.page_book.specs.Leases.{LeaseView, fresh, IsFull, base_at, laid, laid_pages, with_slot, with_page};
 ghost use Rattle.interleaving.specs.Log.{IsMet, HasUnmet};
 ghost use Rattle.page_book.specs.Runs.{LeadsTo, IsLease, IsStop, MayGoTo, BeginsSchedule, counts_of};
-ghost use Rattle.page_book.specs.Books.{BookView, IsOurs, added, right_of, stands_against, open_at, IsLentBy, IsHolder, IsFree, with_right, taken_with, refusal, nothing_taken};
+ghost use Rattle.page_book.specs.Books.{BookView, IsOurs, added, right_of, stands_against, open_at, IsLentBy, IsHolder, IsFree, taken_with, refusal, nothing_taken};
 ghost use Rattle.page_book.specs.Answers.{IfHeldBy, OnHeldBy, OnGiven};
 ghost use Rattle.rv32_hart.specs.Hart.{Hart as HartRecord};
 
-use crate::answers::{BookFault, Need};
+use crate::answers::{BookFault, Keep, Need};
 use crate::lease::Lease;
 use crate::lease_pages::Slot;
 use crate::mode::{Leg, Mode, Replaying};
 use crate::stretch::Stretch;
+use crate::taken::{self, Taken};
 use ft_types::{COUNT_LIMIT, Count, Counts, Hart, HartSet, Memory, PageNo, Want};
 use guest_image::{Machine, Page};
 use std::alloc::Global;
 use std::marker::Model;
 
-/// What the book knows of an open lease: the count that it does not go past, and the right that it has on each page.
+/// What the book knows of an open lease: the count that it does not go past, and since when it has each page.
 #[derive(Clone, Copy, Debug, PartialEq, Eq)]
 pub struct OpenLease {
     stop: Count,
-    taken: [Option<Want>; 64],
+    taken: [Option<Taken>; 64],
 }
 
 /// A machine with the journal of the steps that led to it. Harts and pages go out on leases, and come back with steps.
@@ -80,7 +81,7 @@ fn held_by(lease: &Option<OpenLease>, page: PageNo) -> Option<Want>
 {
     match lease {
         None => None,
-        Some(open) => open.taken[page.index()],
+        Some(open) => taken::right_of(&open.taken[page.index()]),
     }
 }
 
@@ -120,16 +121,6 @@ fn give(lease: &mut Lease, page: PageNo, here: &Page, want: Want) -> Result<(), 
         _ => {}
     }
     Ok(())
-}
-
-/// The greater of the right that is held and the one that is given.
-fn with_right(held: Option<Want>, given: Want) -> Option<Want>
-    ensures { result ≡ with_right held given }
-{
-    match (held, given) {
-        (Some(held), Want::Read) => Some(held),
-        _ => Some(given),
-    }
 }
 
 /// Writes what a slot has into the machine, where it was written.
@@ -228,8 +219,8 @@ impl<M: Mode> Book<M> {
         // Only then is an edge asked for, and only where each is met, memory.
         ensures later { IfErr result (λ f. (f ≡ BookFault.EdgeOpen) ⊎ (f ≡ BookFault.Memory) → (h : HartRecord) → slice_get self.old.machine.harts hart ≡ Some h →
             refusal (open_at self.old.leases hart) h (count_at (M.stops self.old.mode) hart) ≡ None) }
-        ensures edge_open { result ≡ Err BookFault.EdgeOpen → HasUnmet (M.obeyed self.old.mode) (counts_of self.old.machine) hart }
-        ensures memory { result ≡ Err BookFault.Memory → IsMet (M.obeyed self.old.mode) (counts_of self.old.machine) hart }
+        ensures edge_open { IfErr result (λ f. f ≡ BookFault.EdgeOpen → HasUnmet (M.obeyed self.old.mode) (counts_of self.old.machine) hart) }
+        ensures memory { IfErr result (λ f. f ≡ BookFault.Memory → IsMet (M.obeyed self.old.mode) (counts_of self.old.machine) hart) }
         ensures err { OnErr result (self.new ≡ self.old) }
     {
         if self.leases[hart.index()].is_some() {
@@ -273,14 +264,14 @@ impl<M: Mode> Book<M> {
         }
     }
 
-    /// Writes down that the hart's open lease was given the right.
-    fn note_taken(&mut self, hart: Hart, page: PageNo, want: Want)
+    /// Writes down that the hart's open lease was given the right at this count.
+    fn note_taken(&mut self, hart: Hart, page: PageNo, want: Want, count: Count)
         ensures page { page < 64 }
-        ensures book { self.new ≡ record self.old { leases = slice_set self.old.leases hart (taken_with (open_at self.old.leases hart) page want) } }
+        ensures book { self.new ≡ record self.old { leases = slice_set self.old.leases hart (taken_with (open_at self.old.leases hart) page want count) } }
     {
         if let Some(open) = &mut self.leases[hart.index()] {
             let held = open.taken[page.index()];
-            open.taken[page.index()] = with_right(held, want);
+            open.taken[page.index()] = Some(taken::with_taken(held, want, count));
         }
     }
 
@@ -294,7 +285,7 @@ impl<M: Mode> Book<M> {
         ensures free { IfOk result (λ answer. OnGiven answer (IsFree self.old.leases lease.old.hart page want)) }
         // The page comes as it stands in the machine, to read, or to read and to write.
         ensures given { IfOk result (λ answer. OnGiven answer ((here : List ℕ) → slice_get self.old.machine.pages page ≡ Some here → lease.new ≡ with_page lease.old page want here)) }
-        ensures taken { IfOk result (λ answer. OnGiven answer (self.new.leases ≡ slice_set self.old.leases lease.old.hart (taken_with (open_at self.old.leases lease.old.hart) page want))) }
+        ensures taken { IfOk result (λ answer. OnGiven answer (self.new.leases ≡ slice_set self.old.leases lease.old.hart (taken_with (open_at self.old.leases lease.old.hart) page want lease.old.present.count))) }
         ensures ours { OnOk result (IsOurs self.new lease.new) }
         // Where it waits or is refused, neither has changed.
         ensures book_waits { IfOk result (λ answer. OnHeldBy answer (self.new ≡ self.old)) }
@@ -317,12 +308,13 @@ impl<M: Mode> Book<M> {
             return Ok(Need::HeldBy(harts));
         }
         give(lease, page, self.machine.page(page), want)?;
-        self.note_taken(lease.hart(), page, want);
+        self.note_taken(lease.hart(), page, want, lease.count());
         Ok(Need::Given)
     }
 
-    /// Adds the lease's steps, where it is this book's. Otherwise it comes back.
-    pub fn settle(&mut self, lease: Lease) -> Result<(), (Lease, BookFault)>
+    /// Adds the lease's steps, where it is this book's. Otherwise it comes back. A replaying book keeps no rights of a
+    /// hart, whatever it is told.
+    pub fn settle(&mut self, lease: Lease, _keep: Keep) -> Result<(), (Lease, BookFault)>
         ensures ours { OnOk result (IsOurs self.old lease) }
         ensures foreign { IfErr result (λ e. e.1 ≡ BookFault.Foreign → ¬ (IsOurs self.old lease)) }
         ensures back { IfErr result (λ e. e.0 ≡ lease) }

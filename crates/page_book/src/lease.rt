@@ -7,6 +7,7 @@ ghost use Rattle.page_book.specs.Runs.{IsLease};
 ghost use Rattle.page_book.specs.Leases.{LeaseView, fresh, IsFull, Ticks, IsLent, IsLentAt, base_at, with_page_to_read, with_page_to_write};
 
 use crate::lease_pages::{LeasePages, Slot};
+use crate::taken::{Taken, with_taken};
 use ft_types::{Count, Hart, Memory, PageNo, Want};
 use guest_image::{Machine, Page};
 use rv32_hart::{HartState, Tick, tick};
@@ -24,6 +25,8 @@ pub struct Lease {
     /// The contents that each page to be written had when it came.
     bases: Vec<Option<Page>>,
     pages: LeasePages,
+    /// The counts at which it took each page.
+    taken: [Option<Taken>; 64],
     steps: u64,
     stop: Count,
 }
@@ -34,9 +37,9 @@ impl Model for Lease {
 
     ghost Value = { LeaseView };
 
-    ghost view = { λ l. record { hart = l.hart; base = l.base; present = l.present; bases = l.bases.items; slots = l.pages; steps = l.steps; stop = l.stop } };
+    ghost view = { λ l. record { hart = l.hart; base = l.base; present = l.present; bases = l.bases.items; slots = l.pages; taken = l.taken; steps = l.steps; stop = l.stop } };
 
-    ghost invariant = { λ l. IsLease (record { hart = l.hart; base = l.base; present = l.present; bases = l.bases.items; slots = l.pages; steps = l.steps; stop = l.stop }) };
+    ghost invariant = { λ l. IsLease (record { hart = l.hart; base = l.base; present = l.present; bases = l.bases.items; slots = l.pages; taken = l.taken; steps = l.steps; stop = l.stop }) };
 }
 
 fn no_pages(alloc: Global, pages: u8) -> Result<Vec<Option<Page>>, Memory>
@@ -83,6 +86,7 @@ impl Lease {
             present,
             bases,
             pages,
+            taken: [None; 64],
             steps: 0,
             stop,
         })
@@ -142,7 +146,7 @@ impl Lease {
         requires { ¬ (IsFull self.old) }
         ensures does { Ticks result self.old self.new }
         // Whoever lent the lease still did.
-        ensures lent { (machine : MachineState) (taken : List (Option Want)) → IsLent machine taken self.old → IsLent machine taken self.new }
+        ensures lent { (machine : MachineState) (taken : List (Option Taken)) → IsLent machine taken self.old → IsLent machine taken self.new }
     {
         match tick(&mut self.present, &[], &mut self.pages) {
             Tick::Done => {
@@ -161,6 +165,8 @@ impl Lease {
         requires missing { slot_at self.old.slots page ≡ Slot.Missing }
         ensures { self.new ≡ with_page_to_read self.old page here }
     {
+        let held = self.taken[page.index()];
+        self.taken[page.index()] = Some(with_taken(held, Want::Read, self.present.count()));
         drop(self.pages.put(page, Slot::Readable(here)));
     }
 
@@ -172,43 +178,52 @@ impl Lease {
         requires same { present ≡ base }
         ensures { self.new ≡ with_page_to_write self.old page base present }
     {
+        let held = self.taken[page.index()];
+        self.taken[page.index()] = Some(with_taken(held, Want::Write, self.present.count()));
         self.bases[page.index()] = Some(base);
         drop(self.pages.put(page, Slot::Writable(present)));
     }
 
-    /// Whether the lease's hart and pages were lent by the machine, with these rights.
-    pub(crate) fn is_lent(&self, machine: &Machine, taken: &[Option<Want>; 64]) -> bool
+    /// Whether the lease's hart and pages were lent by the machine, the pages at these counts.
+    pub(crate) fn is_lent(&self, machine: &Machine, taken: &[Option<Taken>; 64]) -> bool
         requires { self.now.hart < length machine.now.harts }
         ensures { IsTrue result ↔ IsLent machine.now taken.now self.now }
     {
         machine.hart(self.hart).same(&self.base)
             && machine.pages() as usize == self.pages.len()
-            && self.pages_are_lent(machine, taken)
+            && self.took(taken)
+            && self.pages_are_lent(machine)
     }
 
-    fn pages_are_lent(&self, machine: &Machine, taken: &[Option<Want>; 64]) -> bool
+    /// Whether it took its pages at these counts.
+    fn took(&self, taken: &[Option<Taken>; 64]) -> bool
+        ensures { IsTrue result ↔ (self.now.taken ≡ taken.now) }
+    {
+        self.taken == *taken
+    }
+
+    fn pages_are_lent(&self, machine: &Machine) -> bool
         requires { length self.now.slots ≡ length machine.now.pages }
-        ensures { IsTrue result ↔ ((page : ℕ) → page < length self.now.slots → IsLentAt machine.now taken.now self.now page) }
+        ensures { IsTrue result ↔ ((page : ℕ) → page < length self.now.slots → IsLentAt machine.now self.now page) }
     {
         for number in 0..machine.pages() {
-            if !self.page_is_lent(PageNo::new(number), machine, taken) {
+            if !self.page_is_lent(PageNo::new(number), machine) {
                 return false;
             }
         }
         true
     }
 
-    fn page_is_lent(&self, page: PageNo, machine: &Machine, taken: &[Option<Want>; 64]) -> bool
+    fn page_is_lent(&self, page: PageNo, machine: &Machine) -> bool
         requires slots { page < length self.now.slots }
         requires pages { page < length machine.now.pages }
-        ensures { IsTrue result ↔ IsLentAt machine.now taken.now self.now page }
+        ensures { IsTrue result ↔ IsLentAt machine.now self.now page }
     {
-        self.pages.right(page) == taken[page.index()]
-            && is_base(
-                self.pages.slot(page),
-                &self.bases[page.index()],
-                machine.page(page),
-            )
+        is_base(
+            self.pages.slot(page),
+            &self.bases[page.index()],
+            machine.page(page),
+        )
     }
 
     /// What the lease has now. The lease is gone.
@@ -226,6 +241,7 @@ impl Lease {
             present,
             bases,
             pages,
+            taken: _,
             steps,
             stop: _,
         } = self;

@@ -3,17 +3,21 @@
 
 mod answers;
 mod book;
+mod laws;
 mod lease;
 mod lease_pages;
 mod mode;
 mod stretch;
+mod taken;
 
 pub use answers::{BookFault, Keep, Need};
 pub use book::Book;
+pub use laws::{one_hart, steps_of_leases};
 pub use lease::Lease;
 pub use lease_pages::{LeasePages, Slot};
 pub use mode::{Leg, Mode, Replaying};
 pub use stretch::Stretch;
+pub use taken::Taken;
 
 #[cfg(test)]
 mod tests;

@@ -73,7 +73,7 @@ fn one_lease_runs_to_the_halt(rt: HostRuntime) -> Result<(), Fail> {
     let asked = fill(&mut book, &mut lease);
     assert_eq!(rt; asked, 2);
     assert_eq!(rt; lease.steps(), 6);
-    if let Err((lease, _)) = book.settle(lease) {
+    if let Err((lease, _)) = book.settle(lease, Keep::All) {
         let _gone = book.discard(lease);
         return Err("settle".into());
     }
@@ -126,7 +126,7 @@ fn a_hart_is_lent_once_and_to_its_end(rt: HostRuntime) -> Result<(), Fail> {
     let leased = refusal_of(&mut book, rt.alloc(), Hart::new(0));
     let _asked = fill(&mut book, &mut lease);
     let steps = lease.steps();
-    let settled = match book.settle(lease) {
+    let settled = match book.settle(lease, Keep::All) {
         Ok(()) => true,
         Err((lease, _)) => {
             let _gone = book.discard(lease);
@@ -153,7 +153,7 @@ fn go_on(book: &mut Book<Replaying>, alloc: Global, hart: Hart) -> Result<u64, B
     let mut lease = book.lease(alloc, hart)?;
     let _asked = fill(book, &mut lease);
     let steps = lease.steps();
-    match book.settle(lease) {
+    match book.settle(lease, Keep::All) {
         Ok(()) => Ok(steps),
         Err((lease, fault)) => {
             let _gone = book.discard(lease);
@@ -196,7 +196,7 @@ fn a_lease_of_another_book_comes_back(rt: HostRuntime) -> Result<(), Fail> {
         return Err("lease".into());
     };
     let _asked = fill(&mut book, &mut lease);
-    let foreign = match other.settle(lease) {
+    let foreign = match other.settle(lease, Keep::Nothing) {
         Ok(()) => return Err("settled by another book".into()),
         Err((lease, fault)) => {
             let back = lease.steps();

@@ -3,3 +3,8 @@ pub mod Entries
 pub mod Kept
 pub mod Ends
 pub mod StreamLemmas
+pub mod Replayed
+pub mod Filling
+pub mod Going
+pub mod Lifted
+pub mod FirstFault

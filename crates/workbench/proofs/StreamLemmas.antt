@@ -18,7 +18,6 @@ use Rattle.workbench.specs.declared.pieces.Pieces.{Pieces}
 use Rattle.workbench.specs.Streams.{IsPlain, Says, Breaks, GoesOnWith, HasForeign, HasRecord, guest_of, records_of}
 use Rattle.workbench.specs.Pieces.{Holds}
 use Rattle.workbench.specs.Faults.{IsFirstFault, IsFaultOf, HasFaulty, IsFaultAmong, fault_in, IsPushFault, Told, Refused, Fails}
-use Rattle.workbench.specs.Outcome.{WritesOnlyAtTheEnd}
 use Rattle.workbench.proofs.Lists.{of_all, all_append, all_front, all_back}
 
 pub on_ok : {A E P Q : Type 0} (r : Result A E) → (P → Q) → OnOk r P → OnOk r Q
@@ -252,15 +251,3 @@ told guest old now next feed later p q got whole e nothing r taken end none h =
       says = ended guest r.read r.given (r.given ++ t.0) feed later q r.follows none follows t.2;
       holds = t.2;
     }
-
--- a fault of reading comes with nothing written
-unwritten : (A : Type 0) (number : ℕ) (guest : GuestName) (text : List ℕ) (f : StreamsFault) (b : Option (List ℕ)) (n : ℕ) → IsFirstFault number guest text f → WritesOnlyAtTheEnd {A = A} (Err f) b b n n
-unwritten A number guest text (Frame i g) b n h = (refl, refl)
-unwritten A number guest text (Guest i) b n h = (refl, refl)
-unwritten A number guest text (Read i) b n h = (refl, refl)
-unwritten A number guest text Memory b n h = (refl, refl)
-unwritten A number guest text (Replay r) b n h = absurd h
-unwritten A number guest text Write b n h = absurd h
-
-pub nothing_written : (A : Type 0) (number : ℕ) (guest : GuestName) (old now : Option (List ℕ)) (f : StreamsFault) (b : Option (List ℕ)) (n : ℕ) → Refused number guest old now f → WritesOnlyAtTheEnd {A = A} (Err f) b b n n
-nothing_written A number guest old now f b n h = unwritten A number guest h.read f b n h.fault

@@ -1,11 +1,14 @@
 //! The commands of the program.
 
-use crate::faults::{CommandFault, status_of, write_fault, write_words_fault};
+use crate::faults::{CommandFault, StreamsFault, status_of, write_fault, write_words_fault};
 use crate::files::Files;
+use crate::stores::{read_store, write_position, write_size, write_store};
 use crate::streams::replay_streams;
 use crate::words::{NamedFile, Request, WordsFault, read_words};
+use closed_cut::{chain, position};
 use ft_types::{Sink, Source};
 use guest_image::{Image, ImageFault, read_image};
+use log_join::Store;
 use std::alloc::Global;
 
 /// How many bytes of a file are read at once.
@@ -82,7 +85,7 @@ fn replay_log<F: Files, W: Sink>(
         return Err(CommandFault::Usage);
     }
     let Ok(reader) = files.reader(name) else {
-        return Err(CommandFault::File(NamedFile::Log));
+        return Err(CommandFault::File(NamedFile::Log(0)));
     };
     let mut readers = Vec::new(alloc);
     if readers.push(reader).is_err() {
@@ -94,6 +97,54 @@ fn replay_log<F: Files, W: Sink>(
     }
 }
 
+/// The store of the frames of these logs. All are opened before the first is read.
+fn read_logs<F: Files>(
+    alloc: Global,
+    image: &Image,
+    names: &[&str],
+    files: &mut F,
+) -> Result<Store, CommandFault> {
+    let mut readers = Vec::new(alloc);
+    for (number, name) in names.iter().enumerate() {
+        let Ok(reader) = files.reader(name) else {
+            return Err(CommandFault::File(NamedFile::Log(number)));
+        };
+        if readers.push(reader).is_err() {
+            return Err(CommandFault::Memory);
+        }
+    }
+    let store = read_store(alloc, &image.guest(), &mut readers)?;
+    Ok(store)
+}
+
+/// Writes a store to the file that is made, and tells how much it holds.
+fn write_joined<F: Files, W: Sink>(
+    alloc: Global,
+    store: &Store,
+    name: &str,
+    files: &mut F,
+    out: &mut W,
+) -> Result<(), CommandFault> {
+    let Ok(mut made) = files.maker(name) else {
+        return Err(CommandFault::File(NamedFile::Made));
+    };
+    let size = write_store(alloc, store, &mut made)?;
+    match write_size(&size, out) {
+        Ok(()) => Ok(()),
+        Err(_) => Err(CommandFault::Streams(StreamsFault::Write)),
+    }
+}
+
+/// Tells the chain and the position of a store.
+fn tell_position<W: Sink>(alloc: Global, store: &Store, out: &mut W) -> Result<(), CommandFault> {
+    let terms = chain(alloc, store)?;
+    let position = position(alloc, store)?;
+    match write_position(&terms, &position, out) {
+        Ok(()) => Ok(()),
+        Err(_) => Err(CommandFault::Streams(StreamsFault::Write)),
+    }
+}
+
 fn run<F: Files, W: Sink>(
     alloc: Global,
     request: &Request<'_>,
@@ -101,7 +152,17 @@ fn run<F: Files, W: Sink>(
     out: &mut W,
 ) -> Result<(), CommandFault> {
     let image = read_image_file(alloc, request.name(NamedFile::Image), files)?;
-    replay_log(alloc, &image, request.name(NamedFile::Log), files, out)
+    match request {
+        Request::Replay { log, .. } => replay_log(alloc, &image, log, files, out),
+        Request::Join { made, logs, .. } => {
+            let store = read_logs(alloc, &image, logs, files)?;
+            write_joined(alloc, &store, made, files, out)
+        }
+        Request::Cut { logs, .. } => {
+            let store = read_logs(alloc, &image, logs, files)?;
+            tell_position(alloc, &store, out)
+        }
+    }
 }
 
 fn run_and_tell<F: Files, W: Sink, E: Sink>(

@@ -2,9 +2,10 @@
 
 ghost use Rattle.std.specs.Prelude.{◌≡◌, ◌≢◌};
 
+use crate::lines::write_numbered;
 use crate::words::{NamedFile, Request, WordsFault};
 use fragment_codec::FrameFault;
-use ft_types::{Count, Counts, Failed, Hart, LineBuffer, Memory, Sink, write_all};
+use ft_types::{Count, Counts, Failed, Hart, Memory, Sink, write_all};
 use guest_image::ImageFault;
 use thiserror::Error;
 
@@ -84,6 +85,12 @@ pub enum CommandFault {
     Memory,
 }
 
+impl From<StreamsFault> for CommandFault {
+    fn from(fault: StreamsFault) -> CommandFault {
+        CommandFault::Streams(fault)
+    }
+}
+
 impl From<Memory> for CommandFault {
     fn from(_e: Memory) -> CommandFault {
         CommandFault::Memory
@@ -99,19 +106,6 @@ pub fn status_of(fault: &CommandFault) -> u8
         CommandFault::Usage => 2,
         _ => 1,
     }
-}
-
-fn write_numbered<W: Sink>(
-    before: &[u8],
-    number: u64,
-    after: &[u8],
-    out: &mut W,
-) -> Result<(), Failed> {
-    let mut digits = LineBuffer::new();
-    digits.push_number(number);
-    write_all(out, before)?;
-    write_all(out, digits.as_slice())?;
-    write_all(out, after)
 }
 
 fn write_image_fault<W: Sink>(fault: ImageFault, out: &mut W) -> Result<(), Failed> {

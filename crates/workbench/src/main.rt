@@ -5,8 +5,12 @@ mod command;
 mod faults;
 mod files;
 mod host;
+mod lines;
 mod pieces;
 mod replay;
+#[cfg(test)]
+mod store_tests;
+mod stores;
 mod streams;
 #[cfg(test)]
 mod tests;

@@ -1,25 +1,27 @@
 //! From streams of frames to the text of the machine.
 
-ghost use Rattle.std.specs.Prelude.{◌≡◌, ◌↔◌, ◌++◌, ◌≤◌, ◌<◌, ◌^◌, ℕ, List, [], length, take, Option, Some, IfOk, IfErr, IfNone, IfSome, OnOk, IsTrue, None};
+ghost use Rattle.std.specs.Prelude.{◌≡◌, ◌↔◌, ◌++◌, ◌≤◌, ◌<◌, ◌^◌, ℕ, List, [], length, take, Option, Some, IfOk, IfErr, IfNone, IfSome, OnOk, IsTrue, None, slice_get};
 ghost use Rattle.std.specs.List.{AllByRecursion};
 ghost use Rattle.ft_types.specs.declared.guest.Guest.{Guest as GuestName};
 ghost use Rattle.fragment_codec.specs.declared.frame.Frame.{Frame as LogFrame};
 ghost use Rattle.fragment_codec.specs.Streams.{IsFrame, Follows};
 ghost use Rattle.workbench.specs.Streams.{IsPlain, guest_of, records_of};
-ghost use Rattle.workbench.specs.Outcome.{IsReplayFault, WritesOnlyAtTheEnd};
+ghost use Rattle.workbench.specs.Outcome.{machine_after, IsOutcome, WritesTextOf, IsCause, OfStream, IsReplayCause, StandsInBytes, AnswersOnly};
+ghost use Rattle.guest_image.specs.Image.{guest_of as guest_of_image};
+ghost use Rattle.workbench.specs.declared.faults.StreamsFault.{StreamsFault as StreamsFaultName};
 ghost use Rattle.workbench.specs.Pieces.{Holds};
-ghost use Rattle.workbench.specs.Faults.{IsFaultOf, IsFaultAmong, fault_in, IsPushFault, Told, Refused, Fails};
+ghost use Rattle.workbench.specs.Faults.{IsFirstFault, IsFaultOf, IsFaultAmong, fault_in, IsPushFault, Told, Refused, Fails};
 
 use crate::faults::{ReplayFault, StreamsFault};
 use crate::pieces::Pieces;
 use crate::replay::replay_to;
-use fragment_codec::{Feed, Frame, FrameFault};
+use fragment_codec::{Feed, Frame, FrameFault, lasting_fault};
 use ft_types::{Count, Guest, Sink, Source};
 use guest_image::Image;
 use std::alloc::Global;
 
 /// How many bytes are read at once.
-const PIECE: usize = 4096;
+pub const PIECE: usize = 4096;
 
 /// The guest of a frame.
 fn guest_of_frame(frame: &Frame) -> Guest
@@ -87,7 +89,7 @@ fn take_frames(
 }
 
 /// The fault of a stream that a feed answers.
-fn stream_fault(stream: usize, fault: FrameFault) -> StreamsFault
+pub fn stream_fault(stream: usize, fault: FrameFault) -> StreamsFault
     ensures { result ≡ fault_in stream fault }
 {
     match fault {
@@ -118,7 +120,7 @@ fn push(
 }
 
 /// What a read has put to the front of a piece.
-fn front_of(piece: &[u8], count: usize) -> &[u8]
+pub fn front_of(piece: &[u8], count: usize) -> &[u8]
     requires { count ≤ length piece.now }
     ensures { result.now ≡ take count piece.now }
 {
@@ -163,9 +165,10 @@ fn write_replayed<W: Sink>(
     end: Count,
     out: &mut W,
 ) -> Result<(), StreamsFault>
-    requires { end < 2 ^ 48 }
-    ensures own { IfErr result IsReplayFault }
-    ensures written { WritesOnlyAtTheEnd result (W.bytes out.old) (W.bytes out.new) (W.failures out.old) (W.failures out.new) }
+    requires hart { image.now.harts ≡ 1 }
+    requires end { end < 2 ^ 48 }
+    ensures written { WritesTextOf (λ m. machine_after image.now end ≡ Some m) result (W.bytes out.old) (W.bytes out.new) (W.failures out.old) (W.failures out.new) }
+    ensures fault { IfErr result (λ f. IsReplayCause image.now end f) }
 {
     match replay_to(alloc, image, end) {
         Ok(book) => match book.machine().write_text(out) {
@@ -188,9 +191,22 @@ pub fn replay_streams<R: Source, W: Sink>(
     requires stream { length readers.old ≡ 1 }
     requires hart { image.now.harts ≡ 1 }
 
-    // Nothing is written before the replay is done, and then the text of a machine and nothing else.
-    ensures written { WritesOnlyAtTheEnd result (W.bytes out.old) (W.bytes out.new) (W.failures out.old) (W.failures out.new) }
+    // Nothing is written before the replay is done, and then the text of the machine that the stream's frames lead to.
+    ensures written { (reader : R) → slice_get readers.old 0 ≡ Some reader → OfStream (R.left reader) (λ stream.
+        WritesTextOf (IsOutcome image.now stream) result (W.bytes out.old) (W.bytes out.new) (W.failures out.old) (W.failures out.new)) }
+
+    // A fault is the first one of the stream, or where the run halts below the count that its frames reach.
+    ensures fault { IfErr result (λ f. (reader : R) → slice_get readers.old 0 ≡ Some reader → OfStream (R.left reader) (λ stream. IsCause image.now stream f)) }
+
+    // Where a stream has a fault in its bytes, the first one is the answer, unless the reader or memory failed before.
+    ensures exact { (reader : R) (stream : List ℕ) (f : StreamsFaultName) → slice_get readers.old 0 ≡ Some reader → R.left reader ≡ Some stream → StandsInBytes f →
+        IsFirstFault 0 (guest_of_image image.now) stream f → AnswersOnly result f }
+
+    // The reader failed in this call exactly where the fault says so.
+    ensures failed { IfErr result (λ f. (reader later : R) → slice_get readers.old 0 ≡ Some reader → slice_get readers.new 0 ≡ Some later → Fails 0 (R.failures reader) (R.failures later) f) }
+    ensures kept { OnOk result ((reader later : R) → slice_get readers.old 0 ≡ Some reader → slice_get readers.new 0 ≡ Some later → R.failures later ≡ R.failures reader) }
 {
+    lasting_fault();
     let pieces = read_stream(alloc, 0, &image.guest(), &mut readers[0])?;
     write_replayed(alloc, image, pieces.end(), out)
 }

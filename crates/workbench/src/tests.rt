@@ -3,13 +3,15 @@
 use crate::command::command;
 use crate::files::Files;
 use fragment_codec::{Fragment, Frame, Key, Opening, Record, write_frame};
-use ft_types::{Count, Counts, Failed, Guest, Hart, MemorySink, MemorySource, Term};
+use ft_types::{Count, Counts, Failed, Guest, Hart, MemorySink, MemorySource, Sink, Term};
 use guest_image::read_image;
 use input_log::Input;
 use std::alloc::Global;
+use std::cell::RefCell;
+use std::rc::Rc;
 use std::test::Fail;
 
-const IMAGE_A: &[u8] = b"harts 1\npages 1\nf00000b7\n02a00113\n0020a423\n0000aa23\n";
+pub const IMAGE_A: &[u8] = b"harts 1\npages 1\nf00000b7\n02a00113\n0020a423\n0000aa23\n";
 
 const TEXT_A: &[u8] = b"hart 0 count 4 pc 80000010 halted\n\
 csr 00001800 00000000 00000000 00000000 00000000 00000000 00000000\n\
@@ -30,28 +32,71 @@ dev 00000000 00000000\n\
 80000008 0020a423\n\
 8000000c 0000aa23\n";
 
-const EMPTY_IMAGE: &[u8] = b"harts 1\npages 1\n";
+pub const EMPTY_IMAGE: &[u8] = b"harts 1\npages 1\n";
+
+/// A writer into memory that a test can look at while a command writes.
+#[derive(Drop)]
+pub struct SharedSink {
+    sink: Rc<RefCell<MemorySink>>,
+    failures: u64,
+}
+
+impl SharedSink {
+    fn try_write(&self, piece: &[u8]) -> Result<usize, Failed> {
+        match self.sink.try_borrow_mut() {
+            Ok(mut sink) => sink.write(piece),
+            Err(_) => Err(Failed),
+        }
+    }
+}
+
+impl Sink for SharedSink {
+    ghost bytes = { λ _. None };
+
+    ghost failures = { λ s. s.failures };
+
+    fn write(&mut self, piece: &[u8]) -> Result<usize, Failed> {
+        if piece.is_empty() {
+            return Ok(0);
+        }
+        match self.try_write(piece) {
+            Ok(count) if count > 0 && count <= piece.len() => Ok(count),
+            _ => {
+                self.failures = self.failures.wrapping_add(1);
+                Err(Failed)
+            }
+        }
+    }
+}
 
 /// Files in memory, each of which is opened once.
 #[derive(Drop)]
-struct MemoryFiles {
+pub struct MemoryFiles {
     files: Vec<(&'static str, Option<MemorySource>)>,
+    made: Option<Rc<RefCell<MemorySink>>>,
 }
 
 impl MemoryFiles {
-    fn new(alloc: Global) -> MemoryFiles {
+    pub fn new(alloc: Global) -> MemoryFiles {
         MemoryFiles {
             files: Vec::new(alloc),
+            made: None,
         }
     }
 
-    fn add(&mut self, name: &'static str, bytes: Vec<u8>) -> Result<(), Fail> {
+    /// Whatever file is made is written here.
+    pub fn make_into(&mut self, sink: &Rc<RefCell<MemorySink>>) -> Result<(), Fail> {
+        self.made = Some(Rc::clone(sink)?);
+        Ok(())
+    }
+
+    pub fn add(&mut self, name: &'static str, bytes: Vec<u8>) -> Result<(), Fail> {
         self.files.push((name, Some(MemorySource::new(bytes))))?;
         Ok(())
     }
 
     /// Adds a file of which only so many bytes can be read.
-    fn add_failing(
+    pub fn add_failing(
         &mut self,
         name: &'static str,
         bytes: Vec<u8>,
@@ -66,7 +111,7 @@ impl MemoryFiles {
 impl Files for MemoryFiles {
     type Reader = MemorySource;
 
-    type Writer = MemorySink;
+    type Writer = SharedSink;
 
     fn reader(&mut self, name: &str) -> Result<MemorySource, Failed> {
         for (known, file) in self.files.iter_mut() {
@@ -77,12 +122,18 @@ impl Files for MemoryFiles {
         Err(Failed)
     }
 
-    fn maker(&mut self, _name: &str) -> Result<MemorySink, Failed> {
-        Err(Failed)
+    fn maker(&mut self, _name: &str) -> Result<SharedSink, Failed> {
+        match &self.made {
+            Some(sink) => match Rc::clone(sink) {
+                Ok(sink) => Ok(SharedSink { sink, failures: 0 }),
+                Err(_) => Err(Failed),
+            },
+            None => Err(Failed),
+        }
     }
 }
 
-fn guest_of(alloc: Global, image: &[u8]) -> Result<Guest, Fail> {
+pub fn guest_of(alloc: Global, image: &[u8]) -> Result<Guest, Fail> {
     match read_image(alloc, image) {
         Ok(image) => Ok(image.guest()),
         Err(_) => Err(Fail::from("an image")),
@@ -100,7 +151,7 @@ fn opening(guest: Guest, term: Term) -> Result<Frame, Fail> {
     Ok(Frame::Opening(opening))
 }
 
-fn piece(
+pub fn piece(
     alloc: Global,
     guest: Guest,
     term: Term,
@@ -117,7 +168,7 @@ fn piece(
     Ok(Frame::Log(fragment))
 }
 
-fn bytes_of(alloc: Global, frames: &[Frame]) -> Result<Vec<u8>, Fail> {
+pub fn bytes_of(alloc: Global, frames: &[Frame]) -> Result<Vec<u8>, Fail> {
     let mut sink = MemorySink::new(alloc, 100_000);
     for frame in frames {
         write_frame(frame, &mut sink).map_err(|_| "a frame")?;
@@ -126,7 +177,7 @@ fn bytes_of(alloc: Global, frames: &[Frame]) -> Result<Vec<u8>, Fail> {
 }
 
 /// Opening 1 and a log to this count.
-fn log_to(alloc: Global, image: &[u8], to: Count) -> Result<Vec<u8>, Fail> {
+pub fn log_to(alloc: Global, image: &[u8], to: Count) -> Result<Vec<u8>, Fail> {
     let guest = guest_of(alloc, image)?;
     bytes_of(
         alloc,
@@ -136,19 +187,19 @@ fn log_to(alloc: Global, image: &[u8], to: Count) -> Result<Vec<u8>, Fail> {
 
 /// What a command wrote, and its status.
 #[derive(Drop)]
-struct Done {
+pub struct Done {
     status: u8,
     out: MemorySink,
     err: MemorySink,
 }
 
 impl Done {
-    fn is(&self, status: u8, out: &[u8], err: &[u8]) -> bool {
+    pub fn is(&self, status: u8, out: &[u8], err: &[u8]) -> bool {
         self.status == status && self.out.bytes() == out && self.err.bytes() == err
     }
 }
 
-fn run_with_room(
+pub fn run_with_room(
     alloc: Global,
     words: &[&str],
     mut files: MemoryFiles,
@@ -164,7 +215,7 @@ fn run_with_room(
     Ok(Done { status, out, err })
 }
 
-fn run(alloc: Global, words: &[&str], files: MemoryFiles) -> Result<Done, Fail> {
+pub fn run(alloc: Global, words: &[&str], files: MemoryFiles) -> Result<Done, Fail> {
     run_with_room(alloc, words, files, 100_000)
 }
 
@@ -256,7 +307,7 @@ fn the_end_is_what_the_places_reach(rt: HostRuntime) -> Result<(), Fail> {
 }
 
 /// Whether the words are refused as of no form.
-fn is_usage(alloc: Global, words: &[&str]) -> Result<bool, Fail> {
+pub fn is_usage(alloc: Global, words: &[&str]) -> Result<bool, Fail> {
     let done = run(alloc, words, MemoryFiles::new(alloc))?;
     Ok(done.is(2, b"", b"fault usage\n"))
 }
@@ -275,7 +326,7 @@ fn words_of_no_form(rt: HostRuntime) -> Result<(), Fail> {
     assert!(rt; is_usage(alloc, &["-V"])?);
     assert!(rt; is_usage(alloc, &["replay", "--", "image", "log"])?);
     assert!(rt; is_usage(alloc, &["replay", "-image", "log"])?);
-    assert!(rt; is_usage(alloc, &["cut", "image", "log"])?);
+    assert!(rt; is_usage(alloc, &["audit", "image", "log"])?);
     let done = replay(alloc, b"harts 2\npages 1\n", Vec::new(alloc))?;
     assert!(rt; done.is(2, b"", b"fault usage\n"));
     Ok(())

@@ -1,4 +1,4 @@
-use Rattle.lease_ledger.proofs.Reached.{keeps_order, may_add_next}
+use Rattle.lease_ledger.proofs.Laws.{keeps_order, may_add_next}
 use Rattle.lease_ledger.proofs.edge_order.Goals as goal
 
 pub returns-clause-in_order : goal.returns-clause-in_order

@@ -1,4 +1,4 @@
-use Rattle.lease_ledger.proofs.Reached.{keeps_ledger, has_honest_log, adds_its_steps, lays_its_run, runs_in_lists}
+use Rattle.lease_ledger.proofs.Laws.{keeps_ledger, has_honest_log, adds_its_steps, lays_its_run, runs_in_lists}
 use Rattle.lease_ledger.proofs.honest_ledger.Goals as goal
 
 pub returns-clause-kept : goal.returns-clause-kept

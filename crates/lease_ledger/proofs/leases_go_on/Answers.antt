@@ -1,15 +1,14 @@
-use Rattle.lease_ledger.proofs.Reached.{held_by_takers}
-use Rattle.lease_ledger.proofs.GoesOn as goes_on
+use Rattle.lease_ledger.proofs.Laws as laws
 use Rattle.lease_ledger.proofs.leases_go_on.Goals as goal
 
 pub returns-clause-leases : goal.returns-clause-leases
-returns-clause-leases g c = λ system. goes_on.leases_go_on system
+returns-clause-leases g c = λ system. laws.leases_go_on system
 
-pub returns-clause-held_by : goal.returns-clause-held_by
-returns-clause-held_by g c = λ system. held_by_takers system
+pub returns-clause-none_is_foreign : goal.returns-clause-none_is_foreign
+returns-clause-none_is_foreign g c = λ system. laws.none_is_foreign system
 
 pub returns-clause-ticks : goal.returns-clause-ticks
-returns-clause-ticks g c = λ system. goes_on.ticks_go_on system
+returns-clause-ticks g c = λ system. laws.ticks_go_on system
 
 pub returns-clause-lends_more : goal.returns-clause-lends_more
-returns-clause-lends_more g c = λ system. goes_on.lends_more system
+returns-clause-lends_more g c = λ system. laws.lends_more system

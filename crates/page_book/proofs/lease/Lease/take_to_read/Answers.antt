@@ -1,4 +1,4 @@
-use Rattle.std.proofs.Common.{◌∙◌, ap}
+use Rattle.std.proofs.Common.{◌≡◌, ◌∙◌, ◌<◌, ap, sym, length, arith, rules}
 use Rattle.page_book.specs.Slots.{slot_at}
 use Rattle.page_book.specs.Leases.{LeaseView}
 use Rattle.page_book.proofs.Given.{read_kept}
@@ -6,5 +6,10 @@ use Rattle.page_book.proofs.lease.Lease.take_to_read.Goals as goal
 
 pub invariant_of-self : goal.invariant_of-self
 invariant_of-self c =
-    rw c.put.ensures.new
-    (read_kept _ c.args.page c.args.here (ap (λ (l : LeaseView). slot_at l.slots c.args.page) c.self.view_is ∙ c.requires.missing) c.self.invariant)
+    let i = c.self.inside in
+    let view = c.self.view_is in
+    let lt : c.args.page < length i.pages = omega (arith, ap (λ (l : LeaseView). length l.slots) view, c.requires.page) in
+    let row : c.args.page < length i.taken = search rules in
+    rw (c.put.ensures.new, c.with_taken.ensures, c.index.ensures.value, c.index-2.ensures.value, c.count.ensures.value)
+    (read_kept (record { hart = i.hart; base = i.base; present = i.present; bases = i.bases.items; slots = i.pages; taken = i.taken; steps = i.steps; stop = i.stop })
+    c.args.page c.args.here lt row (ap (λ (l : LeaseView). slot_at l.slots c.args.page) view ∙ c.requires.missing) c.self.invariant)

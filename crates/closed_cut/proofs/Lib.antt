@@ -1,0 +1,4 @@
+pub mod Lowerings
+pub mod Walking
+pub mod Chains
+pub mod Reach

@@ -1,0 +1,16 @@
+use Rattle.std.proofs.Common.{◌≡◌, ◌<◌, ◌≤◌, ℕ, length, get_or, sum_by}
+use Rattle.closed_cut.specs.Lowering.{IsLoweredTo}
+use Rattle.closed_cut.proofs.Lowerings.{AreStopped}
+use Rattle.closed_cut.proofs.lowering.lowered.Given as goal
+
+abbrev pub invariant-loop-hart : goal.invariant-loop-hart
+invariant-loop-hart l =
+    record {
+      lowered : IsLoweredTo l.edges l.fn.bound l.cut;
+      eight : length l.ends ≡ 8;
+      ends : (h : ℕ) → get_or l.ends h 0 ≤ length l.edges;
+      stopped : (h : ℕ) → h < 8 → AreStopped l.edges l.cut h (get_or l.ends h 0) (length l.edges);
+    }
+
+abbrev pub decreases-loop-hart : goal.decreases-loop-hart
+decreases-loop-hart l = sum_by (λ n. n) l.ends

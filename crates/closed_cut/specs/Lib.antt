@@ -1,0 +1,4 @@
+pub mod Chain
+pub mod Position
+pub mod Lowering
+pub mod Walks

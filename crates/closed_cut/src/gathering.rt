@@ -1,0 +1,67 @@
+//! The pieces of a hart that go on without a gap, and their edges.
+
+ghost use Rattle.std.specs.Prelude.{◌≡◌, ◌<◌, ◌≤◌, ◌^◌, ◌++◌, IfOk, OnOk, IfSome, IfNone};
+ghost use Rattle.std.specs.List.{filter_map};
+ghost use Rattle.fragment_codec.specs.Rules.{FragmentParts};
+ghost use Rattle.log_join.specs.Cells.{One};
+ghost use Rattle.log_join.specs.Stores.{fragment_at, IsStore};
+ghost use Rattle.closed_cut.specs.Position.{edge_in, pieces_of};
+ghost use Rattle.closed_cut.specs.Walks.{IsGathered};
+
+use edge_log::Edge;
+use fragment_codec::{Fragment, Frame, Key, Record};
+use ft_types::{Count, Hart, Memory, Term};
+use log_join::{Found, Store};
+use std::option::Option;
+use std::result::Result;
+
+/// The piece with this key, where one content came.
+fn piece_of(store: &Store, key: Key) -> Option<&Fragment>
+    ensures one { IfSome result (λ f. fragment_at store.entry.now key ≡ One f.now) }
+    ensures rules { IsStore store.entry.now }
+    ensures none { IfNone result ((f : FragmentParts) → fragment_at store.entry.now key ≡ One f → ⊥) }
+{
+    match store.get(key) {
+        Found::One(Frame::Log(fragment)) => Some(fragment),
+        _ => None,
+    }
+}
+
+/// Adds the edges among the records.
+fn add_edges(edges: &mut Vec<Edge>, records: &[Record]) -> Result<(), Memory>
+    ensures { OnOk result (edges.new.items ≡ edges.old.items ++ filter_map edge_in records.now) }
+{
+    for record in records {
+        if let Record::Edge(edge) = record {
+            edges.push(*edge)?;
+        }
+    }
+    Ok(())
+}
+
+/// Goes over the hart's pieces of a term from a count on, place by place, while each begins at the end so far. Gives the
+/// end, and adds the edges of these pieces.
+pub(crate) fn gather(
+    store: &Store,
+    term: Term,
+    hart: Hart,
+    from: Count,
+    edges: &mut Vec<Edge>,
+) -> Result<Count, Memory>
+    requires { from < 2 ^ 48 }
+    ensures gathered { IfOk result (λ end. IsGathered (pieces_of store.now term hart) from edges.old.items end edges.new.items) }
+    ensures limit { IfOk result (λ end. end < 2 ^ 48) }
+{
+    let mut end = from;
+    for place in 0..=u32::MAX {
+        let Some(piece) = piece_of(store, Key { term, hart, place }) else {
+            break;
+        };
+        if piece.from() != end {
+            break;
+        }
+        add_edges(edges, piece.records())?;
+        end = piece.to();
+    }
+    Ok(end)
+}

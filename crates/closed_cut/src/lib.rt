@@ -1,0 +1,15 @@
+//! How far the frames of a store reach: the chain of its terms, and the greatest closed cut along it.
+#![tactic(auto)]
+
+mod ancestry;
+mod answer;
+mod gathering;
+mod lowering;
+mod walk;
+
+pub use ancestry::chain;
+pub use answer::Position;
+pub use walk::position;
+
+#[cfg(test)]
+mod tests;

@@ -1,0 +1,7 @@
+pub mod Cells
+pub mod Tests
+pub mod Codes
+pub mod Stores
+pub mod Contents
+pub mod Answers
+pub mod Laws

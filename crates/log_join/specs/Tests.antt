@@ -1,0 +1,37 @@
+-- When the contents of two frames are equal.
+use Rattle.std.specs.Prelude.{Bool, true, false, ◌&&◌, ◌==◌, nat_eq}
+use Rattle.std.specs.Cmp.Lexicographic.{pointwise}
+use Rattle.ft_types.specs.declared.guest.Guest.{Guest}
+use Rattle.input_log.specs.declared.Input.{Input as HartInput}
+use Rattle.input_log.specs.declared.Input.TheVariants.{Timer, Word, Bell}
+use Rattle.edge_log.specs.declared.Edge.{Edge as OwnedEdge}
+use Rattle.fragment_codec.specs.declared.types.Key.{Key}
+use Rattle.fragment_codec.specs.declared.types.Record.{Record}
+use Rattle.fragment_codec.specs.declared.types.Record.TheVariants.{Edge as EdgeRecord, Input as InputRecord}
+use Rattle.fragment_codec.specs.Rules.{FragmentParts, OpeningParts}
+
+abbrev pub same_guest : Guest → Guest → Bool
+same_guest a b = pointwise nat_eq a.digest b.digest && (a.harts == b.harts)
+
+abbrev pub same_key : Key → Key → Bool
+same_key a b = (a.term == b.term) && (a.hart == b.hart) && (a.place == b.place)
+
+abbrev pub same_edge : OwnedEdge → OwnedEdge → Bool
+same_edge a b = (a.hart == b.hart) && (a.at == b.at) && (a.other == b.other) && (a.after == b.after)
+
+abbrev pub same_input : HartInput → HartInput → Bool
+same_input Timer Timer = true
+same_input (Word a) (Word b) = a == b
+same_input (Bell a) (Bell b) = a == b
+same_input a b = false
+
+abbrev pub same_record : Record → Record → Bool
+same_record (EdgeRecord a) (EdgeRecord b) = same_edge a b
+same_record (InputRecord m a) (InputRecord n b) = (m == n) && same_input a b
+same_record a b = false
+
+abbrev pub same_opening : OpeningParts → OpeningParts → Bool
+same_opening a b = same_guest a.guest b.guest && (a.term == b.term) && (a.parent == b.parent) && pointwise nat_eq a.base b.base
+
+abbrev pub same_fragment : FragmentParts → FragmentParts → Bool
+same_fragment a b = same_guest a.guest b.guest && same_key a.key b.key && (a.from == b.from) && (a.to == b.to) && pointwise same_record a.records b.records

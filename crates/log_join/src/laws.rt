@@ -1,0 +1,23 @@
+//! What holds of all joins.
+
+ghost use Rattle.fragment_codec.specs.Rules.{FragmentParts, OpeningParts};
+ghost use Rattle.log_join.specs.Tests.{same_opening, same_fragment};
+ghost use Rattle.log_join.specs.Stores.{StoreView};
+ghost use Rattle.log_join.specs.Laws.{Tells, CellsJoin, OneJoin, Associates, Commutes, Idempotent, HasUnit};
+
+/// Contents are told apart exactly, and cells join in whatever order and however often.
+pub fn joins_of_cells()
+    ensures openings_told { Tells same_opening }
+    ensures fragments_told { Tells same_fragment }
+    ensures openings { CellsJoin same_opening }
+    ensures fragments { CellsJoin same_fragment }
+{}
+
+/// Stores have one join, in whatever order and however often.
+pub fn joins_of_stores()
+    ensures one { (a b : StoreView) → OneJoin a b }
+    ensures associative { Associates }
+    ensures commutative { Commutes }
+    ensures idempotent { Idempotent }
+    ensures unit { HasUnit }
+{}

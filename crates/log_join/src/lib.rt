@@ -1,0 +1,17 @@
+//! Stores of frames, and their join: whatever came, in whatever order and however often, two stores to which the same
+//! frames came are the same.
+#![tactic(auto)]
+
+mod answers;
+mod content;
+mod laws;
+mod place;
+mod shelf;
+mod shelves;
+mod store;
+#[cfg(test)]
+mod tests;
+
+pub use answers::{Found, Put, StoreFault};
+pub use laws::{joins_of_cells, joins_of_stores};
+pub use store::Store;
