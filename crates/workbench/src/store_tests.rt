@@ -7,6 +7,7 @@ use crate::tests::{
 use edge_log::Edge;
 use fragment_codec::{Fragment, Frame, Key, Opening, Record};
 use ft_types::{Count, Counts, Guest, Hart, MemorySink, Term};
+use input_log::Input;
 use std::alloc::Global;
 use std::cell::RefCell;
 use std::rc::Rc;
@@ -26,7 +27,7 @@ fn opening_from(
     Ok(Frame::Opening(opening))
 }
 
-/// The first piece of a hart of term 1, with at most one edge.
+/// The first piece of a hart of term 1, with an input and at most one edge.
 fn piece_of(
     alloc: Global,
     guest: Guest,
@@ -40,6 +41,7 @@ fn piece_of(
         place: 0,
     };
     let mut records = Vec::new(alloc);
+    records.push(Record::Input(0, Input::Timer))?;
     if let Some(edge) = edge {
         records.push(Record::Edge(edge))?;
     }
