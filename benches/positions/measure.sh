@@ -21,7 +21,7 @@ cp -R "$here/positions_bench" "$work/crates/"
 for file in "$work/crates/positions_bench"/src/*.rt.txt; do
     mv "$file" "${file%.txt}"
 done
-echo 'positions_bench: closed_cut log_join fragment_codec ft_types edge_log anyhow' >> "$work/crates.txt"
+echo 'positions_bench: closed_cut log_join fragment_codec ft_types input_log edge_log anyhow' >> "$work/crates.txt"
 (cd "$work/crates/positions_bench" && rt run > "$work/build.txt" 2>&1) || {
     tail "$work/build.txt"
     exit 1
