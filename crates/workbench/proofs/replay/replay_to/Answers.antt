@@ -1,4 +1,3 @@
-use Rattle.std.proofs.Common.{refl}
 use Rattle.workbench.proofs.Going.{lease_alone, lease_room, replaying_on, nearer, stopped}
 use Rattle.workbench.proofs.replay.replay_to.Goals as goal
 
