@@ -4,28 +4,10 @@
 set -eu
 
 here=$(cd "$(dirname "$0")" && pwd)
-top=$(cd "$here/../.." && pwd)
-work=$(mktemp -d)
-trap 'rm -rf "$work"' EXIT
+. "$here/../workspace.sh"
 
-# The proved decoder: the two crates and the program that calls them, in a workspace of their own.
-mkdir "$work/crates"
-for crate in zaamo rv32_isa; do
-    mkdir "$work/crates/$crate"
-    cp -R "$top/crates/$crate/src" "$top/crates/$crate/specs" "$top/crates/$crate/proofs" \
-        "$work/crates/$crate/"
-done
-cp -R "$here/decode_bench" "$work/crates/"
-# The gate reads each .rt file as a part of a crate, so the sources of benchmarks end in .rt.txt.
-for file in "$work/crates/decode_bench"/src/*.rt.txt; do
-    mv "$file" "${file%.txt}"
-done
-printf 'zaamo:\nrv32_isa: zaamo\ndecode_bench: rv32_isa anyhow\n' > "$work/crates.txt"
-(cd "$work/crates/decode_bench" && rt run > "$work/build.txt" 2>&1) || {
-    tail "$work/build.txt"
-    exit 1
-}
-proved="$work/crates/decode_bench/out/decode_bench"
+workspace decode_bench "zaamo rv32_isa" "rv32_isa anyhow"
+proved=$program
 
 # The same decoder in plain Rust.
 plain="$work/baseline"
@@ -35,11 +17,6 @@ rustc --edition 2024 -O "$here/baseline.rs" -o "$plain"
 "$proved" > "$work/proved.txt"
 "$plain" > "$work/plain.txt"
 cmp "$work/proved.txt" "$work/plain.txt"
-
-count() {
-    valgrind --tool=callgrind --callgrind-out-file=/dev/null "$1" "$2" 2>&1 |
-        awk '/Collected/ { print $4 }'
-}
 
 # What 1,000 more rounds over the table of 76 words cost, per word.
 per_word() {

@@ -4,39 +4,14 @@
 set -eu
 
 here=$(cd "$(dirname "$0")" && pwd)
-top=$(cd "$here/../.." && pwd)
-work=$(mktemp -d)
-trap 'rm -rf "$work"' EXIT
+. "$here/../workspace.sh"
 
-# The crate, what it stands on, and the program that calls it, in a workspace of their own.
-mkdir "$work/crates"
-for crate in interleaving ft_types input_log edge_log fragment_codec log_join; do
-    mkdir "$work/crates/$crate"
-    cp -R "$top/crates/$crate/src" "$top/crates/$crate/specs" "$top/crates/$crate/proofs" \
-        "$work/crates/$crate/" 2>/dev/null || true
-    grep "^$crate:" "$top/crates.txt" >> "$work/crates.txt"
-done
-cp -R "$here/frames_bench" "$work/crates/"
-# The gate reads each .rt file as a part of a crate, so the sources of benchmarks end in .rt.txt.
-for file in "$work/crates/frames_bench"/src/*.rt.txt; do
-    mv "$file" "${file%.txt}"
-done
-echo 'frames_bench: log_join fragment_codec ft_types input_log edge_log sha2 anyhow' >> "$work/crates.txt"
-(cd "$work/crates/frames_bench" && rt run > "$work/build.txt" 2>&1) || {
-    tail "$work/build.txt"
-    exit 1
-}
-program="$work/crates/frames_bench/out/frames_bench"
-
-count() {
-    valgrind --tool=callgrind --callgrind-out-file=/dev/null "$program" "$1" "$2" "$3" 2>&1 |
-        awk '/Collected/ { print $4 }'
-}
+workspace frames_bench "interleaving ft_types input_log edge_log fragment_codec log_join" "log_join fragment_codec ft_types input_log edge_log sha2 anyhow"
 
 # What two more rounds over the stream cost, per byte.
 per_byte() {
-    few=$(count "$1" "$2" 1)
-    many=$(count "$1" "$2" 3)
+    few=$(count "$program" "$1" "$2" 1)
+    many=$(count "$program" "$1" "$2" 3)
     bytes=$("$program" "$1" "$2" 0 | awk '{ print $1 }')
     awk "BEGIN { printf \"%.3f\", ($many - $few) / 2 / $bytes }"
 }

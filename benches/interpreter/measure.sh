@@ -4,32 +4,10 @@
 set -eu
 
 here=$(cd "$(dirname "$0")" && pwd)
-top=$(cd "$here/../.." && pwd)
-work=$(mktemp -d)
-trap 'rm -rf "$work"' EXIT
+. "$here/../workspace.sh"
 
-# The proved interpreter: its crates and the program that calls them, in a workspace of their own.
-mkdir "$work/crates"
-for crate in ft_types zaamo rv32_isa input_log interleaving rv32_hart; do
-    mkdir "$work/crates/$crate"
-    for part in src specs proofs; do
-        if [ -d "$top/crates/$crate/$part" ]; then
-            cp -R "$top/crates/$crate/$part" "$work/crates/$crate/"
-        fi
-    done
-    grep "^$crate:" "$top/crates.txt" >> "$work/crates.txt"
-done
-cp -R "$here/interpreter_bench" "$work/crates/"
-# The gate reads each .rt file as a part of a crate, so the sources of benchmarks end in .rt.txt.
-for file in "$work/crates/interpreter_bench"/src/*.rt.txt; do
-    mv "$file" "${file%.txt}"
-done
-echo 'interpreter_bench: ft_types rv32_hart anyhow' >> "$work/crates.txt"
-(cd "$work/crates/interpreter_bench" && rt run > "$work/build.txt" 2>&1) || {
-    tail "$work/build.txt"
-    exit 1
-}
-proved="$work/crates/interpreter_bench/out/interpreter_bench"
+workspace interpreter_bench "ft_types zaamo rv32_isa input_log interleaving rv32_hart" "ft_types rv32_hart anyhow"
+proved=$program
 
 # The same interpreter in plain Rust.
 plain="$work/baseline"
@@ -39,11 +17,6 @@ rustc --edition 2024 -O "$here/baseline.rs" -o "$plain"
 "$proved" 100000 > "$work/proved.txt"
 "$plain" 100000 > "$work/plain.txt"
 cmp "$work/proved.txt" "$work/plain.txt"
-
-count() {
-    valgrind --tool=callgrind --callgrind-out-file=/dev/null "$1" "$2" 2>&1 |
-        awk '/Collected/ { print $4 }'
-}
 
 # What 200,000 more steps cost, per step.
 per_step() {

@@ -1,5 +1,5 @@
 -- A halted hart.
-use Rattle.std.proofs.Common.{◌≡◌, ℕ, ◌+◌, List, [], ◌∷◌, ◌++◌, length, slice_get, Option, None, Some, Bool, true, false, ap, ◌∙◌, if◌then◌else◌}
+use Rattle.std.proofs.Common.{◌≡◌, ℕ, ◌+◌, [], ◌∷◌, length, slice_get, Option, None, Some, Bool, true, ap, ◌∙◌, if◌then◌else◌}
 use Rattle.interleaving.specs.Stored.{run_from, goes, stored_after}
 use Rattle.rv32_hart.specs.Hart.{Hart}
 use Rattle.rv32_hart.specs.Step.{effect}

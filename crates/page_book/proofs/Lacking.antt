@@ -1,5 +1,5 @@
 -- What a step counts and leaves of the rights of a lease, and the right that it lacks.
-use Rattle.std.proofs.Common.{◌≡◌, ℕ, ◌+◌, ◌<◌, List, [], ◌∷◌, length, map, Bool, true, false, Option, None, Some, ap, refl, sym, ◌∙◌, arith}
+use Rattle.std.proofs.Common.{◌≡◌, ℕ, ◌+◌, ◌<◌, List, [], ◌∷◌, length, map, false, Option, None, ap, refl, sym, ◌∙◌, arith}
 use Rattle.interleaving.specs.Machine.{Write}
 use Rattle.ft_types.specs.declared.names.Want.{Want}
 use Rattle.ft_types.specs.declared.names.Want.TheVariants.{Read, Write as WriteRight}

@@ -1,22 +1,22 @@
 -- How far the places reach.
-use Rattle.std.proofs.Common.{◌≡◌, ◌≢◌, ℕ, zero, suc, add-one, ◌+◌, ◌<◌, ◌^◌, List, [], ◌∷◌, ◌++◌, Option, Some, None, refl, sym, ap, subst, ◌∙◌, ◌⊎◌, inl, inr, arith, Bool, true, false, ◌==◌, if◌then◌else◌}
-use Rattle.std.specs.Prelude.{Contains, IsTrue}
+use Rattle.std.proofs.Common.{◌≡◌, ℕ, zero, suc, add-one, ◌+◌, ◌<◌, ◌^◌, List, Option, Some, None, sym, ap, subst, ◌∙◌, inl, inr, arith, Bool, true, false, ◌==◌, if◌then◌else◌}
+use Rattle.std.specs.Prelude.{IsTrue}
 use Rattle.std.specs.Ordering.{nat_cmp}
 use Rattle.std.specs.BTreeMap.{get}
 use Rattle.std.specs.List.{AllByRecursion}
 use Rattle.fragment_codec.specs.declared.types.Key.{Key}
 use Rattle.fragment_codec.specs.declared.frame.Frame.{Frame}
-use Rattle.fragment_codec.specs.declared.frame.Frame.TheVariants.{Log, Opening}
+use Rattle.fragment_codec.specs.declared.frame.Frame.TheVariants.{Log}
 use Rattle.fragment_codec.specs.Rules.{FragmentParts, IsFragment}
 use Rattle.fragment_codec.specs.Streams.{IsFrame}
 use Rattle.workbench.specs.declared.pieces.Piece.{Piece}
 use Rattle.workbench.specs.declared.pieces.Piece.TheVariants.{One, Clash}
-use Rattle.workbench.specs.Streams.{IsOpened, first_key, Leads, Reach, ReachNoFurther, IsEnd}
+use Rattle.workbench.specs.Streams.{Leads, Reach, IsEnd}
 use Rattle.std.proofs.lemmas.Bool.{cases_eq}
 use Rattle.std.proofs.lemmas.Bool.Decides.{nat_tests}
 use Rattle.ft_types.specs.declared.guest.Guest.{Guest}
 use Rattle.workbench.specs.declared.pieces.Pieces.{Pieces}
-use Rattle.workbench.specs.Pieces.{HasNone, HasTwo, IsEntry, Holds, lead_of}
+use Rattle.workbench.specs.Pieces.{IsEntry, Holds, lead_of}
 use Rattle.workbench.proofs.Lists.{of_all}
 
 fragment_of : (frames : List Frame) (place from to : ℕ) (each : AllByRecursion IsFrame frames) (h : Leads frames place from to) → IsFragment h.piece

@@ -1,16 +1,15 @@
 -- What is kept of a place as frames come.
-use Rattle.std.proofs.Common.{◌≡◌, ◌≢◌, ℕ, ◌+◌, ◌<◌, ◌^◌, Bool, true, false, List, [], ◌∷◌, ◌++◌, Option, Some, None, refl, sym, ap, subst, ◌∙◌, ◌⊎◌, inl, inr, arith}
-use Rattle.std.specs.Prelude.{Contains}
+use Rattle.std.proofs.Common.{◌≡◌, ◌≢◌, ℕ, List, [], ◌∷◌, ◌++◌, Option, Some, None, refl, sym, ap, subst, ◌∙◌, ◌⊎◌, inl, inr}
 use Rattle.std.specs.List.{AllByRecursion}
 use Rattle.std.proofs.lemmas.List.Elements.{Contains-append_left, Contains-append_right, Contains-append_cases}
 use Rattle.std.proofs.lemmas.Bool.{cases_eq}
 use Rattle.ft_types.specs.declared.guest.Guest.{Guest}
 use Rattle.fragment_codec.specs.declared.frame.Frame.{Frame}
-use Rattle.fragment_codec.specs.declared.frame.Frame.TheVariants.{Log, Opening}
+use Rattle.fragment_codec.specs.declared.frame.Frame.TheVariants.{Log}
 use Rattle.fragment_codec.specs.Rules.{FragmentParts}
 use Rattle.workbench.specs.declared.pieces.Piece.{Piece}
 use Rattle.workbench.specs.declared.pieces.Piece.TheVariants.{One, Clash}
-use Rattle.workbench.specs.Streams.{IsPlain, first_key, IsOne, Leads}
+use Rattle.workbench.specs.Streams.{IsPlain, first_key, Leads}
 use Rattle.workbench.specs.Pieces.{HasNone, HasTwo, IsEntry, Joins}
 use Rattle.workbench.proofs.Lists.{only_element, one_element, of_all}
 

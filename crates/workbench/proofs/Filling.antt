@@ -1,5 +1,5 @@
 -- A lease of one hart, step by step.
-use Rattle.std.proofs.Common.{◌≡◌, ◌≢◌, ℕ, zero, suc, ◌+◌, ◌-◌, ◌<◌, ◌≤◌, List, [], ◌∷◌, map, length, length-set, slice_get, slice_set, Option, None, Some, Result, Ok, Err, Bool, true, false, refl, sym, ap, subst, ◌∙◌, ◌⊎◌, inl, inr, arith, lit<}
+use Rattle.std.proofs.Common.{◌≡◌, ◌≢◌, ℕ, zero, suc, ◌+◌, ◌<◌, ◌≤◌, List, [], ◌∷◌, map, length, length-set, slice_get, slice_set, Option, None, Some, Result, Ok, Err, true, false, refl, sym, ap, subst, ◌∙◌, inl, inr, arith, lit<}
 use Rattle.std.specs.Result.{OnOk, is_err}
 use Rattle.rv32_hart.specs.declared.outcome.Tick.TheVariants.{Done, Miss}
 use Rattle.rv32_hart.specs.Hart.{Hart}
@@ -13,7 +13,7 @@ use Rattle.page_book.specs.declared.taken.Taken.{Taken}
 use Rattle.page_book.specs.Slots.{slot_at, want_of}
 use Rattle.page_book.specs.Leases.{LeaseView, Ticks, IsFull, IsLent, laid, with_page, with_page_beside}
 use Rattle.page_book.specs.Books.{BookView, IsLentBy, IsOurs, IsFree, open_at, right_of, stands_against, taken_with}
-use Rattle.page_book.specs.Laws.{StepCounts, StepKeepsRights, LacksOnAPage, Covers}
+use Rattle.page_book.specs.Laws.{StepCounts, LacksOnAPage, Covers}
 use Rattle.workbench.specs.Replays.{IsAlone, GoesOn, Gives, Fills, Settles, lacking, rights_short}
 
 -- no step yet
@@ -59,53 +59,12 @@ fills_step b c l k n counts still f room t =
       goes_on = counts_on l k n f.goes_on stop (counts k n t) (below_stop k room);
     }
 
-same_hart : (l k n : LeaseView) → n.present ≡ k.present → n.steps ≡ k.steps → n.stop ≡ k.stop → GoesOn l k → GoesOn l n
-same_hart l k n present steps stop goes = elim goes [
-  | inl same ↦ inl (present ∙ same.0, steps ∙ same.1)
-  | inr on ↦ (let e : n.present.count ≡ k.present.count = ap (λ (h : Hart). h.count) present in inr (omega (arith, e, on.0), omega (arith, e, stop, on.1)))
-]
-
--- one page more
-pub fills_page : {M : Type 0} (b c d : BookView M) (l k n : LeaseView) → Fills b c l k → Gives c d k n → Fills b d l n
-fills_page {M} b c d l k n f g = record {
-  book = g.book ∙ ap (λ (x : BookView M). let y : BookView M = record x { leases = d.leases } in y) f.book;
-  alone = g.alone;
-  hart = g.hart ∙ f.hart;
-  base = g.base ∙ f.base;
-  stop = g.stop ∙ f.stop;
-  goes_on = same_hart l k n g.present g.steps g.stop f.goes_on;
-}
-
--- a step brings the stop nearer, and a page another right
-pub step_smaller : (k n : LeaseView) → StepCounts → StepKeepsRights → (IsFull k → ⊥) → Ticks Done k n →
-    (n.stop - n.present.count) + lacking (map want_of n.slots) < (k.stop - k.present.count) + lacking (map want_of k.slots)
-step_smaller k n counts rights room t =
-    let stop : n.stop ≡ k.stop = ap (λ (x : LeaseView). x.stop) t.0 in
-    let same : lacking (map want_of n.slots) ≡ lacking (map want_of k.slots) = ap lacking (rights k n t) in
-    omega (arith, stop, same, counts k n t, below_stop k room)
-
-pub page_smaller : {M : Type 0} (c d : BookView M) (k n : LeaseView) → Gives c d k n →
-    (n.stop - n.present.count) + lacking (map want_of n.slots) < (k.stop - k.present.count) + lacking (map want_of k.slots)
-page_smaller c d k n g =
-    let count : n.present.count ≡ k.present.count = ap (λ (h : Hart). h.count) g.present in
-    omega (arith, g.stop, count, g.fewer)
-
 -- the page that a step lacks
 pub lacks_there : (k n : LeaseView) (page : ℕ) (want : Want) → LacksOnAPage → Ticks (Miss page want) k n →
     (page < length n.slots) × (Covers (want_of (slot_at n.slots page)) want → ⊥)
 lacks_there k n page want law t =
     let lacks = law k page want t.1 in
     subst (λ (x : LeaseView). (page < length x.slots) × (Covers (want_of (slot_at x.slots page)) want → ⊥)) (sym t.0) lacks
-
--- a step that is not taken leaves the book and its lease
-pub fills_none : {M : Type 0} (b c : BookView M) (l k n : LeaseView) → Fills b c l k → n ≡ k → Fills b c l n
-fills_none b c l k n f e = subst (λ (x : LeaseView). Fills b c l x) (sym e) f
-
--- and a page brings the lease that is left nearer
-pub missed_smaller : {M : Type 0} (c d : BookView M) (k m n : LeaseView) → m ≡ k → Gives c d m n →
-    (n.stop - n.present.count) + lacking (map want_of n.slots) < (k.stop - k.present.count) + lacking (map want_of k.slots)
-missed_smaller c d k m n e g =
-    subst (λ (x : LeaseView). (n.stop - n.present.count) + lacking (map want_of n.slots) < (x.stop - x.present.count) + lacking (map want_of x.slots)) e (page_smaller c d m n g)
 
 -- ---- back in the book
 
@@ -166,7 +125,8 @@ settled {M} b c d l k room full f start mode leases machine =
 
 -- ---- a page that is given
 
-row_kept : (leases : List (Option OpenLease)) (hart other : ℕ) (lent : Option OpenLease) → other ≢ hart → open_at (slice_set leases hart lent) other ≡ open_at leases other
+-- the other leases stay
+pub row_kept : (leases : List (Option OpenLease)) (hart other : ℕ) (lent : Option OpenLease) → other ≢ hart → open_at (slice_set leases hart lent) other ≡ open_at leases other
 row_kept [] hart other lent ne = refl
 row_kept (x ∷ leases) zero zero lent ne = absurd (ne refl)
 row_kept (x ∷ leases) zero (suc other) lent ne = refl

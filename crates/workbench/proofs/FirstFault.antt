@@ -1,21 +1,18 @@
 -- A stream has at most one first fault, and none where it is right.
-use Rattle.std.proofs.Common.{◌≡◌, ◌≢◌, ℕ, List, [], ◌∷◌, ◌++◌, Option, Some, None, Result, Ok, Err, refl, sym, ap, subst, ◌∙◌, ◌⊎◌, inl, inr, append_assoc}
+use Rattle.std.proofs.Common.{◌≡◌, ℕ, List, [], ◌∷◌, ◌++◌, Option, Some, None, Result, Ok, Err, refl, sym, ap, subst, ◌∙◌, inl, inr, append_assoc}
 use Rattle.std.specs.List.{flat_map, AllByRecursion}
 use Rattle.std.specs.Result.{IfErr}
 use Rattle.std.proofs.lemmas.Result.{IfErr-at_err}
 use Rattle.ft_types.specs.declared.guest.Guest.{Guest as GuestName}
 use Rattle.fragment_codec.specs.declared.frame.Frame.{Frame as LogFrame}
 use Rattle.fragment_codec.specs.declared.fault.FrameFault.{FrameFault}
-use Rattle.fragment_codec.specs.declared.fault.FrameFault.TheVariants.{Body}
-use Rattle.fragment_codec.specs.Streams.{spelling, IsFrame, IsStuck, Splits, Unread, Follows}
+use Rattle.fragment_codec.specs.Streams.{spelling, IsFrame, IsStuck, Follows}
 use Rattle.fragment_codec.proofs.Streams.{one_reading}
 use Rattle.fragment_codec.proofs.Readings.{not_stuck, one_feed}
 use Rattle.guest_image.specs.Image.{ImageContents, guest_of as guest_of_image}
-use Rattle.guest_image.specs.Machine.{MachineState}
-use Rattle.workbench.specs.declared.faults.ReplayFault.{ReplayFault}
 use Rattle.workbench.specs.declared.faults.StreamsFault.{StreamsFault}
 use Rattle.workbench.specs.declared.faults.StreamsFault.TheVariants.{Read, Frame, Guest, Replay, Write, Memory}
-use Rattle.workbench.specs.Streams.{IsPlain, Says, Breaks, GoesOnWith, HasForeign, HasRecord, guest_of, records_of}
+use Rattle.workbench.specs.Streams.{IsPlain, Says, Breaks, GoesOnWith, HasForeign, HasRecord, guest_of}
 use Rattle.workbench.specs.Faults.{IsFirstFault}
 use Rattle.workbench.specs.Outcome.{IsOutcome, WritesTextOf, IsCause, OfStream, StandsInBytes, AnswersOnly}
 

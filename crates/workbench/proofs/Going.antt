@@ -1,9 +1,12 @@
 -- From lease to lease.
+<<<<<<< HEAD
 use Rattle.std.proofs.Common.{◌≡◌, ◌≢◌, ◌==◌, ℕ, zero, suc, ◌+◌, ◌-◌, ◌<◌, ◌≤◌, List, [], ◌∷◌, length, length-set, slice_get, slice_set, Option, None, Some, Bool, true, false, nat_le, if◌then◌else◌, refl, sym, ap, subst, ◌∙◌, ◌⊎◌, inl, inr, arith, Contains}
+=======
+use Rattle.std.proofs.Common.{◌≡◌, ℕ, ◌-◌, ◌<◌, ◌≤◌, List, [], ◌∷◌, length, slice_get, slice_set, Option, None, Some, Bool, true, false, nat_le, if◌then◌else◌, refl, sym, ap, subst, ◌∙◌, ◌⊎◌, inl, inr, arith}
+>>>>>>> 3614386b578ea59ab99915355a242280a119f6df
 use Rattle.std.proofs.lemmas.Bool.Decides.{nat_tests}
 use Rattle.rv32_hart.specs.Hart.{Hart}
 use Rattle.guest_image.specs.Image.{ImageContents}
-use Rattle.guest_image.specs.Machine.{MachineState}
 use Rattle.page_book.specs.declared.answers.BookFault.{BookFault}
 use Rattle.page_book.specs.declared.answers.BookFault.TheVariants.{Halted, AtLimit}
 use Rattle.page_book.specs.declared.book.OpenLease.{OpenLease}
@@ -14,6 +17,7 @@ use Rattle.edge_log.specs.EdgeLog.{edges_of}
 use Rattle.page_book.specs.Runs.{counts_of, steps_taken, IsStop}
 use Rattle.page_book.specs.Leases.{LeaseView, IsFull, fresh}
 use Rattle.page_book.specs.Books.{BookView, IsOurs, open_at, refusal, nothing_taken}
+use Rattle.workbench.proofs.Filling.{row_kept}
 use Rattle.workbench.specs.Replays.{IsAlone, Settles, IsReplaying, HasStopped}
 
 -- a hart that is not refused runs, and is below its stop
@@ -39,13 +43,6 @@ refused_stopped h stop f e = of h.halted refl e
     of : (b : Bool) → h.halted ≡ b → (if b then Some Halted else (if nat_le stop h.count then Some AtLimit else None)) ≡ Some f → (h.halted ≡ true) ⊎ (stop ≤ h.count)
     of true k g = inl k
     of false k g = inr (later (nat_le stop h.count) refl g)
-
-row_other : (leases : List (Option OpenLease)) (hart other : ℕ) (lent : OpenLease) → other ≢ hart → open_at (slice_set leases hart (Some lent)) other ≡ open_at leases other
-row_other [] hart other lent ne = refl
-row_other (x ∷ leases) zero zero lent ne = absurd (ne refl)
-row_other (x ∷ leases) zero (suc other) lent ne = refl
-row_other (x ∷ leases) (suc hart) zero lent ne = refl
-row_other (x ∷ leases) (suc hart) (suc other) lent ne = row_other leases hart other lent (λ e. ne (ap suc e))
 
 -- the hart that stands alone
 alone_at : (image : ImageContents) (end : ℕ) (b : BookView Leg) (p : IsReplaying image end b) → slice_get b.machine.harts 0 ≡ Some p.hart
@@ -122,7 +119,7 @@ module _ (image : ImageContents) (end : ℕ) (b c : BookView Leg) (p : IsReplayi
     ours = ours;
     alone = λ h ne.
         ap (λ (x : BookView Leg). open_at x.leases h) opened
-        ∙ row_other b.leases 0 h (nothing_taken stop) (λ e. ne (e ∙ sym (ap (λ (x : LeaseView). x.hart) lent)))
+        ∙ row_kept b.leases 0 h (Some (nothing_taken stop)) (λ e. ne (e ∙ sym (ap (λ (x : LeaseView). x.hart) lent)))
         ∙ p.closed h;
   }
 

@@ -1,9 +1,9 @@
 -- What is kept of all places as frames come.
-use Rattle.std.proofs.Common.{◌≡◌, ◌≢◌, ℕ, ◌+◌, ◌<◌, ◌^◌, Bool, true, false, List, [], ◌∷◌, ◌++◌, Option, Some, None, refl, sym, ap, subst, ◌∙◌, ◌⊎◌, inl, inr, arith, rules}
-use Rattle.std.specs.Prelude.{Contains, IsTrue, ◌↔◌}
+use Rattle.std.proofs.Common.{◌≡◌, ℕ, true, false, List, [], ◌∷◌, ◌++◌, Option, refl, sym, ap, subst, ◌∙◌, inl, inr, arith, rules}
+use Rattle.std.specs.Prelude.{IsTrue}
 use Rattle.std.specs.List.{AllByRecursion}
 use Rattle.std.specs.Ordering.{nat_cmp, is_eq}
-use Rattle.std.specs.BTreeMap.{get, Updates}
+use Rattle.std.specs.BTreeMap.{get}
 use Rattle.std.proofs.lemmas.Bool.Decides.{nat_tests}
 use Rattle.std.proofs.lemmas.List.Elements.{Contains-append_left, Contains-append_right, Contains-append_cases}
 use Rattle.std.proofs.lemmas.Bool.{cases_eq}
@@ -14,11 +14,10 @@ use Rattle.fragment_codec.specs.declared.frame.Frame.TheVariants.{Log, Opening}
 use Rattle.fragment_codec.specs.Rules.{FragmentParts, OpeningParts}
 use Rattle.fragment_codec.specs.Streams.{IsFrame}
 use Rattle.workbench.specs.declared.pieces.Piece.{Piece}
-use Rattle.workbench.specs.declared.pieces.Piece.TheVariants.{One, Clash}
 use Rattle.workbench.specs.declared.pieces.Pieces.{Pieces}
-use Rattle.workbench.specs.Streams.{IsPlain, IsOpened, first_key, IsOne, Leads}
+use Rattle.workbench.specs.Streams.{IsPlain, IsOpened, first_key}
 use Rattle.workbench.specs.Pieces.{IsEntry, Holds, AddsPiece}
-use Rattle.workbench.proofs.Lists.{only_element, one_element, of_all, all_append}
+use Rattle.workbench.proofs.Lists.{only_element, one_element, all_append}
 use Rattle.workbench.proofs.Entries.{IsApart, entry_kept, entry_joined}
 
 not_equal : (k q : ℕ) → (k ≡ q → ⊥) → is_eq (nat_cmp k q) ≡ false

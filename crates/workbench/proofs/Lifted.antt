@@ -1,22 +1,19 @@
 -- What was read of a stream, and the whole stream.
-use Rattle.std.proofs.Common.{◌≡◌, ◌≢◌, ℕ, ◌<◌, List, [], ◌∷◌, ◌++◌, length, slice_get, get_or, Option, Some, None, Result, Ok, Err, refl, sym, ap, subst, ◌∙◌, ◌⊎◌, inl, inr, append_assoc, append-nil}
+use Rattle.std.proofs.Common.{◌≡◌, ℕ, List, [], ◌∷◌, ◌++◌, slice_get, get_or, Option, Some, None, Result, Ok, Err, sym, ap, subst, ◌∙◌, inl, inr, append_assoc, append-nil}
 use Rattle.std.specs.List.{flat_map}
 use Rattle.std.specs.Io.KnownBytes.{Consumes, IsAtEnd}
 use Rattle.ft_types.specs.declared.guest.Guest.{Guest as GuestName}
 use Rattle.fragment_codec.specs.declared.frame.Frame.{Frame as LogFrame}
 use Rattle.fragment_codec.specs.declared.fault.FrameFault.{FrameFault}
-use Rattle.fragment_codec.specs.declared.fault.FrameFault.TheVariants.{Body}
 use Rattle.fragment_codec.specs.Streams.{spelling, HasFault, Splits}
 use Rattle.guest_image.specs.Image.{ImageContents, guest_of}
 use Rattle.guest_image.specs.Machine.{MachineState}
-use Rattle.guest_image.specs.Text.{machine_text}
-use Rattle.workbench.specs.declared.faults.ReplayFault.{ReplayFault}
 use Rattle.workbench.specs.declared.faults.StreamsFault.{StreamsFault}
 use Rattle.workbench.specs.declared.faults.StreamsFault.TheVariants.{Read, Frame, Guest, Replay, Write, Memory}
 use Rattle.workbench.specs.declared.pieces.Pieces.{Pieces}
-use Rattle.workbench.specs.Streams.{Says, Breaks, GoesOnWith, HasForeign, HasRecord, IsEnd}
+use Rattle.workbench.specs.Streams.{Says, Breaks, GoesOnWith, IsEnd}
 use Rattle.workbench.specs.Pieces.{Holds}
-use Rattle.workbench.specs.Faults.{IsFirstFault, Told, Refused, Fails}
+use Rattle.workbench.specs.Faults.{IsFirstFault, Told, Refused}
 use Rattle.workbench.specs.Outcome.{machine_after, Reaches, IsOutcome, WritesTextOf, IsCause, IsReplayCause, OfStream}
 
 -- a fault lasts, however the bytes go on
@@ -105,21 +102,6 @@ refused_cause image guest old new f lasts is h =
     of_begun (λ stream. IsCause image stream f) old new h.read h.consumed
     (λ more. first_is_cause image (h.read ++ more) f (first_longer 0 (guest_of image) h.read more f lasts (subst (λ (g : GuestName). IsFirstFault 0 g h.read f) is h.fault)))
 
-unwritten : (A : Type 0) (P : MachineState → Type 0) (guest : GuestName) (stream : List ℕ) (f : StreamsFault) (b : Option (List ℕ)) (n : ℕ) → IsFirstFault 0 guest stream f →
-    WritesTextOf {A = A} P (Err f) b b n n
-unwritten A P guest stream (Frame i g) b n h = (refl, refl)
-unwritten A P guest stream (Guest i) b n h = (refl, refl)
-unwritten A P guest stream (Read i) b n h = (refl, refl)
-unwritten A P guest stream Memory b n h = (refl, refl)
-unwritten A P guest stream (Replay r) b n h = absurd h
-unwritten A P guest stream Write b n h = absurd h
-
-pub refused_unwritten : (A : Type 0) (image : ImageContents) (guest : GuestName) (old new : Option (List ℕ)) (f : StreamsFault) (b : Option (List ℕ)) (n : ℕ) → Refused 0 guest old new f →
-    OfStream old (λ stream. WritesTextOf {A = A} (IsOutcome image stream) (Err f) b b n n)
-refused_unwritten A image guest old new f b n h =
-    of_begun (λ stream. WritesTextOf {A = A} (IsOutcome image stream) (Err f) b b n n) old new h.read h.consumed
-    (λ more. unwritten A (IsOutcome image (h.read ++ more)) guest h.read f b n h.fault)
-
 -- ---- a stream that was told
 
 told_reaches : (image : ImageContents) (guest : GuestName) (old new : Option (List ℕ)) (p : Pieces) (end : ℕ) → guest ≡ guest_of image → (t : Told guest old new p) →
@@ -161,11 +143,3 @@ pub told_cause : (image : ImageContents) (guest : GuestName) (old new : Option (
 told_cause image guest old new p end x is t reach h =
     of_whole (λ stream. IsCause image stream x) old new t.read t.consumed t.ended
     (replay_is_cause image t.read end x (told_reaches image guest old new p end is t reach) h)
-
-pub replay_kept : (image : ImageContents) (end : ℕ) (f : StreamsFault) (old new : ℕ) → new ≡ old → IsReplayCause image end f → Fails 0 old new f
-replay_kept image end (Replay r) old new e h = e
-replay_kept image end Write old new e h = e
-replay_kept image end Memory old new e h = e
-replay_kept image end (Read i) old new e h = absurd h
-replay_kept image end (Frame i g) old new e h = absurd h
-replay_kept image end (Guest i) old new e h = absurd h

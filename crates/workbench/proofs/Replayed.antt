@@ -1,16 +1,19 @@
 -- A book of one hart, from its beginning to where its hart stops.
-use Rattle.std.proofs.Common.{◌≡◌, ℕ, zero, suc, ◌+◌, ◌<◌, ◌≤◌, List, [], ◌∷◌, ◌++◌, length, replicate, slice_get, slice_index_or, Option, None, Some, Bool, true, false, refl, sym, ap, ◌∙◌, ◌⊎◌, inl, inr, arith, lit<}
+use Rattle.std.proofs.Common.{◌≡◌, ℕ, zero, suc, ◌+◌, ◌<◌, ◌≤◌, List, [], ◌∷◌, length, replicate, slice_get, None, Some, refl, sym, ap, ◌∙◌, inl, inr, arith, lit<}
 use Rattle.rv32_hart.specs.Hart.{Hart, boot_hart}
 use Rattle.guest_image.specs.Image.{ImageContents}
 use Rattle.guest_image.specs.Machine.{MachineState, boot_machine, boot_harts}
+<<<<<<< HEAD
 use Rattle.edge_log.specs.EdgeLog.{Edges, edges_of}
 use Rattle.page_book.specs.declared.book.OpenLease.{OpenLease}
+=======
+>>>>>>> 3614386b578ea59ab99915355a242280a119f6df
 use Rattle.page_book.specs.declared.mode.Leg.{Leg}
 use Rattle.page_book.specs.Books.{BookView, open_at}
 use Rattle.page_book.specs.Runs.{LeadsTo, run_of, turns_in_a_row}
 use Rattle.page_book.specs.Laws.{StepsInARow, HaltsForGood}
 use Rattle.workbench.specs.declared.faults.ReplayFault.TheVariants.{HaltedInside}
-use Rattle.workbench.specs.Outcome.{machine_after, HaltsAt, IsReplayFault}
+use Rattle.workbench.specs.Outcome.{machine_after, IsReplayFault}
 use Rattle.workbench.specs.Replays.{IsReplaying, HasStopped}
 
 none_open : (n hart : ℕ) → open_at (replicate n None) hart ≡ None

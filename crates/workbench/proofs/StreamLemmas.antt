@@ -1,6 +1,6 @@
 -- Reading a stream piece by piece.
-use Rattle.std.proofs.Common.{◌≡◌, ◌≢◌, ℕ, ◌+◌, ◌<◌, List, [], ◌∷◌, ◌++◌, take, drop, length, get_or, suc, add-one, Option, Some, None, Result, Ok, Err, refl, sym, ap, subst, ◌∙◌, ◌⊎◌, inl, inr, arith, append_assoc}
-use Rattle.std.specs.Prelude.{Contains, OnOk, IfOk, IfErr}
+use Rattle.std.proofs.Common.{◌≡◌, ◌≢◌, ℕ, ◌+◌, ◌<◌, List, [], ◌∷◌, ◌++◌, take, drop, length, get_or, suc, add-one, Option, Some, None, Result, Ok, Err, refl, sym, ap, subst, ◌∙◌, inl, inr, append_assoc}
+use Rattle.std.specs.Prelude.{OnOk, IfErr}
 use Rattle.std.specs.List.{flat_map, AllByRecursion}
 use Rattle.std.specs.Io.KnownBytes.{Consumes, IsAtEnd}
 use Rattle.std.proofs.lemmas.List.{append-nil, take-append-drop}
@@ -10,12 +10,12 @@ use Rattle.ft_types.specs.declared.guest.Guest.{Guest as GuestName}
 use Rattle.fragment_codec.specs.declared.frame.Frame.{Frame as LogFrame}
 use Rattle.fragment_codec.specs.declared.fault.FrameFault.{FrameFault}
 use Rattle.fragment_codec.specs.declared.fault.FrameFault.TheVariants.{Magic, Version, Kind, Length, Digest, Body, Memory as NoMemory}
-use Rattle.fragment_codec.specs.Streams.{spelling, IsFrame, IsPartial, HasFault, Splits, Unread, Keeps, Follows}
+use Rattle.fragment_codec.specs.Streams.{spelling, IsFrame, Splits, Unread, Keeps, Follows}
 use Rattle.fragment_codec.proofs.Readings.{one_feed}
 use Rattle.workbench.specs.declared.faults.StreamsFault.{StreamsFault}
 use Rattle.workbench.specs.declared.faults.StreamsFault.TheVariants.{Read, Frame, Guest, Replay, Write, Memory}
 use Rattle.workbench.specs.declared.pieces.Pieces.{Pieces}
-use Rattle.workbench.specs.Streams.{IsPlain, Says, Breaks, GoesOnWith, HasForeign, HasRecord, guest_of, records_of}
+use Rattle.workbench.specs.Streams.{IsPlain, Says, GoesOnWith}
 use Rattle.workbench.specs.Pieces.{Holds}
 use Rattle.workbench.specs.Faults.{IsFirstFault, IsFaultOf, HasFaulty, IsFaultAmong, fault_in, IsPushFault, Told, Refused, Fails}
 use Rattle.workbench.proofs.Lists.{of_all, all_append, all_front, all_back}

@@ -1,7 +1,7 @@
 -- What a replay of one stream of a guest with one hart gives.
 use Rattle.std.specs.Prelude.{◌≡◌, ◌<◌, ◌+◌, ℕ, List, Option, None, Some, Result, Ok, Err}
 use Rattle.ft_types.specs.declared.guest.Guest.{Guest as GuestName}
-use Rattle.ft_types.specs.Devices.{IsOneMore, Writes}
+use Rattle.ft_types.specs.Devices.{Writes}
 use Rattle.fragment_codec.specs.declared.frame.Frame.{Frame as LogFrame}
 use Rattle.guest_image.specs.Image.{ImageContents, guest_of}
 use Rattle.guest_image.specs.Machine.{MachineState, boot_machine}

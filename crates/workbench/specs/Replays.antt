@@ -5,7 +5,6 @@ use Rattle.ft_types.specs.declared.names.Want.TheVariants.{Read, Write}
 use Rattle.rv32_hart.specs.Hart.{Hart}
 use Rattle.guest_image.specs.Image.{ImageContents}
 use Rattle.guest_image.specs.Machine.{boot_machine}
-use Rattle.page_book.specs.declared.lease_pages.Slot.{Slot}
 use Rattle.page_book.specs.declared.mode.Leg.{Leg}
 use Rattle.edge_log.specs.EdgeLog.{edges_of}
 use Rattle.page_book.specs.Slots.{want_of}

@@ -38,7 +38,8 @@ fn give(
     match book.need(lease, page, want) {
         Ok(Need::Given) => Ok(()),
         Ok(Need::HeldBy(_)) => unreachable!(),
-        Err(_) => Err(Memory),
+        Err(BookFault::Memory) => Err(Memory),
+        Err(_) => unreachable!(),
     }
 }
 
@@ -72,9 +73,13 @@ fn go_on(book: &mut Book<Replaying>, mut lease: Lease) -> Result<(), Memory>
     }
     match book.settle(lease, Keep::Nothing) {
         Ok(()) => Ok(()),
-        Err((lease, _)) => {
+        Err((lease, BookFault::Memory)) => {
             let _ended = book.discard(lease);
             Err(Memory)
+        }
+        Err((lease, _)) => {
+            let _ended = book.discard(lease);
+            unreachable!()
         }
     }
 }

@@ -7,6 +7,7 @@ use crate::tests::{
 use edge_log::Edge;
 use fragment_codec::{Fragment, Frame, Key, Opening, Record};
 use ft_types::{Count, Counts, Guest, Hart, MemorySink, Term};
+use input_log::Input;
 use std::alloc::Global;
 use std::cell::RefCell;
 use std::rc::Rc;
@@ -26,7 +27,7 @@ fn opening_from(
     Ok(Frame::Opening(opening))
 }
 
-/// The first piece of a hart of term 1, with at most one edge.
+/// The first piece of a hart of term 1, with an input and at most one edge.
 fn piece_of(
     alloc: Global,
     guest: Guest,
@@ -40,6 +41,7 @@ fn piece_of(
         place: 0,
     };
     let mut records = Vec::new(alloc);
+    records.push(Record::Input(0, Input::Timer))?;
     if let Some(edge) = edge {
         records.push(Record::Edge(edge))?;
     }
@@ -177,30 +179,30 @@ fn a_key_with_two_contents_is_passed_over(rt: HostRuntime) -> Result<(), Fail> {
 fn joined_logs_stand_in_order_and_once(rt: HostRuntime) -> Result<(), Fail> {
     let alloc = rt.alloc();
     let guest = guest_of(alloc, IMAGE_A)?;
-    let opened = opening_from(guest, 1, 0, &[0])?;
-    let opened_again = opening_from(guest, 2, 1, &[3])?;
-    let first = piece(alloc, guest, 1, 0, 0, 1)?;
-    let second = piece(alloc, guest, 1, 1, 1, 3)?;
-    let third = piece(alloc, guest, 2, 0, 3, 4)?;
-    let all = [opened, opened_again, first, second, third];
-    let [opened, opened_again, first, second, third] = [
-        bytes_of(alloc, &all[0..1])?,
-        bytes_of(alloc, &all[1..2])?,
-        bytes_of(alloc, &all[2..3])?,
-        bytes_of(alloc, &all[3..4])?,
-        bytes_of(alloc, &all[4..5])?,
+    let one = [
+        piece(alloc, guest, 2, 0, 3, 4)?,
+        opening_from(guest, 2, 1, &[3])?,
+        piece(alloc, guest, 1, 1, 1, 3)?,
+        piece(alloc, guest, 2, 0, 3, 4)?,
     ];
-    let mut one = third.clone()?;
-    one.extend_from_slice(&opened_again)?;
-    one.extend_from_slice(&second)?;
-    one.extend_from_slice(&third)?;
-    let mut other = second;
-    other.extend_from_slice(&first)?;
-    other.extend_from_slice(&opened)?;
-    other.extend_from_slice(&opened_again)?;
+    let other = [
+        piece(alloc, guest, 1, 1, 1, 3)?,
+        piece(alloc, guest, 1, 0, 0, 1)?,
+        opening_from(guest, 1, 0, &[0])?,
+        opening_from(guest, 2, 1, &[3])?,
+    ];
+    let joined = [
+        opening_from(guest, 1, 0, &[0])?,
+        opening_from(guest, 2, 1, &[3])?,
+        piece(alloc, guest, 1, 0, 0, 1)?,
+        piece(alloc, guest, 1, 1, 1, 3)?,
+        piece(alloc, guest, 2, 0, 3, 4)?,
+    ];
+    let one = bytes_of(alloc, &one)?;
+    let other = bytes_of(alloc, &other)?;
     let (done, made) = join(alloc, one, other, 1000)?;
     assert!(rt; done.is(0, b"openings 2 fragments 3 clashes 0\n", b""));
-    assert!(rt; made.as_slice() == bytes_of(alloc, &all)?.as_slice());
+    assert!(rt; made.as_slice() == bytes_of(alloc, &joined)?.as_slice());
     Ok(())
 }
 

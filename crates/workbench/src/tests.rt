@@ -51,6 +51,8 @@ impl SharedSink {
 }
 
 impl Sink for SharedSink {
+    ghost use Rattle.std.specs.Prelude.{None};
+
     ghost bytes = { λ _. None };
 
     ghost failures = { λ s. s.failures };

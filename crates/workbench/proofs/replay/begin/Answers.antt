@@ -1,4 +1,3 @@
-use Rattle.std.proofs.Common.{refl, ap, ◌∙◌}
 use Rattle.std.proofs.lemmas.Result.{IfOk-weaker}
 use Rattle.workbench.specs.Replays.{IsReplaying}
 use Rattle.workbench.proofs.Replayed.{begun}

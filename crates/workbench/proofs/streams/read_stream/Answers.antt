@@ -1,4 +1,4 @@
-use Rattle.std.proofs.Common.{refl, [], ap, take, rules, ◌<◌, length, ℕ, ◌∙◌, sym, List}
+use Rattle.std.proofs.Common.{refl, [], ap, take, rules, ◌<◌, length, ℕ, ◌∙◌}
 use Rattle.std.proofs.lemmas.Result.{err_from_is_err_and}
 use Rattle.workbench.proofs.StreamLemmas.{consumes_nothing, push_refused, push_failures, reading_more, told}
 use Rattle.workbench.proofs.streams.read_stream.Goals as goal

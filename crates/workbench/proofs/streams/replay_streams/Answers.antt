@@ -3,7 +3,7 @@ use Rattle.workbench.specs.Outcome.{IsOutcome, WritesTextOf, IsCause, IsReplayCa
 use Rattle.guest_image.specs.Image.{guest_of}
 use Rattle.workbench.specs.Faults.{IsFirstFault}
 use Rattle.workbench.proofs.FirstFault.{answers_of, refused_only}
-use Rattle.workbench.proofs.Lifted.{at_first, refused_cause, refused_first, refused_unwritten, told_written, told_cause}
+use Rattle.workbench.proofs.Lifted.{at_first, refused_cause, refused_first, told_written, told_cause}
 use Rattle.workbench.proofs.streams.replay_streams.Goals as goal
 
 pub write_replayed-requires-clause-end : goal.write_replayed-requires-clause-end

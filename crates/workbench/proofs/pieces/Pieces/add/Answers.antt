@@ -1,4 +1,4 @@
-use Rattle.std.proofs.Common.{◌≡◌, arith, refl, sym, ◌∙◌}
+use Rattle.std.proofs.Common.{arith, refl, ◌∙◌}
 use Rattle.workbench.proofs.Kept.{takes_opening, passes_opening, takes_piece, passes_piece}
 use Rattle.workbench.proofs.pieces.Pieces.add.Goals as goal
 
