@@ -66,7 +66,7 @@ none_in edges e none at = let (k, lt, is) = rw none at at in omega (arith, lt)
 -- no edge is in the way of the one hart
 pub no_unmet : (image : ImageContents) (end : ℕ) (b : BookView Leg) → IsReplaying image end b → (now : ℕ → ℕ) (hart : ℕ) →
     HasUnmet (edges_of b.mode.edges) now hart → ⊥
-no_unmet image end b p now hart (e, at, rest) = none_in (edges_of b.mode.edges) e p.edges at
+no_unmet image end b p now hart (e, at, own, step, lt) = none_in (edges_of b.mode.edges) e p.edges at
 
 -- so its lease goes to its end
 stop_is_end : (image : ImageContents) (end : ℕ) (b : BookView Leg) → IsReplaying image end b → (hart count stop : ℕ) →
@@ -74,7 +74,7 @@ stop_is_end : (image : ImageContents) (end : ℕ) (b : BookView Leg) → IsRepla
 stop_is_end image end b p hart count stop s =
     elim s.reason [
       | inl same ↦ same
-      | inr (e, at, rest) ↦ absurd (none_in (edges_of b.mode.edges) e p.edges at)
+      | inr (e, at, own, step) ↦ absurd (none_in (edges_of b.mode.edges) e p.edges at)
     ]
 
 pub given_of : (image : ImageContents) (end : ℕ) (b : BookView Leg) → IsReplaying image end b → (hart : ℕ) (l : LeaseView) →
