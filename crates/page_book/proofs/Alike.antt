@@ -21,8 +21,8 @@ taken_decides a b =
     let read = Decides-eqb a.read_at b.read_at in
     let write = option_decides Decides-eqb a.write_at b.write_at in (
       λ e.
-      let told = both (a.read_at == b.read_at) (option_eq (λ x y. x == y) a.write_at b.write_at) e in
-      ap (λ (n : ℕ). let t : Taken = record { read_at = n; write_at = a.write_at } in t) (read.0 told.0)
-      ∙ ap (λ (w : Option ℕ). let t : Taken = record { read_at = b.read_at; write_at = w } in t) (write.0 told.1),
+          let told = both (a.read_at == b.read_at) (option_eq (λ x y. x == y) a.write_at b.write_at) e in
+          ap (λ (n : ℕ). let t : Taken = record { read_at = n; write_at = a.write_at } in t) (read.0 told.0)
+          ∙ ap (λ (w : Option ℕ). let t : Taken = record { read_at = b.read_at; write_at = w } in t) (write.0 told.1),
       λ e. rw (read.1 (ap (λ (t : Taken). t.read_at) e)) (write.1 (ap (λ (t : Taken). t.write_at) e)),
     )

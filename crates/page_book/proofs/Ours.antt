@@ -20,15 +20,18 @@ use Rattle.page_book.proofs.Slots.{index-replicate, at-set_same, at-set_other}
 -- a fresh lease has nothing of any page
 pub fresh_lent : (m : MachineState) (hart : ℕ) (h : Hart) (stop : ℕ) → slice_get m.harts hart ≡ Some h →
     IsLentBy (Some (nothing_taken stop)) m (fresh hart h (length m.pages) stop)
-fresh_lent m hart h stop is = (refl, record {
-  state = is;
-  as_many = length-replicate {A = Slot} (length m.pages) Missing;
-  counts = refl;
-  pages = λ page lt bytes e.
-      let missing : slot_at (replicate (length m.pages) Missing) page ≡ Missing = index-replicate (length m.pages) page in
-      let none : None ≡ Some bytes =
-      sym (ap (λ (s : Slot). base_of s (slice_index_or (replicate (length m.pages) None) page None)) missing) ∙ e in cc;
-})
+fresh_lent m hart h stop is = (
+  refl,
+  record {
+    state = is;
+    as_many = length-replicate {A = Slot} (length m.pages) Missing;
+    counts = refl;
+    pages = λ page lt bytes e.
+        let missing : slot_at (replicate (length m.pages) Missing) page ≡ Missing = index-replicate (length m.pages) page in
+        let none : None ≡ Some bytes =
+        sym (ap (λ (s : Slot). base_of s (slice_index_or (replicate (length m.pages) None) page None)) missing) ∙ e in cc;
+  },
+)
 
 -- what the book lent, with another right on one page
 abbrev lent_with : List (Option Taken) → ℕ → Want → ℕ → List (Option Taken)

@@ -1,9 +1,5 @@
 -- From lease to lease.
-<<<<<<< HEAD
 use Rattle.std.proofs.Common.{◌≡◌, ◌≢◌, ◌==◌, ℕ, zero, suc, ◌+◌, ◌-◌, ◌<◌, ◌≤◌, List, [], ◌∷◌, length, length-set, slice_get, slice_set, Option, None, Some, Bool, true, false, nat_le, if◌then◌else◌, refl, sym, ap, subst, ◌∙◌, ◌⊎◌, inl, inr, arith, Contains}
-=======
-use Rattle.std.proofs.Common.{◌≡◌, ℕ, ◌-◌, ◌<◌, ◌≤◌, List, [], ◌∷◌, length, slice_get, slice_set, Option, None, Some, Bool, true, false, nat_le, if◌then◌else◌, refl, sym, ap, subst, ◌∙◌, ◌⊎◌, inl, inr, arith}
->>>>>>> 3614386b578ea59ab99915355a242280a119f6df
 use Rattle.std.proofs.lemmas.Bool.Decides.{nat_tests}
 use Rattle.rv32_hart.specs.Hart.{Hart}
 use Rattle.guest_image.specs.Image.{ImageContents}
@@ -63,7 +59,7 @@ none_in edges e none at = let (k, lt, is) = rw none at at in omega (arith, lt)
 -- no edge is in the way of the one hart
 pub no_unmet : (image : ImageContents) (end : ℕ) (b : BookView Leg) → IsReplaying image end b → (now : ℕ → ℕ) (hart : ℕ) →
     HasUnmet (edges_of b.mode.edges) now hart → ⊥
-no_unmet image end b p now hart (e, at, rest) = none_in (edges_of b.mode.edges) e p.edges at
+no_unmet image end b p now hart (e, at, own, step, lt) = none_in (edges_of b.mode.edges) e p.edges at
 
 -- so its lease goes to its end
 stop_is_end : (image : ImageContents) (end : ℕ) (b : BookView Leg) → IsReplaying image end b → (hart count stop : ℕ) →
@@ -71,7 +67,7 @@ stop_is_end : (image : ImageContents) (end : ℕ) (b : BookView Leg) → IsRepla
 stop_is_end image end b p hart count stop s =
     elim s.reason [
       | inl same ↦ same
-      | inr (e, at, rest) ↦ absurd (none_in (edges_of b.mode.edges) e p.edges at)
+      | inr (e, at, own, step) ↦ absurd (none_in (edges_of b.mode.edges) e p.edges at)
     ]
 
 pub given_of : (image : ImageContents) (end : ℕ) (b : BookView Leg) → IsReplaying image end b → (hart : ℕ) (l : LeaseView) →

@@ -3,11 +3,8 @@ use Rattle.std.proofs.Common.{◌≡◌, ℕ, zero, suc, ◌+◌, ◌<◌, ◌�
 use Rattle.rv32_hart.specs.Hart.{Hart, boot_hart}
 use Rattle.guest_image.specs.Image.{ImageContents}
 use Rattle.guest_image.specs.Machine.{MachineState, boot_machine, boot_harts}
-<<<<<<< HEAD
 use Rattle.edge_log.specs.EdgeLog.{Edges, edges_of}
 use Rattle.page_book.specs.declared.book.OpenLease.{OpenLease}
-=======
->>>>>>> 3614386b578ea59ab99915355a242280a119f6df
 use Rattle.page_book.specs.declared.mode.Leg.{Leg}
 use Rattle.page_book.specs.Books.{BookView, open_at}
 use Rattle.page_book.specs.Runs.{LeadsTo, run_of, turns_in_a_row}

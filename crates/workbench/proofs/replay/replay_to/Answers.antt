@@ -16,13 +16,13 @@ pub loop-lease-smaller : goal.loop-lease-smaller
 loop-lease-smaller c =
     nearer c.args.image.now c.args.end c.loop-lease.book c.lease.new.self c.loop-lease.invariant c.first_hart.result c.first_hart.ensures c.in-Ok.lease
     (given_of c.args.image.now c.args.end c.loop-lease.book c.loop-lease.invariant c.first_hart.result c.in-Ok.lease c.in-Ok.ensures.lent c.in-Ok.ensures.stop c.in-Ok.ensures.unrefused)
-      (kept_of c.args.image.now c.args.end c.loop-lease.book c.lease.new.self c.loop-lease.invariant c.first_hart.result c.in-Ok.lease c.in-Ok.ensures.stop c.in-Ok.ensures.kept_open) c.go_on.new.book c.in_ok-go_on-in-Ok.ensures
+    (kept_of c.args.image.now c.args.end c.loop-lease.book c.lease.new.self c.loop-lease.invariant c.first_hart.result c.in-Ok.lease c.in-Ok.ensures.stop c.in-Ok.ensures.kept_open) c.go_on.new.book c.in_ok-go_on-in-Ok.ensures
 
 pub loop-lease-preserved : goal.loop-lease-preserved
 loop-lease-preserved c =
     replaying_on c.args.image.now c.args.end c.loop-lease.book c.lease.new.self c.loop-lease.invariant c.first_hart.result c.first_hart.ensures c.in-Ok.lease
     (given_of c.args.image.now c.args.end c.loop-lease.book c.loop-lease.invariant c.first_hart.result c.in-Ok.lease c.in-Ok.ensures.lent c.in-Ok.ensures.stop c.in-Ok.ensures.unrefused)
-      (kept_of c.args.image.now c.args.end c.loop-lease.book c.lease.new.self c.loop-lease.invariant c.first_hart.result c.in-Ok.lease c.in-Ok.ensures.stop c.in-Ok.ensures.kept_open) c.go_on.new.book c.in_ok-go_on-in-Ok.ensures
+    (kept_of c.args.image.now c.args.end c.loop-lease.book c.lease.new.self c.loop-lease.invariant c.first_hart.result c.in-Ok.lease c.in-Ok.ensures.stop c.in-Ok.ensures.kept_open) c.go_on.new.book c.in_ok-go_on-in-Ok.ensures
 
 pub returns-in-Err-2-clause-ok : goal.returns-in-Err-2-clause-ok
 returns-in-Err-2-clause-ok c = c.come_to.ensures.ok c.args.image.now
