@@ -22,18 +22,21 @@ none-replicate (suc n) (suc i) = none-replicate n i
 -- a fresh lease has nothing of any page
 pub fresh_lent : (m : MachineState) (hart : ℕ) (h : Hart) (stop : ℕ) → slice_get m.harts hart ≡ Some h →
     IsLentBy (Some (nothing_taken stop)) m (fresh hart h (length m.pages) stop)
-fresh_lent m hart h stop is = (refl, record {
-  state = is;
-  as_many = length-replicate {A = Slot} (length m.pages) Missing;
-  pages = λ page lt.
-      let missing : slot_at (replicate (length m.pages) Missing) page ≡ Missing = index-replicate (length m.pages) page in
-      record {
-        right = ap want_of missing ∙ sym (none-replicate 64 page);
-        contents = λ bytes e.
-            let none : None ≡ Some bytes =
-            sym (ap (λ (s : Slot). base_of s (slice_index_or (replicate (length m.pages) None) page None)) missing) ∙ e in cc;
-      };
-})
+fresh_lent m hart h stop is = (
+  refl,
+  record {
+    state = is;
+    as_many = length-replicate {A = Slot} (length m.pages) Missing;
+    pages = λ page lt.
+        let missing : slot_at (replicate (length m.pages) Missing) page ≡ Missing = index-replicate (length m.pages) page in
+        record {
+          right = ap want_of missing ∙ sym (none-replicate 64 page);
+          contents = λ bytes e.
+              let none : None ≡ Some bytes =
+              sym (ap (λ (s : Slot). base_of s (slice_index_or (replicate (length m.pages) None) page None)) missing) ∙ e in cc;
+        };
+  },
+)
 
 at-set_same : {A : Type 0} (xs : List A) (i : ℕ) (x d : A) → i < length xs → slice_index_or (slice_set xs i x) i d ≡ x
 at-set_same [] i x d lt = absurd (omega arith)

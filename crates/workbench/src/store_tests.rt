@@ -1,8 +1,8 @@
 //! Tests of joining logs and of telling how far they reach, over files in memory.
 
 use crate::tests::{
-    Done, EMPTY_IMAGE, IMAGE_A, MemoryFiles, bytes_of, guest_of, is_usage, log_to, piece,
-    run, run_with_room,
+    Done, EMPTY_IMAGE, IMAGE_A, MemoryFiles, bytes_of, guest_of, is_usage, log_to, piece, run,
+    run_with_room,
 };
 use edge_log::Edge;
 use fragment_codec::{Fragment, Frame, Key, Opening, Record};
@@ -16,12 +16,7 @@ use std::test::Fail;
 /// Two harts that jump to where they are.
 const TWO_LOOPS: &[u8] = b"harts 2\npages 1\n0000006f\n";
 
-fn opening_from(
-    guest: Guest,
-    term: Term,
-    parent: Term,
-    base: &[Count],
-) -> Result<Frame, Fail> {
+fn opening_from(guest: Guest, term: Term, parent: Term, base: &[Count]) -> Result<Frame, Fail> {
     let base = Counts::from_slice(base).ok_or("counts")?;
     let opening = Opening::new(guest, term, parent, base).ok_or("an opening")?;
     Ok(Frame::Opening(opening))
@@ -138,12 +133,7 @@ fn two_openings(alloc: Global) -> Result<[Vec<u8>; 2], Fail> {
 }
 
 /// `join` of image A and two logs, with room for so many bytes in the file that is made, and what that file then holds.
-fn join(
-    alloc: Global,
-    one: Vec<u8>,
-    other: Vec<u8>,
-    room: usize,
-) -> Result<(Done, Vec<u8>), Fail> {
+fn join(alloc: Global, one: Vec<u8>, other: Vec<u8>, room: usize) -> Result<(Done, Vec<u8>), Fail> {
     let made = Rc::new(alloc, RefCell::new(MemorySink::new(alloc, room)))?;
     let mut files = MemoryFiles::new(alloc);
     files.add("image", IMAGE_A.to_vec(alloc)?)?;
@@ -163,7 +153,11 @@ fn a_key_with_two_contents_is_passed_over(rt: HostRuntime) -> Result<(), Fail> {
     let alloc = rt.alloc();
     for first in 0..2 {
         let [one, other] = two_openings(alloc)?;
-        let (mut before, after) = if first == 0 { (one, other) } else { (other, one) };
+        let (mut before, after) = if first == 0 {
+            (one, other)
+        } else {
+            (other, one)
+        };
         before.extend_from_slice(&log_to(alloc, IMAGE_A, 4)?)?;
         let text = b"chain 1\nposition term 1 top 1 counts 4\n";
         let told = cut(alloc, IMAGE_A, before.clone()?, after.clone()?)?;
@@ -247,7 +241,12 @@ fn the_first_fault_in_the_order_of_streams_and_bytes(rt: HostRuntime) -> Result<
     assert!(rt; done.is(1, b"", b"fault stream 1 guest\n"));
     let done = cut(alloc, IMAGE_A, foreign, b"XF".to_vec(alloc)?)?;
     assert!(rt; done.is(1, b"", b"fault stream 0 guest\n"));
-    let done = cut(alloc, IMAGE_A, log_to(alloc, IMAGE_A, 4)?, b"XF".to_vec(alloc)?)?;
+    let done = cut(
+        alloc,
+        IMAGE_A,
+        log_to(alloc, IMAGE_A, 4)?,
+        b"XF".to_vec(alloc)?,
+    )?;
     assert!(rt; done.is(1, b"", b"fault stream 1 frame 1\n"));
     let mut files = MemoryFiles::new(alloc);
     files.add("image", IMAGE_A.to_vec(alloc)?)?;
@@ -262,9 +261,7 @@ fn one_to_eight_logs(rt: HostRuntime) -> Result<(), Fail> {
     let alloc = rt.alloc();
     assert!(rt; is_usage(alloc, &["cut", "image"])?);
     assert!(rt; is_usage(alloc, &["join", "image", "made"])?);
-    let nine = [
-        "cut", "image", "0", "1", "2", "3", "4", "5", "6", "7", "8",
-    ];
+    let nine = ["cut", "image", "0", "1", "2", "3", "4", "5", "6", "7", "8"];
     assert!(rt; is_usage(alloc, &nine)?);
     let mut files = MemoryFiles::new(alloc);
     files.add("image", IMAGE_A.to_vec(alloc)?)?;

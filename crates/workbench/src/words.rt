@@ -9,7 +9,10 @@ use std::alloc::{AllocError, Global};
 #[derive(Drop, Debug, PartialEq, Eq)]
 pub enum Request<'a> {
     /// Replay one log of an image.
-    Replay { image: &'a str, log: &'a str },
+    Replay {
+        image: &'a str,
+        log: &'a str,
+    },
     /// Join the logs of an image, and write what they hold to a file.
     Join {
         image: &'a str,
@@ -17,7 +20,10 @@ pub enum Request<'a> {
         logs: Vec<&'a str>,
     },
     /// Tell how far the logs of an image reach.
-    Cut { image: &'a str, logs: Vec<&'a str> },
+    Cut {
+        image: &'a str,
+        logs: Vec<&'a str>,
+    },
 }
 
 /// A file that a request names.
