@@ -23,7 +23,7 @@ pub struct Desk {
 }
 
 impl Model for Desk {
-    ghost use Rattle.std.specs.Prelude.{List};
+    ghost use Rattle.std.specs.Prelude.{◌≡◌, List, length};
     ghost use Rattle.input_log.specs.Waiting.{Queues};
 
     ghost Value = { List Queues };

@@ -21,7 +21,7 @@ pub struct InputLog {
 }
 
 impl Model for InputLog {
-    ghost use Rattle.std.specs.Prelude.{List};
+    ghost use Rattle.std.specs.Prelude.{◌≡◌, ℕ, List, length};
     ghost use Rattle.input_log.specs.declared.Input.{Input};
 
     ghost Value = { List (List (ℕ × Input)) };

@@ -26,7 +26,7 @@ pub(crate) struct Queue {
 }
 
 impl Model for Queue {
-    ghost use Rattle.input_log.specs.Waiting.{Queues};
+    ghost use Rattle.input_log.specs.Waiting.{Queues, AreOthers};
 
     ghost Value = { Queues };
 

@@ -24,7 +24,7 @@ pub(crate) struct Row {
 }
 
 impl Model for Row {
-    ghost use Rattle.std.specs.Prelude.{List};
+    ghost use Rattle.std.specs.Prelude.{ℕ, List, zip};
     ghost use Rattle.input_log.specs.declared.Input.{Input};
     ghost use Rattle.input_log.specs.Inputs.{IsRow};
 
