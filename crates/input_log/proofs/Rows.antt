@@ -90,7 +90,7 @@ zip_push (l ∷ ks) (w ∷ vs) k v same = ap (λ r. (l, w) ∷ r) (zip_push ks v
 
 module _ (ks : List ℕ) (vs : List Input) (same : length vs ≡ length ks) where
   pub length_zip : length (zip ks vs) ≡ length ks
-  length_zip = sym (length-map (λ (p : ℕ × Input). p.0) (zip ks vs)) ∙ ap length (firsts-zip ks vs same)
+  length_zip = sym (length-map (zip ks vs) (λ (p : ℕ × Input). p.0)) ∙ ap length (firsts-zip ks vs same)
 
   -- what holds of the counts holds of the row, and the other way round
   pub within_zip : (P : ℕ → Type 0) (low high : ℕ) → high ≤ length ks → AllWithin P ks low high → AllWithin (λ (x : ℕ × Input). P x.0) (zip ks vs) low high

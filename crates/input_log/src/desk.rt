@@ -6,7 +6,7 @@ ghost use Rattle.input_log.specs.Inputs.{is_bell};
 ghost use Rattle.input_log.specs.Waiting.{bells_of, others_of, bells_going, room_beside, others_staying, going, next_going};
 
 use crate::queue::Queue;
-use crate::{Input, WaitingBell, WaitingInput};
+use crate::{Input, WaitingBell};
 use ft_types::{Count, Hart, Memory};
 use smallvec::SmallVec;
 use std::alloc::Global;
@@ -93,7 +93,7 @@ impl Desk {
         ensures kept { OnErr result (self.new ≡ self.old) }
     {
         let queue = &mut self.queues[hart.index()];
-        queue.put(WaitingInput { not_before, input })
+        queue.put(not_before, input)
     }
 
     /// The bells that the next take of the hart gives, in their order. Takes no memory.

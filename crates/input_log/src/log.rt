@@ -73,6 +73,7 @@ impl InputLog {
         ensures value { zip result.0.now result.1.now ≡ inputs_of self.now hart }
         ensures paired { length result.1.now ≡ length result.0.now }
         ensures rising { IsNonDecreasing result.0.now }
+        ensures few { (n : ℕ) → length (inputs_at (inputs_of self.now hart) n) ≤ 8 }
     {
         self.rows[hart.index()].columns()
     }

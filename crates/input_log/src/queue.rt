@@ -120,12 +120,12 @@ impl Queue {
     }
 
     /// Puts another input at the back.
-    pub(crate) fn put(&mut self, waiting: WaitingInput) -> Result<(), Memory>
-        requires { is_bell waiting.input ≡ false }
-        ensures ok { OnOk result (self.new ≡ record self.old { others = self.old.others ++ waiting ∷ [] }) }
+    pub(crate) fn put(&mut self, not_before: Count, input: Input) -> Result<(), Memory>
+        requires { is_bell input ≡ false }
+        ensures ok { OnOk result (self.new ≡ record self.old { others = self.old.others ++ record { not_before = not_before; input = input } ∷ [] }) }
         ensures err { OnErr result (self.new ≡ self.old) }
     {
-        self.others.push_back(waiting)?;
+        self.others.push_back(WaitingInput { not_before, input })?;
         Ok(())
     }
 

@@ -103,6 +103,7 @@ impl Row {
         ensures value { zip result.0.now result.1.now ≡ self.now }
         ensures paired { length result.1.now ≡ length result.0.now }
         ensures rising { IsNonDecreasing result.0.now }
+        ensures few { (n : ℕ) → length (inputs_at self.now n) ≤ 8 }
     {
         (self.counts.as_slice(), self.inputs.as_slice())
     }
@@ -157,6 +158,7 @@ impl Row {
         ensures ok { OnOk result (self.new ≡ self.old ++ (count, input) ∷ []) }
         ensures err { OnErr result (self.new ≡ self.old) }
     {
-        push_both(&mut self.counts, &mut self.inputs, count, input)
+        push_both(&mut self.counts, &mut self.inputs, count, input)?;
+        Ok(())
     }
 }

@@ -5,5 +5,5 @@ abbrev pub invariant-loop-place : goal.invariant-loop-place
 invariant-loop-place l = record {
   room : length l.bells.items ≤ l.place;
   inline : l.bells.capacity ≡ 8;
-  taken : l.bells.items ≡ take l.place l.self.bells.items;
+  taken : l.bells.items ≡ take l.place l.self.bells;
 }
