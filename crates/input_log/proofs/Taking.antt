@@ -2,8 +2,8 @@
 use Rattle.std.proofs.Common.{◌≡◌, ℕ, zero, suc, ◌+◌, ◌-◌, ◌<◌, ◌≤◌, Bool, true, false, cond, List, [], ◌∷◌, ◌++◌, length, get_or, take, drop, map, leb, Option, None, Some, arith, refl, sym, ap, subst, ◌∙◌, true≢false}
 use Rattle.std.specs.List.{take_while}
 use Rattle.std.specs.Option.{option_to_list}
-use Rattle.std.proofs.Math.Seq.{take-nil}
-use Rattle.std.proofs.lemmas.List.{append_assoc}
+use Rattle.std.proofs.Math.Seq.{take-nil, drop-nil}
+use Rattle.std.proofs.lemmas.List.{append_assoc, map-append}
 use Rattle.std.proofs.lemmas.List.Sums.{take_while-cons}
 use Rattle.input_log.specs.declared.WaitingInput.{WaitingInput}
 use Rattle.input_log.specs.Waiting.{others_going, others_staying}
@@ -45,7 +45,28 @@ none_goes n (x ∷ xs) goes is at room = first_stops (λ w. leb w.not_before n) 
 
 -- ---- a loop that moves what goes
 
+-- one step of n, the last but k
+pub steps_left : (n k : ℕ) → k < n → n - k ≡ suc (n - (k + 1))
+steps_left n k less = omega arith
+
 module _ {A B : Type 0} (f : A → B) where
-  -- one was moved
-  pub moved : (out new : List B) (x : A) (more rest : List A) → more ≡ x ∷ rest → new ≡ out ++ f x ∷ [] → new ++ map f rest ≡ out ++ map f more
-  moved out new x more rest is pushed = rw (is, pushed) (append_assoc out (f x ∷ []) (map f rest))
+  -- what was moved stands before what is still to be moved
+  pub moved : (out next : List B) (r : Option A) (more rest : List A) → more ≡ option_to_list r ++ rest → next ≡ out ++ map f (option_to_list r) →
+      next ++ map f rest ≡ out ++ map f more
+  moved out next r more rest is pushed =
+      rw (is, pushed, map-append f (option_to_list r) rest) (append_assoc out (map f (option_to_list r)) (map f rest))
+
+module _ {A : Type 0} (n k : ℕ) (less : k < n) (new : List A) where
+  -- a queue gives its first, where it has one
+  pub taken_first : (old : List A) (r : Option A) → old ≡ option_to_list r ++ new → ((d : A) → 0 < length old → r ≡ Some (get_or old 0 d)) →
+      take (n - k) old ≡ option_to_list r ++ take (n - (k + 1)) new
+  taken_first old (Some x) items value = rw (steps_left n k less, items) refl
+  taken_first [] None items value = rw (← items, take-nil {A = A} (n - (k + 1)), take-nil {A = A} (n - k)) refl
+  taken_first (x ∷ xs) None items value = let h : None ≡ Some x = value x (omega arith) in cc
+
+  -- and what is behind it stays
+  pub left_behind : (old : List A) (r : Option A) → old ≡ option_to_list r ++ new → ((d : A) → 0 < length old → r ≡ Some (get_or old 0 d)) →
+      drop (n - (k + 1)) new ≡ drop (n - k) old
+  left_behind old (Some x) items value = rw (steps_left n k less, items) refl
+  left_behind [] None items value = rw (← items, drop-nil {A = A} (n - (k + 1)), drop-nil {A = A} (n - k)) refl
+  left_behind (x ∷ xs) None items value = let h : None ≡ Some x = value x (omega arith) in cc
