@@ -1,9 +1,9 @@
 -- Rows of counts, each with an input.
-use Rattle.std.proofs.Common.{◌≡◌, ◌≢◌, ℕ, zero, suc, ◌+◌, ◌-◌, ◌<◌, ◌≤◌, Bool, true, false, cond, List, [], ◌∷◌, ◌++◌, length, get_or, take, drop, map, arith, refl, sym, ap, subst, ◌∙◌, inl, inr, le_trans, le_refl, All, length-append, length-drop, length-take, take-append-drop, ◌==◌, eq-eqb, ne_eqb, append-nil}
+use Rattle.std.proofs.Common.{◌≡◌, ℕ, ◌+◌, ◌-◌, ◌<◌, ◌≤◌, Bool, true, false, List, [], ◌∷◌, ◌++◌, length, get_or, take, drop, map, arith, refl, sym, ap, subst, ◌∙◌, inl, inr, le_trans, le_refl, All, length-drop, length-take, take-append-drop, ◌==◌, eq-eqb, ne_eqb, append-nil}
 use Rattle.std.specs.List.{AllWithin, Any, filter, zip}
 use Rattle.std.specs.List.Sorted.{IsNonDecreasing}
 use Rattle.std.proofs.lemmas.Bool.{cases_lt, cases_eq}
-use Rattle.std.proofs.lemmas.List.{get_or_read, get_or-take, get_or-drop, get_or_default, length-map, map-append, take-map, drop-map, length_push}
+use Rattle.std.proofs.lemmas.List.{get_or-take, get_or-drop, get_or_default, length-map, map-append, take-map, drop-map, length_push}
 use Rattle.std.proofs.lemmas.List.Elements.{All-head, All-tail, filter-append}
 use Rattle.std.proofs.lemmas.List.Sorted.{IsNonDecreasingBy-push}
 use Rattle.std.proofs.lemmas.Slice.Zip.{get_or-zip, firsts-zip, seconds-zip}

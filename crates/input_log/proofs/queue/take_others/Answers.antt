@@ -1,7 +1,6 @@
-use Rattle.std.proofs.Common.{◌≡◌, ◌≤◌, ◌+◌, ◌-◌, ◌++◌, [], ◌∷◌, List, length, map, ap, sym, subst, ◌∙◌, append-nil, arith}
+use Rattle.std.proofs.Common.{◌≡◌, ◌≤◌, ◌+◌, ◌-◌, ◌++◌, [], ◌∷◌, length, map, ap, sym, ◌∙◌, append-nil, arith}
 use Rattle.std.specs.Option.{option_to_list}
 use Rattle.std.proofs.lemmas.List.{length_push}
-use Rattle.input_log.specs.declared.Input.{Input}
 use Rattle.input_log.specs.Waiting.{others_going, others_staying}
 use Rattle.input_log.proofs.Taking.{moved, steps_left}
 use Rattle.input_log.proofs.queue.take_others.Goals.{in-Some, in_default}
