@@ -1,7 +1,19 @@
-//! What comes to a hart from outside.
+//! What comes to a hart from outside: inputs, the log of those that were given at a count, and the desk of those that wait.
 #![tactic(auto)]
 
-use ft_types::Hart;
+ghost use Rattle.std.specs.Prelude.{◌≡◌};
+ghost use Rattle.input_log.specs.Inputs.{is_bell};
+
+mod desk;
+mod log;
+mod queue;
+mod row;
+#[cfg(test)]
+mod tests;
+
+pub use desk::Desk;
+use ft_types::{Count, Hart};
+pub use log::InputLog;
 
 /// What a hart is given at a step, before it takes it.
 #[derive(Clone, Copy, Debug, PartialEq, Eq)]
@@ -12,4 +24,49 @@ pub enum Input {
     Word(u32),
     /// This hart rang, and the machine software interrupt becomes pending.
     Bell(Hart),
+}
+
+impl Input {
+    /// Whether a hart rang.
+    pub fn is_bell(&self) -> bool
+        ensures { result ≡ is_bell self.now }
+    {
+        match *self {
+            Input::Timer | Input::Word(_) => false,
+            Input::Bell(_) => true,
+        }
+    }
+}
+
+impl Default for Input {
+    fn default() -> Input {
+        Input::Timer
+    }
+}
+
+/// A bell that waits.
+#[derive(Clone, Copy, Debug, PartialEq, Eq)]
+pub struct WaitingBell {
+    /// The hart that rang.
+    pub source: Hart,
+    /// That hart's count after the step that rang: whoever hears the bell comes after so many steps of it.
+    pub after: Count,
+}
+
+impl Default for WaitingBell {
+    fn default() -> WaitingBell {
+        WaitingBell {
+            source: Hart::new(0),
+            after: 0,
+        }
+    }
+}
+
+/// An input that waits, and is no bell.
+#[derive(Clone, Copy, Debug, PartialEq, Eq)]
+pub struct WaitingInput {
+    /// The least count at which it may be given.
+    pub not_before: Count,
+    /// What is given.
+    pub input: Input,
 }

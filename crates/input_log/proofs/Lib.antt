@@ -1,0 +1,3 @@
+mod Eights
+mod Rows
+mod Taking

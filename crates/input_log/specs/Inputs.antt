@@ -1,0 +1,30 @@
+-- Inputs at counts.
+use Rattle.std.specs.Prelude.{ℕ, ◌≡◌, ◌<◌, ◌≤◌, ◌==◌, Bool, true, false, List, [], map, filter, zip, length, slice_index_or, All}
+use Rattle.std.specs.List.Sorted.{IsNonDecreasing}
+use Rattle.input_log.specs.declared.Input.{Input}
+use Rattle.input_log.specs.declared.Input.TheVariants as input
+
+-- a hart rang
+abbrev pub is_bell : Input → Bool
+is_bell input.Timer = false
+is_bell (input.Word w) = false
+is_bell (input.Bell source) = true
+
+-- a hart's inputs, each beside its count
+abbrev pub inputs_of : List (List (ℕ × Input)) → ℕ → List (ℕ × Input)
+inputs_of log hart = slice_index_or log hart []
+
+-- those of one count, in their order
+abbrev pub inputs_at : List (ℕ × Input) → ℕ → List Input
+inputs_at row n = map (λ x. x.1) (filter (λ x. x.0 == n) row)
+
+-- an input at this count may be added: none is at a later one, and fewer than 8 are at it
+pub record MayFollow (row : List (ℕ × Input)) (n : ℕ) : Type 0 where
+  pub last : All (λ x. x.0 ≤ n) row
+  pub room : length (inputs_at row n) < 8
+
+-- a row: each input has a count, the counts rise, and 8 are at each at the most
+pub record IsRow (counts : List ℕ) (inputs : List Input) : Type 0 where
+  pub paired : length inputs ≡ length counts
+  pub rising : IsNonDecreasing counts
+  pub few : (n : ℕ) → length (inputs_at (zip counts inputs) n) ≤ 8

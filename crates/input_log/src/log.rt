@@ -1,0 +1,115 @@
+//! The inputs that were given, each at its count.
+
+ghost use Rattle.std.specs.Prelude.{◌≡◌, ◌≢◌, ℕ, ◌<◌, ◌≤◌, ◌↔◌, ◌++◌, ◌∷◌, [], All, Any, length, zip, IsTrue, OnOk, OnErr, IfOk, IfSome, IfNone};
+ghost use Rattle.std.specs.List.Sorted.{IsNonDecreasing};
+ghost use Rattle.input_log.specs.Inputs.{inputs_of, inputs_at, MayFollow};
+
+use crate::Input;
+use crate::row::Row;
+use ft_types::{Count, Hart, Memory};
+use std::alloc::Global;
+use std::marker::Model;
+use std::option::Option;
+use std::result::Result;
+
+/// The inputs of the harts of one machine, each at the count at which it is given.
+///
+/// Contracts see, for each hart, the list of its counts and inputs, by rising count.
+#[derive(Drop)]
+pub struct InputLog {
+    rows: [Row; 8],
+}
+
+impl Model for InputLog {
+    ghost use Rattle.std.specs.Prelude.{◌≡◌, ℕ, List, length};
+    ghost use Rattle.input_log.specs.declared.Input.{Input};
+
+    ghost Value = { List (List (ℕ × Input)) };
+
+    ghost view = { λ l. l.rows };
+
+    ghost invariant = { λ l. length l.rows ≡ 8 };
+}
+
+impl InputLog {
+    /// A log without inputs.
+    pub fn new(alloc: Global) -> InputLog
+        ensures { (hart : ℕ) → inputs_of result hart ≡ [] }
+    {
+        InputLog {
+            rows: [
+                Row::new(alloc),
+                Row::new(alloc),
+                Row::new(alloc),
+                Row::new(alloc),
+                Row::new(alloc),
+                Row::new(alloc),
+                Row::new(alloc),
+                Row::new(alloc),
+            ],
+        }
+    }
+
+    /// An equal log.
+    pub fn copy(&self) -> Result<InputLog, Memory>
+        ensures { IfOk result (λ log. log ≡ self.now) }
+    {
+        Ok(InputLog {
+            rows: [
+                self.rows[0].copy()?,
+                self.rows[1].copy()?,
+                self.rows[2].copy()?,
+                self.rows[3].copy()?,
+                self.rows[4].copy()?,
+                self.rows[5].copy()?,
+                self.rows[6].copy()?,
+                self.rows[7].copy()?,
+            ],
+        })
+    }
+
+    /// All counts of a hart's inputs, and the input at each.
+    pub fn of_hart(&self, hart: Hart) -> (&[Count], &[Input])
+        ensures value { zip result.0.now result.1.now ≡ inputs_of self.now hart }
+        ensures paired { length result.1.now ≡ length result.0.now }
+        ensures rising { IsNonDecreasing result.0.now }
+        ensures few { (n : ℕ) → length (inputs_at (inputs_of self.now hart) n) ≤ 8 }
+    {
+        self.rows[hart.index()].columns()
+    }
+
+    /// The inputs of a hart at a count, in their order.
+    pub fn at(&self, hart: Hart, count: Count) -> &[Input]
+        ensures value { result.now ≡ inputs_at (inputs_of self.now hart) count }
+        ensures few { length result.now ≤ 8 }
+    {
+        self.rows[hart.index()].at(count)
+    }
+
+    /// The first count, from this one on, at which the hart has an input.
+    pub fn next(&self, hart: Hart, count: Count) -> Option<Count>
+        ensures found { IfSome result (λ n. (count ≤ n) × Any (λ x. x.0 ≡ n) (inputs_of self.now hart)) }
+        ensures first { IfSome result (λ n. All (λ x. count ≤ x.0 → n ≤ x.0) (inputs_of self.now hart)) }
+        ensures none { IfNone result (All (λ x. x.0 < count) (inputs_of self.now hart)) }
+    {
+        self.rows[hart.index()].next(count)
+    }
+
+    /// Whether an input may be added: at no count before that of the hart's last, and where fewer than 8 are.
+    pub fn may_add(&self, hart: Hart, count: Count) -> bool
+        ensures { IsTrue result ↔ MayFollow (inputs_of self.now hart) count }
+    {
+        self.rows[hart.index()].may_add(count)
+    }
+
+    /// Adds an input, behind the others of its hart.
+    pub fn add(&mut self, hart: Hart, count: Count, input: Input) -> Result<(), Memory>
+        requires { MayFollow (inputs_of self.old hart) count }
+        ensures added { OnOk result (inputs_of self.new hart ≡ inputs_of self.old hart ++ (count, input) ∷ []) }
+        ensures others_kept { (other : ℕ) → other ≢ hart → inputs_of self.new other ≡ inputs_of self.old other }
+        ensures kept { OnErr result (self.new ≡ self.old) }
+    {
+        let row = &mut self.rows[hart.index()];
+        row.add(count, input)
+    }
+}

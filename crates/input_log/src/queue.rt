@@ -1,0 +1,170 @@
+//! The inputs that wait for one hart.
+
+ghost use Rattle.std.specs.Prelude.{◌≡◌, ℕ, suc, ◌-◌, ◌≤◌, ◌++◌, List, ◌∷◌, [], false, map, drop, nat_le, OnOk, OnErr, IfOk};
+ghost use Rattle.std.specs.Option.{option_to_list};
+ghost use Rattle.smallvec.specs.SmallVec.{small_vec_len};
+ghost use Rattle.input_log.specs.Inputs.{is_bell};
+ghost use Rattle.input_log.specs.Waiting.{bells_going, room_beside, others_going, others_staying, going, next_going, empty};
+
+use crate::{Input, WaitingBell, WaitingInput};
+use ft_types::{Count, Memory};
+use smallvec::SmallVec;
+use std::alloc::Global;
+use std::collections::VecDeque;
+use std::marker::Model;
+use std::option::Option;
+use std::result::Result;
+
+/// The number of inputs that are taken at once, at the most.
+const INPUT_LIMIT: usize = 8;
+
+/// What waits for one hart.
+#[derive(Drop)]
+pub(crate) struct Queue {
+    bells: VecDeque<WaitingBell>,
+    others: VecDeque<WaitingInput>,
+}
+
+impl Model for Queue {
+    ghost use Rattle.input_log.specs.Waiting.{Queues, AreOthers};
+
+    ghost Value = { Queues };
+
+    ghost view = { λ q. record { bells = q.bells.items; others = q.others.items } };
+
+    ghost invariant = { λ q. AreOthers q.others.items };
+}
+
+/// Takes bells from the front, eight at the most.
+fn take_bells(bells: &mut VecDeque<WaitingBell>) -> SmallVec<Input, 8>
+    ensures taken { result.items ≡ map (λ b. Input.Bell b.source) (bells_going bells.old.items) }
+    ensures stay { bells.new.items ≡ drop 8 bells.old.items }
+    ensures inline { result.capacity ≡ 8 }
+{
+    let mut inputs = SmallVec::new(*bells.allocator());
+    for _ in 0..INPUT_LIMIT {
+        if let Some(bell) = bells.pop_front() {
+            inputs.push_reserved(Input::Bell(bell.source));
+        }
+    }
+    inputs
+}
+
+/// Whether the first of the queue may be given at this count.
+fn goes(others: &VecDeque<WaitingInput>, count: Count) -> bool
+    ensures none { others.now.items ≡ [] → result ≡ false }
+    ensures first { (w : WaitingInput) → (rest : List WaitingInput) → others.now.items ≡ w ∷ rest → result ≡ nat_le w.not_before count }
+{
+    match others.front() {
+        Some(first) => first.not_before <= count,
+        None => false,
+    }
+}
+
+/// Takes the first of the queue, where it may be given at this count.
+fn pop_going(others: &mut VecDeque<WaitingInput>, count: Count) -> Option<WaitingInput>
+    ensures taken { (room : ℕ) → others_going count (suc room) others.old.items ≡ option_to_list result ++ others_going count room others.new.items }
+    ensures stay { (room : ℕ) → others_staying count (suc room) others.old.items ≡ others_staying count room others.new.items }
+{
+    if goes(others, count) {
+        others.pop_front()
+    } else {
+        None
+    }
+}
+
+/// Takes others from the front, while they may be given at this count and there is room.
+fn take_others(others: &mut VecDeque<WaitingInput>, count: Count, inputs: &mut SmallVec<Input, 8>)
+    requires few { small_vec_len inputs.old ≤ 8 }
+    requires inline { inputs.old.capacity ≡ 8 }
+    ensures taken { inputs.new.items ≡ inputs.old.items ++ map (λ w. w.input) (others_going count (8 - small_vec_len inputs.old) others.old.items) }
+    ensures stay { others.new.items ≡ others_staying count (8 - small_vec_len inputs.old) others.old.items }
+    ensures inline { inputs.new.capacity ≡ 8 }
+{
+    let room = INPUT_LIMIT - inputs.len();
+    for _ in 0..room {
+        if let Some(first) = pop_going(others, count) {
+            inputs.push_reserved(first.input);
+        }
+    }
+}
+
+impl Queue {
+    /// Nothing waits.
+    pub(crate) fn new(alloc: Global) -> Queue
+        ensures { result ≡ empty }
+    {
+        Queue {
+            bells: VecDeque::new(alloc),
+            others: VecDeque::new(alloc),
+        }
+    }
+
+    /// An equal queue.
+    pub(crate) fn copy(&self) -> Result<Queue, Memory>
+        ensures { IfOk result (λ q. q ≡ self.now) }
+    {
+        Ok(Queue {
+            bells: self.bells.clone()?,
+            others: self.others.clone()?,
+        })
+    }
+
+    /// Puts a bell at the back.
+    pub(crate) fn put_bell(&mut self, bell: WaitingBell) -> Result<(), Memory>
+        ensures ok { OnOk result (self.new ≡ record self.old { bells = self.old.bells ++ bell ∷ [] }) }
+        ensures err { OnErr result (self.new ≡ self.old) }
+    {
+        self.bells.push_back(bell)?;
+        Ok(())
+    }
+
+    /// Puts another input at the back.
+    pub(crate) fn put(&mut self, not_before: Count, input: Input) -> Result<(), Memory>
+        requires { is_bell input ≡ false }
+        ensures ok { OnOk result (self.new ≡ record self.old { others = self.old.others ++ record { not_before = not_before; input = input } ∷ [] }) }
+        ensures err { OnErr result (self.new ≡ self.old) }
+    {
+        self.others.push_back(WaitingInput { not_before, input })?;
+        Ok(())
+    }
+
+    /// The bells that the next take gives.
+    pub(crate) fn bells_next(&self) -> SmallVec<WaitingBell, 8>
+        ensures value { result.items ≡ bells_going self.now.bells }
+        ensures inline { result.capacity ≡ 8 }
+    {
+        let mut bells = SmallVec::new(*self.bells.allocator());
+        for place in 0..INPUT_LIMIT {
+            if let Some(bell) = self.bells.get(place) {
+                bells.push_reserved(*bell);
+            }
+        }
+        bells
+    }
+
+    /// Takes what may be given at this count.
+    pub(crate) fn take(&mut self, count: Count) -> SmallVec<Input, 8>
+        ensures taken { result.items ≡ going count self.old.bells self.old.others }
+        ensures bells { self.new.bells ≡ drop 8 self.old.bells }
+        ensures others { self.new.others ≡ others_staying count (room_beside self.old.bells) self.old.others }
+        ensures inline { result.capacity ≡ 8 }
+    {
+        let mut inputs = take_bells(&mut self.bells);
+        take_others(&mut self.others, count, &mut inputs);
+        inputs
+    }
+
+    /// The least count at which something is given.
+    pub(crate) fn next(&self) -> Option<Count>
+        ensures { result ≡ next_going self.now.bells self.now.others }
+    {
+        if !self.bells.is_empty() {
+            return Some(0);
+        }
+        match self.others.front() {
+            Some(first) => Some(first.not_before),
+            None => None,
+        }
+    }
+}
