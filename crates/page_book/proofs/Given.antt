@@ -1,6 +1,6 @@
 -- Leases that begin, and that get a page.
-use Rattle.std.proofs.Common.{◌≡◌, ℕ, zero, suc, ◌+◌, ◌<◌, ◌⊎◌, inl, inr, List, [], ◌∷◌, length, replicate, slice_get, slice_set, slice_index_or, Bool, true, false, Option, None, Some, refl, ap, sym, ◌∙◌, arith, length-set, ◌^◌}
-use Rattle.std.proofs.lemmas.List.{length-replicate}
+use Rattle.std.proofs.Common.{◌≡◌, ℕ, zero, suc, ◌<◌, inl, inr, List, [], ◌∷◌, length, replicate, slice_get, slice_set, slice_index_or, false, Option, None, Some, refl, ap, sym, ◌∙◌, arith, length-set, ◌^◌}
+use Rattle.std.proofs.lemmas.List.{length-replicate, get_or-set_same, get_or-set_other}
 use Rattle.rv32_hart.specs.Hart.{Hart}
 use Rattle.guest_image.specs.Machine.{MachineState}
 use Rattle.page_book.specs.declared.lease_pages.Slot.{Slot}
@@ -9,10 +9,10 @@ use Rattle.ft_types.specs.declared.names.Want.TheVariants.{Read, Write}
 use Rattle.std.proofs.lemmas.Bool.{cases_eq}
 use Rattle.page_book.specs.declared.taken.Taken.{Taken}
 use Rattle.page_book.specs.Taken.{taken_at, right_of_taken, taking}
-use Rattle.page_book.proofs.Slots.{index-replicate, none-replicate, at-set_same, at-set_other}
+use Rattle.page_book.proofs.Slots.{index-replicate, none-replicate}
 use Rattle.page_book.specs.Slots.{slot_at, want_of, base_of, is_writable}
-use Rattle.page_book.specs.Leases.{LeaseView, base_at, fresh, laid, laid_pages, page_after, with_page_to_read, with_page_to_write}
-use Rattle.page_book.specs.Runs.{run_of, turns_in_a_row, StandsIn, IsRunOf, IsLease}
+use Rattle.page_book.specs.Leases.{LeaseView, base_at, fresh, laid_pages, page_after, with_page_to_read, with_page_to_write}
+use Rattle.page_book.specs.Runs.{StandsIn, IsRunOf, IsLease}
 
 set-get_same : {A : Type 0} (xs : List A) (i : ℕ) (x : A) → slice_get xs i ≡ Some x → slice_set xs i x ≡ xs
 set-get_same [] i x e = refl
@@ -74,17 +74,6 @@ laid_pages-set_write (p ∷ pages) (s ∷ slots) zero x e f =
     let same : p ≡ x = cc in ap (λ y. y ∷ laid_pages pages slots) (sym same ∙ sym (unwritten_kept p s e))
 laid_pages-set_write (p ∷ pages) (s ∷ slots) (suc page) x e f = ap (λ l. page_after p s ∷ l) (laid_pages-set_write pages slots page x e f)
 
-slot-set_same : (slots : List Slot) (page : ℕ) (new : Slot) → page < length slots → slot_at (slice_set slots page new) page ≡ new
-slot-set_same [] page new lt = absurd (omega arith)
-slot-set_same (s ∷ slots) zero new lt = refl
-slot-set_same (s ∷ slots) (suc page) new lt = slot-set_same slots page new (omega arith)
-
-kept-set_same : (bases : List (Option (List ℕ))) (page : ℕ) (base : List ℕ) → page < length bases →
-    slice_index_or (slice_set bases page (Some base)) page None ≡ Some base
-kept-set_same [] page base lt = absurd (omega arith)
-kept-set_same (b ∷ bases) zero base lt = refl
-kept-set_same (b ∷ bases) (suc page) base lt = kept-set_same bases page base (omega arith)
-
 -- at another page nothing has changed; at this one, what was lent is the base
 base-set_write : (slots : List Slot) (bases : List (Option (List ℕ))) (page : ℕ) (base present : List ℕ) (other : ℕ) (bytes : List ℕ) →
     page < length slots → page < length bases →
@@ -110,7 +99,7 @@ write_runs l page base lt many unwritten lent runs m on =
       contents = λ other bytes f. on.contents other bytes (base-set_write l.slots l.bases page base base other bytes lt le (lent bytes) f);
     } in
     let here : slice_get m.pages page ≡ Some base =
-    on.contents page base (rw (slot-set_same l.slots page (Writable base) lt) (kept-set_same l.bases page base le)) in
+    on.contents page base (rw (get_or-set_same l.slots page (Writable base) Missing lt) (get_or-set_same l.bases page (Some base) None le)) in
     runs m before ∙ ap (λ ps. let w : MachineState = record { harts = slice_set m.harts l.hart l.present; pages = ps } in Some w)
     (sym (laid_pages-set_write m.pages l.slots page base unwritten here))
 
@@ -137,9 +126,9 @@ rights_set : (slots : List Slot) (taken : List (Option Taken)) (page : ℕ) (new
 rights_set slots taken page new x lt row same rights q =
     elim (cases_eq page q) [
       | inl e ↦
-          rw (← e) (ap want_of (at-set_same slots page new Missing lt) ∙ (same ∙ sym (ap right_of_taken (at-set_same taken page x None row))))
+          rw (← e) (ap want_of (get_or-set_same slots page new Missing lt) ∙ (same ∙ sym (ap right_of_taken (get_or-set_same taken page x None row))))
       | inr ne ↦
-          ap want_of (at-set_other slots page q new Missing ne) ∙ (rights q ∙ sym (ap right_of_taken (at-set_other taken page q x None ne)))
+          ap want_of (get_or-set_other slots page q new Missing (λ e. ne (sym e))) ∙ (rights q ∙ sym (ap right_of_taken (get_or-set_other taken page q x None (λ e. ne (sym e)))))
     ]
 
 pub read_kept : (l : LeaseView) (page : ℕ) (here : List ℕ) → page < length l.slots → page < length l.taken → slot_at l.slots page ≡ Missing → IsLease l →

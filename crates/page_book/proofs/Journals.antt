@@ -1,9 +1,7 @@
 -- Journals that go on.
-use Rattle.std.proofs.Common.{◌≡◌, ◌==◌, ℕ, zero, suc, ◌+◌, ◌<◌, ◌≤◌, slice_index_or, List, [], ◌∷◌, ◌++◌, length, slice_set, Bool, true, false, Option, None, Some, refl, ap, sym, ◌∙◌, append_assoc, append-nil, length-set, if◌then◌else◌, arith, slice_get, replicate, ◌⊎◌, inl, inr, ◌≢◌, le_trans, subst}
+use Rattle.std.proofs.Common.{◌≡◌, ◌==◌, ℕ, zero, suc, ◌+◌, ◌<◌, ◌≤◌, slice_index_or, List, [], ◌∷◌, ◌++◌, length, slice_set, Bool, true, false, Option, None, Some, refl, ap, sym, ◌∙◌, append_assoc, append-nil, length-set, if◌then◌else◌, arith, slice_get, replicate, inl, inr, ◌≢◌, le_trans, subst}
 use Rattle.std.proofs.lemmas.Bool.Decides.{nat_tests}
-use Rattle.interleaving.specs.Machine.{Turn}
 use Rattle.interleaving.specs.Stored.{run_from}
-use Rattle.input_log.specs.declared.Input.{Input}
 use Rattle.rv32_hart.specs.Hardware.{hardware}
 use Rattle.guest_image.specs.Machine.{MachineState}
 use Rattle.page_book.specs.declared.stretch.Stretch.{Stretch}
@@ -15,7 +13,7 @@ use Rattle.page_book.specs.Leases.{LeaseView, laid, IsLent}
 use Rattle.interleaving.specs.Log.{Edge, Begins, counts_after, bump}
 use Rattle.interleaving.proofs.Put.{same_or_not, bump_same, bump_other}
 use Rattle.ft_types.specs.Counts.{count_at}
-use Rattle.page_book.specs.Runs.{journal_turns, turns_in_a_row, run_of, StandsIn, IsRunOf, IsLease, LeadsTo, harts_of, steps_taken, counts_of, MayGoTo, BeginsSchedule}
+use Rattle.page_book.specs.Runs.{journal_turns, turns_in_a_row, StandsIn, IsRunOf, IsLease, LeadsTo, harts_of, steps_taken, counts_of, MayGoTo, BeginsSchedule}
 use Rattle.page_book.specs.Books.{added, IsBook, IsLentBy, open_at}
 use Rattle.page_book.proofs.Laid.{length-laid_pages}
 use Rattle.page_book.proofs.Runs.{run_from-append}

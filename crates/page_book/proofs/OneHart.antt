@@ -1,7 +1,7 @@
 -- Runs of a machine with one hart.
-use Rattle.std.proofs.Common.{◌≡◌, ℕ, zero, suc, ◌+◌, List, [], ◌∷◌, ◌++◌, length, map, replicate, slice_get, slice_set, Bool, true, false, Option, None, Some, refl, ap, sym, ◌∙◌, arith, length-set, if◌then◌else◌}
+use Rattle.std.proofs.Common.{◌≡◌, ℕ, zero, suc, ◌+◌, List, [], ◌∷◌, ◌++◌, length, map, replicate, slice_get, Bool, true, false, Option, None, Some, refl, ap, sym, ◌∙◌, arith, if◌then◌else◌}
 use Rattle.interleaving.specs.Machine.{Turn, Effect}
-use Rattle.interleaving.specs.Stored.{Store, run_from, goes, stored_after}
+use Rattle.interleaving.specs.Stored.{run_from, goes, stored_after}
 use Rattle.input_log.specs.declared.Input.{Input}
 use Rattle.rv32_hart.specs.Hart.{Hart}
 use Rattle.rv32_hart.specs.Step.{effect}

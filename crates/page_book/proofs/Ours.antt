@@ -1,7 +1,7 @@
 -- Leases that a book has just lent, and that it has just given a page.
-use Rattle.std.proofs.Common.{◌≡◌, ◌≢◌, ℕ, zero, suc, ◌+◌, ◌<◌, inl, inr, List, [], ◌∷◌, length, replicate, slice_get, slice_set, slice_index_or, Bool, true, false, Option, None, Some, refl, ap, sym, ◌∙◌, arith, length-set, subst, ◌≤◌, unwrap_or}
+use Rattle.std.proofs.Common.{◌≡◌, ℕ, ◌<◌, inl, inr, List, length, replicate, slice_get, slice_set, slice_index_or, Option, None, Some, refl, ap, sym, ◌∙◌, arith, length-set, subst, unwrap_or}
 use Rattle.std.proofs.lemmas.Bool.{cases_eq}
-use Rattle.std.proofs.lemmas.List.{length-replicate}
+use Rattle.std.proofs.lemmas.List.{length-replicate, get_or-set_same, get_or-set_other, set-get_or}
 use Rattle.ft_types.specs.declared.names.Want.{Want}
 use Rattle.ft_types.specs.declared.names.Want.TheVariants.{Read, Write}
 use Rattle.rv32_hart.specs.Hart.{Hart}
@@ -10,12 +10,12 @@ use Rattle.page_book.specs.declared.book.OpenLease.{OpenLease}
 use Rattle.page_book.specs.declared.lease_pages.Slot.{Slot}
 use Rattle.page_book.specs.declared.lease_pages.Slot.TheVariants.{Missing, Readable, Writable}
 use Rattle.page_book.specs.Slots.{slot_at, want_of, base_of}
-use Rattle.page_book.specs.Leases.{LeaseView, IsLent, IsLentAt, base_at, fresh, with_page, with_page_beside, with_page_to_read, with_page_to_write}
+use Rattle.page_book.specs.Leases.{LeaseView, IsLent, fresh, with_page, with_page_beside, with_page_to_read, with_page_to_write}
 use Rattle.page_book.specs.Books.{BookView, IsOurs, IsLentBy, open_at, nothing_taken, taken_with}
 use Rattle.page_book.specs.declared.taken.Taken.{Taken}
 use Rattle.page_book.specs.Taken.{taken_at, right_written, right_of_taken, taking}
 use Rattle.page_book.specs.Runs.{IsLease}
-use Rattle.page_book.proofs.Slots.{index-replicate, at-set_same, at-set_other}
+use Rattle.page_book.proofs.Slots.{index-replicate}
 
 -- a fresh lease has nothing of any page
 pub fresh_lent : (m : MachineState) (hart : ℕ) (h : Hart) (stop : ℕ) → slice_get m.harts hart ≡ Some h →
@@ -49,12 +49,12 @@ module _ (m : MachineState) (taken : List (Option Taken)) (l : LeaseView) (page 
         elim (cases_eq page other) [
           | inl same ↦
               rw (← same)
-              (λ e. is ∙ (sym (ap (λ (s : Slot). base_of s (slice_index_or l.bases page None)) (at-set_same l.slots page (Readable here) Missing within)) ∙ e))
+              (λ e. is ∙ (sym (ap (λ (s : Slot). base_of s (slice_index_or l.bases page None)) (get_or-set_same l.slots page (Readable here) Missing within)) ∙ e))
           | inr ne ↦
               let old : other < length l.slots = omega (arith, lt, length-set l.slots page (Readable here)) in
               λ e.
               lent.pages other old bytes
-              (sym (ap (λ (s : Slot). base_of s (slice_index_or l.bases other None)) (at-set_other l.slots page other (Readable here) Missing ne)) ∙ e)
+              (sym (ap (λ (s : Slot). base_of s (slice_index_or l.bases other None)) (get_or-set_other l.slots page other (Readable here) Missing (λ e. ne (sym e)))) ∙ e)
         ];
   }
 
@@ -70,21 +70,16 @@ module _ (m : MachineState) (taken : List (Option Taken)) (l : LeaseView) (page 
               rw (← same)
               (λ e.
               is ∙
-              (sym (at-set_same l.bases page (Some here) None kept) ∙
-              (sym (ap (λ (s : Slot). base_of s (slice_index_or (slice_set l.bases page (Some here)) page None)) (at-set_same l.slots page (Writable here) Missing within)) ∙ e)))
+              (sym (get_or-set_same l.bases page (Some here) None kept) ∙
+              (sym (ap (λ (s : Slot). base_of s (slice_index_or (slice_set l.bases page (Some here)) page None)) (get_or-set_same l.slots page (Writable here) Missing within)) ∙ e)))
           | inr ne ↦
               let old : other < length l.slots = omega (arith, lt, length-set l.slots page (Writable here)) in
               λ e.
               lent.pages other old bytes
-              (sym (ap (λ (o : Option (List ℕ)). base_of (slot_at l.slots other) o) (at-set_other l.bases page other (Some here) None ne)) ∙
-              (sym (ap (λ (s : Slot). base_of s (slice_index_or (slice_set l.bases page (Some here)) other None)) (at-set_other l.slots page other (Writable here) Missing ne)) ∙ e))
+              (sym (ap (λ (o : Option (List ℕ)). base_of (slot_at l.slots other) o) (get_or-set_other l.bases page other (Some here) None (λ e. ne (sym e)))) ∙
+              (sym (ap (λ (s : Slot). base_of s (slice_index_or (slice_set l.bases page (Some here)) other None)) (get_or-set_other l.slots page other (Writable here) Missing (λ e. ne (sym e)))) ∙ e))
         ];
   }
-
-set-same_at : {A : Type 0} (xs : List A) (i : ℕ) (d : A) → slice_set xs i (slice_index_or xs i d) ≡ xs
-set-same_at [] i d = refl
-set-same_at (x ∷ xs) zero d = refl
-set-same_at (x ∷ xs) (suc i) d = ap (λ l. x ∷ l) (set-same_at xs i d)
 
 -- a right that is held is taken no second time
 kept_to_read : (x : Option Taken) (held : Want) (n : ℕ) → right_of_taken x ≡ Some held → Some (taking x Read n) ≡ x
@@ -115,7 +110,7 @@ given_lent m lent l page want here ours lease lt is = beside (want_of (slot_at l
     right = sym (lease.rights page ∙ ap (λ (ts : List (Option Taken)). right_of_taken (taken_at ts page)) ours.1.counts)
 
     as_was : (x : Option Taken) → x ≡ taken_at lent.taken page → IsLent m (slice_set lent.taken page x) l
-    as_was x e = rw (e, set-same_at lent.taken page None) ours.1
+    as_was x e = rw (e, set-get_or lent.taken page None) ours.1
 
     beside : (o : Option Want) (want : Want) → right_of_taken (taken_at lent.taken page) ≡ o →
         IsLentBy (taken_with (Some lent) page want l.present.count) m (with_page_beside o want l page here)
@@ -131,7 +126,7 @@ pub need_ours : {M : Type 0} (b : BookView M) (l new : LeaseView) (hart page : �
     new.hart < length b.leases → slice_get b.machine.pages page ≡ Some here →
     IsOurs (record b { leases = slice_set b.leases hart (taken_with (open_at b.leases hart) page want count) }) new
 need_ours b l new hart page want count here ours is same now made lt lease row at =
-    rw (is, now, at-set_same b.leases new.hart (taken_with (open_at b.leases new.hart) page want l.present.count) None row)
+    rw (is, now, get_or-set_same b.leases new.hart (taken_with (open_at b.leases new.hart) page want l.present.count) None row)
     (subst (λ (o : Option OpenLease). IsLentBy (taken_with o page want l.present.count) b.machine new) (sym (ap (λ (k : ℕ). open_at b.leases k) same))
     (go (open_at b.leases l.hart) ours))
   where
@@ -144,4 +139,4 @@ need_ours b l new hart page want count here ours is same now made lt lease row a
 -- a lease that was just lent is the book's own
 pub fresh_ours : {M : Type 0} (b : BookView M) (hart : ℕ) (h : Hart) (stop : ℕ) → hart < length b.leases → slice_get b.machine.harts hart ≡ Some h →
     IsOurs (record b { leases = slice_set b.leases hart (Some (nothing_taken stop)) }) (fresh hart h (length b.machine.pages) stop)
-fresh_ours b hart h stop row is = rw (at-set_same b.leases hart (Some (nothing_taken stop)) None row) (fresh_lent b.machine hart h stop is)
+fresh_ours b hart h stop row is = rw (get_or-set_same b.leases hart (Some (nothing_taken stop)) None row) (fresh_lent b.machine hart h stop is)

@@ -1,5 +1,5 @@
 -- Runs, one part after the other.
-use Rattle.std.proofs.Common.{◌≡◌, ℕ, zero, suc, ◌+◌, List, [], ◌∷◌, ◌++◌, length, replicate, slice_get, slice_set, Option, None, Some, refl, ap, sym, ◌∙◌, append_assoc, add-one}
+use Rattle.std.proofs.Common.{◌≡◌, ℕ, zero, suc, ◌+◌, List, [], ◌∷◌, ◌++◌, replicate, slice_get, Option, None, Some, refl, ap, add-one}
 use Rattle.interleaving.specs.Machine.{Turn}
 use Rattle.interleaving.specs.Stored.{Hardware, Store, run_from, goes}
 

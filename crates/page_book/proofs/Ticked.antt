@@ -1,12 +1,10 @@
 -- A lease's steps are steps of every machine that its hart and pages stand in.
-use Rattle.std.proofs.Common.{◌≡◌, ℕ, zero, suc, ◌+◌, ◌<◌, List, [], ◌∷◌, ◌++◌, length, map, replicate, slice_get, slice_set, slice_index_or, Bool, true, false, Option, None, Some, refl, ap, sym, ◌∙◌, arith, if◌then◌else◌, add-one, length-set}
+use Rattle.std.proofs.Common.{◌≡◌, ℕ, zero, suc, ◌<◌, List, [], ◌∷◌, length, slice_get, slice_set, slice_index_or, Bool, true, false, Option, None, Some, refl, ap, sym, ◌∙◌, arith, if◌then◌else◌, length-set}
 use Rattle.std.proofs.lemmas.List.{set-set}
 use Rattle.interleaving.specs.Machine.{Effect, Write, Turn}
 use Rattle.interleaving.specs.Stored.{Hardware, Store, run_from, goes, stored_after, written_in}
-use Rattle.input_log.specs.declared.Input.{Input}
-use Rattle.rv32_hart.specs.Ram.{Ram, with_page}
 use Rattle.rv32_hart.specs.Hart.{Hart}
-use Rattle.rv32_hart.specs.Step.{Contents, IsTaken, effect, step_wants, step_effect, ram_after}
+use Rattle.rv32_hart.specs.Step.{Contents, IsTaken, effect, ram_after}
 use Rattle.rv32_hart.specs.Csrs.{received_all}
 use Rattle.rv32_hart.specs.Access.{next_step}
 use Rattle.rv32_hart.specs.Local.{step_local}
@@ -14,13 +12,12 @@ use Rattle.rv32_hart.specs.Hardware.{hardware}
 use Rattle.page_book.specs.declared.taken.Taken.{Taken}
 use Rattle.guest_image.specs.Machine.{MachineState}
 use Rattle.page_book.specs.declared.lease_pages.Slot.{Slot}
-use Rattle.page_book.specs.declared.lease_pages.Slot.TheVariants.{Missing, Readable, Writable}
+use Rattle.page_book.specs.declared.lease_pages.Slot.TheVariants.{Writable}
 use Rattle.page_book.specs.Slots.{slot_at, want_of, base_of, present_bytes, is_readable, ram_of}
-use Rattle.page_book.specs.Leases.{LeaseView, IsLent, base_at, laid, laid_pages, stepped}
-use Rattle.page_book.specs.Runs.{turn_of, turns_in_a_row, run_of, StandsIn, IsRunOf}
+use Rattle.page_book.specs.Leases.{LeaseView, IsLent, laid, laid_pages, stepped}
+use Rattle.page_book.specs.Runs.{turn_of, turns_in_a_row, StandsIn, IsRunOf}
 use Rattle.page_book.proofs.Slots.{length-map, ram_written, ram_tells}
 use Rattle.page_book.proofs.Places.{get_within}
-use Rattle.page_book.proofs.Laid.{length-laid_pages}
 use Rattle.page_book.proofs.Runs.{run_from-append, replicate-last}
 use Rattle.page_book.proofs.Shown.{touched_readable, readable_within, shown_laid, write_right, IsWritable, right_writable, laid_pages-set, base-set, right-set}
 

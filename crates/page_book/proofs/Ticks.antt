@@ -1,5 +1,5 @@
 -- What a step leaves of a lease.
-use Rattle.std.proofs.Common.{◌≡◌, ℕ, ◌+◌, List, [], length, ◌<◌, ◌≤◌, ◌⊎◌, inl, inr, slice_get, length-set, Option, None, Some, refl, ap, sym, ◌∙◌, arith}
+use Rattle.std.proofs.Common.{◌≡◌, ℕ, List, [], length, ◌<◌, inl, inr, slice_get, length-set, Option, None, Some, refl, ap, sym, ◌∙◌, arith}
 use Rattle.interleaving.specs.Machine.{Write}
 use Rattle.interleaving.specs.Stored.{written_in}
 use Rattle.std.proofs.lemmas.Bool.{cases_lt}

@@ -1,5 +1,5 @@
 -- Books, as contracts see them.
-use Rattle.std.specs.Prelude.{◌≡◌, ◌≢◌, ◌≤◌, ◌<◌, ◌+◌, ◌^◌, ℕ, List, [], ◌∷◌, ◌++◌, length, slice_get, slice_set, slice_index_or, Bool, true, false, Option, Some, None, if◌then◌else◌, ◌==◌, nat_le, replicate}
+use Rattle.std.specs.Prelude.{◌≡◌, ◌≢◌, ◌≤◌, ℕ, List, [], ◌∷◌, ◌++◌, length, slice_set, slice_index_or, Bool, true, false, Option, Some, None, if◌then◌else◌, ◌==◌, nat_le, replicate}
 use Rattle.ft_types.specs.declared.names.Want.{Want}
 use Rattle.ft_types.specs.declared.names.Want.TheVariants.{Read, Write}
 use Rattle.guest_image.specs.Machine.{MachineState}
@@ -9,7 +9,7 @@ use Rattle.page_book.specs.declared.answers.BookFault.TheVariants.{Leased, Halte
 use Rattle.page_book.specs.declared.book.OpenLease.{OpenLease}
 use Rattle.page_book.specs.declared.stretch.Stretch.{Stretch}
 use Rattle.page_book.specs.Taken.{taken_at, right_of_taken, taking}
-use Rattle.page_book.specs.Leases.{LeaseView, IsLent, laid}
+use Rattle.page_book.specs.Leases.{LeaseView, IsLent}
 use Rattle.page_book.specs.Runs.{LeadsTo, MayGoTo, BeginsSchedule, harts_of, counts_of}
 use Rattle.interleaving.specs.Log.{Edge, counts_after}
 use Rattle.ft_types.specs.Counts.{count_at}

@@ -1,8 +1,7 @@
 -- Leases, as contracts see them.
-use Rattle.std.specs.Prelude.{◌≡◌, ◌≢◌, ◌≤◌, ◌<◌, ◌⊎◌, ◌+◌, ◌^◌, ℕ, List, [], ◌∷◌, length, replicate, slice_get, slice_set, slice_index_or, Bool, true, false, Option, Some, None}
+use Rattle.std.specs.Prelude.{◌≡◌, ◌≢◌, ◌≤◌, ◌<◌, ◌⊎◌, ◌+◌, ℕ, List, [], ◌∷◌, length, replicate, slice_get, slice_set, slice_index_or, true, Option, Some, None}
 use Rattle.ft_types.specs.declared.names.Want.{Want}
 use Rattle.ft_types.specs.declared.names.Want.TheVariants.{Read, Write}
-use Rattle.rv32_hart.specs.Ram.{Ram}
 use Rattle.rv32_hart.specs.Hart.{Hart}
 use Rattle.rv32_hart.specs.Step.{IsTaken, IsMissing, IsOutput}
 use Rattle.rv32_hart.specs.declared.outcome.Tick.{Tick}

@@ -1,4 +1,4 @@
-use Rattle.std.proofs.Common.{rules, ◌≡◌, ◌<◌, length}
+use Rattle.std.proofs.Common.{rules, ◌≡◌, length}
 use Rattle.interleaving.specs.Log.{HasUnmet}
 use Rattle.page_book.specs.Runs.{counts_of}
 use Rattle.page_book.proofs.Ours.{fresh_ours}

@@ -1,4 +1,4 @@
-use Rattle.std.proofs.Common.{◌≡◌, ◌∙◌, ◌<◌, ap, sym, length, arith, rules}
+use Rattle.std.proofs.Common.{◌∙◌, ◌<◌, ap, length, arith, rules}
 use Rattle.page_book.specs.Slots.{slot_at}
 use Rattle.page_book.specs.Leases.{LeaseView}
 use Rattle.page_book.proofs.Given.{read_kept}

@@ -1,4 +1,4 @@
-use Rattle.std.proofs.Common.{◌≡◌, ◌∙◌, ◌<◌, ap, sym, length, arith, rules}
+use Rattle.std.proofs.Common.{◌∙◌, ◌<◌, ap, sym, length, arith, rules}
 use Rattle.page_book.specs.Slots.{slot_at, is_writable}
 use Rattle.page_book.specs.Leases.{LeaseView, base_at}
 use Rattle.page_book.proofs.Given.{write_kept}

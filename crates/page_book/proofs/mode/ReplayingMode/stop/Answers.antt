@@ -1,4 +1,4 @@
-use Rattle.std.proofs.Common.{rules, ◌≡◌, ◌<◌, ◌≤◌}
+use Rattle.std.proofs.Common.{rules, ◌<◌, ◌≤◌}
 use Rattle.ft_types.specs.Counts.{count_at}
 use Rattle.page_book.proofs.Obeyed.{stop_next, stop_before, stop_alone}
 use Rattle.page_book.proofs.mode.ReplayingMode.stop.Goals as goal
