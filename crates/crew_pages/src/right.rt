@@ -163,7 +163,7 @@ impl PageRight {
     }
 
     /// The other harts whose right stands against what the hart wants.
-    fn against(&self, hart: Hart, want: Want) -> HartSet
+    pub fn against(&self, hart: Hart, want: Want) -> HartSet
         ensures { (g : ℕ) → IsMember result g ↔ (stands (right_of self.now) hart want g ≡ true) }
     {
         match *self {

@@ -7,14 +7,14 @@ use Rattle.guest_image.specs.Machine.{MachineState}
 use Rattle.page_book.specs.declared.stretch.Stretch.{Stretch}
 use Rattle.page_book.specs.declared.taken.Taken.{Taken}
 use Rattle.page_book.specs.declared.lease_pages.Slot.{Slot}
-use Rattle.page_book.specs.declared.book.OpenLease.{OpenLease}
 use Rattle.page_book.specs.Slots.{slot_at, base_of}
 use Rattle.page_book.specs.Leases.{LeaseView, laid, IsLent}
 use Rattle.interleaving.specs.Log.{Edge, Begins, counts_after, bump}
 use Rattle.interleaving.proofs.Put.{same_or_not, bump_same, bump_other}
 use Rattle.ft_types.specs.Counts.{count_at}
 use Rattle.page_book.specs.Runs.{journal_turns, turns_in_a_row, StandsIn, IsRunOf, IsLease, LeadsTo, harts_of, steps_taken, counts_of, MayGoTo, BeginsSchedule}
-use Rattle.page_book.specs.Books.{added, IsBook, IsLentBy, open_at}
+use Rattle.page_book.specs.OpenLeases.{OpenView, open_at}
+use Rattle.page_book.specs.Books.{added, IsBook, IsLentBy}
 use Rattle.page_book.proofs.Laid.{length-laid_pages}
 use Rattle.page_book.proofs.Runs.{run_from-append}
 
@@ -59,18 +59,18 @@ stands m taken l p = record {
     lent_within (s ∷ slots) zero kept bytes e = omega arith
     lent_within (s ∷ slots) (suc page) kept bytes e = let h = lent_within slots page kept bytes e in omega arith
 
-pub stands_ours : (lent : Option OpenLease) (m : MachineState) (l : LeaseView) → IsLentBy lent m l → StandsIn m l
+pub stands_ours : (lent : Option OpenView) (m : MachineState) (l : LeaseView) → IsLentBy lent m l → StandsIn m l
 stands_ours None m l p = absurd p
-stands_ours (Some lent) m l p = stands m lent.taken l p.1
+stands_ours (Some lent) m l p = stands m lent.taken l p.is_lent
 
-row-set : (leases : List (Option OpenLease)) (i other : ℕ) → open_at leases other ≡ None → open_at (slice_set leases i None) other ≡ None
+row-set : (leases : List (Option OpenView)) (i other : ℕ) → open_at leases other ≡ None → open_at (slice_set leases i None) other ≡ None
 row-set [] i other e = e
 row-set (x ∷ leases) zero zero e = refl
 row-set (x ∷ leases) zero (suc other) e = e
 row-set (x ∷ leases) (suc i) zero e = e
 row-set (x ∷ leases) (suc i) (suc other) e = row-set leases i other e
 
-row-set_some : (leases : List (Option OpenLease)) (i other : ℕ) (lent : OpenLease) → open_at (slice_set leases i None) other ≡ Some lent →
+row-set_some : (leases : List (Option OpenView)) (i other : ℕ) (lent : OpenView) → open_at (slice_set leases i None) other ≡ Some lent →
     open_at leases other ≡ Some lent
 row-set_some [] i other lent e = e
 row-set_some (x ∷ leases) zero zero lent e = cc
@@ -202,13 +202,13 @@ module _ (start m : MachineState) (journal : List Stretch) (l : LeaseView) (stop
       ]))
 
 -- what the book keeps of the stop of an open lease holds of the lease's
-of_stop : (P : ℕ → Type 0) (lent : Option OpenLease) (m : MachineState) (l : LeaseView) → IsLentBy lent m l →
-    ((o : OpenLease) → lent ≡ Some o → P o.stop) → P l.stop
+of_stop : (P : ℕ → Type 0) (lent : Option OpenView) (m : MachineState) (l : LeaseView) → IsLentBy lent m l →
+    ((o : OpenView) → lent ≡ Some o → P o.stop) → P l.stop
 of_stop P None m l ours has = absurd ours
-of_stop P (Some o) m l ours has = subst P (sym ours.0) (has o refl)
+of_stop P (Some o) m l ours has = subst P (sym ours.stop) (has o refl)
 
 -- another hart's open lease stays
-row-set_other : (leases : List (Option OpenLease)) (i other : ℕ) (lent : OpenLease) → open_at (slice_set leases i None) other ≡ Some lent → i < length leases → i ≢ other
+row-set_other : (leases : List (Option OpenView)) (i other : ℕ) (lent : OpenView) → open_at (slice_set leases i None) other ≡ Some lent → i < length leases → i ≢ other
 row-set_other [] i other lent e lt = absurd (omega arith)
 row-set_other (x ∷ leases) zero zero lent e lt = cc
 row-set_other (x ∷ leases) zero (suc other) lent e lt = λ same. absurd (omega (arith, same))
@@ -216,16 +216,16 @@ row-set_other (x ∷ leases) (suc i) zero lent e lt = λ same. absurd (omega (ar
 row-set_other (x ∷ leases) (suc i) (suc other) lent e lt =
     let ne = row-set_other leases i other lent e (omega arith) in λ same. ne (omega (arith, same))
 
-row_within : (leases : List (Option OpenLease)) (hart : ℕ) (m : MachineState) (l : LeaseView) → IsLentBy (open_at leases hart) m l → hart < length leases
+row_within : (leases : List (Option OpenView)) (hart : ℕ) (m : MachineState) (l : LeaseView) → IsLentBy (open_at leases hart) m l → hart < length leases
 row_within [] hart m l ours = absurd ours
 row_within (x ∷ leases) zero m l ours = omega arith
 row_within (x ∷ leases) (suc hart) m l ours = let lt = row_within leases hart m l ours in omega (arith, lt)
 
 -- a book that has taken a lease back
-pub settled_kept : (start m : MachineState) (journal : List Stretch) (leases : List (Option OpenLease)) (stops : List ℕ) (edges : List Edge) (l : LeaseView) →
-    IsBook start m journal leases stops edges → IsLease l → IsLentBy (open_at leases l.hart) m l →
-    IsBook start (laid m l) (added journal l.hart l.steps) (slice_set leases l.hart None) stops edges
-settled_kept start m journal leases stops edges l p lease ours =
+pub settled_kept : (start m : MachineState) (journal : List Stretch) (leases : List (Option OpenView)) (stops : List ℕ) (edges : List Edge)
+    (before after : Type 0) (l : LeaseView) → IsBook start m journal leases stops edges before → IsLease l → IsLentBy (open_at leases l.hart) m l → after →
+    IsBook start (laid m l) (added journal l.hart l.steps) (slice_set leases l.hart None) stops edges after
+settled_kept start m journal leases stops edges before after l p lease ours kept =
     let on : StandsIn m l = stands_ours (open_at leases l.hart) m l ours in
     record {
       run = settled start m journal l p.run p.pages lease.runs on;
@@ -244,12 +244,14 @@ settled_kept start m journal leases stops edges l p lease ours =
           (of_stop (λ stop. stop ≤ count_at stops l.hart) (open_at leases l.hart) m l ours (p.stopped l.hart))
           (of_stop (MayGoTo edges (counts_of m) l.hart) (open_at leases l.hart) m l ours (p.unhindered l.hart)) p.begins;
       counted = counts_go_on start m journal l stops lease on p.counted;
+      keeps = kept;
     }
 
 -- a book that has ended a lease
-pub ended_kept : (start m : MachineState) (journal : List Stretch) (leases : List (Option OpenLease)) (stops : List ℕ) (edges : List Edge) (hart : ℕ) →
-    IsBook start m journal leases stops edges → IsBook start m journal (slice_set leases hart None) stops edges
-ended_kept start m journal leases stops edges hart p = record {
+pub ended_kept : (start m : MachineState) (journal : List Stretch) (leases : List (Option OpenView)) (stops : List ℕ) (edges : List Edge)
+    (before after : Type 0) (hart : ℕ) → IsBook start m journal leases stops edges before → after →
+    IsBook start m journal (slice_set leases hart None) stops edges after
+ended_kept start m journal leases stops edges before after hart p kept = record {
   run = p.run;
   harts = p.harts;
   pages = p.pages;
@@ -260,4 +262,5 @@ ended_kept start m journal leases stops edges hart p = record {
   rights = λ other lent e. p.rights other lent (row-set_some leases hart other lent e);
   begins = p.begins;
   counted = p.counted;
+  keeps = kept;
 }

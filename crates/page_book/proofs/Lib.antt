@@ -7,6 +7,7 @@ pub mod Lacking
 pub mod Laid
 pub mod OneHart
 pub mod Ours
+pub mod Noted
 pub mod Places
 pub mod Runs
 pub mod Shown

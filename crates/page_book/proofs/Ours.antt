@@ -1,17 +1,19 @@
 -- Leases that a book has just lent, and that it has just given a page.
-use Rattle.std.proofs.Common.{◌≡◌, ℕ, ◌<◌, inl, inr, List, length, replicate, slice_get, slice_set, slice_index_or, Option, None, Some, refl, ap, sym, ◌∙◌, arith, length-set, subst, unwrap_or}
+use Rattle.std.proofs.Common.{◌≡◌, ℕ, ◌<◌, inl, inr, List, ◌++◌, length, replicate, slice_get, slice_set, slice_index_or, Option, None, Some, refl, ap, sym, ◌∙◌, arith, length-set, subst, unwrap_or}
 use Rattle.std.proofs.lemmas.Bool.{cases_eq}
 use Rattle.std.proofs.lemmas.List.{length-replicate, get_or-set_same, get_or-set_other, set-get_or}
 use Rattle.ft_types.specs.declared.names.Want.{Want}
 use Rattle.ft_types.specs.declared.names.Want.TheVariants.{Read, Write}
 use Rattle.rv32_hart.specs.Hart.{Hart}
 use Rattle.guest_image.specs.Machine.{MachineState}
-use Rattle.page_book.specs.declared.book.OpenLease.{OpenLease}
 use Rattle.page_book.specs.declared.lease_pages.Slot.{Slot}
 use Rattle.page_book.specs.declared.lease_pages.Slot.TheVariants.{Missing, Readable, Writable}
 use Rattle.page_book.specs.Slots.{slot_at, want_of, base_of}
 use Rattle.page_book.specs.Leases.{LeaseView, IsLent, fresh, with_page, with_page_beside, with_page_to_read, with_page_to_write}
-use Rattle.page_book.specs.Books.{BookView, IsOurs, IsLentBy, open_at, nothing_taken, taken_with}
+use Rattle.edge_log.specs.declared.Edge.{Edge}
+use Rattle.page_book.specs.declared.asked.Asked.{Asked}
+use Rattle.page_book.specs.OpenLeases.{OpenView, open_at, nothing_taken, given_more}
+use Rattle.page_book.specs.Books.{BookView, IsOurs, IsLentBy, IsOpen}
 use Rattle.page_book.specs.declared.taken.Taken.{Taken}
 use Rattle.page_book.specs.Taken.{taken_at, right_written, right_of_taken, taking}
 use Rattle.page_book.specs.Runs.{IsLease}
@@ -20,18 +22,21 @@ use Rattle.page_book.proofs.Slots.{index-replicate}
 -- a fresh lease has nothing of any page
 pub fresh_lent : (m : MachineState) (hart : ℕ) (h : Hart) (stop : ℕ) → slice_get m.harts hart ≡ Some h →
     IsLentBy (Some (nothing_taken stop)) m (fresh hart h (length m.pages) stop)
-fresh_lent m hart h stop is = (
-  refl,
-  record {
-    state = is;
-    as_many = length-replicate {A = Slot} (length m.pages) Missing;
-    counts = refl;
-    pages = λ page lt bytes e.
-        let missing : slot_at (replicate (length m.pages) Missing) page ≡ Missing = index-replicate (length m.pages) page in
-        let none : None ≡ Some bytes =
-        sym (ap (λ (s : Slot). base_of s (slice_index_or (replicate (length m.pages) None) page None)) missing) ∙ e in cc;
-  },
-)
+fresh_lent m hart h stop is =
+    record {
+      stop = refl;
+      edges = refl;
+      is_lent =
+          record {
+            state = is;
+            as_many = length-replicate {A = Slot} (length m.pages) Missing;
+            counts = refl;
+            pages = λ page lt bytes e.
+                let missing : slot_at (replicate (length m.pages) Missing) page ≡ Missing = index-replicate (length m.pages) page in
+                let none : None ≡ Some bytes =
+                sym (ap (λ (s : Slot). base_of s (slice_index_or (replicate (length m.pages) None) page None)) missing) ∙ e in cc;
+          };
+    }
 
 -- what the book lent, with another right on one page
 abbrev lent_with : List (Option Taken) → ℕ → Want → ℕ → List (Option Taken)
@@ -94,47 +99,67 @@ kept_to_write (Some x) n e = ap (λ (w : Option ℕ). let t : Taken = record { r
     of None e = cc
     of (Some k) e = refl
 
+-- edges are not what is lent
+with_edges : (m : MachineState) (taken : List (Option Taken)) (l : LeaseView) (edges : List Edge) → IsLent m taken l → IsLent m taken (record l { edges = edges })
+with_edges m taken l edges p = record { state = p.state; as_many = p.as_many; counts = p.counts; pages = p.pages }
+
 -- a lease that was given a page is the book's open lease with that right
-pub given_lent : (m : MachineState) (lent : OpenLease) (l : LeaseView) (page : ℕ) (want : Want) (here : List ℕ) →
+pub given_lent : (m : MachineState) (lent : OpenView) (l : LeaseView) (page : ℕ) (want : Want) (here : List ℕ) (found : List Edge) →
     IsLentBy (Some lent) m l → IsLease l → page < length m.pages → slice_get m.pages page ≡ Some here →
-    IsLentBy (taken_with (Some lent) page want l.present.count) m (with_page l page want here)
-given_lent m lent l page want here ours lease lt is = beside (want_of (slot_at l.slots page)) want right
+    IsLentBy (given_more (Some lent) page want l.present.count found) m (record (with_page l page want here) { edges = l.edges ++ found })
+given_lent m lent l page want here found ours lease lt is =
+    record {
+      stop = same_stop (want_of (slot_at l.slots page)) want ∙ ours.stop;
+      edges = ap (λ (es : List Edge). es ++ found) ours.edges;
+      is_lent = with_edges m _ (with_page l page want here) (l.edges ++ found) (beside (want_of (slot_at l.slots page)) want right);
+    }
   where
+    same_stop : (o : Option Want) (want : Want) → (with_page_beside o want l page here).stop ≡ l.stop
+    same_stop None Read = refl
+    same_stop (Some held) Read = refl
+    same_stop None Write = refl
+    same_stop (Some Read) Write = refl
+    same_stop (Some Write) Write = refl
+
     within : page < length l.slots
-    within = omega (arith, ours.1.as_many, lt)
+    within = omega (arith, ours.is_lent.as_many, lt)
 
     kept : page < length l.bases
     kept = omega (arith, within, lease.as_many)
 
     right : right_of_taken (taken_at lent.taken page) ≡ want_of (slot_at l.slots page)
-    right = sym (lease.rights page ∙ ap (λ (ts : List (Option Taken)). right_of_taken (taken_at ts page)) ours.1.counts)
+    right = sym (lease.rights page ∙ ap (λ (ts : List (Option Taken)). right_of_taken (taken_at ts page)) ours.is_lent.counts)
 
     as_was : (x : Option Taken) → x ≡ taken_at lent.taken page → IsLent m (slice_set lent.taken page x) l
-    as_was x e = rw (e, set-get_or lent.taken page None) ours.1
+    as_was x e = rw (e, set-get_or lent.taken page None) ours.is_lent
 
     beside : (o : Option Want) (want : Want) → right_of_taken (taken_at lent.taken page) ≡ o →
-        IsLentBy (taken_with (Some lent) page want l.present.count) m (with_page_beside o want l page here)
-    beside None Read e = (ours.0, read_lent m lent.taken l page here ours.1 within is)
-    beside (Some held) Read e = (ours.0, as_was _ (kept_to_read (taken_at lent.taken page) held l.present.count e))
-    beside None Write e = (ours.0, write_lent m lent.taken l page here ours.1 within is kept)
-    beside (Some Read) Write e = (ours.0, write_lent m lent.taken l page here ours.1 within is kept)
-    beside (Some Write) Write e = (ours.0, as_was _ (kept_to_write (taken_at lent.taken page) l.present.count e))
+        IsLent m (lent_with lent.taken page want l.present.count) (with_page_beside o want l page here)
+    beside None Read e = read_lent m lent.taken l page here ours.is_lent within is
+    beside (Some held) Read e = as_was _ (kept_to_read (taken_at lent.taken page) held l.present.count e)
+    beside None Write e = write_lent m lent.taken l page here ours.is_lent within is kept
+    beside (Some Read) Write e = write_lent m lent.taken l page here ours.is_lent within is kept
+    beside (Some Write) Write e = as_was _ (kept_to_write (taken_at lent.taken page) l.present.count e)
 
 -- so it is the book's own
-pub need_ours : {M : Type 0} (b : BookView M) (l new : LeaseView) (hart page : ℕ) (want : Want) (count : ℕ) (here : List ℕ) → IsOurs b l →
-    hart ≡ new.hart → new.hart ≡ l.hart → count ≡ l.present.count → new ≡ with_page l page want here → page < length b.machine.pages → IsLease l →
-    new.hart < length b.leases → slice_get b.machine.pages page ≡ Some here →
-    IsOurs (record b { leases = slice_set b.leases hart (taken_with (open_at b.leases hart) page want count) }) new
-need_ours b l new hart page want count here ours is same now made lt lease row at =
-    rw (is, now, get_or-set_same b.leases new.hart (taken_with (open_at b.leases new.hart) page want l.present.count) None row)
-    (subst (λ (o : Option OpenLease). IsLentBy (taken_with o page want l.present.count) b.machine new) (sym (ap (λ (k : ℕ). open_at b.leases k) same))
-    (go (open_at b.leases l.hart) ours))
+pub need_ours : {M : Type 0} (b : BookView M) (mode : M) (l new : LeaseView) (asked : Asked) (found : List Edge) (here : List ℕ) → IsOurs b l →
+    asked.hart ≡ new.hart → new.hart ≡ l.hart → asked.count ≡ l.present.count →
+    new ≡ record (with_page l asked.page asked.want here) { edges = l.edges ++ found } → asked.page < length b.machine.pages → IsLease l →
+    new.hart < length b.leases → slice_get b.machine.pages asked.page ≡ Some here →
+    IsOurs (record b {
+      leases = slice_set b.leases asked.hart (given_more (open_at b.leases asked.hart) asked.page asked.want asked.count found);
+      mode = mode;
+    }) new
+need_ours b mode l new asked found here ours is same now made lt lease row at =
+    rw (is, now, get_or-set_same b.leases new.hart (given_more (open_at b.leases new.hart) asked.page asked.want l.present.count found) None row)
+    (subst (λ (o : Option OpenView). IsLentBy (given_more o asked.page asked.want l.present.count found) b.machine new)
+    (sym (ap (λ (k : ℕ). open_at b.leases k) same)) (go (open_at b.leases l.hart) ours))
   where
-    go : (o : Option OpenLease) → IsLentBy o b.machine l → IsLentBy (taken_with o page want l.present.count) b.machine new
+    go : (o : Option OpenView) → IsLentBy o b.machine l → IsLentBy (given_more o asked.page asked.want l.present.count found) b.machine new
     go None ours = absurd ours
     go (Some lent) ours =
-        subst (λ (n : LeaseView). IsLentBy (taken_with (Some lent) page want l.present.count) b.machine n) (sym made)
-        (given_lent b.machine lent l page want here ours lease lt at)
+        subst (λ (n : LeaseView). IsLentBy (given_more (Some lent) asked.page asked.want l.present.count found) b.machine n) (sym made)
+        (given_lent b.machine lent l asked.page asked.want here found ours lease lt at)
 
 -- a lease that was just lent is the book's own
 pub fresh_ours : {M : Type 0} (b : BookView M) (hart : ℕ) (h : Hart) (stop : ℕ) → hart < length b.leases → slice_get b.machine.harts hart ≡ Some h →

@@ -11,6 +11,7 @@ use Rattle.page_book.specs.declared.lease_pages.Slot.TheVariants.{Missing, Reada
 use Rattle.page_book.specs.Slots.{ram_of, slot_at, want_of, base_of}
 use Rattle.page_book.specs.declared.taken.Taken.{Taken}
 use Rattle.page_book.specs.Taken.{taken_at, taking}
+use Rattle.edge_log.specs.declared.Edge.{Edge}
 use Rattle.guest_image.specs.Machine.{MachineState}
 
 pub record LeaseView : Type 0 where
@@ -20,6 +21,7 @@ pub record LeaseView : Type 0 where
   pub bases : List (Option (List ℕ))  -- each page to be written, as it was lent
   pub slots : List Slot  -- the pages at present
   pub taken : List (Option Taken)  -- since when it has each page
+  pub edges : List Edge  -- the edges that wait in it until it is settled
   pub steps : ℕ
   pub stop : ℕ  -- the count that the lease does not go past
 
@@ -33,6 +35,7 @@ fresh hart state pages stop =
       bases = replicate pages None;
       slots = replicate pages Missing;
       taken = replicate 64 None;
+      edges = [];
       steps = 0;
       stop = stop;
     }

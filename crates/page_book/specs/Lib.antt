@@ -1,8 +1,11 @@
 pub mod Faults
 pub mod Slots
 pub mod Taken
+pub mod OpenLeases
 pub mod Leases
+pub mod Asks
 pub mod Runs
 pub mod Books
+pub mod Modes
 pub mod Answers
 pub mod Laws

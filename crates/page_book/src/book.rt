@@ -8,27 +8,26 @@ ghost use Rattle.page_book.specs.Slots.{slot_at, want_of};
 ghost use Rattle.page_book.specs.Leases.{LeaseView, fresh, IsFull, base_at, laid, laid_pages, with_slot, with_page};
 ghost use Rattle.interleaving.specs.Log.{IsMet, HasUnmet};
 ghost use Rattle.page_book.specs.Runs.{LeadsTo, IsLease, IsStop, MayGoTo, BeginsSchedule, counts_of};
-ghost use Rattle.page_book.specs.Books.{BookView, IsOurs, added, right_of, stands_against, open_at, IsLentBy, IsHolder, IsFree, taken_with, refusal, nothing_taken};
+ghost use Rattle.page_book.specs.OpenLeases.{OpenView, open_at, nothing_taken, given_more};
+ghost use Rattle.page_book.specs.Books.{BookView, IsOurs, added, IsLentBy, HasTaken, refusal};
+ghost use Rattle.page_book.specs.Asks.{asked_by};
+ghost use Rattle.page_book.specs.Modes.{IsAsking, KeepsLending};
 ghost use Rattle.page_book.specs.Answers.{IfHeldBy, OnHeldBy, OnGiven};
 ghost use Rattle.rv32_hart.specs.Hart.{Hart as HartRecord};
 
 use crate::answers::{BookFault, Keep, Need};
+use crate::asked::Asked;
 use crate::lease::Lease;
 use crate::lease_pages::Slot;
-use crate::mode::{Leg, Mode, Replaying};
+use crate::mode::{Leg, Mode, Replaying, steps_taken};
+use crate::open_lease::OpenLease;
 use crate::stretch::Stretch;
-use crate::taken::{self, Taken};
-use ft_types::{COUNT_LIMIT, Count, Counts, Hart, HartSet, Memory, PageNo, Want};
+use edge_log::Edge;
+use ft_types::{ Count, Counts, Hart, HartSet, Memory, PageNo, Want};
 use guest_image::{Machine, Page};
 use std::alloc::Global;
 use std::marker::Model;
-
-/// What the book knows of an open lease: the count that it does not go past, and since when it has each page.
-#[derive(Clone, Copy, Debug, PartialEq, Eq)]
-pub struct OpenLease {
-    stop: Count,
-    taken: [Option<Taken>; 64],
-}
+use std::mem;
 
 /// A machine with the journal of the steps that led to it. Harts and pages go out on leases, and come back with steps.
 #[derive(Drop)]
@@ -47,7 +46,7 @@ impl<M: Mode> Model for Book<M> {
 
     ghost view = { λ b. record { start = b.start; machine = b.machine; journal = b.journal.items; leases = b.leases; mode = b.mode } };
 
-    ghost invariant = { λ b. IsBook b.start b.machine b.journal.items b.leases (M.stops b.mode) (M.obeyed b.mode) };
+    ghost invariant = { λ b. IsBook b.start b.machine b.journal.items b.leases (M.stops b.mode) (M.obeyed b.mode) (M.keeps b.mode b.start b.machine b.journal.items b.leases) };
 }
 
 impl Book<Replaying> {
@@ -60,44 +59,26 @@ impl Book<Replaying> {
             start,
             machine,
             journal: Vec::new(alloc),
-            leases: [None; 8],
+            leases: no_leases(),
             mode: Replaying::new(leg),
         })
     }
 }
 
-fn stands_in_the_way(held: Option<Want>, asked: Want) -> bool
-    ensures { result ≡ stands_against held asked }
+fn no_leases() -> [Option<OpenLease>; 8]
+    ensures { result ≡ replicate 8 None }
 {
-    match held {
-        None => false,
-        Some(Want::Write) => true,
-        Some(Want::Read) => asked == Want::Write,
-    }
+    [None, None, None, None, None, None, None, None]
 }
 
-fn held_by(lease: &Option<OpenLease>, page: PageNo) -> Option<Want>
-    ensures { result ≡ right_of lease.now page }
+/// The edges that wait, with those found.
+fn with_edges(alloc: Global, waiting: &[Edge], found: &[Edge]) -> Result<Vec<Edge>, Memory>
+    ensures { IfOk result (λ all. all.items ≡ waiting.now ++ found.now) }
 {
-    match lease {
-        None => None,
-        Some(open) => taken::right_of(&open.taken[page.index()]),
-    }
-}
-
-/// The harts but this one whose open leases hold a right on the page that stands against the asked one.
-fn holders(leases: &[Option<OpenLease>; 8], hart: Hart, page: PageNo, want: Want) -> HartSet
-    ensures { (g : ℕ) → IsMember result g ↔ IsHolder leases.now hart page want g }
-{
-    let mut harts = HartSet::new();
-    for number in 0..8u8 {
-        if number != hart.number()
-            && stands_in_the_way(held_by(&leases[number as usize], page), want)
-        {
-            harts = harts.with(number);
-        }
-    }
-    harts
+    let mut all = Vec::with_capacity(alloc, waiting.len() + found.len())?;
+    all.extend_from_slice(waiting)?;
+    all.extend_from_slice(found)?;
+    Ok(all)
 }
 
 fn give(lease: &mut Lease, page: PageNo, here: &Page, want: Want) -> Result<(), Memory>
@@ -108,6 +89,7 @@ fn give(lease: &mut Lease, page: PageNo, here: &Page, want: Want) -> Result<(), 
     ensures present { lease.new.present ≡ lease.old.present }
     ensures steps { lease.new.steps ≡ lease.old.steps }
     ensures stop { lease.new.stop ≡ lease.old.stop }
+    ensures edges { lease.new.edges ≡ lease.old.edges }
     ensures slots { length lease.new.slots ≡ length lease.old.slots }
     ensures given { OnOk result (lease.new ≡ with_page lease.old page want here.now) }
     ensures kept { OnErr result (lease.new ≡ lease.old) }
@@ -174,6 +156,21 @@ fn add_stretch(journal: &mut Vec<Stretch>, hart: Hart, steps: u64)
     }
 }
 
+/// Writes down that an open lease was given the right that it asked for, and found edges: these wait in it now.
+fn note_taken(
+    lease: &mut Option<OpenLease>,
+    asked: &Asked,
+    _found: &[Edge],
+    waiting: Vec<Edge>,
+)
+    requires { (lent : OpenView) → lease.old ≡ Some lent → waiting.items ≡ lent.edges ++ _found.now }
+    ensures { lease.new ≡ given_more lease.old asked.now.page asked.now.want asked.now.count _found.now }
+{
+    if let Some(open) = lease {
+        open.take(asked, waiting);
+    }
+}
+
 impl<M: Mode> Book<M> {
     /// The machine as of the settled steps.
     pub fn machine(&self) -> &Machine
@@ -195,6 +192,8 @@ impl<M: Mode> Book<M> {
     pub fn counts(&self) -> Counts
         ensures harts { length result ≡ length self.now.machine.harts }
         ensures value { (hart : ℕ) → hart < length result → slice_index result hart ≡ counts_of self.now.machine hart }
+        // And none of harts that are not there.
+        ensures all { (hart : ℕ) → count_at result hart ≡ counts_of self.now.machine hart }
     {
         let mut counts = Counts::zero(self.machine.harts());
         for number in 0..self.machine.harts() {
@@ -238,21 +237,20 @@ impl<M: Mode> Book<M> {
         }
         let stop = self.mode.stop(hart, state.count());
         let lease = Lease::fresh(alloc, hart, state, self.machine.pages(), stop)?;
-        self.note_lent(hart, stop);
+        self.note_lent(alloc, hart, stop);
         Ok(lease)
     }
 
     /// Writes down that the hart has an open lease, of no page.
-    fn note_lent(&mut self, hart: Hart, stop: Count)
+    fn note_lent(&mut self, alloc: Global, hart: Hart, stop: Count)
         requires hart { hart < length self.old.machine.harts }
+        requires unlent { open_at self.old.leases hart ≡ None }
+        requires kept { KeepsLending (M.keeps self.old.mode) hart stop }
         requires stop { stop ≤ count_at (M.stops self.old.mode) hart }
         requires unhindered { MayGoTo (M.obeyed self.old.mode) (counts_of self.old.machine) hart stop }
         ensures { self.new ≡ record self.old { leases = slice_set self.old.leases hart (Some (nothing_taken stop)) } }
     {
-        self.leases[hart.index()] = Some(OpenLease {
-            stop,
-            taken: [None; 64],
-        });
+        self.leases[hart.index()] = Some(OpenLease::new(alloc, stop));
     }
 
     fn is_ours(&self, lease: &Lease) -> bool
@@ -260,32 +258,42 @@ impl<M: Mode> Book<M> {
     {
         match &self.leases[lease.hart().index()] {
             None => false,
-            Some(open) => lease.stop() == open.stop && lease.is_lent(&self.machine, &open.taken),
+            Some(open) => {
+                lease.stop() == open.stop()
+                    && lease.waits_with(open.edges())
+                    && lease.is_lent(&self.machine, open.taken())
+            }
         }
     }
 
-    /// Writes down that the hart's open lease was given the right at this count.
-    fn note_taken(&mut self, hart: Hart, page: PageNo, want: Want, count: Count)
-        ensures page { page < 64 }
-        ensures book { self.new ≡ record self.old { leases = slice_set self.old.leases hart (taken_with (open_at self.old.leases hart) page want count) } }
+    /// Gives the asker its right, and writes down that its open lease has the page, and that these edges wait in it.
+    fn hand_over(&mut self, settled: &Counts, asked: &Asked, found: &[Edge], waiting: Vec<Edge>)
+        requires asks { IsAsking (M.keeps self.old.mode) self.old.machine self.old.leases asked.now }
+        requires free { (g : ℕ) → M.is_holder self.old.mode self.old.leases asked.now g → ⊥ }
+        requires settled { (hart : ℕ) → count_at settled.now hart ≡ counts_of self.old.machine hart }
+        requires found { M.owes self.old.mode (count_at settled.now) asked.now found.now }
+        requires waiting { (lent : OpenView) → open_at self.old.leases asked.now.hart ≡ Some lent → waiting.items ≡ lent.edges ++ found.now }
+        ensures book { self.new ≡ record self.old { leases = slice_set self.old.leases asked.now.hart (given_more (open_at self.old.leases asked.now.hart) asked.now.page asked.now.want asked.now.count found.now); mode = self.new.mode } }
+        ensures given { M.gives self.old.mode (count_at settled.now) asked.now self.new.mode }
     {
-        if let Some(open) = &mut self.leases[hart.index()] {
-            let held = open.taken[page.index()];
-            open.taken[page.index()] = Some(taken::with_taken(held, want, count));
-        }
+        let alloc = *self.journal.allocator();
+        self.mode.give(alloc, settled, asked);
+        note_taken(&mut self.leases[asked.hart.index()], asked, found, waiting);
     }
 
     /// Gives the lease a page, unless another open lease holds a right that stands against it.
     pub fn need(&mut self, lease: &mut Lease, page: PageNo, want: Want) -> Result<Need, BookFault>
         requires { page < length self.old.machine.pages }
         ensures foreign { (result ≡ Err BookFault.Foreign) ↔ ¬ (IsOurs self.old lease.old) }
-        ensures memory { IfErr result (λ f. f ≢ BookFault.Foreign → (f ≡ BookFault.Memory) × IsFree self.old.leases lease.old.hart page want) }
-        ensures held { IfOk result (λ answer. IfHeldBy answer (λ harts. (g : ℕ) → IsMember harts g ↔ IsHolder self.old.leases lease.old.hart page want g)) }
-        ensures not_free { IfOk result (λ answer. OnHeldBy answer (IsFree self.old.leases lease.old.hart page want → ⊥)) }
-        ensures free { IfOk result (λ answer. OnGiven answer (IsFree self.old.leases lease.old.hart page want)) }
+        ensures memory { IfErr result (λ f. f ≢ BookFault.Foreign → (f ≡ BookFault.Memory) × ((g : ℕ) → M.is_holder self.old.mode self.old.leases (asked_by lease.old page want) g → ⊥)) }
+        ensures held { IfOk result (λ answer. IfHeldBy answer (λ harts. (g : ℕ) → IsMember harts g ↔ M.is_holder self.old.mode self.old.leases (asked_by lease.old page want) g)) }
+        ensures not_free { IfOk result (λ answer. OnHeldBy answer (((g : ℕ) → M.is_holder self.old.mode self.old.leases (asked_by lease.old page want) g → ⊥) → ⊥)) }
+        ensures free { IfOk result (λ answer. OnGiven answer ((g : ℕ) → M.is_holder self.old.mode self.old.leases (asked_by lease.old page want) g → ⊥)) }
         // The page comes as it stands in the machine, to read, or to read and to write.
-        ensures given { IfOk result (λ answer. OnGiven answer ((here : List ℕ) → slice_get self.old.machine.pages page ≡ Some here → lease.new ≡ with_page lease.old page want here)) }
-        ensures taken { IfOk result (λ answer. OnGiven answer (self.new.leases ≡ slice_set self.old.leases lease.old.hart (taken_with (open_at self.old.leases lease.old.hart) page want lease.old.present.count))) }
+        ensures given { IfOk result (λ answer. OnGiven answer ((here : List ℕ) → slice_get self.old.machine.pages page ≡ Some here → lease.new ≡ record (with_page lease.old page want here) { edges = lease.new.edges })) }
+        // The edges that the hart's next step owes wait in the lease.
+        ensures taken { IfOk result (λ answer. OnGiven answer (HasTaken (M.owes self.old.mode (counts_of self.old.machine) (asked_by lease.old page want)) self.old.leases (asked_by lease.old page want) lease.old.edges lease.new.edges self.new.leases)) }
+        ensures mode { IfOk result (λ answer. OnGiven answer (M.gives self.old.mode (counts_of self.old.machine) (asked_by lease.old page want) self.new.mode)) }
         ensures ours { OnOk result (IsOurs self.new lease.new) }
         // Where it waits or is refused, neither has changed.
         ensures book_waits { IfOk result (λ answer. OnHeldBy answer (self.new ≡ self.old)) }
@@ -293,7 +301,7 @@ impl<M: Mode> Book<M> {
         ensures book_kept { OnErr result (self.new ≡ self.old) }
         ensures lease_kept { OnErr result (lease.new ≡ lease.old) }
         // The book's machine and journal and the lease's hart and steps stay as they were.
-        ensures book { self.new ≡ record self.old { leases = self.new.leases } }
+        ensures book { self.new ≡ record self.old { leases = self.new.leases; mode = self.new.mode } }
         ensures hart { lease.new.hart ≡ lease.old.hart }
         ensures base { lease.new.base ≡ lease.old.base }
         ensures present { lease.new.present ≡ lease.old.present }
@@ -303,18 +311,24 @@ impl<M: Mode> Book<M> {
         if !self.is_ours(lease) {
             return Err(BookFault::Foreign);
         }
-        let harts = holders(&self.leases, lease.hart(), page, want);
+        let asked = lease.asks(page, want);
+        let harts = self.mode.holders(&self.leases, &asked);
         if !harts.is_empty() {
             return Ok(Need::HeldBy(harts));
         }
+        let alloc = *self.journal.allocator();
+        let settled = self.counts();
+        let found = self.mode.edges_owed(alloc, &settled, &asked);
+        let waiting = with_edges(alloc, lease.edges(), found.as_slice())?;
+        let known = with_edges(alloc, lease.edges(), found.as_slice())?;
         give(lease, page, self.machine.page(page), want)?;
-        self.note_taken(lease.hart(), page, want, lease.count());
+        lease.wait_with(waiting);
+        self.hand_over(&settled, &asked, found.as_slice(), known);
         Ok(Need::Given)
     }
 
-    /// Adds the lease's steps, where it is this book's. Otherwise it comes back. A replaying book keeps no rights of a
-    /// hart, whatever it is told.
-    pub fn settle(&mut self, lease: Lease, _keep: Keep) -> Result<(), (Lease, BookFault)>
+    /// Adds the lease's steps, where it is this book's. Otherwise it comes back.
+    pub fn settle(&mut self, lease: Lease, keep: Keep) -> Result<(), (Lease, BookFault)>
         ensures ours { OnOk result (IsOurs self.old lease) }
         ensures foreign { IfErr result (λ e. e.1 ≡ BookFault.Foreign → ¬ (IsOurs self.old lease)) }
         ensures back { IfErr result (λ e. e.0 ≡ lease) }
@@ -324,7 +338,7 @@ impl<M: Mode> Book<M> {
         ensures journal { OnOk result (self.new.journal ≡ added self.old.journal lease.hart lease.steps) }
         ensures leases { OnOk result (self.new.leases ≡ slice_set self.old.leases lease.hart None) }
         ensures start { OnOk result (self.new.start ≡ self.old.start) }
-        ensures mode { OnOk result (self.new.mode ≡ self.old.mode) }
+        ensures mode { OnOk result (M.settles self.old.mode lease.hart lease.present.count lease.edges keep self.new.mode) }
     {
         if !self.is_ours(&lease) {
             return Err((lease, BookFault::Foreign));
@@ -333,6 +347,10 @@ impl<M: Mode> Book<M> {
             return Err((lease, BookFault::Memory));
         }
         let hart = lease.hart();
+        let taken_in = self.mode.settle(hart, lease.count(), lease.edges(), keep);
+        if taken_in.is_err() {
+            return Err((lease, BookFault::Memory));
+        }
         let steps = take_back(&mut self.machine, lease);
         add_stretch(&mut self.journal, hart, steps);
         self.leases[hart.index()] = None;
@@ -341,20 +359,23 @@ impl<M: Mode> Book<M> {
 
     /// Ends the lease without its steps.
     pub fn discard(&mut self, lease: Lease) -> Result<(), BookFault>
-        ensures ok { OnOk result (self.new ≡ record self.old { leases = slice_set self.old.leases lease.hart None }) }
+        ensures ok { OnOk result (self.new ≡ record self.old { leases = slice_set self.old.leases lease.hart None; mode = self.new.mode }) }
+        ensures mode { OnOk result (M.ends self.old.mode lease.hart (counts_of self.old.machine lease.hart) lease.taken self.new.mode) }
         ensures ours { OnOk result (IsOurs self.old lease) }
         ensures foreign { IfErr result (λ f. (f ≡ BookFault.Foreign) × ¬ (IsOurs self.old lease)) }
         ensures kept { OnErr result (self.new ≡ self.old) }
     {
         let ours = self.is_ours(&lease);
         let hart = lease.hart();
-        let (present, slots, _) = lease.spend();
-        drop(present);
-        drop(slots);
+        lease.waste();
         if !ours {
             return Err(BookFault::Foreign);
         }
-        self.leases[hart.index()] = None;
+        let count = steps_taken(&self.machine, hart);
+        let ended = mem::replace(&mut self.leases[hart.index()], None);
+        if let Some(open) = ended {
+            self.mode.end(hart, count, open.taken());
+        }
         Ok(())
     }
 }

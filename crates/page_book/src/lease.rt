@@ -1,13 +1,17 @@
 //! A lease: one hart's state and some pages, on loan from a book.
 
-ghost use Rattle.std.specs.Prelude.{◌≡◌, ◌≢◌, ◌<◌, ◌≤◌, ◌^◌, ◌⊎◌, ◌+◌, ◌↔◌, ℕ, List, [], length, replicate, map, slice_set, slice_index_or, Option, Some, None, true, false, IfOk, OnOk, OnErr, IsTrue};
+ghost use Rattle.std.specs.Cmp.Lexicographic.{pointwise};
+ghost use Rattle.std.specs.Prelude.{◌≡◌, ◌==◌, ◌&&◌, ◌≢◌, ◌<◌, ◌≤◌, ◌^◌, ◌⊎◌, ◌+◌, ◌↔◌, ℕ, List, [], length, replicate, map, slice_set, slice_index_or, Option, Some, None, true, false, IfOk, OnOk, OnErr, IsTrue};
 ghost use Rattle.guest_image.specs.Machine.{MachineState};
 ghost use Rattle.page_book.specs.Slots.{slot_at, want_of, base_of, is_writable};
 ghost use Rattle.page_book.specs.Runs.{IsLease};
+ghost use Rattle.page_book.specs.Asks.{asked_by};
 ghost use Rattle.page_book.specs.Leases.{LeaseView, fresh, IsFull, Ticks, IsLent, IsLentAt, base_at, with_page_to_read, with_page_to_write};
 
+use crate::asked::Asked;
 use crate::lease_pages::{LeasePages, Slot};
 use crate::taken::{Taken, with_taken};
+use edge_log::Edge;
 use ft_types::{Count, Hart, Memory, PageNo, Want};
 use guest_image::{Machine, Page};
 use rv32_hart::{HartState, Tick, tick};
@@ -27,6 +31,8 @@ pub struct Lease {
     pages: LeasePages,
     /// The counts at which it took each page.
     taken: [Option<Taken>; 64],
+    /// The edges found, which wait until it is settled.
+    edges: Vec<Edge>,
     steps: u64,
     stop: Count,
 }
@@ -37,9 +43,9 @@ impl Model for Lease {
 
     ghost Value = { LeaseView };
 
-    ghost view = { λ l. record { hart = l.hart; base = l.base; present = l.present; bases = l.bases.items; slots = l.pages; taken = l.taken; steps = l.steps; stop = l.stop } };
+    ghost view = { λ l. record { hart = l.hart; base = l.base; present = l.present; bases = l.bases.items; slots = l.pages; taken = l.taken; edges = l.edges.items; steps = l.steps; stop = l.stop } };
 
-    ghost invariant = { λ l. IsLease (record { hart = l.hart; base = l.base; present = l.present; bases = l.bases.items; slots = l.pages; taken = l.taken; steps = l.steps; stop = l.stop }) };
+    ghost invariant = { λ l. IsLease (record { hart = l.hart; base = l.base; present = l.present; bases = l.bases.items; slots = l.pages; taken = l.taken; edges = l.edges.items; steps = l.steps; stop = l.stop }) };
 }
 
 fn no_pages(alloc: Global, pages: u8) -> Result<Vec<Option<Page>>, Memory>
@@ -61,6 +67,12 @@ fn is_base(slot: &Slot, kept: &Option<Page>, here: &Page) -> bool
         (Slot::Readable(page), _) => here.same(page),
         (Slot::Writable(_), Some(page)) => here.same(page),
     }
+}
+
+fn same_edges(edges: &[Edge], others: &[Edge]) -> bool
+    ensures { result ≡ pointwise (λ a b. a.hart == b.hart && a.at == b.at && a.other == b.other && a.after == b.after) edges.now others.now }
+{
+    edges == others
 }
 
 impl Lease {
@@ -87,6 +99,7 @@ impl Lease {
             bases,
             pages,
             taken: [None; 64],
+            edges: Vec::new(alloc),
             steps: 0,
             stop,
         })
@@ -112,6 +125,34 @@ impl Lease {
         ensures { result ≡ self.now.stop }
     {
         self.stop
+    }
+
+    /// The edges that wait in the lease until it is settled.
+    pub fn edges(&self) -> &[Edge]
+        ensures { result.now ≡ self.now.edges }
+    {
+        self.edges.as_slice()
+    }
+
+    /// What it asks for, when it asks for a right on a page.
+    pub(crate) fn asks(&self, page: PageNo, want: Want) -> Asked
+        ensures value { result ≡ asked_by self.now page want }
+        ensures count { result.count < 2 ^ 48 }
+        ensures kept { IsLease self.now }
+    {
+        Asked {
+            hart: self.hart,
+            count: self.present.count(),
+            page,
+            want,
+        }
+    }
+
+    /// Puts these edges in place of those that wait.
+    pub(crate) fn wait_with(&mut self, edges: Vec<Edge>)
+        ensures { self.new ≡ record self.old { edges = edges.items } }
+    {
+        self.edges = edges;
     }
 
     /// How many steps the lease has.
@@ -195,6 +236,13 @@ impl Lease {
             && self.pages_are_lent(machine)
     }
 
+    /// Whether these edges wait in it.
+    pub(crate) fn waits_with(&self, edges: &[Edge]) -> bool
+        ensures { IsTrue result ↔ (self.now.edges ≡ edges.now) }
+    {
+        same_edges(self.edges.as_slice(), edges)
+    }
+
     /// Whether it took its pages at these counts.
     fn took(&self, taken: &[Option<Taken>; 64]) -> bool
         ensures { IsTrue result ↔ (self.now.taken ≡ taken.now) }
@@ -226,6 +274,13 @@ impl Lease {
         )
     }
 
+    /// Nothing of the lease is needed.
+    pub(crate) fn waste(self) {
+        let (present, slots, _) = self.spend();
+        drop(present);
+        drop(slots);
+    }
+
     /// What the lease has now. The lease is gone.
     pub(crate) fn spend(self) -> (HartState, Vec<Slot>, u64)
         ensures hart { result.0 ≡ self.present }
@@ -242,11 +297,13 @@ impl Lease {
             bases,
             pages,
             taken: _,
+            edges,
             steps,
             stop: _,
         } = self;
         drop(base);
         drop(bases);
+        drop(edges);
         (present, pages.into_slots(), steps)
     }
 }

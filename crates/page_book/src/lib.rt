@@ -2,20 +2,24 @@
 #![tactic(auto)]
 
 mod answers;
+mod asked;
 mod book;
 mod laws;
 mod lease;
 mod lease_pages;
 mod mode;
+mod open_lease;
 mod stretch;
 mod taken;
 
 pub use answers::{BookFault, Keep, Need};
+pub use asked::Asked;
 pub use book::Book;
 pub use laws::{one_hart, steps_of_leases};
 pub use lease::Lease;
 pub use lease_pages::{LeasePages, Slot};
 pub use mode::{Leg, Mode, Replaying};
+pub use open_lease::OpenLease;
 pub use stretch::Stretch;
 pub use taken::Taken;
 

@@ -16,4 +16,7 @@ note_lent-requires-clause-unhindered g c =
     let same : c.count-2.result ≡ counts_of c.self.inside.machine c.args.hart = search rules in
     let none : HasUnmet (g.M.Mode.obeyed c.self.inside.mode) (counts_of c.self.inside.machine) c.args.hart → ⊥ = search rules in
     rw (← c.self.view_is)
-    (may_go (g.M.Mode.obeyed c.self.inside.mode) (counts_of c.self.inside.machine) _ c.args.hart c.count-2.result c.stop-stop.result none same c.stop-stop.ensures)
+    (may_go (g.M.Mode.obeyed c.self.inside.mode) (counts_of c.self.inside.machine) _ c.args.hart c.count-2.result c.stop-stop.result none same c.stop-stop.ensures.value)
+
+pub returns-clause-kept_open : goal.returns-clause-kept_open
+returns-clause-kept_open g c = rw c.in_ok-lease.ensures c.note_lent.ensures

@@ -1,10 +1,28 @@
-use Rattle.std.proofs.Common.{rules}
+use Rattle.std.proofs.Common.{rules, refl, ◌∙◌, sym}
+use Rattle.page_book.specs.Modes.{IsSettling, KeepsSettling}
 use Rattle.page_book.proofs.Journals.{settled_kept}
 use Rattle.page_book.proofs.book.Book.settle.Goals as goal
 
 pub invariant_of-self-2 : goal.invariant_of-self-2
 invariant_of-self-2 g c =
+    let i = c.self.inside in
+    let l = c.args.lease in
     let ours = rw (← c.self.view_is) at (c.is_ours.ensures.0 (search rules)) in
-    rw (c.take_back-steps.ensures.machine, c.add_stretch.ensures, c.reserve.ensures.items, c.take_back-steps.ensures.steps, c.index.ensures.value, c.hart-hart.ensures.value)
-    (settled_kept c.self.inside.start c.self.inside.machine c.self.inside.journal.items c.self.inside.leases (g.M.Mode.stops c.self.inside.mode) (g.M.Mode.obeyed c.self.inside.mode) c.args.lease c.self.invariant
-    c.take_back-steps.ensures.kept ours)
+    let settling : IsSettling (g.M.Mode.keeps i.mode) c.hart-hart.result c.count.result c.edges.result.now =
+    record {
+      start = i.start;
+      machine = i.machine;
+      journal = i.journal.items;
+      leases = i.leases;
+      settler = l;
+      is_lease = c.take_back-steps.ensures.kept;
+      is_lent = ours;
+      of_hart = c.hart-hart.ensures.value;
+      at_count = c.count.ensures;
+      with_edges = c.edges.ensures;
+      kept = c.self.invariant.keeps;
+    } in
+    let kept : KeepsSettling (g.M.Mode.keeps i.mode) (g.M.Mode.keeps c.settle-taken_in.new.self) c.hart-hart.result c.count.result c.edges.result.now = search rules in
+    rw (c.take_back-steps.ensures.machine, c.add_stretch.ensures, c.reserve.ensures.items, c.take_back-steps.ensures.steps, c.index.ensures.value, c.hart-hart.ensures.value, c.settle-taken_in.ensures.stops, c.settle-taken_in.ensures.obeyed)
+    (settled_kept i.start i.machine i.journal.items i.leases (g.M.Mode.stops i.mode) (g.M.Mode.obeyed i.mode) _ _ l c.self.invariant
+    c.take_back-steps.ensures.kept ours (kept settling))

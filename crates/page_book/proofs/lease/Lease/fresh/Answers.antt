@@ -3,5 +3,5 @@ use Rattle.page_book.proofs.lease.Lease.fresh.Goals as goal
 
 pub invariant_of-result : goal.invariant_of-result
 invariant_of-result c =
-    rw (c.in_ok-base.ensures, c.in_ok-present.ensures, c.in_ok-bases.ensures, c.in_ok-pages.ensures)
+    rw (c.in_ok-base.ensures, c.in_ok-present.ensures, c.in_ok-bases.ensures, c.in_ok-pages.ensures, c.new.ensures.items)
     (fresh_kept c.args.hart c.args.state.now c.args.pages c.args.stop c.requires.stop)

@@ -9,7 +9,7 @@ pub invariant_of-self : goal.invariant_of-self
 invariant_of-self c =
     let i = c.self.inside in
     let l : LeaseView =
-    record { hart = i.hart; base = i.base; present = i.present; bases = i.bases.items; slots = i.pages; taken = i.taken; steps = i.steps; stop = i.stop } in
+    record { hart = i.hart; base = i.base; present = i.present; bases = i.bases.items; slots = i.pages; taken = i.taken; edges = i.edges.items; steps = i.steps; stop = i.stop } in
     tick_kept l c.tick.new.state c.tick.new.pages c.self.invariant c.in-Done.ensures.done
     (below_stop l (λ full. c.requires (subst (λ (v : LeaseView). IsFull v) c.self.view_is full)))
 
@@ -41,7 +41,7 @@ pub returns-in-Done-clause-lent : goal.returns-in-Done-clause-lent
 returns-in-Done-clause-lent c m rights lent =
     let i = c.self.inside in
     let l : LeaseView =
-    record { hart = i.hart; base = i.base; present = i.present; bases = i.bases.items; slots = i.pages; taken = i.taken; steps = i.steps; stop = i.stop } in
+    record { hart = i.hart; base = i.base; present = i.present; bases = i.bases.items; slots = i.pages; taken = i.taken; edges = i.edges.items; steps = i.steps; stop = i.stop } in
     still_lent l c.tick.new.state c.tick.new.pages c.in-Done.ensures.done m rights (subst (λ (v : LeaseView). IsLent m rights v) (sym c.self.view_is) lent)
 
 pub returns-in-Miss-clause-lent : goal.returns-in-Miss-clause-lent

@@ -1,0 +1,83 @@
+//! What a book knows of an open lease.
+
+ghost use Rattle.std.specs.Prelude.{◌≡◌, ◌<◌, ℕ, length, slice_set, Some};
+ghost use Rattle.page_book.specs.OpenLeases.{OpenView, right_of, nothing_taken};
+ghost use Rattle.page_book.specs.Taken.{taken_at, taking};
+
+use crate::asked::Asked;
+use crate::taken::{self, Taken};
+use edge_log::Edge;
+use ft_types::{Count, PageNo, Want};
+use std::alloc::Global;
+use std::marker::Model;
+
+/// What the book knows of an open lease: the count that it does not go past, since when it has each page, and the edges
+/// that wait in it.
+#[derive(Drop)]
+pub struct OpenLease {
+    stop: Count,
+    taken: [Option<Taken>; 64],
+    edges: Vec<Edge>,
+}
+
+impl Model for OpenLease {
+    ghost use Rattle.std.specs.Prelude.{◌≡◌, length};
+    ghost use Rattle.page_book.specs.OpenLeases.{OpenView};
+
+    ghost Value = { OpenView };
+
+    ghost view = { λ l. record { stop = l.stop; taken = l.taken; edges = l.edges.items } };
+
+    ghost invariant = { λ l. length l.taken ≡ 64 };
+}
+
+impl OpenLease {
+    /// A lease of no page.
+    pub(crate) fn new(alloc: Global, stop: Count) -> OpenLease
+        ensures { result ≡ nothing_taken stop }
+    {
+        OpenLease {
+            stop,
+            taken: [None; 64],
+            edges: Vec::new(alloc),
+        }
+    }
+
+    /// The count that it does not go past.
+    pub(crate) fn stop(&self) -> Count
+        ensures { result ≡ self.now.stop }
+    {
+        self.stop
+    }
+
+    /// Since when it has each page.
+    pub(crate) fn taken(&self) -> &[Option<Taken>; 64]
+        ensures value { result.now ≡ self.now.taken }
+        ensures row { length result.now ≡ 64 }
+    {
+        &self.taken
+    }
+
+    /// The edges that wait in it.
+    pub(crate) fn edges(&self) -> &[Edge]
+        ensures { result.now ≡ self.now.edges }
+    {
+        self.edges.as_slice()
+    }
+
+    /// The right that it has on a page.
+    pub(crate) fn right(&self, page: PageNo) -> Option<Want>
+        ensures { result ≡ right_of (Some self.now) page }
+    {
+        taken::right_of(&self.taken[page.index()])
+    }
+
+    /// Writes down that it was given a right, and which edges wait in it now.
+    pub(crate) fn take(&mut self, asked: &Asked, waiting: Vec<Edge>)
+        ensures { self.new ≡ record self.old { taken = slice_set self.old.taken asked.now.page (Some (taking (taken_at self.old.taken asked.now.page) asked.now.want asked.now.count)); edges = waiting.items } }
+    {
+        let held = self.taken[asked.page.index()];
+        self.taken[asked.page.index()] = Some(taken::with_taken(held, asked.want, asked.count));
+        self.edges = waiting;
+    }
+}
