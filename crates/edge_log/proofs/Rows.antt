@@ -6,7 +6,7 @@ use Rattle.std.proofs.lemmas.Bool.{cases_lt, cases_eq}
 use Rattle.std.proofs.lemmas.List.{get_or_read, get_or-take, get_or-drop, get_or_append_left, get_or-append_right, get_or-append-add, drop_more, set_split, get_or_default}
 use Rattle.std.proofs.lemmas.List.Elements.{All-head, All-tail, filter-append, Contains-append_cases, Contains-append_left, Contains-append_right, All-contains}
 use Rattle.edge_log.specs.declared.Edge.{Edge}
-use Rattle.edge_log.specs.Rows.{ComesBefore, CannotComeBefore, IsTwin, TwinStands, IsPut, SaysAsMuch, AsksFor, IsRow}
+use Rattle.edge_log.specs.Rows.{ComesBefore, CannotComeBefore, IsTwin, TwinStands, IsPut, SaysAsMuch, AsksFor, IsRow, Takes, Said, Put, TakesAll}
 
 pub before_trans : (a b c : Edge) → ComesBefore a b → ComesBefore b c → ComesBefore a c
 before_trans a b c p q =
@@ -361,3 +361,26 @@ row_after old new reached e row put hart more =
           | inl is ↦ (x, is, record { other = asks.other; after = asks.after ∙ sym kept })
           | inr twin ↦ absurd (ne (sym asks.other ∙ twin.other))
         ]
+
+-- ---- one edge after another
+
+-- what holds of all edges and of the one that is added
+pub all_taken : (P : Edge → Type 0) (start : List ℕ) (old : List Edge) (e : Edge) (new : List Edge) → Takes start old e new → P e → All P old → All P new
+all_taken P start old e new (Said says same) one all = subst (All P) (sym same) all
+all_taken P start old e new (Put not put) one all = all_put P old e new put one all
+
+-- the rest is no earlier than the edges with the one that is added
+pub rest_later : (start : List ℕ) (xs : List Edge) (i : ℕ) (e : Edge) (old new : List Edge) → AllPairs (λ a b. a.at ≤ b.at) xs → i < length xs →
+    e ≡ get_or xs i e → Takes start old e new → AllWithin (λ x. All (λ y. y.at ≤ x.at) old) xs i (length xs) →
+    AllWithin (λ x. All (λ y. y.at ≤ x.at) new) xs (i + 1) (length xs)
+rest_later start xs i e old new rising small is takes last k d from below =
+    let same : get_or xs i d ≡ e = sym (get_or_read xs i e small is d) in
+    let pair : (get_or xs i d).at ≤ (get_or xs k d).at = rising i k d (omega arith) below in
+    all_taken (λ y. y.at ≤ (get_or xs k d).at) start old e new takes (subst (λ y. y.at ≤ (get_or xs k d).at) same pair) (last k d (omega arith) below)
+
+-- one more edge is added
+pub takes_more : (start : List ℕ) (xs : List Edge) (i : ℕ) (e : Edge) (old now new : List Edge) → i < length xs → e ≡ get_or xs i e → Takes start old e now →
+    TakesAll start now (drop (i + 1) xs) new → TakesAll start old (drop i xs) new
+takes_more start xs i e old now new small is takes rest =
+    let split : drop i xs ≡ e ∷ drop (i + 1) xs = drop_more xs i e small ∙ ap (λ y. y ∷ drop (i + 1) xs) (sym is) in
+    subst (λ l. TakesAll start old l new) (sym split) (now, takes, rest)

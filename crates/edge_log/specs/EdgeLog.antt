@@ -1,9 +1,11 @@
 -- Logs of edges, and what they say in the theory's words.
-use Rattle.std.specs.Prelude.{ℕ, ◌≡◌, ◌<◌, ◌≤◌, List, [], length, slice_index_or, map, All}
+use Rattle.std.specs.Prelude.{ℕ, ◌≡◌, ◌≢◌, ◌<◌, ◌≤◌, List, [], ◌∷◌, length, slice_index_or, map, All}
 use Rattle.std.specs.List.{flat_map}
 use Rattle.ft_types.specs.Counts.{count_at}
 use Rattle.interleaving.specs.Log as theory
+use Rattle.interleaving.specs.Cuts.{IsImplied}
 use Rattle.edge_log.specs.declared.Edge.{Edge}
+use Rattle.edge_log.specs.Rows.{IsPut}
 
 -- the counts that it begins at, and each hart's edges, by rising step and other hart
 pub record Edges : Type 0 where
@@ -32,6 +34,22 @@ pub record MayAdd (log : Edges) (e : Edge) : Type 0 where
   pub other : e.other < length log.start
   pub from_start : count_at log.start e.hart ≤ e.at
   pub last : All (λ x. x.at ≤ e.at) (row_of log e.hart)
+
+-- the edge is in its place in its hart's row, and the rest is as it was
+pub record IsPutInLog (old : Edges) (edge : Edge) (new : Edges) : Type 0 where
+  pub start : new.start ≡ old.start
+  pub row : IsPut (row_of old edge.hart) edge (row_of new edge.hart)
+  pub others : (hart : ℕ) → hart ≢ edge.hart → row_of new hart ≡ row_of old hart
+
+-- what adding an edge leaves: the same log where it is implied, else the edge in its place
+pub data IsAdded (old : Edges) (edge : Edge) (new : Edges) : Type 0 where
+  Stays : IsImplied (edges_of old) (start_of old) (edge_as edge) → new ≡ old → IsAdded old edge new
+  Enters : (IsImplied (edges_of old) (start_of old) (edge_as edge) → ⊥) → IsPutInLog old edge new → IsAdded old edge new
+
+-- what adding edges one after another leaves
+abbrev pub AreAdded : Edges → List Edge → Edges → Type 0
+AreAdded old [] new = new ≡ old
+AreAdded old (edge ∷ rest) new = (now : Edges) × IsAdded old edge now × AreAdded now rest new
 
 -- the edge is of this hart, to one of the machine's, and its step is not before the start
 pub record IsOfHart (start : List ℕ) (hart : ℕ) (e : Edge) : Type 0 where

@@ -1,6 +1,7 @@
 -- The edges of one hart, in their order.
-use Rattle.std.specs.Prelude.{ℕ, ◌≡◌, ◌<◌, ◌≤◌, List, ◌∷◌, ◌++◌, length, slice_index, All, AllPairs, Contains}
+use Rattle.std.specs.Prelude.{ℕ, ◌≡◌, ◌<◌, ◌≤◌, ◌⊎◌, List, [], ◌∷◌, ◌++◌, length, slice_index, All, AllPairs, Contains}
 use Rattle.std.specs.List.{HoldsAt}
+use Rattle.ft_types.specs.Counts.{count_at}
 use Rattle.edge_log.specs.declared.Edge.{Edge}
 
 -- a's step is no later than b's, and at the same step a's other hart is lower
@@ -42,6 +43,20 @@ pub record AsksAsMuch (by edge : Edge) : Type 0 where
 -- one of the edges asks for as much
 abbrev pub SaysAsMuch : List Edge → Edge → Type 0
 SaysAsMuch edges edge = (by : Edge) × Contains edges by × AsksAsMuch by edge
+
+-- the start says as much, or one of the edges
+abbrev pub IsSaid : List ℕ → List Edge → Edge → Type 0
+IsSaid start edges edge = (edge.after ≤ count_at start edge.other) ⊎ SaysAsMuch edges edge
+
+-- what adding an edge to those of its hart leaves: the same where it is said already, else it is put in its place
+pub data Takes (start : List ℕ) (old : List Edge) (edge : Edge) (new : List Edge) : Type 0 where
+  Said : IsSaid start old edge → new ≡ old → Takes start old edge new
+  Put : (IsSaid start old edge → ⊥) → IsPut old edge new → Takes start old edge new
+
+-- what adding edges one after another leaves
+abbrev pub TakesAll : List ℕ → List Edge → List Edge → List Edge → Type 0
+TakesAll start old [] new = new ≡ old
+TakesAll start old (edge ∷ rest) new = (now : List Edge) × Takes start old edge now × TakesAll start now rest new
 
 -- a row, with the greatest count that its edges ask of each hart, 0 where there is none
 pub record EdgesOfOne : Type 0 where

@@ -1,11 +1,11 @@
 //! The edges that a log keeps.
 
-ghost use Rattle.std.specs.Prelude.{◌≡◌, ℕ, ◌+◌, ◌<◌, ◌≤◌, ◌==◌, ◌↔◌, ◌≢◌, All, Any, AllPairs, List, [], ◌∷◌, ◌++◌, Ok, length, filter, IsTrue, IfOk, IfSome, IfNone};
+ghost use Rattle.std.specs.Prelude.{◌≡◌, ℕ, ◌+◌, ◌<◌, ◌≤◌, ◌==◌, ◌↔◌, ◌≢◌, All, Any, AllPairs, Contains, List, [], ◌∷◌, ◌++◌, Ok, length, map, filter, IsTrue, OnOk, OnErr, IfOk, IfSome, IfNone};
 ghost use Rattle.ft_types.specs.Counts.{count_at};
 ghost use Rattle.interleaving.specs.Log.{Edge as edge_of_theory};
 ghost use Rattle.interleaving.specs.Cuts.{IsImplied, IsEnough, IsSameOrder};
 ghost use Rattle.edge_log.specs.Rows.{ComesBefore, IsPut};
-ghost use Rattle.edge_log.specs.EdgeLog.{row_of, edge_as, edges_of, start_of, MayAdd, IsOfHart, IsLog};
+ghost use Rattle.edge_log.specs.EdgeLog.{row_of, edge_as, edges_of, start_of, MayAdd, AreAdded, IsOfHart, IsLog};
 
 use crate::row::Row;
 use crate::{Added, Edge};
@@ -144,5 +144,25 @@ impl EdgeLog {
         }
         let row = &mut self.rows[edge.hart.index()];
         row.add(edge)
+    }
+
+    /// Adds edges of one hart, in their order, or none of them.
+    pub fn add_all(&mut self, hart: Hart, edges: &[Edge]) -> Result<(), Memory>
+        requires own { All (λ e. e.hart ≡ hart) edges.now }
+        requires each { All (λ e. MayAdd self.old e) edges.now }
+        requires rising { AllPairs (λ a b. a.at ≤ b.at) edges.now }
+        ensures start { self.new.start ≡ self.old.start }
+        ensures err { OnErr result (self.new ≡ self.old) }
+        // What adding them one after another leaves.
+        ensures added { OnOk result (AreAdded self.old edges.now self.new) }
+        ensures others_kept { (other : ℕ) → other ≢ hart → row_of self.new other ≡ row_of self.old other }
+        ensures among { OnOk result ((e : edge_of_theory) → Contains (edges_of self.new) e → Contains (edges_of self.old ++ map edge_as edges.now) e) }
+        // What is kept says all that was added: the same order, closed cuts and schedules.
+        ensures enough { OnOk result ((all : List edge_of_theory) → IsEnough (edges_of self.old) all (start_of self.old) → IsEnough (edges_of self.new) (all ++ map edge_as edges.now) (start_of self.new)) }
+        ensures same_order { OnOk result ((all : List edge_of_theory) → IsEnough (edges_of self.old) all (start_of self.old) → IsSameOrder (edges_of self.new) (all ++ map edge_as edges.now) (start_of self.new)) }
+    {
+        let start = self.start;
+        let row = &mut self.rows[hart.index()];
+        row.add_all(&start, edges)
     }
 }

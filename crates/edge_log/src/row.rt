@@ -1,12 +1,12 @@
 //! The edges of one hart.
 
-ghost use Rattle.std.specs.Prelude.{◌≡◌, ℕ, ◌<◌, ◌≤◌, ◌==◌, ◌↔◌, All, Any, AllPairs, Ok, [], replicate, length, filter, IsTrue, OnOk, OnErr, IfOk, IfSome, IfNone};
+ghost use Rattle.std.specs.Prelude.{◌≡◌, ℕ, ◌+◌, ◌<◌, ◌≤◌, ◌==◌, ◌↔◌, All, Any, AllPairs, Ok, [], replicate, length, filter, slice_index, vec_len, vec_capacity, IsTrue, OnOk, OnErr, IfOk, IfSome, IfNone};
 ghost use Rattle.std.specs.List.{AllWithin};
 ghost use Rattle.std.specs.List.Sorted.{IsNonDecreasingBy};
-ghost use Rattle.edge_log.specs.Rows.{ComesBefore, IsPut, SaysAsMuch, CannotComeBefore, TwinStands};
+ghost use Rattle.edge_log.specs.Rows.{ComesBefore, IsPut, SaysAsMuch, CannotComeBefore, TwinStands, IsRow, Takes, TakesAll};
 
 use crate::{Added, Edge};
-use ft_types::{Count, Memory};
+use ft_types::{Count, Counts, Memory};
 use std::alloc::Global;
 use std::marker::Model;
 use std::option::Option;
@@ -64,19 +64,75 @@ fn has_twin(edges: &[Edge], place: usize, edge: &Edge) -> bool
 }
 
 /// Puts the edge in its place, where an edge to the same hart at the same step makes way.
-fn put(edges: &mut Vec<Edge>, edge: Edge) -> Result<(), Memory>
+fn put(edges: &mut Vec<Edge>, edge: Edge)
     requires rising { AllPairs ComesBefore edges.old.items }
     requires last { All (λ e. e.at ≤ edge.at) edges.old.items }
-    ensures ok { OnOk result (IsPut edges.old.items edge edges.new.items) }
-    ensures err { OnErr result (edges.new.items ≡ edges.old.items) }
+    requires room { vec_len edges.old < vec_capacity edges.old }
+    ensures put { IsPut edges.old.items edge edges.new.items }
+    ensures one_more { vec_len edges.new ≤ vec_len edges.old + 1 }
+    ensures capacity { vec_capacity edges.old ≤ vec_capacity edges.new }
 {
     let place = place_of(edges, &edge);
     if has_twin(edges, place, &edge) {
         edges[place] = edge;
-        return Ok(());
+        return;
     }
-    edges.insert(place, edge)?;
-    Ok(())
+    edges.insert(place, edge).unwrap();
+}
+
+/// Whether an edge to the same hart has asked for as much.
+fn is_reached(reached: &[Count; 8], edge: &Edge) -> bool
+    ensures { IsTrue result ↔ edge.now.after ≤ slice_index reached.now edge.now.other }
+{
+    edge.after <= reached[edge.other.index()]
+}
+
+/// Puts an edge that none of them implies in its place, where there is room for one more.
+fn put_new(edges: &mut Vec<Edge>, reached: &mut [Count; 8], edge: Edge)
+    requires row { IsRow edges.old.items reached.old }
+    requires last { All (λ e. e.at ≤ edge.at) edges.old.items }
+    requires more { slice_index reached.old edge.other < edge.after }
+    requires room { vec_len edges.old < vec_capacity edges.old }
+    ensures row { IsRow edges.new.items reached.new }
+    ensures put { IsPut edges.old.items edge edges.new.items }
+    ensures one_more { vec_len edges.new ≤ vec_len edges.old + 1 }
+    ensures capacity { vec_capacity edges.old ≤ vec_capacity edges.new }
+{
+    let to = edge.other.index();
+    let after = edge.after;
+    put(edges, edge);
+    reached[to] = after;
+}
+
+/// Adds an edge, where there is room for one more, unless the start or one of them implies it.
+fn add_one(edges: &mut Vec<Edge>, reached: &mut [Count; 8], start: &Counts, edge: Edge)
+    requires row { IsRow edges.old.items reached.old }
+    requires other { edge.other < length start.now }
+    requires last { All (λ e. e.at ≤ edge.at) edges.old.items }
+    requires room { vec_len edges.old < vec_capacity edges.old }
+    ensures row { IsRow edges.new.items reached.new }
+    ensures takes { Takes start.now edges.old.items edge edges.new.items }
+    ensures one_more { vec_len edges.new ≤ vec_len edges.old + 1 }
+    ensures capacity { vec_capacity edges.old ≤ vec_capacity edges.new }
+{
+    if edge.after > start.get(edge.other) && !is_reached(reached, &edge) {
+        put_new(edges, reached, edge);
+    }
+}
+
+/// Adds edges in their order, where there is room for all, but those that the start or one of them implies.
+fn add_each(edges: &mut Vec<Edge>, reached: &mut [Count; 8], start: &Counts, more: &[Edge])
+    requires row { IsRow edges.old.items reached.old }
+    requires others { All (λ e. e.other < length start.now) more.now }
+    requires last { All (λ e. All (λ x. x.at ≤ e.at) edges.old.items) more.now }
+    requires rising { AllPairs (λ a b. a.at ≤ b.at) more.now }
+    requires room { vec_len edges.old + length more.now ≤ vec_capacity edges.old }
+    ensures row { IsRow edges.new.items reached.new }
+    ensures takes { TakesAll start.now edges.old.items more.now edges.new.items }
+{
+    for edge in more {
+        add_one(edges, reached, start, *edge);
+    }
 }
 
 /// Where the edges of this count and later ones begin.
@@ -172,14 +228,24 @@ impl Row {
         ensures put { result ≡ Ok Added.New → IsPut self.old.edges edge self.new.edges }
         ensures kept { (result ≡ Ok Added.New → ⊥) → self.new.edges ≡ self.old.edges }
     {
-        let to = edge.other.index();
-        if edge.after <= self.reached[to] {
+        if is_reached(&self.reached, &edge) {
             return Ok(Added::Implied);
         }
-        let mut reached = self.reached;
-        reached[to] = edge.after;
-        put(&mut self.edges, edge)?;
-        self.reached = reached;
+        self.edges.reserve(1)?;
+        put_new(&mut self.edges, &mut self.reached, edge);
         Ok(Added::New)
+    }
+
+    /// Adds edges, no earlier than the others, in their order, but those that the start or another implies, or none of them.
+    pub(crate) fn add_all(&mut self, start: &Counts, edges: &[Edge]) -> Result<(), Memory>
+        requires others { All (λ e. e.other < length start.now) edges.now }
+        requires last { All (λ e. All (λ x. x.at ≤ e.at) self.old.edges) edges.now }
+        requires rising { AllPairs (λ a b. a.at ≤ b.at) edges.now }
+        ensures takes { OnOk result (TakesAll start.now self.old.edges edges.now self.new.edges) }
+        ensures err { OnErr result (self.new.edges ≡ self.old.edges) }
+    {
+        self.edges.reserve(edges.len())?;
+        add_each(&mut self.edges, &mut self.reached, start, edges);
+        Ok(())
     }
 }
