@@ -8,6 +8,8 @@ pub mod Laid
 pub mod OneHart
 pub mod Ours
 pub mod Places
+pub mod Recorded
+pub mod Played
 pub mod Runs
 pub mod Shown
 pub mod Slots

@@ -2,6 +2,8 @@ pub mod Faults
 pub mod Slots
 pub mod Taken
 pub mod Leases
+pub mod Turns
+pub mod Recorded
 pub mod Runs
 pub mod Books
 pub mod Answers
