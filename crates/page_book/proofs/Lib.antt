@@ -1,4 +1,5 @@
 pub mod Alike
+pub mod Compared
 pub mod Given
 pub mod Halted
 pub mod Journals

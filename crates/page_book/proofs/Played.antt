@@ -1,5 +1,5 @@
 -- What a lease has at present is what its steps made of what it was lent.
-use Rattle.std.proofs.Common.{◌≡◌, ◌≢◌, ◌⊎◌, inl, inr, ℕ, ◌<◌, List, [], length, map, replicate, slice_get, slice_set, slice_index_or, is_some, true, false, Bool, Option, None, Some, option_map, MatchOption, Contains, refl, ap, sym, subst, ◌∙◌, arith}
+use Rattle.std.proofs.Common.{◌≡◌, ◌≢◌, ◌⊎◌, inl, inr, ℕ, ◌<◌, List, [], ◌++◌, length, map, replicate, slice_get, slice_set, slice_index_or, is_some, true, false, Bool, Option, None, Some, option_map, MatchOption, Contains, refl, ap, sym, subst, ◌∙◌, arith}
 use Rattle.std.proofs.lemmas.List.{get_or-set_same, get_or-set_other}
 use Rattle.std.proofs.lemmas.Option.{slice_get-get_or}
 use Rattle.ft_types.specs.declared.names.Want.{Want}
@@ -111,14 +111,14 @@ fresh_played hart state pages stop =
 abbrev lender : Lease → ℕ → List ℕ → ledger.Ledger (Option Hart) (Option (List ℕ)) (List Input)
 lender x page here = record (begin (record { harts = λ hart. x.state; pages = put x.pages page (Some here) })) { stubs = λ hart. Some x.stub }
 
+lender_has : (x : Lease) (page : ℕ) (here : List ℕ) → (lender x page here).machine.pages page ≡ Some here
+lender_has x page here = put_same x.pages page page (Some here) refl
+
 -- the lease of the theory, with one more page
 module _ (n : ℕ) (x : Lease) (now : Hart) (shown : ℕ → List ℕ) (old : LeadsTo n x now shown) (page : ℕ) (want : Want) (here : List ℕ)
     (kept : is_some (x.stub.read_at page) ≡ true → (x.pages page ≡ Some here) × (shown page ≡ here)) where
   abbrev pub given : Lease
   given = lease_needed (system n) (lender x page here) x page want (Given [])
-
-  comes : (lender x page here).machine.pages page ≡ Some here
-  comes = put_same x.pages page page (Some here) refl
 
   ours : IsOurs (lender x page here) x
   ours =
@@ -140,7 +140,7 @@ module _ (n : ℕ) (x : Lease) (now : Hart) (shown : ℕ → List ℕ) (old : Le
 
   here_now : (b : Bool) → is_some (x.stub.read_at page) ≡ b → (stepped (system n) given).pages page ≡ Some here
   here_now true takes = more.pages page takes ∙ (old.pages_are page takes ∙ ap (λ bytes. Some bytes) (kept takes).1)
-  here_now false not = more.new not ∙ comes
+  here_now false not = more.new not ∙ lender_has x page here
 
   -- a page other than the one that came
   taken_before : (q : ℕ) → page ≢ q → is_some (given.stub.read_at q) ≡ true → is_some (x.stub.read_at q) ≡ true
@@ -162,7 +162,7 @@ module _ (n : ℕ) (x : Lease) (now : Hart) (shown : ℕ → List ℕ) (old : Le
         based =
             λ q takes.
             elim (same_or_not page q) [
-              | inl same ↦ (here, put_same x.pages page q ((lender x page here).machine.pages page) same ∙ comes)
+              | inl same ↦ (here, put_same x.pages page q ((lender x page here).machine.pages page) same ∙ lender_has x page here)
               | inr ne ↦
                   let (bytes, is) = old.based q (taken_before q ne takes) in
                   (bytes, put_other x.pages page q ((lender x page here).machine.pages page) ne ∙ is)
@@ -185,33 +185,34 @@ pub record IsGiven (l : LeaseView) (page : ℕ) (here : List ℕ) (slots : List 
 
 module _ (l : LeaseView) (p : IsPlayed l) (page : ℕ) (want : Want) (here : List ℕ) (slots : List Slot) (bases : List (Option (List ℕ)))
     (g : IsGiven l page here slots bases) where
-  old : LeadsTo (length slots) (as_lease l []) l.present (shown_at l.slots)
-  old = played_with l p (length slots) (sym g.many) []
+  -- so does the theory, with the page of any ledger that has it
+  module _ (n : ℕ) (many : length l.slots ≡ n) (b : ledger.Ledger (Option Hart) (Option (List ℕ)) (List Input))
+      (comes : b.machine.pages page ≡ Some here) (edges more : List Edge) where
+    abbrev next : Lease
+    next = lease_needed (system n) b (as_lease l edges) page want (Given more)
 
-  abbrev next : Lease
-  next = given (length slots) (as_lease l []) l.present (shown_at l.slots) old page want here g.kept
+    bases_are : (q : ℕ) → (page ≡ q) ⊎ (page ≢ q) → next.pages q ≡ base_at (with_pages l page want slots bases) q
+    bases_are q (inl same) =
+        put_same (base_at l) page q (b.machine.pages page) same ∙
+        (comes ∙ (sym g.base ∙ ap (base_at (with_pages l page want slots bases)) same))
+    bases_are q (inr ne) = put_other (base_at l) page q (b.machine.pages page) ne ∙ sym (g.bases_kept q ne)
 
-  bases_are : (q : ℕ) → (page ≡ q) ⊎ (page ≢ q) → next.pages q ≡ base_at (with_pages l page want slots bases) q
-  bases_are q (inl same) =
-      put_same (base_at l) page q ((lender (as_lease l []) page here).machine.pages page) same ∙
-      (comes (length slots) (as_lease l []) l.present (shown_at l.slots) old page want here g.kept ∙
-      (sym g.base ∙ ap (base_at (with_pages l page want slots bases)) same))
-  bases_are q (inr ne) = put_other (base_at l) page q ((lender (as_lease l []) page here).machine.pages page) ne ∙ sym (g.bases_kept q ne)
+    stub_is : next.stub ≡ stub_of (with_pages l page want slots bases).taken (edges ++ more)
+    stub_is =
+        ap (λ k. ledger.taking (stub_of l.taken edges) page want k more) (present_played l p n many edges) ∙
+        sym (stub_taking l.taken page g.row l.present.count want edges more)
 
-  stub_is : next.stub ≡ stub_of (with_pages l page want slots bases).taken []
-  stub_is =
-      ap (λ k. ledger.taking (stub_of l.taken []) page want k []) (present_played l p (length slots) (sym g.many) []) ∙
-      sym (stub_taking l.taken page g.row l.present.count want [] [])
-
-  next_is : next ≡ as_lease (with_pages l page want slots bases) []
-  next_is =
-      λ i.
-      record { hart = l.hart; state = Some l.base; pages = λ q. bases_are q (same_or_not page q) i; stub = stub_is i; turns = turns_in_a_row l.hart l.steps }
+    pub given_needed : next ≡ as_lease (with_pages l page want slots bases) (edges ++ more)
+    given_needed =
+        λ i.
+        record { hart = l.hart; state = Some l.base; pages = λ q. bases_are q (same_or_not page q) i; stub = stub_is i; turns = turns_in_a_row l.hart l.steps }
 
   pub given_played : IsPlayed (with_pages l page want slots bases)
   given_played =
+      let old = played_with l p (length slots) (sym g.many) [] in
       played (with_pages l page want slots bases)
-      (subst (λ x. LeadsTo (length slots) x l.present (shown_at slots)) next_is
+      (subst (λ x. LeadsTo (length slots) x l.present (shown_at slots))
+      (given_needed (length slots) (sym g.many) (lender (as_lease l []) page here) (lender_has (as_lease l []) page here) [] [])
       (given_leads (length slots) (as_lease l []) l.present (shown_at l.slots) old page want here g.kept (shown_at slots) g.bytes
       (λ q ne. ap present_bytes (g.slots_kept q ne))))
 

@@ -84,3 +84,16 @@ writable_taken Missing o e w = cc
 writable_taken (Readable x) o e w = cc
 writable_taken (Writable x) None e w = cc
 writable_taken (Writable x) (Some t) e w = written_some t.write_at e
+
+-- a right that is held is taken no second time
+pub kept_to_read : (x : Option Taken) (held : Want) (n : ℕ) → right_of_taken x ≡ Some held → Some (taking x Read n) ≡ x
+kept_to_read None held n e = cc
+kept_to_read (Some x) held n e = refl
+
+pub kept_to_write : (x : Option Taken) (n : ℕ) → right_of_taken x ≡ Some Write → Some (taking x Write n) ≡ x
+kept_to_write None n e = cc
+kept_to_write (Some x) n e = ap (λ (w : Option ℕ). let t : Taken = record { read_at = x.read_at; write_at = w } in Some t) (of x.write_at e)
+  where
+    of : (w : Option ℕ) → Some (right_written w) ≡ Some Write → Some (unwrap_or w n) ≡ w
+    of None e = cc
+    of (Some k) e = refl
