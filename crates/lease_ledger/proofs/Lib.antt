@@ -9,7 +9,7 @@ mod Alike
 mod Settling
 mod Dropping
 mod Reached
-mod GoesOn
+pub mod GoesOn
 mod Played
 pub mod Laws
 mod AtWork

@@ -1,5 +1,5 @@
 -- Leases that begin, and that get a page.
-use Rattle.std.proofs.Common.{◌≡◌, ℕ, zero, suc, ◌<◌, inl, inr, List, [], ◌∷◌, length, replicate, slice_get, slice_set, slice_index_or, false, Option, None, Some, refl, ap, sym, ◌∙◌, arith, length-set, ◌^◌}
+use Rattle.std.proofs.Common.{◌≡◌, ℕ, zero, suc, ◌<◌, inl, inr, List, [], ◌∷◌, length, replicate, slice_get, slice_set, slice_index_or, true, false, Option, None, Some, refl, ap, sym, ◌∙◌, arith, length-set, ◌^◌}
 use Rattle.std.proofs.lemmas.List.{length-replicate, get_or-set_same, get_or-set_other}
 use Rattle.rv32_hart.specs.Hart.{Hart}
 use Rattle.guest_image.specs.Machine.{MachineState}
@@ -10,9 +10,11 @@ use Rattle.std.proofs.lemmas.Bool.{cases_eq}
 use Rattle.page_book.specs.declared.taken.Taken.{Taken}
 use Rattle.page_book.specs.Taken.{taken_at, right_of_taken, taking}
 use Rattle.page_book.proofs.Slots.{index-replicate, none-replicate}
-use Rattle.page_book.specs.Slots.{slot_at, want_of, base_of, is_writable}
+use Rattle.page_book.specs.Slots.{slot_at, want_of, base_of, present_bytes, is_readable, is_writable}
 use Rattle.page_book.specs.Leases.{LeaseView, base_at, fresh, laid_pages, page_after, with_page_to_read, with_page_to_write}
 use Rattle.page_book.specs.Runs.{StandsIn, IsRunOf, IsLease}
+use Rattle.page_book.proofs.Recorded.{taken_readable}
+use Rattle.page_book.proofs.Played.{IsGiven, fresh_played, given_played}
 
 set-get_same : {A : Type 0} (xs : List A) (i : ℕ) (x : A) → slice_get xs i ≡ Some x → slice_set xs i x ≡ xs
 set-get_same [] i x e = refl
@@ -113,6 +115,7 @@ fresh_kept hart state pages stop lt = record {
   count = omega arith;
   runs = fresh_runs hart state pages stop;
   within = inl refl;
+  played = fresh_played hart state pages stop;
 }
 
 none_taken : (x : Option Taken) (n : ℕ) → right_of_taken x ≡ None → right_of_taken (Some (taking x Read n)) ≡ Some Read
@@ -131,6 +134,46 @@ rights_set slots taken page new x lt row same rights q =
           ap want_of (get_or-set_other slots page q new Missing (λ e. ne (sym e))) ∙ (rights q ∙ sym (ap right_of_taken (get_or-set_other taken page q x None (λ e. ne (sym e)))))
     ]
 
+-- a page that the lease lacks was not taken
+pub read_given : (l : LeaseView) (page : ℕ) (here : List ℕ) → page < length l.slots → page < length l.taken → slot_at l.slots page ≡ Missing → IsLease l →
+    IsGiven l page here (slice_set l.slots page (Readable here)) l.bases
+read_given l page here lt row missing p = record {
+  row = row;
+  many = length-set l.slots page (Readable here);
+  base = ap (λ (s : Slot). base_of s (slice_index_or l.bases page None)) (get_or-set_same l.slots page (Readable here) Missing lt);
+  bytes = ap present_bytes (get_or-set_same l.slots page (Readable here) Missing lt);
+  bases_kept = λ q ne. ap (λ (s : Slot). base_of s (slice_index_or l.bases q None)) (get_or-set_other l.slots page q (Readable here) Missing (λ e. ne (sym e)));
+  slots_kept = λ q ne. get_or-set_other l.slots page q (Readable here) Missing (λ e. ne (sym e));
+  kept = λ takes.
+      let h : false ≡ true = sym (ap is_readable missing) ∙ taken_readable (slot_at l.slots page) (taken_at l.taken page) (p.rights page) takes in cc;
+}
+
+-- what a page to read was lent as is what it is
+lent_as : (s : Slot) (kept : Option (List ℕ)) (base : List ℕ) → is_readable s ≡ true → is_writable s ≡ false →
+    ((bytes : List ℕ) → base_of s kept ≡ Some bytes → bytes ≡ base) → (base_of s kept ≡ Some base) × (present_bytes s ≡ base)
+lent_as Missing kept base r w lent = cc
+lent_as (Readable x) kept base r w lent = (ap (λ bytes. Some bytes) (lent x refl), lent x refl)
+lent_as (Writable x) kept base r w lent = cc
+
+pub write_given : (l : LeaseView) (page : ℕ) (base : List ℕ) → page < length l.slots → page < length l.taken → is_writable (slot_at l.slots page) ≡ false →
+    ((bytes : List ℕ) → base_at l page ≡ Some bytes → bytes ≡ base) → IsLease l →
+    IsGiven l page base (slice_set l.slots page (Writable base)) (slice_set l.bases page (Some base))
+write_given l page base lt row unwritten lent p = record {
+  row = row;
+  many = length-set l.slots page (Writable base);
+  base =
+      ap (λ (s : Slot). base_of s (slice_index_or (slice_set l.bases page (Some base)) page None)) (get_or-set_same l.slots page (Writable base) Missing lt) ∙
+      get_or-set_same l.bases page (Some base) None (omega (arith, lt, p.as_many));
+  bytes = ap present_bytes (get_or-set_same l.slots page (Writable base) Missing lt);
+  bases_kept = λ q ne.
+      ap (λ (s : Slot). base_of s (slice_index_or (slice_set l.bases page (Some base)) q None)) (get_or-set_other l.slots page q (Writable base) Missing (λ e. ne (sym e))) ∙
+      ap (base_of (slot_at l.slots q)) (get_or-set_other l.bases page q (Some base) None (λ e. ne (sym e)));
+  slots_kept = λ q ne. get_or-set_other l.slots page q (Writable base) Missing (λ e. ne (sym e));
+  kept = λ takes.
+      lent_as (slot_at l.slots page) (slice_index_or l.bases page None) base
+      (taken_readable (slot_at l.slots page) (taken_at l.taken page) (p.rights page) takes) unwritten lent;
+}
+
 pub read_kept : (l : LeaseView) (page : ℕ) (here : List ℕ) → page < length l.slots → page < length l.taken → slot_at l.slots page ≡ Missing → IsLease l →
     IsLease (with_page_to_read l page here)
 read_kept l page here lt row missing p = record {
@@ -144,6 +187,7 @@ read_kept l page here lt row missing p = record {
   count = p.count;
   runs = read_runs l page here missing p.runs;
   within = p.within;
+  played = given_played l p.played page Read here (slice_set l.slots page (Readable here)) l.bases (read_given l page here lt row missing p);
 }
 
 pub write_kept : (l : LeaseView) (page : ℕ) (base : List ℕ) → page < length l.slots → page < length l.taken → is_writable (slot_at l.slots page) ≡ false →
@@ -157,4 +201,7 @@ write_kept l page base lt row unwritten lent p = record {
   count = p.count;
   runs = write_runs l page base lt p.as_many unwritten lent p.runs;
   within = p.within;
+  played =
+      given_played l p.played page Write base (slice_set l.slots page (Writable base)) (slice_set l.bases page (Some base))
+      (write_given l page base lt row unwritten lent p);
 }

@@ -1,4 +1,5 @@
 pub mod Alike
+pub mod Compared
 pub mod Given
 pub mod Halted
 pub mod Journals
@@ -9,6 +10,8 @@ pub mod OneHart
 pub mod Ours
 pub mod Noted
 pub mod Places
+pub mod Recorded
+pub mod Played
 pub mod Runs
 pub mod Shown
 pub mod Slots

@@ -1,5 +1,5 @@
 -- Leases that a book has just lent, and that it has just given a page.
-use Rattle.std.proofs.Common.{◌≡◌, ℕ, ◌<◌, inl, inr, List, ◌++◌, length, replicate, slice_get, slice_set, slice_index_or, Option, None, Some, refl, ap, sym, ◌∙◌, arith, length-set, subst, unwrap_or}
+use Rattle.std.proofs.Common.{◌≡◌, ℕ, ◌<◌, inl, inr, List, ◌++◌, length, replicate, slice_get, slice_set, slice_index_or, Option, None, Some, refl, ap, sym, ◌∙◌, arith, length-set, subst}
 use Rattle.std.proofs.lemmas.Bool.{cases_eq}
 use Rattle.std.proofs.lemmas.List.{length-replicate, get_or-set_same, get_or-set_other, set-get_or}
 use Rattle.ft_types.specs.declared.names.Want.{Want}
@@ -15,9 +15,10 @@ use Rattle.page_book.specs.declared.asked.Asked.{Asked}
 use Rattle.page_book.specs.OpenLeases.{OpenView, open_at, nothing_taken, given_more}
 use Rattle.page_book.specs.Books.{BookView, IsOurs, IsLentBy, IsOpen}
 use Rattle.page_book.specs.declared.taken.Taken.{Taken}
-use Rattle.page_book.specs.Taken.{taken_at, right_written, right_of_taken, taking}
+use Rattle.page_book.specs.Taken.{taken_at, right_of_taken, taking}
 use Rattle.page_book.specs.Runs.{IsLease}
 use Rattle.page_book.proofs.Slots.{index-replicate}
+use Rattle.page_book.proofs.Recorded.{kept_to_read, kept_to_write}
 
 -- a fresh lease has nothing of any page
 pub fresh_lent : (m : MachineState) (hart : ℕ) (h : Hart) (stop : ℕ) → slice_get m.harts hart ≡ Some h →
@@ -85,19 +86,6 @@ module _ (m : MachineState) (taken : List (Option Taken)) (l : LeaseView) (page 
               (sym (ap (λ (s : Slot). base_of s (slice_index_or (slice_set l.bases page (Some here)) other None)) (get_or-set_other l.slots page other (Writable here) Missing (λ e. ne (sym e)))) ∙ e))
         ];
   }
-
--- a right that is held is taken no second time
-kept_to_read : (x : Option Taken) (held : Want) (n : ℕ) → right_of_taken x ≡ Some held → Some (taking x Read n) ≡ x
-kept_to_read None held n e = cc
-kept_to_read (Some x) held n e = refl
-
-kept_to_write : (x : Option Taken) (n : ℕ) → right_of_taken x ≡ Some Write → Some (taking x Write n) ≡ x
-kept_to_write None n e = cc
-kept_to_write (Some x) n e = ap (λ (w : Option ℕ). let t : Taken = record { read_at = x.read_at; write_at = w } in Some t) (of x.write_at e)
-  where
-    of : (w : Option ℕ) → Some (right_written w) ≡ Some Write → Some (unwrap_or w n) ≡ w
-    of None e = cc
-    of (Some k) e = refl
 
 -- edges are not what is lent
 with_edges : (m : MachineState) (taken : List (Option Taken)) (l : LeaseView) (edges : List Edge) → IsLent m taken l → IsLent m taken (record l { edges = edges })

@@ -26,18 +26,25 @@ get-set_same [] i v lt = absurd (omega arith)
 get-set_same (x ∷ xs) zero v lt = refl
 get-set_same (x ∷ xs) (suc i) v lt = get-set_same xs i v (omega arith)
 
+-- the slots, with the bytes that a step wrote
+abbrev pub slots_written : List Slot → Option (Write (List ℕ)) → List Slot
+slots_written slots None = slots
+slots_written slots (Some w) = slice_set slots w.page (Writable w.contents)
+
 -- what a step leaves of the slots: the same, or one with the bytes that it wrote
-record Leaves (slots after : List Slot) (pages : List (List ℕ)) (write : Option (Write (List ℕ))) : Type 0 where
-  laid_after : written_in (laid_pages pages slots) write ≡ laid_pages pages after
-  bases_after : (page : ℕ) (kept : Option (List ℕ)) → base_of (slot_at after page) kept ≡ base_of (slot_at slots page) kept
-  rights_after : (page : ℕ) → want_of (slot_at after page) ≡ want_of (slot_at slots page)
-  length_after : length after ≡ length slots
+pub record Leaves (slots after : List Slot) (pages : List (List ℕ)) (write : Option (Write (List ℕ))) : Type 0 where
+  pub slots_after : after ≡ slots_written slots write
+  pub laid_after : written_in (laid_pages pages slots) write ≡ laid_pages pages after
+  pub bases_after : (page : ℕ) (kept : Option (List ℕ)) → base_of (slot_at after page) kept ≡ base_of (slot_at slots page) kept
+  pub rights_after : (page : ℕ) → want_of (slot_at after page) ≡ want_of (slot_at slots page)
+  pub length_after : length after ≡ length slots
 
 leaves : (slots after : List Slot) (pages : List (List ℕ)) (write : Option (Write (List ℕ))) →
     ram_of after ≡ ram_after (ram_of slots) write → ((w : Write (List ℕ)) → write ≡ Some w → IsWritable slots w.page) → Leaves slots after pages write
 leaves slots after pages None e right =
     let same : after ≡ slots = ram_tells after slots e in
     record {
+      slots_after = same;
       laid_after = ap (laid_pages pages) (sym same);
       bases_after = λ page kept. ap (λ (s : List Slot). base_of (slot_at s page) kept) same;
       rights_after = λ page. ap (λ (s : List Slot). want_of (slot_at s page)) same;
@@ -49,6 +56,7 @@ leaves slots after pages (Some w) e right =
     ram_tells after (slice_set slots w.page (Writable w.contents)) (e ∙ sym (ram_written slots w.page may.old w.contents may.is)) in
     let within : w.page < length slots = readable_within slots w.page (ap is_readable may.is) in
     record {
+      slots_after = same;
       laid_after = laid_pages-set pages slots w.page w.contents within ∙ ap (laid_pages pages) (sym same);
       bases_after = λ page kept.
           ap (λ (s : List Slot). base_of (slot_at s page) kept) same ∙ base-set slots w.page may.old w.contents may.is page kept;
@@ -74,7 +82,7 @@ module _ (l : LeaseView) (after : Hart) (slots : List Slot) (taken : IsTaken [] 
   abbrev what : Effect Hart (List ℕ)
   what = effect n l.present [] seen
 
-  left : (pages : List (List ℕ)) → Leaves l.slots slots pages what.write
+  pub left : (pages : List (List ℕ)) → Leaves l.slots slots pages what.write
   left pages =
       leaves l.slots slots pages what.write taken.pages
       (λ w e. right_writable l.slots w.page (write_right (ram_of l.slots) (next_step n (received_all [] l.present)) seen w taken.granted e))

@@ -12,6 +12,7 @@ use Rattle.page_book.specs.Slots.{ram_of, present_bytes}
 use Rattle.page_book.specs.Leases.{LeaseView, stepped, IsFull}
 use Rattle.page_book.specs.Runs.{IsLease}
 use Rattle.page_book.proofs.Ticked.{ticked, rights_stay}
+use Rattle.page_book.proofs.Played.{ticked_played}
 use Rattle.page_book.proofs.Slots.{length-map}
 
 pub taken_counted : (h after : Hart) (ram left : Ram) → IsTaken [] h ram after left → Counted h after
@@ -39,6 +40,7 @@ tick_kept l after slots p t lt =
       count = c.count ∙ omega (arith, p.count);
       runs = ticked l after slots t p.runs;
       within = inr (omega (arith, c.count, lt));
+      played = ticked_played l p.played p.rights after slots t;
     }
 
 -- a lease that is not full is below its stop

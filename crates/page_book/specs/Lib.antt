@@ -4,6 +4,8 @@ pub mod Taken
 pub mod OpenLeases
 pub mod Leases
 pub mod Asks
+pub mod Turns
+pub mod Recorded
 pub mod Runs
 pub mod Books
 pub mod Modes

@@ -12,14 +12,8 @@ use Rattle.page_book.specs.declared.stretch.Stretch.{Stretch}
 use Rattle.page_book.specs.Slots.{slot_at, want_of}
 use Rattle.page_book.specs.Taken.{taken_at, right_of_taken}
 use Rattle.page_book.specs.Leases.{LeaseView, base_at, laid}
-
--- a step of a hart, without inputs
-abbrev pub turn_of : ℕ → Turn (List Input)
-turn_of hart = record { hart = hart; input = [] }
-
--- so many steps of a hart in a row
-abbrev pub turns_in_a_row : ℕ → ℕ → List (Turn (List Input))
-turns_in_a_row hart steps = replicate steps (turn_of hart)
+use Rattle.page_book.specs.Recorded.{IsPlayed}
+pub use Rattle.page_book.specs.Turns.{turn_of, turns_in_a_row}
 
 -- the steps of a journal
 abbrev pub journal_turns : List Stretch → List (Turn (List Input))
@@ -41,7 +35,7 @@ abbrev pub IsRunOf : LeaseView → Type 0
 IsRunOf l = (m : MachineState) → StandsIn m l → run_of m (turns_in_a_row l.hart l.steps) ≡ Some (laid m l)
 
 -- what every lease keeps: its steps are those of its hart, one after the other, on every machine that its hart and pages
--- stand in
+-- stand in, and each uses only pages that it had taken by then
 pub record IsLease (l : LeaseView) : Type 0 where
   pub stop : l.stop < 2 ^ 48
   pub as_many : length l.bases ≡ length l.slots
@@ -51,6 +45,7 @@ pub record IsLease (l : LeaseView) : Type 0 where
   pub count : l.present.count ≡ l.base.count + l.steps
   pub runs : IsRunOf l
   pub within : (l.steps ≡ 0) ⊎ (l.present.count ≤ l.stop)
+  pub played : IsPlayed l
 
 -- the journal leads from the start to the machine
 abbrev pub LeadsTo : MachineState → List Stretch → MachineState → Type 0
