@@ -9,5 +9,6 @@ pub mod Recorded
 pub mod Runs
 pub mod Books
 pub mod Modes
+pub mod Recordings
 pub mod Answers
 pub mod Laws

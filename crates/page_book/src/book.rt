@@ -2,7 +2,7 @@
 
 ghost use Rattle.std.specs.Prelude.{◌≡◌, ◌≢◌, ◌<◌, ◌≤◌, ◌^◌, ◌⊎◌, ◌+◌, ◌↔◌, ◌++◌, ◌∷◌, ℕ, List, [], length, replicate, map, slice_set, slice_get, slice_index, slice_index_or, Some, None, Ok, Err, true, false, IfOk, IfErr, OnOk, OnErr, IsTrue};
 ghost use Rattle.std.specs.Vec.{vec_len, vec_capacity};
-ghost use Rattle.ft_types.specs.Counts.{count_at};
+ghost use Rattle.ft_types.specs.Counts.{count_at, greater};
 ghost use Rattle.ft_types.specs.Sets.{IsMember};
 ghost use Rattle.page_book.specs.Slots.{slot_at, want_of};
 ghost use Rattle.page_book.specs.Leases.{LeaseView, fresh, IsFull, base_at, laid, laid_pages, with_slot, with_page};
@@ -12,6 +12,7 @@ ghost use Rattle.page_book.specs.OpenLeases.{OpenView, open_at, nothing_taken, g
 ghost use Rattle.page_book.specs.Books.{BookView, IsOurs, added, IsLentBy, HasTaken, refusal};
 ghost use Rattle.page_book.specs.Asks.{asked_by};
 ghost use Rattle.page_book.specs.Modes.{IsAsking, KeepsLending};
+ghost use Rattle.page_book.specs.Recordings.{RecordingView, IsUnused, HasHonestLog};
 ghost use Rattle.page_book.specs.Answers.{IfHeldBy, OnHeldBy, OnGiven};
 ghost use Rattle.rv32_hart.specs.Hart.{Hart as HartRecord};
 
@@ -19,10 +20,12 @@ use crate::answers::{BookFault, Keep, Need};
 use crate::asked::Asked;
 use crate::lease::Lease;
 use crate::lease_pages::Slot;
-use crate::mode::{Leg, Mode, Replaying, steps_taken};
+use crate::mode::{Leg, Mode, Replaying};
+use crate::recording::Recording;
+use crate::settled::{settled_counts, steps_taken};
 use crate::open_lease::OpenLease;
 use crate::stretch::Stretch;
-use edge_log::Edge;
+use edge_log::{Edge, EdgeLog};
 use ft_types::{ Count, Counts, Hart, HartSet, Memory, PageNo, Want};
 use guest_image::{Machine, Page};
 use std::alloc::Global;
@@ -62,6 +65,42 @@ impl Book<Replaying> {
             leases: no_leases(),
             mode: Replaying::new(leg),
         })
+    }
+}
+
+impl Book<Recording> {
+    /// A book without steps, whose harts do not go past these limits.
+    pub fn begin(alloc: Global, start: Machine, limits: Counts) -> Result<Book<Recording>, Memory>
+        requires { length limits ≡ length start.harts }
+        ensures book { IfOk result (λ b. b ≡ record { start = start; machine = start; journal = []; leases = replicate 8 None; mode = b.mode }) }
+        ensures mode { IfOk result (λ b. IsUnused b.mode start limits) }
+    {
+        let mode = Recording::new(alloc, &start, limits)?;
+        let machine = start.copy()?;
+        Ok(Book {
+            start,
+            machine,
+            journal: Vec::new(alloc),
+            leases: no_leases(),
+            mode,
+        })
+    }
+
+    /// The edges of the settled steps, with those dropped that others or the start imply. They tell truly of the journal:
+    /// with the start's counts and the settled ones they are an honest log of it.
+    pub fn edges(&self) -> &EdgeLog
+        ensures value { result.now ≡ self.now.mode.edges }
+        ensures honest { HasHonestLog result.now self.now.start self.now.journal self.now.machine }
+    {
+        self.mode.edges()
+    }
+
+    /// Each hart may go on to the greater of its limit and this one.
+    pub fn limit_to(&mut self, limits: Counts)
+        requires { length limits ≡ length self.old.mode.limits }
+        ensures { self.new ≡ record self.old { mode = record self.old.mode { limits = greater self.old.mode.limits limits } } }
+    {
+        self.mode.raise(limits);
     }
 }
 
@@ -195,12 +234,7 @@ impl<M: Mode> Book<M> {
         // And none of harts that are not there.
         ensures all { (hart : ℕ) → count_at result hart ≡ counts_of self.now.machine hart }
     {
-        let mut counts = Counts::zero(self.machine.harts());
-        for number in 0..self.machine.harts() {
-            let hart = Hart::new(number);
-            counts.set(hart, self.machine.hart(hart).count());
-        }
-        counts
+        settled_counts(&self.machine)
     }
 
     /// Lends a hart, unless it has an open lease, is halted, is at its limit, or has to wait for another.

@@ -9,6 +9,8 @@ mod lease;
 mod lease_pages;
 mod mode;
 mod open_lease;
+mod recording;
+mod settled;
 mod stretch;
 mod taken;
 
@@ -20,6 +22,7 @@ pub use lease::Lease;
 pub use lease_pages::{LeasePages, Slot};
 pub use mode::{Leg, Mode, Replaying};
 pub use open_lease::OpenLease;
+pub use recording::Recording;
 pub use stretch::Stretch;
 pub use taken::Taken;
 

@@ -19,6 +19,7 @@ ghost use Rattle.page_book.specs.Modes.{Fact, IsAsking, IsGiven, IsSettling, IsE
 use crate::answers::Keep;
 use crate::asked::Asked;
 use crate::open_lease::OpenLease;
+use crate::settled::{count_of, steps_taken};
 use crate::taken::Taken;
 use edge_log::{Edge, EdgeLog};
 use ft_types::{Count, Counts, Hart, HartSet, Memory, PageNo, Want};
@@ -146,17 +147,6 @@ impl Replaying {
     }
 }
 
-/// How many steps the hart has taken: none where the machine has no such hart.
-pub(crate) fn steps_taken(machine: &Machine, hart: Hart) -> Count
-    ensures { result ≡ counts_of machine.now hart }
-{
-    if hart.number() < machine.harts() {
-        machine.hart(hart).count()
-    } else {
-        0
-    }
-}
-
 /// Whether one of the edges waits for steps that the machine has not taken.
 fn is_unmet(edges: &[Edge], machine: &Machine) -> bool
     ensures { IsTrue result ↔ Any (λ e. counts_of machine.now e.other < e.after) edges.now }
@@ -206,11 +196,7 @@ impl Mode for Replaying {
     ghost ends = { λ r hart count taken new. new ≡ r };
 
     fn limit(&self, hart: Hart) -> Count {
-        if hart.number() < self.leg.ends.harts() {
-            self.leg.ends.get(hart)
-        } else {
-            0
-        }
+        count_of(self.leg.ends, hart)
     }
 
     fn is_open(&self, hart: Hart, machine: &Machine) -> bool {
