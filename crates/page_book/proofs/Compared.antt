@@ -16,7 +16,7 @@ use Rattle.rv32_hart.specs.Hart.{Hart}
 use Rattle.rv32_hart.specs.Hardware.{hardware}
 use Rattle.lease_ledger.specs.Ledger as ledger
 use Rattle.lease_ledger.specs.Ledger.{stepped}
-use Rattle.lease_ledger.specs.Calls.{Given}
+use Rattle.lease_ledger.specs.Calls.{Given, Keep, settled}
 use Rattle.lease_ledger.specs.Laws.{lease_needed}
 use Rattle.page_book.specs.declared.lease_pages.Slot.{Slot}
 use Rattle.page_book.specs.declared.lease_pages.Slot.TheVariants.{Missing, Readable, Writable}
@@ -108,6 +108,20 @@ module _ (m : MachineState) (taken : List (Option Taken)) (l : LeaseView) (lease
     pages = λ page. if is_some (read_counts l.taken page) then (played_to edges).pages page else slice_get m.pages page;
   } ≡ view (hardware (length m.pages)) (laid m l)
   laid_is edges = λ i. record { harts = λ g. harts_laid edges g i; pages = λ page. page_laid edges page (is_some (read_counts l.taken page)) refl i }
+
+  -- is what a ledger of the machine has once it has settled the lease
+  pub settled_is : (b : ledger.Ledger (Option Hart) (Option (List ℕ)) (List Input)) → b.machine ≡ view (hardware (length m.pages)) m → (edges : List Edge)
+      (keep : ℕ → Keep) → (settled (system (length m.pages)) b (as_lease l edges) keep).machine ≡ view (hardware (length m.pages)) (laid m l)
+  settled_is b machine edges keep =
+      ap
+      (λ (k : Machine (Option Hart) (Option (List ℕ))).
+      let laid_in : Machine (Option Hart) (Option (List ℕ)) =
+      record {
+        harts = put k.harts l.hart ((played_to edges).harts l.hart);
+        pages = λ page. if is_some (read_counts l.taken page) then (played_to edges).pages page else k.pages page;
+      } in
+      laid_in) machine ∙
+      laid_is edges
 
   -- The lease, once it was given a page as it stands in the machine.
 
