@@ -1,4 +1,5 @@
 pub mod Alike
+pub mod Changed
 pub mod Compared
 pub mod Given
 pub mod Halted
@@ -13,6 +14,7 @@ pub mod Places
 pub mod Recorded
 pub mod Played
 pub mod Runs
+pub mod Settlings
 pub mod Shown
 pub mod Slots
 pub mod Ticked

@@ -1,6 +1,6 @@
 //! Books that record: who has which right to each page, and the edges found.
 
-ghost use Rattle.std.specs.Prelude.{◌≡◌, ◌<◌, ◌≤◌, ◌^◌, ◌↔◌, ◌×◌, ℕ, All, AllPairs, Contains, List, [], map, length, slice_index, IsTrue, IfOk, OnOk, OnErr, true};
+ghost use Rattle.std.specs.Prelude.{◌≡◌, ◌<◌, ◌≤◌, ◌^◌, ◌↔◌, ℕ, All, AllPairs, Contains, List, [], map, length, slice_index, IsTrue, IfOk, OnOk, OnErr, true};
 ghost use Rattle.ft_types.specs.Counts.{count_at, greater};
 ghost use Rattle.ft_types.specs.Sets.{IsMember};
 ghost use Rattle.edge_log.specs.EdgeLog.{edge_as};
@@ -215,7 +215,7 @@ impl Mode for Recording {
     }
 
     fn end(&mut self, hart: Hart, count: Count, taken: &[Option<Taken>; 64]) {
-        for page in 0..self.rights.len() {
+        for page in 0..self.rights.len().min(64) {
             if taken[page].is_some() {
                 self.rights[page].give_up(hart, count);
             }
