@@ -1,5 +1,6 @@
 pub mod Alike
 pub mod Changed
+pub mod Endings
 pub mod Compared
 pub mod Given
 pub mod Halted
