@@ -153,6 +153,7 @@ impl EdgeLog {
         requires rising { AllPairs (λ a b. a.at ≤ b.at) edges.now }
         ensures start { self.new.start ≡ self.old.start }
         ensures err { OnErr result (self.new ≡ self.old) }
+        ensures rules { IsLog self.new.start self.new.rows }
         // What adding them one after another leaves.
         ensures added { OnOk result (AreAdded self.old edges.now self.new) }
         ensures others_kept { (other : ℕ) → other ≢ hart → row_of self.new other ≡ row_of self.old other }

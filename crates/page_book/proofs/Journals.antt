@@ -24,7 +24,7 @@ journal_turns-append (s ∷ front) rest =
     ap (λ l. turns_in_a_row s.hart s.steps ++ l) (journal_turns-append front rest)
     ∙ sym (append_assoc (turns_in_a_row s.hart s.steps) (journal_turns front) (journal_turns rest))
 
-turns_added : (journal : List Stretch) (hart steps : ℕ) → journal_turns (added journal hart steps) ≡ journal_turns journal ++ turns_in_a_row hart steps
+pub turns_added : (journal : List Stretch) (hart steps : ℕ) → journal_turns (added journal hart steps) ≡ journal_turns journal ++ turns_in_a_row hart steps
 turns_added journal hart steps = of (steps == 0) refl
   where
     of : (b : Bool) → (steps == 0) ≡ b →

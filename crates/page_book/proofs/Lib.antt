@@ -1,4 +1,6 @@
 pub mod Alike
+pub mod Changed
+pub mod Endings
 pub mod Compared
 pub mod Given
 pub mod Halted
@@ -15,6 +17,7 @@ pub mod Yields
 pub mod Ledgers
 pub mod Played
 pub mod Runs
+pub mod Settlings
 pub mod Shown
 pub mod Slots
 pub mod Ticked

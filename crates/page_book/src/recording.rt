@@ -223,7 +223,7 @@ impl Mode for Recording {
     }
 
     fn end(&mut self, hart: Hart, count: Count, taken: &[Option<Taken>; 64]) {
-        for page in 0..self.rights.len() {
+        for page in 0..self.rights.len().min(64) {
             if taken[page].is_some() {
                 self.rights[page].give_up(hart, count);
             }

@@ -75,3 +75,8 @@ returns-clause-enough c = all_enough c
 
 pub returns-clause-same_order : goal.returns-clause-same_order
 returns-clause-same_order c = on_ok_weaker c.add_all.result (λ enough all was. same_order _ _ _ (enough all was)) (all_enough c)
+
+pub returns-clause-rules : goal.returns-clause-rules
+returns-clause-rules c =
+    log_kept c.self.inside.start c.self.inside.rows c.self.invariant c.index.result c.index.ensures.below c.index-self-index.result c.add_all.new.self
+    c.add_all.result c.args.edges.now (own c) c.add_all.ensures.takes c.add_all.ensures.err

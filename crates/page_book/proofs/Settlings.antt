@@ -1,0 +1,206 @@
+-- A lease that comes back to a book that records.
+use Rattle.std.proofs.Common.{◌≡◌, inl, inr, ℕ, zero, suc, ◌<◌, ◌≤◌, List, [], ◌∷◌, ◌++◌, length, map, get_or, slice_get, slice_set, Option, None, Some, option_map, Contains, All, AllPairs, refl, sym, ap, subst, ◌∙◌, arith, append_assoc}
+use Rattle.std.proofs.lemmas.List.{get_or-set_same, get_or-set_other, map-append}
+use Rattle.std.proofs.lemmas.List.Elements.{All-cons, All-head, All-tail, Contains-append_left}
+use Rattle.std.proofs.lemmas.List.Kept.{AllPairs-cons}
+use Rattle.interleaving.specs.Lists.{put, EachPair}
+use Rattle.interleaving.specs.Machine.{Machine, counts}
+use Rattle.interleaving.specs.Log as theory
+use Rattle.interleaving.specs.Cuts.{IsEnough}
+use Rattle.interleaving.specs.Stored.{view}
+use Rattle.interleaving.proofs.Put.{same_or_not, put_same, put_other}
+use Rattle.interleaving.proofs.Each.{each_at}
+use Rattle.input_log.specs.declared.Input.{Input}
+use Rattle.edge_log.specs.declared.Edge.{Edge}
+use Rattle.edge_log.specs.EdgeLog.{Edges, IsLog, edge_as, edges_of, start_of, MayAdd}
+use Rattle.crew_pages.specs.Rights.{Right}
+use Rattle.lease_ledger.specs.Ledger as ledger
+use Rattle.lease_ledger.specs.Ledger.{present}
+use Rattle.lease_ledger.specs.Calls as calls
+use Rattle.lease_ledger.specs.Calls.{Settled, settled, kept}
+use Rattle.lease_ledger.specs.Laws.{InOrder, HasItsOrder, HasItsRights, IsAdding}
+use Rattle.lease_ledger.proofs.Laws.{keeps_order, may_add_next, runs_in_lists}
+use Rattle.ft_types.specs.Counts.{count_at}
+use Rattle.rv32_hart.specs.Hart.{Hart}
+use Rattle.rv32_hart.specs.Hardware.{hardware}
+use Rattle.guest_image.specs.Machine.{MachineState}
+use Rattle.page_book.specs.declared.answers.Keep.{Keep}
+use Rattle.page_book.specs.declared.stretch.Stretch.{Stretch}
+use Rattle.page_book.specs.Turns.{turns_in_a_row}
+use Rattle.page_book.specs.Leases.{LeaseView, laid}
+use Rattle.page_book.specs.OpenLeases.{OpenView, open_at}
+use Rattle.page_book.specs.Books.{IsOpen, IsLentBy, added}
+use Rattle.page_book.specs.Recorded.{stub_of, as_lease, system}
+use Rattle.page_book.specs.Modes.{IsSettling}
+use Rattle.page_book.specs.Recordings.{RecordingView, IsRecorded, IsSettled, keep_as, right_at, stub_as}
+use Rattle.page_book.proofs.Compared.{lent_ours, settled_is}
+use Rattle.page_book.proofs.Journals.{turns_added}
+use Rattle.page_book.proofs.Played.{played_with, present_played}
+use Rattle.page_book.proofs.Runs.{pages_stay}
+use Rattle.page_book.proofs.Slots.{length-map, index-map}
+
+-- the machine has as many pages as at the start
+pub pages_as_many : (r : RecordingView) (start machine : MachineState) (journal : List Stretch) (leases : List (Option OpenView)) →
+    IsRecorded r start machine journal leases → length machine.pages ≡ length start.pages
+pages_as_many r start machine journal leases k =
+    pages_stay (hardware (length start.pages)) k.ledger.journal start machine
+    (runs_in_lists (hardware (length start.pages)) (length start.harts) start machine k.ledger k.few k.reached k.at_machine)
+
+-- a hart whose lease has ended has no stub
+pub stubs_without : (stubs : ℕ → Option ledger.Stub) (leases : List (Option OpenView)) → ((g : ℕ) → stubs g ≡ option_map stub_as (open_at leases g)) →
+    (hart : ℕ) → hart < length leases → (g : ℕ) → put stubs hart None g ≡ option_map stub_as (open_at (slice_set leases hart None) g)
+stubs_without stubs leases same hart row g =
+    elim (same_or_not hart g) [
+      | inl here ↦
+          put_same stubs hart g None here ∙
+          sym (ap (λ h. option_map stub_as (open_at (slice_set leases hart None) h)) (sym here) ∙ ap (option_map stub_as) (get_or-set_same leases hart None None row))
+      | inr ne ↦
+          put_other stubs hart g None ne ∙
+          (same g ∙ ap (option_map stub_as) (sym (get_or-set_other leases hart g None None (λ e. ne (sym e)))))
+    ]
+
+-- an open lease has its row
+pub open_within : (leases : List (Option OpenView)) (hart : ℕ) (lent : OpenView) → open_at leases hart ≡ Some lent → hart < length leases
+open_within [] hart lent e = cc
+open_within (o ∷ leases) zero lent e = omega arith
+open_within (o ∷ leases) (suc hart) lent e = let h = open_within leases hart lent e in omega arith
+
+record IsOpened (machine : MachineState) (o : Option OpenView) (l : LeaseView) : Type 0 where
+  pub lent : OpenView
+  pub is : o ≡ Some lent
+  pub is_open : IsOpen machine lent l
+
+opened : (o : Option OpenView) (machine : MachineState) (l : LeaseView) → IsLentBy o machine l → IsOpened machine o l
+opened None machine l p = absurd p
+opened (Some lent) machine l p = record { lent = lent; is = refl; is_open = p }
+
+-- Edges, in the theory's words.
+
+has_edge : (edges : List Edge) (k : ℕ) (d : Edge) → k < length edges → Contains (map edge_as edges) (edge_as (get_or edges k d))
+has_edge edges k d below =
+    (k, omega (arith, length-map edge_as edges, below), index-map edge_as d (edge_as (get_or edges k d)) edges k below)
+
+in_rising_order : (hart : ℕ) (edges : List Edge) → EachPair InOrder (map edge_as edges) → All (λ e. e.hart ≡ hart) edges →
+    AllPairs (λ a b. a.at ≤ b.at) edges
+in_rising_order hart [] pairs own = λ i j d lt below. absurd (omega arith)
+in_rising_order hart (e ∷ edges) pairs own =
+    AllPairs-cons (λ (a b : Edge). a.at ≤ b.at) e edges
+    (λ k d below.
+    each_at (InOrder (edge_as e)) (map edge_as edges) (edge_as (get_or edges k d)) pairs.0 (has_edge edges k d below)
+    (All-head (λ (e : Edge). e.hart ≡ hart) e edges own ∙ sym (All-tail (λ (e : Edge). e.hart ≡ hart) e edges own k d below)))
+    (in_rising_order hart edges pairs.1 (All-tail (λ (e : Edge). e.hart ≡ hart) e edges own))
+
+-- what adding edges leaves of a log
+pub record AreLogged (old : Edges) (found : List Edge) (new : Edges) : Type 0 where
+  pub log : IsLog new.start new.rows
+  pub start : new.start ≡ old.start
+  pub enough : (all : List theory.Edge) → IsEnough (edges_of old) all (start_of old) → IsEnough (edges_of new) (all ++ map edge_as found) (start_of new)
+
+module _ (r : RecordingView) (hart count : ℕ) (found : List Edge)
+    (s : IsSettling (λ start machine journal leases. IsRecorded r start machine journal leases) hart count found) where
+  abbrev n : ℕ
+  n = length s.start.pages
+
+  abbrev l : LeaseView
+  l = s.settler
+
+  abbrev b : ledger.Ledger (Option Hart) (Option (List ℕ)) (List Input)
+  b = s.kept.ledger
+
+  abbrev settler : ledger.Lease (Option Hart) (Option (List ℕ)) (List Input)
+  settler = as_lease l (map edge_as l.edges)
+
+  its : IsOpened s.machine (open_at s.leases l.hart) l
+  its = opened (open_at s.leases l.hart) s.machine l s.is_lent
+
+  many : length s.machine.pages ≡ n
+  many = pages_as_many r s.start s.machine s.journal s.leases s.kept
+
+  slots : length l.slots ≡ n
+  slots = its.is_open.is_lent.as_many ∙ many
+
+  stub : b.stubs l.hart ≡ Some settler.stub
+  stub =
+      s.kept.stubs l.hart ∙
+      (ap (option_map stub_as) its.is ∙
+      (ap (λ taken. Some (stub_of taken (map edge_as its.lent.edges))) (sym its.is_open.is_lent.counts) ∙
+      ap (λ edges. Some (stub_of l.taken (map edge_as edges))) (sym its.is_open.edges)))
+
+  lease : ledger.IsLease (system n) settler
+  lease = (played_with l s.is_lease.played n slots (map edge_as l.edges)).lease
+
+  ours : ledger.IsOurs b settler
+  ours = lent_ours s.machine its.lent.taken l s.is_lease its.is_open.is_lent b n (map edge_as l.edges) s.kept.at_machine stub
+
+  order : HasItsOrder (system n) (length s.start.harts) (view (hardware n) s.start) b
+  order = keeps_order (system n) (length s.start.harts) (view (hardware n) s.start) b s.kept.few s.kept.reached
+
+  -- What adding its edges to the log asks for.
+
+  own : All (λ e. e.hart ≡ l.hart) l.edges
+  own k d below = (order.waiting l.hart settler.stub (edge_as (get_or l.edges k d)) stub (has_edge l.edges k d below)).own
+
+  may_add : (before after : List Edge) (e : Edge) → l.edges ≡ before ++ e ∷ after → MayAdd r.edges e
+  may_add before after e is =
+      may_add_next (system n) (length s.start.harts) (view (hardware n) s.start) b settler (map edge_as before) (map edge_as after) e r.edges s.kept.few
+      s.kept.reached lease ours (ap (map edge_as) is ∙ map-append edge_as before (e ∷ after)) adding
+    where
+      adding : IsAdding (system n) (length s.start.harts) (view (hardware n) s.start) b (map edge_as before) r.edges
+      adding =
+          record {
+            is_log = s.kept.log;
+            harts = s.kept.log_harts;
+            from_start = λ g lt. s.kept.log_start g;
+            among = λ x at. Contains-append_left b.edges (map edge_as before) x (s.kept.enough.among x at);
+          }
+
+  each : (before after : List Edge) → l.edges ≡ before ++ after → All (λ e. MayAdd r.edges e) after
+  each before [] is = λ k d below. absurd (omega arith)
+  each before (e ∷ after) is =
+      All-cons (λ e. MayAdd r.edges e) e after (may_add before after e is)
+      (each (before ++ e ∷ []) after (is ∙ sym (append_assoc before (e ∷ []) after)))
+
+  pub edges_own : All (λ e. e.hart ≡ hart) found
+  edges_own = rw (s.with_edges, s.of_hart) own
+
+  pub edges_each : All (λ e. MayAdd r.edges e) found
+  edges_each = rw s.with_edges (each [] l.edges refl)
+
+  pub edges_rising : AllPairs (λ a b. a.at ≤ b.at) found
+  edges_rising = rw s.with_edges (in_rising_order l.hart l.edges (order.waiting_in_order l.hart settler.stub stub) own)
+
+  -- What the book keeps, once the lease has come back.
+
+  module _ (keep : Keep) (new : RecordingView) (is : IsSettled r hart count found keep new) (logged : AreLogged r.edges found new.edges) where
+    abbrev after : ledger.Ledger (Option Hart) (Option (List ℕ)) (List Input)
+    after = settled (system n) b settler (λ page. keep_as keep)
+
+    machine_is : after.machine ≡ view (hardware n) (laid s.machine l)
+    machine_is =
+        subst (λ m. (settled (system m) b settler (λ page. keep_as keep)).machine ≡ view (hardware m) (laid s.machine l)) many
+        (settled_is s.machine its.lent.taken l s.is_lease its.is_open.is_lent b s.kept.at_machine (map edge_as l.edges) (λ page. keep_as keep))
+
+    rights_are : (page : ℕ) → page < n → after.rights page ≡ right_at new.rights page
+    rights_are page lt =
+        ap (λ right. kept (keep_as keep) right l.hart (present (system n) settler)) (s.kept.rights page lt) ∙
+        (ap (kept (keep_as keep) (right_at r.rights page) l.hart) (present_played l s.is_lease.played n slots (map edge_as l.edges) ∙ sym s.at_count) ∙
+        (ap (λ h. kept (keep_as keep) (right_at r.rights page) h count) (sym s.of_hart) ∙
+        sym (is.rights page (omega (arith, lt, s.kept.many)))))
+
+    pub settled_recorded : IsRecorded new s.start (laid s.machine l) (added s.journal l.hart l.steps) (slice_set s.leases l.hart None)
+    settled_recorded =
+        record {
+          ledger = after;
+          reached = Settled settler (λ page. keep_as keep) s.kept.reached lease ours;
+          few = s.kept.few;
+          at_machine = machine_is;
+          in_journal = ap (λ turns. turns ++ turns_in_a_row l.hart l.steps) s.kept.in_journal ∙ sym (turns_added s.journal l.hart l.steps);
+          log = logged.log;
+          log_harts = ap length logged.start ∙ s.kept.log_harts;
+          log_start = λ g. ap (λ start. count_at start g) logged.start ∙ s.kept.log_start g;
+          enough =
+              subst (λ edges. IsEnough (edges_of new.edges) (b.edges ++ map edge_as edges) (start_of new.edges)) s.with_edges (logged.enough b.edges s.kept.enough);
+          many = is.many ∙ s.kept.many;
+          rights = rights_are;
+          stubs = stubs_without b.stubs s.leases s.kept.stubs l.hart (open_within s.leases l.hart its.lent its.is);
+        }
