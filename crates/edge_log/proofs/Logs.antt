@@ -21,7 +21,7 @@ edges_at_map [] h d below = absurd (omega arith)
 edges_at_map (r ∷ rows) zero d below = refl
 edges_at_map (r ∷ rows) (suc h) d below = edges_at_map rows h d (omega arith)
 
-contains_map : {A B : Type 0} (f : A → B) (xs : List A) (x : A) → Contains xs x → Contains (map f xs) (f x)
+pub contains_map : {A B : Type 0} (f : A → B) (xs : List A) (x : A) → Contains xs x → Contains (map f xs) (f x)
 contains_map f [] x (k, below, is) = absurd (omega arith)
 contains_map f (y ∷ ys) x h =
     elim (here_or_later y ys x h) [
@@ -29,7 +29,7 @@ contains_map f (y ∷ ys) x h =
       | inr later ↦ Contains-append_right (f y ∷ []) (map f ys) (f x) (contains_map f ys x later)
     ]
 
-map_contains : {A B : Type 0} (f : A → B) (xs : List A) (y : B) → Contains (map f xs) y → (x : A) × Contains xs x × (f x ≡ y)
+pub map_contains : {A B : Type 0} (f : A → B) (xs : List A) (y : B) → Contains (map f xs) y → (x : A) × Contains xs x × (f x ≡ y)
 map_contains f [] y (k, below, is) = absurd (omega arith)
 map_contains f (x ∷ xs) y h =
     elim (here_or_later (f x) (map f xs) y h) [

@@ -1,5 +1,5 @@
 mod Runs
-mod Stays
+pub mod Stays
 mod Used
 mod Invariant
 mod Noted

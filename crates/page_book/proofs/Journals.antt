@@ -216,7 +216,7 @@ row-set_other (x ∷ leases) (suc i) zero lent e lt = λ same. absurd (omega (ar
 row-set_other (x ∷ leases) (suc i) (suc other) lent e lt =
     let ne = row-set_other leases i other lent e (omega arith) in λ same. ne (omega (arith, same))
 
-row_within : (leases : List (Option OpenView)) (hart : ℕ) (m : MachineState) (l : LeaseView) → IsLentBy (open_at leases hart) m l → hart < length leases
+pub row_within : (leases : List (Option OpenView)) (hart : ℕ) (m : MachineState) (l : LeaseView) → IsLentBy (open_at leases hart) m l → hart < length leases
 row_within [] hart m l ours = absurd ours
 row_within (x ∷ leases) zero m l ours = omega arith
 row_within (x ∷ leases) (suc hart) m l ours = let lt = row_within leases hart m l ours in omega (arith, lt)

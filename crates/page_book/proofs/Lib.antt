@@ -13,6 +13,8 @@ pub mod Ours
 pub mod Noted
 pub mod Places
 pub mod Recorded
+pub mod Yields
+pub mod Ledgers
 pub mod Played
 pub mod Runs
 pub mod Settlings

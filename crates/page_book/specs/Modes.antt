@@ -1,5 +1,5 @@
 -- What a book asks of its mode.
-use Rattle.std.specs.Prelude.{◌≡◌, ◌<◌, ℕ, List, map, slice_set, length, Option, Some, None}
+use Rattle.std.specs.Prelude.{◌≡◌, ◌<◌, ◌^◌, ℕ, List, map, slice_set, length, Option, Some, None}
 use Rattle.edge_log.specs.declared.Edge.{Edge}
 use Rattle.guest_image.specs.Machine.{MachineState}
 use Rattle.page_book.specs.declared.asked.Asked.{Asked}
@@ -25,6 +25,8 @@ pub record IsAsking (keeps : Fact) (machine : MachineState) (leases : List (Opti
   pub hart : asked.hart ≡ asker.hart
   pub count : asked.count ≡ asker.present.count
   pub page : asked.page < length machine.pages
+  pub row : asked.page < length asker.taken
+  pub limit : asked.count < 2 ^ 48
   pub kept : keeps start machine journal leases
 
 -- it asks for one that no open lease holds, where the harts have settled these counts
@@ -33,6 +35,7 @@ pub record IsGiven (keeps : Fact) (is_holder : List (Option OpenView) → Asked 
   pub leases : List (Option OpenView)
   pub asks : IsAsking keeps machine leases asked
   pub free : (hart : ℕ) → is_holder leases asked hart → ⊥
+  pub harts : length settled ≡ length machine.harts
   pub counts : (hart : ℕ) → count_at settled hart ≡ counts_of machine hart
 
 -- a lease of this hart, with this present count and these edges, comes back

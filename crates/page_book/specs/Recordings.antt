@@ -52,7 +52,7 @@ yielded asked settled zero right = right
 yielded asked settled (suc n) right = yields asked settled n (yielded asked settled n right)
 
 -- what the asker meets: the page's right, which all eight harts have yielded
-abbrev pub right_met : RecordingView → (ℕ → ℕ) → Asked → Right
+unfoldable pub right_met : RecordingView → (ℕ → ℕ) → Asked → Right
 right_met r settled asked = yielded asked settled 8 (right_at r.rights asked.page)
 
 -- the asker owes these edges, by rising other hart
@@ -99,6 +99,8 @@ pub record IsRecorded (r : RecordingView) (start machine : MachineState) (journa
   pub ledger : Ledger (Option Hart) (Option (List ℕ)) (List Input)
   pub reached : Reached (system (length start.pages)) (length start.harts) (view (hardware (length start.pages)) start) ledger
   pub few : length start.harts ≤ 8
+  pub harts_stay : length machine.harts ≡ length start.harts
+  pub pages_stay : length machine.pages ≡ length start.pages
   pub at_machine : ledger.machine ≡ view (hardware (length start.pages)) machine
   pub in_journal : ledger.journal ≡ journal_turns journal
   -- its log has the edges that say all that were found

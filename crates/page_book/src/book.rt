@@ -304,6 +304,7 @@ impl<M: Mode> Book<M> {
     fn hand_over(&mut self, settled: &Counts, asked: &Asked, found: &[Edge], waiting: Vec<Edge>)
         requires asks { IsAsking (M.keeps self.old.mode) self.old.machine self.old.leases asked.now }
         requires free { (g : ℕ) → M.is_holder self.old.mode self.old.leases asked.now g → ⊥ }
+        requires harts { length settled.now ≡ length self.old.machine.harts }
         requires settled { (hart : ℕ) → count_at settled.now hart ≡ counts_of self.old.machine hart }
         requires found { M.owes self.old.mode (count_at settled.now) asked.now found.now }
         requires waiting { (lent : OpenView) → open_at self.old.leases asked.now.hart ≡ Some lent → waiting.items ≡ lent.edges ++ found.now }

@@ -24,6 +24,7 @@ use guest_image::Machine;
 use smallvec::SmallVec;
 use std::alloc::Global;
 use std::marker::Model;
+use std::option::Option;
 
 /// The log is written.
 #[derive(Drop)]
@@ -43,12 +44,10 @@ impl Model for Recording {
 
 fn unused_rights(alloc: Global, pages: u8) -> Result<Vec<PageRight>, Memory>
     ensures many { IfOk result (λ rights. length rights.items ≡ pages) }
-    ensures each { IfOk result (λ rights. All (λ r. right_of r ≡ unused) rights.items) }
+    ensures each { IfOk result (λ rights. (page : ℕ) → page < pages → right_at rights.items page ≡ unused) }
 {
-    let mut rights = Vec::with_capacity(alloc, pages as usize)?;
-    for _page in 0..pages {
-        rights.push(PageRight::new())?;
-    }
+    let mut rights = Vec::new(alloc);
+    rights.resize(pages as usize, PageRight::new())?;
     Ok(rights)
 }
 
@@ -126,6 +125,16 @@ impl Recording {
         self.limits = self.limits.max(limits);
     }
 
+    /// Whether the hart's right stands in the asker's way, and its open lease has taken the page.
+    fn is_taker(&self, leases: &[Option<OpenLease>; 8], asked: &Asked, other: Hart) -> bool
+        requires { asked.now.page < length self.now.rights }
+        ensures { IsTrue result ↔ IsTaker self.now leases.now asked.now other }
+    {
+        let right = self.rights[asked.page.index()];
+        right.against(asked.hart, asked.want).contains(other.number())
+            && takes(&leases[other.index()], asked.page)
+    }
+
     /// What the asker is answered, once nobody is in its way: the page's right from then on, and the edges that it owes.
     fn answer(
         &self,
@@ -181,10 +190,9 @@ impl Mode for Recording {
     }
 
     fn holders(&self, leases: &[Option<OpenLease>; 8], asked: &Asked) -> HartSet {
-        let against = self.rights[asked.page.index()].against(asked.hart, asked.want);
         let mut harts = HartSet::new();
-        for number in 0..8u8 {
-            if against.contains(number) && takes(&leases[number as usize], asked.page) {
+        for number in 0..HART_LIMIT {
+            if self.is_taker(leases, asked, Hart::new(number)) {
                 harts = harts.with(number);
             }
         }

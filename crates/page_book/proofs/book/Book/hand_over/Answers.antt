@@ -19,6 +19,8 @@ invariant_of-self g c =
       hart = asks.hart;
       count = asks.count;
       page = asks.page;
+      row = asks.row;
+      limit = asks.limit;
       kept = c.self.invariant.keeps;
     } in
     let given : IsGiven (g.M.Mode.keeps i.mode) (g.M.Mode.is_holder i.mode) c.args.settled.now c.args.asked.now =
@@ -27,6 +29,7 @@ invariant_of-self g c =
       leases = i.leases;
       asks = asking;
       free = rw (← c.self.view_is) at c.requires.free;
+      harts = rw (← c.self.view_is) at c.requires.harts;
       counts = rw (← c.self.view_is) at c.requires.settled;
     } in
     let found = rw (← c.self.view_is) at c.requires.found in
