@@ -98,6 +98,8 @@ module _ (r : RecordingView) (hart count : ℕ) (taken : List (Option Taken))
           ledger = after;
           reached = Dropped hart its e.kept.reached stub;
           few = e.kept.few;
+          harts_stay = e.kept.harts_stay;
+          pages_stay = e.kept.pages_stay;
           at_machine = e.kept.at_machine;
           in_journal = e.kept.in_journal;
           log = subst (λ (log : Edges). IsLog log.start log.rows) (sym is.edges) e.kept.log;

@@ -1,5 +1,5 @@
 -- A lease that comes back to a book that records.
-use Rattle.std.proofs.Common.{◌≡◌, inl, inr, ℕ, zero, suc, ◌<◌, ◌≤◌, List, [], ◌∷◌, ◌++◌, length, map, get_or, slice_get, slice_set, Option, None, Some, option_map, Contains, All, AllPairs, refl, sym, ap, subst, ◌∙◌, arith, append_assoc}
+use Rattle.std.proofs.Common.{◌≡◌, inl, inr, ℕ, zero, suc, ◌<◌, ◌≤◌, List, [], ◌∷◌, ◌++◌, length, map, get_or, slice_get, slice_set, Option, None, Some, option_map, Contains, All, AllPairs, refl, sym, ap, subst, ◌∙◌, arith, append_assoc, length-set}
 use Rattle.std.proofs.lemmas.List.{get_or-set_same, get_or-set_other, map-append}
 use Rattle.std.proofs.lemmas.List.Elements.{All-cons, All-head, All-tail, Contains-append_left}
 use Rattle.std.proofs.lemmas.List.Kept.{AllPairs-cons}
@@ -36,15 +36,8 @@ use Rattle.page_book.specs.Recordings.{RecordingView, IsRecorded, IsSettled, kee
 use Rattle.page_book.proofs.Compared.{lent_ours, settled_is}
 use Rattle.page_book.proofs.Journals.{turns_added}
 use Rattle.page_book.proofs.Played.{played_with, present_played}
-use Rattle.page_book.proofs.Runs.{pages_stay}
+use Rattle.page_book.proofs.Laid.{length-laid_pages}
 use Rattle.page_book.proofs.Slots.{length-map, index-map}
-
--- the machine has as many pages as at the start
-pub pages_as_many : (r : RecordingView) (start machine : MachineState) (journal : List Stretch) (leases : List (Option OpenView)) →
-    IsRecorded r start machine journal leases → length machine.pages ≡ length start.pages
-pages_as_many r start machine journal leases k =
-    pages_stay (hardware (length start.pages)) k.ledger.journal start machine
-    (runs_in_lists (hardware (length start.pages)) (length start.harts) start machine k.ledger k.few k.reached k.at_machine)
 
 -- a hart whose lease has ended has no stub
 pub stubs_without : (stubs : ℕ → Option ledger.Stub) (leases : List (Option OpenView)) → ((g : ℕ) → stubs g ≡ option_map stub_as (open_at leases g)) →
@@ -114,7 +107,7 @@ module _ (r : RecordingView) (hart count : ℕ) (found : List Edge)
   its = opened (open_at s.leases l.hart) s.machine l s.is_lent
 
   many : length s.machine.pages ≡ n
-  many = pages_as_many r s.start s.machine s.journal s.leases s.kept
+  many = s.kept.pages_stay
 
   slots : length l.slots ≡ n
   slots = its.is_open.is_lent.as_many ∙ many
@@ -193,6 +186,8 @@ module _ (r : RecordingView) (hart count : ℕ) (found : List Edge)
           ledger = after;
           reached = Settled settler (λ page. keep_as keep) s.kept.reached lease ours;
           few = s.kept.few;
+          harts_stay = length-set s.machine.harts l.hart l.present ∙ s.kept.harts_stay;
+          pages_stay = length-laid_pages s.machine.pages l.slots ∙ many;
           at_machine = machine_is;
           in_journal = ap (λ turns. turns ++ turns_in_a_row l.hart l.steps) s.kept.in_journal ∙ sym (turns_added s.journal l.hart l.steps);
           log = logged.log;
