@@ -1,7 +1,7 @@
 -- Runs, one part after the other.
-use Rattle.std.proofs.Common.{◌≡◌, ℕ, zero, suc, ◌+◌, List, [], ◌∷◌, ◌++◌, length, length-set, replicate, slice_get, Bool, true, false, Option, None, Some, refl, sym, ap, ◌∙◌, add-one, if◌then◌else◌}
-use Rattle.interleaving.specs.Machine.{Turn, Write}
-use Rattle.interleaving.specs.Stored.{Hardware, Store, run_from, goes, stored_after, written_in}
+use Rattle.std.proofs.Common.{◌≡◌, ℕ, zero, suc, ◌+◌, List, [], ◌∷◌, ◌++◌, replicate, slice_get, Option, None, Some, refl, ap, add-one}
+use Rattle.interleaving.specs.Machine.{Turn}
+use Rattle.interleaving.specs.Stored.{Hardware, Store, run_from, goes}
 
 module _ {Hart Page Input : Type 0} (hardware : Hardware Hart Page Input) where
   -- a run goes on from where its front leads
@@ -10,30 +10,6 @@ module _ {Hart Page Input : Type 0} (hardware : Hardware Hart Page Input) where
   run_from-append None front rest = refl
   run_from-append (Some s) [] rest = refl
   run_from-append (Some s) (t ∷ front) rest = run_from-append (goes hardware s t (slice_get s.harts t.hart)) front rest
-
-  same_length : (pages : List Page) (w : Option (Write Page)) → length (written_in pages w) ≡ length pages
-  same_length pages None = refl
-  same_length pages (Some w) = length-set pages w.page w.contents
-
-  module _ (turns : List (Turn Input)) (now : Store Hart Page)
-      (later : (s : Store Hart Page) → run_from hardware (Some s) turns ≡ Some now → length now.pages ≡ length s.pages) (s : Store Hart Page) (t : Turn Input) where
-    went : (h : Hart) (b : Bool) →
-        run_from hardware (if b then None else Some (stored_after s t.hart (hardware.effect h t.input (slice_get s.pages)))) turns ≡ Some now →
-        length now.pages ≡ length s.pages
-    went h true e = cc
-    went h false e =
-        later (stored_after s t.hart (hardware.effect h t.input (slice_get s.pages))) e ∙
-        same_length s.pages (hardware.effect h t.input (slice_get s.pages)).write
-
-    goes_on : (o : Option Hart) → run_from hardware (goes hardware s t o) turns ≡ Some now → length now.pages ≡ length s.pages
-    goes_on None e = cc
-    goes_on (Some h) e = went h (hardware.halted h) e
-
-  -- a run keeps the number of pages
-  pub pages_stay : (turns : List (Turn Input)) (s now : Store Hart Page) → run_from hardware (Some s) turns ≡ Some now →
-      length now.pages ≡ length s.pages
-  pages_stay [] s now e = let same : s ≡ now = cc in ap (λ (x : Store Hart Page). length x.pages) (sym same)
-  pages_stay (t ∷ turns) s now e = goes_on turns now (λ s e. pages_stay turns s now e) s t (slice_get s.harts t.hart) e
 
 replicate-suc_last : {A : Type 0} (n : ℕ) (x : A) → replicate (suc n) x ≡ replicate n x ++ x ∷ []
 replicate-suc_last zero x = refl

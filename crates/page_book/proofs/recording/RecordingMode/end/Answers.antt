@@ -1,4 +1,4 @@
-use Rattle.std.proofs.Common.{◌≡◌, ◌<◌, ◌≤◌, length, is_some, true, false, refl, sym, ap, subst, ◌∙◌, rules, arith, if◌then◌else◌}
+use Rattle.std.proofs.Common.{◌≡◌, ◌<◌, length, is_some, true, false, refl, sym, ap, subst, ◌∙◌, rules, arith}
 use Rattle.crew_pages.specs.Rights.{Right, right_of, holds, give_up}
 use Rattle.page_book.specs.Taken.{taken_at}
 use Rattle.page_book.specs.Recordings.{RecordingView, IsEnded, right_at}

@@ -1,7 +1,5 @@
-use Rattle.std.proofs.Common.{◌≡◌, ◌<◌, ◌++◌, List, length, map, refl, sym, ap, subst, ◌∙◌, rules, arith}
-use Rattle.interleaving.specs.Log.{Edge as edge_of_theory}
-use Rattle.interleaving.specs.Cuts.{IsEnough}
-use Rattle.edge_log.specs.EdgeLog.{Edges, edge_as, edges_of, start_of, AreAdded}
+use Rattle.std.proofs.Common.{◌≡◌, ◌<◌, length, refl, sym, ap, subst, ◌∙◌, rules, arith}
+use Rattle.edge_log.specs.EdgeLog.{Edges, AreAdded}
 use Rattle.crew_pages.specs.Rights.{Right, right_of}
 use Rattle.lease_ledger.specs.Calls.{kept}
 use Rattle.page_book.specs.Recordings.{RecordingView, IsSettled, keep_as}
