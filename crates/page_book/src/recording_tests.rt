@@ -17,7 +17,8 @@ static LOOPS: &[u8] = b"harts 3\npages 3\n0000006f\n";
 
 /// Each hart adds to a word of one of four pages or loads it, six times over: which one, and what it adds, is made of what
 /// it loaded before. One of these words lies behind the code. Then it halts.
-static MIXES: &[u8] = b"800010b7\n80008093\n00600113\nf14021f3\n00118193\n0031f293\n00c29293\n001282b3\n0041f313\n00030663\n0032a3af\n0080006f\n0002a383\n00319413\n008181b3\n007181b3\n00518193\nfff10113\nfc0116e3\nf0000237\n00022a23\n";
+static MIXES: &[u8] =
+    b"800010b7\n80008093\n00600113\nf14021f3\n00118193\n0031f293\n00c29293\n001282b3\n0041f313\n00030663\n0032a3af\n0080006f\n0002a383\n00319413\n008181b3\n007181b3\n00518193\nfff10113\nfc0116e3\nf0000237\n00022a23\n";
 
 fn image_of(alloc: Global, text: &[u8]) -> Result<Image, Fail> {
     Ok(read_image(alloc, text).map_err(|_| "image")?)
@@ -262,5 +263,180 @@ fn a_store_after_another_harts_is_an_edge(rt: HostRuntime) -> Result<(), Fail> {
         assert!(rt; book.edges().of_hart(first).is_empty(), "{keep:?}");
         assert_eq!(rt; book.counts().as_slice(), [4, 4].as_slice(), "{keep:?}");
     }
+    Ok(())
+}
+
+#[test]
+fn what_a_hart_keeps_decides_the_edge(rt: HostRuntime) -> Result<(), Fail> {
+    let (first, second) = (Hart::new(0), Hart::new(1));
+    // The first hart has written a page in two steps, keeps so much of it, and then goes two steps without it.
+    for (keep, want, after) in [
+        (Keep::All, Want::Read, 4),
+        (Keep::All, Want::Write, 4),
+        (Keep::Readable, Want::Read, 2),
+        (Keep::Readable, Want::Write, 4),
+        (Keep::Nothing, Want::Read, 2),
+        (Keep::Nothing, Want::Write, 2),
+    ] {
+        let image = image_of(rt.alloc(), LOOPS)?;
+        let mut crew = Crew::new(recorder(rt.alloc(), &image, 100)?);
+        let lent = crew.lend(rt.alloc(), first);
+        let written = crew.ask(first, PageNo::new(1), Want::Write);
+        // One turn asks for the page of the code.
+        let steps = crew.go(first, 3);
+        let settled = crew.settle(first, keep);
+        let lent_again = crew.lend(rt.alloc(), first);
+        let more = crew.go(first, 3);
+        let settled_again = crew.settle(first, Keep::All);
+        let second_lent = crew.lend(rt.alloc(), second);
+        let answer = crew.ask(second, PageNo::new(1), want);
+        let waits = [edge(second, 0, first, after)];
+        let found = crew.waiting(second) == waits.as_slice();
+        let _book = crew.end();
+        assert_eq!(rt; (lent, written, settled), (Ok(()), Ok(Need::Given), Ok(())));
+        assert_eq!(rt; (steps, more), (2, 2));
+        assert_eq!(rt;
+            (lent_again, settled_again, second_lent),
+            (Ok(()), Ok(()), Ok(()))
+        );
+        assert_eq!(rt; answer, Ok(Need::Given));
+        assert!(rt; found, "{keep:?} {want:?}");
+    }
+    Ok(())
+}
+
+#[test]
+fn a_log_is_obeyed_by_the_book_that_replays_it(rt: HostRuntime) -> Result<(), Fail> {
+    let (first, second) = (Hart::new(0), Hart::new(1));
+    let image = image_of(rt.alloc(), BOTH_STORE)?;
+    let recorded = both_stored(rt.alloc(), Keep::All)?;
+    let edges = recorded.edges().copy().map_err(|_| "memory")?;
+    let mut crew = Crew::new(replayer(rt.alloc(), &image, recorded.counts(), edges)?);
+    let before = crew.run(rt.alloc(), second, Keep::All);
+    let waits = crew.lend(rt.alloc(), second);
+    let lent = crew.lend(rt.alloc(), first);
+    // Two turns ask for pages.
+    let three = crew.go(first, 5);
+    let waits_still = crew.lend(rt.alloc(), second);
+    let settled = crew.settle(first, Keep::All);
+    let waits_for_the_fourth = crew.lend(rt.alloc(), second);
+    let fourth = crew.run(rt.alloc(), first, Keep::All);
+    let rest = crew.run(rt.alloc(), second, Keep::All);
+    let replayed = crew.end();
+    assert_eq!(rt; before, Ok(1));
+    assert_eq!(rt; waits, Err(BookFault::EdgeOpen));
+    assert_eq!(rt; (lent, three, settled), (Ok(()), 3, Ok(())));
+    assert_eq!(rt; waits_still, Err(BookFault::EdgeOpen));
+    assert_eq!(rt; waits_for_the_fourth, Err(BookFault::EdgeOpen));
+    assert_eq!(rt; (fourth, rest), (Ok(1), Ok(3)));
+    assert_eq!(rt; replayed.counts(), recorded.counts());
+    assert!(rt; replayed.machine().same(recorded.machine()));
+    Ok(())
+}
+
+#[test]
+fn what_an_open_lease_has_taken_is_waited_for(rt: HostRuntime) -> Result<(), Fail> {
+    let (first, second, third) = (Hart::new(0), Hart::new(1), Hart::new(2));
+    let (one, two) = (PageNo::new(1), PageNo::new(2));
+    let by_first = Ok(Need::HeldBy(NumberSet::new().with(0)));
+    let by_both = Ok(Need::HeldBy(NumberSet::new().with(0).with(2)));
+    let by_third = Ok(Need::HeldBy(NumberSet::new().with(2)));
+    let given = Ok(Need::Given);
+    let image = image_of(rt.alloc(), LOOPS)?;
+    let mut crew = Crew::new(recorder(rt.alloc(), &image, 100)?);
+    for hart in [first, second, third] {
+        assert_eq!(rt; crew.lend(rt.alloc(), hart), Ok(()));
+    }
+    // The first lease writes a page, and reads another beside the third lease.
+    assert_eq!(rt; crew.ask(first, one, Want::Write), given);
+    assert_eq!(rt; crew.ask(second, one, Want::Read), by_first);
+    assert_eq!(rt; crew.ask(second, one, Want::Write), by_first);
+    assert_eq!(rt; crew.ask(first, two, Want::Read), given);
+    assert_eq!(rt; crew.ask(second, two, Want::Write), by_first);
+    assert_eq!(rt; crew.ask(third, two, Want::Read), given);
+    assert_eq!(rt; crew.ask(second, two, Want::Write), by_both);
+    assert_eq!(rt; crew.ask(second, two, Want::Read), given);
+    assert!(rt; crew.waiting(second).is_empty());
+    // Once it is settled, its pages are there for the asking. One turn of each hart asks for the code's page.
+    assert_eq!(rt; crew.go(first, 4), 3);
+    assert_eq!(rt; crew.ask(second, one, Want::Read), by_first);
+    assert_eq!(rt; crew.settle(first, Keep::All), Ok(()));
+    assert_eq!(rt; crew.ask(second, one, Want::Write), given);
+    assert_eq!(rt;
+        crew.waiting(second),
+        [edge(second, 0, first, 3)].as_slice()
+    );
+    assert_eq!(rt; crew.ask(second, two, Want::Write), by_third);
+    assert_eq!(rt; crew.go(third, 3), 2);
+    assert_eq!(rt; crew.settle(third, Keep::All), Ok(()));
+    assert_eq!(rt; crew.go(second, 2), 1);
+    assert_eq!(rt; crew.ask(second, two, Want::Write), given);
+    assert_eq!(rt;
+        crew.waiting(second),
+        [
+            edge(second, 0, first, 3),
+            edge(second, 1, first, 3),
+            edge(second, 1, third, 2)
+        ]
+        .as_slice()
+    );
+    assert_eq!(rt; crew.settle(second, Keep::All), Ok(()));
+    let book = crew.end();
+    // The second one is implied by the first.
+    assert_eq!(rt;
+        book.edges().of_hart(second),
+        [edge(second, 0, first, 3), edge(second, 1, third, 2)].as_slice()
+    );
+    Ok(())
+}
+
+#[test]
+fn a_page_that_no_lease_has_taken_is_given_up_at_the_settled_count(
+    rt: HostRuntime,
+) -> Result<(), Fail> {
+    let (first, second) = (Hart::new(0), Hart::new(1));
+    let (one, two) = (PageNo::new(1), PageNo::new(2));
+    let given = Ok(Need::Given);
+    let image = image_of(rt.alloc(), LOOPS)?;
+    let mut crew = Crew::new(recorder(rt.alloc(), &image, 100)?);
+    assert_eq!(rt; crew.lend(rt.alloc(), first), Ok(()));
+    assert_eq!(rt; crew.ask(first, one, Want::Write), given);
+    assert_eq!(rt; crew.ask(first, two, Want::Read), given);
+    assert_eq!(rt; crew.go(first, 3), 2);
+    assert_eq!(rt; crew.settle(first, Keep::All), Ok(()));
+    // The next lease goes on to 5 without these pages.
+    assert_eq!(rt; crew.lend(rt.alloc(), first), Ok(()));
+    assert_eq!(rt; crew.go(first, 4), 3);
+    assert_eq!(rt; crew.lend(rt.alloc(), second), Ok(()));
+    assert_eq!(rt; crew.ask(second, one, Want::Read), given);
+    assert_eq!(rt;
+        crew.waiting(second),
+        [edge(second, 0, first, 2)].as_slice()
+    );
+    assert_eq!(rt; crew.go(second, 2), 1);
+    assert_eq!(rt; crew.ask(second, two, Want::Write), given);
+    assert_eq!(rt;
+        crew.waiting(second),
+        [edge(second, 0, first, 2), edge(second, 1, first, 2)].as_slice()
+    );
+    // Now it is the first one that waits, and its step at 5 that comes after the second's first four.
+    assert_eq!(rt;
+        crew.ask(first, two, Want::Read),
+        Ok(Need::HeldBy(NumberSet::new().with(1)))
+    );
+    assert_eq!(rt; crew.go(second, 3), 4);
+    assert_eq!(rt; crew.settle(second, Keep::All), Ok(()));
+    assert_eq!(rt; crew.ask(first, two, Want::Read), given);
+    assert_eq!(rt; crew.waiting(first), [edge(first, 5, second, 4)].as_slice());
+    assert_eq!(rt; crew.settle(first, Keep::Nothing), Ok(()));
+    let book = crew.end();
+    assert_eq!(rt;
+        book.edges().of_hart(first),
+        [edge(first, 5, second, 4)].as_slice()
+    );
+    assert_eq!(rt;
+        book.edges().of_hart(second),
+        [edge(second, 0, first, 2)].as_slice()
+    );
     Ok(())
 }
