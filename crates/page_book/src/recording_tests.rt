@@ -266,10 +266,35 @@ fn a_store_after_another_harts_is_an_edge(rt: HostRuntime) -> Result<(), Fail> {
     Ok(())
 }
 
+/// The first hart writes the second page in two steps, keeps so much of it, and goes two steps without it. Then an open lease
+/// of the second hart is given this right on it.
+fn given_to_second(alloc: Global, keep: Keep, want: Want) -> Result<Crew<Recording>, Fail> {
+    let image = image_of(alloc, LOOPS)?;
+    let (first, second) = (Hart::new(0), Hart::new(1));
+    let mut crew = Crew::new(recorder(alloc, &image, 100)?);
+    let lent = crew.lend(alloc, first);
+    let asked = crew.ask(first, PageNo::new(1), Want::Write);
+    // One turn asks for the page of the code.
+    let steps = crew.go(first, 3);
+    let settled = crew.settle(first, keep);
+    let lent_again = crew.lend(alloc, first);
+    let more = crew.go(first, 3);
+    let settled_again = crew.settle(first, Keep::All);
+    let second_lent = crew.lend(alloc, second);
+    let second_asked = crew.ask(second, PageNo::new(1), want);
+    if [lent, settled, lent_again, settled_again, second_lent] == [Ok(()); 5]
+        && [asked, second_asked] == [Ok(Need::Given); 2]
+        && (steps, more) == (2, 2)
+    {
+        return Ok(crew);
+    }
+    let _book = crew.end();
+    Err("second".into())
+}
+
 #[test]
 fn what_a_hart_keeps_decides_the_edge(rt: HostRuntime) -> Result<(), Fail> {
     let (first, second) = (Hart::new(0), Hart::new(1));
-    // The first hart has written a page in two steps, keeps so much of it, and then goes two steps without it.
     for (keep, want, after) in [
         (Keep::All, Want::Read, 4),
         (Keep::All, Want::Write, 4),
@@ -278,29 +303,13 @@ fn what_a_hart_keeps_decides_the_edge(rt: HostRuntime) -> Result<(), Fail> {
         (Keep::Nothing, Want::Read, 2),
         (Keep::Nothing, Want::Write, 2),
     ] {
-        let image = image_of(rt.alloc(), LOOPS)?;
-        let mut crew = Crew::new(recorder(rt.alloc(), &image, 100)?);
-        let lent = crew.lend(rt.alloc(), first);
-        let written = crew.ask(first, PageNo::new(1), Want::Write);
-        // One turn asks for the page of the code.
-        let steps = crew.go(first, 3);
-        let settled = crew.settle(first, keep);
-        let lent_again = crew.lend(rt.alloc(), first);
-        let more = crew.go(first, 3);
-        let settled_again = crew.settle(first, Keep::All);
-        let second_lent = crew.lend(rt.alloc(), second);
-        let answer = crew.ask(second, PageNo::new(1), want);
-        let waits = [edge(second, 0, first, after)];
-        let found = crew.waiting(second) == waits.as_slice();
-        let _book = crew.end();
-        assert_eq!(rt; (lent, written, settled), (Ok(()), Ok(Need::Given), Ok(())));
-        assert_eq!(rt; (steps, more), (2, 2));
+        let crew = given_to_second(rt.alloc(), keep, want)?;
         assert_eq!(rt;
-            (lent_again, settled_again, second_lent),
-            (Ok(()), Ok(()), Ok(()))
+            crew.waiting(second),
+            [edge(second, 0, first, after)].as_slice(),
+            "{keep:?} {want:?}"
         );
-        assert_eq!(rt; answer, Ok(Need::Given));
-        assert!(rt; found, "{keep:?} {want:?}");
+        let _book = crew.end();
     }
     Ok(())
 }
@@ -438,5 +447,233 @@ fn a_page_that_no_lease_has_taken_is_given_up_at_the_settled_count(
         book.edges().of_hart(second),
         [edge(second, 0, first, 2)].as_slice()
     );
+    Ok(())
+}
+
+#[test]
+fn a_discarded_lease_leaves_no_edge(rt: HostRuntime) -> Result<(), Fail> {
+    let (first, second) = (Hart::new(0), Hart::new(1));
+    let one = PageNo::new(1);
+    let given = Ok(Need::Given);
+    let image = image_of(rt.alloc(), LOOPS)?;
+    let mut crew = Crew::new(recorder(rt.alloc(), &image, 100)?);
+    assert_eq!(rt; crew.lend(rt.alloc(), first), Ok(()));
+    assert_eq!(rt; crew.ask(first, one, Want::Write), given);
+    assert_eq!(rt; crew.go(first, 3), 2);
+    assert_eq!(rt; crew.settle(first, Keep::All), Ok(()));
+    // The second lease takes the page, and goes three steps with it. None of this has been.
+    assert_eq!(rt; crew.lend(rt.alloc(), second), Ok(()));
+    assert_eq!(rt; crew.ask(second, one, Want::Write), given);
+    assert_eq!(rt;
+        crew.waiting(second),
+        [edge(second, 0, first, 2)].as_slice()
+    );
+    assert_eq!(rt; crew.go(second, 4), 3);
+    assert_eq!(rt; crew.lend(rt.alloc(), first), Ok(()));
+    assert_eq!(rt;
+        crew.ask(first, one, Want::Read),
+        Ok(Need::HeldBy(NumberSet::new().with(1)))
+    );
+    assert_eq!(rt; crew.discard(second), Ok(()));
+    assert_eq!(rt; crew.discard(second), Err(BookFault::Foreign));
+    for hart in [first, second] {
+        assert!(rt; crew.book.edges().of_hart(hart).is_empty());
+    }
+    assert_eq!(rt; crew.book.counts().as_slice(), [2, 0, 0].as_slice());
+    assert_eq!(rt; crew.book.journal().len(), 1);
+    // The page is free. What the first lease wrote still comes before whoever reads it.
+    assert_eq!(rt; crew.lend(rt.alloc(), second), Ok(()));
+    assert_eq!(rt; crew.ask(second, one, Want::Read), given);
+    assert_eq!(rt;
+        crew.waiting(second),
+        [edge(second, 0, first, 2)].as_slice()
+    );
+    assert_eq!(rt; crew.ask(first, one, Want::Read), given);
+    assert!(rt; crew.waiting(first).is_empty());
+    assert_eq!(rt; crew.settle(second, Keep::Nothing), Ok(()));
+    let book = crew.end();
+    assert_eq!(rt;
+        book.edges().of_hart(second),
+        [edge(second, 0, first, 2)].as_slice()
+    );
+    assert!(rt; book.edges().of_hart(first).is_empty());
+    Ok(())
+}
+
+#[test]
+fn a_lease_whose_edges_are_others_is_foreign(rt: HostRuntime) -> Result<(), Fail> {
+    let second = Hart::new(1);
+    // The machines, the counts and what the leases took are equal, but one waits for two steps more.
+    for discards in [false, true] {
+        let mut crew = given_to_second(rt.alloc(), Keep::All, Want::Write)?;
+        let mut other = match given_to_second(rt.alloc(), Keep::Nothing, Want::Write) {
+            Ok(other) => other,
+            Err(fault) => {
+                let _book = crew.end();
+                return Err(fault);
+            }
+        };
+        let alike = crew.book.machine().same(other.book.machine());
+        let first = Hart::new(0);
+        let waits = crew.waiting(second) == [edge(second, 0, first, 4)].as_slice();
+        let other_waits = other.waiting(second) == [edge(second, 0, first, 2)].as_slice();
+        // Each lease goes to the other book.
+        mem::swap(&mut crew.leases, &mut other.leases);
+        let answer = if discards {
+            crew.discard(second)
+        } else {
+            crew.settle(second, Keep::All)
+        };
+        let counts = crew.book.counts();
+        let edges = crew.book.edges().of_hart(second).len();
+        let stretches = crew.book.journal().len();
+        let leased = crew.lend(rt.alloc(), second);
+        // It is still the book's own lease that is open.
+        mem::swap(&mut crew.leases, &mut other.leases);
+        let settled = crew.settle(second, Keep::All);
+        let book = crew.end();
+        let _other = other.end();
+        assert!(rt; alike);
+        assert!(rt; waits);
+        assert!(rt; other_waits);
+        assert_eq!(rt; answer, Err(BookFault::Foreign));
+        assert_eq!(rt; counts.as_slice(), [4, 0, 0].as_slice());
+        assert_eq!(rt; edges, 0);
+        assert_eq!(rt; stretches, 2);
+        assert_eq!(rt; leased, Err(BookFault::Leased));
+        assert_eq!(rt; settled, Ok(()));
+        assert_eq!(rt;
+            book.edges().of_hart(second),
+            [edge(second, 0, first, 4)].as_slice()
+        );
+    }
+    Ok(())
+}
+
+/// Numbers that look as if they fell by chance, the same ones for the same seed.
+#[derive(Drop)]
+struct Dice {
+    state: u64,
+}
+
+impl Dice {
+    fn roll(&mut self) -> u8 {
+        self.state ^= self.state << 13;
+        self.state ^= self.state >> 7;
+        self.state ^= self.state << 17;
+        self.state.to_le_bytes()[4]
+    }
+}
+
+/// Lends a hart that has no open lease, lets it go on, settles it or discards it, as the dice fall.
+fn turn<M: Mode>(crew: &mut Crew<M>, alloc: Global, dice: &mut Dice) {
+    let hart = Hart::new(dice.roll() % 4);
+    let _answer = match dice.roll() % 8 {
+        0 => crew.settle(hart, Keep::All),
+        1 => crew.settle(hart, Keep::Readable),
+        2 => crew.settle(hart, Keep::Nothing),
+        3 => crew.discard(hart),
+        _ => {
+            let lent = crew.lend(alloc, hart);
+            let _steps = crew.go(hart, u32::from(dice.roll() % 32));
+            lent
+        }
+    };
+}
+
+/// A book that has recorded so many turns, and how often a lease had to wait.
+fn recorded_turns(
+    alloc: Global,
+    image: &Image,
+    limit: u64,
+    seed: u64,
+) -> Result<(Book<Recording>, u32), Fail> {
+    let mut crew = Crew::new(recorder(alloc, image, limit)?);
+    let mut dice = Dice { state: seed };
+    for _turn in 0..400 {
+        turn(&mut crew, alloc, &mut dice);
+    }
+    let waits = crew.waits;
+    Ok((crew.end(), waits))
+}
+
+/// Which hart goes next.
+#[derive(Clone, Copy, Debug, PartialEq, Eq)]
+enum Order {
+    /// The next one up.
+    Rising,
+    /// The next one down.
+    Falling,
+    /// One by chance, with several open leases, and later the next one up.
+    Mixed,
+}
+
+/// Lets each hart in turn go as far as it may, until none goes on.
+fn go_round<M: Mode>(crew: &mut Crew<M>, alloc: Global, order: Order) {
+    for _round in 0..1000 {
+        let mut steps = 0u64;
+        for place in 0..4u8 {
+            let number = if order == Order::Falling {
+                3 - place
+            } else {
+                place
+            };
+            let taken = crew.run(alloc, Hart::new(number), Keep::All);
+            steps = steps.saturating_add(taken.unwrap_or(0));
+        }
+        if steps == 0 {
+            return;
+        }
+    }
+}
+
+/// A replay of these edges up to these counts, in this order.
+fn replayed(
+    alloc: Global,
+    image: &Image,
+    ends: Counts,
+    edges: EdgeLog,
+    order: Order,
+) -> Result<Book<Replaying>, Fail> {
+    let mut crew = Crew::new(replayer(alloc, image, ends, edges)?);
+    if order == Order::Mixed {
+        let mut dice = Dice { state: 99 };
+        for _turn in 0..400 {
+            turn(&mut crew, alloc, &mut dice);
+        }
+        crew = Crew::new(crew.end());
+    }
+    go_round(&mut crew, alloc, order);
+    Ok(crew.end())
+}
+
+#[test]
+fn each_replay_of_a_log_leads_to_the_recorded_machine(rt: HostRuntime) -> Result<(), Fail> {
+    for harts in [2, 3, 4] {
+        let image = mixing(rt.alloc(), harts)?;
+        let mut waits = 0u32;
+        for (seed, limit) in [(1, 1000), (2, 30), (3, 1000), (4, 1000), (5, 60), (6, 1000)] {
+            let (recorded, waited) = recorded_turns(rt.alloc(), &image, limit, seed)?;
+            waits = waits.saturating_add(waited);
+            for order in [Order::Rising, Order::Falling, Order::Mixed] {
+                let ends = recorded.counts();
+                let edges = recorded.edges().copy().map_err(|_| "memory")?;
+                let book = replayed(rt.alloc(), &image, ends, edges, order)?;
+                assert_eq!(rt; book.counts(), ends, "{harts} {seed} {order:?}");
+                assert!(rt; book.machine().same(recorded.machine()), "{harts} {seed} {order:?}");
+            }
+        }
+        assert!(rt; waits > 0, "{harts}");
+    }
+    Ok(())
+}
+
+#[test]
+fn without_its_edges_a_log_leads_elsewhere(rt: HostRuntime) -> Result<(), Fail> {
+    let image = mixing(rt.alloc(), 3)?;
+    let (recorded, _waits) = recorded_turns(rt.alloc(), &image, 1000, 1)?;
+    let none = EdgeLog::new(rt.alloc(), recorded.edges().start());
+    let book = replayed(rt.alloc(), &image, recorded.counts(), none, Order::Rising)?;
+    assert!(rt; !book.machine().same(recorded.machine()));
     Ok(())
 }
