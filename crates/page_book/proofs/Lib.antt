@@ -4,6 +4,7 @@ pub mod Endings
 pub mod Compared
 pub mod Given
 pub mod Halted
+pub mod Honest
 pub mod Journals
 pub mod Obeyed
 pub mod Lacking

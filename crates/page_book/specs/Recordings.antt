@@ -125,6 +125,7 @@ HasHonestLog edges start journal machine =
 -- a right that nobody used, for each page
 pub record IsUnused (r : RecordingView) (start : MachineState) (limits : List ℕ) : Type 0 where
   pub limits_are : r.limits ≡ limits
+  pub few : length start.harts ≤ 8
   pub edges : edges_of r.edges ≡ []
   pub log : IsLog r.edges.start r.edges.rows
   pub log_harts : length r.edges.start ≡ length start.harts

@@ -27,4 +27,6 @@ pub use stretch::Stretch;
 pub use taken::Taken;
 
 #[cfg(test)]
+mod recording_tests;
+#[cfg(test)]
 mod tests;

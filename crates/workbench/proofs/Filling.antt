@@ -8,11 +8,12 @@ use Rattle.ft_types.specs.declared.names.Want.TheVariants.{Read, Write}
 use Rattle.page_book.specs.declared.lease_pages.Slot.{Slot}
 use Rattle.page_book.specs.declared.lease_pages.Slot.TheVariants.{Readable, Writable}
 use Rattle.guest_image.specs.Machine.{MachineState}
-use Rattle.page_book.specs.declared.book.OpenLease.{OpenLease}
 use Rattle.page_book.specs.declared.taken.Taken.{Taken}
 use Rattle.page_book.specs.Slots.{slot_at, want_of}
 use Rattle.page_book.specs.Leases.{LeaseView, Ticks, IsFull, IsLent, laid, with_page, with_page_beside}
-use Rattle.page_book.specs.Books.{BookView, IsLentBy, IsOurs, IsFree, open_at, right_of, stands_against, taken_with}
+use Rattle.page_book.specs.Books.{BookView, IsLentBy, IsOurs, IsHolder, stands_against}
+use Rattle.edge_log.specs.declared.Edge.{Edge}
+use Rattle.page_book.specs.OpenLeases.{OpenView, open_at, right_of, given_more}
 use Rattle.page_book.specs.Laws.{StepCounts, LacksOnAPage, Covers}
 use Rattle.workbench.specs.Replays.{IsAlone, GoesOn, Gives, Fills, Settles, lacking, rights_short}
 
@@ -36,10 +37,11 @@ counts_on l k n goes stop one lt = elim goes [
   | inr on ↦ inr (omega (arith, one, on.0), omega (arith, one, stop, lt))
 ]
 
-lent_on : (lent : Option OpenLease) (m : MachineState) (k n : LeaseView) → n.stop ≡ k.stop →
+lent_on : (lent : Option OpenView) (m : MachineState) (k n : LeaseView) → n.stop ≡ k.stop → n.edges ≡ k.edges →
     ((machine : MachineState) (taken : List (Option Taken)) → IsLent machine taken k → IsLent machine taken n) → IsLentBy lent m k → IsLentBy lent m n
-lent_on None m k n stop still p = absurd p
-lent_on (Some lent) m k n stop still p = (stop ∙ p.0, still m lent.taken p.1)
+lent_on None m k n stop edges still p = absurd p
+lent_on (Some lent) m k n stop edges still p =
+    record { stop = stop ∙ p.stop; edges = edges ∙ p.edges; is_lent = still m lent.taken p.is_lent }
 
 -- one step more
 pub fills_step : {M : Type 0} (b c : BookView M) (l k n : LeaseView) → StepCounts → ((machine : MachineState) (taken : List (Option Taken)) → IsLent machine taken k → IsLent machine taken n) →
@@ -47,10 +49,11 @@ pub fills_step : {M : Type 0} (b c : BookView M) (l k n : LeaseView) → StepCou
 fills_step b c l k n counts still f room t =
     let hart : n.hart ≡ k.hart = ap (λ (x : LeaseView). x.hart) t.0 in
     let stop : n.stop ≡ k.stop = ap (λ (x : LeaseView). x.stop) t.0 in
+    let edges : n.edges ≡ k.edges = ap (λ (x : LeaseView). x.edges) t.0 in
     record {
       book = f.book;
       alone = record {
-        ours = subst (λ (h : ℕ). IsLentBy (open_at c.leases h) c.machine n) (sym hart) (lent_on (open_at c.leases k.hart) c.machine k n stop still f.alone.ours);
+        ours = subst (λ (h : ℕ). IsLentBy (open_at c.leases h) c.machine n) (sym hart) (lent_on (open_at c.leases k.hart) c.machine k n stop edges still f.alone.ours);
         alone = λ h ne. f.alone.alone h (λ e. ne (e ∙ sym hart));
       };
       hart = hart ∙ f.hart;
@@ -93,12 +96,12 @@ went_on l k room full base stop goes = elim goes [
   | inr on ↦ (on.0, omega (arith, stop, on.1))
 ]
 
-lent_row : (leases : List (Option OpenLease)) (hart : ℕ) (m : MachineState) (l : LeaseView) → IsLentBy (open_at leases hart) m l → hart < length leases
+lent_row : (leases : List (Option OpenView)) (hart : ℕ) (m : MachineState) (l : LeaseView) → IsLentBy (open_at leases hart) m l → hart < length leases
 lent_row [] hart m l p = absurd p
 lent_row (x ∷ leases) zero m l p = omega arith
 lent_row (x ∷ leases) (suc hart) m l p = let lt = lent_row leases hart m l p in omega (arith, lt)
 
-none_left : (leases : List (Option OpenLease)) (hart other : ℕ) → (other ≢ hart → open_at leases other ≡ None) → open_at (slice_set leases hart None) other ≡ None
+none_left : (leases : List (Option OpenView)) (hart other : ℕ) → (other ≢ hart → open_at leases other ≡ None) → open_at (slice_set leases hart None) other ≡ None
 none_left [] hart other e = refl
 none_left (x ∷ leases) zero zero e = refl
 none_left (x ∷ leases) zero (suc other) e = e (λ f. cc)
@@ -114,7 +117,7 @@ settled {M} b c d l k room full f start mode leases machine =
       start = start ∙ ap (λ (x : BookView M). x.start) f.book;
       mode = mode ∙ ap (λ (x : BookView M). x.mode) f.book;
       rows = omega (arith, row, f.hart, ap length leases, length-set c.leases k.hart None);
-      closed = λ h. ap (λ (x : List (Option OpenLease)). open_at x h) leases ∙ none_left c.leases k.hart h (f.alone.alone h);
+      closed = λ h. ap (λ (x : List (Option OpenView)). open_at x h) leases ∙ none_left c.leases k.hart h (f.alone.alone h);
       after = k.present;
       harts = ap (λ (m : MachineState). m.harts) machine
           ∙ ap (λ (x : BookView M). slice_set x.machine.harts k.hart k.present) f.book
@@ -126,7 +129,7 @@ settled {M} b c d l k room full f start mode leases machine =
 -- ---- a page that is given
 
 -- the other leases stay
-pub row_kept : (leases : List (Option OpenLease)) (hart other : ℕ) (lent : Option OpenLease) → other ≢ hart → open_at (slice_set leases hart lent) other ≡ open_at leases other
+pub row_kept : (leases : List (Option OpenView)) (hart other : ℕ) (lent : Option OpenView) → other ≢ hart → open_at (slice_set leases hart lent) other ≡ open_at leases other
 row_kept [] hart other lent ne = refl
 row_kept (x ∷ leases) zero zero lent ne = absurd (ne refl)
 row_kept (x ∷ leases) zero (suc other) lent ne = refl
@@ -157,23 +160,23 @@ page_at [] page lt = absurd (omega arith)
 page_at (p ∷ pages) zero lt = (p, refl)
 page_at (p ∷ pages) (suc page) lt = page_at pages page (omega arith)
 
-lent_pages : (lent : Option OpenLease) (m : MachineState) (l : LeaseView) → IsLentBy lent m l → length l.slots ≡ length m.pages
+lent_pages : (lent : Option OpenView) (m : MachineState) (l : LeaseView) → IsLentBy lent m l → length l.slots ≡ length m.pages
 lent_pages None m l p = absurd p
-lent_pages (Some lent) m l p = p.1.as_many
+lent_pages (Some lent) m l p = p.is_lent.as_many
 
 pub given : {M : Type 0} (b c : BookView M) (l k : LeaseView) (page : ℕ) (want : Want) → IsAlone b l → page < length l.slots → (Covers (want_of (slot_at l.slots page)) want → ⊥) →
-    c ≡ record b { leases = c.leases } → k.hart ≡ l.hart → k.base ≡ l.base → k.present ≡ l.present → k.steps ≡ l.steps → k.stop ≡ l.stop →
-    IsOurs c k → c.leases ≡ slice_set b.leases l.hart (taken_with (open_at b.leases l.hart) page want l.present.count) →
-    ((here : List ℕ) → slice_get b.machine.pages page ≡ Some here → k ≡ with_page l page want here) → Gives b c l k
-given b c l k page want alone lt lacks book hart base present steps stop ours leases gives =
+    c ≡ record b { leases = c.leases; mode = c.mode } → c.mode ≡ b.mode → k.hart ≡ l.hart → k.base ≡ l.base → k.present ≡ l.present →
+    k.steps ≡ l.steps → k.stop ≡ l.stop → IsOurs c k → (lent : Option OpenView) → c.leases ≡ slice_set b.leases l.hart lent →
+    ((here : List ℕ) → slice_get b.machine.pages page ≡ Some here → k ≡ record (with_page l page want here) { edges = k.edges }) → Gives b c l k
+given {M} b c l k page want alone lt lacks book mode hart base present steps stop ours lent leases gives =
     let here = page_at b.machine.pages page (omega (arith, lt, lent_pages (open_at b.leases l.hart) b.machine l alone.ours)) in
     record {
-      book = book;
+      book = book ∙ ap (λ (m : M). let d : BookView M = record b { leases = c.leases; mode = m } in d) mode;
       alone = record {
         ours = ours;
         alone = λ h ne.
-            ap (λ (x : List (Option OpenLease)). open_at x h) leases
-            ∙ row_kept b.leases l.hart h (taken_with (open_at b.leases l.hart) page want l.present.count) (λ e. ne (e ∙ sym hart))
+            ap (λ (x : List (Option OpenView)). open_at x h) leases
+            ∙ row_kept b.leases l.hart h lent (λ e. ne (e ∙ sym hart))
             ∙ alone.alone h (λ e. ne (e ∙ sym hart));
       };
       hart = hart;
@@ -186,9 +189,9 @@ given b c l k page want alone lt lacks book hart base present steps stop ours le
     }
 
 -- where no other lease is open, a page is free
-pub free : {M : Type 0} (b : BookView M) (l : LeaseView) (page : ℕ) (want : Want) → IsAlone b l → IsFree b.leases l.hart page want
+pub free : {M : Type 0} (b : BookView M) (l : LeaseView) (page : ℕ) (want : Want) → IsAlone b l → (other : ℕ) → IsHolder b.leases l.hart page want other → ⊥
 free b l page want alone other holder =
-    let no : false ≡ true = ap (λ (o : Option OpenLease). stands_against (right_of o page) want) (sym (alone.alone other holder.0)) ∙ holder.1 in
+    let no : false ≡ true = ap (λ (o : Option OpenView). stands_against (right_of o page) want) (sym (alone.alone other holder.0)) ∙ holder.1 in
     cc
 
 pub need_within : {M : Type 0} (b : BookView M) (l : LeaseView) (page : ℕ) → IsAlone b l → page < length l.slots → page < length b.machine.pages

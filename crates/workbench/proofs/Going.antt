@@ -5,14 +5,14 @@ use Rattle.rv32_hart.specs.Hart.{Hart}
 use Rattle.guest_image.specs.Image.{ImageContents}
 use Rattle.page_book.specs.declared.answers.BookFault.{BookFault}
 use Rattle.page_book.specs.declared.answers.BookFault.TheVariants.{Halted, AtLimit}
-use Rattle.page_book.specs.declared.book.OpenLease.{OpenLease}
 use Rattle.page_book.specs.declared.mode.Leg.{Leg}
 use Rattle.ft_types.specs.Counts.{count_at}
 use Rattle.interleaving.specs.Log.{Edge, HasUnmet}
 use Rattle.edge_log.specs.EdgeLog.{edges_of}
 use Rattle.page_book.specs.Runs.{counts_of, steps_taken, IsStop}
 use Rattle.page_book.specs.Leases.{LeaseView, IsFull, fresh}
-use Rattle.page_book.specs.Books.{BookView, IsOurs, open_at, refusal, nothing_taken}
+use Rattle.page_book.specs.Books.{BookView, IsOurs, refusal}
+use Rattle.page_book.specs.OpenLeases.{OpenView, open_at, nothing_taken}
 use Rattle.workbench.proofs.Filling.{row_kept}
 use Rattle.workbench.specs.Replays.{IsAlone, Settles, IsReplaying, HasStopped}
 
@@ -103,7 +103,7 @@ module _ (image : ImageContents) (end : ℕ) (b c : BookView Leg) (p : IsReplayi
   lent = (given_zeroth p.hart (alone_at image end b p)).0
 
   runs : refusal None p.hart stop ≡ None
-  runs = subst (λ (o : Option OpenLease). refusal o p.hart stop ≡ None) (p.closed 0) (given_zeroth p.hart (alone_at image end b p)).1
+  runs = subst (λ (o : Option OpenView). refusal o p.hart stop ≡ None) (p.closed 0) (given_zeroth p.hart (alone_at image end b p)).1
 
   opened : c ≡ record b { leases = slice_set b.leases 0 (Some (nothing_taken stop)) }
   opened =
@@ -183,5 +183,5 @@ stopped image end b c p hart f zeroth same refused = subst (λ (x : BookView Leg
     refused_here : (k : ℕ) → k ≡ 0 → ((h : Hart) → slice_get b.machine.harts k ≡ Some h → refusal (open_at b.leases k) h (count_at b.mode.ends k) ≡ Some f) →
         refusal None p.hart (count_at b.mode.ends 0) ≡ Some f
     refused_here k e r =
-        subst (λ (o : Option OpenLease). refusal o p.hart (count_at b.mode.ends 0) ≡ Some f) (p.closed 0)
+        subst (λ (o : Option OpenView). refusal o p.hart (count_at b.mode.ends 0) ≡ Some f) (p.closed 0)
         (subst (λ (n : ℕ). (h : Hart) → slice_get b.machine.harts n ≡ Some h → refusal (open_at b.leases n) h (count_at b.mode.ends n) ≡ Some f) e r p.hart (alone_at image end b p))

@@ -4,9 +4,9 @@ use Rattle.rv32_hart.specs.Hart.{Hart, boot_hart}
 use Rattle.guest_image.specs.Image.{ImageContents}
 use Rattle.guest_image.specs.Machine.{MachineState, boot_machine, boot_harts}
 use Rattle.edge_log.specs.EdgeLog.{Edges, edges_of}
-use Rattle.page_book.specs.declared.book.OpenLease.{OpenLease}
 use Rattle.page_book.specs.declared.mode.Leg.{Leg}
-use Rattle.page_book.specs.Books.{BookView, open_at}
+use Rattle.page_book.specs.Books.{BookView}
+use Rattle.page_book.specs.OpenLeases.{OpenView, open_at}
 use Rattle.page_book.specs.Runs.{LeadsTo, run_of, turns_in_a_row}
 use Rattle.page_book.specs.Laws.{StepsInARow, HaltsForGood}
 use Rattle.workbench.specs.declared.faults.ReplayFault.TheVariants.{HaltedInside}

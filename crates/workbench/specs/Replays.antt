@@ -9,7 +9,8 @@ use Rattle.page_book.specs.declared.mode.Leg.{Leg}
 use Rattle.edge_log.specs.EdgeLog.{edges_of}
 use Rattle.page_book.specs.Slots.{want_of}
 use Rattle.page_book.specs.Leases.{LeaseView}
-use Rattle.page_book.specs.Books.{BookView, IsOurs, open_at}
+use Rattle.page_book.specs.OpenLeases.{open_at}
+use Rattle.page_book.specs.Books.{BookView, IsOurs}
 
 -- the lease is the book's, and no other is open
 pub record IsAlone {M : Type 0} (b : BookView M) (l : LeaseView) : Type 0 where

@@ -10,6 +10,7 @@ unreachable-requires c =
 
 pub returns-in-Ok-Given : goal.returns-in-Ok-Given
 returns-in-Ok-Given c =
+    let taken = rw c.in-Ok-Given.field-0-is at c.in-Ok-Given.ensures.taken in
     given c.args.book.now c.need.new.self c.args.lease.now c.need.new.lease c.args.page c.args.want c.requires.alone c.requires.page c.requires.lacks
-    c.need.ensures.book c.need.ensures.hart c.need.ensures.base c.need.ensures.present c.need.ensures.steps c.need.ensures.stop
-    c.in-Ok-Given.ensures.ours (rw c.in-Ok-Given.field-0-is at c.in-Ok-Given.ensures.taken) (rw c.in-Ok-Given.field-0-is at c.in-Ok-Given.ensures.given)
+    c.need.ensures.book (rw c.in-Ok-Given.field-0-is at c.in-Ok-Given.ensures.mode) c.need.ensures.hart c.need.ensures.base c.need.ensures.present
+    c.need.ensures.steps c.need.ensures.stop c.in-Ok-Given.ensures.ours _ taken.noted (rw c.in-Ok-Given.field-0-is at c.in-Ok-Given.ensures.given)

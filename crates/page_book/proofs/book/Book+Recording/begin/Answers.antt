@@ -1,0 +1,9 @@
+use Rattle.std.proofs.Common.{rules, []}
+use Rattle.page_book.proofs.Honest.{begun_kept, begun_book}
+use Rattle.page_book.proofs.book.Book+Recording.begin.Goals as goal
+
+pub invariant_of-result : goal.invariant_of-result
+invariant_of-result c =
+    let mode = c.in_ok-mode.mode in
+    rw (c.in_ok-machine.ensures, c.new-2.ensures.items, c.no_leases.ensures)
+    (begun_book c.args.start mode.limits [] _ (begun_kept mode c.args.start c.args.limits c.in_ok-mode.ensures))

@@ -1,0 +1,780 @@
+//! Books that record, and the replays of what they recorded.
+
+use super::*;
+use edge_log::{Edge, EdgeLog};
+use ft_types::{Counts, Hart, Memory, NumberSet, PageNo, Want};
+use guest_image::{Image, Machine, read_image};
+use rv32_hart::Tick;
+use std::alloc::Global;
+use std::mem;
+use std::test::Fail;
+
+/// lui x1, 80001; sw x1, 0(x1); lui x4, f0000; sw x0, 20(x4), which halts: each hart stores into the second page.
+static BOTH_STORE: &[u8] = b"harts 2\npages 2\n800010b7\n0010a023\nf0000237\n00022a23\n";
+
+/// Three harts that jump to where they are.
+static LOOPS: &[u8] = b"harts 3\npages 3\n0000006f\n";
+
+/// Six times over each hart adds to a word of one of two pages, or loads it: which one, and what it adds, is made of what it
+/// loaded before. One of these words lies in the code's page. Then it halts.
+static MIXES: &[u8] =
+    b"800010b7\n80008093\n00600113\nf14021f3\n00118193\n0011f293\n00c29293\n001282b3\n0021f313\n00030663\n0032a3af\n0080006f\n0002a383\n00319413\n008181b3\n007181b3\n00518193\nfff10113\nfc0116e3\nf0000237\n00022a23\n";
+
+// What memory is refused once is asked for once more, here and below: so each test says the same where one allocation fails.
+
+fn image_of(alloc: Global, text: &[u8]) -> Result<Image, Fail> {
+    match read_image(alloc, text) {
+        Ok(image) => Ok(image),
+        Err(_) => Ok(read_image(alloc, text).map_err(|_| "image")?),
+    }
+}
+
+fn mixing_text(alloc: Global, harts: u8) -> Result<Vec<u8>, Memory> {
+    let head: &[u8] = match harts {
+        2 => b"harts 2\npages 2\n",
+        3 => b"harts 3\npages 2\n",
+        _ => b"harts 4\npages 2\n",
+    };
+    let mut text = Vec::new(alloc);
+    text.extend_from_slice(head)?;
+    text.extend_from_slice(MIXES)?;
+    Ok(text)
+}
+
+/// The image of so many harts that mix what they load.
+fn mixing(alloc: Global, harts: u8) -> Result<Image, Fail> {
+    let text = match mixing_text(alloc, harts) {
+        Ok(text) => text,
+        Err(_) => mixing_text(alloc, harts).map_err(|_| "memory")?,
+    };
+    image_of(alloc, text.as_slice())
+}
+
+fn edge(hart: Hart, at: u64, other: Hart, after: u64) -> Edge {
+    Edge {
+        hart,
+        at,
+        other,
+        after,
+    }
+}
+
+/// Each hart at one count.
+fn all_at(harts: u8, count: u64) -> Option<Counts> {
+    Counts::from_slice([count; 8].get(..harts as usize)?)
+}
+
+fn begin_recording(alloc: Global, image: &Image, limits: Counts) -> Option<Book<Recording>> {
+    let start = Machine::boot(alloc, image).ok()?;
+    if limits.harts() != start.harts() {
+        return None;
+    }
+    Book::<Recording>::begin(alloc, start, limits).ok()
+}
+
+/// A book that records, with one limit for each hart.
+fn recorder(alloc: Global, image: &Image, limit: u64) -> Result<Book<Recording>, Fail> {
+    let limits = all_at(image.harts(), limit).ok_or("limits")?;
+    match begin_recording(alloc, image, limits) {
+        Some(book) => Ok(book),
+        None => Ok(begin_recording(alloc, image, limits).ok_or("book")?),
+    }
+}
+
+fn begin_replaying(
+    alloc: Global,
+    image: &Image,
+    ends: Counts,
+    edges: &EdgeLog,
+) -> Option<Book<Replaying>> {
+    let start = Machine::boot(alloc, image).ok()?;
+    let edges = edges.copy().ok()?;
+    Book::<Replaying>::begin(alloc, start, Leg { ends, edges }).ok()
+}
+
+/// A book that obeys these edges up to these counts.
+fn replayer(
+    alloc: Global,
+    image: &Image,
+    ends: Counts,
+    edges: &EdgeLog,
+) -> Result<Book<Replaying>, Fail> {
+    match begin_replaying(alloc, image, ends, edges) {
+        Some(book) => Ok(book),
+        None => Ok(begin_replaying(alloc, image, ends, edges).ok_or("book")?),
+    }
+}
+
+/// A book, with a place for each hart's open lease.
+struct Crew<M: Mode> {
+    book: Book<M>,
+    leases: [Option<Lease>; 8],
+    /// How often a lease had to wait for another.
+    waits: u32,
+    /// How often memory was refused.
+    refusals: u32,
+}
+
+impl<M: Mode> Crew<M> {
+    fn new(book: Book<M>) -> Crew<M> {
+        Crew {
+            book,
+            leases: [None, None, None, None, None, None, None, None],
+            waits: 0,
+            refusals: 0,
+        }
+    }
+
+    /// Puts a lease into its place. One that is there goes back to the book.
+    fn put(&mut self, hart: Hart, lease: Lease) {
+        let before = mem::replace(&mut self.leases[hart.index()], Some(lease));
+        give_back(&mut self.book, before);
+    }
+
+    fn lend_once(&mut self, alloc: Global, hart: Hart) -> Result<(), BookFault> {
+        if hart.number() >= self.book.machine().harts() {
+            return Err(BookFault::Foreign);
+        }
+        let lease = self.book.lease(alloc, hart)?;
+        self.put(hart, lease);
+        Ok(())
+    }
+
+    fn lend(&mut self, alloc: Global, hart: Hart) -> Result<(), BookFault> {
+        match self.lend_once(alloc, hart) {
+            Err(BookFault::Memory) => {
+                self.refusals = self.refusals.saturating_add(1);
+                self.lend_once(alloc, hart)
+            }
+            answer => answer,
+        }
+    }
+
+    fn ask_once(&mut self, hart: Hart, page: PageNo, want: Want) -> Result<Need, BookFault> {
+        if page.number() >= self.book.machine().pages() {
+            return Err(BookFault::Foreign);
+        }
+        match &mut self.leases[hart.index()] {
+            None => Err(BookFault::Foreign),
+            Some(lease) => self.book.need(lease, page, want),
+        }
+    }
+
+    fn ask(&mut self, hart: Hart, page: PageNo, want: Want) -> Result<Need, BookFault> {
+        let answer = match self.ask_once(hart, page, want) {
+            Err(BookFault::Memory) => {
+                self.refusals = self.refusals.saturating_add(1);
+                self.ask_once(hart, page, want)
+            }
+            answer => answer,
+        };
+        if let Ok(Need::HeldBy(_)) = answer {
+            self.waits = self.waits.saturating_add(1);
+        }
+        answer
+    }
+
+    /// One step of the hart's lease, where it has one that is not full.
+    fn tick(&mut self, hart: Hart) -> Option<Tick> {
+        match &mut self.leases[hart.index()] {
+            None => None,
+            Some(lease) if lease.full() => None,
+            Some(lease) => Some(lease.tick()),
+        }
+    }
+
+    /// Takes steps, and asks for each page that one lacks: so many in all, or until a page is not given or the lease is
+    /// full. Says how many steps the lease has.
+    fn go(&mut self, hart: Hart, most: u32) -> u64 {
+        for _turn in 0..most {
+            match self.tick(hart) {
+                Some(Tick::Done) => {}
+                Some(Tick::Miss(page, want)) => {
+                    if self.ask(hart, page, want) != Ok(Need::Given) {
+                        break;
+                    }
+                }
+                Some(Tick::Halted | Tick::Memory) | None => break,
+            }
+        }
+        self.steps(hart)
+    }
+
+    /// How many steps the hart's lease has.
+    fn steps(&self, hart: Hart) -> u64 {
+        match &self.leases[hart.index()] {
+            None => 0,
+            Some(lease) => lease.steps(),
+        }
+    }
+
+    /// The edges that wait in the hart's lease.
+    fn waiting(&self, hart: Hart) -> &[Edge] {
+        match &self.leases[hart.index()] {
+            None => &[],
+            Some(lease) => lease.edges(),
+        }
+    }
+
+    fn settle_once(&mut self, hart: Hart, keep: Keep) -> Result<(), BookFault> {
+        match self.leases[hart.index()].take() {
+            None => Err(BookFault::Foreign),
+            Some(lease) => match self.book.settle(lease, keep) {
+                Ok(()) => Ok(()),
+                Err((lease, fault)) => {
+                    self.put(hart, lease);
+                    Err(fault)
+                }
+            },
+        }
+    }
+
+    fn settle(&mut self, hart: Hart, keep: Keep) -> Result<(), BookFault> {
+        match self.settle_once(hart, keep) {
+            Err(BookFault::Memory) => {
+                self.refusals = self.refusals.saturating_add(1);
+                self.settle_once(hart, keep)
+            }
+            answer => answer,
+        }
+    }
+
+    fn discard(&mut self, hart: Hart) -> Result<(), BookFault> {
+        match self.leases[hart.index()].take() {
+            None => Err(BookFault::Foreign),
+            Some(lease) => self.book.discard(lease),
+        }
+    }
+
+    /// One lease of the hart, which goes as far as it may and is settled. Says how many steps it had.
+    fn run(&mut self, alloc: Global, hart: Hart, keep: Keep) -> Result<u64, BookFault> {
+        self.lend(alloc, hart)?;
+        let steps = self.go(hart, 4096);
+        self.settle(hart, keep)?;
+        Ok(steps)
+    }
+
+    /// The book, once each open lease has gone back without its steps.
+    fn end(self) -> Book<M> {
+        let Crew {
+            mut book,
+            leases: [first, second, third, fourth, fifth, sixth, seventh, eighth],
+            waits: _,
+            refusals: _,
+        } = self;
+        give_back(&mut book, first);
+        give_back(&mut book, second);
+        give_back(&mut book, third);
+        give_back(&mut book, fourth);
+        give_back(&mut book, fifth);
+        give_back(&mut book, sixth);
+        give_back(&mut book, seventh);
+        give_back(&mut book, eighth);
+        book
+    }
+}
+
+/// Ends an open lease without its steps.
+fn give_back<M: Mode>(book: &mut Book<M>, lease: Option<Lease>) {
+    if let Some(lease) = lease {
+        let _gone = book.discard(lease);
+    }
+}
+
+/// Both harts take their four steps, the first one first.
+fn both_stored(alloc: Global, keep: Keep) -> Result<Book<Recording>, Fail> {
+    let image = image_of(alloc, BOTH_STORE)?;
+    let mut crew = Crew::new(recorder(alloc, &image, 100)?);
+    let first = crew.run(alloc, Hart::new(0), keep);
+    let second = crew.run(alloc, Hart::new(1), keep);
+    let book = crew.end();
+    if (first, second) == (Ok(4), Ok(4)) {
+        Ok(book)
+    } else {
+        Err("steps".into())
+    }
+}
+
+#[test]
+fn a_store_after_another_harts_is_an_edge(rt: HostRuntime) -> Result<(), Fail> {
+    let (first, second) = (Hart::new(0), Hart::new(1));
+    for keep in [Keep::All, Keep::Readable, Keep::Nothing] {
+        let book = both_stored(rt.alloc(), keep)?;
+        assert_eq!(rt;
+            book.edges().of_hart(second),
+            [edge(second, 1, first, 4)].as_slice(),
+            "{keep:?}"
+        );
+        assert!(rt; book.edges().of_hart(first).is_empty(), "{keep:?}");
+        assert_eq!(rt; book.counts().as_slice(), [4, 4].as_slice(), "{keep:?}");
+    }
+    Ok(())
+}
+
+/// The first hart writes the second page in two steps, keeps so much of it, and goes two steps without it. Then an open lease
+/// of the second hart is given this right on it.
+fn given_to_second(alloc: Global, keep: Keep, want: Want) -> Result<Crew<Recording>, Fail> {
+    let image = image_of(alloc, LOOPS)?;
+    let (first, second) = (Hart::new(0), Hart::new(1));
+    let mut crew = Crew::new(recorder(alloc, &image, 100)?);
+    let lent = crew.lend(alloc, first);
+    let asked = crew.ask(first, PageNo::new(1), Want::Write);
+    // One turn asks for the page of the code.
+    let steps = crew.go(first, 3);
+    let settled = crew.settle(first, keep);
+    let lent_again = crew.lend(alloc, first);
+    let more = crew.go(first, 3);
+    let settled_again = crew.settle(first, Keep::All);
+    let second_lent = crew.lend(alloc, second);
+    let second_asked = crew.ask(second, PageNo::new(1), want);
+    if [lent, settled, lent_again, settled_again, second_lent] == [Ok(()); 5]
+        && [asked, second_asked] == [Ok(Need::Given); 2]
+        && (steps, more) == (2, 2)
+    {
+        return Ok(crew);
+    }
+    let _book = crew.end();
+    Err("second".into())
+}
+
+#[test]
+fn what_a_hart_keeps_decides_the_edge(rt: HostRuntime) -> Result<(), Fail> {
+    let (first, second) = (Hart::new(0), Hart::new(1));
+    for (keep, want, after) in [
+        (Keep::All, Want::Read, 4),
+        (Keep::All, Want::Write, 4),
+        (Keep::Readable, Want::Read, 2),
+        (Keep::Readable, Want::Write, 4),
+        (Keep::Nothing, Want::Read, 2),
+        (Keep::Nothing, Want::Write, 2),
+    ] {
+        let crew = given_to_second(rt.alloc(), keep, want)?;
+        assert_eq!(rt;
+            crew.waiting(second),
+            [edge(second, 0, first, after)].as_slice(),
+            "{keep:?} {want:?}"
+        );
+        let _book = crew.end();
+    }
+    Ok(())
+}
+
+#[test]
+fn a_log_is_obeyed_by_the_book_that_replays_it(rt: HostRuntime) -> Result<(), Fail> {
+    let (first, second) = (Hart::new(0), Hart::new(1));
+    let image = image_of(rt.alloc(), BOTH_STORE)?;
+    let recorded = both_stored(rt.alloc(), Keep::All)?;
+    let mut crew = Crew::new(replayer(rt.alloc(), &image, recorded.counts(), recorded.edges())?);
+    let before = crew.run(rt.alloc(), second, Keep::All);
+    let waits = crew.lend(rt.alloc(), second);
+    let lent = crew.lend(rt.alloc(), first);
+    // Two turns ask for pages.
+    let three = crew.go(first, 5);
+    let waits_still = crew.lend(rt.alloc(), second);
+    let settled = crew.settle(first, Keep::All);
+    let waits_for_the_fourth = crew.lend(rt.alloc(), second);
+    let fourth = crew.run(rt.alloc(), first, Keep::All);
+    let rest = crew.run(rt.alloc(), second, Keep::All);
+    let replayed = crew.end();
+    assert_eq!(rt; before, Ok(1));
+    assert_eq!(rt; waits, Err(BookFault::EdgeOpen));
+    assert_eq!(rt; (lent, three, settled), (Ok(()), 3, Ok(())));
+    assert_eq!(rt; waits_still, Err(BookFault::EdgeOpen));
+    assert_eq!(rt; waits_for_the_fourth, Err(BookFault::EdgeOpen));
+    assert_eq!(rt; (fourth, rest), (Ok(1), Ok(3)));
+    assert_eq!(rt; replayed.counts(), recorded.counts());
+    assert!(rt; replayed.machine().same(recorded.machine()));
+    Ok(())
+}
+
+#[test]
+fn what_an_open_lease_has_taken_is_waited_for(rt: HostRuntime) -> Result<(), Fail> {
+    let (first, second, third) = (Hart::new(0), Hart::new(1), Hart::new(2));
+    let (one, two) = (PageNo::new(1), PageNo::new(2));
+    let by_first = Ok(Need::HeldBy(NumberSet::new().with(0)));
+    let by_both = Ok(Need::HeldBy(NumberSet::new().with(0).with(2)));
+    let by_third = Ok(Need::HeldBy(NumberSet::new().with(2)));
+    let given = Ok(Need::Given);
+    let image = image_of(rt.alloc(), LOOPS)?;
+    let mut crew = Crew::new(recorder(rt.alloc(), &image, 100)?);
+    for hart in [first, second, third] {
+        assert_eq!(rt; crew.lend(rt.alloc(), hart), Ok(()));
+    }
+    // The first lease writes a page, and reads another beside the third lease.
+    assert_eq!(rt; crew.ask(first, one, Want::Write), given);
+    assert_eq!(rt; crew.ask(second, one, Want::Read), by_first);
+    assert_eq!(rt; crew.ask(second, one, Want::Write), by_first);
+    assert_eq!(rt; crew.ask(first, two, Want::Read), given);
+    assert_eq!(rt; crew.ask(second, two, Want::Write), by_first);
+    assert_eq!(rt; crew.ask(third, two, Want::Read), given);
+    assert_eq!(rt; crew.ask(second, two, Want::Write), by_both);
+    assert_eq!(rt; crew.ask(second, two, Want::Read), given);
+    assert!(rt; crew.waiting(second).is_empty());
+    // Once it is settled, its pages are there for the asking. One turn of each hart asks for the code's page.
+    assert_eq!(rt; crew.go(first, 4), 3);
+    assert_eq!(rt; crew.ask(second, one, Want::Read), by_first);
+    assert_eq!(rt; crew.settle(first, Keep::All), Ok(()));
+    assert_eq!(rt; crew.ask(second, one, Want::Write), given);
+    assert_eq!(rt;
+        crew.waiting(second),
+        [edge(second, 0, first, 3)].as_slice()
+    );
+    assert_eq!(rt; crew.ask(second, two, Want::Write), by_third);
+    assert_eq!(rt; crew.go(third, 3), 2);
+    assert_eq!(rt; crew.settle(third, Keep::All), Ok(()));
+    assert_eq!(rt; crew.go(second, 2), 1);
+    assert_eq!(rt; crew.ask(second, two, Want::Write), given);
+    assert_eq!(rt;
+        crew.waiting(second),
+        [
+            edge(second, 0, first, 3),
+            edge(second, 1, first, 3),
+            edge(second, 1, third, 2)
+        ]
+        .as_slice()
+    );
+    assert_eq!(rt; crew.settle(second, Keep::All), Ok(()));
+    let book = crew.end();
+    // The second one is implied by the first.
+    assert_eq!(rt;
+        book.edges().of_hart(second),
+        [edge(second, 0, first, 3), edge(second, 1, third, 2)].as_slice()
+    );
+    Ok(())
+}
+
+#[test]
+fn a_page_that_no_lease_has_taken_is_given_up_at_the_settled_count(
+    rt: HostRuntime,
+) -> Result<(), Fail> {
+    let (first, second) = (Hart::new(0), Hart::new(1));
+    let (one, two) = (PageNo::new(1), PageNo::new(2));
+    let given = Ok(Need::Given);
+    let image = image_of(rt.alloc(), LOOPS)?;
+    let mut crew = Crew::new(recorder(rt.alloc(), &image, 100)?);
+    assert_eq!(rt; crew.lend(rt.alloc(), first), Ok(()));
+    assert_eq!(rt; crew.ask(first, one, Want::Write), given);
+    assert_eq!(rt; crew.ask(first, two, Want::Read), given);
+    assert_eq!(rt; crew.go(first, 3), 2);
+    assert_eq!(rt; crew.settle(first, Keep::All), Ok(()));
+    // The next lease goes on to 5 without these pages.
+    assert_eq!(rt; crew.lend(rt.alloc(), first), Ok(()));
+    assert_eq!(rt; crew.go(first, 4), 3);
+    assert_eq!(rt; crew.lend(rt.alloc(), second), Ok(()));
+    assert_eq!(rt; crew.ask(second, one, Want::Read), given);
+    assert_eq!(rt;
+        crew.waiting(second),
+        [edge(second, 0, first, 2)].as_slice()
+    );
+    assert_eq!(rt; crew.go(second, 2), 1);
+    assert_eq!(rt; crew.ask(second, two, Want::Write), given);
+    assert_eq!(rt;
+        crew.waiting(second),
+        [edge(second, 0, first, 2), edge(second, 1, first, 2)].as_slice()
+    );
+    // Now it is the first one that waits, and its step at 5 that comes after the second's first four.
+    assert_eq!(rt;
+        crew.ask(first, two, Want::Read),
+        Ok(Need::HeldBy(NumberSet::new().with(1)))
+    );
+    assert_eq!(rt; crew.go(second, 3), 4);
+    assert_eq!(rt; crew.settle(second, Keep::All), Ok(()));
+    assert_eq!(rt; crew.ask(first, two, Want::Read), given);
+    assert_eq!(rt; crew.waiting(first), [edge(first, 5, second, 4)].as_slice());
+    assert_eq!(rt; crew.settle(first, Keep::Nothing), Ok(()));
+    let book = crew.end();
+    assert_eq!(rt;
+        book.edges().of_hart(first),
+        [edge(first, 5, second, 4)].as_slice()
+    );
+    assert_eq!(rt;
+        book.edges().of_hart(second),
+        [edge(second, 0, first, 2)].as_slice()
+    );
+    Ok(())
+}
+
+#[test]
+fn a_discarded_lease_leaves_no_edge(rt: HostRuntime) -> Result<(), Fail> {
+    let (first, second) = (Hart::new(0), Hart::new(1));
+    let one = PageNo::new(1);
+    let given = Ok(Need::Given);
+    let image = image_of(rt.alloc(), LOOPS)?;
+    let mut crew = Crew::new(recorder(rt.alloc(), &image, 100)?);
+    assert_eq!(rt; crew.lend(rt.alloc(), first), Ok(()));
+    assert_eq!(rt; crew.ask(first, one, Want::Write), given);
+    assert_eq!(rt; crew.go(first, 3), 2);
+    assert_eq!(rt; crew.settle(first, Keep::All), Ok(()));
+    // The second lease takes the page, and goes three steps with it. None of this has been.
+    assert_eq!(rt; crew.lend(rt.alloc(), second), Ok(()));
+    assert_eq!(rt; crew.ask(second, one, Want::Write), given);
+    assert_eq!(rt;
+        crew.waiting(second),
+        [edge(second, 0, first, 2)].as_slice()
+    );
+    assert_eq!(rt; crew.go(second, 4), 3);
+    assert_eq!(rt; crew.lend(rt.alloc(), first), Ok(()));
+    assert_eq!(rt;
+        crew.ask(first, one, Want::Read),
+        Ok(Need::HeldBy(NumberSet::new().with(1)))
+    );
+    assert_eq!(rt; crew.discard(second), Ok(()));
+    assert_eq!(rt; crew.discard(second), Err(BookFault::Foreign));
+    for hart in [first, second] {
+        assert!(rt; crew.book.edges().of_hart(hart).is_empty());
+    }
+    assert_eq!(rt; crew.book.counts().as_slice(), [2, 0, 0].as_slice());
+    assert_eq!(rt; crew.book.journal().len(), 1);
+    // The page is free. What the first lease wrote still comes before whoever reads it.
+    assert_eq!(rt; crew.lend(rt.alloc(), second), Ok(()));
+    assert_eq!(rt; crew.ask(second, one, Want::Read), given);
+    assert_eq!(rt;
+        crew.waiting(second),
+        [edge(second, 0, first, 2)].as_slice()
+    );
+    assert_eq!(rt; crew.ask(first, one, Want::Read), given);
+    assert!(rt; crew.waiting(first).is_empty());
+    assert_eq!(rt; crew.settle(second, Keep::Nothing), Ok(()));
+    let book = crew.end();
+    assert_eq!(rt;
+        book.edges().of_hart(second),
+        [edge(second, 0, first, 2)].as_slice()
+    );
+    assert!(rt; book.edges().of_hart(first).is_empty());
+    Ok(())
+}
+
+#[test]
+fn a_lease_whose_edges_are_others_is_foreign(rt: HostRuntime) -> Result<(), Fail> {
+    let second = Hart::new(1);
+    // The machines, the counts and what the leases took are equal, but one waits for two steps more.
+    for discards in [false, true] {
+        let mut crew = given_to_second(rt.alloc(), Keep::All, Want::Write)?;
+        let mut other = match given_to_second(rt.alloc(), Keep::Nothing, Want::Write) {
+            Ok(other) => other,
+            Err(fault) => {
+                let _book = crew.end();
+                return Err(fault);
+            }
+        };
+        let alike = crew.book.machine().same(other.book.machine());
+        let first = Hart::new(0);
+        let waits = crew.waiting(second) == [edge(second, 0, first, 4)].as_slice();
+        let other_waits = other.waiting(second) == [edge(second, 0, first, 2)].as_slice();
+        // Each lease goes to the other book.
+        mem::swap(&mut crew.leases, &mut other.leases);
+        let answer = if discards {
+            crew.discard(second)
+        } else {
+            crew.settle(second, Keep::All)
+        };
+        let counts = crew.book.counts();
+        let edges = crew.book.edges().of_hart(second).len();
+        let stretches = crew.book.journal().len();
+        let leased = crew.lend(rt.alloc(), second);
+        // It is still the book's own lease that is open.
+        mem::swap(&mut crew.leases, &mut other.leases);
+        let settled = crew.settle(second, Keep::All);
+        let book = crew.end();
+        let _other = other.end();
+        assert!(rt; alike);
+        assert!(rt; waits);
+        assert!(rt; other_waits);
+        assert_eq!(rt; answer, Err(BookFault::Foreign));
+        assert_eq!(rt; counts.as_slice(), [4, 0, 0].as_slice());
+        assert_eq!(rt; edges, 0);
+        assert_eq!(rt; stretches, 2);
+        assert_eq!(rt; leased, Err(BookFault::Leased));
+        assert_eq!(rt; settled, Ok(()));
+        assert_eq!(rt;
+            book.edges().of_hart(second),
+            [edge(second, 0, first, 4)].as_slice()
+        );
+    }
+    Ok(())
+}
+
+/// Numbers that look as if they fell by chance, the same ones for the same seed.
+#[derive(Drop)]
+struct Dice {
+    state: u64,
+}
+
+impl Dice {
+    fn roll(&mut self) -> u8 {
+        self.state ^= self.state << 13;
+        self.state ^= self.state >> 7;
+        self.state ^= self.state << 17;
+        self.state.to_le_bytes()[4]
+    }
+}
+
+/// Lends a hart that has no open lease, lets it go on, settles it or discards it, as the dice fall.
+fn turn<M: Mode>(crew: &mut Crew<M>, alloc: Global, dice: &mut Dice) {
+    let hart = Hart::new(dice.roll() % 4);
+    let _answer = match dice.roll() % 10 {
+        0 => crew.settle(hart, Keep::All),
+        1 => crew.settle(hart, Keep::Readable),
+        2 => crew.settle(hart, Keep::Nothing),
+        3 => crew.discard(hart),
+        _ => {
+            let lent = crew.lend(alloc, hart);
+            let _steps = crew.go(hart, u32::from(dice.roll() % 8));
+            lent
+        }
+    };
+}
+
+/// A book that has recorded many turns. There, harts have waited for one another.
+fn recorded_turns(
+    alloc: Global,
+    image: &Image,
+    limit: u64,
+    seed: u64,
+) -> Result<Book<Recording>, Fail> {
+    let mut crew = Crew::new(recorder(alloc, image, limit)?);
+    let mut dice = Dice { state: seed };
+    for _turn in 0..600 {
+        turn(&mut crew, alloc, &mut dice);
+    }
+    let (waits, refusals) = (crew.waits, crew.refusals);
+    let book = crew.end();
+    if waits > 0 && refusals < 2 {
+        Ok(book)
+    } else {
+        Err("turns".into())
+    }
+}
+
+/// Which hart goes next.
+#[derive(Clone, Copy, Debug, PartialEq, Eq)]
+enum Order {
+    /// The next one up.
+    Rising,
+    /// The next one down.
+    Falling,
+    /// One by chance, with several open leases, and later the next one up.
+    Mixed,
+}
+
+/// Lets each hart in turn go as far as it may, until none goes on.
+fn go_round<M: Mode>(crew: &mut Crew<M>, alloc: Global, order: Order) {
+    for _round in 0..1000 {
+        let mut steps = 0u64;
+        for place in 0..4u8 {
+            let number = if order == Order::Falling {
+                3 - place
+            } else {
+                place
+            };
+            let taken = crew.run(alloc, Hart::new(number), Keep::All);
+            steps = steps.saturating_add(taken.unwrap_or(0));
+        }
+        if steps == 0 {
+            return;
+        }
+    }
+}
+
+/// A replay of these edges up to these counts, in this order.
+fn replayed(
+    alloc: Global,
+    image: &Image,
+    ends: Counts,
+    edges: &EdgeLog,
+    order: Order,
+) -> Result<Book<Replaying>, Fail> {
+    let mut crew = Crew::new(replayer(alloc, image, ends, edges)?);
+    if order == Order::Mixed {
+        let mut dice = Dice { state: 99 };
+        for _turn in 0..600 {
+            turn(&mut crew, alloc, &mut dice);
+        }
+        crew = Crew::new(crew.end());
+    }
+    go_round(&mut crew, alloc, order);
+    Ok(crew.end())
+}
+
+#[test]
+fn each_replay_of_a_log_leads_to_the_recorded_machine(rt: HostRuntime) -> Result<(), Fail> {
+    for harts in [2, 3, 4] {
+        let image = mixing(rt.alloc(), harts)?;
+        for (seed, limit) in [(1, 1000), (2, 30), (3, 1000), (4, 1000), (5, 60), (6, 1000)] {
+            let recorded = recorded_turns(rt.alloc(), &image, limit, seed)?;
+            for order in [Order::Rising, Order::Falling, Order::Mixed] {
+                let ends = recorded.counts();
+                let book = replayed(rt.alloc(), &image, ends, recorded.edges(), order)?;
+                assert_eq!(rt; book.counts(), ends, "{harts} {seed} {order:?}");
+                assert!(rt;
+                    book.machine().same(recorded.machine()),
+                    "{harts} {seed} {order:?}"
+                );
+            }
+        }
+    }
+    Ok(())
+}
+
+#[test]
+fn without_its_edges_a_log_leads_elsewhere(rt: HostRuntime) -> Result<(), Fail> {
+    let image = mixing(rt.alloc(), 3)?;
+    let recorded = recorded_turns(rt.alloc(), &image, 1000, 1)?;
+    let none = EdgeLog::new(rt.alloc(), recorded.edges().start());
+    let book = replayed(rt.alloc(), &image, recorded.counts(), &none, Order::Rising)?;
+    assert!(rt; !book.machine().same(recorded.machine()));
+    Ok(())
+}
+
+#[test]
+fn a_limit_is_raised_and_never_lowered(rt: HostRuntime) -> Result<(), Fail> {
+    let (first, second, third) = (Hart::new(0), Hart::new(1), Hart::new(2));
+    let image = image_of(rt.alloc(), LOOPS)?;
+    let limits = Counts::from_slice(&[1, 3, 0]).ok_or("limits")?;
+    let raised = Counts::from_slice(&[2, 1, 0]).ok_or("limits")?;
+    let start = Machine::boot(rt.alloc(), &image).map_err(|_| "memory")?;
+    assert_eq!(rt; start.harts(), 3);
+    assert_eq!(rt; start.pages(), 3);
+    let mut book = Book::<Recording>::begin(rt.alloc(), start, limits).map_err(|_| "memory")?;
+    let Ok(mut lease) = book.lease(rt.alloc(), first) else {
+        return Err("lease".into());
+    };
+    let page = PageNo::new(0);
+    let Ok(Need::Given) = book.need(&mut lease, page, Want::Read) else {
+        let _gone = book.discard(lease);
+        return Err("need".into());
+    };
+    let ticked = if lease.full() {
+        Tick::Halted
+    } else {
+        lease.tick()
+    };
+    let known = (lease.hart(), lease.count(), lease.stop(), lease.steps());
+    let (full, waits) = (lease.full(), lease.edges().len());
+    if let Err((lease, _)) = book.settle(lease, Keep::All) {
+        let _gone = book.discard(lease);
+        return Err("settle".into());
+    }
+    if let Ok(lease) = book.lease(rt.alloc(), first) {
+        let _gone = book.discard(lease);
+        return Err("lent past its limit".into());
+    }
+    book.limit_to(raised);
+    let mut crew = Crew::new(book);
+    let more = crew.run(rt.alloc(), first, Keep::All);
+    let all = crew.run(rt.alloc(), second, Keep::All);
+    let refusals = [
+        crew.lend(rt.alloc(), first),
+        crew.lend(rt.alloc(), second),
+        crew.lend(rt.alloc(), third),
+    ];
+    let book = crew.end();
+    assert_eq!(rt; ticked, Tick::Done);
+    assert_eq!(rt; known, (first, 1, 1, 1));
+    assert_eq!(rt; (full, waits), (true, 0));
+    assert_eq!(rt; (more, all), (Ok(1), Ok(3)));
+    assert_eq!(rt; refusals, [Err(BookFault::AtLimit); 3]);
+    assert_eq!(rt; book.counts().as_slice(), [2, 3, 0].as_slice());
+    assert_eq!(rt; book.journal().len(), 3);
+    Ok(())
+}
