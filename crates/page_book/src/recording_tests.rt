@@ -174,12 +174,12 @@ impl<M: Mode> Crew<M> {
         answer
     }
 
-    /// One step of the hart's lease, where it has one that is not full.
-    fn tick(&mut self, hart: Hart) -> Option<Tick> {
+    /// One step of the hart's lease. `Halted` where it has none, or one that is full.
+    fn tick(&mut self, hart: Hart) -> Tick {
         match &mut self.leases[hart.index()] {
-            None => None,
-            Some(lease) if lease.full() => None,
-            Some(lease) => Some(lease.tick()),
+            None => Tick::Halted,
+            Some(lease) if lease.full() => Tick::Halted,
+            Some(lease) => lease.tick(),
         }
     }
 
@@ -188,13 +188,13 @@ impl<M: Mode> Crew<M> {
     fn go(&mut self, hart: Hart, most: u32) -> u64 {
         for _turn in 0..most {
             match self.tick(hart) {
-                Some(Tick::Done) => {}
-                Some(Tick::Miss(page, want)) => {
+                Tick::Done => {}
+                Tick::Miss(page, want) => {
                     if self.ask(hart, page, want) != Ok(Need::Given) {
                         break;
                     }
                 }
-                Some(Tick::Halted | Tick::Memory) | None => break,
+                Tick::Halted | Tick::Memory => break,
             }
         }
         self.steps(hart)
