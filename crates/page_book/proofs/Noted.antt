@@ -54,7 +54,7 @@ lent_kept start m journal leases stops edges before after hart stop p there row 
           (λ lent e. let same : nothing_taken stop ≡ lent = cc in subst (λ (l : OpenView). MayGoTo edges (counts_of m) hart l.stop) same may) p.unhindered;
       rights = set_each (λ h lent. length lent.taken ≡ 64) leases hart (Some (nothing_taken stop)) row
           (λ lent e. let same : nothing_taken stop ≡ lent = cc in
-            subst (λ (l : OpenView). length l.taken ≡ 64) same (length-replicate {A = Option Taken} 64 None)) p.rights;
+          subst (λ (l : OpenView). length l.taken ≡ 64) same (length-replicate {A = Option Taken} 64 None)) p.rights;
       begins = p.begins;
       counted = p.counted;
       keeps = kept;
@@ -100,10 +100,10 @@ given_kept start m journal leases stops new_stops edges new_edges before after h
       known = set_known leases hart new (length m.harts) row (λ beyond. none_more (open_at leases hart) page want count found (p.known hart beyond)) p.known;
       stopped = set_each (λ h lent. lent.stop ≤ count_at stops h) leases hart new row
           (λ lent e. let i = more (open_at leases hart) page want count found lent e in
-            subst (λ k. k ≤ count_at stops hart) (sym i.stop) (p.stopped hart i.was i.is_old)) p.stopped;
+          subst (λ k. k ≤ count_at stops hart) (sym i.stop) (p.stopped hart i.was i.is_old)) p.stopped;
       unhindered = set_each (λ h lent. MayGoTo edges (counts_of m) h lent.stop) leases hart new row
           (λ lent e. let i = more (open_at leases hart) page want count found lent e in
-            subst (MayGoTo edges (counts_of m) hart) (sym i.stop) (p.unhindered hart i.was i.is_old)) p.unhindered;
+          subst (MayGoTo edges (counts_of m) hart) (sym i.stop) (p.unhindered hart i.was i.is_old)) p.unhindered;
       rights = set_each (λ h lent. length lent.taken ≡ 64) leases hart new row
           (λ lent e. let i = more (open_at leases hart) page want count found lent e in i.row ∙ p.rights hart i.was i.is_old) p.rights;
       begins = p.begins;

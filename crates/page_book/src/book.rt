@@ -21,12 +21,12 @@ use crate::asked::Asked;
 use crate::lease::Lease;
 use crate::lease_pages::Slot;
 use crate::mode::{Leg, Mode, Replaying};
+use crate::open_lease::OpenLease;
 use crate::recording::Recording;
 use crate::settled::{settled_counts, steps_taken};
-use crate::open_lease::OpenLease;
 use crate::stretch::Stretch;
 use edge_log::{Edge, EdgeLog};
-use ft_types::{ Count, Counts, Hart, HartSet, Memory, PageNo, Want};
+use ft_types::{Count, Counts, Hart, HartSet, Memory, PageNo, Want};
 use guest_image::{Machine, Page};
 use std::alloc::Global;
 use std::marker::Model;
@@ -196,12 +196,7 @@ fn add_stretch(journal: &mut Vec<Stretch>, hart: Hart, steps: u64)
 }
 
 /// Writes down that an open lease was given the right that it asked for, and found edges: these wait in it now.
-fn note_taken(
-    lease: &mut Option<OpenLease>,
-    asked: &Asked,
-    _found: &[Edge],
-    waiting: Vec<Edge>,
-)
+fn note_taken(lease: &mut Option<OpenLease>, asked: &Asked, _found: &[Edge], waiting: Vec<Edge>)
     requires { (lent : OpenView) → lease.old ≡ Some lent → waiting.items ≡ lent.edges ++ _found.now }
     ensures { lease.new ≡ given_more lease.old asked.now.page asked.now.want asked.now.count _found.now }
 {

@@ -131,8 +131,8 @@ impl Recording {
         ensures { IsTrue result ↔ IsTaker self.now leases.now asked.now other }
     {
         let right = self.rights[asked.page.index()];
-        right.against(asked.hart, asked.want).contains(other.number())
-            && takes(&leases[other.index()], asked.page)
+        let against = right.against(asked.hart, asked.want);
+        against.contains(other.number()) && takes(&leases[other.index()], asked.page)
     }
 
     /// What the asker is answered, once nobody is in its way: the page's right from then on, and the edges that it owes.

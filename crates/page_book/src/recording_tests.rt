@@ -2,7 +2,7 @@
 
 use super::*;
 use edge_log::{Edge, EdgeLog};
-use ft_types::{Counts, Hart, Memory, NumberSet, PageNo, Want};
+use ft_types::{Counts, Hart, HartSet, Memory, NumberSet, PageNo, Want};
 use guest_image::{Image, Machine, read_image};
 use rv32_hart::Tick;
 use std::alloc::Global;
@@ -103,6 +103,65 @@ fn replayer(
         Some(book) => Ok(book),
         None => Ok(begin_replaying(alloc, image, ends, edges).ok_or("book")?),
     }
+}
+
+/// A call of a crew.
+#[derive(Clone, Copy)]
+enum Act {
+    /// Lends a hart.
+    Lend(Hart),
+    /// Asks for a page.
+    Ask(Hart, PageNo, Want),
+    /// So many turns of the hart's lease: a step, or a page that it lacks.
+    Go(Hart, u32),
+    /// Settles the hart's lease.
+    Settle(Hart, Keep),
+    /// Discards it.
+    Discard(Hart),
+    /// Lends the hart, goes as far as it may, and settles it.
+    Run(Hart),
+    /// Asks which edges wait.
+    Wait(Hart),
+}
+
+/// What such a call answers.
+#[derive(Clone, Copy, PartialEq, Eq)]
+enum Said {
+    /// It is done.
+    Done,
+    /// The page is given.
+    Given,
+    /// These harts are in the way.
+    HeldBy(HartSet),
+    /// The lease has so many steps.
+    Steps(u64),
+    /// So many edges wait, this one as the last.
+    Waits(usize, Option<Edge>),
+    /// It is refused.
+    Refused(BookFault),
+}
+
+fn told(answer: Result<(), BookFault>) -> Said {
+    match answer {
+        Ok(()) => Said::Done,
+        Err(fault) => Said::Refused(fault),
+    }
+}
+
+fn asked(answer: Result<Need, BookFault>) -> Said {
+    match answer {
+        Ok(Need::Given) => Said::Given,
+        Ok(Need::HeldBy(harts)) => Said::HeldBy(harts),
+        Err(fault) => Said::Refused(fault),
+    }
+}
+
+fn waits(edges: &[Edge]) -> Said {
+    let many = edges.len();
+    if many == 0 {
+        return Said::Waits(0, None);
+    }
+    Said::Waits(many, Some(edges[many - 1]))
 }
 
 /// A book, with a place for each hart's open lease.
@@ -254,6 +313,34 @@ impl<M: Mode> Crew<M> {
         Ok(steps)
     }
 
+    /// One call, and what it answers.
+    fn act(&mut self, alloc: Global, act: Act) -> Said {
+        match act {
+            Act::Lend(hart) => told(self.lend(alloc, hart)),
+            Act::Ask(hart, page, want) => asked(self.ask(hart, page, want)),
+            Act::Go(hart, most) => Said::Steps(self.go(hart, most)),
+            Act::Settle(hart, keep) => told(self.settle(hart, keep)),
+            Act::Discard(hart) => told(self.discard(hart)),
+            Act::Run(hart) => match self.run(alloc, hart, Keep::All) {
+                Ok(steps) => Said::Steps(steps),
+                Err(fault) => Said::Refused(fault),
+            },
+            Act::Wait(hart) => waits(self.waiting(hart)),
+        }
+    }
+
+    /// How many of these calls, from the first on, answer as it is said beside them.
+    fn play(&mut self, alloc: Global, script: &[(Act, Said)]) -> usize {
+        let mut played = 0usize;
+        for (act, said) in script {
+            if self.act(alloc, *act) != *said {
+                return played;
+            }
+            played = played.saturating_add(1);
+        }
+        played
+    }
+
     /// The book, once each open lease has gone back without its steps.
     fn end(self) -> Book<M> {
         let Crew {
@@ -317,20 +404,19 @@ fn given_to_second(alloc: Global, keep: Keep, want: Want) -> Result<Crew<Recordi
     let image = image_of(alloc, LOOPS)?;
     let (first, second) = (Hart::new(0), Hart::new(1));
     let mut crew = Crew::new(recorder(alloc, &image, 100)?);
-    let lent = crew.lend(alloc, first);
-    let asked = crew.ask(first, PageNo::new(1), Want::Write);
-    // One turn asks for the page of the code.
-    let steps = crew.go(first, 3);
-    let settled = crew.settle(first, keep);
-    let lent_again = crew.lend(alloc, first);
-    let more = crew.go(first, 3);
-    let settled_again = crew.settle(first, Keep::All);
-    let second_lent = crew.lend(alloc, second);
-    let second_asked = crew.ask(second, PageNo::new(1), want);
-    if [lent, settled, lent_again, settled_again, second_lent] == [Ok(()); 5]
-        && [asked, second_asked] == [Ok(Need::Given); 2]
-        && (steps, more) == (2, 2)
-    {
+    // One turn of each hart asks for the page of the code.
+    let script = [
+        (Act::Lend(first), Said::Done),
+        (Act::Ask(first, PageNo::new(1), Want::Write), Said::Given),
+        (Act::Go(first, 3), Said::Steps(2)),
+        (Act::Settle(first, keep), Said::Done),
+        (Act::Lend(first), Said::Done),
+        (Act::Go(first, 3), Said::Steps(2)),
+        (Act::Settle(first, Keep::All), Said::Done),
+        (Act::Lend(second), Said::Done),
+        (Act::Ask(second, PageNo::new(1), want), Said::Given),
+    ];
+    if crew.play(alloc, &script) == script.len() {
         return Ok(crew);
     }
     let _book = crew.end();
@@ -365,23 +451,22 @@ fn a_log_is_obeyed_by_the_book_that_replays_it(rt: HostRuntime) -> Result<(), Fa
     let image = image_of(rt.alloc(), BOTH_STORE)?;
     let recorded = both_stored(rt.alloc(), Keep::All)?;
     let mut crew = Crew::new(replayer(rt.alloc(), &image, recorded.counts(), recorded.edges())?);
-    let before = crew.run(rt.alloc(), second, Keep::All);
-    let waits = crew.lend(rt.alloc(), second);
-    let lent = crew.lend(rt.alloc(), first);
+    let waits = Said::Refused(BookFault::EdgeOpen);
     // Two turns ask for pages.
-    let three = crew.go(first, 5);
-    let waits_still = crew.lend(rt.alloc(), second);
-    let settled = crew.settle(first, Keep::All);
-    let waits_for_the_fourth = crew.lend(rt.alloc(), second);
-    let fourth = crew.run(rt.alloc(), first, Keep::All);
-    let rest = crew.run(rt.alloc(), second, Keep::All);
+    let script = [
+        (Act::Run(second), Said::Steps(1)),
+        (Act::Lend(second), waits),
+        (Act::Lend(first), Said::Done),
+        (Act::Go(first, 5), Said::Steps(3)),
+        (Act::Lend(second), waits),
+        (Act::Settle(first, Keep::All), Said::Done),
+        (Act::Lend(second), waits),
+        (Act::Run(first), Said::Steps(1)),
+        (Act::Run(second), Said::Steps(3)),
+    ];
+    let played = crew.play(rt.alloc(), &script);
     let replayed = crew.end();
-    assert_eq!(rt; before, Ok(1));
-    assert_eq!(rt; waits, Err(BookFault::EdgeOpen));
-    assert_eq!(rt; (lent, three, settled), (Ok(()), 3, Ok(())));
-    assert_eq!(rt; waits_still, Err(BookFault::EdgeOpen));
-    assert_eq!(rt; waits_for_the_fourth, Err(BookFault::EdgeOpen));
-    assert_eq!(rt; (fourth, rest), (Ok(1), Ok(3)));
+    assert_eq!(rt; played, script.len());
     assert_eq!(rt; replayed.counts(), recorded.counts());
     assert!(rt; replayed.machine().same(recorded.machine()));
     Ok(())
@@ -391,51 +476,49 @@ fn a_log_is_obeyed_by_the_book_that_replays_it(rt: HostRuntime) -> Result<(), Fa
 fn what_an_open_lease_has_taken_is_waited_for(rt: HostRuntime) -> Result<(), Fail> {
     let (first, second, third) = (Hart::new(0), Hart::new(1), Hart::new(2));
     let (one, two) = (PageNo::new(1), PageNo::new(2));
-    let by_first = Ok(Need::HeldBy(NumberSet::new().with(0)));
-    let by_both = Ok(Need::HeldBy(NumberSet::new().with(0).with(2)));
-    let by_third = Ok(Need::HeldBy(NumberSet::new().with(2)));
-    let given = Ok(Need::Given);
+    let by_first = Said::HeldBy(NumberSet::new().with(0));
+    let by_both = Said::HeldBy(NumberSet::new().with(0).with(2));
+    let by_third = Said::HeldBy(NumberSet::new().with(2));
     let image = image_of(rt.alloc(), LOOPS)?;
     let mut crew = Crew::new(recorder(rt.alloc(), &image, 100)?);
-    for hart in [first, second, third] {
-        assert_eq!(rt; crew.lend(rt.alloc(), hart), Ok(()));
-    }
-    // The first lease writes a page, and reads another beside the third lease.
-    assert_eq!(rt; crew.ask(first, one, Want::Write), given);
-    assert_eq!(rt; crew.ask(second, one, Want::Read), by_first);
-    assert_eq!(rt; crew.ask(second, one, Want::Write), by_first);
-    assert_eq!(rt; crew.ask(first, two, Want::Read), given);
-    assert_eq!(rt; crew.ask(second, two, Want::Write), by_first);
-    assert_eq!(rt; crew.ask(third, two, Want::Read), given);
-    assert_eq!(rt; crew.ask(second, two, Want::Write), by_both);
-    assert_eq!(rt; crew.ask(second, two, Want::Read), given);
-    assert!(rt; crew.waiting(second).is_empty());
-    // Once it is settled, its pages are there for the asking. One turn of each hart asks for the code's page.
-    assert_eq!(rt; crew.go(first, 4), 3);
-    assert_eq!(rt; crew.ask(second, one, Want::Read), by_first);
-    assert_eq!(rt; crew.settle(first, Keep::All), Ok(()));
-    assert_eq!(rt; crew.ask(second, one, Want::Write), given);
-    assert_eq!(rt;
-        crew.waiting(second),
-        [edge(second, 0, first, 3)].as_slice()
-    );
-    assert_eq!(rt; crew.ask(second, two, Want::Write), by_third);
-    assert_eq!(rt; crew.go(third, 3), 2);
-    assert_eq!(rt; crew.settle(third, Keep::All), Ok(()));
-    assert_eq!(rt; crew.go(second, 2), 1);
-    assert_eq!(rt; crew.ask(second, two, Want::Write), given);
-    assert_eq!(rt;
-        crew.waiting(second),
-        [
-            edge(second, 0, first, 3),
-            edge(second, 1, first, 3),
-            edge(second, 1, third, 2)
-        ]
-        .as_slice()
-    );
-    assert_eq!(rt; crew.settle(second, Keep::All), Ok(()));
+    // The first lease writes a page, and reads another beside the third lease. Once it is settled, its pages are there for the
+    // asking. One turn of each hart asks for the code's page.
+    let script = [
+        (Act::Lend(first), Said::Done),
+        (Act::Lend(second), Said::Done),
+        (Act::Lend(third), Said::Done),
+        (Act::Ask(first, one, Want::Write), Said::Given),
+        (Act::Ask(second, one, Want::Read), by_first),
+        (Act::Ask(second, one, Want::Write), by_first),
+        (Act::Ask(first, two, Want::Read), Said::Given),
+        (Act::Ask(second, two, Want::Write), by_first),
+        (Act::Ask(third, two, Want::Read), Said::Given),
+        (Act::Ask(second, two, Want::Write), by_both),
+        (Act::Ask(second, two, Want::Read), Said::Given),
+        (Act::Wait(second), Said::Waits(0, None)),
+        (Act::Go(first, 4), Said::Steps(3)),
+        (Act::Ask(second, one, Want::Read), by_first),
+        (Act::Settle(first, Keep::All), Said::Done),
+        (Act::Ask(second, one, Want::Write), Said::Given),
+        (
+            Act::Wait(second),
+            Said::Waits(1, Some(edge(second, 0, first, 3))),
+        ),
+        (Act::Ask(second, two, Want::Write), by_third),
+        (Act::Go(third, 3), Said::Steps(2)),
+        (Act::Settle(third, Keep::All), Said::Done),
+        (Act::Go(second, 2), Said::Steps(1)),
+        (Act::Ask(second, two, Want::Write), Said::Given),
+        (
+            Act::Wait(second),
+            Said::Waits(3, Some(edge(second, 1, third, 2))),
+        ),
+        (Act::Settle(second, Keep::All), Said::Done),
+    ];
+    let played = crew.play(rt.alloc(), &script);
     let book = crew.end();
-    // The second one is implied by the first.
+    assert_eq!(rt; played, script.len());
+    // The one that the first implies is not kept.
     assert_eq!(rt;
         book.edges().of_hart(second),
         [edge(second, 0, first, 3), edge(second, 1, third, 2)].as_slice()
@@ -449,40 +532,46 @@ fn a_page_that_no_lease_has_taken_is_given_up_at_the_settled_count(
 ) -> Result<(), Fail> {
     let (first, second) = (Hart::new(0), Hart::new(1));
     let (one, two) = (PageNo::new(1), PageNo::new(2));
-    let given = Ok(Need::Given);
     let image = image_of(rt.alloc(), LOOPS)?;
     let mut crew = Crew::new(recorder(rt.alloc(), &image, 100)?);
-    assert_eq!(rt; crew.lend(rt.alloc(), first), Ok(()));
-    assert_eq!(rt; crew.ask(first, one, Want::Write), given);
-    assert_eq!(rt; crew.ask(first, two, Want::Read), given);
-    assert_eq!(rt; crew.go(first, 3), 2);
-    assert_eq!(rt; crew.settle(first, Keep::All), Ok(()));
-    // The next lease goes on to 5 without these pages.
-    assert_eq!(rt; crew.lend(rt.alloc(), first), Ok(()));
-    assert_eq!(rt; crew.go(first, 4), 3);
-    assert_eq!(rt; crew.lend(rt.alloc(), second), Ok(()));
-    assert_eq!(rt; crew.ask(second, one, Want::Read), given);
-    assert_eq!(rt;
-        crew.waiting(second),
-        [edge(second, 0, first, 2)].as_slice()
-    );
-    assert_eq!(rt; crew.go(second, 2), 1);
-    assert_eq!(rt; crew.ask(second, two, Want::Write), given);
-    assert_eq!(rt;
-        crew.waiting(second),
-        [edge(second, 0, first, 2), edge(second, 1, first, 2)].as_slice()
-    );
-    // Now it is the first one that waits, and its step at 5 that comes after the second's first four.
-    assert_eq!(rt;
-        crew.ask(first, two, Want::Read),
-        Ok(Need::HeldBy(NumberSet::new().with(1)))
-    );
-    assert_eq!(rt; crew.go(second, 3), 4);
-    assert_eq!(rt; crew.settle(second, Keep::All), Ok(()));
-    assert_eq!(rt; crew.ask(first, two, Want::Read), given);
-    assert_eq!(rt; crew.waiting(first), [edge(first, 5, second, 4)].as_slice());
-    assert_eq!(rt; crew.settle(first, Keep::Nothing), Ok(()));
+    // The first hart's second lease goes on to 5 without the pages. Then it is the one that waits, and its step at 5 comes after
+    // the second's first four.
+    let script = [
+        (Act::Lend(first), Said::Done),
+        (Act::Ask(first, one, Want::Write), Said::Given),
+        (Act::Ask(first, two, Want::Read), Said::Given),
+        (Act::Go(first, 3), Said::Steps(2)),
+        (Act::Settle(first, Keep::All), Said::Done),
+        (Act::Lend(first), Said::Done),
+        (Act::Go(first, 4), Said::Steps(3)),
+        (Act::Lend(second), Said::Done),
+        (Act::Ask(second, one, Want::Read), Said::Given),
+        (
+            Act::Wait(second),
+            Said::Waits(1, Some(edge(second, 0, first, 2))),
+        ),
+        (Act::Go(second, 2), Said::Steps(1)),
+        (Act::Ask(second, two, Want::Write), Said::Given),
+        (
+            Act::Wait(second),
+            Said::Waits(2, Some(edge(second, 1, first, 2))),
+        ),
+        (
+            Act::Ask(first, two, Want::Read),
+            Said::HeldBy(NumberSet::new().with(1)),
+        ),
+        (Act::Go(second, 3), Said::Steps(4)),
+        (Act::Settle(second, Keep::All), Said::Done),
+        (Act::Ask(first, two, Want::Read), Said::Given),
+        (
+            Act::Wait(first),
+            Said::Waits(1, Some(edge(first, 5, second, 4))),
+        ),
+        (Act::Settle(first, Keep::Nothing), Said::Done),
+    ];
+    let played = crew.play(rt.alloc(), &script);
     let book = crew.end();
+    assert_eq!(rt; played, script.len());
     assert_eq!(rt;
         book.edges().of_hart(first),
         [edge(first, 5, second, 4)].as_slice()
@@ -494,48 +583,68 @@ fn a_page_that_no_lease_has_taken_is_given_up_at_the_settled_count(
     Ok(())
 }
 
+/// The first hart has written the second page. The second hart's lease takes it, goes three steps with it, and is discarded.
+fn discarded(alloc: Global) -> Result<Crew<Recording>, Fail> {
+    let (first, second, one) = (Hart::new(0), Hart::new(1), PageNo::new(1));
+    let image = image_of(alloc, LOOPS)?;
+    let mut crew = Crew::new(recorder(alloc, &image, 100)?);
+    let script = [
+        (Act::Lend(first), Said::Done),
+        (Act::Ask(first, one, Want::Write), Said::Given),
+        (Act::Go(first, 3), Said::Steps(2)),
+        (Act::Settle(first, Keep::All), Said::Done),
+        (Act::Lend(second), Said::Done),
+        (Act::Ask(second, one, Want::Write), Said::Given),
+        (
+            Act::Wait(second),
+            Said::Waits(1, Some(edge(second, 0, first, 2))),
+        ),
+        (Act::Go(second, 4), Said::Steps(3)),
+        (Act::Lend(first), Said::Done),
+        (
+            Act::Ask(first, one, Want::Read),
+            Said::HeldBy(NumberSet::new().with(1)),
+        ),
+        (Act::Discard(second), Said::Done),
+        (Act::Discard(second), Said::Refused(BookFault::Foreign)),
+    ];
+    if crew.play(alloc, &script) == script.len() {
+        return Ok(crew);
+    }
+    let _book = crew.end();
+    Err("discarded".into())
+}
+
 #[test]
 fn a_discarded_lease_leaves_no_edge(rt: HostRuntime) -> Result<(), Fail> {
     let (first, second) = (Hart::new(0), Hart::new(1));
-    let one = PageNo::new(1);
-    let given = Ok(Need::Given);
-    let image = image_of(rt.alloc(), LOOPS)?;
-    let mut crew = Crew::new(recorder(rt.alloc(), &image, 100)?);
-    assert_eq!(rt; crew.lend(rt.alloc(), first), Ok(()));
-    assert_eq!(rt; crew.ask(first, one, Want::Write), given);
-    assert_eq!(rt; crew.go(first, 3), 2);
-    assert_eq!(rt; crew.settle(first, Keep::All), Ok(()));
-    // The second lease takes the page, and goes three steps with it. None of this has been.
-    assert_eq!(rt; crew.lend(rt.alloc(), second), Ok(()));
-    assert_eq!(rt; crew.ask(second, one, Want::Write), given);
-    assert_eq!(rt;
-        crew.waiting(second),
-        [edge(second, 0, first, 2)].as_slice()
-    );
-    assert_eq!(rt; crew.go(second, 4), 3);
-    assert_eq!(rt; crew.lend(rt.alloc(), first), Ok(()));
-    assert_eq!(rt;
-        crew.ask(first, one, Want::Read),
-        Ok(Need::HeldBy(NumberSet::new().with(1)))
-    );
-    assert_eq!(rt; crew.discard(second), Ok(()));
-    assert_eq!(rt; crew.discard(second), Err(BookFault::Foreign));
-    for hart in [first, second] {
-        assert!(rt; crew.book.edges().of_hart(hart).is_empty());
-    }
-    assert_eq!(rt; crew.book.counts().as_slice(), [2, 0, 0].as_slice());
-    assert_eq!(rt; crew.book.journal().len(), 1);
-    // The page is free. What the first lease wrote still comes before whoever reads it.
-    assert_eq!(rt; crew.lend(rt.alloc(), second), Ok(()));
-    assert_eq!(rt; crew.ask(second, one, Want::Read), given);
-    assert_eq!(rt;
-        crew.waiting(second),
-        [edge(second, 0, first, 2)].as_slice()
-    );
-    assert_eq!(rt; crew.ask(first, one, Want::Read), given);
-    assert!(rt; crew.waiting(first).is_empty());
-    assert_eq!(rt; crew.settle(second, Keep::Nothing), Ok(()));
+    let book = discarded(rt.alloc())?.end();
+    assert!(rt; book.edges().of_hart(first).is_empty());
+    assert!(rt; book.edges().of_hart(second).is_empty());
+    assert_eq!(rt; book.counts().as_slice(), [2, 0, 0].as_slice());
+    assert_eq!(rt; book.journal().len(), 1);
+    Ok(())
+}
+
+#[test]
+fn a_discarded_lease_leaves_its_page_free(rt: HostRuntime) -> Result<(), Fail> {
+    let (first, second, one) = (Hart::new(0), Hart::new(1), PageNo::new(1));
+    let mut crew = discarded(rt.alloc())?;
+    // What the first lease wrote still comes before whoever reads it.
+    let script = [
+        (Act::Lend(second), Said::Done),
+        (Act::Ask(second, one, Want::Read), Said::Given),
+        (
+            Act::Wait(second),
+            Said::Waits(1, Some(edge(second, 0, first, 2))),
+        ),
+        (Act::Ask(first, one, Want::Read), Said::Given),
+        (Act::Wait(first), Said::Waits(0, None)),
+        (Act::Settle(second, Keep::Nothing), Said::Done),
+    ];
+    let played = crew.play(rt.alloc(), &script);
     let book = crew.end();
+    assert_eq!(rt; played, script.len());
     assert_eq!(rt;
         book.edges().of_hart(second),
         [edge(second, 0, first, 2)].as_slice()
@@ -544,48 +653,42 @@ fn a_discarded_lease_leaves_no_edge(rt: HostRuntime) -> Result<(), Fail> {
     Ok(())
 }
 
+/// Two crews whose machines, counts and pages taken are equal, but the second hart's lease waits in one for two steps more.
+fn alike_but_for_edges(alloc: Global) -> Result<(Crew<Recording>, Crew<Recording>), Fail> {
+    let crew = given_to_second(alloc, Keep::All, Want::Write)?;
+    match given_to_second(alloc, Keep::Nothing, Want::Write) {
+        Ok(other) => Ok((crew, other)),
+        Err(fault) => {
+            let _book = crew.end();
+            Err(fault)
+        }
+    }
+}
+
+/// What the book of one crew answers when it is handed the lease of the other's: to this call, and to a lease of the hart
+/// after it; and when it gets its own back.
+fn answers_to_another(alloc: Global, act: Act) -> Result<(usize, Book<Recording>), Fail> {
+    let second = Hart::new(1);
+    let (mut crew, mut other) = alike_but_for_edges(alloc)?;
+    mem::swap(&mut crew.leases, &mut other.leases);
+    let foreign = Said::Refused(BookFault::Foreign);
+    let leased = Said::Refused(BookFault::Leased);
+    let refused = crew.play(alloc, &[(act, foreign), (Act::Lend(second), leased)]);
+    mem::swap(&mut crew.leases, &mut other.leases);
+    let own = crew.play(alloc, &[(Act::Settle(second, Keep::All), Said::Done)]);
+    let book = crew.end();
+    let _other = other.end();
+    Ok((refused.saturating_add(own), book))
+}
+
 #[test]
 fn a_lease_whose_edges_are_others_is_foreign(rt: HostRuntime) -> Result<(), Fail> {
-    let second = Hart::new(1);
-    // The machines, the counts and what the leases took are equal, but one waits for two steps more.
-    for discards in [false, true] {
-        let mut crew = given_to_second(rt.alloc(), Keep::All, Want::Write)?;
-        let mut other = match given_to_second(rt.alloc(), Keep::Nothing, Want::Write) {
-            Ok(other) => other,
-            Err(fault) => {
-                let _book = crew.end();
-                return Err(fault);
-            }
-        };
-        let alike = crew.book.machine().same(other.book.machine());
-        let first = Hart::new(0);
-        let waits = crew.waiting(second) == [edge(second, 0, first, 4)].as_slice();
-        let other_waits = other.waiting(second) == [edge(second, 0, first, 2)].as_slice();
-        // Each lease goes to the other book.
-        mem::swap(&mut crew.leases, &mut other.leases);
-        let answer = if discards {
-            crew.discard(second)
-        } else {
-            crew.settle(second, Keep::All)
-        };
-        let counts = crew.book.counts();
-        let edges = crew.book.edges().of_hart(second).len();
-        let stretches = crew.book.journal().len();
-        let leased = crew.lend(rt.alloc(), second);
-        // It is still the book's own lease that is open.
-        mem::swap(&mut crew.leases, &mut other.leases);
-        let settled = crew.settle(second, Keep::All);
-        let book = crew.end();
-        let _other = other.end();
-        assert!(rt; alike);
-        assert!(rt; waits);
-        assert!(rt; other_waits);
-        assert_eq!(rt; answer, Err(BookFault::Foreign));
-        assert_eq!(rt; counts.as_slice(), [4, 0, 0].as_slice());
-        assert_eq!(rt; edges, 0);
-        assert_eq!(rt; stretches, 2);
-        assert_eq!(rt; leased, Err(BookFault::Leased));
-        assert_eq!(rt; settled, Ok(()));
+    let (first, second) = (Hart::new(0), Hart::new(1));
+    for act in [Act::Settle(second, Keep::All), Act::Discard(second)] {
+        let (played, book) = answers_to_another(rt.alloc(), act)?;
+        assert_eq!(rt; played, 3);
+        assert_eq!(rt; book.counts().as_slice(), [4, 0, 0].as_slice());
+        assert_eq!(rt; book.journal().len(), 2);
         assert_eq!(rt;
             book.edges().of_hart(second),
             [edge(second, 0, first, 4)].as_slice()
@@ -761,19 +864,20 @@ fn a_limit_is_raised_and_never_lowered(rt: HostRuntime) -> Result<(), Fail> {
     }
     book.limit_to(raised);
     let mut crew = Crew::new(book);
-    let more = crew.run(rt.alloc(), first, Keep::All);
-    let all = crew.run(rt.alloc(), second, Keep::All);
-    let refusals = [
-        crew.lend(rt.alloc(), first),
-        crew.lend(rt.alloc(), second),
-        crew.lend(rt.alloc(), third),
+    let at_limit = Said::Refused(BookFault::AtLimit);
+    let script = [
+        (Act::Run(first), Said::Steps(1)),
+        (Act::Run(second), Said::Steps(3)),
+        (Act::Lend(first), at_limit),
+        (Act::Lend(second), at_limit),
+        (Act::Lend(third), at_limit),
     ];
+    let played = crew.play(rt.alloc(), &script);
     let book = crew.end();
     assert_eq!(rt; ticked, Tick::Done);
     assert_eq!(rt; known, (first, 1, 1, 1));
     assert_eq!(rt; (full, waits), (true, 0));
-    assert_eq!(rt; (more, all), (Ok(1), Ok(3)));
-    assert_eq!(rt; refusals, [Err(BookFault::AtLimit); 3]);
+    assert_eq!(rt; played, script.len());
     assert_eq!(rt; book.counts().as_slice(), [2, 3, 0].as_slice());
     assert_eq!(rt; book.journal().len(), 3);
     Ok(())
