@@ -34,7 +34,7 @@ inputs_told n (InputRecord at input ∷ rs) =
     (arith, rest, sum_by-cons (λ r. cond (is_input_at n r) 1 0) (InputRecord at input) rs, sum_by-cons (λ (x : ℕ × HartInput). cond (x.0 == n) 1 0) (at, input) (filter_map input_in rs))
 
 -- a count that stands between two others
-between_is : (from to n : ℕ) → is_between from to n ≡ true → (from ≤ n) × (n < to)
+pub between_is : (from to n : ℕ) → is_between from to n ≡ true → (from ≤ n) × (n < to)
 between_is from to n e = let p = and_parts _ _ e in (leb-true _ _ p.0, ltb-true _ _ p.1)
 
 all_between : {A : Type 0} (count : A → ℕ) (from to : ℕ) (xs : List A) → AllByRecursion (λ x. (from ≤ count x) × (count x < to)) (filter (λ x. is_between from to (count x)) xs)

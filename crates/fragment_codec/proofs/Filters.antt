@@ -50,6 +50,18 @@ module _ {A : Type 0} where
       let all : filter p (take k xs) ≡ take k xs = filter_all p (take k xs) (all_front (λ x. p x ≡ true) xs k front) in
       omega (arith, ap length (filter_split p xs k), ap length all, length-append (filter p (take k xs)) (filter p (drop k xs)), length-take k xs)
 
+  pub filter-le-length : (p : A → Bool) (xs : List A) → length (filter p xs) ≤ length xs
+  filter-le-length p [] = omega arith
+  filter-le-length p (x ∷ xs) =
+      let rest = filter-le-length p xs in
+      cond_both (p x) (x ∷ filter p xs) (filter p xs) (λ l. length l ≤ length (x ∷ xs)) (λ e. omega arith) (λ e. omega arith)
+
+  -- no more pass than stand before a rest that does not pass
+  pub length-filter-le : (p : A → Bool) (xs : List A) (k : ℕ) → AllWithin (λ x. p x ≡ false) xs k (length xs) → length (filter p xs) ≤ k
+  length-filter-le p xs k back =
+      let none : filter p (drop k xs) ≡ [] = filter_none p (drop k xs) (all_back (λ x. p x ≡ false) xs k back) in
+      omega (arith, ap length (filter_split p xs k), ap length none, length-append (filter p (take k xs)) (filter p (drop k xs)), filter-le-length p (take k xs), length-take k xs)
+
   twice : (p : A → Bool) (b : Bool) (x : A) (xs ys : List A) → filter p xs ≡ ys → filter p (cond b (x ∷ xs) xs) ≡ cond (b && p x) (x ∷ ys) ys
   twice p true x xs ys is = ap (λ l. cond (p x) (x ∷ l) l) is
   twice p false x xs ys is = is
@@ -57,12 +69,6 @@ module _ {A : Type 0} where
   pub filter-filter : (p q : A → Bool) (xs : List A) → filter p (filter q xs) ≡ filter (λ x. q x && p x) xs
   filter-filter p q [] = refl
   filter-filter p q (x ∷ xs) = twice p (q x) x (filter q xs) (filter (λ y. q y && p y) xs) (filter-filter p q xs)
-
-  pub filter-le-length : (p : A → Bool) (xs : List A) → length (filter p xs) ≤ length xs
-  filter-le-length p [] = omega arith
-  filter-le-length p (x ∷ xs) =
-      let rest = filter-le-length p xs in
-      cond_both (p x) (x ∷ filter p xs) (filter p xs) (λ l. length l ≤ length (x ∷ xs)) (λ e. omega arith) (λ e. omega arith)
 
   count_step : (q : A → Bool) (x : A) (xs ys : List A) → count_by q xs ≤ count_by q ys → count_by q (x ∷ xs) ≤ count_by q (x ∷ ys)
   count_step q x xs ys le =

@@ -44,6 +44,7 @@ pub record MayCut (origin : Origin) (records : List Record) (mark : Mark) : Type
   pub guest : IsGuest origin.guest
   pub own : origin.hart < origin.guest.harts
   pub granted : 1 ≤ origin.term
+  pub fits : origin.term < 2 ^ 32
   pub end : origin.settled < 2 ^ 48
   pub within : mark.count ≤ origin.settled
   pub logged : AreLogged origin.guest.harts origin.hart records

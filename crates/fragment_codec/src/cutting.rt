@@ -82,17 +82,17 @@ fn cut_hart(
     ensures { OnOk result (CutsHart (log_of_records origin.now records.now) sealed.old frames.old.items sealed.new frames.new.items) }
 {
     let mut rest = records;
-    while sealed.reached(origin.hart) < origin.settled {
+    let mut from = sealed.reached(origin.hart);
+    while from < origin.settled {
         let Some(place) = sealed.next_place(origin.hart) else {
             break;
         };
-        let from = sealed.reached(origin.hart);
         let to = end_of_piece(rest, origin.settled);
         let (part, later) = split_below(rest, to);
         let piece = piece_of(alloc, origin, place, from, to, part)?;
         frames.push(Frame::Log(piece))?;
         sealed.advance(origin.hart, to);
-        rest = later;
+        (from, rest) = (to, later);
     }
     Ok(())
 }

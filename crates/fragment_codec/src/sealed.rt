@@ -1,15 +1,12 @@
 //! How far the logs of a guest's harts are cut into pieces.
 
-ghost use Rattle.std.specs.Prelude.{◌≡◌, ℕ, ◌+◌, ◌<◌, ◌^◌, ◌↔◌, length, replicate, slice_index, slice_set, IsSome, IfSome};
+ghost use Rattle.std.specs.Prelude.{◌≡◌, ℕ, ◌+◌, ◌<◌, ◌≤◌, ◌^◌, ◌↔◌, length, replicate, slice_index, slice_set, IsSome, IfSome};
 ghost use Rattle.ft_types.specs.Counts.{count_at};
 ghost use Rattle.fragment_codec.specs.Pieces.{mark_of};
 
 use ft_types::{Count, Counts, Hart};
 use std::marker::Model;
 use std::option::Option;
-
-/// One more than the greatest place.
-const PLACE_LIMIT: u64 = 1 << 32;
 
 /// For each hart of a guest, the place of its next piece and the count that its pieces reach.
 #[derive(Clone, Copy, Debug, PartialEq, Eq)]
@@ -47,6 +44,7 @@ impl Sealed {
     pub fn next_place(&self, hart: Hart) -> Option<u32>
         ensures exact { IsSome result ↔ ((mark_of self.now hart).place < 2 ^ 32) }
         ensures place { IfSome result (λ place. place ≡ (mark_of self.now hart).place) }
+        ensures limit { (mark_of self.now hart).place ≤ 2 ^ 32 }
     {
         u32::try_from(self.places[hart.index()]).ok()
     }
