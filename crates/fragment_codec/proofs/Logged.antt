@@ -67,13 +67,13 @@ no_input true e rs xs is = is
 no_input false e rs xs is = is
 
 module _ (p : ℕ → Bool) where
-  edges_kept : (rs : List Record) → filter_map edge_in (filter (λ r. p (count_of r)) rs) ≡ filter (λ e. p e.at) (filter_map edge_in rs)
+  pub edges_kept : (rs : List Record) → filter_map edge_in (filter (λ r. p (count_of r)) rs) ≡ filter (λ e. p e.at) (filter_map edge_in rs)
   edges_kept [] = refl
   edges_kept (EdgeRecord e ∷ rs) = edge_kept (p e.at) e (filter (λ r. p (count_of r)) rs) (filter (λ f. p f.at) (filter_map edge_in rs)) (edges_kept rs)
   edges_kept (InputRecord at input ∷ rs) =
       no_edge (p at) at input (filter (λ r. p (count_of r)) rs) (filter (λ f. p f.at) (filter_map edge_in rs)) (edges_kept rs)
 
-  inputs_kept : (rs : List Record) → filter_map input_in (filter (λ r. p (count_of r)) rs) ≡ filter (λ x. p x.0) (filter_map input_in rs)
+  pub inputs_kept : (rs : List Record) → filter_map input_in (filter (λ r. p (count_of r)) rs) ≡ filter (λ x. p x.0) (filter_map input_in rs)
   inputs_kept [] = refl
   inputs_kept (EdgeRecord e ∷ rs) = no_input (p e.at) e (filter (λ r. p (count_of r)) rs) (filter (λ x. p x.0) (filter_map input_in rs)) (inputs_kept rs)
   inputs_kept (InputRecord at input ∷ rs) =

@@ -1,6 +1,7 @@
 //! Frames of a log as bytes, and bytes as frames, in whatever pieces they come.
 #![tactic(auto)]
 
+mod cut_laws;
 mod cutting;
 mod fault;
 mod feed;
@@ -13,6 +14,7 @@ mod sealed;
 mod types;
 mod writing;
 
+pub use cut_laws::{all_facts, one_cut, one_piece, whole_counts};
 pub use cutting::cut_logs;
 pub use fault::FrameFault;
 pub use feed::Feed;

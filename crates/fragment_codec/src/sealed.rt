@@ -40,6 +40,13 @@ impl Sealed {
         }
     }
 
+    /// The counts that the pieces reach.
+    pub fn counts(&self) -> Counts
+        ensures { result ≡ self.now.reached }
+    {
+        self.reached
+    }
+
     /// The place of the hart's next piece: `None` where it has had all places.
     pub fn next_place(&self, hart: Hart) -> Option<u32>
         ensures exact { IsSome result ↔ ((mark_of self.now hart).place < 2 ^ 32) }
