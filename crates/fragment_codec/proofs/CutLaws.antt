@@ -1,11 +1,10 @@
 -- The laws of cuts.
-use Rattle.std.proofs.Common.{◌≡◌, ◌≢◌, ◌⊎◌, ℕ, zero, suc, ◌+◌, ◌<◌, ◌≤◌, ◌^◌, ◌&&◌, Bool, true, false, cond, nat_le, nat_lt, ◌==◌, eqb, List, [], ◌∷◌, ◌++◌, length, map, get_or, filter, filter_map, flat_map, count_by, slice_index_or, arith, refl, sym, ap, subst, ◌∙◌, inl, inr, eq-eqb, ne_eqb, eqb-true, le_refl}
+use Rattle.std.proofs.Common.{◌≡◌, ◌≢◌, ◌⊎◌, ℕ, zero, suc, ◌+◌, ◌<◌, ◌≤◌, ◌^◌, ◌&&◌, Bool, true, false, cond, nat_le, nat_lt, ◌==◌, eqb, List, [], ◌∷◌, ◌++◌, length, map, get_or, filter, filter_map, flat_map, count_by, slice_index_or, arith, refl, sym, ap, subst, ◌∙◌, inl, inr, eq-eqb, ne_eqb, eqb-true, le_refl, append-nil}
 use Rattle.std.specs.List.{AllByRecursion}
-use Rattle.std.specs.List.Sorted.{IsNonDecreasingBy}
 use Rattle.std.proofs.ByRecursion.{kept_by_passes}
 use Rattle.std.proofs.lemmas.Bool.{cases_lt, cases_eq, cases_Bool, cases_order, le-leb, lt-leb, lt-ltb, le-ltb, and_from, and_left, and_right}
 use Rattle.std.proofs.lemmas.List.{same_lists, get_or_default}
-use Rattle.std.proofs.lemmas.List.Elements.{filter-append, filter_agree, filter_map-append}
+use Rattle.std.proofs.lemmas.List.Elements.{filter-append, filter_agree}
 use Rattle.std.proofs.lemmas.List.Sums.{sum_by-cons}
 use Rattle.edge_log.specs.declared.Edge.{Edge}
 use Rattle.input_log.specs.declared.Input.{Input as HartInput}
@@ -13,8 +12,8 @@ use Rattle.fragment_codec.specs.declared.types.Record.{Record}
 use Rattle.fragment_codec.specs.declared.types.Record.TheVariants.{Edge as EdgeRecord, Input as InputRecord}
 use Rattle.fragment_codec.specs.declared.frame.Frame.{Frame}
 use Rattle.fragment_codec.specs.declared.frame.Frame.TheVariants.{Log}
-use Rattle.fragment_codec.specs.Rules.{count_of, FragmentParts, MayPrecede, AreInOrder}
-use Rattle.fragment_codec.specs.Pieces.{Facts, HartLog, Mark, SealedView, mark_of, edge_in, input_in, told_by, facts_between, is_between, number_of, records_at, Rise, IsPiece, ArePieces, mark_behind, IsHartCut, IsCut}
+use Rattle.fragment_codec.specs.Rules.{count_of, FragmentParts, IsRecordOf, MayPrecede, AreInOrder}
+use Rattle.fragment_codec.specs.Pieces.{Facts, HartLog, Mark, SealedView, mark_of, edge_in, input_in, told_by, facts_between, is_between, number_of, records_at, IsPiece, ArePieces, mark_behind, IsHartCut, IsCut}
 use Rattle.fragment_codec.proofs.Filters.{filter-filter, filter-le-length}
 use Rattle.fragment_codec.proofs.Logged.{number_told, order_filter, edges_kept, inputs_kept}
 use Rattle.fragment_codec.proofs.Harts.{between_between}
@@ -216,74 +215,40 @@ one_has log old new (p ∷ ps) row n low high =
       | inr behind ↦ count_no n p ps (outside p.from p.to n (inr behind)) ∙ one_has log (mark_behind p) new ps row.1 n behind high
     ]
 
--- ---- all facts
+-- ---- the records of all pieces
 
-module _ {A : Type 0} (number : A → ℕ) where
-  none_between : (a : ℕ) (xs : List A) → filter (λ x. is_between a a (number x)) xs ≡ []
-  none_between a [] = refl
-  none_between a (x ∷ xs) = rw (outside a a (number x) (elim (cases_lt (number x) a) [ inl less ↦ inl less | inr more ↦ inr more ])) (none_between a xs)
+none_at : (n from to : ℕ) (harts hart : ℕ) (rs : List Record) → (n < from) ⊎ (to ≤ n) → AllByRecursion (IsRecordOf harts hart from to) rs →
+    filter (λ r. count_of r == n) rs ≡ []
+none_at n from to harts hart [] apart all = refl
+none_at n from to harts hart (r ∷ rs) apart all =
+    let rest = none_at n from to harts hart rs apart all.1 in
+    rw (ne_eqb (count_of r) n (λ e. elim apart [ inl less ↦ absurd (omega (arith, all.0.1)) | inr past ↦ absurd (omega (arith, all.0.2)) ])) rest
 
-  tail_rises : (x : A) (xs : List A) → IsNonDecreasingBy number (x ∷ xs) → IsNonDecreasingBy number xs
-  tail_rises x xs rise i j d le below = rise (suc i) (suc j) d (omega arith) (omega arith)
+-- the records of a count, in a piece and those behind it
+at_front : (n : ℕ) (p : FragmentParts) (ps : List FragmentParts) →
+    filter (λ r. count_of r == n) (flat_map (λ q. q.records) (p ∷ ps)) ≡ filter (λ r. count_of r == n) p.records ++ filter (λ r. count_of r == n) (flat_map (λ q. q.records) ps)
+at_front n p ps = filter-append (λ r. count_of r == n) p.records (flat_map (λ q. q.records) ps)
 
-  -- nothing later in the list is lower
-  none_lower : (a b : ℕ) (x : A) (xs : List A) → IsNonDecreasingBy number (x ∷ xs) → b ≤ number x → filter (λ y. is_between a b (number y)) xs ≡ []
-  none_lower a b x [] rise past = refl
-  none_lower a b x (y ∷ ys) rise past =
-      let more : number x ≤ number y = rise 0 1 x (omega arith) (omega arith) in
-      rw (outside a b (number y) (inr (omega arith))) (none_lower a b y ys (tail_rises x (y ∷ ys) rise) (omega arith))
-
-  -- two parts of a rising list that lie side by side
-  pub join_between : (a b c : ℕ) → a ≤ b → b ≤ c → (xs : List A) → IsNonDecreasingBy number xs →
-      filter (λ x. is_between a b (number x)) xs ++ filter (λ x. is_between b c (number x)) xs ≡ filter (λ x. is_between a c (number x)) xs
-  join_between a b c low high [] rise = refl
-  join_between a b c low high (x ∷ xs) rise =
-      let rest = join_between a b c low high xs (tail_rises x xs rise) in
-      elim (cases_lt (number x) b) [
-        | inl less ↦
-            elim (cases_lt (number x) a) [
-              | inl before ↦ rw (outside a b (number x) (inl before), outside b c (number x) (inl less), outside a c (number x) (inl before)) rest
-              | inr here ↦ rw (within a b (number x) here less, outside b c (number x) (inl less), within a c (number x) here (omega arith)) (ap (λ l. x ∷ l) rest)
-            ]
-        | inr more ↦
-            let none = none_lower a b x xs rise more in
-            elim (cases_lt (number x) c) [
-              | inl here ↦ rw (outside a b (number x) (inr more), within b c (number x) more here, within a c (number x) (omega arith) here, none) (ap (λ l. x ∷ l) (rw none at rest))
-              | inr past ↦ rw (outside a b (number x) (inr more), outside b c (number x) (inr past), outside a c (number x) (inr past)) rest
-            ]
-      ]
-
-up_to : (log : HartLog) (old new : Mark) (ps : List FragmentParts) → ArePieces log old ps new → old.count ≤ new.count
-up_to log old new [] row = let same = ap (λ m. m.count) row in omega arith
-up_to log old new (p ∷ ps) row =
-    let rest = up_to log (mark_behind p) new ps row.1 in
+none_before : (log : HartLog) (old new : Mark) (ps : List FragmentParts) (n : ℕ) → ArePieces log old ps new → n < old.count →
+    filter (λ r. count_of r == n) (flat_map (λ q. q.records) ps) ≡ []
+none_before log old new [] n row before = refl
+none_before log old new (p ∷ ps) n row before =
     let begins = row.0.begins in
     let some = row.0.rules.some in
-    omega arith
+    let here = none_at n p.from p.to p.guest.harts p.key.hart p.records (inl (omega arith)) row.0.rules.records.each in
+    let later = none_before log (mark_behind p) new ps n row.1 (omega arith) in
+    at_front n p ps ∙ rw (here, later) refl
 
-pub all_told_once : (log : HartLog) (old new : Mark) (ps : List FragmentParts) → Rise log.facts → ArePieces log old ps new →
-    told_by (flat_map (λ p. p.records) ps) ≡ facts_between old.count new.count log.facts
-all_told_once log old new [] rise row =
-    let edges = none_between (λ (e : Edge). e.at) old.count log.facts.edges in
-    let inputs = none_between (λ (x : ℕ × HartInput). x.0) old.count log.facts.inputs in
-    let empty : facts_between old.count old.count log.facts ≡ record { edges = []; inputs = [] } = cc in
-    sym empty ∙ ap (λ (m : Mark). facts_between old.count m.count log.facts) (sym row)
-all_told_once log old new (p ∷ ps) rise row =
-    let rest = all_told_once log (mark_behind p) new ps rise row.1 in
-    let later : List Record = flat_map (λ q. q.records) ps in
+pub count_once : (log : HartLog) (old new : Mark) (ps : List FragmentParts) → ArePieces log old ps new → (n : ℕ) → old.count ≤ n → n < new.count →
+    filter (λ r. count_of r == n) (flat_map (λ q. q.records) ps) ≡ records_at n log.facts
+count_once log old new [] row n low high = let same = ap (λ m. m.count) row in absurd (omega arith)
+count_once log old new (p ∷ ps) row n low high =
     let begins = row.0.begins in
-    let some = row.0.rules.some in
-    let up = up_to log (mark_behind p) new ps row.1 in
-    let edges : filter_map edge_in (p.records ++ later) ≡ filter (λ e. is_between old.count new.count e.at) log.facts.edges =
-    filter_map-append edge_in p.records later ∙
-    (ap (λ l. l ++ filter_map edge_in later) (ap (λ f. f.edges) row.0.exact) ∙
-    (ap (λ l. filter (λ (e : Edge). is_between p.from p.to e.at) log.facts.edges ++ l) (ap (λ f. f.edges) rest) ∙
-    (join_between (λ (e : Edge). e.at) p.from p.to new.count (omega arith) up log.facts.edges rise.edges_rise ∙
-    ap (λ n. filter (λ (e : Edge). is_between n new.count e.at) log.facts.edges) begins))) in
-    let inputs : filter_map input_in (p.records ++ later) ≡ filter (λ x. is_between old.count new.count x.0) log.facts.inputs =
-    filter_map-append input_in p.records later ∙
-    (ap (λ l. l ++ filter_map input_in later) (ap (λ f. f.inputs) row.0.exact) ∙
-    (ap (λ l. filter (λ (x : ℕ × HartInput). is_between p.from p.to x.0) log.facts.inputs ++ l) (ap (λ f. f.inputs) rest) ∙
-    (join_between (λ (x : ℕ × HartInput). x.0) p.from p.to new.count (omega arith) up log.facts.inputs rise.inputs_rise ∙
-    ap (λ n. filter (λ (x : ℕ × HartInput). is_between n new.count x.0) log.facts.inputs) begins))) in
-    cc
+    elim (cases_lt n p.to) [
+      | inl before ↦
+          let later = none_before log (mark_behind p) new ps n row.1 before in
+          at_front n p ps ∙ (rw later (append-nil (filter (λ r. count_of r == n) p.records)) ∙ count_whole log old p row.0 n (omega arith) before)
+      | inr behind ↦
+          let here = none_at n p.from p.to p.guest.harts p.key.hart p.records (inr behind) row.0.rules.records.each in
+          at_front n p ps ∙ (rw here refl ∙ count_once log (mark_behind p) new ps row.1 n behind high)
+    ]

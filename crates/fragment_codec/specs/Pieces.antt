@@ -1,7 +1,6 @@
 -- How the logs of a guest's harts are cut into pieces.
 use Rattle.std.specs.Prelude.{◌≡◌, ℕ, ◌+◌, ◌<◌, ◌^◌, Bool, ◌&&◌, ◌==◌, nat_le, nat_lt, List, [], ◌∷◌, ◌++◌, length, map, filter, slice_index, slice_index_or, All, Option, Some, None, ◌⊎◌}
 use Rattle.std.specs.List.{filter_map, flat_map}
-use Rattle.std.specs.List.Sorted.{IsNonDecreasingBy}
 use Rattle.ft_types.specs.Counts.{count_at}
 use Rattle.ft_types.specs.declared.guest.Guest.{Guest}
 use Rattle.edge_log.specs.declared.Edge.{Edge as OwnedEdge}
@@ -50,11 +49,6 @@ facts_between from to facts =
 abbrev pub records_at : ℕ → Facts → List Record
 records_at count facts =
     map EdgeRecord (filter (λ e. e.at == count) facts.edges) ++ map (λ x. InputRecord x.0 x.1) (filter (λ x. x.0 == count) facts.inputs)
-
--- counts do not fall, as in every log
-pub record Rise (facts : Facts) : Type 0 where
-  pub edges_rise : IsNonDecreasingBy (λ e. e.at) facts.edges
-  pub inputs_rise : IsNonDecreasingBy (λ x. x.0) facts.inputs
 
 abbrev pub number_of : Facts → ℕ
 number_of facts = length facts.edges + length facts.inputs

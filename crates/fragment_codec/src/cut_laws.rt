@@ -4,7 +4,7 @@ ghost use Rattle.std.specs.Prelude.{◌≡◌, ◌≤◌, ◌<◌, ◌==◌, ℕ
 ghost use Rattle.std.specs.List.{flat_map};
 ghost use Rattle.fragment_codec.specs.declared.frame.Frame.{Frame};
 ghost use Rattle.fragment_codec.specs.Rules.{FragmentParts, count_of};
-ghost use Rattle.fragment_codec.specs.Pieces.{HartLog, Mark, SealedView, is_between, told_by, facts_between, records_at, Rise, IsPiece, IsHartCut, IsCut};
+ghost use Rattle.fragment_codec.specs.Pieces.{HartLog, Mark, SealedView, is_between, records_at, IsPiece, IsHartCut, IsCut};
 
 /// A log has one right cut.
 pub fn one_cut()
@@ -18,14 +18,10 @@ pub fn whole_counts()
         filter (λ fact. count_of fact == count) piece.records ≡ records_at count log.facts }
 {}
 
-/// Each count that is cut is in one piece.
+/// Each count that is cut is in one piece, and all pieces together have each record of it, once and in order.
 pub fn one_piece()
-    ensures { (log : HartLog) (old new : Mark) (pieces : List FragmentParts) → IsHartCut log old pieces new → (count : ℕ) → old.count ≤ count → count < new.count →
+    ensures pieces { (log : HartLog) (old new : Mark) (pieces : List FragmentParts) → IsHartCut log old pieces new → (count : ℕ) → old.count ≤ count → count < new.count →
         count_by (λ piece. is_between piece.from piece.to count) pieces ≡ 1 }
-{}
-
-/// The pieces together tell each fact between the counts from which and to which they go, once and in order.
-pub fn all_facts()
-    ensures { (log : HartLog) (old new : Mark) (pieces : List FragmentParts) → Rise log.facts → IsHartCut log old pieces new →
-        told_by (flat_map (λ piece. piece.records) pieces) ≡ facts_between old.count new.count log.facts }
+    ensures records { (log : HartLog) (old new : Mark) (pieces : List FragmentParts) → IsHartCut log old pieces new → (count : ℕ) → old.count ≤ count → count < new.count →
+        filter (λ fact. count_of fact == count) (flat_map (λ piece. piece.records) pieces) ≡ records_at count log.facts }
 {}

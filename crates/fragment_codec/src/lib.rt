@@ -14,7 +14,7 @@ mod sealed;
 mod types;
 mod writing;
 
-pub use cut_laws::{all_facts, one_cut, one_piece, whole_counts};
+pub use cut_laws::{one_cut, one_piece, whole_counts};
 pub use cutting::cut_logs;
 pub use fault::FrameFault;
 pub use feed::Feed;
