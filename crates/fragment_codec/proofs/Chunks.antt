@@ -60,7 +60,7 @@ module _ (harts hart from settled : ℕ) (rest : List Record) (few : harts ≤ 8
       later (inl less) = less
       later (inr back) =
           let many = length-filter_front (λ r. count_of r == from) rest 257 (omega arith)
-              (λ k d a b. eq-eqb _ _ (let low = (at k d (omega arith)).0 in omega (arith, low, before k d b))) in
+          (λ k d a b. eq-eqb _ _ (let low = (at k d (omega arith)).0 in omega (arith, low, before k d b))) in
           absurd (omega (arith, few_at harts hart from rest few logged, many))
 
   pub ends : Ends from (end_of rest settled) settled rest

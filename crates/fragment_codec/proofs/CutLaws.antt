@@ -118,7 +118,7 @@ one_hart_cut log old m n (p ∷ ps) [] a b = absurd (not_ended log old p a.row.0
 one_hart_cut log old m n (p ∷ ps) (q ∷ qs) a b =
     let same : p ≡ q = one_piece_here log old p q a.row.0 b.row.0 in
     let rest = one_hart_cut log (mark_behind q) m n ps qs
-        (record { row = subst (λ k. ArePieces log (mark_behind k) ps m) same a.row.1; end = a.end }) (record { row = b.row.1; end = b.end }) in
+    (record { row = subst (λ k. ArePieces log (mark_behind k) ps m) same a.row.1; end = a.end }) (record { row = b.row.1; end = b.end }) in
     (ap (λ k. k ∷ ps) same ∙ ap (λ l. q ∷ l) rest.0, rest.1)
 
 pub one_whole_cut : (logs : ℕ → HartLog) (harts : ℕ) (old m n : SealedView) (fs gs : List Frame) → IsCut logs harts old fs m → IsCut logs harts old gs n → fs ≡ gs
@@ -156,9 +156,9 @@ edges_first n (InputRecord at input ∷ rs) order all =
 -- a test for a count between two others
 inner : (from to n : ℕ) → from ≤ n → n < to → (k : ℕ) → (is_between from to k && (k == n)) ≡ (k == n)
 inner from to n low high k = elim (cases_eq k n) [
-      | inl same ↦ rw (eq-eqb k n same) (and_from (is_between from to k) true (and_from (nat_le from k) (nat_lt k to) (le-leb from k (omega arith)) (lt-ltb k to (omega arith))) refl)
-      | inr apart ↦ rw (ne_eqb k n apart) (and_right (is_between from to k) false refl)
-    ]
+  | inl same ↦ rw (eq-eqb k n same) (and_from (is_between from to k) true (and_from (nat_le from k) (nat_lt k to) (le-leb from k (omega arith)) (lt-ltb k to (omega arith))) refl)
+  | inr apart ↦ rw (ne_eqb k n apart) (and_right (is_between from to k) false refl)
+]
 
 pub count_whole : (log : HartLog) (mark : Mark) (piece : FragmentParts) → IsPiece log mark piece → (count : ℕ) → piece.from ≤ count → count < piece.to →
     filter (λ r. count_of r == count) piece.records ≡ records_at count log.facts

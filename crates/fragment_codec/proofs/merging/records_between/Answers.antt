@@ -25,9 +25,9 @@ returns-clause-told c =
     let inputs = c.args.inputs.now in
     IfOk-weaker c.merged.result _ _
     (λ v told.
-        told_parts c.args.from c.args.to (row_of edges c.args.hart) _ (inputs_of inputs c.args.hart) _ v.items
-        (c.edges_between-edges.ensures ∙ ap (filter (λ (e : Edge). is_between c.args.from c.args.to e.at)) c.of_hart.ensures.value)
-        (c.inputs_between.ensures.value ∙ ap (filter (λ (x : ℕ × Input). is_between c.args.from c.args.to x.0)) c.of_hart-2.ensures.value) told)
+    told_parts c.args.from c.args.to (row_of edges c.args.hart) _ (inputs_of inputs c.args.hart) _ v.items
+    (c.edges_between-edges.ensures ∙ ap (filter (λ (e : Edge). is_between c.args.from c.args.to e.at)) c.of_hart.ensures.value)
+    (c.inputs_between.ensures.value ∙ ap (filter (λ (x : ℕ × Input). is_between c.args.from c.args.to x.0)) c.of_hart-2.ensures.value) told)
     c.merged.ensures.told
 
 pub returns-clause-there : goal.returns-clause-there
@@ -40,6 +40,6 @@ pub returns-clause-logged : goal.returns-clause-logged
 returns-clause-logged c =
     both c.merged.result
     (λ v told order harts edges inputs.
-        logged_between c.args.from c.args.to (row_of c.args.edges.now c.args.hart) (inputs_of c.args.inputs.now c.args.hart) v.items told harts c.args.hart order
-        c.of_hart-2.ensures.few (edges c.args.hart) (inputs c.args.hart))
+    logged_between c.args.from c.args.to (row_of c.args.edges.now c.args.hart) (inputs_of c.args.inputs.now c.args.hart) v.items told harts c.args.hart order
+    c.of_hart-2.ensures.few (edges c.args.hart) (inputs c.args.hart))
     (returns-clause-told c) c.merged.ensures.order
