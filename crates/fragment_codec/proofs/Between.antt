@@ -1,9 +1,9 @@
 -- Records that tell what stands in a log between two counts.
-use Rattle.std.proofs.Common.{◌≡◌, ℕ, ◌+◌, ◌<◌, ◌≤◌, Bool, true, cond, ◌==◌, eqb, List, [], ◌∷◌, length, map, filter, filter_map, count_by, All, arith, refl, sym, ap, subst, ◌∙◌}
+use Rattle.std.proofs.Common.{◌≡◌, ℕ, ◌<◌, ◌≤◌, true, cond, ◌==◌, List, [], ◌∷◌, length, filter, filter_map, count_by, All, arith, refl, sym, ap, subst, ◌∙◌}
 use Rattle.std.specs.List.{AllByRecursion}
-use Rattle.std.proofs.lemmas.Bool.{and_parts, leb-true, ltb-true, cond_both}
+use Rattle.std.proofs.lemmas.Bool.{and_parts, leb-true, ltb-true}
 use Rattle.std.proofs.lemmas.List.{length-map}
-use Rattle.std.proofs.lemmas.List.Elements.{recursion_from_All, All-from_recursion, All-filter, filter_passes}
+use Rattle.std.proofs.lemmas.List.Elements.{recursion_from_All, All-filter, filter_passes}
 use Rattle.std.proofs.lemmas.List.Sums.{length-filter, sum_by-cons}
 use Rattle.edge_log.specs.declared.Edge.{Edge}
 use Rattle.input_log.specs.declared.Input.{Input as HartInput}

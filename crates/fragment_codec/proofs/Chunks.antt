@@ -1,20 +1,18 @@
 -- One piece more.
-use Rattle.std.proofs.Common.{◌≡◌, ◌≢◌, ◌⊎◌, ℕ, zero, suc, ◌+◌, ◌-◌, ◌<◌, ◌≤◌, ◌^◌, ◌&&◌, Bool, true, false, nat_le, nat_lt, leb, ltb, ◌==◌, eqb, eq-eqb, List, [], ◌∷◌, ◌++◌, length, map, get_or, set, take, drop, filter, slice_index, slice_get, All, Option, Some, None, arith, refl, sym, ap, subst, ◌∙◌, inl, inr, append_assoc, append-nil, get_or-set_same, get_or-set_other, length-set}
-use Rattle.std.specs.List.{AllByRecursion, AllWithin}
+use Rattle.std.proofs.Common.{◌≡◌, ◌≢◌, ◌⊎◌, ℕ, ◌+◌, ◌<◌, ◌≤◌, ◌^◌, ◌&&◌, true, nat_le, nat_lt, ◌==◌, eq-eqb, List, [], ◌∷◌, ◌++◌, length, map, get_or, set, filter, slice_index, arith, refl, sym, ap, subst, ◌∙◌, inl, inr, append_assoc, append-nil, get_or-set_same, get_or-set_other, length-set}
 use Rattle.std.proofs.ByRecursion.{all_kept_by, kept_by_passes}
 use Rattle.std.proofs.lemmas.Bool.{cases_lt, lt-ltb, le-ltb, ltb-true, le-leb, lt-leb, leb-true, and_right}
 use Rattle.std.proofs.lemmas.List.{map-append, get_or_default}
-use Rattle.std.proofs.lemmas.List.Elements.{All-from_recursion, recursion_from_All, filter_agree}
+use Rattle.std.proofs.lemmas.List.Elements.{All-from_recursion, filter_agree}
 use Rattle.std.proofs.lemmas.Option.{slice_get_cases}
-use Rattle.ft_types.specs.Counts.{count_at, IsCount}
-use Rattle.fragment_codec.specs.declared.types.Key.{Key}
+use Rattle.ft_types.specs.Counts.{count_at}
 use Rattle.fragment_codec.specs.declared.types.Record.{Record}
 use Rattle.fragment_codec.specs.declared.frame.Frame.{Frame}
 use Rattle.fragment_codec.specs.declared.frame.Frame.TheVariants.{Log}
 use Rattle.fragment_codec.specs.declared.cutting.Origin.{Origin}
 use Rattle.fragment_codec.specs.Rules.{count_of, FragmentParts, IsFragment, IsFactOf, IsRecordOf, AreRecords}
-use Rattle.fragment_codec.specs.Pieces.{HartLog, Mark, SealedView, mark_of, told_by, facts_between, is_between, number_of, IsPiece, ArePieces, mark_behind, IsHartCut}
-use Rattle.fragment_codec.specs.Cutting.{AreLogged, StandBetween, end_of, end_at, log_of_records, MayCut, CutsHart, ArePlaces}
+use Rattle.fragment_codec.specs.Pieces.{HartLog, Mark, SealedView, mark_of, told_by, facts_between, is_between, number_of, IsPiece, ArePieces, mark_behind}
+use Rattle.fragment_codec.specs.Cutting.{AreLogged, StandBetween, end_of, end_at, log_of_records, MayCut, CutsHart}
 use Rattle.fragment_codec.proofs.Filters.{filter_all, filter-filter, filter-le-length, length-filter_front, length-filter-le, all_both}
 use Rattle.fragment_codec.proofs.Logged.{rising, logged_filter, told_between, number_told, few_at}
 

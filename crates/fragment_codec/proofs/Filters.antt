@@ -1,5 +1,5 @@
 -- What filters keep of a list.
-use Rattle.std.proofs.Common.{◌≡◌, ℕ, ◌+◌, ◌-◌, ◌<◌, ◌≤◌, Bool, true, false, cond, ◌&&◌, List, [], ◌∷◌, ◌++◌, length, get_or, take, drop, filter, filter_map, count_by, Option, Some, None, All, arith, refl, sym, ap, subst, ◌∙◌, inl, inr, length-append, length-drop, length-take, take-append-drop, append-nil}
+use Rattle.std.proofs.Common.{◌≡◌, ℕ, ◌+◌, ◌<◌, ◌≤◌, Bool, true, false, cond, ◌&&◌, List, [], ◌∷◌, ◌++◌, length, take, drop, filter, count_by, All, arith, refl, sym, ap, ◌∙◌, length-append, length-drop, length-take, take-append-drop, append-nil}
 use Rattle.std.specs.List.{AllWithin, AllByRecursion}
 use Rattle.std.proofs.lemmas.Bool.{cond_both}
 use Rattle.std.proofs.lemmas.List.{get_or-take, get_or-drop}

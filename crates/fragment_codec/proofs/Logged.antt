@@ -1,5 +1,5 @@
 -- Records of a hart in order, of any number.
-use Rattle.std.proofs.Common.{◌≡◌, ℕ, zero, suc, ◌+◌, ◌-◌, ◌<◌, ◌≤◌, Bool, true, false, cond, ◌==◌, eqb, List, [], ◌∷◌, ◌++◌, length, get_or, filter, filter_map, count_by, All, arith, refl, sym, ap, subst, ◌∙◌, inl, inr, le_refl, eq-eqb, ne_eqb, eqb-true}
+use Rattle.std.proofs.Common.{◌≡◌, ℕ, zero, suc, ◌+◌, ◌<◌, ◌≤◌, Bool, true, false, cond, ◌==◌, eqb, List, [], ◌∷◌, length, get_or, filter, filter_map, count_by, arith, refl, ap, inl, inr, le_refl, eq-eqb, eqb-true}
 use Rattle.std.specs.List.{AllByRecursion}
 use Rattle.std.specs.List.Sorted.{IsNonDecreasingBy}
 use Rattle.std.proofs.ByRecursion.{all_kept_by, kept_by_passes}
@@ -10,9 +10,9 @@ use Rattle.edge_log.specs.declared.Edge.{Edge}
 use Rattle.input_log.specs.declared.Input.{Input as HartInput}
 use Rattle.fragment_codec.specs.declared.types.Record.{Record}
 use Rattle.fragment_codec.specs.declared.types.Record.TheVariants.{Edge as EdgeRecord, Input as InputRecord}
-use Rattle.fragment_codec.specs.Rules.{count_of, IsFactOf, IsRecordOf, MayPrecede, AreInOrder, is_input_at, AreRecords}
+use Rattle.fragment_codec.specs.Rules.{count_of, IsFactOf, MayPrecede, AreInOrder, is_input_at}
 use Rattle.fragment_codec.specs.Pieces.{edge_in, input_in, told_by, facts_between, is_between, number_of}
-use Rattle.fragment_codec.specs.Cutting.{AreLogged, StandBetween}
+use Rattle.fragment_codec.specs.Cutting.{AreLogged}
 use Rattle.fragment_codec.proofs.Filters.{count_by-filter-le, all_both}
 
 -- ---- order

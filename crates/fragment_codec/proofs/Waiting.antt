@@ -1,7 +1,7 @@
 -- Edges and inputs on their way into one list.
-use Rattle.std.proofs.Common.{◌≡◌, ℕ, zero, suc, ◌+◌, ◌-◌, ◌<◌, ◌≤◌, Bool, true, false, List, [], ◌∷◌, ◌++◌, length, get_or, take, drop, filter_map, zip, All, AllPairs, arith, refl, sym, ap, subst, ◌∙◌, inl, inr, append_assoc, append-nil}
+use Rattle.std.proofs.Common.{◌≡◌, ℕ, suc, ◌<◌, ◌≤◌, List, [], ◌∷◌, ◌++◌, length, get_or, take, drop, filter_map, zip, All, AllPairs, arith, refl, sym, ap, subst, ◌∙◌, inl, inr, append_assoc, append-nil}
 use Rattle.std.specs.List.{AllByRecursion}
-use Rattle.std.specs.List.Sorted.{IsNonDecreasing, IsNonDecreasingBy}
+use Rattle.std.specs.List.Sorted.{IsNonDecreasing}
 use Rattle.std.proofs.lemmas.Bool.{cases_lt}
 use Rattle.std.proofs.lemmas.List.Elements.{filter_map-append, recursion_from_All}
 use Rattle.edge_log.specs.declared.Edge.{Edge}
@@ -9,7 +9,7 @@ use Rattle.edge_log.specs.Rows.{ComesBefore}
 use Rattle.input_log.specs.declared.Input.{Input as HartInput}
 use Rattle.fragment_codec.specs.declared.types.Record.{Record}
 use Rattle.fragment_codec.specs.declared.types.Record.TheVariants.{Edge as EdgeRecord, Input as InputRecord}
-use Rattle.fragment_codec.specs.Rules.{count_of, MayPrecede, AreInOrder}
+use Rattle.fragment_codec.specs.Rules.{MayPrecede, AreInOrder}
 use Rattle.fragment_codec.specs.Pieces.{edge_in, input_in}
 use Rattle.fragment_codec.specs.Cutting.{IsFirst}
 use Rattle.fragment_codec.proofs.Filters.{all_both}

@@ -1,6 +1,6 @@
 -- Counts beside what stands at them.
-use Rattle.std.proofs.Common.{◌≡◌, ℕ, zero, suc, ◌+◌, ◌<◌, ◌≤◌, Bool, true, false, List, [], ◌∷◌, length, get_or, take, drop, filter, zip, arith, refl, sym, ap, subst, ◌∙◌, min}
-use Rattle.std.specs.List.{AllWithin, AllByRecursion}
+use Rattle.std.proofs.Common.{◌≡◌, ℕ, zero, suc, ◌≤◌, Bool, true, false, List, [], ◌∷◌, length, take, drop, filter, zip, arith, refl, sym, ap, subst, ◌∙◌}
+use Rattle.std.specs.List.{AllWithin}
 use Rattle.std.proofs.lemmas.Slice.Zip.{get_or-zip, length-zip}
 use Rattle.fragment_codec.proofs.Filters.{filter_front, filter_back}
 

@@ -1,7 +1,7 @@
-use Rattle.std.proofs.Common.{◌≡◌, ℕ, arith, sym, ap, subst, ◌∙◌}
+use Rattle.std.proofs.Common.{◌≡◌, arith, ap, subst, ◌∙◌}
 use Rattle.std.proofs.lemmas.List.{get_or_past}
 use Rattle.fragment_codec.specs.declared.cutting.Origin.{Origin}
-use Rattle.fragment_codec.specs.Pieces.{hart_log, told_by, facts_between, mark_of}
+use Rattle.fragment_codec.specs.Pieces.{hart_log, told_by}
 use Rattle.fragment_codec.specs.Cutting.{log_of_records, StandBetween}
 use Rattle.fragment_codec.proofs.Harts.{HartsCut, hart_cut, log_is, all_cut}
 use Rattle.fragment_codec.proofs.cutting.cut_logs.Goals as goal

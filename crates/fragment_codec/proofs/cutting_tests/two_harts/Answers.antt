@@ -1,4 +1,4 @@
-use Rattle.std.proofs.Common.{◌≡◌, ◌<◌, ℕ, replicate, slice_index, arith, refl, sym, subst, inl, inr}
+use Rattle.std.proofs.Common.{◌<◌, ℕ, replicate, slice_index, arith, refl, sym, subst, inl, inr}
 use Rattle.std.proofs.lemmas.Bool.{cases_lt}
 use Rattle.std.proofs.lemmas.List.{get_or-replicate, get_or_past}
 use Rattle.fragment_codec.proofs.cutting_tests.two_harts.Goals as goal

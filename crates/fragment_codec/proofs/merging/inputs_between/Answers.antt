@@ -1,4 +1,4 @@
-use Rattle.std.proofs.Common.{◌≡◌, ℕ, ◌-◌, ◌≤◌, ltb, leb, rules, arith, ◌∙◌, ap, sym, subst, filter, take, drop, zip, length, length-drop}
+use Rattle.std.proofs.Common.{◌≡◌, ℕ, ltb, leb, rules, arith, ◌∙◌, ap, sym, subst, filter, take, drop, zip, length, length-drop}
 use Rattle.std.specs.List.Sorted.{IsNonDecreasing}
 use Rattle.std.proofs.lemmas.Bool.{ltb-true, ltb-false, lt-leb, le-leb}
 use Rattle.std.proofs.lemmas.List.Sorted.{IsPartitionPoint-from_clause, IsPartitionedBy-ltb, IsNonDecreasingBy-drop}
