@@ -95,8 +95,7 @@ fn cut(
 {
     let settled = Counts::from_slice(&settled).unwrap_or(Counts::zero(2));
     assert!(rt; settled.harts() == 2);
-    assert!(rt; sealed.counts().harts() == 2);
-    assert!(rt; sealed.counts().within(settled));
+    assert!(rt; sealed.is_within(&settled));
     cut_logs(alloc, edges, inputs, &settled, &two_harts(), 3, sealed)
 }
 
@@ -188,6 +187,8 @@ fn refused_cuts(rt: HostRuntime) -> Result<(), Fail> {
         }
     };
     assert!(rt; have_shapes(&frames, &[(0, 0, 0, 30, 20), (1, 0, 0, 9, 0)]));
-    assert_eq!(rt; sealed.counts().as_slice(), [30, 9].as_slice());
+    assert!(rt; !sealed.is_within(&Counts::from_slice(&[30, 8]).ok_or("counts")?));
+    assert!(rt; sealed.is_within(&Counts::from_slice(&[30, 9]).ok_or("counts")?));
+    assert_eq!(rt; sealed.reached(Hart::new(1)), 9);
     Ok(())
 }

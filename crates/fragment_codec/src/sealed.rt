@@ -1,7 +1,7 @@
 //! How far the logs of a guest's harts are cut into pieces.
 
-ghost use Rattle.std.specs.Prelude.{◌≡◌, ℕ, ◌+◌, ◌<◌, ◌≤◌, ◌^◌, ◌↔◌, length, replicate, slice_index, slice_set, IsSome, IfSome};
-ghost use Rattle.ft_types.specs.Counts.{count_at};
+ghost use Rattle.std.specs.Prelude.{◌≡◌, ℕ, ◌+◌, ◌<◌, ◌≤◌, ◌^◌, ◌↔◌, length, replicate, slice_index, slice_set, IsTrue, IsSome, IfSome};
+ghost use Rattle.ft_types.specs.Counts.{count_at, IsWithin};
 ghost use Rattle.fragment_codec.specs.Pieces.{mark_of};
 
 use ft_types::{Count, Counts, Hart};
@@ -40,11 +40,11 @@ impl Sealed {
         }
     }
 
-    /// The counts that the pieces reach.
-    pub fn counts(&self) -> Counts
-        ensures { result ≡ self.now.reached }
+    /// Whether the pieces of each hart, of as many harts, reach at most its count here.
+    pub fn is_within(&self, counts: &Counts) -> bool
+        ensures { IsTrue result ↔ ((length self.now.reached ≡ length counts.now) × IsWithin self.now.reached counts.now) }
     {
-        self.reached
+        self.reached.harts() == counts.harts() && self.reached.within(*counts)
     }
 
     /// The place of the hart's next piece: `None` where it has had all places.
