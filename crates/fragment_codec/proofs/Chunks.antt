@@ -235,10 +235,12 @@ mark_there old hart to new h other ne =
     cc
 
 module _ {origin : Origin} {records : List Record} {old : SealedView} {before : List Frame} {seals : SealedView} {after : List Frame} {rest : List Record} {from : ℕ}
-    (may : MayCut origin records (mark_of old origin.hart)) (h : SoFar origin records old before seals after rest from) (some : from < origin.settled) where
+    (may : MayCut origin records (mark_of old origin.hart)) (h : SoFar origin records old before seals after rest from) where
   pub order_left : AreLogged origin.guest.harts origin.hart rest
   order_left = rest_logged origin records (mark_of old origin.hart) may from rest h.left
 
+module _ {origin : Origin} {records : List Record} {old : SealedView} {before : List Frame} {seals : SealedView} {after : List Frame} {rest : List Record} {from : ℕ}
+    (may : MayCut origin records (mark_of old origin.hart)) (h : SoFar origin records old before seals after rest from) (some : from < origin.settled) where
   pub ends_left : Ends from (end_of rest origin.settled) origin.settled rest
   ends_left = rest_ends origin records (mark_of old origin.hart) may from rest h.left some
 

@@ -50,6 +50,7 @@ abbrev pub records_at : ℕ → Facts → List Record
 records_at count facts =
     map EdgeRecord (filter (λ e. e.at == count) facts.edges) ++ map (λ x. InputRecord x.0 x.1) (filter (λ x. x.0 == count) facts.inputs)
 
+-- how many edges and inputs
 abbrev pub number_of : Facts → ℕ
 number_of facts = length facts.edges + length facts.inputs
 
@@ -68,8 +69,8 @@ pub record Mark : Type 0 where
   pub place : ℕ
   pub count : ℕ
 
--- The piece of the log that begins at the mark: its records are exactly the log's facts between its counts, and it goes to
--- the settled count, or so far that with one count more it would have more than 256 records.
+-- The piece of the log that begins at the mark: its records, in the order that fragments have, are exactly the log's facts
+-- between its counts, and it goes to the settled count, or so far that with one count more it would have more than 256 records.
 pub record IsPiece (log : HartLog) (mark : Mark) (piece : FragmentParts) : Type 0 where
   pub rules : IsFragment piece
   pub same_guest : piece.guest ≡ log.guest
@@ -82,7 +83,7 @@ pub record IsPiece (log : HartLog) (mark : Mark) (piece : FragmentParts) : Type 
 abbrev pub mark_behind : FragmentParts → Mark
 mark_behind piece = record { place = piece.key.place + 1; count = piece.to }
 
--- the pieces lie without gap from one mark to another
+-- pieces of the log that lie without gap from one mark to another
 abbrev pub ArePieces : HartLog → Mark → List FragmentParts → Mark → Type 0
 ArePieces log old [] new = new ≡ old
 ArePieces log old (piece ∷ pieces) new = IsPiece log old piece × ArePieces log (mark_behind piece) pieces new
@@ -117,11 +118,12 @@ hart_log guest term edges inputs settled hart =
 abbrev pub AreEdgesOf : ℕ → Edges → Type 0
 AreEdgesOf harts edges = (hart : ℕ) → All (λ e. IsFactOf harts hart (EdgeRecord e)) (row_of edges hart)
 
--- and each input
+-- each input of the log is one that such a fragment can tell
 abbrev pub AreInputsOf : ℕ → List (List (ℕ × HartInput)) → Type 0
 AreInputsOf harts inputs = (hart : ℕ) → All (λ x. IsFactOf harts hart (InputRecord x.0 x.1)) (inputs_of inputs hart)
 
--- the frames are the pieces of each hart, by rising hart, from where each was sealed to where it now is
+-- The frames are the pieces of each hart, by rising hart, from where it was sealed to where it now is. There is nothing of
+-- other harts than the guest's.
 pub record IsCut (logs : ℕ → HartLog) (harts : ℕ) (old : SealedView) (frames : List Frame) (new : SealedView) : Type 0 where
   pub pieces : List (List FragmentParts)
   pub every : length pieces ≡ harts

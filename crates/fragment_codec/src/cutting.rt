@@ -1,8 +1,8 @@
 //! Cuts the logs of a guest's harts into pieces.
 
-ghost use Rattle.std.specs.Prelude.{◌≡◌, ℕ, ◌≤◌, ◌<◌, ◌^◌, List, length, filter, nat_lt, nat_le, IfOk, OnOk, OnErr, slice_get};
+ghost use Rattle.std.specs.Prelude.{◌≡◌, ◌≤◌, ◌<◌, length, filter, nat_lt, nat_le, IfOk, OnOk, OnErr};
 ghost use Rattle.ft_types.specs.Counts.{IsWithin};
-ghost use Rattle.fragment_codec.specs.Rules.{count_of, AreInOrder, IsGuest, FragmentParts, IsFragment};
+ghost use Rattle.fragment_codec.specs.Rules.{count_of, AreInOrder, IsGuest, IsFragment};
 ghost use Rattle.fragment_codec.specs.Pieces.{AreEdgesOf, AreInputsOf, IsCut, hart_log, mark_of};
 ghost use Rattle.fragment_codec.specs.Cutting.{MayCut, CutsHart, end_of, log_of_records};
 
@@ -14,8 +14,6 @@ use edge_log::EdgeLog;
 use ft_types::{Count, Counts, Guest, Hart, Memory, Term};
 use input_log::{Input, InputLog};
 use std::alloc::Global;
-use std::option::Option;
-use std::result::Result;
 
 /// The number of records in a piece, at the most.
 const RECORD_LIMIT: usize = 256;

@@ -1,6 +1,6 @@
 //! The edges and inputs of a hart between two counts, as records in their order.
 
-ghost use Rattle.std.specs.Prelude.{◌≡◌, ℕ, ◌<◌, ◌≤◌, All, AllPairs, List, length, filter, zip, IfOk, IfNone, IfSome};
+ghost use Rattle.std.specs.Prelude.{◌≡◌, ℕ, ◌<◌, AllPairs, length, filter, zip, IfOk, IfNone, IfSome};
 ghost use Rattle.std.specs.List.Sorted.{IsNonDecreasing, IsNonDecreasingBy};
 ghost use Rattle.edge_log.specs.EdgeLog.{row_of};
 ghost use Rattle.edge_log.specs.Rows.{ComesBefore};
@@ -14,8 +14,6 @@ use edge_log::{Edge, EdgeLog};
 use ft_types::{Count, Hart, Memory};
 use input_log::{Input, InputLog};
 use std::alloc::Global;
-use std::option::Option;
-use std::result::Result;
 
 /// The edges that stand at one count or later, and below another.
 fn edges_between(edges: &[Edge], from: Count, to: Count) -> &[Edge]

@@ -1,12 +1,11 @@
 //! How far the logs of a guest's harts are cut into pieces.
 
-ghost use Rattle.std.specs.Prelude.{◌≡◌, ℕ, ◌+◌, ◌<◌, ◌≤◌, ◌^◌, ◌↔◌, length, replicate, slice_index, slice_set, IsTrue, IsSome, IfSome};
+ghost use Rattle.std.specs.Prelude.{◌≡◌, ℕ, ◌+◌, ◌<◌, ◌≤◌, ◌^◌, ◌↔◌, length, slice_index, slice_set, IsTrue, IsSome, IfSome};
 ghost use Rattle.ft_types.specs.Counts.{count_at, IsWithin};
 ghost use Rattle.fragment_codec.specs.Pieces.{mark_of};
 
 use ft_types::{Count, Counts, Hart};
 use std::marker::Model;
-use std::option::Option;
 
 /// For each hart of a guest, the place of its next piece and the count that its pieces reach.
 #[derive(Clone, Copy, Debug, PartialEq, Eq)]

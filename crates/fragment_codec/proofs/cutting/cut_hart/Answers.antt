@@ -9,7 +9,7 @@ pub loop-from-init : goal.loop-from-init
 loop-from-init c = so_far_none _ _ _ _ _ c.requires.may c.reached-from.ensures.value
 
 pub split_below-requires : goal.split_below-requires
-split_below-requires c = (order_left c.requires.may c.loop-from.invariant c.loop-from-test.true).order
+split_below-requires c = (order_left c.requires.may c.loop-from.invariant).order
 
 pub piece_of-requires : goal.piece_of-requires
 piece_of-requires c =
