@@ -12,7 +12,7 @@ use crate::sealed::Sealed;
 use crate::types::{Key, Record};
 use edge_log::EdgeLog;
 use ft_types::{Count, Counts, Guest, Hart, Memory, Term};
-use input_log::{Input, InputLog};
+use input_log::InputLog;
 use std::alloc::Global;
 
 /// The number of records in a piece, at the most.
