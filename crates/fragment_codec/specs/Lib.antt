@@ -5,3 +5,5 @@ pub mod Spelling
 pub mod Reading
 pub mod Streams
 pub mod Fronts
+pub mod Pieces
+pub mod Cutting

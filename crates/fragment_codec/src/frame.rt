@@ -86,7 +86,7 @@ fn keeps_source(harts: u8, input: Input) -> bool
     }
 }
 
-fn count(record: &Record) -> Count
+pub(crate) fn count(record: &Record) -> Count
     ensures { result ≡ count_of record.now }
 {
     match record {

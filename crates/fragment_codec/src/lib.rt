@@ -1,21 +1,30 @@
 //! Frames of a log as bytes, and bytes as frames, in whatever pieces they come.
 #![tactic(auto)]
 
+mod cut_laws;
+mod cutting;
 mod fault;
 mod feed;
 mod frame;
 mod front;
 mod laws;
+mod merging;
 mod reading;
+mod sealed;
 mod types;
 mod writing;
 
+pub use cut_laws::{one_cut, one_piece, whole_counts};
+pub use cutting::cut_logs;
 pub use fault::FrameFault;
 pub use feed::Feed;
 pub use frame::{Fragment, Frame, Opening};
 pub use laws::{any_cutting, lasting_fault, one_fault, one_reading, one_spelling, short_rest};
+pub use sealed::Sealed;
 pub use types::{Key, Record};
 pub use writing::write_frame;
 
+#[cfg(test)]
+mod cutting_tests;
 #[cfg(test)]
 mod tests;

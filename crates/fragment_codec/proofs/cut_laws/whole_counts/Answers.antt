@@ -1,0 +1,5 @@
+use Rattle.fragment_codec.proofs.CutLaws.{count_whole}
+use Rattle.fragment_codec.proofs.cut_laws.whole_counts.Goals as goal
+
+pub returns : goal.returns
+returns c = count_whole

@@ -1,0 +1,135 @@
+//! Cuts the logs of a guest's harts into pieces.
+
+ghost use Rattle.std.specs.Prelude.{◌≡◌, ◌≤◌, ◌<◌, length, filter, nat_lt, nat_le, IfOk, OnOk, OnErr};
+ghost use Rattle.ft_types.specs.Counts.{IsWithin};
+ghost use Rattle.fragment_codec.specs.Rules.{count_of, AreInOrder, IsGuest, IsFragment};
+ghost use Rattle.fragment_codec.specs.Pieces.{AreEdgesOf, AreInputsOf, IsCut, hart_log, mark_of};
+ghost use Rattle.fragment_codec.specs.Cutting.{MayCut, CutsHart, end_of, log_of_records};
+
+use crate::frame::{Fragment, Frame, count};
+use crate::merging::records_between;
+use crate::sealed::Sealed;
+use crate::types::{Key, Record};
+use edge_log::EdgeLog;
+use ft_types::{Count, Counts, Guest, Hart, Memory, Term};
+use input_log::InputLog;
+use std::alloc::Global;
+
+/// The number of records in a piece, at the most.
+const RECORD_LIMIT: usize = 256;
+
+/// Whose pieces are cut, and up to which count.
+#[derive(Clone, Copy)]
+struct Origin {
+    guest: Guest,
+    term: Term,
+    hart: Hart,
+    settled: Count,
+}
+
+/// Where the piece ends that begins with these records: at the first one that it has no room for.
+fn end_of_piece(records: &[Record], settled: Count) -> Count
+    ensures { result ≡ end_of records.now settled }
+{
+    match records.get(RECORD_LIMIT) {
+        Some(record) => count(record),
+        None => settled,
+    }
+}
+
+/// The records below a count, and the others.
+fn split_below(records: &[Record], end: Count) -> (&[Record], &[Record])
+    requires { AreInOrder records.now }
+    ensures below { result.0.now ≡ filter (λ fact. nat_lt (count_of fact) end) records.now }
+    ensures behind { result.1.now ≡ filter (λ fact. nat_le end (count_of fact)) records.now }
+{
+    records.split_at(records.partition_point(|fact| count(fact) < end))
+}
+
+/// A piece of these records, which keep the rules.
+fn piece_of(
+    alloc: Global,
+    origin: &Origin,
+    place: u32,
+    from: Count,
+    to: Count,
+    records: &[Record],
+) -> Result<Fragment, Memory>
+    requires { IsFragment (record { guest = origin.now.guest; key = record { term = origin.now.term; hart = origin.now.hart; place = place }; from = from; to = to; records = records.now }) }
+    ensures { IfOk result (λ f. f ≡ record { guest = origin.now.guest; key = record { term = origin.now.term; hart = origin.now.hart; place = place }; from = from; to = to; records = records.now }) }
+{
+    let key = Key {
+        term: origin.term,
+        hart: origin.hart,
+        place,
+    };
+    let records = Vec::from_slice(alloc, records)?;
+    Ok(Fragment::new(origin.guest, key, from, to, records).unwrap())
+}
+
+/// Cuts the records of one hart.
+fn cut_hart(
+    alloc: Global,
+    origin: &Origin,
+    records: &[Record],
+    sealed: &mut Sealed,
+    frames: &mut Vec<Frame>,
+) -> Result<(), Memory>
+    requires there { origin.now.hart < length sealed.old.reached }
+    requires may { MayCut origin.now records.now (mark_of sealed.old origin.now.hart) }
+    ensures { OnOk result (CutsHart (log_of_records origin.now records.now) sealed.old frames.old.items sealed.new frames.new.items) }
+{
+    let mut rest = records;
+    let mut from = sealed.reached(origin.hart);
+    while from < origin.settled {
+        let Some(place) = sealed.next_place(origin.hart) else {
+            break;
+        };
+        let to = end_of_piece(rest, origin.settled);
+        let (part, later) = split_below(rest, to);
+        let piece = piece_of(alloc, origin, place, from, to, part)?;
+        frames.push(Frame::Log(piece))?;
+        sealed.advance(origin.hart, to);
+        (from, rest) = (to, later);
+    }
+    Ok(())
+}
+
+/// Cuts what the logs say from the sealed counts to the settled ones into pieces, and seals it. Where memory is refused
+/// nothing is cut, and `sealed` is as it was.
+pub fn cut_logs(
+    alloc: Global,
+    edges: &EdgeLog,
+    inputs: &InputLog,
+    settled: &Counts,
+    guest: &Guest,
+    term: Term,
+    sealed: &mut Sealed,
+) -> Result<Vec<Frame>, Memory>
+    requires guest { IsGuest guest.now }
+    requires granted { 1 ≤ term }
+    requires settled_harts { length settled.now ≡ guest.now.harts }
+    requires sealed_harts { length sealed.old.reached ≡ guest.now.harts }
+    requires within { IsWithin sealed.old.reached settled.now }
+    requires edges { AreEdgesOf guest.now.harts edges.now }
+    requires inputs { AreInputsOf guest.now.harts inputs.now }
+    ensures cut { IfOk result (λ frames. IsCut (hart_log guest.now term edges.now inputs.now settled.now) guest.now.harts sealed.old frames.items sealed.new) }
+    ensures kept { OnErr result (sealed.new ≡ sealed.old) }
+{
+    let mut frames = Vec::new(alloc);
+    let mut next = *sealed;
+    for number in 0..guest.harts {
+        let hart = Hart::new(number);
+        let origin = Origin {
+            guest: *guest,
+            term,
+            hart,
+            settled: settled.get(hart),
+        };
+        let from = next.reached(hart);
+        let records = records_between(alloc, edges, inputs, hart, from, origin.settled)?;
+        cut_hart(alloc, &origin, &records, &mut next, &mut frames)?;
+    }
+    *sealed = next;
+    Ok(frames)
+}
