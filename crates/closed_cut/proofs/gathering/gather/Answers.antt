@@ -4,7 +4,7 @@ use Rattle.std.specs.List.{filter_map}
 use Rattle.fragment_codec.specs.declared.types.Record.{Record}
 use Rattle.log_join.specs.Cells.{One}
 use Rattle.closed_cut.specs.Position.{edge_in, pieces_of}
-use Rattle.closed_cut.proofs.Walking.{one_same, goes_on, gathered_on, no_place}
+use Rattle.closed_cut.proofs.Walking.{goes_on, gathered_on, no_place}
 use Rattle.closed_cut.proofs.gathering.gather.Goals as goal
 
 pub loop-place-init : goal.loop-place-init
