@@ -1,0 +1,14 @@
+//! Replays of logs: what a store asks of each hart, term by term.
+#![tactic(auto)]
+
+mod facts;
+mod fault;
+mod planning;
+mod plans;
+
+pub use fault::ReplayFault;
+pub use planning::plan;
+pub use plans::{Plan, PlannedLeg};
+
+#[cfg(test)]
+mod tests;
