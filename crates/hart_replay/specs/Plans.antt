@@ -43,8 +43,8 @@ log_of leg =
     }
 
 -- what every leg of a plan keeps
-pub record IsLeg (harts : ℕ) (leg : PlannedLeg) : Type 0 where
-  pub harts : length leg.base ≡ harts
+pub record IsLeg (many : ℕ) (leg : PlannedLeg) : Type 0 where
+  pub harts : length leg.base ≡ many
   pub start : leg.edges.start ≡ leg.base
   pub cut : IsCut (log_of leg) (count_at leg.ends)
 
