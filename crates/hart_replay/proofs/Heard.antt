@@ -115,3 +115,12 @@ takes_input hart old now new end rs i at input less is inside taken own others =
 pub all_with : (P : ℕ × Input → Type 0) (hart : ℕ) (now new : List (List (ℕ × Input))) (at : ℕ) (input : Input) →
     inputs_of new hart ≡ inputs_of now hart ++ (at, input) ∷ [] → All P (inputs_of now hart) → P (at, input) → All P (inputs_of new hart)
 all_with P hart now new at input own all one = subst (All P) (sym own) (All-push P (inputs_of now hart) (at, input) all one)
+
+-- inputs that are taken in two goes
+pub takes_both : (hart : ℕ) (old mid new : List (List (ℕ × Input))) (a b : List (ℕ × Input)) → TakesInputs hart old a mid → TakesInputs hart mid b new →
+    TakesInputs hart old (a ++ b) new
+takes_both hart old mid new a b one two =
+    record {
+      own = two.own ∙ (ap (λ l. l ++ b) one.own ∙ append_assoc (inputs_of old hart) a b);
+      others = λ other ne. two.others other ne ∙ one.others other ne;
+    }

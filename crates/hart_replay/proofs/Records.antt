@@ -138,3 +138,16 @@ ends_by hart new e count own latest le =
 -- the record at a place, as it was read
 pub read_at : (rs items : List Record) (i : ℕ) (r s : Record) → items ≡ rs → r ≡ get_or items i r → r ≡ s → s ≡ get_or rs i s
 read_at rs items i r s same is named = subst (λ x. x ≡ get_or rs i x) named (subst (λ l. r ≡ get_or l i r) same is)
+
+-- edges that are taken in two goes
+pub takes_both : (hart : ℕ) (old mid new : Edges) (a b : List Edge) → TakesEdges hart old a mid → TakesEdges hart mid b new → TakesEdges hart old (a ++ b) new
+takes_both hart old mid new a b one two =
+    record {
+      start = two.start ∙ one.start;
+      others = λ other ne. two.others other ne ∙ one.others other ne;
+      enough =
+          λ all was.
+          subst (λ l. IsEnough (edges_of new) l (start_of old)) (append_assoc all a b)
+          (subst (λ (s : List ℕ). IsEnough (edges_of new) ((all ++ a) ++ b) (count_at s)) one.start
+          (two.enough (all ++ a) (subst (λ (s : List ℕ). IsEnough (edges_of mid) (all ++ a) (count_at s)) (sym one.start) (one.enough all was))));
+    }

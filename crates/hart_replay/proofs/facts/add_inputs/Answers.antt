@@ -24,7 +24,7 @@ add-requires c =
     let by = (ahead_at (λ r. InputsEndBy c.loop-record.inputs hart (count_of r)) f.records i fact less is c.loop-record.invariant.ahead).0 in
     rw c.key-hart.ensures
     (may_follow f c.args.end i at c.in-Input.input rules less is hart c.args.inputs.now c.loop-record.inputs
-    (All-weaker (λ x. x.0 < f.from) (λ x. x.0 < at) (λ x l. omega (arith, l, own.1)) (inputs_of c.args.inputs.now hart) c.requires) by c.loop-record.invariant.taken)
+    (All-weaker (λ x. x.0 < f.from) (λ x. x.0 < at) (λ x l. omega (arith, l, own.1)) (inputs_of c.args.inputs.now hart) c.requires.last) by c.loop-record.invariant.taken)
 
 pub loop-record-preserved : goal.loop-record-preserved
 loop-record-preserved c =
