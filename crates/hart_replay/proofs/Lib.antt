@@ -1,3 +1,4 @@
 pub mod Records
 pub mod Heard
 pub mod Pieces
+pub mod Legs
