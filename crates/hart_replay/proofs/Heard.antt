@@ -1,18 +1,18 @@
 -- Inputs that are taken.
-use Rattle.std.proofs.Common.{◌≡◌, ◌≢◌, inl, inr, ℕ, ◌+◌, ◌<◌, ◌≤◌, Bool, true, false, cond, List, [], ◌∷◌, ◌++◌, map, take, drop, length, get_or, All, refl, sym, ap, subst, ◌∙◌, arith, le_trans, append_assoc, ◌==◌, eq-eqb, ne_eqb, append-nil, lt-ltb, le-ltb, take-append-drop}
-use Rattle.std.specs.List.{filter, filter_map, count_by}
-use Rattle.std.proofs.lemmas.Bool.{cases_lt, cases_eq}
-use Rattle.std.proofs.lemmas.List.{map-append, length-map, length-append}
-use Rattle.std.proofs.lemmas.List.Elements.{filter-append, All-append, All-weaker, All-head, All-tail, All-push}
+use Rattle.std.proofs.Common.{◌≡◌, ◌≢◌, inl, inr, ℕ, ◌+◌, ◌<◌, ◌≤◌, Bool, true, false, cond, List, [], ◌∷◌, ◌++◌, map, take, length, get_or, All, refl, sym, ap, subst, ◌∙◌, arith, append_assoc, ◌==◌, eq-eqb, ne_eqb, append-nil, lt-ltb, le-ltb}
+use Rattle.std.specs.List.{filter, count_by}
+use Rattle.std.proofs.lemmas.Bool.{cases_lt}
+use Rattle.std.proofs.lemmas.List.{map-append}
+use Rattle.std.proofs.lemmas.List.Elements.{filter-append, All-head, All-tail, All-push}
 use Rattle.std.proofs.lemmas.List.Sums.{count_by_more_yes, sum_by-take-le, sum_by-cons}
 use Rattle.input_log.specs.declared.Input.{Input}
 use Rattle.input_log.specs.Inputs.{inputs_of, inputs_at, MayFollow}
 use Rattle.fragment_codec.specs.declared.types.Record.{Record}
 use Rattle.fragment_codec.specs.declared.types.Record.TheVariants.{Edge as EdgeRecord, Input as InputRecord}
-use Rattle.fragment_codec.specs.Rules.{FragmentParts, IsFragment, count_of, is_input_at}
-use Rattle.hart_replay.specs.Facts.{below, input_in, inputs_among}
+use Rattle.fragment_codec.specs.Rules.{FragmentParts, IsFragment, is_input_at}
+use Rattle.hart_replay.specs.Facts.{below, inputs_among}
 use Rattle.hart_replay.specs.Taking.{TakesInputs, InputsEndBelow}
-use Rattle.hart_replay.proofs.Records.{inputs_more, below_one, below_none, no_input}
+use Rattle.hart_replay.proofs.Records.{inputs_more, below_one}
 
 -- a hart's inputs are at no later count
 abbrev pub InputsEndBy : List (List (ℕ × Input)) → ℕ → ℕ → Type 0

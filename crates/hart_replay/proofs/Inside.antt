@@ -1,24 +1,23 @@
 -- What stands among a leg's facts, and that the leg's ends are a cut.
-use Rattle.std.proofs.Common.{◌≡◌, ◌⊎◌, inl, inr, ℕ, zero, suc, ◌+◌, ◌<◌, ◌≤◌, Bool, true, false, cond, List, [], ◌∷◌, ◌++◌, Contains, map, refl, sym, ap, subst, ◌∙◌, arith, nat_lt, Option}
-use Rattle.std.specs.List.{filter, filter_map}
-use Rattle.std.proofs.lemmas.Bool.{cases_lt, cases_eq, ltb-true}
-use Rattle.std.proofs.lemmas.List.Elements.{Contains-append_cases, Contains-append_left, Contains-append_right}
+use Rattle.std.proofs.Common.{◌≡◌, inl, inr, ℕ, zero, suc, ◌<◌, ◌≤◌, Bool, true, false, cond, List, [], ◌∷◌, Contains, refl, sym, ap, subst, ◌∙◌, arith, nat_lt}
+use Rattle.std.specs.List.{filter}
+use Rattle.std.proofs.lemmas.Bool.{cases_lt, ltb-true}
+use Rattle.std.proofs.lemmas.List.Elements.{Contains-append_cases, Contains-append_right}
 use Rattle.ft_types.specs.Counts.{count_at}
 use Rattle.interleaving.specs.Log.{Edge, IsClosed, IsCut}
 use Rattle.interleaving.proofs.Cuts.{here, here_or_later}
 use Rattle.edge_log.specs.declared.Edge.{Edge as OwnedEdge}
-use Rattle.edge_log.specs.EdgeLog.{edge_as, edges_of}
-use Rattle.input_log.specs.declared.Input.{Input}
+use Rattle.edge_log.specs.EdgeLog.{edge_as}
 use Rattle.fragment_codec.specs.declared.types.Record.{Record}
 use Rattle.fragment_codec.specs.declared.types.Record.TheVariants.{Edge as EdgeRecord, Input as InputRecord}
 use Rattle.fragment_codec.specs.Rules.{FragmentParts, count_of}
 use Rattle.log_join.specs.Cells.{Cell, Absent, One, Clash}
-use Rattle.log_join.specs.Stores.{StoreView, opening_at}
+use Rattle.log_join.specs.Stores.{StoreView}
 use Rattle.closed_cut.specs.Position.{edges_of as piece_edges, pieces_of, base_of, Goes, Avail, IsReached}
 use Rattle.closed_cut.proofs.Walking.{one_same}
 use Rattle.closed_cut.proofs.Reach.{cut_short}
 use Rattle.hart_replay.specs.declared.plans.PlannedLeg.{PlannedLeg}
-use Rattle.hart_replay.specs.Facts.{records_in, records_of, below, edges_among, facts_of, HasEdges}
+use Rattle.hart_replay.specs.Facts.{records_in, records_of, below, edges_among, HasEdges}
 use Rattle.hart_replay.specs.Plans.{log_of, BeginsAtBase}
 use Rattle.hart_replay.proofs.Walks.{Leaves}
 

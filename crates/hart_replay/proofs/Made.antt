@@ -1,5 +1,5 @@
 -- The legs that were made, from the position back.
-use Rattle.std.proofs.Common.{◌≡◌, inl, inr, ℕ, zero, suc, ◌<◌, ◌≤◌, List, [], ◌∷◌, All, get_or, length, refl, sym, ap, subst, ◌∙◌, arith}
+use Rattle.std.proofs.Common.{◌≡◌, inl, inr, ℕ, ◌<◌, List, [], ◌∷◌, All, length, refl, sym, ap, subst, ◌∙◌, arith}
 use Rattle.std.proofs.lemmas.Bool.{cases_lt}
 use Rattle.std.proofs.lemmas.List.{get_or_past}
 use Rattle.std.proofs.lemmas.List.Elements.{All-cons, All-nil}
@@ -8,7 +8,7 @@ use Rattle.fragment_codec.specs.Rules.{OpeningParts}
 use Rattle.log_join.specs.Cells.{One}
 use Rattle.log_join.specs.Stores.{StoreView, opening_at, IsStore}
 use Rattle.closed_cut.specs.Chain.{LeadsTo}
-use Rattle.closed_cut.specs.Position.{base_of, IsPosition}
+use Rattle.closed_cut.specs.Position.{IsPosition}
 use Rattle.closed_cut.specs.declared.answer.Position.{Position}
 use Rattle.hart_replay.specs.declared.plans.PlannedLeg.{PlannedLeg}
 use Rattle.hart_replay.specs.Facts.{HasEdges, HasInputs}

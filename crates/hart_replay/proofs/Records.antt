@@ -1,6 +1,6 @@
 -- Records, one after the other, and what is taken of them.
-use Rattle.std.proofs.Common.{◌≡◌, ◌≢◌, inl, inr, ℕ, zero, suc, ◌+◌, ◌<◌, ◌≤◌, Bool, true, false, cond, List, [], ◌∷◌, ◌++◌, map, take, drop, length, get_or, All, nat_lt, refl, sym, ap, subst, ◌∙◌, arith, le_trans, le_refl, le_of_eq, add-one, append_assoc, lt-ltb, le-ltb, Option}
-use Rattle.std.specs.List.{filter, filter_map, AllByRecursion}
+use Rattle.std.proofs.Common.{◌≡◌, ◌≢◌, inl, inr, ℕ, zero, suc, ◌+◌, ◌<◌, ◌≤◌, List, [], ◌∷◌, ◌++◌, map, take, drop, length, get_or, All, nat_lt, refl, sym, ap, subst, ◌∙◌, arith, le_trans, append_assoc, lt-ltb, le-ltb}
+use Rattle.std.specs.List.{filter_map}
 use Rattle.std.proofs.lemmas.Bool.{cases_lt}
 use Rattle.std.proofs.lemmas.List.{take_more, drop_more, map-append, append-nil}
 use Rattle.std.proofs.lemmas.List.Elements.{filter-append, filter_map-append, All-from_recursion, All-head, All-tail, All-weaker}
@@ -8,7 +8,7 @@ use Rattle.ft_types.specs.Counts.{count_at}
 use Rattle.interleaving.specs.Log.{Edge}
 use Rattle.interleaving.specs.Cuts.{IsEnough}
 use Rattle.edge_log.specs.declared.Edge.{Edge as OwnedEdge}
-use Rattle.edge_log.specs.EdgeLog.{Edges, MayAdd, edge_as, edges_of, row_of, start_of}
+use Rattle.edge_log.specs.EdgeLog.{Edges, edge_as, edges_of, row_of, start_of}
 use Rattle.input_log.specs.declared.Input.{Input}
 use Rattle.fragment_codec.specs.declared.types.Record.{Record}
 use Rattle.fragment_codec.specs.declared.types.Record.TheVariants.{Edge as EdgeRecord, Input as InputRecord}

@@ -1,13 +1,13 @@
 -- The walk to a position: the terms that it went through, and how it left each.
-use Rattle.std.proofs.Common.{◌≡◌, inl, inr, ℕ, zero, suc, ◌+◌, ◌<◌, ◌≤◌, List, [], ◌∷◌, ◌++◌, Option, Some, None, refl, sym, ap, subst, ◌∙◌, arith, le_trans, le_of_lt, le_of_eq}
+use Rattle.std.proofs.Common.{◌≡◌, inl, inr, ℕ, ◌<◌, ◌≤◌, List, [], ◌∷◌, ◌++◌, Option, Some, None, refl, sym, ap, subst, ◌∙◌, arith, le_trans, le_of_lt, le_of_eq}
 use Rattle.std.proofs.Math.Path.{fun_ext}
 use Rattle.std.proofs.lemmas.Bool.{cases_lt, cases_eq}
 use Rattle.ft_types.specs.Counts.{count_at}
 use Rattle.fragment_codec.specs.Rules.{OpeningParts}
 use Rattle.log_join.specs.Cells.{One}
 use Rattle.log_join.specs.Stores.{StoreView, opening_at, IsStore}
-use Rattle.closed_cut.specs.Chain.{Sound, Root, IsTop, IsParent, LeadsTo, IsChain, NoTerm, To}
-use Rattle.closed_cut.specs.Position.{base_of, InChain, Self, Up, IsReached, Stops, Last, Short, On, Walked, IsPosition, NoTop, Top}
+use Rattle.closed_cut.specs.Chain.{Sound, Root, LeadsTo, IsChain, NoTerm, To}
+use Rattle.closed_cut.specs.Position.{base_of, InChain, Self, Up, IsReached, Stops, Last, Short, On, IsPosition, NoTop, Top}
 use Rattle.closed_cut.specs.declared.answer.Position.{Position}
 use Rattle.closed_cut.proofs.Chains.{term_above, chain_up}
 use Rattle.closed_cut.proofs.Walking.{one_same}

@@ -126,16 +126,22 @@ fn to_the_end_of_what_came(rt: HostRuntime) -> Result<(), Fail> {
 fn edges_that_wait_for_one_another(rt: HostRuntime) -> Result<(), Fail> {
     let mut store = Store::new(rt.alloc(), guest(2));
     open(rt.alloc(), &mut store, 1, 0, &[0, 0])?;
-    let forth = edge(0, 2, 1, 3);
-    let back = edge(1, 1, 0, 4);
-    hold(rt.alloc(), &mut store, key(1, 0, 0), 0, 5, &[Record::Edge(forth)])?;
-    hold(rt.alloc(), &mut store, key(1, 1, 0), 0, 5, &[Record::Edge(back)])?;
+    let forth = [Record::Edge(edge(0, 2, 1, 3))];
+    hold(rt.alloc(), &mut store, key(1, 0, 0), 0, 5, &forth)?;
+    let back = [Record::Edge(edge(1, 1, 0, 4))];
+    hold(rt.alloc(), &mut store, key(1, 1, 0), 0, 5, &back)?;
     let plan = plan_of(rt.alloc(), &store)?;
     assert_eq!(rt; plan.legs().len(), 1);
     let leg = &plan.legs()[0];
     assert_leg(&rt, leg, 1, &[0, 0], &[5, 5]);
-    assert_eq!(rt; leg.edges.of_hart(Hart::new(0)), [forth].as_slice());
-    assert_eq!(rt; leg.edges.of_hart(Hart::new(1)), [back].as_slice());
+    assert_eq!(rt;
+        leg.edges.of_hart(Hart::new(0)),
+        [edge(0, 2, 1, 3)].as_slice()
+    );
+    assert_eq!(rt;
+        leg.edges.of_hart(Hart::new(1)),
+        [edge(1, 1, 0, 4)].as_slice()
+    );
     Ok(())
 }
 
@@ -163,7 +169,14 @@ fn two_terms(alloc: Global) -> Result<Store, Fail> {
     hold(alloc, &mut store, key(2, 0, 0), 3, 7, &second)?;
     hold(alloc, &mut store, key(2, 1, 0), 4, 6, &[])?;
     let late = Record::Edge(edge(1, 7, 0, 8));
-    hold(alloc, &mut store, key(2, 1, 1), 6, 9, &[Record::Input(6, Input::Timer), late])?;
+    hold(
+        alloc,
+        &mut store,
+        key(2, 1, 1),
+        6,
+        9,
+        &[Record::Input(6, Input::Timer), late],
+    )?;
     Ok(store)
 }
 
@@ -206,11 +219,11 @@ fn what_is_inside_a_leg(rt: HostRuntime) -> Result<(), Fail> {
 fn nine_inputs_in_a_row(rt: HostRuntime) -> Result<(), Fail> {
     let mut store = Store::new(rt.alloc(), guest(1));
     open(rt.alloc(), &mut store, 1, 0, &[0])?;
-    let early = Record::Input(2, Input::Timer);
-    let late = Record::Input(3, Input::Timer);
-    let records = [
-        early, early, early, early, early, early, early, early, late,
-    ];
+    let mut records = Vec::new(rt.alloc());
+    for _ in 0..8u8 {
+        records.push(Record::Input(2, Input::Timer))?;
+    }
+    records.push(Record::Input(3, Input::Timer))?;
     hold(rt.alloc(), &mut store, key(1, 0, 0), 0, 4, &records)?;
     let plan = plan_of(rt.alloc(), &store)?;
     assert_eq!(rt; plan.legs().len(), 1);

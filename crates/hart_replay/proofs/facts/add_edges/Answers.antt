@@ -1,6 +1,5 @@
-use Rattle.std.proofs.Common.{◌≡◌, ◌≤◌, ◌<◌, ◌+◌, List, length, get_or, drop, ap, subst, arith, le_trans, le_of_lt}
+use Rattle.std.proofs.Common.{◌≡◌, ◌≤◌, ◌<◌, ◌+◌, List, length, drop, ap, subst, arith, le_trans, le_of_lt}
 use Rattle.std.proofs.lemmas.List.Elements.{All-weaker}
-use Rattle.ft_types.specs.Counts.{count_at}
 use Rattle.fragment_codec.specs.declared.types.Record.{Record}
 use Rattle.fragment_codec.specs.declared.types.Record.TheVariants.{Edge as EdgeRecord, Input as InputRecord}
 use Rattle.fragment_codec.specs.Rules.{count_of, IsRecordOf}

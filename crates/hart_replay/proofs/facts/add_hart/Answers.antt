@@ -1,10 +1,10 @@
-use Rattle.std.proofs.Common.{◌≡◌, ◌<◌, ◌^◌, ◌+◌, ◌≤◌, refl, sym, ap, subst, arith, ◌∙◌, length, le_trans, le_of_eq}
+use Rattle.std.proofs.Common.{◌≡◌, ◌<◌, ◌^◌, ◌+◌, sym, ap, subst, arith, ◌∙◌, length}
 use Rattle.ft_types.specs.Counts.{count_at}
 use Rattle.log_join.specs.Cells.{One}
 use Rattle.closed_cut.specs.Position.{pieces_of}
 use Rattle.closed_cut.proofs.Walking.{goes_on, no_place}
 use Rattle.hart_replay.specs.Facts.{below, edges_among, inputs_among}
-use Rattle.hart_replay.specs.Taking.{TakesEdges, EdgesEndBy, TakesInputs, InputsEndBelow}
+use Rattle.hart_replay.specs.Taking.{TakesEdges, TakesInputs}
 use Rattle.hart_replay.proofs.Pieces.{hart_is, harts_are, no_lower, edges_on, inputs_on}
 use Rattle.hart_replay.proofs.facts.add_hart.Goals as goal
 

@@ -1,9 +1,9 @@
-use Rattle.std.proofs.Common.{◌≡◌, [], ◌∷◌, reverse, refl, sym, subst, ap, arith, ◌∙◌}
+use Rattle.std.proofs.Common.{◌≡◌, [], ◌∷◌, reverse, sym, subst, arith, ◌∙◌}
 use Rattle.std.proofs.lemmas.List.{reverse-append}
 use Rattle.log_join.specs.Cells.{One}
 use Rattle.log_join.specs.Stores.{opening_at}
 use Rattle.closed_cut.proofs.Chains.{term_above}
-use Rattle.hart_replay.proofs.Made.{AreMade, made_none, made_more, made_all, made_plan}
+use Rattle.hart_replay.proofs.Made.{made_none, made_more}
 use Rattle.hart_replay.proofs.planning.legs_to.Goals as goal
 
 pub loop-opening-init : goal.loop-opening-init
