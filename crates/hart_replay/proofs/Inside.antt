@@ -4,7 +4,7 @@ use Rattle.std.specs.List.{filter}
 use Rattle.std.proofs.lemmas.Bool.{cases_lt, ltb-true}
 use Rattle.std.proofs.lemmas.List.Elements.{Contains-append_cases, Contains-append_right}
 use Rattle.ft_types.specs.Counts.{count_at}
-use Rattle.interleaving.specs.Log.{Edge, IsClosed, IsCut}
+use Rattle.interleaving.specs.Log.{Edge, IsClosed}
 use Rattle.interleaving.proofs.Cuts.{here, here_or_later}
 use Rattle.edge_log.specs.declared.Edge.{Edge as OwnedEdge}
 use Rattle.edge_log.specs.EdgeLog.{edge_as}
@@ -17,8 +17,8 @@ use Rattle.closed_cut.specs.Position.{edges_of as piece_edges, pieces_of, base_o
 use Rattle.closed_cut.proofs.Walking.{one_same}
 use Rattle.closed_cut.proofs.Reach.{cut_short}
 use Rattle.hart_replay.specs.declared.plans.PlannedLeg.{PlannedLeg}
-use Rattle.hart_replay.specs.Facts.{records_in, records_of, below, edges_among, HasEdges}
-use Rattle.hart_replay.specs.Plans.{log_of, BeginsAtBase}
+use Rattle.hart_replay.specs.Facts.{records_in, records_of, below, edges_among, EndsInside, HasEdges}
+use Rattle.hart_replay.specs.Plans.{BeginsAtBase}
 use Rattle.hart_replay.proofs.Walks.{Leaves}
 
 -- ---- what is among records
@@ -135,13 +135,12 @@ one_avail store term base a b hart =
 
 -- ---- the ends of a leg are a cut
 
-pub is_cut : (store : StoreView) (leg : PlannedLeg) → BeginsAtBase store leg → Leaves store leg.term (count_at leg.ends) → HasEdges store leg →
-    IsCut (log_of leg) (count_at leg.ends)
-is_cut store leg base leaves edges =
+pub ends_inside : (store : StoreView) (leg : PlannedLeg) → BeginsAtBase store leg → Leaves store leg.term (count_at leg.ends) → HasEdges store leg → EndsInside store leg
+ends_inside store leg base leaves edges =
     record {
-      from_start = above;
-      to_end = λ hart. omega arith;
-      closed = (edges.same_order.cuts (count_at leg.ends) above).1 closed;
+      avail = reached.avail;
+      within = reached.fits.within;
+      cut = record { from_start = above; to_end = λ hart. omega arith; closed = (edges.same_order.cuts (count_at leg.ends) above).1 closed };
     }
   where
     same_base : base_of leaves.opening ≡ count_at leg.base

@@ -11,11 +11,11 @@ use Rattle.closed_cut.specs.Chain.{LeadsTo}
 use Rattle.closed_cut.specs.Position.{IsPosition}
 use Rattle.closed_cut.specs.declared.answer.Position.{Position}
 use Rattle.hart_replay.specs.declared.plans.PlannedLeg.{PlannedLeg}
-use Rattle.hart_replay.specs.Facts.{HasEdges, HasInputs}
+use Rattle.hart_replay.specs.Facts.{EndsInside, HasEdges, HasInputs}
 use Rattle.hart_replay.specs.Plans.{terms_of, BeginsAtBase, EndAt, IsLeg, GoOn, IsPlan}
 use Rattle.closed_cut.proofs.Chains.{term_above}
 use Rattle.hart_replay.proofs.Walks.{Leaves, WentOver, ends_over, parent_over}
-use Rattle.hart_replay.proofs.Inside.{is_cut}
+use Rattle.hart_replay.proofs.Inside.{ends_inside}
 
 -- where the leg before these ends
 abbrev pub NextEnd : List ℕ → List PlannedLeg → List ℕ → Type 0
@@ -28,6 +28,7 @@ pub record AreMade (store : StoreView) (p : Position) (legs : List PlannedLeg) (
   pub bases : All (BeginsAtBase store) legs
   pub ends_at : EndAt p.counts legs
   pub next : NextEnd p.counts legs ends
+  pub inside : All (EndsInside store) legs
   pub edges : All (HasEdges store) legs
   pub inputs : All (HasInputs store) legs
   pub each : All (IsLeg store.guest.harts) legs
@@ -42,6 +43,7 @@ made_none store p position =
       bases = All-nil (BeginsAtBase store);
       ends_at = tt;
       next = refl;
+      inside = All-nil (EndsInside store);
       edges = All-nil (HasEdges store);
       inputs = All-nil (HasInputs store);
       each = All-nil (IsLeg store.guest.harts);
@@ -78,13 +80,18 @@ module _ (store : StoreView) (rules : IsStore store) (p : Position) (position : 
   over : WentOver store p term (count_at ends)
   over = made.over fits.1
 
+  inside : EndsInside store leg
+  inside =
+      ends_inside store leg begins
+      (subst (λ t. Leaves store t (count_at leg.ends)) (sym is_term) (subst (λ (e : List ℕ). Leaves store term (count_at e)) (sym is_ends) over.leaves)) edges
+
   leg_is : IsLeg store.guest.harts leg
   leg_is =
       let at = rules.openings term o one in
       record {
         harts = ap length is_base ∙ (at.rules.base ∙ ap (λ g. g.harts) at.same_guest);
         start = starts;
-        cut = is_cut store leg begins (subst (λ t. Leaves store t (count_at leg.ends)) (sym is_term) (subst (λ (e : List ℕ). Leaves store term (count_at e)) (sym is_ends) over.leaves)) edges;
+        cut = inside.cut;
       }
 
   goes_on : GoOn (count_at leg.ends) legs
@@ -97,6 +104,7 @@ module _ (store : StoreView) (rules : IsStore store) (p : Position) (position : 
         bases = All-cons (BeginsAtBase store) leg legs begins made.bases;
         ends_at = ends_more p.counts leg legs ends is_ends made.next made.ends_at;
         next = sym is_base;
+        inside = All-cons (EndsInside store) leg legs inside made.inside;
         edges = All-cons (HasEdges store) leg legs edges made.edges;
         inputs = All-cons (HasInputs store) leg legs inputs made.inputs;
         each = All-cons (IsLeg store.guest.harts) leg legs leg_is made.each;

@@ -1,8 +1,8 @@
 -- What a leg has of a store.
-use Rattle.std.specs.Prelude.{ℕ, zero, suc, ◌≡◌, ◌↔◌, List, [], ◌++◌, map, filter, nat_lt, Contains, Option, Some, None}
+use Rattle.std.specs.Prelude.{ℕ, zero, suc, ◌≡◌, ◌≤◌, ◌↔◌, List, [], ◌++◌, map, filter, nat_lt, Contains, Option, Some, None}
 use Rattle.std.specs.List.{filter_map}
 use Rattle.ft_types.specs.Counts.{count_at}
-use Rattle.interleaving.specs.Log.{Edge}
+use Rattle.interleaving.specs.Log.{Edge, IsCut}
 use Rattle.interleaving.specs.Cuts.{IsEnough, IsSameOrder}
 use Rattle.edge_log.specs.EdgeLog.{edge_as, edges_of}
 use Rattle.input_log.specs.declared.Input.{Input}
@@ -14,6 +14,7 @@ use Rattle.log_join.specs.Cells.{Cell, Absent, One, Clash}
 use Rattle.log_join.specs.Stores.{StoreView}
 use Rattle.closed_cut.specs.Position.{edge_in, pieces_of, Avail}
 use Rattle.hart_replay.specs.declared.plans.PlannedLeg.{PlannedLeg}
+use Rattle.hart_replay.specs.Plans.{log_of}
 
 -- the records of a piece, where there is one
 abbrev pub records_in : Cell FragmentParts → List Record
@@ -42,6 +43,12 @@ input_in (InputRecord at input) = Some (at, input)
 -- the inputs among records, each beside its count
 abbrev pub inputs_among : List Record → List (ℕ × Input)
 inputs_among records = filter_map input_in records
+
+-- the leg goes from its base to a closed cut, and no further than the pieces without a gap
+pub record EndsInside (store : StoreView) (leg : PlannedLeg) : Type 0 where
+  pub avail : Avail store leg.term (count_at leg.base)
+  pub within : (hart : ℕ) → count_at leg.ends hart ≤ avail.end hart
+  pub cut : IsCut (log_of leg) (count_at leg.ends)
 
 -- the facts of a hart inside a leg: the records of its pieces without a gap, in order, as far as the leg's end
 abbrev pub facts_of : (store : StoreView) (leg : PlannedLeg) → Avail store leg.term (count_at leg.base) → ℕ → List Record

@@ -1,4 +1,4 @@
 pub mod Faults
-pub mod Facts
 pub mod Plans
+pub mod Facts
 pub mod Taking

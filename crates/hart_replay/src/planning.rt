@@ -1,14 +1,12 @@
 //! The plan of a store.
 
 ghost use Rattle.std.specs.Prelude.{◌≡◌, ℕ, ◌++◌, List, All, IfOk, IfErr};
-ghost use Rattle.ft_types.specs.Counts.{count_at};
-ghost use Rattle.interleaving.specs.Log.{IsCut};
 ghost use Rattle.log_join.specs.Cells.{One};
 ghost use Rattle.log_join.specs.Stores.{opening_at, IsStore};
 ghost use Rattle.closed_cut.specs.Chain.{LeadsTo, IsChain};
 ghost use Rattle.closed_cut.specs.Position.{IsPosition};
-ghost use Rattle.hart_replay.specs.Facts.{HasEdges, HasInputs};
-ghost use Rattle.hart_replay.specs.Plans.{terms_of, BeginsAtBase, EndAt, log_of, IsPlan};
+ghost use Rattle.hart_replay.specs.Facts.{EndsInside, HasEdges, HasInputs};
+ghost use Rattle.hart_replay.specs.Plans.{terms_of, BeginsAtBase, EndAt, IsPlan};
 
 use crate::facts::add_hart;
 use crate::fault::ReplayFault;
@@ -59,6 +57,7 @@ fn legs_to(alloc: Global, store: &Store, position: &Position) -> Result<Vec<Plan
     ensures terms { IfOk result (λ legs. LeadsTo store.now 0 (terms_of legs.items) position.now.term) }
     ensures bases { IfOk result (λ legs. All (BeginsAtBase store.now) legs.items) }
     ensures ends { IfOk result (λ legs. EndAt position.now.counts legs.items) }
+    ensures cuts { IfOk result (λ legs. All (EndsInside store.now) legs.items) }
     ensures edges { IfOk result (λ legs. All (HasEdges store.now) legs.items) }
     ensures inputs { IfOk result (λ legs. All (HasInputs store.now) legs.items) }
     ensures plan { IfOk result (λ legs. IsPlan store.now.guest legs.items) }
@@ -84,10 +83,10 @@ pub fn plan(alloc: Global, store: &Store, position: &Position) -> Result<Plan, R
     ensures terms { IfOk result (λ plan. LeadsTo store.now 0 (terms_of plan.legs) position.now.term) }
     ensures chain { IfOk result (λ plan. (rest : List ℕ) × IsChain store.now (terms_of plan.legs ++ rest)) }
 
-    // Each goes from its term's base to the next one's, the last one to the position's counts: a closed cut.
+    // Each goes from its term's base to the next one's, the last one to the position's counts: a closed cut of what came.
     ensures bases { IfOk result (λ plan. All (BeginsAtBase store.now) plan.legs) }
     ensures ends { IfOk result (λ plan. EndAt position.now.counts plan.legs) }
-    ensures cuts { IfOk result (λ plan. All (λ leg. IsCut (log_of leg) (count_at leg.ends)) plan.legs) }
+    ensures cuts { IfOk result (λ plan. All (EndsInside store.now) plan.legs) }
 
     // Each has the store's edges and inputs inside.
     ensures edges { IfOk result (λ plan. All (HasEdges store.now) plan.legs) }

@@ -34,3 +34,6 @@ loop-opening-smaller c =
 
 pub returns-clause-inputs : goal.returns-clause-inputs
 returns-clause-inputs c = rw c.reverse.ensures.items c.loop-opening.invariant.inputs
+
+pub returns-clause-cuts : goal.returns-clause-cuts
+returns-clause-cuts c = rw c.reverse.ensures.items c.loop-opening.invariant.inside

@@ -9,3 +9,6 @@ returns-clause-chain c =
 
 pub returns-clause-inputs : goal.returns-clause-inputs
 returns-clause-inputs c = rw c.new.ensures.legs c.in_ok-legs.ensures.inputs
+
+pub returns-clause-cuts : goal.returns-clause-cuts
+returns-clause-cuts c = rw c.new.ensures.legs c.in_ok-legs.ensures.cuts
