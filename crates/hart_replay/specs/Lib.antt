@@ -2,3 +2,5 @@ pub mod Faults
 pub mod Plans
 pub mod Facts
 pub mod Taking
+pub mod Histories
+pub mod Laws

@@ -3,10 +3,12 @@
 
 mod facts;
 mod fault;
+mod laws;
 mod planning;
 mod plans;
 
 pub use fault::ReplayFault;
+pub use laws::honest_plans;
 pub use planning::plan;
 pub use plans::{Plan, PlannedLeg};
 
