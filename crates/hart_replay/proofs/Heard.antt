@@ -20,7 +20,7 @@ InputsEndBy log hart count = All (λ x. x.0 ≤ count) (inputs_of log hart)
 
 -- ---- how many there are at a count
 
-at-append : (a b : List (ℕ × Input)) (n : ℕ) → inputs_at (a ++ b) n ≡ inputs_at a n ++ inputs_at b n
+pub at-append : (a b : List (ℕ × Input)) (n : ℕ) → inputs_at (a ++ b) n ≡ inputs_at a n ++ inputs_at b n
 at-append a b n =
     ap (map (λ (x : ℕ × Input). x.1)) (filter-append (λ (x : ℕ × Input). x.0 == n) a b) ∙
     map-append (λ (x : ℕ × Input). x.1) (filter (λ (x : ℕ × Input). x.0 == n) a) (filter (λ (x : ℕ × Input). x.0 == n) b)

@@ -5,3 +5,6 @@ pub mod Legs
 pub mod Walks
 pub mod Inside
 pub mod Made
+pub mod Covers
+pub mod Schedules
+pub mod Led
