@@ -8,3 +8,4 @@ pub mod Made
 pub mod Covers
 pub mod Schedules
 pub mod Led
+pub mod Onward

@@ -1,5 +1,6 @@
 use Rattle.std.proofs.Common.{get_or}
 use Rattle.hart_replay.proofs.Led.{follows}
+use Rattle.hart_replay.proofs.Onward.{leads_to_position}
 use Rattle.hart_replay.proofs.laws.honest_plans.Goals as goal
 
 pub returns-clause-follow : goal.returns-clause-follow
@@ -8,4 +9,5 @@ returns-clause-follow g c system boot history store position legs rules honest p
     (planned.inputs k d less)
 
 pub returns-clause-lead : goal.returns-clause-lead
-returns-clause-lead g c = ?
+returns-clause-lead g c system boot history store position legs rules honest planned =
+    leads_to_position system boot history store rules honest position legs planned
