@@ -1,17 +1,16 @@
 -- The facts of a leg are those of the log that its pieces tell of.
-use Rattle.std.proofs.Common.{◌≡◌, ◌≢◌, inl, inr, ℕ, zero, suc, ◌+◌, ◌<◌, ◌≤◌, Bool, true, false, cond, List, [], ◌∷◌, ◌++◌, Contains, All, map, refl, sym, ap, subst, ◌∙◌, arith, nat_lt, lt-ltb, le-ltb, ◌==◌, ne_eqb, append-nil}
-use Rattle.std.specs.List.{filter, filter_map}
-use Rattle.std.proofs.lemmas.Bool.{cases_lt, cases_eq}
+use Rattle.std.proofs.Common.{◌≡◌, ◌≢◌, inl, inr, ℕ, zero, suc, ◌<◌, ◌≤◌, Bool, true, false, cond, List, [], ◌∷◌, ◌++◌, Contains, All, refl, sym, ap, subst, ◌∙◌, arith, nat_lt, lt-ltb, le-ltb, ne_eqb, append-nil}
+use Rattle.std.specs.List.{filter}
+use Rattle.std.proofs.lemmas.Bool.{cases_lt}
 use Rattle.std.proofs.lemmas.List.Elements.{Contains-append_left, Contains-append_right, All-from_recursion, All-head, All-tail, All-weaker}
 use Rattle.interleaving.specs.Log.{Edge, Log}
 use Rattle.interleaving.proofs.Cuts.{here, here_or_later}
-use Rattle.edge_log.specs.EdgeLog.{edge_as}
 use Rattle.input_log.specs.declared.Input.{Input}
 use Rattle.input_log.specs.Inputs.{inputs_at}
 use Rattle.fragment_codec.specs.declared.types.Record.{Record}
 use Rattle.fragment_codec.specs.declared.types.Record.TheVariants.{Edge as EdgeRecord, Input as InputRecord}
 use Rattle.fragment_codec.specs.Rules.{FragmentParts, IsFragment, IsRecordOf, count_of}
-use Rattle.log_join.specs.Cells.{Cell, Absent, One, Clash}
+use Rattle.log_join.specs.Cells.{Cell, One}
 use Rattle.closed_cut.specs.Position.{edges_of as piece_edges, Goes}
 use Rattle.closed_cut.proofs.Walking.{one_same}
 use Rattle.closed_cut.proofs.Reach.{cut_short, goes_above}

@@ -1,26 +1,24 @@
 -- A leg of honest frames follows its term.
-use Rattle.std.proofs.Common.{◌≡◌, ◌≢◌, inl, inr, ℕ, zero, suc, ◌+◌, ◌<◌, ◌≤◌, false, List, [], ◌∷◌, Contains, refl, sym, ap, subst, ◌∙◌, arith, le_trans}
+use Rattle.std.proofs.Common.{◌≡◌, inl, inr, ℕ, ◌<◌, ◌≤◌, false, List, Contains, refl, sym, ap, subst, ◌∙◌, arith, le_trans}
 use Rattle.std.proofs.Math.Path.{fun_ext}
-use Rattle.std.proofs.lemmas.Bool.{cases_lt, cases_eq}
+use Rattle.std.proofs.lemmas.Bool.{cases_lt}
 use Rattle.ft_types.specs.Counts.{count_at}
 use Rattle.interleaving.specs.Lists.{IsWithin}
-use Rattle.interleaving.specs.Machine.{Machine, System, Turn, Runs, run, at}
-use Rattle.interleaving.specs.Log.{Edge, Log, IsClosed, IsCut, IsMet, Begins, IsSchedule, IsReplayed, GoesOn, counts_after, turns_of}
-use Rattle.interleaving.specs.Cuts.{IsEnough, IsSameOrder}
+use Rattle.interleaving.specs.Machine.{Machine, System, Runs, run, at}
+use Rattle.interleaving.specs.Log.{Edge, Log, IsClosed, IsCut, IsMet, Begins, IsReplayed, GoesOn, counts_after, turns_of}
 use Rattle.interleaving.specs.Beginnings.{order_at}
 use Rattle.interleaving.proofs.Replay.{confluence}
 use Rattle.interleaving.proofs.Beginnings.{own_order, ends_are_cuts}
 use Rattle.interleaving.proofs.Stuck.{stuck_cannot_go_on}
 use Rattle.edge_log.specs.EdgeLog.{edges_of}
 use Rattle.input_log.specs.declared.Input.{Input}
-use Rattle.input_log.specs.Inputs.{inputs_of, inputs_at}
+use Rattle.input_log.specs.Inputs.{inputs_at}
 use Rattle.fragment_codec.specs.Rules.{FragmentParts, IsFragment}
 use Rattle.log_join.specs.Cells.{One}
 use Rattle.log_join.specs.Stores.{StoreView, IsStore}
-use Rattle.closed_cut.specs.Position.{pieces_of, Goes, Avail}
-use Rattle.closed_cut.proofs.Walking.{one_same}
+use Rattle.closed_cut.specs.Position.{pieces_of}
 use Rattle.hart_replay.specs.declared.plans.PlannedLeg.{PlannedLeg}
-use Rattle.hart_replay.specs.Facts.{records_of, below, edges_among, inputs_among, facts_of, EndsInside, HasEdges, HasInputs}
+use Rattle.hart_replay.specs.Facts.{records_of, below, edges_among, inputs_among, EndsInside, HasEdges, HasInputs}
 use Rattle.hart_replay.specs.Plans.{BeginsAtBase, log_of}
 use Rattle.hart_replay.specs.Histories.{TermHistory, IsTerm, IsHonestStore, TellsOf}
 use Rattle.hart_replay.specs.Laws.{FollowsTerm}

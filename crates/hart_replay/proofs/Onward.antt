@@ -1,20 +1,19 @@
 -- A plan of honest frames leads from boot to the position.
-use Rattle.std.proofs.Common.{◌≡◌, ℕ, zero, suc, ◌<◌, List, [], ◌∷◌, All, refl, sym, ap, subst, ◌∙◌, arith}
+use Rattle.std.proofs.Common.{◌≡◌, ℕ, zero, suc, ◌<◌, List, [], ◌∷◌, ◌++◌, All, refl, sym, ap, subst, ◌∙◌, arith}
 use Rattle.std.proofs.lemmas.List.Elements.{All-head, All-tail}
 use Rattle.ft_types.specs.Counts.{count_at}
-use Rattle.interleaving.specs.Machine.{Machine, System, Turn, Runs, run, at}
+use Rattle.interleaving.specs.Machine.{Machine, System, Runs, run, at}
 use Rattle.interleaving.specs.Log.{IsSchedule, turns_of}
 use Rattle.interleaving.specs.Beginnings.{order_at}
 use Rattle.input_log.specs.declared.Input.{Input}
-use Rattle.log_join.specs.Stores.{StoreView, opening_at, IsStore}
+use Rattle.log_join.specs.Stores.{StoreView, IsStore}
 use Rattle.closed_cut.specs.Chain.{IsParent, LeadsTo}
 use Rattle.closed_cut.specs.declared.answer.Position.{Position}
 use Rattle.closed_cut.proofs.Chains.{term_above}
-use Rattle.closed_cut.proofs.Walking.{one_same}
 use Rattle.hart_replay.specs.declared.plans.PlannedLeg.{PlannedLeg}
 use Rattle.hart_replay.specs.Facts.{EndsInside, HasEdges, HasInputs}
 use Rattle.hart_replay.specs.Plans.{terms_of, BeginsAtBase, EndAt, log_of}
-use Rattle.hart_replay.specs.Histories.{TermHistory, machine_at, IsTerm, IsHonestStore}
+use Rattle.hart_replay.specs.Histories.{TermHistory, machine_at, IsHonestStore}
 use Rattle.hart_replay.specs.Laws.{ArePlanned, FollowsTerm, LeadFrom, LeadToOne}
 use Rattle.hart_replay.proofs.Led.{same_start, follows}
 
@@ -53,13 +52,12 @@ module _ {Hart Page : Type 0} (system : System Hart Page (List Input)) (boot : M
   last = machine_at system boot history position.term (count_at position.counts)
 
   module _ (leg : PlannedLeg) (legs : List PlannedLeg) (before : ℕ) (from : ℕ → ℕ) (parent : IsParent store before leg.term) (goes : from ≡ count_at leg.base)
-      (base : BeginsAtBase store leg) (cut : EndsInside store leg) (edges : HasEdges store leg) (inputs : HasInputs store leg)
-      (rest : LeadToOne system (machine_at system boot history leg.term (count_at leg.ends)) legs (machine_at system boot history position.term (count_at position.counts))) where
+      (base : BeginsAtBase store leg) (cut : EndsInside store leg) (edges : HasEdges store leg) (inputs : HasInputs store leg) where
     abbrev start : Machine Hart Page
     start = (history leg.term).start
 
     -- the machine that the leg finds is the one with which its term began
-    found : machine_at system boot history before from ≡ (history leg.term).start
+    pub found : machine_at system boot history before from ≡ (history leg.term).start
     found =
         let opens = honest.openings leg.term parent.opening parent.opens in
         sym
@@ -71,7 +69,7 @@ module _ {Hart Page : Type 0} (system : System Hart Page (List Input)) (boot : M
     led : FollowsTerm system (history leg.term) leg
     led = follows system boot history store rules honest leg base cut edges inputs
 
-    left : (order : List ℕ) → IsSchedule (log_of leg) (count_at leg.ends) order →
+    pub left : (order : List ℕ) → IsSchedule (log_of leg) (count_at leg.ends) order →
         run system (machine_at system boot history before from) (turns_of (log_of leg).inputs (log_of leg).start order) ≡
         machine_at system boot history leg.term (count_at leg.ends)
     left order schedule =
@@ -79,8 +77,9 @@ module _ {Hart Page : Type 0} (system : System Hart Page (List Input)) (boot : M
         ap (λ m. run system m (turns_of (log_of leg).inputs (log_of leg).start order)) found ∙
         ((led.replayed order schedule.begins).outcome schedule.complete ∙ sym (machine_some leg.term (count_at leg.ends) above.1))
 
-    pub one_leg : LeadToOne system (machine_at system boot history before from) (leg ∷ legs) (machine_at system boot history position.term (count_at position.counts))
-    one_leg =
+    one_leg : LeadToOne system (machine_at system boot history leg.term (count_at leg.ends)) legs (machine_at system boot history position.term (count_at position.counts)) →
+        LeadToOne system (machine_at system boot history before from) (leg ∷ legs) (machine_at system boot history position.term (count_at position.counts))
+    one_leg rest =
         record {
           leads = (
             order_at system (history leg.term).start (history leg.term).turns (count_at leg.ends),
@@ -107,11 +106,33 @@ module _ {Hart Page : Type 0} (system : System Hart Page (List Input)) (boot : M
       (All-head (HasEdges store) leg legs good.edges) (All-head (HasInputs store) leg legs good.inputs)
       (lead_on legs leg.term (count_at leg.ends) leads next later (good_tail store leg legs good))
 
+  -- what schedules of the legs before one lead to
+  lead_to : (front : List PlannedLeg) (leg : PlannedLeg) (back : List PlannedLeg) (before : ℕ) (from : ℕ → ℕ) → LeadsTo store before (terms_of (front ++ leg ∷ back)) position.term →
+      GoFrom position.counts (front ++ leg ∷ back) from → EndAt position.counts (front ++ leg ∷ back) → AreGood store (front ++ leg ∷ back) →
+      (m : Machine Hart Page) → LeadFrom system (machine_at system boot history before from) front m → m ≡ (history leg.term).start
+  lead_to [] leg back before from (parent, leads) goes ends good m is =
+      is ∙
+      found leg back before from parent goes (All-head (BeginsAtBase store) leg back good.bases) (All-head (EndsInside store) leg back good.cuts)
+      (All-head (HasEdges store) leg back good.edges) (All-head (HasInputs store) leg back good.inputs)
+  lead_to (first ∷ front) leg back before from (parent, leads) goes ends good m (order, schedule, runs, on) =
+      let legs = front ++ leg ∷ back in
+      let (next, later) = next_goes position.counts first legs ends in
+      lead_to front leg back first.term (count_at first.ends) leads next later (good_tail store first legs good) m
+      (subst (λ n. LeadFrom system n front m)
+      (left first legs before from parent goes (All-head (BeginsAtBase store) first legs good.bases) (All-head (EndsInside store) first legs good.cuts)
+      (All-head (HasEdges store) first legs good.edges) (All-head (HasInputs store) first legs good.inputs) order schedule) on)
+
+  all_good : (legs : List PlannedLeg) → ArePlanned store position legs → AreGood store legs
+  all_good legs planned = record { bases = planned.bases; cuts = planned.cuts; edges = planned.edges; inputs = planned.inputs }
+
+  pub finds_start : (front : List PlannedLeg) (leg : PlannedLeg) (back : List PlannedLeg) → ArePlanned store position (front ++ leg ∷ back) →
+      (m : Machine Hart Page) → LeadFrom system boot front m → m ≡ (history leg.term).start
+  finds_start [] leg back planned m leads =
+      lead_to [] leg back 0 (count_at leg.base) planned.terms refl planned.ends (all_good (leg ∷ back) planned) m leads
+  finds_start (first ∷ front) leg back planned m leads =
+      lead_to (first ∷ front) leg back 0 (count_at first.base) planned.terms refl planned.ends (all_good (first ∷ front ++ leg ∷ back) planned) m leads
+
   -- from boot
   pub leads_to_position : (legs : List PlannedLeg) → ArePlanned store position legs → LeadToOne system boot legs last
-  leads_to_position [] planned =
-      lead_on [] 0 (count_at position.counts) planned.terms refl planned.ends
-      (record { bases = planned.bases; cuts = planned.cuts; edges = planned.edges; inputs = planned.inputs })
-  leads_to_position (leg ∷ legs) planned =
-      lead_on (leg ∷ legs) 0 (count_at leg.base) planned.terms refl planned.ends
-      (record { bases = planned.bases; cuts = planned.cuts; edges = planned.edges; inputs = planned.inputs })
+  leads_to_position [] planned = lead_on [] 0 (count_at position.counts) planned.terms refl planned.ends (all_good [] planned)
+  leads_to_position (leg ∷ legs) planned = lead_on (leg ∷ legs) 0 (count_at leg.base) planned.terms refl planned.ends (all_good (leg ∷ legs) planned)

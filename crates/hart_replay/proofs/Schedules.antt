@@ -1,7 +1,6 @@
 -- Schedules of two logs that agree as far as a cut.
-use Rattle.std.proofs.Common.{◌≡◌, ℕ, ◌+◌, ◌<◌, ◌≤◌, List, [], ◌∷◌, Contains, refl, sym, ap, subst, ◌∙◌, arith, le_trans}
+use Rattle.std.proofs.Common.{◌≡◌, ℕ, ◌<◌, ◌≤◌, List, [], ◌∷◌, Contains, refl, ap, ◌∙◌, arith, le_trans}
 use Rattle.interleaving.specs.Lists.{IsWithin}
-use Rattle.interleaving.specs.Machine.{Turn}
 use Rattle.interleaving.specs.Log.{Edge, Begins, bump, turns_of}
 use Rattle.interleaving.proofs.Put.{bump_le}
 

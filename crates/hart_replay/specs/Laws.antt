@@ -1,5 +1,5 @@
 -- What holds of each plan of a store of honest frames.
-use Rattle.std.specs.Prelude.{ℕ, ◌≡◌, List, [], ◌∷◌, All}
+use Rattle.std.specs.Prelude.{ℕ, ◌≡◌, List, [], ◌∷◌, ◌++◌, All}
 use Rattle.ft_types.specs.Counts.{count_at}
 use Rattle.interleaving.specs.Machine.{Machine, System, Runs, run}
 use Rattle.interleaving.specs.Log.{Begins, IsSchedule, IsReplayed, turns_of}
@@ -45,7 +45,15 @@ module _ {Hart Page : Type 0} (system : System Hart Page (List Input)) where
       IsStore store → IsHonestStore system boot history store → ArePlanned store position legs →
       All (λ leg. FollowsTerm (history leg.term) leg) legs
 
-  -- and the plan leads from boot to the history's machine at the position, and to no other
+  -- and finds the machine with which its term began, whatever schedules of the legs before it were taken
+  abbrev pub LegsFindStart : Type 0
+  LegsFindStart =
+      (boot : Machine Hart Page) (history : ℕ → TermHistory Hart Page) (store : StoreView) (position : Position)
+      (front : List PlannedLeg) (leg : PlannedLeg) (back : List PlannedLeg) (m : Machine Hart Page) →
+      IsStore store → IsHonestStore system boot history store → ArePlanned store position (front ++ leg ∷ back) →
+      LeadFrom boot front m → m ≡ (history leg.term).start
+
+  -- so the plan leads from boot to the history's machine at the position, and to no other
   pub record LeadToOne (boot : Machine Hart Page) (legs : List PlannedLeg) (end : Machine Hart Page) : Type 0 where
     pub leads : LeadFrom boot legs end
     pub only : (other : Machine Hart Page) → LeadFrom boot legs other → other ≡ end

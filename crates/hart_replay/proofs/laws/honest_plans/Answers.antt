@@ -1,6 +1,6 @@
 use Rattle.std.proofs.Common.{get_or}
 use Rattle.hart_replay.proofs.Led.{follows}
-use Rattle.hart_replay.proofs.Onward.{leads_to_position}
+use Rattle.hart_replay.proofs.Onward.{finds_start, leads_to_position}
 use Rattle.hart_replay.proofs.laws.honest_plans.Goals as goal
 
 pub returns-clause-follow : goal.returns-clause-follow
@@ -11,3 +11,7 @@ returns-clause-follow g c system boot history store position legs rules honest p
 pub returns-clause-lead : goal.returns-clause-lead
 returns-clause-lead g c system boot history store position legs rules honest planned =
     leads_to_position system boot history store rules honest position legs planned
+
+pub returns-clause-find : goal.returns-clause-find
+returns-clause-find g c system boot history store position front leg back m rules honest planned leads =
+    finds_start system boot history store rules honest position front leg back planned m leads
