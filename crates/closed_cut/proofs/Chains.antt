@@ -220,7 +220,7 @@ chain_is store (x ∷ rest) top (inl none) (parent, on) = absurd (none.1 x (Root
 
 -- ---- walks along a chain
 
-chain_up : (store : StoreView) (term : ℕ) (o : OpeningParts) → opening_at store term ≡ One o → {top : ℕ} → InChain store term top → InChain store o.parent top
+pub chain_up : (store : StoreView) (term : ℕ) (o : OpeningParts) → opening_at store term ≡ One o → {top : ℕ} → InChain store term top → InChain store o.parent top
 chain_up store term o one (Self e) = Up o (ap (opening_at store) e ∙ one) (Self refl)
 chain_up store term o one (Up p two chain) = Up p two (chain_up store term o one chain)
 

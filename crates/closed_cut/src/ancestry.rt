@@ -16,7 +16,7 @@ use std::option::Option;
 use std::result::Result;
 
 /// A term's opening, where one content came.
-pub(crate) fn opening_of(store: &Store, term: Term) -> Option<&Opening>
+pub fn opening_of(store: &Store, term: Term) -> Option<&Opening>
     ensures one { IfSome result (λ o. opening_at store.entry.now term ≡ One o.now) }
     ensures rules { IsStore store.entry.now }
     ensures none { IfNone result ((o : OpeningParts) → opening_at store.entry.now term ≡ One o → ⊥) }

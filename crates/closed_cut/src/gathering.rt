@@ -1,6 +1,6 @@
 //! The pieces of a hart that go on without a gap, and their edges.
 
-ghost use Rattle.std.specs.Prelude.{◌≡◌, ◌<◌, ◌≤◌, ◌^◌, ◌++◌, IfOk, OnOk, IfSome, IfNone};
+ghost use Rattle.std.specs.Prelude.{◌≡◌, ◌≢◌, ◌<◌, ◌≤◌, ◌^◌, ◌++◌, IfOk, OnOk, IfSome, IfNone};
 ghost use Rattle.std.specs.List.{filter_map};
 ghost use Rattle.fragment_codec.specs.Rules.{FragmentParts};
 ghost use Rattle.log_join.specs.Cells.{One};
@@ -25,6 +25,21 @@ fn piece_of(store: &Store, key: Key) -> Option<&Fragment>
         Found::One(Frame::Log(fragment)) => Some(fragment),
         _ => None,
     }
+}
+
+/// The piece with this key, where one content came and it begins at this count: how a walk over a hart's pieces of a term
+/// goes on that has come to it.
+pub fn piece_from(store: &Store, key: Key, end: Count) -> Option<&Fragment>
+    ensures one { IfSome result (λ f. fragment_at store.entry.now key ≡ One f.now) }
+    ensures from { IfSome result (λ f. f.now.from ≡ end) }
+    ensures rules { IsStore store.entry.now }
+    ensures none { IfNone result ((f : FragmentParts) → fragment_at store.entry.now key ≡ One f → f.from ≢ end) }
+{
+    let piece = piece_of(store, key)?;
+    if piece.from() != end {
+        return None;
+    }
+    Some(piece)
 }
 
 /// Adds the edges among the records.
@@ -54,12 +69,9 @@ pub(crate) fn gather(
 {
     let mut end = from;
     for place in 0..=u32::MAX {
-        let Some(piece) = piece_of(store, Key { term, hart, place }) else {
+        let Some(piece) = piece_from(store, Key { term, hart, place }, end) else {
             break;
         };
-        if piece.from() != end {
-            break;
-        }
         add_edges(edges, piece.records())?;
         end = piece.to();
     }

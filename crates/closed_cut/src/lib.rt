@@ -7,8 +7,9 @@ mod gathering;
 mod lowering;
 mod walk;
 
-pub use ancestry::chain;
+pub use ancestry::{chain, opening_of};
 pub use answer::Position;
+pub use gathering::piece_from;
 pub use walk::position;
 
 #[cfg(test)]

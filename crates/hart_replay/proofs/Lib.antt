@@ -1,0 +1,11 @@
+pub mod Records
+pub mod Heard
+pub mod Pieces
+pub mod Legs
+pub mod Walks
+pub mod Inside
+pub mod Made
+pub mod Covers
+pub mod Schedules
+pub mod Led
+pub mod Onward

@@ -1,0 +1,6 @@
+pub mod Faults
+pub mod Plans
+pub mod Facts
+pub mod Taking
+pub mod Histories
+pub mod Laws

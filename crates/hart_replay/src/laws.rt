@@ -1,0 +1,14 @@
+//! What holds of each plan of honest frames.
+
+ghost use Rattle.std.specs.Prelude.{List};
+ghost use Rattle.interleaving.specs.Machine.{System};
+ghost use Rattle.input_log.specs.declared.Input.{Input as input_of_specs};
+ghost use Rattle.hart_replay.specs.Laws.{LegsFollow, LegsFindStart, PlansLeadToPosition};
+
+/// In a plan of a store of honest frames each leg follows its term, from the machine with which the term began. Whatever
+/// schedules of the legs are taken, one after the other, they lead from boot to the history's machine at the position.
+pub fn honest_plans<H, P>()
+    ensures follow { (system : System H P (List input_of_specs)) → LegsFollow system }
+    ensures find { (system : System H P (List input_of_specs)) → LegsFindStart system }
+    ensures lead { (system : System H P (List input_of_specs)) → PlansLeadToPosition system }
+{}

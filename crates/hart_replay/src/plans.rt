@@ -1,0 +1,67 @@
+//! What a replay is to do.
+
+ghost use Rattle.std.specs.Prelude.{◌≡◌};
+ghost use Rattle.hart_replay.specs.Plans.{IsPlan};
+
+use edge_log::EdgeLog;
+use ft_types::{Counts, Guest, Term};
+use input_log::InputLog;
+use std::marker::Model;
+
+/// The part of a plan that is of one term.
+#[derive(Drop)]
+pub struct PlannedLeg {
+    /// The term.
+    pub term: Term,
+    /// The counts at which it begins.
+    pub base: Counts,
+    /// The counts at which it ends.
+    pub ends: Counts,
+    /// Which of its steps wait for which.
+    pub edges: EdgeLog,
+    /// What its steps are given.
+    pub inputs: InputLog,
+}
+
+/// What a store asks of the harts of its guest, from boot on: a leg for each term.
+#[derive(Drop)]
+pub struct Plan {
+    guest: Guest,
+    legs: Vec<PlannedLeg>,
+}
+
+impl Model for Plan {
+    ghost use Rattle.hart_replay.specs.Plans.{PlanView, IsPlan};
+
+    ghost Value = { PlanView };
+
+    ghost view = { λ p. record { guest = p.guest; legs = p.legs.items } };
+
+    ghost invariant = { λ p. IsPlan p.guest p.legs.items };
+}
+
+impl Plan {
+    /// The plan of these legs.
+    pub(crate) fn new(guest: Guest, legs: Vec<PlannedLeg>) -> Plan
+        requires { IsPlan guest legs.items }
+        ensures guest { result.guest ≡ guest }
+        ensures legs { result.legs ≡ legs.items }
+    {
+        Plan { guest, legs }
+    }
+
+    /// The guest whose plan it is.
+    pub fn guest(&self) -> Guest
+        ensures { result ≡ self.now.guest }
+    {
+        self.guest
+    }
+
+    /// The legs, the oldest term first.
+    pub fn legs(&self) -> &[PlannedLeg]
+        ensures legs { result.now ≡ self.now.legs }
+        ensures rules { IsPlan self.now.guest self.now.legs }
+    {
+        &self.legs
+    }
+}
