@@ -85,7 +85,10 @@ fn hold(
 
 /// The plan of the store, asked for again where memory was refused.
 fn plan_of(alloc: Global, store: &Store) -> Result<Plan, Fail> {
-    let position = position(alloc, store)?;
+    let position = match position(alloc, store) {
+        Ok(position) => position,
+        Err(Memory) => position(alloc, store)?,
+    };
     match plan(alloc, store, &position) {
         Ok(plan) => Ok(plan),
         Err(_) => Ok(plan(alloc, store, &position).ok().ok_or("a plan")?),
@@ -248,4 +251,9 @@ fn a_term_that_is_not_reached(rt: HostRuntime) -> Result<(), Fail> {
     assert_leg(&rt, leg, 1, &[0, 0], &[18, 19]);
     assert_eq!(rt; leg.edges.of_hart(Hart::new(1)).len(), 0);
     Ok(())
+}
+
+#[test]
+fn laws_hold() {
+    honest_plans::<u64, u64>();
 }
