@@ -1,5 +1,5 @@
 -- A lease that ends without its steps, in a book that records.
-use Rattle.std.proofs.Common.{◌≡◌, inl, inr, ℕ, ◌<◌, ◌≤◌, min, List, length, slice_set, is_some, Bool, true, Option, None, Some, option_map, refl, sym, ap, subst, ◌∙◌, arith, if◌then◌else◌}
+use Rattle.std.proofs.Common.{◌≡◌, inl, inr, ℕ, ◌<◌, ◌≤◌, min, List, length, slice_set, is_some, true, Option, None, Some, option_map, refl, sym, ap, subst, ◌∙◌, arith, if◌then◌else◌}
 use Rattle.std.proofs.lemmas.Bool.{cases_lt}
 use Rattle.std.proofs.lemmas.List.{get_or_past}
 use Rattle.interleaving.specs.Machine.{Machine, counts}
@@ -17,9 +17,7 @@ use Rattle.rv32_hart.specs.Hart.{Hart}
 use Rattle.rv32_hart.specs.Hardware.{hardware}
 use Rattle.page_book.specs.declared.taken.Taken.{Taken}
 use Rattle.page_book.specs.Taken.{taken_at}
-use Rattle.page_book.specs.OpenLeases.{OpenView}
-use Rattle.page_book.specs.Runs.{counts_of}
-use Rattle.page_book.specs.Recorded.{read_counts, system}
+use Rattle.page_book.specs.Recorded.{system}
 use Rattle.page_book.specs.Modes.{IsEnding}
 use Rattle.page_book.specs.Recordings.{RecordingView, IsRecorded, IsEnded, right_at, stub_as}
 use Rattle.page_book.proofs.Changed.{AreChanged}

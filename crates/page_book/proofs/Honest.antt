@@ -1,5 +1,5 @@
 -- A recording book begins, and its log is honest.
-use Rattle.std.proofs.Common.{◌≡◌, ℕ, zero, suc, ◌<◌, ◌≤◌, inl, inr, List, [], ◌∷◌, ◌++◌, length, replicate, Option, None, Some, option_map, Contains, refl, sym, ap, subst, ◌∙◌, arith, max}
+use Rattle.std.proofs.Common.{◌≡◌, ℕ, zero, suc, ◌≤◌, List, [], ◌∷◌, ◌++◌, length, replicate, Option, None, option_map, Contains, refl, sym, ap, subst, ◌∙◌, arith}
 use Rattle.std.proofs.Math.Path.{fun_ext}
 use Rattle.interleaving.specs.Lists.{Each}
 use Rattle.interleaving.specs.Machine.{System, Machine, Turn, after, step_of, counts, steps}
@@ -8,8 +8,8 @@ use Rattle.interleaving.specs.Log.{Begins, HasInputs, IsHonest, bump}
 use Rattle.interleaving.specs.Cuts.{IsEnough}
 use Rattle.interleaving.specs.Stored.{view}
 use Rattle.input_log.specs.declared.Input.{Input}
-use Rattle.edge_log.specs.EdgeLog.{Edges, edges_of, start_of}
-use Rattle.ft_types.specs.Counts.{count_at, greater, zipped}
+use Rattle.edge_log.specs.EdgeLog.{edges_of, start_of}
+use Rattle.ft_types.specs.Counts.{count_at, greater}
 use Rattle.lease_ledger.specs.Ledger as ledger
 use Rattle.lease_ledger.specs.Calls.{Begun}
 use Rattle.lease_ledger.specs.Laws.{IsOf}
@@ -19,11 +19,11 @@ use Rattle.rv32_hart.specs.Hardware.{hardware}
 use Rattle.guest_image.specs.Machine.{MachineState}
 use Rattle.page_book.specs.declared.stretch.Stretch.{Stretch}
 use Rattle.page_book.specs.OpenLeases.{OpenView}
-use Rattle.page_book.specs.Turns.{turn_of, turns_in_a_row}
+use Rattle.page_book.specs.Turns.{turns_in_a_row}
 use Rattle.page_book.specs.Recorded.{system}
 use Rattle.page_book.specs.Runs.{counts_of, journal_turns}
 use Rattle.page_book.specs.Books.{IsBook}
-use Rattle.page_book.specs.Recordings.{RecordingView, right_at, IsRecorded, IsUnused, stub_as, log_of, HasHonestLog}
+use Rattle.page_book.specs.Recordings.{RecordingView, IsRecorded, IsUnused, stub_as, log_of, HasHonestLog}
 use Rattle.page_book.proofs.Slots.{none-replicate}
 use Rattle.page_book.proofs.Ledgers.{counts_is}
 

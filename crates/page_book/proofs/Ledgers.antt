@@ -1,7 +1,6 @@
 -- What a recording book keeps, when a lease is opened and when it gets a page.
-use Rattle.std.proofs.Common.{◌≡◌, ◌≢◌, ℕ, zero, suc, ◌<◌, ◌≤◌, ◌⊎◌, inl, inr, Bool, true, false, is_some, List, [], ◌++◌, slice_set, slice_get, map, length, Option, None, Some, option_map, Contains, refl, sym, ap, subst, ◌∙◌, arith, true≢false, if◌then◌else◌}
-use Rattle.std.proofs.lemmas.Bool.{cases_eq}
-use Rattle.std.proofs.lemmas.List.{get_or-set_same, get_or-set_other, length-set, map-append}
+use Rattle.std.proofs.Common.{◌≡◌, ◌≢◌, ℕ, zero, suc, ◌<◌, ◌⊎◌, inl, inr, Bool, true, false, is_some, List, [], ◌++◌, slice_set, slice_get, map, length, Option, None, Some, option_map, Contains, refl, sym, ap, subst, ◌∙◌, arith, true≢false, if◌then◌else◌}
+use Rattle.std.proofs.lemmas.List.{get_or-set_same, get_or-set_other, map-append}
 use Rattle.interleaving.specs.Lists.{put}
 use Rattle.interleaving.specs.Machine.{Machine, counts}
 use Rattle.interleaving.specs.Log as theory
@@ -18,27 +17,23 @@ use Rattle.lease_ledger.specs.Calls as calls
 use Rattle.lease_ledger.specs.Calls.{Reached, Opened, Needed, GivenUp, NotYet, Then, IsYielded, Given}
 use Rattle.lease_ledger.specs.Laws.{HasItsRights}
 use Rattle.lease_ledger.proofs.Laws.{keeps_rights}
-use Rattle.lease_ledger.proofs.Stays.{stands_holds}
 use Rattle.rv32_hart.specs.Hart.{Hart}
 use Rattle.rv32_hart.specs.Hardware.{hardware}
 use Rattle.guest_image.specs.Machine.{MachineState}
 use Rattle.page_book.specs.declared.asked.Asked.{Asked}
-use Rattle.page_book.specs.declared.stretch.Stretch.{Stretch}
 use Rattle.page_book.specs.declared.taken.Taken.{Taken}
 use Rattle.page_book.specs.Taken.{taken_at, right_of_taken, taking}
 use Rattle.page_book.specs.OpenLeases.{OpenView, open_at, nothing_taken, given_more, has_taken}
-use Rattle.page_book.specs.Leases.{LeaseView, IsLent}
 use Rattle.page_book.specs.Recorded.{system, stub_of, as_lease}
-use Rattle.page_book.specs.Runs.{IsLease, counts_of, steps_taken}
+use Rattle.page_book.specs.Runs.{counts_of, steps_taken}
 use Rattle.page_book.specs.Books.{IsLentBy, IsOpen}
-use Rattle.page_book.specs.Modes as modes
-use Rattle.page_book.specs.Modes.{IsAsking, KeepsLending, KeepsGiving}
+use Rattle.page_book.specs.Modes.{IsAsking, KeepsLending}
 use Rattle.page_book.specs.Recordings.{RecordingView, right_at, IsTaker, yielded, right_met, AreOwed, IsGiven, IsRecorded, stub_as}
 use Rattle.page_book.proofs.Journals.{row_within}
 use Rattle.page_book.proofs.Recorded.{stub_fresh, stub_taking}
 use Rattle.page_book.proofs.Played.{played_with, present_played}
 use Rattle.page_book.proofs.Compared.{lent_ours}
-use Rattle.page_book.proofs.Yields.{StoodBefore, still, nobody_stands, met_is}
+use Rattle.page_book.proofs.Yields.{still, nobody_stands, met_is}
 
 -- how many steps a hart of the machine has taken, in the theory's words
 pub counts_is : (pages : ℕ) (m : MachineState) (hart : ℕ) → counts (system pages) (view (hardware pages) m) hart ≡ counts_of m hart

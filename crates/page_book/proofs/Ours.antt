@@ -13,7 +13,7 @@ use Rattle.page_book.specs.Leases.{LeaseView, IsLent, fresh, with_page, with_pag
 use Rattle.edge_log.specs.declared.Edge.{Edge}
 use Rattle.page_book.specs.declared.asked.Asked.{Asked}
 use Rattle.page_book.specs.OpenLeases.{OpenView, open_at, nothing_taken, given_more}
-use Rattle.page_book.specs.Books.{BookView, IsOurs, IsLentBy, IsOpen}
+use Rattle.page_book.specs.Books.{BookView, IsOurs, IsLentBy}
 use Rattle.page_book.specs.declared.taken.Taken.{Taken}
 use Rattle.page_book.specs.Taken.{taken_at, right_of_taken, taking}
 use Rattle.page_book.specs.Runs.{IsLease}

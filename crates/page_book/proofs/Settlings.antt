@@ -1,10 +1,9 @@
 -- A lease that comes back to a book that records.
-use Rattle.std.proofs.Common.{◌≡◌, inl, inr, ℕ, zero, suc, ◌<◌, ◌≤◌, List, [], ◌∷◌, ◌++◌, length, map, get_or, slice_get, slice_set, Option, None, Some, option_map, Contains, All, AllPairs, refl, sym, ap, subst, ◌∙◌, arith, append_assoc, length-set}
+use Rattle.std.proofs.Common.{◌≡◌, inl, inr, ℕ, zero, suc, ◌<◌, ◌≤◌, List, [], ◌∷◌, ◌++◌, length, map, get_or, slice_set, Option, None, Some, option_map, Contains, All, AllPairs, refl, sym, ap, subst, ◌∙◌, arith, append_assoc, length-set}
 use Rattle.std.proofs.lemmas.List.{get_or-set_same, get_or-set_other, map-append}
 use Rattle.std.proofs.lemmas.List.Elements.{All-cons, All-head, All-tail, Contains-append_left}
 use Rattle.std.proofs.lemmas.List.Kept.{AllPairs-cons}
 use Rattle.interleaving.specs.Lists.{put, EachPair}
-use Rattle.interleaving.specs.Machine.{Machine, counts}
 use Rattle.interleaving.specs.Log as theory
 use Rattle.interleaving.specs.Cuts.{IsEnough}
 use Rattle.interleaving.specs.Stored.{view}
@@ -13,19 +12,16 @@ use Rattle.interleaving.proofs.Each.{each_at}
 use Rattle.input_log.specs.declared.Input.{Input}
 use Rattle.edge_log.specs.declared.Edge.{Edge}
 use Rattle.edge_log.specs.EdgeLog.{Edges, IsLog, edge_as, edges_of, start_of, MayAdd}
-use Rattle.crew_pages.specs.Rights.{Right}
 use Rattle.lease_ledger.specs.Ledger as ledger
 use Rattle.lease_ledger.specs.Ledger.{present}
-use Rattle.lease_ledger.specs.Calls as calls
 use Rattle.lease_ledger.specs.Calls.{Settled, settled, kept}
-use Rattle.lease_ledger.specs.Laws.{InOrder, HasItsOrder, HasItsRights, IsAdding}
-use Rattle.lease_ledger.proofs.Laws.{keeps_order, may_add_next, runs_in_lists}
+use Rattle.lease_ledger.specs.Laws.{InOrder, HasItsOrder, IsAdding}
+use Rattle.lease_ledger.proofs.Laws.{keeps_order, may_add_next}
 use Rattle.ft_types.specs.Counts.{count_at}
 use Rattle.rv32_hart.specs.Hart.{Hart}
 use Rattle.rv32_hart.specs.Hardware.{hardware}
 use Rattle.guest_image.specs.Machine.{MachineState}
 use Rattle.page_book.specs.declared.answers.Keep.{Keep}
-use Rattle.page_book.specs.declared.stretch.Stretch.{Stretch}
 use Rattle.page_book.specs.Turns.{turns_in_a_row}
 use Rattle.page_book.specs.Leases.{LeaseView, laid}
 use Rattle.page_book.specs.OpenLeases.{OpenView, open_at}

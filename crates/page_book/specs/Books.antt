@@ -1,5 +1,5 @@
 -- Books, as contracts see them.
-use Rattle.std.specs.Prelude.{◌≡◌, ◌≢◌, ◌≤◌, ℕ, List, [], ◌∷◌, ◌++◌, length, slice_set, slice_index_or, Bool, true, false, Option, Some, None, if◌then◌else◌, ◌==◌, nat_le, replicate}
+use Rattle.std.specs.Prelude.{◌≡◌, ◌≢◌, ◌≤◌, ℕ, List, [], ◌∷◌, ◌++◌, length, slice_set, Bool, true, false, Option, Some, None, if◌then◌else◌, ◌==◌, nat_le}
 use Rattle.ft_types.specs.declared.names.Want.{Want}
 use Rattle.ft_types.specs.declared.names.Want.TheVariants.{Read, Write}
 use Rattle.guest_image.specs.Machine.{MachineState}

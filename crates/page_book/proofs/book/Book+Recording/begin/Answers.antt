@@ -1,4 +1,4 @@
-use Rattle.std.proofs.Common.{rules, []}
+use Rattle.std.proofs.Common.{[]}
 use Rattle.page_book.proofs.Honest.{begun_kept, begun_book}
 use Rattle.page_book.proofs.book.Book+Recording.begin.Goals as goal
 

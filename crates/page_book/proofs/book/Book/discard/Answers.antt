@@ -1,5 +1,4 @@
-use Rattle.std.proofs.Common.{rules, refl, sym, ◌∙◌, ◌≡◌, ◌<◌, length, slice_index_or, None, Some}
-use Rattle.page_book.specs.OpenLeases.{open_at}
+use Rattle.std.proofs.Common.{rules, sym, ◌∙◌, ◌≡◌, ◌<◌, length, slice_index_or, None, Some}
 use Rattle.page_book.specs.Modes.{IsEnding}
 use Rattle.std.proofs.lemmas.List.{get_or_default}
 use Rattle.page_book.proofs.Journals.{ended_kept}

@@ -1,5 +1,4 @@
-use Rattle.std.proofs.Common.{rules, refl, sym, ◌∙◌, ◌≡◌, ◌<◌, length, slice_index_or, Option, None}
-use Rattle.page_book.specs.OpenLeases.{OpenView}
+use Rattle.std.proofs.Common.{rules, ◌≡◌, ◌<◌, length, slice_index_or, None}
 use Rattle.page_book.specs.Modes.{IsAsking, IsGiven}
 use Rattle.std.proofs.lemmas.List.{get_or_default}
 use Rattle.page_book.proofs.Noted.{given_kept}

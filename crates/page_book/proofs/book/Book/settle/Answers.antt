@@ -1,4 +1,4 @@
-use Rattle.std.proofs.Common.{rules, refl, ◌∙◌, sym}
+use Rattle.std.proofs.Common.{rules}
 use Rattle.page_book.specs.Modes.{IsSettling, KeepsSettling}
 use Rattle.page_book.proofs.Journals.{settled_kept}
 use Rattle.page_book.proofs.book.Book.settle.Goals as goal

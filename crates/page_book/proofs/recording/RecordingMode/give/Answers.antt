@@ -1,7 +1,5 @@
-use Rattle.std.proofs.Common.{rules, ◌≡◌, ◌<◌, ◌∙◌, refl, length, length-set}
+use Rattle.std.proofs.Common.{◌<◌, ◌∙◌, refl, length, length-set}
 use Rattle.ft_types.specs.Counts.{count_at}
-use Rattle.crew_pages.specs.Rights.{given}
-use Rattle.page_book.specs.Recordings.{IsGiven, right_met}
 use Rattle.page_book.proofs.Ledgers.{nobody_there, right_stored_there, giving_kept}
 use Rattle.page_book.proofs.Yields.{right_set, right_stays}
 use Rattle.page_book.proofs.recording.RecordingMode.give.Goals as goal
