@@ -27,6 +27,8 @@ pub use stretch::Stretch;
 pub use taken::Taken;
 
 #[cfg(test)]
+mod crew;
+#[cfg(test)]
 mod recording_tests;
 #[cfg(test)]
 mod tests;
