@@ -1,7 +1,7 @@
 //! Books that record, and the replays of what they recorded.
 
 use super::*;
-use crate::crew::{Act, Crew, Said};
+use crate::crew::{Act, Crew, Said, given, held_by};
 use edge_log::{Edge, EdgeLog};
 use ft_types::{Counts, Hart, Memory, NumberSet, PageNo, Want};
 use guest_image::{Image, Machine, read_image};
@@ -145,14 +145,14 @@ fn given_to_second(alloc: Global, keep: Keep, want: Want) -> Result<Crew<Recordi
     // One turn of each hart asks for the page of the code.
     let script = [
         (Act::Lend(first), Said::Done),
-        (Act::Ask(first, PageNo::new(1), Want::Write), Said::Given),
+        (Act::Ask(first, PageNo::new(1), Want::Write), given()),
         (Act::Go(first, 3), Said::Steps(2)),
         (Act::Settle(first, keep), Said::Done),
         (Act::Lend(first), Said::Done),
         (Act::Go(first, 3), Said::Steps(2)),
         (Act::Settle(first, Keep::All), Said::Done),
         (Act::Lend(second), Said::Done),
-        (Act::Ask(second, PageNo::new(1), want), Said::Given),
+        (Act::Ask(second, PageNo::new(1), want), given()),
     ];
     if crew.play(alloc, &script) == script.len() {
         return Ok(crew);
@@ -189,16 +189,15 @@ fn a_log_is_obeyed_by_the_book_that_replays_it(rt: HostRuntime) -> Result<(), Fa
     let image = image_of(rt.alloc(), BOTH_STORE)?;
     let recorded = both_stored(rt.alloc(), Keep::All)?;
     let mut crew = Crew::new(replayer(rt.alloc(), &image, recorded.counts(), recorded.edges())?);
-    let waits = Said::Refused(BookFault::EdgeOpen);
     // Two turns ask for pages.
     let script = [
         (Act::Run(second), Said::Steps(1)),
-        (Act::Lend(second), waits),
+        (Act::Lend(second), Said::Refused(BookFault::EdgeOpen)),
         (Act::Lend(first), Said::Done),
         (Act::Go(first, 5), Said::Steps(3)),
-        (Act::Lend(second), waits),
+        (Act::Lend(second), Said::Refused(BookFault::EdgeOpen)),
         (Act::Settle(first, Keep::All), Said::Done),
-        (Act::Lend(second), waits),
+        (Act::Lend(second), Said::Refused(BookFault::EdgeOpen)),
         (Act::Run(first), Said::Steps(1)),
         (Act::Run(second), Said::Steps(3)),
     ];
@@ -214,9 +213,7 @@ fn a_log_is_obeyed_by_the_book_that_replays_it(rt: HostRuntime) -> Result<(), Fa
 fn what_an_open_lease_has_taken_is_waited_for(rt: HostRuntime) -> Result<(), Fail> {
     let (first, second, third) = (Hart::new(0), Hart::new(1), Hart::new(2));
     let (one, two) = (PageNo::new(1), PageNo::new(2));
-    let by_first = Said::HeldBy(NumberSet::new().with(0));
-    let by_both = Said::HeldBy(NumberSet::new().with(0).with(2));
-    let by_third = Said::HeldBy(NumberSet::new().with(2));
+    let by_both = Need::HeldBy(NumberSet::new().with(0).with(2));
     let image = image_of(rt.alloc(), LOOPS)?;
     let mut crew = Crew::new(recorder(rt.alloc(), &image, 100)?);
     // The first lease writes a page, and reads another beside the third lease. Once it is settled, its pages are there for the
@@ -225,28 +222,28 @@ fn what_an_open_lease_has_taken_is_waited_for(rt: HostRuntime) -> Result<(), Fai
         (Act::Lend(first), Said::Done),
         (Act::Lend(second), Said::Done),
         (Act::Lend(third), Said::Done),
-        (Act::Ask(first, one, Want::Write), Said::Given),
-        (Act::Ask(second, one, Want::Read), by_first),
-        (Act::Ask(second, one, Want::Write), by_first),
-        (Act::Ask(first, two, Want::Read), Said::Given),
-        (Act::Ask(second, two, Want::Write), by_first),
-        (Act::Ask(third, two, Want::Read), Said::Given),
-        (Act::Ask(second, two, Want::Write), by_both),
-        (Act::Ask(second, two, Want::Read), Said::Given),
+        (Act::Ask(first, one, Want::Write), given()),
+        (Act::Ask(second, one, Want::Read), held_by(first)),
+        (Act::Ask(second, one, Want::Write), held_by(first)),
+        (Act::Ask(first, two, Want::Read), given()),
+        (Act::Ask(second, two, Want::Write), held_by(first)),
+        (Act::Ask(third, two, Want::Read), given()),
+        (Act::Ask(second, two, Want::Write), Said::Asked(Ok(by_both))),
+        (Act::Ask(second, two, Want::Read), given()),
         (Act::Wait(second), Said::Waits(0, None)),
         (Act::Go(first, 4), Said::Steps(3)),
-        (Act::Ask(second, one, Want::Read), by_first),
+        (Act::Ask(second, one, Want::Read), held_by(first)),
         (Act::Settle(first, Keep::All), Said::Done),
-        (Act::Ask(second, one, Want::Write), Said::Given),
+        (Act::Ask(second, one, Want::Write), given()),
         (
             Act::Wait(second),
             Said::Waits(1, Some(edge(second, 0, first, 3))),
         ),
-        (Act::Ask(second, two, Want::Write), by_third),
+        (Act::Ask(second, two, Want::Write), held_by(third)),
         (Act::Go(third, 3), Said::Steps(2)),
         (Act::Settle(third, Keep::All), Said::Done),
         (Act::Go(second, 2), Said::Steps(1)),
-        (Act::Ask(second, two, Want::Write), Said::Given),
+        (Act::Ask(second, two, Want::Write), given()),
         (
             Act::Wait(second),
             Said::Waits(3, Some(edge(second, 1, third, 2))),
@@ -276,31 +273,28 @@ fn a_page_that_no_lease_has_taken_is_given_up_at_the_settled_count(
     // the second's first four.
     let script = [
         (Act::Lend(first), Said::Done),
-        (Act::Ask(first, one, Want::Write), Said::Given),
-        (Act::Ask(first, two, Want::Read), Said::Given),
+        (Act::Ask(first, one, Want::Write), given()),
+        (Act::Ask(first, two, Want::Read), given()),
         (Act::Go(first, 3), Said::Steps(2)),
         (Act::Settle(first, Keep::All), Said::Done),
         (Act::Lend(first), Said::Done),
         (Act::Go(first, 4), Said::Steps(3)),
         (Act::Lend(second), Said::Done),
-        (Act::Ask(second, one, Want::Read), Said::Given),
+        (Act::Ask(second, one, Want::Read), given()),
         (
             Act::Wait(second),
             Said::Waits(1, Some(edge(second, 0, first, 2))),
         ),
         (Act::Go(second, 2), Said::Steps(1)),
-        (Act::Ask(second, two, Want::Write), Said::Given),
+        (Act::Ask(second, two, Want::Write), given()),
         (
             Act::Wait(second),
             Said::Waits(2, Some(edge(second, 1, first, 2))),
         ),
-        (
-            Act::Ask(first, two, Want::Read),
-            Said::HeldBy(NumberSet::new().with(1)),
-        ),
+        (Act::Ask(first, two, Want::Read), held_by(second)),
         (Act::Go(second, 3), Said::Steps(4)),
         (Act::Settle(second, Keep::All), Said::Done),
-        (Act::Ask(first, two, Want::Read), Said::Given),
+        (Act::Ask(first, two, Want::Read), given()),
         (
             Act::Wait(first),
             Said::Waits(1, Some(edge(first, 5, second, 4))),
@@ -328,21 +322,18 @@ fn discarded(alloc: Global) -> Result<Crew<Recording>, Fail> {
     let mut crew = Crew::new(recorder(alloc, &image, 100)?);
     let script = [
         (Act::Lend(first), Said::Done),
-        (Act::Ask(first, one, Want::Write), Said::Given),
+        (Act::Ask(first, one, Want::Write), given()),
         (Act::Go(first, 3), Said::Steps(2)),
         (Act::Settle(first, Keep::All), Said::Done),
         (Act::Lend(second), Said::Done),
-        (Act::Ask(second, one, Want::Write), Said::Given),
+        (Act::Ask(second, one, Want::Write), given()),
         (
             Act::Wait(second),
             Said::Waits(1, Some(edge(second, 0, first, 2))),
         ),
         (Act::Go(second, 4), Said::Steps(3)),
         (Act::Lend(first), Said::Done),
-        (
-            Act::Ask(first, one, Want::Read),
-            Said::HeldBy(NumberSet::new().with(1)),
-        ),
+        (Act::Ask(first, one, Want::Read), held_by(second)),
         (Act::Discard(second), Said::Done),
         (Act::Discard(second), Said::Refused(BookFault::Foreign)),
     ];
@@ -371,12 +362,12 @@ fn a_discarded_lease_leaves_its_page_free(rt: HostRuntime) -> Result<(), Fail> {
     // What the first lease wrote still comes before whoever reads it.
     let script = [
         (Act::Lend(second), Said::Done),
-        (Act::Ask(second, one, Want::Read), Said::Given),
+        (Act::Ask(second, one, Want::Read), given()),
         (
             Act::Wait(second),
             Said::Waits(1, Some(edge(second, 0, first, 2))),
         ),
-        (Act::Ask(first, one, Want::Read), Said::Given),
+        (Act::Ask(first, one, Want::Read), given()),
         (Act::Wait(first), Said::Waits(0, None)),
         (Act::Settle(second, Keep::Nothing), Said::Done),
     ];
@@ -602,13 +593,12 @@ fn a_limit_is_raised_and_never_lowered(rt: HostRuntime) -> Result<(), Fail> {
     }
     book.limit_to(raised);
     let mut crew = Crew::new(book);
-    let at_limit = Said::Refused(BookFault::AtLimit);
     let script = [
         (Act::Run(first), Said::Steps(1)),
         (Act::Run(second), Said::Steps(3)),
-        (Act::Lend(first), at_limit),
-        (Act::Lend(second), at_limit),
-        (Act::Lend(third), at_limit),
+        (Act::Lend(first), Said::Refused(BookFault::AtLimit)),
+        (Act::Lend(second), Said::Refused(BookFault::AtLimit)),
+        (Act::Lend(third), Said::Refused(BookFault::AtLimit)),
     ];
     let played = crew.play(rt.alloc(), &script);
     let book = crew.end();
