@@ -1,3 +1,6 @@
+pub mod Added
+mod Backs
 mod Eights
 mod Rows
 mod Taking
+pub mod Told

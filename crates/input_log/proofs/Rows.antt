@@ -1,15 +1,16 @@
 -- Rows of counts, each with an input.
-use Rattle.std.proofs.Common.{◌≡◌, ℕ, ◌+◌, ◌-◌, ◌<◌, ◌≤◌, Bool, true, false, List, [], ◌∷◌, ◌++◌, length, get_or, take, drop, map, arith, refl, sym, ap, subst, ◌∙◌, inl, inr, le_trans, le_refl, All, length-drop, length-take, take-append-drop, ◌==◌, eq-eqb, ne_eqb, append-nil}
+use Rattle.std.proofs.Common.{◌≡◌, ℕ, ◌+◌, ◌-◌, ◌<◌, ◌≤◌, Bool, true, false, List, [], ◌∷◌, ◌++◌, length, get_or, take, drop, map, replicate, zero, suc, append_assoc, length-append, arith, refl, sym, ap, subst, ◌∙◌, inl, inr, le_trans, le_refl, All, length-drop, length-take, take-append-drop, ◌==◌, eq-eqb, ne_eqb, append-nil}
 use Rattle.std.specs.List.{AllWithin, Any, filter, zip}
 use Rattle.std.specs.List.Sorted.{IsNonDecreasing}
 use Rattle.std.proofs.lemmas.Bool.{cases_lt, cases_eq}
-use Rattle.std.proofs.lemmas.List.{get_or-take, get_or-drop, get_or_default, length-map, map-append, take-map, drop-map, length_push}
-use Rattle.std.proofs.lemmas.List.Elements.{All-head, All-tail, filter-append}
-use Rattle.std.proofs.lemmas.List.Sorted.{IsNonDecreasingBy-push}
+use Rattle.std.proofs.lemmas.List.{get_or-take, get_or-drop, get_or_default, length-map, take-map, drop-map, length_push}
+use Rattle.std.proofs.lemmas.List.Elements.{All-head, All-tail, All-push, filter-append}
+use Rattle.std.proofs.lemmas.List.Sorted.{IsNonDecreasingBy-push, IsNonDecreasingBy-take}
 use Rattle.std.proofs.lemmas.Slice.Zip.{get_or-zip, firsts-zip, seconds-zip}
 use Rattle.input_log.specs.declared.Input.{Input}
 use Rattle.input_log.specs.declared.Input.TheVariants.{Timer}
 use Rattle.input_log.specs.Inputs.{inputs_at, MayFollow, IsRow}
+use Rattle.input_log.proofs.Added.{at_append, at_same}
 
 -- ---- the elements whose number is n, in a list where these numbers rise
 
@@ -145,16 +146,10 @@ module _ (ks : List ℕ) (vs : List Input) (same : length vs ≡ length ks) wher
 
 -- ---- one input more
 
-at_push : (row : List (ℕ × Input)) (k : ℕ) (v : Input) (n : ℕ) →
-    inputs_at (row ++ (k, v) ∷ []) n ≡ inputs_at row n ++ inputs_at ((k, v) ∷ []) n
-at_push row k v n =
-    ap (map (λ (x : ℕ × Input). x.1)) (filter-append (λ (x : ℕ × Input). x.0 == n) row ((k, v) ∷ [])) ∙
-    map-append (λ (x : ℕ × Input). x.1) (filter (λ (x : ℕ × Input). x.0 == n) row) (filter (λ (x : ℕ × Input). x.0 == n) ((k, v) ∷ []))
-
 few_push : (row : List (ℕ × Input)) (k : ℕ) (v : Input) → MayFollow row k → ((n : ℕ) → length (inputs_at row n) ≤ 8) →
     (n : ℕ) → length (inputs_at (row ++ (k, v) ∷ []) n) ≤ 8
 few_push row k v may few n =
-    rw (at_push row k v n)
+    rw (at_append row ((k, v) ∷ []) n)
     (elim (cases_eq k n) [
       | inl same ↦
           let room : length (inputs_at row n) < 8 = subst (λ m. length (inputs_at row m) < 8) same may.room in
@@ -170,4 +165,60 @@ row_push ks vs k v row may =
           IsNonDecreasingBy-push (λ x. x) ks k row.rising
           (λ d some. all_firsts ks vs row.paired (λ m. m ≤ k) may.last (length ks - 1) d (omega arith));
       few = λ n. rw (zip_push ks vs k v row.paired) (few_push (zip ks vs) k v may row.few n);
+    }
+
+-- ---- many inputs more, at one count
+
+zip_same : {A B : Type 0} (k : A) (more : List B) → zip (replicate (length more) k) more ≡ map (λ v. (k, v)) more
+zip_same k [] = refl
+zip_same k (v ∷ more) = ap (λ r. (k, v) ∷ r) (zip_same k more)
+
+pub zip_push_all : {A B : Type 0} (ks : List A) (vs : List B) (k : A) (more : List B) → length vs ≡ length ks →
+    zip (ks ++ replicate (length more) k) (vs ++ more) ≡ zip ks vs ++ map (λ v. (k, v)) more
+zip_push_all [] [] k more same = zip_same k more
+zip_push_all [] (w ∷ vs) k more same = absurd (omega arith)
+zip_push_all (l ∷ ks) [] k more same = absurd (omega arith)
+zip_push_all (l ∷ ks) (w ∷ vs) k more same = ap (λ r. (l, w) ∷ r) (zip_push_all ks vs k more (omega arith))
+
+-- the row with one of them may be followed by the rest
+last_push : (row : List (ℕ × Input)) (k : ℕ) (v : Input) → All (λ x. x.0 ≤ k) row → All (λ x. x.0 ≤ k) (row ++ (k, v) ∷ [])
+last_push row k v last = All-push (λ (x : ℕ × Input). x.0 ≤ k) row (k, v) last (le_refl k)
+
+room_push : (row : List (ℕ × Input)) (k : ℕ) (v : Input) → length (inputs_at (row ++ (k, v) ∷ []) k) ≡ length (inputs_at row k) + 1
+room_push row k v =
+    ap length (at_append row ((k, v) ∷ []) k ∙ ap (λ l. inputs_at row k ++ l) (at_same k (v ∷ []))) ∙ length_push (inputs_at row k) v
+
+pub row_push_all : (ks : List ℕ) (vs : List Input) (k : ℕ) (more : List Input) → IsRow ks vs → All (λ x. x.0 ≤ k) (zip ks vs) →
+    length (inputs_at (zip ks vs) k) + length more ≤ 8 → IsRow (ks ++ replicate (length more) k) (vs ++ more)
+row_push_all ks vs k [] row last room = rw (append-nil ks, append-nil vs) row
+row_push_all ks vs k (v ∷ more) row last room =
+    let may : MayFollow (zip ks vs) k = record { last = last; room = omega arith } in
+    let pushed : zip (ks ++ k ∷ []) (vs ++ v ∷ []) ≡ zip ks vs ++ (k, v) ∷ [] = zip_push ks vs k v row.paired in
+    let after : All (λ (x : ℕ × Input). x.0 ≤ k) (zip (ks ++ k ∷ []) (vs ++ v ∷ [])) = rw pushed (last_push (zip ks vs) k v last) in
+    let size : length (inputs_at (zip (ks ++ k ∷ []) (vs ++ v ∷ [])) k) ≡ length (inputs_at (zip ks vs) k) + 1 = rw pushed (room_push (zip ks vs) k v) in
+    let rest : IsRow ((ks ++ k ∷ []) ++ replicate (length more) k) ((vs ++ v ∷ []) ++ more) =
+    row_push_all (ks ++ k ∷ []) (vs ++ v ∷ []) k more (row_push ks vs k v row may) after (omega arith) in
+    rw (append_assoc ks (k ∷ []) (replicate (length more) k), append_assoc vs (v ∷ []) more) at rest
+
+-- ---- fewer inputs
+
+pub zip_take : {A B : Type 0} (n : ℕ) (ks : List A) (vs : List B) → length vs ≡ length ks → zip (take n ks) (take n vs) ≡ take n (zip ks vs)
+zip_take zero ks vs same = refl
+zip_take (suc n) [] [] same = refl
+zip_take (suc n) [] (w ∷ vs) same = absurd (omega arith)
+zip_take (suc n) (l ∷ ks) [] same = absurd (omega arith)
+zip_take (suc n) (l ∷ ks) (w ∷ vs) same = ap (λ r. (l, w) ∷ r) (zip_take n ks vs (omega arith))
+
+fewer_at : (n : ℕ) (row : List (ℕ × Input)) (m : ℕ) → length (inputs_at (take n row) m) ≤ length (inputs_at row m)
+fewer_at n row m =
+    let whole : inputs_at row m ≡ inputs_at (take n row) m ++ inputs_at (drop n row) m =
+    ap (λ r. inputs_at r m) (sym (take-append-drop n row)) ∙ at_append (take n row) (drop n row) m in
+    rw whole (omega (arith, length-append (inputs_at (take n row) m) (inputs_at (drop n row) m)))
+
+pub row_take : (n : ℕ) (ks : List ℕ) (vs : List Input) → IsRow ks vs → IsRow (take n ks) (take n vs)
+row_take n ks vs row =
+    record {
+      paired = let same : length vs ≡ length ks = row.paired in omega (arith, length-take n vs, length-take n ks);
+      rising = IsNonDecreasingBy-take (λ x. x) n ks row.rising;
+      few = λ m. rw (zip_take n ks vs row.paired) (le_trans (fewer_at n (zip ks vs) m) (row.few m));
     }

@@ -1,5 +1,5 @@
 -- Inputs at counts.
-use Rattle.std.specs.Prelude.{ℕ, ◌≡◌, ◌<◌, ◌≤◌, ◌==◌, Bool, true, false, List, [], map, filter, zip, length, slice_index_or, All}
+use Rattle.std.specs.Prelude.{ℕ, ◌≡◌, ◌≢◌, ◌<◌, ◌≤◌, ◌==◌, ◌++◌, Bool, true, false, List, [], map, filter, zip, length, slice_index_or, All}
 use Rattle.std.specs.List.Sorted.{IsNonDecreasing}
 use Rattle.input_log.specs.declared.Input.{Input}
 use Rattle.input_log.specs.declared.Input.TheVariants as input
@@ -28,3 +28,9 @@ pub record IsRow (counts : List ℕ) (inputs : List Input) : Type 0 where
   pub paired : length inputs ≡ length counts
   pub rising : IsNonDecreasing counts
   pub few : (n : ℕ) → length (inputs_at (zip counts inputs) n) ≤ 8
+
+-- a log is another one, with these behind the others of a hart
+pub record AreAddedTo (before : List (List (ℕ × Input))) (hart : ℕ) (added : List (ℕ × Input)) (log : List (List (ℕ × Input))) : Type 0 where
+  pub harts : length before ≡ 8
+  pub row : inputs_of log hart ≡ inputs_of before hart ++ added
+  pub others : (other : ℕ) → other ≢ hart → inputs_of log other ≡ inputs_of before other

@@ -1,5 +1,5 @@
 -- Inputs that wait.
-use Rattle.std.specs.Prelude.{ℕ, ◌≡◌, ◌-◌, ◌++◌, false, List, [], ◌∷◌, Option, Some, None, map, take, drop, take_while, nat_le, length, slice_index_or, All}
+use Rattle.std.specs.Prelude.{ℕ, ◌≡◌, ◌≢◌, ◌-◌, ◌++◌, false, List, [], ◌∷◌, Option, Some, None, map, take, drop, take_while, nat_le, length, slice_index_or, All}
 use Rattle.input_log.specs.declared.Input.{Input}
 use Rattle.input_log.specs.declared.Input.TheVariants.{Bell}
 use Rattle.input_log.specs.declared.WaitingBell.{WaitingBell}
@@ -51,3 +51,11 @@ next_going [] [] = None
 -- the others are no bells
 abbrev pub AreOthers : List WaitingInput → Type 0
 AreOthers others = All (λ w. is_bell w.input ≡ false) others
+
+-- a desk is another one, with this bell behind the others of a hart
+pub record IsBellAddedTo (before : List Queues) (hart : ℕ) (bell : WaitingBell) (desk : List Queues) : Type 0 where
+  pub harts : length before ≡ 8
+  pub bells : bells_of desk hart ≡ bells_of before hart ++ bell ∷ []
+  pub others : others_of desk hart ≡ others_of before hart
+  pub bells_of_others : (other : ℕ) → other ≢ hart → bells_of desk other ≡ bells_of before other
+  pub others_of_others : (other : ℕ) → other ≢ hart → others_of desk other ≡ others_of before other

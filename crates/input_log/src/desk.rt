@@ -1,9 +1,9 @@
 //! The inputs that wait.
 
-ghost use Rattle.std.specs.Prelude.{◌≡◌, ◌≢◌, ℕ, ◌≤◌, ◌++◌, ◌∷◌, [], false, drop, length, OnOk, OnErr, IfOk};
+ghost use Rattle.std.specs.Prelude.{◌≡◌, ◌≢◌, ℕ, ◌-◌, ◌≤◌, ◌++◌, List, ◌∷◌, [], false, take, drop, length, OnOk, OnErr, IfOk};
 ghost use Rattle.smallvec.specs.SmallVec.{small_vec_len};
 ghost use Rattle.input_log.specs.Inputs.{is_bell};
-ghost use Rattle.input_log.specs.Waiting.{bells_of, others_of, bells_going, room_beside, others_staying, going, next_going};
+ghost use Rattle.input_log.specs.Waiting.{Queues, bells_of, others_of, bells_going, room_beside, others_staying, going, next_going, IsBellAddedTo};
 
 use crate::queue::Queue;
 use crate::{Input, WaitingBell};
@@ -78,9 +78,23 @@ impl Desk {
         ensures bells_of_others { (other : ℕ) → other ≢ hart → bells_of self.new other ≡ bells_of self.old other }
         ensures others_of_others { (other : ℕ) → other ≢ hart → others_of self.new other ≡ others_of self.old other }
         ensures kept { OnErr result (self.new ≡ self.old) }
+        ensures harts { length self.old ≡ 8 }
     {
         let queue = &mut self.queues[hart.index()];
         queue.put_bell(WaitingBell { source, after })
+    }
+
+    /// Drops the last bell for the hart, where one waits.
+    pub fn take_back_bell(&mut self, hart: Hart)
+        ensures left { bells_of self.new hart ≡ take (length (bells_of self.old hart) - 1) (bells_of self.old hart) }
+        ensures others_stay { others_of self.new hart ≡ others_of self.old hart }
+        ensures bells_of_others { (other : ℕ) → other ≢ hart → bells_of self.new other ≡ bells_of self.old other }
+        ensures others_of_others { (other : ℕ) → other ≢ hart → others_of self.new other ≡ others_of self.old other }
+        // Whatever desk that bell was put onto, this is that desk again.
+        ensures back { (before : List Queues) → (bell : WaitingBell) → IsBellAddedTo before hart bell self.old → self.new ≡ before }
+    {
+        let queue = &mut self.queues[hart.index()];
+        queue.take_back_bell();
     }
 
     /// Puts another input for the hart at the back, which is given at no count before this one.

@@ -1,8 +1,8 @@
 //! The inputs that were given, each at its count.
 
-ghost use Rattle.std.specs.Prelude.{◌≡◌, ◌≢◌, ℕ, ◌<◌, ◌≤◌, ◌↔◌, ◌++◌, ◌∷◌, [], All, Any, length, zip, IsTrue, OnOk, OnErr, IfOk, IfSome, IfNone};
+ghost use Rattle.std.specs.Prelude.{◌≡◌, ◌≢◌, ℕ, ◌+◌, ◌-◌, ◌<◌, ◌≤◌, ◌↔◌, ◌++◌, List, ◌∷◌, [], All, Any, length, map, take, zip, IsTrue, OnOk, OnErr, IfOk, IfSome, IfNone};
 ghost use Rattle.std.specs.List.Sorted.{IsNonDecreasing};
-ghost use Rattle.input_log.specs.Inputs.{inputs_of, inputs_at, MayFollow};
+ghost use Rattle.input_log.specs.Inputs.{inputs_of, inputs_at, MayFollow, AreAddedTo};
 
 use crate::Input;
 use crate::row::Row;
@@ -111,5 +111,29 @@ impl InputLog {
     {
         let row = &mut self.rows[hart.index()];
         row.add(count, input)
+    }
+
+    /// Adds inputs at one count, in their order, behind the others of their hart, or none of them.
+    pub fn add_all(&mut self, hart: Hart, count: Count, inputs: &[Input]) -> Result<(), Memory>
+        requires last { All (λ x. x.0 ≤ count) (inputs_of self.old hart) }
+        requires room { length (inputs_at (inputs_of self.old hart) count) + length inputs.now ≤ 8 }
+        ensures added { OnOk result (inputs_of self.new hart ≡ inputs_of self.old hart ++ map (λ i. (count, i)) inputs.now) }
+        ensures others_kept { (other : ℕ) → other ≢ hart → inputs_of self.new other ≡ inputs_of self.old other }
+        ensures kept { OnErr result (self.new ≡ self.old) }
+        ensures harts { length self.old ≡ 8 }
+    {
+        let row = &mut self.rows[hart.index()];
+        row.add_all(count, inputs)
+    }
+
+    /// Drops the last inputs of a hart: so many, or all where there are fewer.
+    pub fn take_back(&mut self, hart: Hart, many: usize)
+        ensures left { inputs_of self.new hart ≡ take (length (inputs_of self.old hart) - many) (inputs_of self.old hart) }
+        ensures others_kept { (other : ℕ) → other ≢ hart → inputs_of self.new other ≡ inputs_of self.old other }
+        // Whatever log so many were added to, this is that log again.
+        ensures back { (before : List (List (ℕ × Input))) → (added : List (ℕ × Input)) → length added ≡ many → AreAddedTo before hart added self.old → self.new ≡ before }
+    {
+        let row = &mut self.rows[hart.index()];
+        row.take_back(many);
     }
 }

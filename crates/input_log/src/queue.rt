@@ -1,6 +1,6 @@
 //! The inputs that wait for one hart.
 
-ghost use Rattle.std.specs.Prelude.{◌≡◌, ℕ, suc, ◌-◌, ◌≤◌, ◌++◌, List, ◌∷◌, [], false, map, drop, nat_le, OnOk, OnErr, IfOk};
+ghost use Rattle.std.specs.Prelude.{◌≡◌, ℕ, suc, ◌-◌, ◌≤◌, ◌++◌, List, ◌∷◌, [], false, map, take, drop, length, nat_le, OnOk, OnErr, IfOk};
 ghost use Rattle.std.specs.Option.{option_to_list};
 ghost use Rattle.smallvec.specs.SmallVec.{small_vec_len};
 ghost use Rattle.input_log.specs.Inputs.{is_bell};
@@ -117,6 +117,13 @@ impl Queue {
     {
         self.bells.push_back(bell)?;
         Ok(())
+    }
+
+    /// Drops the last bell, where one waits.
+    pub(crate) fn take_back_bell(&mut self)
+        ensures { self.new ≡ record self.old { bells = take (length self.old.bells - 1) self.old.bells } }
+    {
+        self.bells.pop_back();
     }
 
     /// Puts another input at the back.

@@ -1,6 +1,6 @@
 //! The inputs of one hart.
 
-ghost use Rattle.std.specs.Prelude.{◌≡◌, ℕ, ◌<◌, ◌≤◌, ◌↔◌, ◌++◌, ◌∷◌, [], All, Any, length, zip, IsTrue, OnOk, OnErr, IfOk, IfSome, IfNone};
+ghost use Rattle.std.specs.Prelude.{◌≡◌, ℕ, ◌+◌, ◌-◌, ◌<◌, ◌≤◌, ◌↔◌, ◌++◌, ◌∷◌, [], All, Any, length, map, replicate, take, zip, IsTrue, OnOk, OnErr, IfOk, IfSome, IfNone};
 ghost use Rattle.std.specs.List.{AllWithin};
 ghost use Rattle.std.specs.List.Sorted.{IsNonDecreasing};
 ghost use Rattle.input_log.specs.Inputs.{inputs_at, MayFollow};
@@ -72,6 +72,29 @@ fn push_both(
         Ok(()) => Ok(()),
         Err(_) => {
             inputs.pop();
+            Err(Memory)
+        }
+    }
+}
+
+/// Puts inputs at the back, all at one count, or none of them.
+fn push_all(
+    counts: &mut Vec<Count>,
+    inputs: &mut Vec<Input>,
+    count: Count,
+    more: &[Input],
+) -> Result<(), Memory>
+    requires paired { length inputs.old.items ≡ length counts.old.items }
+    ensures counts { OnOk result (counts.new.items ≡ counts.old.items ++ replicate (length more.now) count) }
+    ensures inputs { OnOk result (inputs.new.items ≡ inputs.old.items ++ more.now) }
+    ensures counts_kept { OnErr result (counts.new.items ≡ counts.old.items) }
+    ensures inputs_kept { OnErr result (inputs.new.items ≡ inputs.old.items) }
+{
+    inputs.extend_from_slice(more)?;
+    match counts.resize(inputs.len(), count) {
+        Ok(()) => Ok(()),
+        Err(_) => {
+            inputs.truncate(counts.len());
             Err(Memory)
         }
     }
@@ -160,5 +183,25 @@ impl Row {
     {
         push_both(&mut self.counts, &mut self.inputs, count, input)?;
         Ok(())
+    }
+
+    /// Adds inputs of one count at the back, or none of them.
+    pub(crate) fn add_all(&mut self, count: Count, inputs: &[Input]) -> Result<(), Memory>
+        requires last { All (λ x. x.0 ≤ count) self.old }
+        requires room { length (inputs_at self.old count) + length inputs.now ≤ 8 }
+        ensures ok { OnOk result (self.new ≡ self.old ++ map (λ i. (count, i)) inputs.now) }
+        ensures err { OnErr result (self.new ≡ self.old) }
+    {
+        push_all(&mut self.counts, &mut self.inputs, count, inputs)?;
+        Ok(())
+    }
+
+    /// Drops the last inputs: so many, or all where there are fewer.
+    pub(crate) fn take_back(&mut self, many: usize)
+        ensures { self.new ≡ take (length self.old - many) self.old }
+    {
+        let left = self.counts.len().saturating_sub(many);
+        self.counts.truncate(left);
+        self.inputs.truncate(left);
     }
 }

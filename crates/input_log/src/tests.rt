@@ -38,6 +38,42 @@ fn add(
     }
 }
 
+fn add_all_once(
+    rt: &impl Abort,
+    log: &mut InputLog,
+    hart: u8,
+    count: Count,
+    inputs: &[Input],
+) -> Result<(), Memory>
+    requires { hart < 8 }
+{
+    let hart = Hart::new(hart);
+    assert!(rt; log.may_add(hart, count));
+    let room = 8 - log.at(hart, count).len();
+    assert!(rt; inputs.len() <= room);
+    log.add_all(hart, count, inputs)
+}
+
+/// Adds inputs, a second time where memory was refused, which must leave the log as it was.
+fn add_all(
+    rt: &impl Abort,
+    log: &mut InputLog,
+    hart: u8,
+    count: Count,
+    inputs: &[Input],
+) -> Result<(), Memory>
+    requires { hart < 8 }
+{
+    let before = log.at(Hart::new(hart), count).len();
+    match add_all_once(rt, log, hart, count, inputs) {
+        Ok(()) => Ok(()),
+        Err(Memory) => {
+            assert_eq!(rt; log.at(Hart::new(hart), count).len(), before);
+            add_all_once(rt, log, hart, count, inputs)
+        }
+    }
+}
+
 /// Puts an input, a second time where memory was refused, which must leave the desk as it was.
 fn put(
     rt: &impl Abort,
@@ -114,6 +150,30 @@ fn inputs_in_their_order(rt: HostRuntime) -> Result<(), Fail> {
 }
 
 #[test]
+fn many_at_a_count_and_back(rt: HostRuntime) -> Result<(), Fail> {
+    let mut log = InputLog::new(rt.alloc());
+    let hart = Hart::new(1);
+    add(&rt, &mut log, 1, 3, Input::Timer)?;
+    let three = [Input::Word(7), Input::Timer, Input::Bell(Hart::new(0))];
+    add_all(&rt, &mut log, 1, 3, three.as_slice())?;
+    let four = [
+        Input::Timer,
+        Input::Word(7),
+        Input::Timer,
+        Input::Bell(Hart::new(0)),
+    ];
+    assert_eq!(rt; log.at(hart, 3), four.as_slice());
+    log.take_back(hart, 3);
+    assert_eq!(rt; log.at(hart, 3), [Input::Timer].as_slice());
+    add_all(&rt, &mut log, 1, 4, three.as_slice())?;
+    log.take_back(hart, 2);
+    assert_eq!(rt; log.at(hart, 4), [Input::Word(7)].as_slice());
+    log.take_back(hart, 9);
+    assert_eq!(rt; log.next(hart, 0), None);
+    Ok(())
+}
+
+#[test]
 fn nine_timers(rt: HostRuntime) -> Result<(), Fail> {
     let mut desk = Desk::new(rt.alloc());
     for _ in 0..9 {
@@ -157,6 +217,26 @@ fn bells_before_others(rt: HostRuntime) -> Result<(), Fail> {
     assert_eq!(rt; desk.take(hart, 0).as_slice(), three.as_slice());
     assert_eq!(rt; desk.bells_next(hart).len(), 0);
     assert_eq!(rt; desk.bells_next(Hart::new(3)).len(), 1);
+    Ok(())
+}
+
+#[test]
+fn bells_and_back(rt: HostRuntime) -> Result<(), Fail> {
+    let mut desk = Desk::new(rt.alloc());
+    put(&rt, &mut desk, 2, 4, Input::Word(5))?;
+    ring(&mut desk, 2, 1, 6)?;
+    ring(&mut desk, 2, 0, 4)?;
+    let hart = Hart::new(2);
+    let first = WaitingBell {
+        source: Hart::new(1),
+        after: 6,
+    };
+    desk.take_back_bell(hart);
+    assert_eq!(rt; desk.bells_next(hart).as_slice(), [first].as_slice());
+    desk.take_back_bell(hart);
+    assert_eq!(rt; desk.next(hart), Some(4));
+    desk.take_back_bell(hart);
+    assert_eq!(rt; desk.take(hart, 4).as_slice(), [Input::Word(5)].as_slice());
     Ok(())
 }
 
