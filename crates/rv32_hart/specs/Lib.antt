@@ -6,6 +6,7 @@ pub mod Kept
 pub mod Access
 pub mod Step
 pub mod Granted
+pub mod Bells
 pub mod CountedSteps
 pub mod Local
 pub mod Hardware

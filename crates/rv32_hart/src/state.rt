@@ -23,7 +23,7 @@ impl Model for HartState {
 
     ghost view = { λ s. s.core };
 
-    ghost invariant = { λ s. IsCounted s.core.received.heard s.core.count };
+    ghost invariant = { λ s. IsCounted s.core.received.heard s.core.rung s.core.count };
 }
 
 impl HartState {
@@ -149,14 +149,16 @@ impl HartState {
 
     /// The bells rung, by target.
     pub fn rung(&self) -> &[u64; 8]
-        ensures { result.now ≡ self.now.rung }
+        ensures value { result.now ≡ self.now.rung }
+        ensures targets { length self.now.rung ≡ 8 }
     {
         &self.core.rung
     }
 
     /// The bells heard, by source.
     pub fn heard(&self) -> &[u64; 8]
-        ensures { result.now ≡ self.now.received.heard }
+        ensures value { result.now ≡ self.now.received.heard }
+        ensures sources { length self.now.received.heard ≡ 8 }
     {
         &self.core.received.heard
     }
