@@ -21,6 +21,7 @@ use Rattle.page_book.specs.Recorded.{system}
 use Rattle.page_book.specs.Modes.{IsEnding}
 use Rattle.page_book.specs.Recordings.{RecordingView, IsRecorded, IsEnded, right_at, stub_as}
 use Rattle.page_book.proofs.Changed.{AreChanged}
+use Rattle.page_book.proofs.Journals.{row-set_some}
 use Rattle.page_book.proofs.Recorded.{read_of}
 use Rattle.page_book.proofs.Settlings.{open_within, stubs_without}
 
@@ -92,7 +93,8 @@ module _ (r : RecordingView) (hart count : ℕ) (taken : List (Option Taken))
 
     pub ended_recorded : IsRecorded new e.start e.machine e.journal (slice_set e.leases hart None)
     ended_recorded =
-        record {
+        subst (λ v. IsRecorded v e.start e.machine e.journal (slice_set e.leases hart None)) (sym is.rest)
+        (record {
           ledger = after;
           reached = Dropped hart its e.kept.reached stub;
           few = e.kept.few;
@@ -100,11 +102,17 @@ module _ (r : RecordingView) (hart count : ℕ) (taken : List (Option Taken))
           pages_stay = e.kept.pages_stay;
           at_machine = e.kept.at_machine;
           in_journal = e.kept.in_journal;
-          log = subst (λ (log : Edges). IsLog log.start log.rows) (sym is.edges) e.kept.log;
-          log_harts = ap (λ (log : Edges). length log.start) is.edges ∙ e.kept.log_harts;
-          log_start = λ g. ap (λ (log : Edges). start_of log g) is.edges ∙ e.kept.log_start g;
-          enough = subst (λ (log : Edges). IsEnough (edges_of log) b.edges (start_of log)) (sym is.edges) e.kept.enough;
+          log = e.kept.log;
+          log_harts = e.kept.log_harts;
+          log_start = e.kept.log_start;
+          enough = e.kept.enough;
           many = is.many ∙ e.kept.many;
           rights = rights_are;
+          limits = e.kept.limits;
+          logged = e.kept.logged;
+          dues = e.kept.dues;
+          due = e.kept.due;
+          bells = e.kept.bells;
+          given = λ other o is_other. e.kept.given other o (row-set_some e.leases hart other o is_other);
           stubs = stubs_without b.stubs e.leases e.kept.stubs hart (open_within e.leases hart e.lent e.is_open);
-        }
+        })

@@ -1,5 +1,5 @@
 -- Leases that begin, and that get a page.
-use Rattle.std.proofs.Common.{◌≡◌, ℕ, zero, suc, ◌<◌, inl, inr, List, [], ◌∷◌, length, replicate, slice_get, slice_set, slice_index_or, true, false, Option, None, Some, refl, ap, sym, ◌∙◌, arith, length-set, ◌^◌}
+use Rattle.std.proofs.Common.{◌≡◌, ℕ, zero, suc, ◌<◌, ◌≤◌, inl, inr, List, [], ◌∷◌, length, replicate, slice_get, slice_set, slice_index_or, true, false, Option, None, Some, refl, ap, sym, ◌∙◌, arith, length-set, ◌^◌}
 use Rattle.std.proofs.lemmas.List.{length-replicate, get_or-set_same, get_or-set_other}
 use Rattle.rv32_hart.specs.Hart.{Hart}
 use Rattle.guest_image.specs.Machine.{MachineState}
@@ -12,6 +12,7 @@ use Rattle.page_book.specs.Taken.{taken_at, right_of_taken, taking}
 use Rattle.page_book.proofs.Slots.{index-replicate, none-replicate}
 use Rattle.page_book.specs.Slots.{slot_at, want_of, base_of, present_bytes, is_readable, is_writable}
 use Rattle.page_book.specs.Leases.{LeaseView, base_at, fresh, laid_pages, page_after, with_page_to_read, with_page_to_write}
+use Rattle.page_book.specs.OpenLeases.{LentView}
 use Rattle.page_book.specs.Runs.{StandsIn, IsRunOf, IsLease}
 use Rattle.page_book.proofs.Recorded.{taken_readable}
 use Rattle.page_book.proofs.Played.{IsGiven, fresh_played, given_played}
@@ -27,8 +28,8 @@ laid_pages-missing (p ∷ pages) zero = refl
 laid_pages-missing (p ∷ pages) (suc n) = ap (λ l. p ∷ l) (laid_pages-missing pages n)
 
 -- a lease without steps leads to the machine itself
-pub fresh_runs : (hart : ℕ) (state : Hart) (pages stop : ℕ) → IsRunOf (fresh hart state pages stop)
-fresh_runs hart state pages stop m on =
+pub fresh_runs : (hart : ℕ) (state : Hart) (pages : ℕ) (lent : LentView) → IsRunOf (fresh hart state pages lent)
+fresh_runs hart state pages lent m on =
     let made : List Hart → List (List ℕ) → Option MachineState = λ hs ps. Some (record { harts = hs; pages = ps }) in
     sym (ap (λ hs. made hs (laid_pages m.pages (replicate pages Missing))) (set-get_same m.harts hart state on.state)
     ∙ ap (made m.harts) (laid_pages-missing m.pages pages))
@@ -105,17 +106,20 @@ write_runs l page base lt many unwritten lent runs m on =
     runs m before ∙ ap (λ ps. let w : MachineState = record { harts = slice_set m.harts l.hart l.present; pages = ps } in Some w)
     (sym (laid_pages-set_write m.pages l.slots page base unwritten here))
 
-pub fresh_kept : (hart : ℕ) (state : Hart) (pages stop : ℕ) → stop < 2 ^ 48 → IsLease (fresh hart state pages stop)
-fresh_kept hart state pages stop lt = record {
+pub fresh_kept : (hart : ℕ) (state : Hart) (pages : ℕ) (lent : LentView) → lent.stop < 2 ^ 48 → length lent.inputs ≤ 8 →
+    IsLease (fresh hart state pages lent)
+fresh_kept hart state pages lent lt few = record {
   stop = lt;
+  few = few;
   as_many = length-replicate {A = Option (List ℕ)} pages None ∙ sym (length-replicate {A = Slot} pages Missing);
   rights = λ page. ap want_of (index-replicate pages page) ∙ sym (ap right_of_taken (none-replicate {A = Taken} 64 page));
   number = refl;
   harts = refl;
   count = omega arith;
-  runs = fresh_runs hart state pages stop;
+  rings = inl refl;
+  runs = fresh_runs hart state pages lent;
   within = inl refl;
-  played = fresh_played hart state pages stop;
+  played = fresh_played hart state pages lent;
 }
 
 none_taken : (x : Option Taken) (n : ℕ) → right_of_taken x ≡ None → right_of_taken (Some (taking x Read n)) ≡ Some Read
@@ -181,10 +185,12 @@ read_kept l page here lt row missing p = record {
       rights_set l.slots l.taken page (Readable here) (Some (taking (taken_at l.taken page) Read l.present.count)) lt row
       (sym (none_taken (taken_at l.taken page) l.present.count (sym (p.rights page) ∙ ap want_of missing))) p.rights;
   stop = p.stop;
+  few = p.few;
   as_many = p.as_many ∙ sym (length-set l.slots page (Readable here));
   number = p.number;
   harts = p.harts;
   count = p.count;
+  rings = p.rings;
   runs = read_runs l page here missing p.runs;
   within = p.within;
   played = given_played l p.played page Read here (slice_set l.slots page (Readable here)) l.bases (read_given l page here lt row missing p);
@@ -195,10 +201,12 @@ pub write_kept : (l : LeaseView) (page : ℕ) (base : List ℕ) → page < lengt
 write_kept l page base lt row unwritten lent p = record {
   rights = rights_set l.slots l.taken page (Writable base) (Some (taking (taken_at l.taken page) Write l.present.count)) lt row refl p.rights;
   stop = p.stop;
+  few = p.few;
   as_many = length-set l.bases page (Some base) ∙ p.as_many ∙ sym (length-set l.slots page (Writable base));
   number = p.number;
   harts = p.harts;
   count = p.count;
+  rings = p.rings;
   runs = write_runs l page base lt p.as_many unwritten lent p.runs;
   within = p.within;
   played =

@@ -1,10 +1,10 @@
 -- A recording book begins, and its log is honest.
-use Rattle.std.proofs.Common.{◌≡◌, ℕ, zero, suc, ◌≤◌, List, [], ◌∷◌, ◌++◌, length, replicate, Option, None, option_map, Contains, refl, sym, ap, subst, ◌∙◌, arith}
+use Rattle.std.proofs.Common.{◌≡◌, ℕ, zero, suc, ◌≤◌, List, [], ◌∷◌, ◌++◌, length, replicate, All, ◌<◌, ◌≢◌, ◌⊎◌, inl, inr, ◌+◌, Option, None, option_map, Contains, refl, sym, ap, subst, ◌∙◌, arith}
 use Rattle.std.proofs.Math.Path.{fun_ext}
-use Rattle.interleaving.specs.Lists.{Each}
-use Rattle.interleaving.specs.Machine.{System, Machine, Turn, after, step_of, counts, steps}
+use Rattle.interleaving.specs.Machine.{System, Machine, Turn, after, step_of, counts, steps, Runs}
 use Rattle.interleaving.specs.Log as theory
-use Rattle.interleaving.specs.Log.{Begins, HasInputs, IsHonest, bump}
+use Rattle.interleaving.specs.Log.{Begins, HasInputs, IsHonest, bump, turns_of}
+use Rattle.interleaving.proofs.Put.{same_or_not, put_same, put_other, bump_same, bump_other}
 use Rattle.interleaving.specs.Cuts.{IsEnough}
 use Rattle.interleaving.specs.Stored.{view}
 use Rattle.input_log.specs.declared.Input.{Input}
@@ -12,54 +12,67 @@ use Rattle.edge_log.specs.EdgeLog.{edges_of, start_of}
 use Rattle.ft_types.specs.Counts.{count_at, greater}
 use Rattle.lease_ledger.specs.Ledger as ledger
 use Rattle.lease_ledger.specs.Calls.{Begun}
-use Rattle.lease_ledger.specs.Laws.{IsOf}
+use Rattle.lease_ledger.specs.Laws.{IsOf, IsKept}
 use Rattle.lease_ledger.proofs.Laws.{keeps_ledger}
 use Rattle.rv32_hart.specs.Hart.{Hart}
 use Rattle.rv32_hart.specs.Hardware.{hardware}
 use Rattle.guest_image.specs.Machine.{MachineState}
 use Rattle.page_book.specs.declared.stretch.Stretch.{Stretch}
 use Rattle.page_book.specs.OpenLeases.{OpenView}
-use Rattle.page_book.specs.Turns.{turns_in_a_row}
 use Rattle.page_book.specs.Recorded.{system}
-use Rattle.page_book.specs.Runs.{counts_of, journal_turns}
+use Rattle.page_book.specs.Runs.{Heard, counts_of, harts_of}
+use Rattle.page_book.specs.Dues.{DueView, nothing_due, due_at}
+use Rattle.page_book.proofs.Silences.{unheard_rung}
+use Rattle.input_log.specs.Waiting.{bells_of}
+use Rattle.std.proofs.lemmas.List.{length-replicate}
 use Rattle.page_book.specs.Books.{IsBook}
-use Rattle.page_book.specs.Recordings.{RecordingView, IsRecorded, IsUnused, stub_as, log_of, HasHonestLog}
+use Rattle.page_book.specs.Recordings.{RecordingView, IsRecorded, IsUnused, IsOffered, IsDueEdge, IsRung, heard_by, stub_as, log_of, HasHonestLog}
 use Rattle.page_book.proofs.Slots.{none-replicate}
 use Rattle.page_book.proofs.Ledgers.{counts_is}
 
--- turns without inputs make steps without inputs
-idle_steps : {H P I : Type 0} (s : System H P I) (idle : I) (m : Machine H P) (turns : List (Turn I)) → Each (λ t. t.input ≡ idle) turns →
-    Each (λ x. x.input ≡ idle) (steps s m turns)
-idle_steps s idle m [] h = tt
-idle_steps s idle m (t ∷ turns) h = (h.0, idle_steps s idle (after m (step_of s m t)) turns h.1)
+-- the steps of an order have the inputs of which it is made
+inputs_told : {H P I : Type 0} (s : System H P I) (log : theory.Log I) (m : Machine H P) (now : ℕ → ℕ) (order : List ℕ) →
+    ((hart : ℕ) → now hart ≡ counts s m hart) → Runs s m (turns_of log.inputs now order) → HasInputs s log (steps s m (turns_of log.inputs now order))
+inputs_told s log m now [] same runs = tt
+inputs_told {I = I} s log m now (h ∷ order) same runs = (
+  ap (log.inputs h) (same h),
+  inputs_told s log (after m (step_of s m t)) (bump now h) order (λ hart. bumped hart (same_or_not h hart)) runs.1,
+)
+  where
+    t : Turn I
+    t = record { hart = h; input = log.inputs h (now h) }
 
-idle_row : (hart n : ℕ) (rest : List (Turn (List Input))) → Each (λ t. t.input ≡ []) rest → Each (λ t. t.input ≡ []) (turns_in_a_row hart n ++ rest)
-idle_row hart zero rest h = h
-idle_row hart (suc n) rest h = (refl, idle_row hart n rest h)
-
-idle_journal : (journal : List Stretch) → Each (λ t. t.input ≡ []) (journal_turns journal)
-idle_journal [] = tt
-idle_journal (s ∷ journal) = idle_row s.hart s.steps (journal_turns journal) (idle_journal journal)
+    bumped : (hart : ℕ) → (h ≡ hart) ⊎ (h ≢ hart) → bump now h hart ≡ counts s (after m (step_of s m t)) hart
+    bumped hart (inl e) =
+        rw (← e)
+        (bump_same now h ∙ ap (λ n. n + 1) (same h) ∙ sym (s.counted (m.harts h) t.input m.pages runs.0) ∙
+        ap s.count (sym (put_same m.harts h h (step_of s m t).effect.hart refl)))
+    bumped hart (inr ne) =
+        bump_other now h hart ne ∙ same hart ∙ ap s.count (sym (put_other m.harts h hart (step_of s m t).effect.hart ne))
 
 pub honest_log : (r : RecordingView) (start machine : MachineState) (journal : List Stretch) (leases : List (Option OpenView)) →
-    IsRecorded r start machine journal leases → HasHonestLog r.edges start journal machine
+    IsRecorded r start machine journal leases → HasHonestLog r.edges (heard_by r) start journal machine
 honest_log r start machine journal leases p =
     subst (IsHonest (system pages) log (view (hardware pages) start)) p.in_journal
-    ((keeps_ledger (system pages) (length start.harts) (view (hardware pages) start) p.ledger p.few p.reached).short log is_of
+    (is_kept.short log is_of
     (subst (IsEnough (edges_of r.edges) p.ledger.edges) (fun_ext p.log_start) p.enough))
   where
     pages : ℕ
     pages = length start.pages
 
     log : theory.Log (List Input)
-    log = log_of r.edges start machine
+    log = log_of r.edges (heard_by r) start machine
+
+    is_kept : IsKept (system pages) (view (hardware pages) start) p.ledger
+    is_kept = keeps_ledger (system pages) (length start.harts) (view (hardware pages) start) p.ledger p.few p.reached
 
     is_of : IsOf (system pages) log (view (hardware pages) start) p.ledger
     is_of =
         record {
           inputs =
-              idle_steps (system pages) [] (view (hardware pages) start) p.ledger.journal
-              (subst (Each (λ t. t.input ≡ [])) (sym p.in_journal) (idle_journal journal));
+              subst (λ ts. HasInputs (system pages) log (steps (system pages) (view (hardware pages) start) ts)) (sym p.in_journal)
+              (inputs_told (system pages) log (view (hardware pages) start) (counts_of start) (harts_of journal)
+              (λ hart. sym (counts_is pages start hart)) (subst (Runs (system pages) (view (hardware pages) start)) p.in_journal is_kept.runs));
           from_start = λ hart. sym (counts_is pages start hart);
           to_end =
               λ hart.
@@ -68,9 +81,14 @@ honest_log r start machine journal leases p =
         }
 
 -- nobody has used a page
-pub begun_kept : (r : RecordingView) (start : MachineState) (limits : List ℕ) → IsUnused r start limits →
+index_same : (n hart : ℕ) → due_at (replicate n nothing_due) hart ≡ nothing_due
+index_same zero hart = refl
+index_same (suc n) zero = refl
+index_same (suc n) (suc hart) = index_same n hart
+
+pub begun_kept : (r : RecordingView) (start : MachineState) (limits : List ℕ) → length limits ≡ length start.harts → IsUnused r start limits →
     IsRecorded r start start [] (replicate 8 None)
-begun_kept r start limits u =
+begun_kept r start limits many u =
     record {
       ledger = ledger.begin (view (hardware (length start.pages)) start);
       reached = Begun;
@@ -87,6 +105,15 @@ begun_kept r start limits u =
           (record { among = λ e i. i; implied = λ e i. absurd (nothing e i); start_closed = λ e i. absurd (nothing e i) });
       many = u.many;
       rights = λ page lt. sym (u.rights page lt);
+      limits = ap length u.limits_are ∙ many;
+      logged = λ hart. subst (All (λ x. x.0 < counts_of start hart)) (sym (u.inputs hart)) (λ k d below. absurd (omega arith));
+      dues = ap length u.due ∙ length-replicate {A = DueView} 8 nothing_due;
+      due =
+          λ hart.
+          subst (λ (d : DueView). All (IsDueEdge start hart) d.edges)
+          (sym (ap (λ (ds : List DueView). due_at ds hart) u.due ∙ index_same 8 hart)) (λ k d below. absurd (omega arith));
+      bells = λ hart. subst (All (IsRung start)) (sym (u.bells hart)) (unheard_rung start hart);
+      given = λ hart lent e. let same = sym (none-replicate {A = OpenView} 8 hart) ∙ e in cc;
       stubs = λ hart. ap (option_map stub_as) (sym (none-replicate {A = OpenView} 8 hart));
     }
   where
@@ -95,8 +122,8 @@ begun_kept r start limits u =
 
 -- higher limits change nothing else
 pub raised_kept : (r : RecordingView) (limits : List ℕ) (start machine : MachineState) (journal : List Stretch) (leases : List (Option OpenView)) →
-    IsRecorded r start machine journal leases → IsRecorded (record r { limits = limits }) start machine journal leases
-raised_kept r limits start machine journal leases p =
+    length limits ≡ length r.limits → IsRecorded r start machine journal leases → IsRecorded (record r { limits = limits }) start machine journal leases
+raised_kept r limits start machine journal leases as_many p =
     record {
       ledger = p.ledger;
       reached = p.reached;
@@ -111,7 +138,66 @@ raised_kept r limits start machine journal leases p =
       enough = p.enough;
       many = p.many;
       rights = p.rights;
+      limits = as_many ∙ p.limits;
+      logged = p.logged;
+      dues = p.dues;
+      due = p.due;
+      bells = p.bells;
+      given = p.given;
       stubs = p.stubs;
+    }
+
+-- so does one more input that waits
+pub offered_kept : (r new : RecordingView) (hart not_before : ℕ) (input : Input) (start machine : MachineState) (journal : List Stretch)
+    (leases : List (Option OpenView)) → IsOffered r hart not_before input new → IsRecorded r start machine journal leases →
+    IsRecorded new start machine journal leases
+offered_kept r new hart not_before input start machine journal leases o p =
+    subst (λ v. IsRecorded v start machine journal leases) (sym o.rest)
+    (record {
+      ledger = p.ledger;
+      reached = p.reached;
+      few = p.few;
+      harts_stay = p.harts_stay;
+      pages_stay = p.pages_stay;
+      at_machine = p.at_machine;
+      in_journal = p.in_journal;
+      log = p.log;
+      log_harts = p.log_harts;
+      log_start = p.log_start;
+      enough = p.enough;
+      many = p.many;
+      rights = p.rights;
+      limits = p.limits;
+      logged = p.logged;
+      dues = p.dues;
+      due = p.due;
+      bells =
+          λ other.
+          elim (same_or_not hart other) [
+            | inl same ↦ subst (λ h. All (IsRung machine) (bells_of new.desk h)) same (subst (All (IsRung machine)) (sym o.bells) (p.bells hart))
+            | inr ne ↦ subst (All (IsRung machine)) (sym (o.bells_of_others other (λ e. ne (sym e)))) (p.bells other)
+          ];
+      given = p.given;
+      stubs = p.stubs;
+    })
+
+-- a book whose mode keeps another fact
+pub kept_so : (start m : MachineState) (journal : List Stretch) (leases : List (Option OpenView)) (stops : List ℕ) (edges : List theory.Edge)
+    (heard : Heard) (before after : Type 0) → IsBook start m journal leases stops edges heard before → after →
+    IsBook start m journal leases stops edges heard after
+kept_so start m journal leases stops edges heard before after p kept =
+    record {
+      run = p.run;
+      harts = p.harts;
+      pages = p.pages;
+      rows = p.rows;
+      known = p.known;
+      stopped = p.stopped;
+      unhindered = p.unhindered;
+      rights = p.rights;
+      begins = p.begins;
+      counted = p.counted;
+      keeps = kept;
     }
 
 begins_higher : (edges : List theory.Edge) (cut higher now : ℕ → ℕ) (order : List ℕ) → ((hart : ℕ) → cut hart ≤ higher hart) →
@@ -127,10 +213,15 @@ greater_above (x ∷ a) [] same hart = absurd (omega (arith, same))
 greater_above (x ∷ a) (y ∷ b) same zero = omega arith
 greater_above (x ∷ a) (y ∷ b) same (suc hart) = greater_above a b (omega (arith, same)) hart
 
+pub greater_many : (a b : List ℕ) → length a ≡ length b → length (greater a b) ≡ length a
+greater_many [] b same = refl
+greater_many (x ∷ a) [] same = absurd (omega (arith, same))
+greater_many (x ∷ a) (y ∷ b) same = ap suc (greater_many a b (omega (arith, same)))
+
 pub limits_kept : (start m : MachineState) (journal : List Stretch) (leases : List (Option OpenView)) (stops higher : List ℕ) (edges : List theory.Edge)
-    (before after : Type 0) → IsBook start m journal leases stops edges before → ((hart : ℕ) → count_at stops hart ≤ count_at higher hart) → after →
-    IsBook start m journal leases higher edges after
-limits_kept start m journal leases stops higher edges before after p le kept =
+    (heard : Heard) (before after : Type 0) → IsBook start m journal leases stops edges heard before → ((hart : ℕ) → count_at stops hart ≤ count_at higher hart) → after →
+    IsBook start m journal leases higher edges heard after
+limits_kept start m journal leases stops higher edges heard before after p le kept =
     record {
       run = p.run;
       harts = p.harts;
@@ -146,9 +237,9 @@ limits_kept start m journal leases stops higher edges before after p le kept =
     }
 
 -- a book without steps
-pub begun_book : (start : MachineState) (stops : List ℕ) (edges : List theory.Edge) (kept : Type 0) → kept →
-    IsBook start start [] (replicate 8 None) stops edges kept
-begun_book start stops edges kept k =
+pub begun_book : (start : MachineState) (stops : List ℕ) (edges : List theory.Edge) (heard : Heard) (kept : Type 0) → kept →
+    IsBook start start [] (replicate 8 None) stops edges heard kept
+begun_book start stops edges heard kept k =
     record {
       run = refl;
       harts = refl;

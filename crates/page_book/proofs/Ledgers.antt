@@ -1,6 +1,7 @@
 -- What a recording book keeps, when a lease is opened and when it gets a page.
-use Rattle.std.proofs.Common.{◌≡◌, ◌≢◌, ℕ, zero, suc, ◌<◌, ◌⊎◌, inl, inr, Bool, true, false, is_some, List, [], ◌++◌, slice_set, slice_get, map, length, Option, None, Some, option_map, Contains, refl, sym, ap, subst, ◌∙◌, arith, true≢false, if◌then◌else◌}
+use Rattle.std.proofs.Common.{◌≡◌, ◌≢◌, ℕ, zero, suc, ◌<◌, ◌⊎◌, inl, inr, Bool, true, false, is_some, List, [], ◌++◌, slice_set, slice_get, map, length, replicate, Option, None, Some, option_map, Contains, refl, sym, ap, subst, ◌∙◌, arith, true≢false, if◌then◌else◌}
 use Rattle.std.proofs.lemmas.List.{get_or-set_same, get_or-set_other, map-append}
+use Rattle.std.proofs.lemmas.List.Elements.{All-contains}
 use Rattle.interleaving.specs.Lists.{put}
 use Rattle.interleaving.specs.Machine.{Machine, counts}
 use Rattle.interleaving.specs.Log as theory
@@ -14,7 +15,7 @@ use Rattle.crew_pages.specs.Rights.{Right, stands, holds, give_up, given, IsFree
 use Rattle.lease_ledger.specs.Ledger as ledger
 use Rattle.lease_ledger.specs.Ledger.{Ledger, Stub, present}
 use Rattle.lease_ledger.specs.Calls as calls
-use Rattle.lease_ledger.specs.Calls.{Reached, Opened, Needed, GivenUp, NotYet, Then, IsYielded, Given}
+use Rattle.lease_ledger.specs.Calls.{Reached, IsHeard, Opened, Needed, GivenUp, NotYet, Then, IsYielded, Given}
 use Rattle.lease_ledger.specs.Laws.{HasItsRights}
 use Rattle.lease_ledger.proofs.Laws.{keeps_rights}
 use Rattle.rv32_hart.specs.Hart.{Hart}
@@ -23,13 +24,19 @@ use Rattle.guest_image.specs.Machine.{MachineState}
 use Rattle.page_book.specs.declared.asked.Asked.{Asked}
 use Rattle.page_book.specs.declared.taken.Taken.{Taken}
 use Rattle.page_book.specs.Taken.{taken_at, right_of_taken, taking}
-use Rattle.page_book.specs.OpenLeases.{OpenView, open_at, nothing_taken, given_more, has_taken}
+use Rattle.page_book.specs.OpenLeases.{OpenView, LentView, lent_with, open_at, nothing_taken, given_more, has_taken}
 use Rattle.page_book.specs.Recorded.{system, stub_of, as_lease}
 use Rattle.page_book.specs.Runs.{counts_of, steps_taken}
 use Rattle.page_book.specs.Books.{IsLentBy, IsOpen}
 use Rattle.page_book.specs.Modes.{IsAsking, KeepsLending}
-use Rattle.page_book.specs.Recordings.{RecordingView, right_at, IsTaker, yielded, right_met, AreOwed, IsGiven, IsRecorded, stub_as}
+use Rattle.page_book.specs.Recordings.{RecordingView, right_at, IsTaker, yielded, right_met, AreOwed, IsGiven, IsRecorded, IsDueEdge, IsFilled, GoesOut, stub_as}
+use Rattle.page_book.specs.Dues.{due_at, is_silent, stop_before}
+use Rattle.input_log.specs.Waiting.{bells_of, others_of, next_going}
+use Rattle.ft_types.specs.Counts.{count_at}
+use Rattle.page_book.specs.declared.stretch.Stretch.{Stretch}
 use Rattle.page_book.proofs.Journals.{row_within}
+use Rattle.page_book.proofs.Noted.{set_each, more}
+use Rattle.page_book.proofs.Dues.{filled_kept}
 use Rattle.page_book.proofs.Recorded.{stub_fresh, stub_taking}
 use Rattle.page_book.proofs.Played.{played_with, present_played}
 use Rattle.page_book.proofs.Compared.{lent_ours}
@@ -58,12 +65,17 @@ stubs_put stubs leases hart stub lent lt here there other =
     ]
 
 -- A hart is lent.
-pub lending_kept : (r : RecordingView) (hart stop : ℕ) → KeepsLending (IsRecorded r) hart stop
-lending_kept r hart stop start m journal leases is_hart row closed p =
+
+-- with what is due to it
+lent_due : (r : RecordingView) (hart : ℕ) (lent : LentView) (start m : MachineState) (journal : List Stretch) (leases : List (Option OpenView)) →
+    hart < length m.harts → hart < length leases → open_at leases hart ≡ None → lent.inputs ≡ (due_at r.due hart).inputs →
+    lent.edges ≡ (due_at r.due hart).edges → IsRecorded r start m journal leases →
+    IsRecorded r start m journal (slice_set leases hart (Some (nothing_taken lent)))
+lent_due r hart lent start m journal leases is_hart row closed inputs edges p =
     let none : p.ledger.stubs hart ≡ None = p.stubs hart ∙ ap (option_map stub_as) closed in
     record {
-      ledger = calls.opened p.ledger hart [];
-      reached = Opened hart [] p.reached (omega (arith, is_hart, p.harts_stay)) none (λ e i. absurd (nothing e i));
+      ledger = calls.opened p.ledger hart (map edge_as lent.edges);
+      reached = Opened hart (map edge_as lent.edges) p.reached (omega (arith, is_hart, p.harts_stay)) none are_heard;
       few = p.few;
       harts_stay = p.harts_stay;
       pages_stay = p.pages_stay;
@@ -75,13 +87,54 @@ lending_kept r hart stop start m journal leases is_hart row closed p =
       enough = p.enough;
       many = p.many;
       rights = p.rights;
+      limits = p.limits;
+      logged = p.logged;
+      dues = p.dues;
+      due = p.due;
+      bells = p.bells;
+      given =
+          set_each (λ h o. o.inputs ≡ (due_at r.due h).inputs) leases hart (Some (nothing_taken lent)) row
+          (λ o e. let same : nothing_taken lent ≡ o = cc in ap (λ (v : OpenView). v.inputs) (sym same) ∙ inputs) p.given;
       stubs =
-          stubs_put p.ledger.stubs leases hart (Some (ledger.fresh_stub [])) (Some (nothing_taken stop)) row
-          (ap (λ s. Some s) (sym (stub_fresh []))) p.stubs;
+          stubs_put p.ledger.stubs leases hart (Some (ledger.fresh_stub (map edge_as lent.edges))) (Some (nothing_taken lent)) row
+          (ap (λ s. Some s) (sym (stub_fresh (map edge_as lent.edges)))) p.stubs;
     }
   where
-    nothing : (e : theory.Edge) → Contains [] e → ⊥
-    nothing e (k, below, is) = omega arith
+    pages : ℕ
+    pages = length start.pages
+
+    count_in : (other : ℕ) → counts (system pages) p.ledger.machine other ≡ counts_of m other
+    count_in other = ap (λ (k : Machine (Option Hart) (Option (List ℕ))). counts (system pages) k other) p.at_machine ∙ counts_is pages m other
+
+    are_heard : (e : theory.Edge) → Contains (map edge_as lent.edges) e → IsHeard (system pages) (length start.harts) p.ledger.machine hart e
+    are_heard e i =
+        let (x, is_in, is) = map_contains edge_as lent.edges e i in
+        let d = All-contains (IsDueEdge m hart) (due_at r.due hart).edges x (p.due hart) (subst (λ es. Contains es x) edges is_in) in
+        subst (IsHeard (system pages) (length start.harts) p.ledger.machine hart) is
+        (record {
+          own = d.own;
+          at = d.at ∙ sym (count_in hart);
+          other = omega (arith, d.other, p.harts_stay);
+          settled = omega (arith, d.settled, count_in x.other);
+        })
+
+-- a hart goes out with what is due to it
+pub lent_is_due : (r new : RecordingView) (hart count : ℕ) (lent : LentView) (stop : ℕ) →
+    IsFilled (is_silent (due_at r.due hart).inputs) r hart count new → lent ≡ lent_with stop (due_at new.due hart).inputs (due_at new.due hart).edges →
+    stop ≡ stop_before (count_at r.limits hart) count (next_going (bells_of new.desk hart) (others_of new.desk hart)) → GoesOut r hart count lent new
+lent_is_due r new hart count lent stop filled is at =
+    record {
+      filled = filled;
+      inputs = ap (λ (l : LentView). l.inputs) is;
+      edges = ap (λ (l : LentView). l.edges) is;
+      stop = ap (λ (l : LentView). l.stop) is ∙ at;
+    }
+
+pub lending_kept : (r new : RecordingView) (hart count : ℕ) (lent : LentView) → hart < 8 → GoesOut r hart count lent new →
+    KeepsLending (IsRecorded r) (IsRecorded new) hart count lent
+lending_kept r new hart count lent below out start m journal leases is_hart row closed at p =
+    lent_due new hart lent start m journal leases is_hart row closed out.inputs out.edges
+    (filled_kept r new hart count start m journal leases below closed at p (is_silent (due_at r.due hart).inputs) out.filled)
 
 -- A hart asks.
 
@@ -256,7 +309,9 @@ module _ (r : RecordingView) (machine : MachineState) (leases : List (Option Ope
           IsRecorded new a.start machine a.journal
           (slice_set leases asked.hart (given_more (open_at leases asked.hart) asked.page asked.want asked.count found))
       giving_kept new g =
-          record {
+          subst (λ v. IsRecorded v a.start machine a.journal (slice_set leases asked.hart (given_more (open_at leases asked.hart) asked.page asked.want asked.count found)))
+          (sym g.rest)
+          (record {
             ledger = next;
             reached = reaches;
             few = p.few;
@@ -264,14 +319,23 @@ module _ (r : RecordingView) (machine : MachineState) (leases : List (Option Ope
             pages_stay = p.pages_stay;
             at_machine = p.at_machine;
             in_journal = p.in_journal;
-            log = rw g.edges p.log;
-            log_harts = rw g.edges p.log_harts;
-            log_start = rw g.edges p.log_start;
-            enough = rw g.edges p.enough;
+            log = p.log;
+            log_harts = p.log_harts;
+            log_start = p.log_start;
+            enough = p.enough;
             many = g.many ∙ p.many;
             rights = λ page lt. right_put new g page lt (same_or_not asked.page page);
+            limits = p.limits;
+            logged = p.logged;
+            dues = p.dues;
+            due = p.due;
+            bells = p.bells;
+            given =
+                set_each (λ h o. o.inputs ≡ (due_at r.due h).inputs) leases asked.hart _ row_there
+                (λ o e.
+                let i = more (open_at leases asked.hart) asked.page asked.want asked.count found o e in i.inputs ∙ p.given asked.hart i.was i.is_old) p.given;
             stubs =
                 λ other.
                 ap (λ h. put p.ledger.stubs h (Some (ledger.taking l.stub asked.page asked.want (present (system pages) l) (map edge_as found))) other) (sym a.hart) ∙
                 stubs_put p.ledger.stubs leases asked.hart _ _ row_there stub_next p.stubs other;
-          }
+          })

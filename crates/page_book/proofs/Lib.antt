@@ -1,9 +1,12 @@
 pub mod Alike
+pub mod BellEdges
 pub mod Changed
+pub mod Dues
 pub mod Endings
 pub mod Compared
 pub mod Given
 pub mod Halted
+pub mod Hearing
 pub mod Honest
 pub mod Journals
 pub mod Obeyed
@@ -14,9 +17,11 @@ pub mod Ours
 pub mod Noted
 pub mod Places
 pub mod Recorded
+pub mod Silences
 pub mod Yields
 pub mod Ledgers
 pub mod Played
+pub mod Rungs
 pub mod Runs
 pub mod Settlings
 pub mod Shown

@@ -10,8 +10,8 @@ use Rattle.guest_image.specs.Machine.{MachineState}
 use Rattle.page_book.specs.declared.stretch.Stretch.{Stretch}
 use Rattle.page_book.specs.declared.taken.Taken.{Taken}
 use Rattle.page_book.specs.Taken.{taken_at, taking}
-use Rattle.page_book.specs.OpenLeases.{OpenView, open_at, nothing_taken, given_more}
-use Rattle.page_book.specs.Runs.{MayGoTo, counts_of, steps_taken}
+use Rattle.page_book.specs.OpenLeases.{OpenView, LentView, open_at, nothing_taken, given_more}
+use Rattle.page_book.specs.Runs.{Heard, MayGoTo, counts_of, steps_taken}
 use Rattle.page_book.specs.Books.{IsBook}
 
 -- what a book keeps of each open lease
@@ -19,7 +19,7 @@ record Keeps (P : ℕ → OpenView → Type 0) (leases : List (Option OpenView))
   each : (hart : ℕ) (lent : OpenView) → open_at leases hart ≡ Some lent → P hart lent
 
 -- the lease of one hart is written down anew
-set_each : (P : ℕ → OpenView → Type 0) (leases : List (Option OpenView)) (hart : ℕ) (new : Option OpenView) → hart < length leases →
+pub set_each : (P : ℕ → OpenView → Type 0) (leases : List (Option OpenView)) (hart : ℕ) (new : Option OpenView) → hart < length leases →
     ((lent : OpenView) → new ≡ Some lent → P hart lent) → ((other : ℕ) (lent : OpenView) → open_at leases other ≡ Some lent → P other lent) →
     (other : ℕ) (lent : OpenView) → open_at (slice_set leases hart new) other ≡ Some lent → P other lent
 set_each P leases hart new lt here there other lent e =
@@ -37,37 +37,40 @@ set_known leases hart new harts lt here there other le =
     ]
 
 -- a hart that had no open lease is lent
-pub lent_kept : (start m : MachineState) (journal : List Stretch) (leases : List (Option OpenView)) (stops : List ℕ) (edges : List Edge)
-    (before after : Type 0) (hart stop : ℕ) → IsBook start m journal leases stops edges before → hart < length m.harts → hart < length leases →
-    stop ≤ count_at stops hart → MayGoTo edges (counts_of m) hart stop → after →
-    IsBook start m journal (slice_set leases hart (Some (nothing_taken stop))) stops edges after
-lent_kept start m journal leases stops edges before after hart stop p there row le may kept =
-    record {
+pub lent_kept : (start m : MachineState) (journal : List Stretch) (leases : List (Option OpenView)) (stops new_stops : List ℕ)
+    (edges new_edges : List Edge) (heard new_heard : Heard) (before after : Type 0) (hart : ℕ) (lent : LentView) →
+    IsBook start m journal leases stops edges heard before → new_stops ≡ stops → new_edges ≡ edges → new_heard ≡ heard → hart < length m.harts →
+    hart < length leases → lent.stop ≤ count_at stops hart → MayGoTo edges (counts_of m) hart lent.stop → after →
+    IsBook start m journal (slice_set leases hart (Some (nothing_taken lent))) new_stops new_edges new_heard after
+lent_kept start m journal leases stops new_stops edges new_edges heard new_heard before after hart out p same_stops same_edges same_heard there row le may kept =
+    rw (same_stops, same_edges, same_heard)
+    (record {
       run = p.run;
       harts = p.harts;
       pages = p.pages;
-      rows = length-set leases hart (Some (nothing_taken stop)) ∙ p.rows;
-      known = set_known leases hart (Some (nothing_taken stop)) (length m.harts) row (λ beyond. absurd (omega (arith, beyond, there))) p.known;
-      stopped = set_each (λ h lent. lent.stop ≤ count_at stops h) leases hart (Some (nothing_taken stop)) row
-          (λ lent e. let same : nothing_taken stop ≡ lent = cc in subst (λ (l : OpenView). l.stop ≤ count_at stops hart) same le) p.stopped;
-      unhindered = set_each (λ h lent. MayGoTo edges (counts_of m) h lent.stop) leases hart (Some (nothing_taken stop)) row
-          (λ lent e. let same : nothing_taken stop ≡ lent = cc in subst (λ (l : OpenView). MayGoTo edges (counts_of m) hart l.stop) same may) p.unhindered;
-      rights = set_each (λ h lent. length lent.taken ≡ 64) leases hart (Some (nothing_taken stop)) row
-          (λ lent e. let same : nothing_taken stop ≡ lent = cc in
+      rows = length-set leases hart (Some (nothing_taken out)) ∙ p.rows;
+      known = set_known leases hart (Some (nothing_taken out)) (length m.harts) row (λ beyond. absurd (omega (arith, beyond, there))) p.known;
+      stopped = set_each (λ h lent. lent.stop ≤ count_at stops h) leases hart (Some (nothing_taken out)) row
+          (λ lent e. let same : nothing_taken out ≡ lent = cc in subst (λ (l : OpenView). l.stop ≤ count_at stops hart) same le) p.stopped;
+      unhindered = set_each (λ h lent. MayGoTo edges (counts_of m) h lent.stop) leases hart (Some (nothing_taken out)) row
+          (λ lent e. let same : nothing_taken out ≡ lent = cc in subst (λ (l : OpenView). MayGoTo edges (counts_of m) hart l.stop) same may) p.unhindered;
+      rights = set_each (λ h lent. length lent.taken ≡ 64) leases hart (Some (nothing_taken out)) row
+          (λ lent e. let same : nothing_taken out ≡ lent = cc in
           subst (λ (l : OpenView). length l.taken ≡ 64) same (length-replicate {A = Option Taken} 64 None)) p.rights;
       begins = p.begins;
       counted = p.counted;
       keeps = kept;
-    }
+    })
 
 -- an open lease that was given more stays where it was
-record IsMore (old : Option OpenView) (lent : OpenView) : Type 0 where
-  was : OpenView
-  is_old : old ≡ Some was
-  stop : lent.stop ≡ was.stop
-  row : length lent.taken ≡ length was.taken
+pub record IsMore (old : Option OpenView) (lent : OpenView) : Type 0 where
+  pub was : OpenView
+  pub is_old : old ≡ Some was
+  pub stop : lent.stop ≡ was.stop
+  pub inputs : lent.inputs ≡ was.inputs
+  pub row : length lent.taken ≡ length was.taken
 
-more : (old : Option OpenView) (page : ℕ) (want : Want) (count : ℕ) (found : List edge_found) (lent : OpenView) →
+pub more : (old : Option OpenView) (page : ℕ) (want : Want) (count : ℕ) (found : List edge_found) (lent : OpenView) →
     given_more old page want count found ≡ Some lent → IsMore old lent
 more None page want count found lent e = cc
 more (Some was) page want count found lent e =
@@ -75,6 +78,7 @@ more (Some was) page want count found lent e =
       was = was;
       is_old = refl;
       stop = let f : lent.stop ≡ was.stop = cc in f;
+      inputs = let f : lent.inputs ≡ was.inputs = cc in f;
       row =
           let new : Option Taken = Some (taking (taken_at was.taken page) want count) in
           let f : lent.taken ≡ slice_set was.taken page new = cc in
@@ -87,11 +91,11 @@ none_more (Some was) page want count found e = cc
 
 -- a lease was given a page
 pub given_kept : (start m : MachineState) (journal : List Stretch) (leases : List (Option OpenView)) (stops new_stops : List ℕ) (edges new_edges : List Edge)
-    (before after : Type 0) (hart page : ℕ) (want : Want) (count : ℕ) (found : List edge_found) → IsBook start m journal leases stops edges before →
-    new_stops ≡ stops → new_edges ≡ edges → hart < length leases → after →
-    IsBook start m journal (slice_set leases hart (given_more (open_at leases hart) page want count found)) new_stops new_edges after
-given_kept start m journal leases stops new_stops edges new_edges before after hart page want count found p same_stops same_edges row kept =
-    rw (same_stops, same_edges)
+    (heard new_heard : Heard) (before after : Type 0) (hart page : ℕ) (want : Want) (count : ℕ) (found : List edge_found) →
+    IsBook start m journal leases stops edges heard before → new_stops ≡ stops → new_edges ≡ edges → new_heard ≡ heard → hart < length leases → after →
+    IsBook start m journal (slice_set leases hart (given_more (open_at leases hart) page want count found)) new_stops new_edges new_heard after
+given_kept start m journal leases stops new_stops edges new_edges heard new_heard before after hart page want count found p same_stops same_edges same_heard row kept =
+    rw (same_stops, same_edges, same_heard)
     (record {
       run = p.run;
       harts = p.harts;

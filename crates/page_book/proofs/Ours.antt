@@ -12,7 +12,7 @@ use Rattle.page_book.specs.Slots.{slot_at, want_of, base_of}
 use Rattle.page_book.specs.Leases.{LeaseView, IsLent, fresh, with_page, with_page_beside, with_page_to_read, with_page_to_write}
 use Rattle.edge_log.specs.declared.Edge.{Edge}
 use Rattle.page_book.specs.declared.asked.Asked.{Asked}
-use Rattle.page_book.specs.OpenLeases.{OpenView, open_at, nothing_taken, given_more}
+use Rattle.page_book.specs.OpenLeases.{OpenView, LentView, open_at, nothing_taken, given_more}
 use Rattle.page_book.specs.Books.{BookView, IsOurs, IsLentBy}
 use Rattle.page_book.specs.declared.taken.Taken.{Taken}
 use Rattle.page_book.specs.Taken.{taken_at, right_of_taken, taking}
@@ -21,11 +21,12 @@ use Rattle.page_book.proofs.Slots.{index-replicate}
 use Rattle.page_book.proofs.Recorded.{kept_to_read, kept_to_write}
 
 -- a fresh lease has nothing of any page
-pub fresh_lent : (m : MachineState) (hart : ℕ) (h : Hart) (stop : ℕ) → slice_get m.harts hart ≡ Some h →
-    IsLentBy (Some (nothing_taken stop)) m (fresh hart h (length m.pages) stop)
-fresh_lent m hart h stop is =
+pub fresh_lent : (m : MachineState) (hart : ℕ) (h : Hart) (lent : LentView) → slice_get m.harts hart ≡ Some h →
+    IsLentBy (Some (nothing_taken lent)) m (fresh hart h (length m.pages) lent)
+fresh_lent m hart h lent is =
     record {
       stop = refl;
+      inputs = refl;
       edges = refl;
       is_lent =
           record {
@@ -98,6 +99,7 @@ pub given_lent : (m : MachineState) (lent : OpenView) (l : LeaseView) (page : �
 given_lent m lent l page want here found ours lease lt is =
     record {
       stop = same_stop (want_of (slot_at l.slots page)) want ∙ ours.stop;
+      inputs = same_inputs (want_of (slot_at l.slots page)) want ∙ ours.inputs;
       edges = ap (λ (es : List Edge). es ++ found) ours.edges;
       is_lent = with_edges m _ (with_page l page want here) (l.edges ++ found) (beside (want_of (slot_at l.slots page)) want right);
     }
@@ -108,6 +110,13 @@ given_lent m lent l page want here found ours lease lt is =
     same_stop None Write = refl
     same_stop (Some Read) Write = refl
     same_stop (Some Write) Write = refl
+
+    same_inputs : (o : Option Want) (want : Want) → (with_page_beside o want l page here).inputs ≡ l.inputs
+    same_inputs None Read = refl
+    same_inputs (Some held) Read = refl
+    same_inputs None Write = refl
+    same_inputs (Some Read) Write = refl
+    same_inputs (Some Write) Write = refl
 
     within : page < length l.slots
     within = omega (arith, ours.is_lent.as_many, lt)
@@ -150,6 +159,7 @@ need_ours b mode l new asked found here ours is same now made lt lease row at =
         (given_lent b.machine lent l asked.page asked.want here found ours lease lt at)
 
 -- a lease that was just lent is the book's own
-pub fresh_ours : {M : Type 0} (b : BookView M) (hart : ℕ) (h : Hart) (stop : ℕ) → hart < length b.leases → slice_get b.machine.harts hart ≡ Some h →
-    IsOurs (record b { leases = slice_set b.leases hart (Some (nothing_taken stop)) }) (fresh hart h (length b.machine.pages) stop)
-fresh_ours b hart h stop row is = rw (get_or-set_same b.leases hart (Some (nothing_taken stop)) None row) (fresh_lent b.machine hart h stop is)
+pub fresh_ours : {M : Type 0} (b : BookView M) (mode : M) (hart : ℕ) (h : Hart) (lent : LentView) → hart < length b.leases →
+    slice_get b.machine.harts hart ≡ Some h →
+    IsOurs (record b { leases = slice_set b.leases hart (Some (nothing_taken lent)); mode = mode }) (fresh hart h (length b.machine.pages) lent)
+fresh_ours b mode hart h lent row is = rw (get_or-set_same b.leases hart (Some (nothing_taken lent)) None row) (fresh_lent b.machine hart h lent is)

@@ -15,22 +15,27 @@ use Rattle.edge_log.specs.EdgeLog.{Edges, IsLog, edge_as, edges_of, start_of, Ma
 use Rattle.lease_ledger.specs.Ledger as ledger
 use Rattle.lease_ledger.specs.Ledger.{present}
 use Rattle.lease_ledger.specs.Calls.{Settled, settled, kept}
-use Rattle.lease_ledger.specs.Laws.{InOrder, HasItsOrder, IsAdding}
-use Rattle.lease_ledger.proofs.Laws.{keeps_order, may_add_next}
+use Rattle.lease_ledger.specs.Laws.{InOrder, HasItsOrder, HasItsRights, IsAdding}
+use Rattle.lease_ledger.proofs.Laws.{keeps_order, keeps_rights, may_add_next}
 use Rattle.ft_types.specs.Counts.{count_at}
 use Rattle.rv32_hart.specs.Hart.{Hart}
 use Rattle.rv32_hart.specs.Hardware.{hardware}
 use Rattle.guest_image.specs.Machine.{MachineState}
 use Rattle.page_book.specs.declared.answers.Keep.{Keep}
-use Rattle.page_book.specs.Turns.{turns_in_a_row}
+use Rattle.page_book.specs.Turns.{turns_from}
+use Rattle.page_book.specs.Runs.{StandsIn, counts_of, steps_taken}
 use Rattle.page_book.specs.Leases.{LeaseView, laid}
 use Rattle.page_book.specs.OpenLeases.{OpenView, open_at}
 use Rattle.page_book.specs.Books.{IsOpen, IsLentBy, added}
 use Rattle.page_book.specs.Recorded.{stub_of, as_lease, system}
-use Rattle.page_book.specs.Modes.{IsSettling}
-use Rattle.page_book.specs.Recordings.{RecordingView, IsRecorded, IsSettled, keep_as, right_at, stub_as}
+use Rattle.page_book.specs.Modes.{IsSettling, HearsOn}
+use Rattle.page_book.specs.Recordings.{RecordingView, IsRecorded, IsSettled, LogsInputs, heard_by, keep_as, right_at, stub_as}
 use Rattle.page_book.proofs.Compared.{lent_ours, settled_is}
-use Rattle.page_book.proofs.Journals.{turns_added}
+use Rattle.input_log.specs.Inputs.{inputs_of}
+use Rattle.page_book.specs.Dues.{DueView}
+use Rattle.page_book.proofs.Journals.{turns_go_on, stands_ours, row-set_some, row-set_other, others_laid, get-set_here}
+use Rattle.page_book.proofs.Places.{get_within}
+use Rattle.page_book.proofs.Dues.{last_logged, heard_on, still_logged, still_due, still_rung, dues_stay, others_due}
 use Rattle.page_book.proofs.Played.{played_with, present_played}
 use Rattle.page_book.proofs.Laid.{length-laid_pages}
 use Rattle.page_book.proofs.Slots.{length-map, index-map}
@@ -79,19 +84,9 @@ in_rising_order hart (e ∷ edges) pairs own =
     (All-head (λ (e : Edge). e.hart ≡ hart) e edges own ∙ sym (All-tail (λ (e : Edge). e.hart ≡ hart) e edges own k d below)))
     (in_rising_order hart edges pairs.1 (All-tail (λ (e : Edge). e.hart ≡ hart) e edges own))
 
--- what adding edges leaves of a log
-pub record AreLogged (old : Edges) (found : List Edge) (new : Edges) : Type 0 where
-  pub log : IsLog new.start new.rows
-  pub start : new.start ≡ old.start
-  pub enough : (all : List theory.Edge) → IsEnough (edges_of old) all (start_of old) → IsEnough (edges_of new) (all ++ map edge_as found) (start_of new)
-
-module _ (r : RecordingView) (hart count : ℕ) (found : List Edge)
-    (s : IsSettling (λ start machine journal leases. IsRecorded r start machine journal leases) hart count found) where
+module _ (r : RecordingView) (l : LeaseView) (s : IsSettling (IsRecorded r) l) where
   abbrev n : ℕ
   n = length s.start.pages
-
-  abbrev l : LeaseView
-  l = s.settler
 
   abbrev b : ledger.Ledger (Option Hart) (Option (List ℕ)) (List Input)
   b = s.kept.ledger
@@ -121,6 +116,9 @@ module _ (r : RecordingView) (hart count : ℕ) (found : List Edge)
   ours : ledger.IsOurs b settler
   ours = lent_ours s.machine its.lent.taken l s.is_lease its.is_open.is_lent b n (map edge_as l.edges) s.kept.at_machine stub
 
+  order_harts : HasItsRights (system n) (length s.start.harts) b
+  order_harts = keeps_rights (system n) (length s.start.harts) (view (hardware n) s.start) b s.kept.few s.kept.reached
+
   order : HasItsOrder (system n) (length s.start.harts) (view (hardware n) s.start) b
   order = keeps_order (system n) (length s.start.harts) (view (hardware n) s.start) b s.kept.few s.kept.reached
 
@@ -149,18 +147,41 @@ module _ (r : RecordingView) (hart count : ℕ) (found : List Edge)
       All-cons (λ e. MayAdd r.edges e) e after (may_add before after e is)
       (each (before ++ e ∷ []) after (is ∙ sym (append_assoc before (e ∷ []) after)))
 
-  pub edges_own : All (λ e. e.hart ≡ hart) found
-  edges_own = rw (s.with_edges, s.of_hart) own
+  pub edges_own : All (λ e. e.hart ≡ l.hart) l.edges
+  edges_own = own
 
-  pub edges_each : All (λ e. MayAdd r.edges e) found
-  edges_each = rw s.with_edges (each [] l.edges refl)
+  pub edges_each : All (λ e. MayAdd r.edges e) l.edges
+  edges_each = each [] l.edges refl
 
-  pub edges_rising : AllPairs (λ a b. a.at ≤ b.at) found
-  edges_rising = rw s.with_edges (in_rising_order l.hart l.edges (order.waiting_in_order l.hart settler.stub stub) own)
+  pub edges_rising : AllPairs (λ a b. a.at ≤ b.at) l.edges
+  edges_rising = in_rising_order l.hart l.edges (order.waiting_in_order l.hart settler.stub stub) own
+
+  -- Where it was lent, and what has become of the counts.
+
+  on : StandsIn s.machine l
+  on = stands_ours (open_at s.leases l.hart) s.machine l s.is_lent
+
+  lent_at : counts_of s.machine l.hart ≡ l.base.count
+  lent_at = ap steps_taken on.state
+
+  now_at : counts_of (laid s.machine l) l.hart ≡ l.present.count
+  now_at = ap steps_taken (get-set_here s.machine.harts l.hart l.present l.base on.state)
+
+  harts_many : length (laid s.machine l).harts ≡ length s.machine.harts
+  harts_many = length-set s.machine.harts l.hart l.present
+
+  in_row : l.hart < length r.due
+  in_row = omega (arith, order_harts.leased l.hart settler.stub stub, s.kept.few, s.kept.dues)
+
+  pub inputs_last : All (λ x. x.0 < l.base.count) (inputs_of r.inputs l.hart)
+  inputs_last = last_logged r r s.start s.machine s.journal s.leases l s.is_lease lent_at now_at in_row (others_laid s.machine l) harts_many s.kept
+
+  pub heard_there : (new : RecordingView) → LogsInputs l.steps r.inputs l new.inputs → HearsOn (heard_by r) (heard_by new) (counts_of s.machine) l
+  heard_there new logs = heard_on r new s.start s.machine s.journal s.leases l s.is_lease lent_at now_at in_row (others_laid s.machine l) harts_many s.kept l.steps refl logs
 
   -- What the book keeps, once the lease has come back.
 
-  module _ (keep : Keep) (new : RecordingView) (is : IsSettled r hart count found keep new) (logged : AreLogged r.edges found new.edges) where
+  module _ (keep : Keep) (new : RecordingView) (is : IsSettled r l keep new) where
     abbrev after : ledger.Ledger (Option Hart) (Option (List ℕ)) (List Input)
     after = settled (system n) b settler (λ page. keep_as keep)
 
@@ -172,9 +193,8 @@ module _ (r : RecordingView) (hart count : ℕ) (found : List Edge)
     rights_are : (page : ℕ) → page < n → after.rights page ≡ right_at new.rights page
     rights_are page lt =
         ap (λ right. kept (keep_as keep) right l.hart (present (system n) settler)) (s.kept.rights page lt) ∙
-        (ap (kept (keep_as keep) (right_at r.rights page) l.hart) (present_played l s.is_lease.played n slots (map edge_as l.edges) ∙ sym s.at_count) ∙
-        (ap (λ h. kept (keep_as keep) (right_at r.rights page) h count) (sym s.of_hart) ∙
-        sym (is.rights page (omega (arith, lt, s.kept.many)))))
+        (ap (kept (keep_as keep) (right_at r.rights page) l.hart) (present_played l s.is_lease.played n slots (map edge_as l.edges)) ∙
+        sym (is.rights page (omega (arith, lt, s.kept.many))))
 
     pub settled_recorded : IsRecorded new s.start (laid s.machine l) (added s.journal l.hart l.steps) (slice_set s.leases l.hart None)
     settled_recorded =
@@ -185,13 +205,26 @@ module _ (r : RecordingView) (hart count : ℕ) (found : List Edge)
           harts_stay = length-set s.machine.harts l.hart l.present ∙ s.kept.harts_stay;
           pages_stay = length-laid_pages s.machine.pages l.slots ∙ many;
           at_machine = machine_is;
-          in_journal = ap (λ turns. turns ++ turns_in_a_row l.hart l.steps) s.kept.in_journal ∙ sym (turns_added s.journal l.hart l.steps);
-          log = logged.log;
-          log_harts = ap length logged.start ∙ s.kept.log_harts;
-          log_start = λ g. ap (λ start. count_at start g) logged.start ∙ s.kept.log_start g;
-          enough =
-              subst (λ edges. IsEnough (edges_of new.edges) (b.edges ++ map edge_as edges) (start_of new.edges)) s.with_edges (logged.enough b.edges s.kept.enough);
+          in_journal =
+              ap (λ turns. turns ++ turns_from l.inputs l.hart l.steps) s.kept.in_journal ∙
+              sym
+              (turns_go_on s.start s.machine s.journal l [] s.is_lease on s.counted (heard_by r) (heard_by new) (heard_there new is.inputs));
+          log = is.edges.log;
+          log_harts = ap length is.edges.start ∙ s.kept.log_harts;
+          log_start = λ g. ap (λ start. count_at start g) is.edges.start ∙ s.kept.log_start g;
+          enough = is.edges.enough b.edges s.kept.enough;
           many = is.many ∙ s.kept.many;
           rights = rights_are;
+          limits = ap length is.limits ∙ s.kept.limits;
+          logged = still_logged r new s.start s.machine s.journal s.leases l s.is_lease lent_at now_at in_row (others_laid s.machine l) harts_many s.kept l.steps refl is.inputs;
+          dues = dues_stay r new s.start s.machine s.journal s.leases l s.is_lease lent_at now_at in_row (others_laid s.machine l) harts_many s.kept l.steps is.due;
+          due = still_due r new s.start s.machine s.journal s.leases l s.is_lease lent_at now_at in_row (others_laid s.machine l) harts_many s.kept l.steps refl is.due;
+          bells = still_rung r new s.start s.machine s.journal s.leases l s.is_lease lent_at now_at in_row (others_laid s.machine l) harts_many s.kept (get_within s.machine.harts l.hart l.base on.state) is.desk;
+          given =
+              λ other o e.
+              let ne = row-set_other s.leases l.hart other o e (open_within s.leases l.hart its.lent its.is) in
+              s.kept.given other o (row-set_some s.leases l.hart other o e) ∙
+              ap (λ (d : DueView). d.inputs)
+              (sym (others_due r new s.start s.machine s.journal s.leases l s.is_lease lent_at now_at in_row (others_laid s.machine l) harts_many s.kept l.steps is.due other ne));
           stubs = stubs_without b.stubs s.leases s.kept.stubs l.hart (open_within s.leases l.hart its.lent its.is);
         }

@@ -1,22 +1,54 @@
 -- What a step leaves of a lease.
-use Rattle.std.proofs.Common.{◌≡◌, ℕ, List, [], length, ◌<◌, inl, inr, slice_get, length-set, Option, None, Some, refl, ap, sym, ◌∙◌, arith}
+use Rattle.std.proofs.Common.{◌≡◌, ℕ, ◌+◌, List, [], ◌∷◌, length, ◌<◌, inl, inr, slice_get, length-set, Option, None, Some, refl, ap, sym, subst, ◌∙◌, arith}
 use Rattle.interleaving.specs.Machine.{Write}
 use Rattle.interleaving.specs.Stored.{written_in}
 use Rattle.std.proofs.lemmas.Bool.{cases_lt}
+use Rattle.input_log.specs.declared.Input.{Input}
+use Rattle.input_log.specs.declared.Input.TheVariants.{Timer, Word, Bell}
 use Rattle.rv32_hart.specs.Ram.{Ram}
 use Rattle.rv32_hart.specs.Hart.{Hart}
 use Rattle.rv32_hart.specs.Step.{IsTaken}
-use Rattle.rv32_hart.specs.CountedSteps.{Counted, effect_counted}
+use Rattle.rv32_hart.specs.Csrs.{receive, received_all}
+use Rattle.rv32_hart.specs.CountedSteps.{effect_counted}
+use Rattle.rv32_hart.specs.Bells.{IsRungOnce}
+use Rattle.rv32_hart.proofs.Ringing.{rings_one}
 use Rattle.page_book.specs.declared.lease_pages.Slot.{Slot}
 use Rattle.page_book.specs.Slots.{ram_of, present_bytes}
-use Rattle.page_book.specs.Leases.{LeaseView, stepped, IsFull}
+use Rattle.page_book.specs.Leases.{LeaseView, inputs_next, stepped, IsFull}
 use Rattle.page_book.specs.Runs.{IsLease}
 use Rattle.page_book.proofs.Ticked.{ticked, rights_stay}
 use Rattle.page_book.proofs.Played.{ticked_played}
 use Rattle.page_book.proofs.Slots.{length-map}
 
-pub taken_counted : (h after : Hart) (ram left : Ram) → IsTaken [] h ram after left → Counted h after
-taken_counted h after ram left t = rw t.hart (effect_counted (length ram.contents) h (slice_get ram.contents))
+-- inputs do not change which hart it is, nor its count
+record SameHart (h k : Hart) : Type 0 where
+  number : k.number ≡ h.number
+  harts : k.harts ≡ h.harts
+  count : k.count ≡ h.count
+
+hears_one : (i : Input) (h : Hart) → SameHart h (receive i h)
+hears_one Timer h = record { number = refl; harts = refl; count = refl }
+hears_one (Word w) h = record { number = refl; harts = refl; count = refl }
+hears_one (Bell g) h = record { number = refl; harts = refl; count = refl }
+
+hears_all : (inputs : List Input) (h : Hart) → SameHart h (received_all inputs h)
+hears_all [] h = record { number = refl; harts = refl; count = refl }
+hears_all (i ∷ inputs) h =
+    let one = hears_one i h in
+    let rest = hears_all inputs (receive i h) in
+    record { number = rest.number ∙ one.number; harts = rest.harts ∙ one.harts; count = rest.count ∙ one.count }
+
+-- what a step leaves of its hart's number, of how many harts there are, and of its count
+pub record Goes (h after : Hart) : Type 0 where
+  pub number : after.number ≡ h.number
+  pub harts : after.harts ≡ h.harts
+  pub count : after.count ≡ h.count + 1
+
+pub taken_counted : (inputs : List Input) (h after : Hart) (ram left : Ram) → IsTaken inputs h ram after left → Goes h after
+taken_counted inputs h after ram left t =
+    let same = hears_all inputs h in
+    let made = effect_counted (length ram.contents) (received_all inputs h) (slice_get ram.contents) in
+    rw t.hart (record { number = made.number ∙ same.number; harts = made.harts ∙ same.harts; count = made.count ∙ ap (λ n. n + 1) same.count })
 
 length-written_in : (pages : List (List ℕ)) (write : Option (Write (List ℕ))) → length (written_in pages write) ≡ length pages
 length-written_in pages None = refl
@@ -27,17 +59,21 @@ length_shown slots = length-map present_bytes slots
 
 -- a lease after a step is a lease
 pub tick_kept : (l : LeaseView) (after : Hart) (slots : List Slot) → IsLease l →
-    IsTaken [] l.present (ram_of l.slots) after (ram_of slots) → l.present.count < l.stop → IsLease (stepped l after slots)
-tick_kept l after slots p t lt =
-    let c = taken_counted l.present after (ram_of l.slots) (ram_of slots) t in
+    IsTaken (inputs_next l) l.present (ram_of l.slots) after (ram_of slots) → l.present.count < l.stop → l.present.rung ≡ l.base.rung → IsLease (stepped l after slots)
+tick_kept l after slots p t lt quiet =
+    let c = taken_counted (inputs_next l) l.present after (ram_of l.slots) (ram_of slots) t in
     let pages = ap (λ (r : Ram). length r.contents) t.pages in
     record {
       stop = p.stop;
+      few = p.few;
       as_many = p.as_many ∙ sym (length_shown l.slots) ∙ sym (pages ∙ length-written_in (ram_of l.slots).contents _) ∙ length_shown slots;
       rights = λ page. rights_stay l after slots t page ∙ p.rights page;
       number = c.number ∙ p.number;
       harts = c.harts ∙ p.harts;
       count = c.count ∙ omega (arith, p.count);
+      rings =
+          subst (λ n. IsRungOnce n l.base.rung after.rung) p.harts
+          (subst (λ rung. IsRungOnce l.present.harts rung after.rung) quiet (rings_one (inputs_next l) l.present (ram_of l.slots) after (ram_of slots) t));
       runs = ticked l after slots t p.runs;
       within = inr (omega (arith, c.count, lt));
       played = ticked_played l p.played p.rights after slots t;

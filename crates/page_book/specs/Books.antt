@@ -11,7 +11,7 @@ use Rattle.edge_log.specs.declared.Edge.{Edge as edge_found}
 use Rattle.page_book.specs.declared.asked.Asked.{Asked}
 use Rattle.page_book.specs.OpenLeases.{OpenView, open_at, right_of, given_more}
 use Rattle.page_book.specs.Leases.{LeaseView, IsLent}
-use Rattle.page_book.specs.Runs.{LeadsTo, MayGoTo, BeginsSchedule, harts_of, counts_of}
+use Rattle.page_book.specs.Runs.{Heard, LeadsTo, MayGoTo, BeginsSchedule, harts_of, counts_of}
 use Rattle.interleaving.specs.Log.{Edge, counts_after}
 use Rattle.ft_types.specs.Counts.{count_at}
 
@@ -24,8 +24,8 @@ pub record BookView (M : Type 0) : Type 0 where
 
 -- what every book keeps: the journal leads from the start to the machine, and leases are of harts that there are; and what
 -- its mode keeps besides
-pub record IsBook (start machine : MachineState) (journal : List Stretch) (leases : List (Option OpenView)) (stops : List ℕ) (edges : List Edge) (kept : Type 0) : Type 0 where
-  pub run : LeadsTo start journal machine
+pub record IsBook (start machine : MachineState) (journal : List Stretch) (leases : List (Option OpenView)) (stops : List ℕ) (edges : List Edge) (heard : Heard) (kept : Type 0) : Type 0 where
+  pub run : LeadsTo heard start journal machine
   pub harts : length machine.harts ≡ length start.harts
   pub pages : length machine.pages ≡ length start.pages
   pub rows : length leases ≡ 8
@@ -40,6 +40,7 @@ pub record IsBook (start machine : MachineState) (journal : List Stretch) (lease
 -- the lease is this open one, which has the hart and the pages of this machine
 pub record IsOpen (machine : MachineState) (lent : OpenView) (l : LeaseView) : Type 0 where
   pub stop : l.stop ≡ lent.stop
+  pub inputs : l.inputs ≡ lent.inputs
   pub edges : l.edges ≡ lent.edges
   pub is_lent : IsLent machine lent.taken l
 

@@ -9,12 +9,16 @@ use Rattle.guest_image.specs.Machine.{MachineState}
 use Rattle.page_book.specs.declared.stretch.Stretch.{Stretch}
 use Rattle.page_book.specs.Slots.{ram_of, slot_at, want_of}
 use Rattle.page_book.specs.Leases.{LeaseView, Ticks}
-use Rattle.page_book.specs.Runs.{LeadsTo, run_of, turns_in_a_row}
+use Rattle.input_log.specs.declared.Input.{Input}
+use Rattle.page_book.specs.Turns.{turns_in_a_row}
+use Rattle.page_book.specs.Runs.{Heard, LeadsTo, run_of}
 
--- the journal of a machine with one hart is that hart's steps in a row, as many as it has counted since the start
+-- the journal of a machine with one hart that hears nothing is that hart's steps in a row, as many as it has counted
+-- since the start
 abbrev pub StepsInARow : Type 0
 StepsInARow =
-    (start machine : MachineState) (journal : List Stretch) (before after : Hart) → LeadsTo start journal machine →
+    (heard : Heard) (start machine : MachineState) (journal : List Stretch) (before after : Hart) →
+    ((count : ℕ) → heard 0 count ≡ []) → LeadsTo heard start journal machine →
     length start.harts ≡ 1 → slice_get start.harts 0 ≡ Some before → slice_get machine.harts 0 ≡ Some after →
     (steps : ℕ) × (after.count ≡ before.count + steps) × (run_of start (turns_in_a_row 0 steps) ≡ Some machine)
 
@@ -42,5 +46,5 @@ Covers (Some Read) Write = ⊥
 -- a right that a step lacks is one on a page of RAM, and the lease has none there that covers it
 abbrev pub LacksOnAPage : Type 0
 LacksOnAPage =
-    (l : LeaseView) (page : ℕ) (want : Want) → IsMissing [] l.present (ram_of l.slots) (page, want) →
+    (l : LeaseView) (inputs : List Input) (page : ℕ) (want : Want) → IsMissing inputs l.present (ram_of l.slots) (page, want) →
     (page < length l.slots) × (Covers (want_of (slot_at l.slots page)) want → ⊥)

@@ -1,5 +1,5 @@
 -- Leases, as contracts see them.
-use Rattle.std.specs.Prelude.{◌≡◌, ◌≢◌, ◌≤◌, ◌<◌, ◌⊎◌, ◌+◌, ℕ, List, [], ◌∷◌, length, replicate, slice_get, slice_set, slice_index_or, true, Option, Some, None}
+use Rattle.std.specs.Prelude.{◌≡◌, ◌≢◌, ◌≤◌, ◌<◌, ◌⊎◌, ◌+◌, ◌-◌, ℕ, List, [], ◌∷◌, length, replicate, slice_get, slice_set, slice_index, slice_index_or, true, Option, Some, None}
 use Rattle.ft_types.specs.declared.names.Want.{Want}
 use Rattle.ft_types.specs.declared.names.Want.TheVariants.{Read, Write}
 use Rattle.rv32_hart.specs.Hart.{Hart}
@@ -11,13 +11,18 @@ use Rattle.page_book.specs.declared.lease_pages.Slot.TheVariants.{Missing, Reada
 use Rattle.page_book.specs.Slots.{ram_of, slot_at, want_of, base_of}
 use Rattle.page_book.specs.declared.taken.Taken.{Taken}
 use Rattle.page_book.specs.Taken.{taken_at, taking}
+use Rattle.page_book.specs.OpenLeases.{LentView}
+use Rattle.page_book.specs.Turns.{given_at}
 use Rattle.edge_log.specs.declared.Edge.{Edge}
+use Rattle.input_log.specs.declared.Input.{Input}
+use Rattle.input_log.specs.declared.WaitingBell.{WaitingBell}
 use Rattle.guest_image.specs.Machine.{MachineState}
 
 pub record LeaseView : Type 0 where
   pub hart : ℕ
   pub base : Hart  -- the hart as it was lent
   pub present : Hart
+  pub inputs : List Input  -- of its first step
   pub bases : List (Option (List ℕ))  -- each page to be written, as it was lent
   pub slots : List Slot  -- the pages at present
   pub taken : List (Option Taken)  -- since when it has each page
@@ -26,18 +31,19 @@ pub record LeaseView : Type 0 where
   pub stop : ℕ  -- the count that the lease does not go past
 
 -- a lease of a hart in this state, without steps and pages
-abbrev pub fresh : ℕ → Hart → ℕ → ℕ → LeaseView
-fresh hart state pages stop =
+abbrev pub fresh : ℕ → Hart → ℕ → LentView → LeaseView
+fresh hart state pages lent =
     record {
       hart = hart;
       base = state;
       present = state;
+      inputs = lent.inputs;
       bases = replicate pages None;
       slots = replicate pages Missing;
       taken = replicate 64 None;
-      edges = [];
+      edges = lent.edges;
       steps = 0;
-      stop = stop;
+      stop = lent.stop;
     }
 
 -- the page as it was lent
@@ -48,16 +54,28 @@ base_at l page = base_of (slot_at l.slots page) (slice_index_or l.bases page Non
 abbrev pub IsFull : LeaseView → Type 0
 IsFull l = (1024 ≤ l.steps) ⊎ ((l.stop ≤ l.present.count) ⊎ ((l.present.halted ≡ true) ⊎ (l.present.rung ≢ l.base.rung)))
 
+-- the bell that waits for whomever the lease rang, which it did at its last step
+abbrev pub rung_bell : LeaseView → WaitingBell
+rung_bell l = record { source = l.hart; after = l.present.count }
+
+-- one for each time that the hart has rung the target since it was lent
+abbrev pub bells_rung : LeaseView → ℕ → List WaitingBell
+bells_rung l target = replicate (slice_index l.present.rung target - slice_index l.base.rung target) (rung_bell l)
+
 -- the lease after one more step, which left this hart and these pages
 abbrev pub stepped : LeaseView → Hart → List Slot → LeaseView
 stepped l present slots = record l { present = present; slots = slots; steps = l.steps + 1 }
 
--- What a tick did: one step of the hart, without inputs, on the pages that the lease has. Else nothing has changed.
+-- what the lease's next step is given: its inputs, where it is the first
+abbrev pub inputs_next : LeaseView → List Input
+inputs_next l = given_at l.inputs l.steps
+
+-- What a tick did: one step of the hart, on the pages that the lease has. Else nothing has changed.
 abbrev pub Ticks : Tick → LeaseView → LeaseView → Type 0
-Ticks Done l new = (new ≡ stepped l new.present new.slots) × IsTaken [] l.present (ram_of l.slots) new.present (ram_of new.slots)
-Ticks (Miss page want) l new = (new ≡ l) × IsMissing [] l.present (ram_of l.slots) (page, want)
+Ticks Done l new = (new ≡ stepped l new.present new.slots) × IsTaken (inputs_next l) l.present (ram_of l.slots) new.present (ram_of new.slots)
+Ticks (Miss page want) l new = (new ≡ l) × IsMissing (inputs_next l) l.present (ram_of l.slots) (page, want)
 Ticks Halted l new = ⊥
-Ticks Memory l new = (new ≡ l) × IsOutput [] l.present (ram_of l.slots)
+Ticks Memory l new = (new ≡ l) × IsOutput (inputs_next l) l.present (ram_of l.slots)
 
 -- what the lease has of a page was lent by this machine
 abbrev pub IsLentAt : MachineState → LeaseView → ℕ → Type 0

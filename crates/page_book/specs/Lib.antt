@@ -9,6 +9,9 @@ pub mod Recorded
 pub mod Runs
 pub mod Books
 pub mod Modes
+pub mod Dues
+pub mod Silences
 pub mod Recordings
+pub mod Obeying
 pub mod Answers
 pub mod Laws

@@ -1,9 +1,14 @@
 -- Books that record.
-use Rattle.std.specs.Prelude.{◌≡◌, ◌≢◌, ◌<◌, ◌≤◌, ◌↔◌, ℕ, zero, suc, true, List, [], map, length, AllPairs, Contains, is_some, slice_get, Option, Some, None, option_map, if◌then◌else◌}
+use Rattle.std.specs.Prelude.{◌≡◌, ◌≢◌, ◌<◌, ◌≤◌, ◌↔◌, ℕ, zero, suc, Bool, true, false, List, [], ◌++◌, ◌∷◌, map, drop, replicate, length, slice_set, All, AllPairs, Contains, is_some, slice_get, Option, Some, None, option_map, if◌then◌else◌}
+use Rattle.interleaving.specs.Log as theory
 use Rattle.interleaving.specs.Log.{Log, IsHonest}
 use Rattle.interleaving.specs.Cuts.{IsEnough}
 use Rattle.interleaving.specs.Stored.{view}
+use Rattle.ft_types.specs.Counts.{count_at}
 use Rattle.input_log.specs.declared.Input.{Input}
+use Rattle.input_log.specs.declared.WaitingBell.{WaitingBell}
+use Rattle.input_log.specs.Inputs.{inputs_of, AreAddedTo}
+use Rattle.input_log.specs.Waiting.{Queues, bells_of, others_of, others_staying, room_beside, next_going, IsBellAddedTo}
 use Rattle.edge_log.specs.declared.Edge.{Edge}
 use Rattle.edge_log.specs.EdgeLog.{Edges, IsLog, edge_as, edges_of, start_of, AreAdded}
 use Rattle.crew_pages.specs.declared.right.PageRight.{PageRight}
@@ -15,19 +20,25 @@ use Rattle.rv32_hart.specs.Hart.{Hart}
 use Rattle.rv32_hart.specs.Hardware.{hardware}
 use Rattle.guest_image.specs.Machine.{MachineState}
 use Rattle.page_book.specs.declared.answers.Keep.{Keep}
-use Rattle.page_book.specs.declared.answers.Keep.TheVariants.{All, Readable, Nothing}
+use Rattle.page_book.specs.declared.answers.Keep.TheVariants as told
 use Rattle.page_book.specs.declared.asked.Asked.{Asked}
 use Rattle.page_book.specs.declared.stretch.Stretch.{Stretch}
 use Rattle.page_book.specs.declared.taken.Taken.{Taken}
 use Rattle.page_book.specs.Taken.{taken_at}
-use Rattle.page_book.specs.OpenLeases.{OpenView, open_at, has_taken}
+use Rattle.page_book.specs.OpenLeases.{OpenView, LentView, open_at, has_taken}
+use Rattle.page_book.specs.Leases.{LeaseView, bells_rung}
 use Rattle.page_book.specs.Recorded.{system, stub_of}
-use Rattle.page_book.specs.Runs.{counts_of, journal_turns}
+use Rattle.page_book.specs.Runs.{Heard, heard_in, counts_of, journal_turns}
+use Rattle.page_book.specs.Silences.{unheard_bells}
+use Rattle.page_book.specs.Dues.{DueView, nothing_due, due_at, due_from, is_silent, stop_before}
 
 pub record RecordingView : Type 0 where
   pub limits : List ℕ  -- the count that each hart does not go past
   pub rights : List PageRight  -- by page
   pub edges : Edges  -- of the settled steps
+  pub inputs : List (List (ℕ × Input))  -- of the settled steps, by hart
+  pub due : List DueView  -- what each hart's next step is given
+  pub desk : List Queues  -- what waits for each hart
 
 abbrev pub right_stored : Option PageRight → Right
 right_stored None = unused
@@ -62,29 +73,59 @@ pub record AreOwed (r : RecordingView) (settled : ℕ → ℕ) (asked : Asked) (
 
 -- the asker has its right, and no other page's right has changed
 pub record IsGiven (r : RecordingView) (settled : ℕ → ℕ) (asked : Asked) (new : RecordingView) : Type 0 where
-  pub limits : new.limits ≡ r.limits
-  pub edges : new.edges ≡ r.edges
+  pub rest : new ≡ record r { rights = new.rights }
   pub many : length new.rights ≡ length r.rights
   pub page : right_at new.rights asked.page ≡ given (right_met r settled asked) asked.hart asked.want asked.count
   pub others : (page : ℕ) → asked.page ≢ page → right_at new.rights page ≡ right_at r.rights page
 
 -- which rights a hart keeps, in the theory's words
 abbrev pub keep_as : Keep → calls.Keep
-keep_as All = calls.All
-keep_as Readable = calls.Readable
-keep_as Nothing = calls.Nothing
+keep_as told.All = calls.All
+keep_as told.Readable = calls.Readable
+keep_as told.Nothing = calls.Nothing
 
--- a lease has come back: its edges are in the log, and its hart keeps what it is told of each page that it holds
-pub record IsSettled (r : RecordingView) (hart count : ℕ) (found : List Edge) (keep : Keep) (new : RecordingView) : Type 0 where
+-- the edges have been added to the log, which still says all that were found
+pub record AreLogged (old : Edges) (found : List Edge) (new : Edges) : Type 0 where
+  pub added : AreAdded old found new
+  pub log : IsLog new.start new.rows
+  pub start : new.start ≡ old.start
+  pub enough : (all : List theory.Edge) → IsEnough (edges_of old) all (start_of old) → IsEnough (edges_of new) (all ++ map edge_as found) (start_of new)
+
+-- the inputs of a lease that has a step are in the log, at the count at which it was lent
+abbrev pub LogsInputs : ℕ → List (List (ℕ × Input)) → LeaseView → List (List (ℕ × Input)) → Type 0
+LogsInputs zero before l after = after ≡ before
+LogsInputs (suc steps) before l after = AreAddedTo before l.hart (map (λ i. (l.base.count, i)) l.inputs) after
+
+-- and are due no more, where those of one without a step stay due
+abbrev pub due_after : ℕ → List DueView → ℕ → List DueView
+due_after zero due hart = due
+due_after (suc steps) due hart = slice_set due hart nothing_due
+
+-- this bell waits behind the others of its target, where there is one
+abbrev pub PutsBell : Option ℕ → List Queues → WaitingBell → List Queues → Type 0
+PutsBell None before bell after = after ≡ before
+PutsBell (Some target) before bell after = IsBellAddedTo before target bell after
+
+-- the bell that a lease rang waits behind the others of its target
+pub record HasRung (before : List Queues) (l : LeaseView) (after : List Queues) : Type 0 where
+  pub bells : (target : ℕ) → bells_of after target ≡ bells_of before target ++ bells_rung l target
+  pub others : (target : ℕ) → others_of after target ≡ others_of before target
+
+-- a lease has come back: its edges and inputs are in the log, the bell that it rang waits, and its hart keeps what it is told
+-- of each page that it holds
+pub record IsSettled (r : RecordingView) (l : LeaseView) (keep : Keep) (new : RecordingView) : Type 0 where
   pub limits : new.limits ≡ r.limits
-  pub edges : AreAdded r.edges found new.edges
+  pub edges : AreLogged r.edges l.edges new.edges
+  pub inputs : LogsInputs l.steps r.inputs l new.inputs
+  pub due : new.due ≡ due_after l.steps r.due l.hart
+  pub desk : HasRung r.desk l new.desk
   pub many : length new.rights ≡ length r.rights
-  pub rights : (page : ℕ) → page < length r.rights → right_at new.rights page ≡ kept (keep_as keep) (right_at r.rights page) hart count
+  pub rights : (page : ℕ) → page < length r.rights →
+      right_at new.rights page ≡ kept (keep_as keep) (right_at r.rights page) l.hart l.present.count
 
 -- a lease has ended without its steps: its hart has given up what it took
 pub record IsEnded (r : RecordingView) (hart count : ℕ) (taken : List (Option Taken)) (new : RecordingView) : Type 0 where
-  pub limits : new.limits ≡ r.limits
-  pub edges : new.edges ≡ r.edges
+  pub rest : new ≡ record r { rights = new.rights }
   pub many : length new.rights ≡ length r.rights
   pub rights : (page : ℕ) → page < length r.rights →
       right_at new.rights page ≡
@@ -94,6 +135,52 @@ pub record IsEnded (r : RecordingView) (hart count : ℕ) (taken : List (Option 
 abbrev pub stub_as : OpenView → Stub
 stub_as lent = stub_of lent.taken (map edge_as lent.edges)
 
+-- what the harts were given at the settled steps
+abbrev pub heard_by : RecordingView → Heard
+heard_by r = heard_in r.inputs
+
+-- the hart has taken what the desk has for its count
+pub record TakesFromDesk (r : RecordingView) (hart count : ℕ) (new : RecordingView) : Type 0 where
+  pub rest : new ≡ record r { due = new.due; desk = new.desk }
+  pub due : new.due ≡ slice_set r.due hart (due_from hart count (bells_of r.desk hart) (others_of r.desk hart))
+  pub bells : bells_of new.desk hart ≡ drop 8 (bells_of r.desk hart)
+  pub others : others_of new.desk hart ≡ others_staying count (room_beside (bells_of r.desk hart)) (others_of r.desk hart)
+  pub bells_of_others : (other : ℕ) → other ≢ hart → bells_of new.desk other ≡ bells_of r.desk other
+  pub others_of_others : (other : ℕ) → other ≢ hart → others_of new.desk other ≡ others_of r.desk other
+
+-- the hart has something due by now: what a lease that ended without its first step left, or what the desk has
+abbrev pub IsFilled : Bool → RecordingView → ℕ → ℕ → RecordingView → Type 0
+IsFilled false r hart count new = new ≡ r
+IsFilled true r hart count new = TakesFromDesk r hart count new
+
+-- an input waits behind the others of the hart
+pub record IsOffered (r : RecordingView) (hart not_before : ℕ) (input : Input) (new : RecordingView) : Type 0 where
+  pub rest : new ≡ record r { desk = new.desk }
+  pub others : others_of new.desk hart ≡ others_of r.desk hart ++ record { not_before = not_before; input = input } ∷ []
+  pub bells : bells_of new.desk hart ≡ bells_of r.desk hart
+  pub bells_of_others : (other : ℕ) → other ≢ hart → bells_of new.desk other ≡ bells_of r.desk other
+  pub others_of_others : (other : ℕ) → other ≢ hart → others_of new.desk other ≡ others_of r.desk other
+
+-- what a hart at this count goes out with
+pub record GoesOut (r : RecordingView) (hart count : ℕ) (lent : LentView) (new : RecordingView) : Type 0 where
+  pub filled : IsFilled (is_silent (due_at r.due hart).inputs) r hart count new
+  pub inputs : lent.inputs ≡ (due_at new.due hart).inputs
+  pub edges : lent.edges ≡ (due_at new.due hart).edges
+  -- what is given later waits for a later lease
+  pub stop : lent.stop ≡ stop_before (count_at r.limits hart) count (next_going (bells_of new.desk hart) (others_of new.desk hart))
+
+-- an edge that the hart's next step owes for a bell
+pub record IsDueEdge (machine : MachineState) (hart : ℕ) (e : Edge) : Type 0 where
+  pub own : e.hart ≡ hart
+  pub at : e.at ≡ counts_of machine hart
+  pub other : e.other < length machine.harts
+  pub settled : e.after ≤ counts_of machine e.other
+
+-- a bell that a hart has rung
+pub record IsRung (machine : MachineState) (bell : WaitingBell) : Type 0 where
+  pub source : bell.source < length machine.harts
+  pub settled : bell.after ≤ counts_of machine bell.source
+
 -- What a recording book keeps: it is a ledger of the theory, to which calls have led from the start.
 pub record IsRecorded (r : RecordingView) (start machine : MachineState) (journal : List Stretch) (leases : List (Option OpenView)) : Type 0 where
   pub ledger : Ledger (Option Hart) (Option (List ℕ)) (List Input)
@@ -102,7 +189,7 @@ pub record IsRecorded (r : RecordingView) (start machine : MachineState) (journa
   pub harts_stay : length machine.harts ≡ length start.harts
   pub pages_stay : length machine.pages ≡ length start.pages
   pub at_machine : ledger.machine ≡ view (hardware (length start.pages)) machine
-  pub in_journal : ledger.journal ≡ journal_turns journal
+  pub in_journal : ledger.journal ≡ journal_turns (heard_by r) start journal
   -- its log has the edges that say all that were found
   pub log : IsLog r.edges.start r.edges.rows
   pub log_harts : length r.edges.start ≡ length start.harts
@@ -110,21 +197,33 @@ pub record IsRecorded (r : RecordingView) (start machine : MachineState) (journa
   pub enough : IsEnough (edges_of r.edges) ledger.edges (start_of r.edges)
   pub many : length r.rights ≡ length start.pages
   pub rights : (page : ℕ) → page < length start.pages → ledger.rights page ≡ right_at r.rights page
+  pub limits : length r.limits ≡ length start.harts
+  -- it has logged no input that a hart has yet to be given, and its open leases have what is due
+  pub logged : (hart : ℕ) → All (λ x. x.0 < counts_of machine hart) (inputs_of r.inputs hart)
+  pub dues : length r.due ≡ 8
+  pub due : (hart : ℕ) → All (IsDueEdge machine hart) (due_at r.due hart).edges
+  pub bells : (hart : ℕ) → All (IsRung machine) (bells_of r.desk hart)
+  pub given : (hart : ℕ) (lent : OpenView) → open_at leases hart ≡ Some lent → lent.inputs ≡ (due_at r.due hart).inputs
   pub stubs : (hart : ℕ) → ledger.stubs hart ≡ option_map stub_as (open_at leases hart)
 
--- the log of a book without inputs: its edges, from the start's counts to the machine's
-abbrev pub log_of : Edges → MachineState → MachineState → Log (List Input)
-log_of edges start machine =
-    record { edges = edges_of edges; inputs = λ hart count. []; start = counts_of start; end = counts_of machine }
+-- the log of a book: its edges and inputs, from the start's counts to the machine's
+abbrev pub log_of : Edges → Heard → MachineState → MachineState → Log (List Input)
+log_of edges heard start machine =
+    record { edges = edges_of edges; inputs = heard; start = counts_of start; end = counts_of machine }
 
 -- the log tells truly of the journal's steps
-abbrev pub HasHonestLog : Edges → MachineState → List Stretch → MachineState → Type 0
-HasHonestLog edges start journal machine =
-    IsHonest (system (length start.pages)) (log_of edges start machine) (view (hardware (length start.pages)) start) (journal_turns journal)
+abbrev pub HasHonestLog : Edges → Heard → MachineState → List Stretch → MachineState → Type 0
+HasHonestLog edges heard start journal machine =
+    IsHonest (system (length start.pages)) (log_of edges heard start machine) (view (hardware (length start.pages)) start)
+    (journal_turns heard start journal)
 
--- a right that nobody used, for each page
+-- a right that nobody used for each page; and nothing waits but the bells that the start rang and nobody heard
 pub record IsUnused (r : RecordingView) (start : MachineState) (limits : List ℕ) : Type 0 where
   pub limits_are : r.limits ≡ limits
+  pub inputs : (hart : ℕ) → inputs_of r.inputs hart ≡ []
+  pub due : r.due ≡ replicate 8 nothing_due
+  pub bells : (hart : ℕ) → bells_of r.desk hart ≡ unheard_bells start hart
+  pub others : (hart : ℕ) → others_of r.desk hart ≡ []
   pub few : length start.harts ≤ 8
   pub edges : edges_of r.edges ≡ []
   pub log : IsLog r.edges.start r.edges.rows

@@ -1,24 +1,21 @@
 -- Journals as runs of a machine.
-use Rattle.std.specs.Prelude.{◌≡◌, ◌<◌, ◌≤◌, ◌⊎◌, ◌+◌, ◌^◌, ℕ, List, [], ◌∷◌, ◌++◌, length, replicate, slice_get, Option, None, Some, Contains}
+use Rattle.std.specs.Prelude.{◌≡◌, ◌≢◌, ◌<◌, ◌≤◌, ◌⊎◌, ◌+◌, ◌^◌, ℕ, List, [], ◌∷◌, ◌++◌, length, replicate, slice_get, Option, None, Some, Contains}
 use Rattle.interleaving.specs.Machine.{Turn}
 use Rattle.interleaving.specs.Stored.{run_from}
-use Rattle.interleaving.specs.Log.{Edge, IsMet, Begins}
+use Rattle.interleaving.specs.Log.{Edge, IsMet, Begins, turns_of}
 use Rattle.ft_types.specs.Counts.{count_at}
 use Rattle.input_log.specs.declared.Input.{Input}
+use Rattle.input_log.specs.Inputs.{inputs_of, inputs_at}
 use Rattle.rv32_hart.specs.Hart.{Hart}
 use Rattle.rv32_hart.specs.Hardware.{hardware}
+use Rattle.rv32_hart.specs.Bells.{IsRungOnce}
 use Rattle.guest_image.specs.Machine.{MachineState}
 use Rattle.page_book.specs.declared.stretch.Stretch.{Stretch}
 use Rattle.page_book.specs.Slots.{slot_at, want_of}
 use Rattle.page_book.specs.Taken.{taken_at, right_of_taken}
 use Rattle.page_book.specs.Leases.{LeaseView, base_at, laid}
 use Rattle.page_book.specs.Recorded.{IsPlayed}
-pub use Rattle.page_book.specs.Turns.{turn_of, turns_in_a_row}
-
--- the steps of a journal
-abbrev pub journal_turns : List Stretch → List (Turn (List Input))
-journal_turns [] = []
-journal_turns (s ∷ rest) = turns_in_a_row s.hart s.steps ++ journal_turns rest
+use Rattle.page_book.specs.Turns.{turns_from}
 
 -- the machine after these turns; none where one is of a hart that is halted or not there
 abbrev pub run_of : MachineState → List (Turn (List Input)) → Option MachineState
@@ -32,29 +29,22 @@ pub record StandsIn (m : MachineState) (l : LeaseView) : Type 0 where
 
 -- whatever machine the hart and pages were lent by, the lease's steps take it to what the lease has now
 abbrev pub IsRunOf : LeaseView → Type 0
-IsRunOf l = (m : MachineState) → StandsIn m l → run_of m (turns_in_a_row l.hart l.steps) ≡ Some (laid m l)
+IsRunOf l = (m : MachineState) → StandsIn m l → run_of m (turns_from l.inputs l.hart l.steps) ≡ Some (laid m l)
 
 -- what every lease keeps: its steps are those of its hart, one after the other, on every machine that its hart and pages
--- stand in, and each uses only pages that it had taken by then
+-- stand in, and each uses only pages that it had taken by then; and it rang one hart at most
 pub record IsLease (l : LeaseView) : Type 0 where
   pub stop : l.stop < 2 ^ 48
+  pub few : length l.inputs ≤ 8
   pub as_many : length l.bases ≡ length l.slots
   pub rights : (page : ℕ) → want_of (slot_at l.slots page) ≡ right_of_taken (taken_at l.taken page)
   pub number : l.present.number ≡ l.base.number
   pub harts : l.present.harts ≡ l.base.harts
   pub count : l.present.count ≡ l.base.count + l.steps
+  pub rings : IsRungOnce l.base.harts l.base.rung l.present.rung
   pub runs : IsRunOf l
   pub within : (l.steps ≡ 0) ⊎ (l.present.count ≤ l.stop)
   pub played : IsPlayed l
-
--- the journal leads from the start to the machine
-abbrev pub LeadsTo : MachineState → List Stretch → MachineState → Type 0
-LeadsTo start journal machine = run_of start (journal_turns journal) ≡ Some machine
-
--- the harts that go in a journal, step by step
-abbrev pub harts_of : List Stretch → List ℕ
-harts_of [] = []
-harts_of (s ∷ rest) = replicate s.steps s.hart ++ harts_of rest
 
 -- a hart that is not there has taken no step
 abbrev pub steps_taken : Option Hart → ℕ
@@ -65,12 +55,34 @@ steps_taken (Some h) = h.count
 abbrev pub counts_of : MachineState → ℕ → ℕ
 counts_of m hart = steps_taken (slice_get m.harts hart)
 
--- The first count above the hart's at which it has an edge; its limit, where that comes no later.
-pub record IsStop (edges : List Edge) (limit hart count stop : ℕ) : Type 0 where
+-- the harts that go in a journal, step by step
+abbrev pub harts_of : List Stretch → List ℕ
+harts_of [] = []
+harts_of (s ∷ rest) = replicate s.steps s.hart ++ harts_of rest
+
+-- the inputs that each hart is given at each of its counts
+abbrev pub Heard : Type 0
+Heard = ℕ → ℕ → List Input
+
+-- what a log of inputs has for each
+abbrev pub heard_in : List (List (ℕ × Input)) → Heard
+heard_in log hart count = inputs_at (inputs_of log hart) count
+
+-- the steps of a journal from the start on, each on what its hart is given at its count
+abbrev pub journal_turns : Heard → MachineState → List Stretch → List (Turn (List Input))
+journal_turns heard start journal = turns_of heard (counts_of start) (harts_of journal)
+
+-- on these inputs the journal leads from the start to the machine
+abbrev pub LeadsTo : Heard → MachineState → List Stretch → MachineState → Type 0
+LeadsTo heard start journal machine = run_of start (journal_turns heard start journal) ≡ Some machine
+
+-- The first count above the hart's at which it has an edge or inputs; its limit, where that comes no later.
+pub record IsStop (edges : List Edge) (heard : Heard) (limit hart count stop : ℕ) : Type 0 where
   pub above : count < stop
   pub within : stop ≤ limit
   pub first : (e : Edge) → Contains edges e → e.hart ≡ hart → count < e.step → stop ≤ e.step
-  pub reason : (stop ≡ limit) ⊎ ((e : Edge) × Contains edges e × (e.hart ≡ hart) × (e.step ≡ stop))
+  pub quiet : (n : ℕ) → count < n → n < stop → heard hart n ≡ []
+  pub reason : (stop ≡ limit) ⊎ ((e : Edge) × Contains edges e × (e.hart ≡ hart) × (e.step ≡ stop)) ⊎ (heard hart stop ≢ [])
 
 -- the hart may go on from these counts up to its stop: the edges of its next step are met, and no later step below the stop has any
 pub record MayGoTo (edges : List Edge) (now : ℕ → ℕ) (hart stop : ℕ) : Type 0 where

@@ -7,12 +7,13 @@ ghost use Rattle.ft_types.specs.Sets.{IsMember};
 ghost use Rattle.page_book.specs.Slots.{slot_at, want_of};
 ghost use Rattle.page_book.specs.Leases.{LeaseView, fresh, IsFull, base_at, laid, laid_pages, with_slot, with_page};
 ghost use Rattle.interleaving.specs.Log.{IsMet, HasUnmet};
-ghost use Rattle.page_book.specs.Runs.{LeadsTo, IsLease, IsStop, MayGoTo, BeginsSchedule, counts_of};
-ghost use Rattle.page_book.specs.OpenLeases.{OpenView, open_at, nothing_taken, given_more};
+ghost use Rattle.page_book.specs.Runs.{LeadsTo, IsLease, BeginsSchedule, counts_of};
+ghost use Rattle.page_book.specs.OpenLeases.{OpenView, open_at, nothing_taken, given_more, lent_with};
 ghost use Rattle.page_book.specs.Books.{BookView, IsOurs, added, IsLentBy, HasTaken, refusal};
 ghost use Rattle.page_book.specs.Asks.{asked_by};
-ghost use Rattle.page_book.specs.Modes.{IsAsking, KeepsLending};
-ghost use Rattle.page_book.specs.Recordings.{RecordingView, IsUnused, HasHonestLog};
+ghost use Rattle.page_book.specs.Modes.{IsAsking};
+ghost use Rattle.page_book.specs.Recordings.{RecordingView, IsUnused, IsOffered, heard_by, HasHonestLog};
+ghost use Rattle.input_log.specs.Inputs.{is_bell};
 ghost use Rattle.page_book.specs.Answers.{IfHeldBy, OnHeldBy, OnGiven};
 ghost use Rattle.rv32_hart.specs.Hart.{Hart as HartRecord};
 
@@ -20,6 +21,7 @@ use crate::answers::{BookFault, Keep, Need};
 use crate::asked::Asked;
 use crate::lease::Lease;
 use crate::lease_pages::Slot;
+use crate::lent::Lent;
 use crate::mode::{Leg, Mode, Replaying};
 use crate::open_lease::OpenLease;
 use crate::recording::Recording;
@@ -28,6 +30,8 @@ use crate::stretch::Stretch;
 use edge_log::{Edge, EdgeLog};
 use ft_types::{Count, Counts, Hart, HartSet, Memory, PageNo, Want};
 use guest_image::{Machine, Page};
+use input_log::{Input, InputLog};
+use smallvec::SmallVec;
 use std::alloc::Global;
 use std::marker::Model;
 use std::mem;
@@ -49,7 +53,7 @@ impl<M: Mode> Model for Book<M> {
 
     ghost view = { λ b. record { start = b.start; machine = b.machine; journal = b.journal.items; leases = b.leases; mode = b.mode } };
 
-    ghost invariant = { λ b. IsBook b.start b.machine b.journal.items b.leases (M.stops b.mode) (M.obeyed b.mode) (M.keeps b.mode b.start b.machine b.journal.items b.leases) };
+    ghost invariant = { λ b. IsBook b.start b.machine b.journal.items b.leases (M.stops b.mode) (M.obeyed b.mode) (M.heard b.mode) (M.keeps b.mode b.start b.machine b.journal.items b.leases) };
 }
 
 impl Book<Replaying> {
@@ -90,14 +94,32 @@ impl Book<Recording> {
     /// with the start's counts and the settled ones they are an honest log of it.
     pub fn edges(&self) -> &EdgeLog
         ensures value { result.now ≡ self.now.mode.edges }
-        ensures honest { HasHonestLog result.now self.now.start self.now.journal self.now.machine }
+        ensures honest { HasHonestLog result.now (heard_by self.now.mode) self.now.start self.now.journal self.now.machine }
     {
         self.mode.edges()
     }
 
+    /// The inputs that the harts were given at the settled steps.
+    pub fn inputs(&self) -> &InputLog
+        ensures { result.now ≡ self.now.mode.inputs }
+    {
+        self.mode.inputs()
+    }
+
+    /// Puts an input, which is no bell, behind the others that wait for the hart. It is given at no count before this one.
+    pub fn offer(&mut self, hart: Hart, not_before: Count, input: Input) -> Result<(), Memory>
+        requires hart { hart < length self.old.machine.harts }
+        requires no_bell { is_bell input ≡ false }
+        ensures ok { OnOk result (IsOffered self.old.mode hart not_before input self.new.mode) }
+        ensures book { self.new ≡ record self.old { mode = self.new.mode } }
+        ensures err { OnErr result (self.new ≡ self.old) }
+    {
+        self.mode.offer(hart, not_before, input)
+    }
+
     /// Each hart may go on to the greater of its limit and this one.
     pub fn limit_to(&mut self, limits: Counts)
-        requires { length limits ≡ length self.old.mode.limits }
+        requires { length limits ≡ length self.old.machine.harts }
         ensures { self.new ≡ record self.old { mode = record self.old.mode { limits = greater self.old.mode.limits limits } } }
     {
         self.mode.raise(limits);
@@ -111,11 +133,10 @@ fn no_leases() -> [Option<OpenLease>; 8]
 }
 
 /// The edges that wait, with those found.
-fn with_edges(alloc: Global, waiting: &[Edge], found: &[Edge]) -> Result<Vec<Edge>, Memory>
+fn with_edges(alloc: Global, waiting: &[Edge], found: &[Edge]) -> Result<SmallVec<Edge, 8>, Memory>
     ensures { IfOk result (λ all. all.items ≡ waiting.now ++ found.now) }
 {
-    let mut all = Vec::with_capacity(alloc, waiting.len() + found.len())?;
-    all.extend_from_slice(waiting)?;
+    let mut all = SmallVec::from_slice(alloc, waiting)?;
     all.extend_from_slice(found)?;
     Ok(all)
 }
@@ -196,7 +217,12 @@ fn add_stretch(journal: &mut Vec<Stretch>, hart: Hart, steps: u64)
 }
 
 /// Writes down that an open lease was given the right that it asked for, and found edges: these wait in it now.
-fn note_taken(lease: &mut Option<OpenLease>, asked: &Asked, _found: &[Edge], waiting: Vec<Edge>)
+fn note_taken(
+    lease: &mut Option<OpenLease>,
+    asked: &Asked,
+    _found: &[Edge],
+    waiting: SmallVec<Edge, 8>,
+)
     requires { (lent : OpenView) → lease.old ≡ Some lent → waiting.items ≡ lent.edges ++ _found.now }
     ensures { lease.new ≡ given_more lease.old asked.now.page asked.now.want asked.now.count _found.now }
 {
@@ -209,7 +235,7 @@ impl<M: Mode> Book<M> {
     /// The machine as of the settled steps.
     pub fn machine(&self) -> &Machine
         ensures value { result.now ≡ self.now.machine }
-        ensures run { LeadsTo self.now.start self.now.journal self.now.machine }
+        ensures run { LeadsTo (M.heard self.now.mode) self.now.start self.now.journal self.now.machine }
         ensures begins { BeginsSchedule (M.obeyed self.now.mode) (M.stops self.now.mode) self.now.start self.now.journal }
     {
         &self.machine
@@ -235,13 +261,14 @@ impl<M: Mode> Book<M> {
     /// Lends a hart, unless it has an open lease, is halted, is at its limit, or has to wait for another.
     pub fn lease(&mut self, alloc: Global, hart: Hart) -> Result<Lease, BookFault>
         requires { hart < length self.old.machine.harts }
-        ensures lent { IfOk result (λ l. (h : HartRecord) → slice_get self.old.machine.harts hart ≡ Some h → l ≡ fresh hart h (length self.old.machine.pages) l.stop) }
-        ensures stop { IfOk result (λ l. IsStop (M.obeyed self.old.mode) (count_at (M.stops self.old.mode) hart) hart (counts_of self.old.machine hart) l.stop) }
+        ensures lent { IfOk result (λ l. (h : HartRecord) → slice_get self.old.machine.harts hart ≡ Some h → l ≡ fresh hart h (length self.old.machine.pages) (lent_with l.stop l.inputs l.edges)) }
+        // It goes out with what the mode lends it.
+        ensures mode { IfOk result (λ l. M.lends self.old.mode hart (counts_of self.old.machine hart) (lent_with l.stop l.inputs l.edges) self.new.mode) }
         ensures unrefused { OnOk result ((h : HartRecord) → slice_get self.old.machine.harts hart ≡ Some h →
             refusal (open_at self.old.leases hart) h (count_at (M.stops self.old.mode) hart) ≡ None) }
         ensures met { OnOk result (IsMet (M.obeyed self.old.mode) (counts_of self.old.machine) hart) }
         ensures ours { IfOk result (λ l. IsOurs self.new l) }
-        ensures kept_open { IfOk result (λ l. self.new ≡ record self.old { leases = slice_set self.old.leases hart (Some (nothing_taken l.stop)) }) }
+        ensures kept_open { IfOk result (λ l. self.new ≡ record self.old { leases = slice_set self.old.leases hart (Some (nothing_taken (lent_with l.stop l.inputs l.edges))); mode = self.new.mode }) }
         ensures refused { IfErr result (λ f. f ≢ BookFault.EdgeOpen → f ≢ BookFault.Memory → (h : HartRecord) → slice_get self.old.machine.harts hart ≡ Some h →
             refusal (open_at self.old.leases hart) h (count_at (M.stops self.old.mode) hart) ≡ Some f) }
         // Only then is an edge asked for, and only where each is met, memory.
@@ -258,28 +285,33 @@ impl<M: Mode> Book<M> {
         if state.is_halted() {
             return Err(BookFault::Halted);
         }
-        if state.count() >= self.mode.limit(hart) {
+        let count = state.count();
+        if count >= self.mode.limit(hart) {
             return Err(BookFault::AtLimit);
         }
         if self.mode.is_open(hart, &self.machine) {
             return Err(BookFault::EdgeOpen);
         }
-        let stop = self.mode.stop(hart, state.count());
-        let lease = Lease::fresh(alloc, hart, state, self.machine.pages(), stop)?;
-        self.note_lent(alloc, hart, stop);
+        let mut lease = Lease::fresh(alloc, hart, state, self.machine.pages())?;
+        let lent = self.lend_out(alloc, hart, count);
+        lease.go_out(lent);
         Ok(lease)
     }
 
-    /// Writes down that the hart has an open lease, of no page.
-    fn note_lent(&mut self, alloc: Global, hart: Hart, stop: Count)
+    /// What the hart, which is at this count, goes out with. It has an open lease then, of no page.
+    fn lend_out(&mut self, alloc: Global, hart: Hart, count: Count) -> Lent
         requires hart { hart < length self.old.machine.harts }
         requires unlent { open_at self.old.leases hart ≡ None }
-        requires kept { KeepsLending (M.keeps self.old.mode) hart stop }
-        requires stop { stop ≤ count_at (M.stops self.old.mode) hart }
-        requires unhindered { MayGoTo (M.obeyed self.old.mode) (counts_of self.old.machine) hart stop }
-        ensures { self.new ≡ record self.old { leases = slice_set self.old.leases hart (Some (nothing_taken stop)) } }
+        requires count { count ≡ counts_of self.old.machine hart }
+        requires limit { count < count_at (M.stops self.old.mode) hart }
+        requires met { HasUnmet (M.obeyed self.old.mode) (counts_of self.old.machine) hart → ⊥ }
+        ensures book { self.new ≡ record self.old { leases = slice_set self.old.leases hart (Some (nothing_taken result)); mode = self.new.mode } }
+        ensures lent { M.lends self.old.mode hart count result self.new.mode }
+        ensures stop { result.stop < 2 ^ 48 }
     {
-        self.leases[hart.index()] = Some(OpenLease::new(alloc, stop));
+        let lent = self.mode.lend(alloc, hart, count);
+        self.leases[hart.index()] = Some(OpenLease::new(alloc, &lent));
+        lent
     }
 
     fn is_ours(&self, lease: &Lease) -> bool
@@ -289,6 +321,7 @@ impl<M: Mode> Book<M> {
             None => false,
             Some(open) => {
                 lease.stop() == open.stop()
+                    && lease.hears(open.inputs())
                     && lease.waits_with(open.edges())
                     && lease.is_lent(&self.machine, open.taken())
             }
@@ -296,7 +329,13 @@ impl<M: Mode> Book<M> {
     }
 
     /// Gives the asker its right, and writes down that its open lease has the page, and that these edges wait in it.
-    fn hand_over(&mut self, settled: &Counts, asked: &Asked, found: &[Edge], waiting: Vec<Edge>)
+    fn hand_over(
+        &mut self,
+        settled: &Counts,
+        asked: &Asked,
+        found: &[Edge],
+        waiting: SmallVec<Edge, 8>,
+    )
         requires asks { IsAsking (M.keeps self.old.mode) self.old.machine self.old.leases asked.now }
         requires free { (g : ℕ) → M.is_holder self.old.mode self.old.leases asked.now g → ⊥ }
         requires harts { length settled.now ≡ length self.old.machine.harts }
@@ -368,7 +407,7 @@ impl<M: Mode> Book<M> {
         ensures journal { OnOk result (self.new.journal ≡ added self.old.journal lease.hart lease.steps) }
         ensures leases { OnOk result (self.new.leases ≡ slice_set self.old.leases lease.hart None) }
         ensures start { OnOk result (self.new.start ≡ self.old.start) }
-        ensures mode { OnOk result (M.settles self.old.mode lease.hart lease.present.count lease.edges keep self.new.mode) }
+        ensures mode { OnOk result (M.settles self.old.mode lease keep self.new.mode) }
     {
         if !self.is_ours(&lease) {
             return Err((lease, BookFault::Foreign));
@@ -377,9 +416,9 @@ impl<M: Mode> Book<M> {
             return Err((lease, BookFault::Memory));
         }
         let hart = lease.hart();
-        let taken_in = self.mode.settle(hart, lease.count(), lease.edges(), keep);
-        if taken_in.is_err() {
-            return Err((lease, BookFault::Memory));
+        match self.mode.settle(&lease, keep) {
+            Ok(()) => {}
+            Err(_) => return Err((lease, BookFault::Memory)),
         }
         let steps = take_back(&mut self.machine, lease);
         add_stretch(&mut self.journal, hart, steps);

@@ -1,20 +1,26 @@
 //! A lease: one hart's state and some pages, on loan from a book.
 
 ghost use Rattle.std.specs.Cmp.Lexicographic.{pointwise};
-ghost use Rattle.std.specs.Prelude.{◌≡◌, ◌==◌, ◌&&◌, ◌≢◌, ◌<◌, ◌≤◌, ◌^◌, ◌⊎◌, ◌+◌, ◌↔◌, ℕ, List, [], length, replicate, map, slice_set, slice_index_or, Option, Some, None, true, false, IfOk, OnOk, OnErr, IsTrue};
+ghost use Rattle.std.specs.Prelude.{◌≡◌, ◌==◌, ◌&&◌, ◌≢◌, ◌<◌, ◌≤◌, ◌^◌, ◌⊎◌, ◌+◌, ◌↔◌, ℕ, List, [], length, replicate, map, slice_set, slice_index_or, Option, Some, None, ◌∷◌, true, false, IfOk, IfSome, IfNone, OnOk, OnErr, IsTrue};
 ghost use Rattle.guest_image.specs.Machine.{MachineState};
 ghost use Rattle.page_book.specs.Slots.{slot_at, want_of, base_of, is_writable};
 ghost use Rattle.page_book.specs.Runs.{IsLease};
 ghost use Rattle.page_book.specs.Asks.{asked_by};
-ghost use Rattle.page_book.specs.Leases.{LeaseView, fresh, IsFull, Ticks, IsLent, IsLentAt, base_at, with_page_to_read, with_page_to_write};
+ghost use Rattle.page_book.specs.Turns.{given_at};
+ghost use Rattle.page_book.specs.OpenLeases.{idle};
+ghost use Rattle.input_log.specs.Alike.{same_input};
+ghost use Rattle.page_book.specs.Leases.{LeaseView, fresh, rung_bell, bells_rung, IsFull, Ticks, IsLent, IsLentAt, base_at, with_page_to_read, with_page_to_write};
 
 use crate::asked::Asked;
 use crate::lease_pages::{LeasePages, Slot};
+use crate::lent::Lent;
 use crate::taken::{Taken, with_taken};
 use edge_log::Edge;
-use ft_types::{Count, Hart, Memory, PageNo, Want};
+use ft_types::{Count, HART_LIMIT, Hart, Memory, PageNo, Want};
 use guest_image::{Machine, Page};
+use input_log::{Input, WaitingBell};
 use rv32_hart::{HartState, Tick, tick};
+use smallvec::SmallVec;
 use std::alloc::Global;
 use std::marker::Model;
 
@@ -26,13 +32,15 @@ pub struct Lease {
     hart: Hart,
     base: HartState,
     present: HartState,
+    /// The inputs of its first step.
+    inputs: SmallVec<Input, 8>,
     /// The contents that each page to be written had when it came.
     bases: Vec<Option<Page>>,
     pages: LeasePages,
     /// The counts at which it took each page.
     taken: [Option<Taken>; 64],
     /// The edges found, which wait until it is settled.
-    edges: Vec<Edge>,
+    edges: SmallVec<Edge, 8>,
     steps: u64,
     stop: Count,
 }
@@ -43,9 +51,9 @@ impl Model for Lease {
 
     ghost Value = { LeaseView };
 
-    ghost view = { λ l. record { hart = l.hart; base = l.base; present = l.present; bases = l.bases.items; slots = l.pages; taken = l.taken; edges = l.edges.items; steps = l.steps; stop = l.stop } };
+    ghost view = { λ l. record { hart = l.hart; base = l.base; present = l.present; inputs = l.inputs.items; bases = l.bases.items; slots = l.pages; taken = l.taken; edges = l.edges.items; steps = l.steps; stop = l.stop } };
 
-    ghost invariant = { λ l. IsLease (record { hart = l.hart; base = l.base; present = l.present; bases = l.bases.items; slots = l.pages; taken = l.taken; edges = l.edges.items; steps = l.steps; stop = l.stop }) };
+    ghost invariant = { λ l. IsLease (record { hart = l.hart; base = l.base; present = l.present; inputs = l.inputs.items; bases = l.bases.items; slots = l.pages; taken = l.taken; edges = l.edges.items; steps = l.steps; stop = l.stop }) };
 }
 
 fn no_pages(alloc: Global, pages: u8) -> Result<Vec<Option<Page>>, Memory>
@@ -75,18 +83,30 @@ fn same_edges(edges: &[Edge], others: &[Edge]) -> bool
     edges == others
 }
 
+/// What the step is given before which so many were taken.
+#[inline(always)]
+fn given_at(inputs: &SmallVec<Input, 8>, steps: u64) -> &[Input]
+    ensures { result.now ≡ given_at inputs.now.items steps }
+{
+    if steps == 0 { inputs.as_slice() } else { &[] }
+}
+
+fn same_inputs(inputs: &[Input], others: &[Input]) -> bool
+    ensures { result ≡ pointwise same_input inputs.now others.now }
+{
+    inputs == others
+}
+
 impl Lease {
-    /// A lease of a hart in this state, without steps and pages.
+    /// A lease of a hart in this state, without steps and pages, which may not take any yet.
     pub(crate) fn fresh(
         alloc: Global,
         hart: Hart,
         state: &HartState,
         pages: u8,
-        stop: Count,
     ) -> Result<Lease, Memory>
         requires pages { pages ≤ 64 }
-        requires stop { stop < 2 ^ 48 }
-        ensures { IfOk result (λ l. l ≡ fresh hart state.now pages stop) }
+        ensures { IfOk result (λ l. l ≡ fresh hart state.now pages idle) }
     {
         let base = state.copy()?;
         let present = state.copy()?;
@@ -96,13 +116,27 @@ impl Lease {
             hart,
             base,
             present,
+            inputs: SmallVec::new(alloc),
             bases,
             pages,
             taken: [None; 64],
-            edges: Vec::new(alloc),
+            edges: SmallVec::new(alloc),
             steps: 0,
-            stop,
+            stop: 0,
         })
+    }
+
+    /// Sends the lease out with this.
+    pub(crate) fn go_out(&mut self, lent: Lent)
+        requires idle { self.old ≡ fresh self.old.hart self.old.base (length self.old.slots) idle }
+        requires stop { lent.stop < 2 ^ 48 }
+        ensures { self.new ≡ record self.old { stop = lent.stop; inputs = lent.inputs; edges = lent.edges } }
+    {
+        let stop = lent.stop();
+        let (inputs, edges) = lent.into_parts();
+        self.stop = stop;
+        self.inputs = inputs;
+        self.edges = edges;
     }
 
     /// The hart. Its steps are what every lease's are.
@@ -120,11 +154,26 @@ impl Lease {
         self.present.count()
     }
 
+    /// The hart's count when it was lent.
+    pub(crate) fn lent_at(&self) -> Count
+        ensures { result ≡ self.now.base.count }
+    {
+        self.base.count()
+    }
+
     /// The count that the lease does not go past.
     pub fn stop(&self) -> Count
         ensures { result ≡ self.now.stop }
     {
         self.stop
+    }
+
+    /// The inputs of its first step.
+    pub fn inputs(&self) -> &[Input]
+        ensures value { result.now ≡ self.now.inputs }
+        ensures few { length result.now ≤ 8 }
+    {
+        self.inputs.as_slice()
     }
 
     /// The edges that wait in the lease until it is settled.
@@ -149,7 +198,7 @@ impl Lease {
     }
 
     /// Puts these edges in place of those that wait.
-    pub(crate) fn wait_with(&mut self, edges: Vec<Edge>)
+    pub(crate) fn wait_with(&mut self, edges: SmallVec<Edge, 8>)
         ensures { self.new ≡ record self.old { edges = edges.items } }
     {
         self.edges = edges;
@@ -189,7 +238,8 @@ impl Lease {
         // Whoever lent the lease still did.
         ensures lent { (machine : MachineState) (taken : List (Option Taken)) → IsLent machine taken self.old → IsLent machine taken self.new }
     {
-        match tick(&mut self.present, &[], &mut self.pages) {
+        let inputs = given_at(&self.inputs, self.steps);
+        match tick(&mut self.present, inputs, &mut self.pages) {
             Tick::Done => {
                 self.steps += 1;
                 Tick::Done
@@ -243,6 +293,13 @@ impl Lease {
         same_edges(self.edges.as_slice(), edges)
     }
 
+    /// Whether these are the inputs of its first step.
+    pub(crate) fn hears(&self, inputs: &[Input]) -> bool
+        ensures { IsTrue result ↔ (self.now.inputs ≡ inputs.now) }
+    {
+        same_inputs(self.inputs.as_slice(), inputs)
+    }
+
     /// Whether it took its pages at these counts.
     fn took(&self, taken: &[Option<Taken>; 64]) -> bool
         ensures { IsTrue result ↔ (self.now.taken ≡ taken.now) }
@@ -274,6 +331,31 @@ impl Lease {
         )
     }
 
+    /// The bell that waits for the hart that the lease rang.
+    pub(crate) fn bell(&self) -> WaitingBell
+        ensures { result ≡ rung_bell self.now }
+    {
+        WaitingBell {
+            source: self.hart,
+            after: self.present.count(),
+        }
+    }
+
+    /// The hart that the lease rang, which it did at its last step. It rang one at most.
+    pub(crate) fn rung(&self) -> Option<Hart>
+        ensures some { IfSome result (λ t. (t < 8) × (bells_rung self.now t ≡ rung_bell self.now ∷ []) × ((other : ℕ) → other ≢ t → bells_rung self.now other ≡ [])) }
+        ensures none { IfNone result ((target : ℕ) → bells_rung self.now target ≡ []) }
+    {
+        let now = self.present.rung();
+        let before = self.base.rung();
+        for number in 0..HART_LIMIT {
+            if now[number as usize] != before[number as usize] {
+                return Some(Hart::new(number));
+            }
+        }
+        None
+    }
+
     /// Nothing of the lease is needed.
     pub(crate) fn waste(self) {
         let (present, slots, _) = self.spend();
@@ -294,6 +376,7 @@ impl Lease {
             hart: _,
             base,
             present,
+            inputs,
             bases,
             pages,
             taken: _,
@@ -302,6 +385,7 @@ impl Lease {
             stop: _,
         } = self;
         drop(base);
+        drop(inputs);
         drop(bases);
         drop(edges);
         (present, pages.into_slots(), steps)

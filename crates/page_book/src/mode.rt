@@ -1,6 +1,6 @@
 //! What a book does with the log: a replaying one obeys it.
 
-ghost use Rattle.std.specs.Prelude.{◌≡◌, ◌<◌, ◌≤◌, ◌^◌, ◌↔◌, ℕ, All, Any, AllPairs, List, [], length, filter, slice_index, slice_get, Option, Some, IsTrue, OnOk, OnErr, IfOk};
+ghost use Rattle.std.specs.Prelude.{◌≡◌, ◌<◌, ◌≤◌, ◌^◌, ◌↔◌, ℕ, All, Any, AllPairs, List, [], length, filter, slice_index, slice_get, Option, Some, ◌⊎◌, IsTrue, OnOk, OnErr, IfOk, IfSome};
 ghost use Rattle.ft_types.specs.Counts.{count_at};
 ghost use Rattle.interleaving.specs.Log.{Edge as edge_of_theory, HasUnmet};
 ghost use Rattle.edge_log.specs.EdgeLog.{edges_of};
@@ -11,19 +11,24 @@ ghost use Rattle.page_book.specs.declared.answers.Keep.{Keep as keep_told};
 ghost use Rattle.page_book.specs.declared.asked.Asked.{Asked as asked_for};
 ghost use Rattle.page_book.specs.declared.taken.Taken.{Taken as taken_since};
 ghost use Rattle.edge_log.specs.declared.Edge.{Edge as edge_found};
-ghost use Rattle.page_book.specs.OpenLeases.{OpenView, open_at, right_of};
-ghost use Rattle.page_book.specs.Runs.{counts_of, IsStop};
+ghost use Rattle.page_book.specs.OpenLeases.{OpenView, LentView, open_at, right_of};
+ghost use Rattle.page_book.specs.Leases.{LeaseView};
+ghost use Rattle.page_book.specs.Runs.{Heard, heard_in, counts_of, IsStop, MayGoTo};
+ghost use Rattle.page_book.specs.Obeying.{GoesOut, EachHears};
 ghost use Rattle.page_book.specs.Books.{IsHolder, stands_against};
-ghost use Rattle.page_book.specs.Modes.{Fact, IsAsking, IsGiven, IsSettling, IsEnding, KeepsLending, KeepsGiving, KeepsSettling, KeepsEnding};
+ghost use Rattle.page_book.specs.Modes.{Fact, IsAsking, IsGiven, IsSettling, IsEnding, KeepsLending, KeepsGiving, KeepsSettling, SettlesHeard, KeepsEnding};
 
 use crate::answers::Keep;
 use crate::asked::Asked;
+use crate::lease::Lease;
+use crate::lent::Lent;
 use crate::open_lease::OpenLease;
 use crate::settled::{count_of, steps_taken};
 use crate::taken::Taken;
 use edge_log::{Edge, EdgeLog};
 use ft_types::{Count, Counts, Hart, HartSet, Memory, PageNo, Want};
 use guest_image::Machine;
+use input_log::InputLog;
 use smallvec::SmallVec;
 use std::alloc::Global;
 use std::marker::Model;
@@ -35,6 +40,34 @@ pub struct Leg {
     pub ends: Counts,
     /// Which steps wait for which.
     pub edges: EdgeLog,
+    /// What each hart is given at which count.
+    pub inputs: InputLog,
+}
+
+/// The lesser of the two counts, where the second is there.
+fn lesser(count: Count, other: Option<Count>) -> Count
+    ensures at_most { result ≤ count }
+    ensures least { IfSome other (λ n. result ≤ n) }
+    ensures one { (result ≡ count) ⊎ (other ≡ Some result) }
+{
+    match other {
+        Some(other) if other < count => other,
+        _ => count,
+    }
+}
+
+impl Leg {
+    /// The count that a lease of the hart goes to, which is at this count.
+    pub fn stop(&self, hart: Hart, count: Count) -> Count
+        requires { count < count_at self.now.ends hart }
+        ensures value { IsStop (edges_of self.now.edges) (heard_in self.now.inputs) (count_at self.now.ends hart) hart count result }
+        ensures limit { result < 2 ^ 48 }
+    {
+        let end = count_of(self.ends, hart);
+        let next_edge = self.edges.next(hart, count + 1);
+        let next_input = self.inputs.next(hart, count + 1);
+        lesser(lesser(end, next_edge), next_input)
+    }
 }
 
 /// A book's mode, with what only that mode has.
@@ -45,8 +78,14 @@ pub trait Mode: Drop {
     /// The edges that the harts wait for.
     ghost obeyed: { Self → List edge_of_theory };
 
+    /// The inputs that the harts were given at the settled steps.
+    ghost heard: { Self → Heard };
+
     /// What it keeps of a book's start, machine, journal and open leases.
     ghost keeps: { Self → Fact };
+
+    /// What a hart at a count is lent with, and what that makes of the mode.
+    ghost lends: { Self → ℕ → ℕ → LentView → Self → Type 0 };
 
     /// The hart is in the asker's way.
     ghost is_holder: { Self → List (Option OpenView) → asked_for → ℕ → Type 0 };
@@ -57,8 +96,8 @@ pub trait Mode: Drop {
     /// What giving the asker its right makes of the mode.
     ghost gives: { Self → (ℕ → ℕ) → asked_for → Self → Type 0 };
 
-    /// What a lease of a hart with a present count and edges that comes back makes of it, with what its hart keeps.
-    ghost settles: { Self → ℕ → ℕ → List edge_found → keep_told → Self → Type 0 };
+    /// What a lease that comes back makes of it, with what its hart keeps.
+    ghost settles: { Self → LeaseView → keep_told → Self → Type 0 };
 
     /// What a lease of a hart with a settled count makes of it, which took these pages, and ends without its steps.
     ghost ends: { Self → ℕ → ℕ → List (Option taken_since) → Self → Type 0 };
@@ -73,11 +112,17 @@ pub trait Mode: Drop {
         requires { hart < length machine.now.harts }
         ensures { IsTrue result ↔ HasUnmet (obeyed self.now) (counts_of machine.now) hart };
 
-    /// The count that a lease of the hart goes to, which is at this count.
-    fn stop(&self, hart: Hart, count: Count) -> Count
-        requires { count < count_at (stops self.now) hart }
-        ensures value { IsStop (obeyed self.now) (count_at (stops self.now) hart) hart count result }
-        ensures kept { KeepsLending (keeps self.now) hart result };
+    /// What the hart, which is at this count, goes out with. Takes no memory.
+    fn lend(&mut self, alloc: Global, hart: Hart, count: Count) -> Lent
+        requires { count < count_at (stops self.old) hart }
+        ensures lent { lends self.old hart count result self.new }
+        ensures stops { stops self.new ≡ stops self.old }
+        ensures obeyed { obeyed self.new ≡ obeyed self.old }
+        ensures heard { heard self.new ≡ heard self.old }
+        ensures within { result.stop ≤ count_at (stops self.old) hart }
+        ensures limit { result.stop < 2 ^ 48 }
+        ensures unhindered { (now : ℕ → ℕ) → now hart ≡ count → (HasUnmet (obeyed self.old) now hart → ⊥) → MayGoTo (obeyed self.old) now hart result.stop }
+        ensures kept { KeepsLending (keeps self.old) (keeps self.new) hart count result };
 
     /// The other harts whose open leases are in the asker's way.
     fn holders(&self, leases: &[Option<OpenLease>; 8], asked: &Asked) -> HartSet
@@ -95,15 +140,17 @@ pub trait Mode: Drop {
         ensures given { gives self.old (count_at settled.now) asked.now self.new }
         ensures stops { stops self.new ≡ stops self.old }
         ensures obeyed { obeyed self.new ≡ obeyed self.old }
+        ensures heard { heard self.new ≡ heard self.old }
         ensures kept { (found : List edge_found) → owes self.old (count_at settled.now) asked.now found → KeepsGiving (keeps self.old) (is_holder self.old) (keeps self.new) settled.now asked.now found };
 
-    /// Takes in the edges of a lease that comes back, and what its hart keeps of its rights.
-    fn settle(&mut self, hart: Hart, count: Count, edges: &[Edge], keep: Keep) -> Result<(), Memory>
-        requires { IsSettling (keeps self.old) hart count edges.now }
-        ensures settled { OnOk result (settles self.old hart count edges.now keep self.new) }
+    /// Takes in what a lease that comes back tells, and what its hart keeps of its rights.
+    fn settle(&mut self, lease: &Lease, keep: Keep) -> Result<(), Memory>
+        requires { IsSettling (keeps self.old) lease.now }
+        ensures settled { OnOk result (settles self.old lease.now keep self.new) }
         ensures stops { stops self.new ≡ stops self.old }
         ensures obeyed { obeyed self.new ≡ obeyed self.old }
-        ensures kept { OnOk result (KeepsSettling (keeps self.old) (keeps self.new) hart count edges.now) }
+        ensures heard { OnOk result (SettlesHeard (keeps self.old) (heard self.old) (heard self.new) lease.now) }
+        ensures kept { OnOk result (KeepsSettling (keeps self.old) (keeps self.new) lease.now) }
         ensures err { OnErr result (self.new ≡ self.old) };
 
     /// Gives up what a lease of the hart took, which ends without its steps, at the hart's settled count.
@@ -112,6 +159,7 @@ pub trait Mode: Drop {
         ensures ended { ends self.old hart count taken.now self.new }
         ensures stops { stops self.new ≡ stops self.old }
         ensures obeyed { obeyed self.new ≡ obeyed self.old }
+        ensures heard { heard self.new ≡ heard self.old }
         ensures kept { KeepsEnding (keeps self.old) (keeps self.new) hart count taken.now };
 }
 
@@ -183,7 +231,11 @@ impl Mode for Replaying {
 
     ghost obeyed = { λ r. edges_of r.edges };
 
-    ghost keeps = { λ r start machine journal leases. Unit {0} };
+    ghost heard = { λ r. heard_in r.inputs };
+
+    ghost keeps = { λ r start machine journal leases. EachHears (heard_in r.inputs) machine leases };
+
+    ghost lends = { λ r hart count lent new. (new ≡ r) × GoesOut r hart count lent };
 
     ghost is_holder = { λ r leases asked other. IsHolder leases asked.hart asked.page asked.want other };
 
@@ -191,7 +243,7 @@ impl Mode for Replaying {
 
     ghost gives = { λ r settled asked new. new ≡ r };
 
-    ghost settles = { λ r hart count edges keep new. new ≡ r };
+    ghost settles = { λ r lease keep new. new ≡ r };
 
     ghost ends = { λ r hart count taken new. new ≡ r };
 
@@ -204,12 +256,10 @@ impl Mode for Replaying {
         is_unmet(self.leg.edges.at(hart, count), machine)
     }
 
-    fn stop(&self, hart: Hart, count: Count) -> Count {
-        let limit = self.limit(hart);
-        match self.leg.edges.next(hart, count + 1) {
-            Some(next) if next < limit => next,
-            _ => limit,
-        }
+    fn lend(&mut self, alloc: Global, hart: Hart, count: Count) -> Lent {
+        let inputs = SmallVec::from_slice(alloc, self.leg.inputs.at(hart, count)).unwrap();
+        let stop = self.leg.stop(hart, count);
+        Lent::new(stop, inputs, SmallVec::new(alloc))
     }
 
     fn holders(&self, leases: &[Option<OpenLease>; 8], asked: &Asked) -> HartSet {
@@ -230,13 +280,7 @@ impl Mode for Replaying {
 
     fn give(&mut self, _alloc: Global, _settled: &Counts, _asked: &Asked) {}
 
-    fn settle(
-        &mut self,
-        _hart: Hart,
-        _count: Count,
-        _edges: &[Edge],
-        _keep: Keep,
-    ) -> Result<(), Memory> {
+    fn settle(&mut self, _lease: &Lease, _keep: Keep) -> Result<(), Memory> {
         Ok(())
     }
 

@@ -5,19 +5,23 @@ ghost use Rattle.page_book.specs.OpenLeases.{OpenView, right_of, nothing_taken};
 ghost use Rattle.page_book.specs.Taken.{taken_at, taking};
 
 use crate::asked::Asked;
+use crate::lent::Lent;
 use crate::taken::{self, Taken};
 use edge_log::Edge;
 use ft_types::{Count, PageNo, Want};
+use input_log::Input;
+use smallvec::SmallVec;
 use std::alloc::Global;
 use std::marker::Model;
 
-/// What the book knows of an open lease: the count that it does not go past, since when it has each page, and the edges
-/// that wait in it.
+/// What the book knows of an open lease: the count that it does not go past, the inputs of its first step, since when it
+/// has each page, and the edges that wait in it.
 #[derive(Drop)]
 pub struct OpenLease {
     stop: Count,
+    inputs: SmallVec<Input, 8>,
     taken: [Option<Taken>; 64],
-    edges: Vec<Edge>,
+    edges: SmallVec<Edge, 8>,
 }
 
 impl Model for OpenLease {
@@ -26,20 +30,23 @@ impl Model for OpenLease {
 
     ghost Value = { OpenView };
 
-    ghost view = { λ l. record { stop = l.stop; taken = l.taken; edges = l.edges.items } };
+    ghost view = { λ l. record { stop = l.stop; inputs = l.inputs.items; taken = l.taken; edges = l.edges.items } };
 
     ghost invariant = { λ l. length l.taken ≡ 64 };
 }
 
 impl OpenLease {
     /// A lease of no page.
-    pub(crate) fn new(alloc: Global, stop: Count) -> OpenLease
-        ensures { result ≡ nothing_taken stop }
+    pub(crate) fn new(alloc: Global, lent: &Lent) -> OpenLease
+        ensures { result ≡ nothing_taken lent.now }
     {
+        let inputs = SmallVec::from_slice(alloc, lent.inputs()).unwrap();
+        let edges = SmallVec::from_slice(alloc, lent.edges()).unwrap();
         OpenLease {
-            stop,
+            stop: lent.stop(),
+            inputs,
             taken: [None; 64],
-            edges: Vec::new(alloc),
+            edges,
         }
     }
 
@@ -48,6 +55,13 @@ impl OpenLease {
         ensures { result ≡ self.now.stop }
     {
         self.stop
+    }
+
+    /// The inputs of its first step.
+    pub(crate) fn inputs(&self) -> &[Input]
+        ensures { result.now ≡ self.now.inputs }
+    {
+        self.inputs.as_slice()
     }
 
     /// Since when it has each page.
@@ -73,7 +87,7 @@ impl OpenLease {
     }
 
     /// Writes down that it was given a right, and which edges wait in it now.
-    pub(crate) fn take(&mut self, asked: &Asked, waiting: Vec<Edge>)
+    pub(crate) fn take(&mut self, asked: &Asked, waiting: SmallVec<Edge, 8>)
         ensures { self.new ≡ record self.old { taken = slice_set self.old.taken asked.now.page (Some (taking (taken_at self.old.taken asked.now.page) asked.now.want asked.now.count)); edges = waiting.items } }
     {
         let held = self.taken[asked.page.index()];

@@ -1,26 +1,37 @@
 //! Books that record: who has which right to each page, and the edges found.
 
-ghost use Rattle.std.specs.Prelude.{◌≡◌, ◌<◌, ◌≤◌, ◌^◌, ◌↔◌, ℕ, All, AllPairs, Contains, List, [], map, length, slice_index, IsTrue, IfOk, OnOk, OnErr, true};
+ghost use Rattle.std.specs.Prelude.{◌≡◌, ◌<◌, ◌≤◌, ◌^◌, ◌↔◌, ℕ, All, AllPairs, Contains, List, [], map, length, slice_index, IsTrue, IfOk, OnOk, OnErr, true, false, replicate};
 ghost use Rattle.ft_types.specs.Counts.{count_at, greater};
 ghost use Rattle.ft_types.specs.Sets.{IsMember};
 ghost use Rattle.edge_log.specs.EdgeLog.{edge_as};
 ghost use Rattle.edge_log.specs.declared.Edge.{Edge as edge_found};
 ghost use Rattle.crew_pages.specs.Rights.{right_of, unused, holds, owns, IsFree, given, give_up, IsOwed};
 ghost use Rattle.lease_ledger.specs.Calls.{kept};
+ghost use Rattle.input_log.specs.declared.Input.{Input as input_of_specs};
+ghost use Rattle.input_log.specs.declared.WaitingBell.{WaitingBell as bell_of_specs};
+ghost use Rattle.input_log.specs.Waiting.{Queues};
+ghost use Rattle.page_book.specs.Modes.{IsSettling};
 ghost use Rattle.page_book.specs.OpenLeases.{has_taken};
+ghost use Rattle.input_log.specs.Inputs.{is_bell, inputs_of};
+ghost use Rattle.page_book.specs.Dues.{nothing_due, due_at, is_silent, stop_before};
 ghost use Rattle.page_book.specs.Runs.{counts_of};
-ghost use Rattle.page_book.specs.Recordings.{RecordingView, IsUnused, IsRecorded, IsTaker, AreOwed, IsGiven, IsSettled, IsEnded, keep_as, right_at, right_met, yielded};
+ghost use Rattle.page_book.specs.Recordings.{RecordingView, IsUnused, IsRecorded, heard_by, IsFilled, GoesOut, IsOffered, LogsInputs, due_after, AreLogged, PutsBell, IsTaker, AreOwed, IsGiven, IsSettled, IsEnded, keep_as, right_at, right_met, yielded};
 
 use crate::answers::Keep;
 use crate::asked::Asked;
+use crate::due::Due;
+use crate::lease::Lease;
+use crate::lent::Lent;
 use crate::mode::Mode;
 use crate::open_lease::OpenLease;
 use crate::settled::{count_of, settled_counts};
 use crate::taken::Taken;
+use crate::unheard::desk_of;
 use crew_pages::{Ask, PageRight};
 use edge_log::{Edge, EdgeLog};
 use ft_types::{Count, Counts, HART_LIMIT, Hart, HartSet, Memory, PageNo};
 use guest_image::Machine;
+use input_log::{Desk, Input, InputLog, WaitingBell};
 use smallvec::SmallVec;
 use std::alloc::Global;
 use std::marker::Model;
@@ -32,6 +43,11 @@ pub struct Recording {
     limits: Counts,
     rights: Vec<PageRight>,
     edges: EdgeLog,
+    inputs: InputLog,
+    /// What each hart's next step is given.
+    due: [Due; 8],
+    /// What waits for later steps.
+    desk: Desk,
 }
 
 impl Model for Recording {
@@ -39,7 +55,7 @@ impl Model for Recording {
 
     ghost Value = { RecordingView };
 
-    ghost view = { λ r. record { limits = r.limits; rights = r.rights.items; edges = r.edges } };
+    ghost view = { λ r. record { limits = r.limits; rights = r.rights.items; edges = r.edges; inputs = r.inputs; due = r.due; desk = r.desk } };
 }
 
 fn unused_rights(alloc: Global, pages: u8) -> Result<Vec<PageRight>, Memory>
@@ -49,6 +65,32 @@ fn unused_rights(alloc: Global, pages: u8) -> Result<Vec<PageRight>, Memory>
     let mut rights = Vec::new(alloc);
     rights.resize(pages as usize, PageRight::new())?;
     Ok(rights)
+}
+
+fn nothing_due(alloc: Global) -> [Due; 8]
+    ensures { result ≡ replicate 8 nothing_due }
+{
+    [
+        Due::nothing(alloc),
+        Due::nothing(alloc),
+        Due::nothing(alloc),
+        Due::nothing(alloc),
+        Due::nothing(alloc),
+        Due::nothing(alloc),
+        Due::nothing(alloc),
+        Due::nothing(alloc),
+    ]
+}
+
+/// How far a hart at this count goes, where the next of what waits for it may be given at this other count.
+fn stop_before(limit: Count, count: Count, next: Option<Count>) -> Count
+    requires { count < limit }
+    ensures { result ≡ stop_before limit count next }
+{
+    match next {
+        None => limit,
+        Some(next) => limit.min(next.max(count + 1)),
+    }
 }
 
 /// Whether an open lease has taken the page.
@@ -103,10 +145,14 @@ impl Recording {
     {
         let rights = unused_rights(alloc, start.pages())?;
         let edges = EdgeLog::new(alloc, settled_counts(start));
+        let desk = desk_of(alloc, start)?;
         Ok(Recording {
             limits,
             rights,
             edges,
+            inputs: InputLog::new(alloc),
+            due: nothing_due(alloc),
+            desk,
         })
     }
 
@@ -115,6 +161,123 @@ impl Recording {
         ensures { result.now ≡ self.now.edges }
     {
         &self.edges
+    }
+
+    /// The inputs of the settled steps.
+    pub(crate) fn inputs(&self) -> &InputLog
+        ensures { result.now ≡ self.now.inputs }
+    {
+        &self.inputs
+    }
+
+    /// Puts an input behind the others that wait for the hart. It is given at no count before this one.
+    pub(crate) fn offer(
+        &mut self,
+        hart: Hart,
+        not_before: Count,
+        input: Input,
+    ) -> Result<(), Memory>
+        requires { is_bell input ≡ false }
+        ensures ok { OnOk result (IsOffered self.old hart not_before input self.new) }
+        ensures err { OnErr result (self.new ≡ self.old) }
+    {
+        self.desk.put(hart, not_before, input)
+    }
+
+    /// Sees to it that the hart, which is at this count, has due what its next step is given: what a lease that ended without
+    /// its first step left, or else what waits at the desk. Takes no memory.
+    fn fill_due(&mut self, alloc: Global, hart: Hart, count: Count)
+        ensures filled { IsFilled (is_silent (due_at self.old.due hart).inputs) self.old hart count self.new }
+        ensures rest { self.new ≡ record self.old { due = self.new.due; desk = self.new.desk } }
+    {
+        if self.due[hart.index()].is_silent() {
+            let bells = self.desk.bells_next(hart);
+            let inputs = self.desk.take(hart, count);
+            self.due[hart.index()] = Due::new(alloc, hart, count, inputs, bells.as_slice());
+        }
+    }
+
+    /// Writes down the inputs of a lease that comes back, where it has a step.
+    fn log_inputs(&mut self, lease: &Lease) -> Result<(), Memory>
+        requires last { All (λ x. x.0 < lease.now.base.count) (inputs_of self.old.inputs lease.now.hart) }
+        ensures logged { OnOk result (LogsInputs lease.now.steps self.old.inputs lease.now self.new.inputs) }
+        ensures rest { self.new ≡ record self.old { inputs = self.new.inputs } }
+        ensures err { OnErr result (self.new ≡ self.old) }
+    {
+        if lease.steps() == 0 {
+            return Ok(());
+        }
+        self.inputs
+            .add_all(lease.hart(), lease.lent_at(), lease.inputs())
+    }
+
+    /// Strikes them out again.
+    fn strike_inputs(&mut self, lease: &Lease)
+        ensures { (before : List (List (ℕ × input_of_specs))) → LogsInputs lease.now.steps before lease.now self.old.inputs → self.new ≡ record self.old { inputs = before } }
+    {
+        if lease.steps() > 0 {
+            self.inputs.take_back(lease.hart(), lease.inputs().len());
+        }
+    }
+
+    /// Puts a bell behind the others that wait for its target, where there is one.
+    fn put_bell(&mut self, target: &Option<Hart>, bell: WaitingBell) -> Result<(), Memory>
+        ensures put { OnOk result (PutsBell target.now self.old.desk bell self.new.desk) }
+        ensures rest { self.new ≡ record self.old { desk = self.new.desk } }
+        ensures err { OnErr result (self.new ≡ self.old) }
+    {
+        match target {
+            None => Ok(()),
+            Some(target) => self.desk.put_bell(*target, bell.source, bell.after),
+        }
+    }
+
+    /// Takes it back again.
+    fn take_back_bell(&mut self, target: &Option<Hart>)
+        ensures { (before : List Queues) (bell : bell_of_specs) → PutsBell target.now before bell self.old.desk → self.new ≡ record self.old { desk = before } }
+    {
+        if let Some(target) = target {
+            self.desk.take_back_bell(*target);
+        }
+    }
+
+    /// Writes down the inputs and the edges of a lease that comes back: both or neither.
+    fn log(&mut self, lease: &Lease) -> Result<(), Memory>
+        requires settles { (r : RecordingView) × IsSettling (IsRecorded r) lease.now × (self.old ≡ record r { desk = self.old.desk }) }
+        ensures inputs { OnOk result (LogsInputs lease.now.steps self.old.inputs lease.now self.new.inputs) }
+        ensures edges { OnOk result (AreLogged self.old.edges lease.now.edges self.new.edges) }
+        ensures rest { self.new ≡ record self.old { inputs = self.new.inputs; edges = self.new.edges } }
+        ensures err { OnErr result (self.new ≡ self.old) }
+    {
+        self.log_inputs(lease)?;
+        match self.edges.add_all(lease.hart(), lease.edges()) {
+            Ok(()) => Ok(()),
+            Err(refused) => {
+                self.strike_inputs(lease);
+                Err(refused)
+            }
+        }
+    }
+
+    /// The hart, which is at this count, keeps what it is told of each page that it holds.
+    fn keep_rights(&mut self, hart: Hart, count: Count, keep: Keep)
+        ensures rest { self.new ≡ record self.old { rights = self.new.rights } }
+        ensures many { length self.new.rights ≡ length self.old.rights }
+        ensures rights { (page : ℕ) → page < length self.old.rights → right_at self.new.rights page ≡ kept (keep_as keep) (right_at self.old.rights page) hart count }
+    {
+        for page in 0..self.rights.len() {
+            self.rights[page] = right_kept(self.rights[page], hart, count, keep);
+        }
+    }
+
+    /// What was due to the hart of a lease that comes back was given, where it has a step.
+    fn clear_due(&mut self, lease: &Lease)
+        ensures { self.new ≡ record self.old { due = due_after lease.now.steps self.old.due lease.now.hart } }
+    {
+        if lease.steps() > 0 {
+            let alloc = *self.rights.allocator();
+            self.due[lease.hart().index()] = Due::nothing(alloc);
+        }
     }
 
     /// Each limit becomes the greater of the two.
@@ -165,7 +328,11 @@ impl Mode for Recording {
 
     ghost obeyed = { λ r. [] };
 
+    ghost heard = { heard_by };
+
     ghost keeps = { λ r start machine journal leases. IsRecorded r start machine journal leases };
+
+    ghost lends = { GoesOut };
 
     ghost is_holder = { λ r leases asked other. IsTaker r leases asked other };
 
@@ -173,7 +340,7 @@ impl Mode for Recording {
 
     ghost gives = { λ r settled asked new. IsGiven r settled asked new };
 
-    ghost settles = { λ r hart count found keep new. IsSettled r hart count found keep new };
+    ghost settles = { λ r lease keep new. IsSettled r lease keep new };
 
     ghost ends = { λ r hart count taken new. IsEnded r hart count taken new };
 
@@ -185,8 +352,11 @@ impl Mode for Recording {
         false
     }
 
-    fn stop(&self, hart: Hart, _count: Count) -> Count {
-        count_of(self.limits, hart)
+    fn lend(&mut self, alloc: Global, hart: Hart, count: Count) -> Lent {
+        self.fill_due(alloc, hart, count);
+        let limit = count_of(self.limits, hart);
+        let stop = stop_before(limit, count, self.desk.next(hart));
+        self.due[hart.index()].lent(alloc, stop)
     }
 
     fn holders(&self, leases: &[Option<OpenLease>; 8], asked: &Asked) -> HartSet {
@@ -208,17 +378,15 @@ impl Mode for Recording {
         self.rights[asked.page.index()] = right;
     }
 
-    fn settle(
-        &mut self,
-        hart: Hart,
-        count: Count,
-        edges: &[Edge],
-        keep: Keep,
-    ) -> Result<(), Memory> {
-        self.edges.add_all(hart, edges)?;
-        for page in 0..self.rights.len() {
-            self.rights[page] = right_kept(self.rights[page], hart, count, keep);
+    fn settle(&mut self, lease: &Lease, keep: Keep) -> Result<(), Memory> {
+        let target = lease.rung();
+        self.put_bell(&target, lease.bell())?;
+        if let Err(refused) = self.log(lease) {
+            self.take_back_bell(&target);
+            return Err(refused);
         }
+        self.clear_due(lease);
+        self.keep_rights(lease.hart(), lease.count(), keep);
         Ok(())
     }
 

@@ -5,6 +5,7 @@ use crate::crew::{Act, Crew, Said, given, held_by};
 use edge_log::{Edge, EdgeLog};
 use ft_types::{Counts, Hart, Memory, NumberSet, PageNo, Want};
 use guest_image::{Image, Machine, read_image};
+use input_log::InputLog;
 use rv32_hart::Tick;
 use std::alloc::Global;
 use std::mem;
@@ -90,7 +91,16 @@ fn begin_replaying(
 ) -> Option<Book<Replaying>> {
     let start = Machine::boot(alloc, image).ok()?;
     let edges = edges.copy().ok()?;
-    Book::<Replaying>::begin(alloc, start, Leg { ends, edges }).ok()
+    Book::<Replaying>::begin(
+        alloc,
+        start,
+        Leg {
+            ends,
+            edges,
+            inputs: InputLog::new(alloc),
+        },
+    )
+    .ok()
 }
 
 /// A book that obeys these edges up to these counts.

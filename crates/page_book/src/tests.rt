@@ -4,6 +4,7 @@ use super::*;
 use edge_log::{Edge, EdgeLog};
 use ft_types::{Counts, Hart, NumberSet, PageNo, Want};
 use guest_image::{Machine, read_image};
+use input_log::InputLog;
 use rv32_hart::Tick;
 use std::alloc::Global;
 use std::test::Fail;
@@ -43,7 +44,16 @@ fn book_with(
         let _added = edges.add(*edge).map_err(|_| "memory")?;
     }
     let start = machine_of(alloc, image)?;
-    Ok(Book::<Replaying>::begin(alloc, start, Leg { ends, edges }).map_err(|_| "memory")?)
+    Ok(Book::<Replaying>::begin(
+        alloc,
+        start,
+        Leg {
+            ends,
+            edges,
+            inputs: InputLog::new(alloc),
+        },
+    )
+    .map_err(|_| "memory")?)
 }
 
 /// Takes steps until the lease is full, and says how many pages it asked for.

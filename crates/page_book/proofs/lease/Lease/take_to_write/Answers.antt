@@ -11,6 +11,6 @@ invariant_of-self c =
     let lt : c.args.page < length i.pages = omega (arith, ap (λ (l : LeaseView). length l.slots) view, c.requires.page) in
     let row : c.args.page < length i.taken = search rules in
     rw (c.put.ensures.new, c.with_taken.ensures, c.requires.same, c.index.ensures.value, c.index-2.ensures.value, c.index-3.ensures.value, c.count.ensures.value)
-    (write_kept (record { hart = i.hart; base = i.base; present = i.present; bases = i.bases.items; slots = i.pages; taken = i.taken; edges = i.edges.items; steps = i.steps; stop = i.stop })
+    (write_kept (record { hart = i.hart; base = i.base; present = i.present; inputs = i.inputs.items; bases = i.bases.items; slots = i.pages; taken = i.taken; edges = i.edges.items; steps = i.steps; stop = i.stop })
     c.args.page c.args.base lt row (ap (λ (l : LeaseView). is_writable (slot_at l.slots c.args.page)) view ∙ c.requires.unwritten)
     (λ bytes e. c.requires.lent bytes (sym (ap (λ (l : LeaseView). base_at l c.args.page) view) ∙ e)) c.self.invariant)
