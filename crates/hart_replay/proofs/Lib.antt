@@ -9,3 +9,9 @@ pub mod Covers
 pub mod Schedules
 pub mod Led
 pub mod Onward
+pub mod Filling
+pub mod Going
+pub mod Ran
+pub mod Ended
+pub mod Outcomes
+pub mod Confluent

@@ -1,5 +1,5 @@
 -- The legs that were made, from the position back.
-use Rattle.std.proofs.Common.{◌≡◌, inl, inr, ℕ, ◌<◌, List, [], ◌∷◌, All, length, refl, sym, ap, subst, ◌∙◌, arith}
+use Rattle.std.proofs.Common.{◌≡◌, inl, inr, ℕ, zero, suc, ◌<◌, ◌≤◌, List, [], ◌∷◌, All, length, refl, sym, ap, subst, ◌∙◌, arith}
 use Rattle.std.proofs.lemmas.Bool.{cases_lt}
 use Rattle.std.proofs.lemmas.List.{get_or_past}
 use Rattle.std.proofs.lemmas.List.Elements.{All-cons, All-nil}
@@ -8,7 +8,7 @@ use Rattle.fragment_codec.specs.Rules.{OpeningParts}
 use Rattle.log_join.specs.Cells.{One}
 use Rattle.log_join.specs.Stores.{StoreView, opening_at, IsStore}
 use Rattle.closed_cut.specs.Chain.{LeadsTo}
-use Rattle.closed_cut.specs.Position.{IsPosition}
+use Rattle.closed_cut.specs.Position.{IsPosition, pieces_of, Goes}
 use Rattle.closed_cut.specs.declared.answer.Position.{Position}
 use Rattle.hart_replay.specs.declared.plans.PlannedLeg.{PlannedLeg}
 use Rattle.hart_replay.specs.Facts.{EndsInside, HasEdges, HasInputs}
@@ -16,6 +16,7 @@ use Rattle.hart_replay.specs.Plans.{terms_of, BeginsAtBase, EndAt, IsLeg, GoOn, 
 use Rattle.closed_cut.proofs.Chains.{term_above}
 use Rattle.hart_replay.proofs.Walks.{Leaves, WentOver, ends_over, parent_over}
 use Rattle.hart_replay.proofs.Inside.{ends_inside}
+use Rattle.hart_replay.proofs.Pieces.{hart_is, harts_are, rules_of}
 
 -- where the leg before these ends
 abbrev pub NextEnd : List ℕ → List PlannedLeg → List ℕ → Type 0
@@ -52,6 +53,16 @@ made_none store p position =
       over = ends_over store p position;
     }
 
+-- a hart that the guest has not has no pieces
+none_beyond : (store : StoreView) → IsStore store → (term hart start : ℕ) → store.guest.harts ≤ hart → (place end : ℕ) →
+    Goes (pieces_of store term hart) start place end → end ≡ start
+none_beyond store rules term hart start over zero end goes = goes
+none_beyond store rules term hart start over (suc place) end (f, goes, one, is) =
+    let harts = harts_are store rules term hart place f one in
+    let at = hart_is store rules term hart place f one in
+    let key : f.key.hart < f.guest.harts = (rules_of store rules term hart place f one).key.hart in
+    absurd (omega arith)
+
 -- a row of zeros
 zeros : (row : List ℕ) → All (λ n. n ≡ 0) row → (hart : ℕ) → count_at row hart ≡ 0
 zeros row all hart =
@@ -85,11 +96,25 @@ module _ (store : StoreView) (rules : IsStore store) (p : Position) (position : 
       ends_inside store leg begins
       (subst (λ t. Leaves store t (count_at leg.ends)) (sym is_term) (subst (λ (e : List ℕ). Leaves store term (count_at e)) (sym is_ends) over.leaves)) edges
 
+  many : length leg.base ≡ store.guest.harts
+  many =
+      let at = rules.openings term o one in
+      ap length is_base ∙ (at.rules.base ∙ ap (λ g. g.harts) at.same_guest)
+
+  no_others : (hart : ℕ) → store.guest.harts ≤ hart → count_at leg.ends hart ≡ 0
+  no_others hart over =
+      let harts = many in
+      let none : inside.avail.end hart ≡ count_at leg.base hart =
+      none_beyond store rules leg.term hart (count_at leg.base hart) over (inside.avail.places hart) (inside.avail.end hart) (inside.avail.goes hart) in
+      let past : count_at leg.base hart ≡ 0 = get_or_past leg.base hart 0 (omega arith) in
+      let within : count_at leg.ends hart ≤ inside.avail.end hart = inside.within hart in
+      omega arith
+
   leg_is : IsLeg store.guest.harts leg
   leg_is =
-      let at = rules.openings term o one in
       record {
-        harts = ap length is_base ∙ (at.rules.base ∙ ap (λ g. g.harts) at.same_guest);
+        harts = many;
+        no_others = no_others;
         start = starts;
         cut = inside.cut;
       }

@@ -4,3 +4,5 @@ pub mod Facts
 pub mod Taking
 pub mod Histories
 pub mod Laws
+pub mod Replays
+pub mod Leading

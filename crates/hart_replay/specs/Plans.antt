@@ -1,5 +1,5 @@
 -- Plans, as contracts see them.
-use Rattle.std.specs.Prelude.{ℕ, ◌≡◌, List, [], ◌∷◌, All, map, length}
+use Rattle.std.specs.Prelude.{ℕ, ◌≡◌, ◌≤◌, List, [], ◌∷◌, All, map, length}
 use Rattle.ft_types.specs.Counts.{count_at}
 use Rattle.ft_types.specs.declared.guest.Guest.{Guest}
 use Rattle.interleaving.specs.Log.{Log, IsCut}
@@ -45,6 +45,7 @@ log_of leg =
 -- what every leg of a plan keeps
 pub record IsLeg (many : ℕ) (leg : PlannedLeg) : Type 0 where
   pub harts : length leg.base ≡ many
+  pub no_others : (hart : ℕ) → many ≤ hart → count_at leg.ends hart ≡ 0
   pub start : leg.edges.start ≡ leg.base
   pub cut : IsCut (log_of leg) (count_at leg.ends)
 

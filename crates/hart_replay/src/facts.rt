@@ -54,7 +54,7 @@ fn add_inputs(inputs: &mut InputLog, piece: &Fragment, end: Count) -> Result<(),
 }
 
 /// A hart's count, 0 where the row has none.
-fn count_of(counts: Counts, hart: Hart) -> Count
+pub(crate) fn count_of(counts: Counts, hart: Hart) -> Count
     ensures { result ≡ count_at counts hart }
 {
     if hart.number() < counts.harts() {

@@ -1,16 +1,21 @@
-//! Replays of logs: what a store asks of each hart, term by term.
+//! Replays of logs: what a store asks of each hart, term by term, and the machine to which that leads.
 #![tactic(auto)]
 
 mod facts;
 mod fault;
 mod laws;
+mod leading;
+mod plain;
 mod planning;
 mod plans;
 
 pub use fault::ReplayFault;
 pub use laws::honest_plans;
+pub use plain::replay_plain;
 pub use planning::plan;
 pub use plans::{Plan, PlannedLeg};
 
+#[cfg(test)]
+mod plain_tests;
 #[cfg(test)]
 mod tests;

@@ -21,7 +21,7 @@ fn guest(harts: u8) -> Guest {
     }
 }
 
-fn key(term: Term, hart: u8, place: u32) -> Key
+pub(crate) fn key(term: Term, hart: u8, place: u32) -> Key
     requires { hart < 8 }
 {
     Key {
@@ -31,7 +31,7 @@ fn key(term: Term, hart: u8, place: u32) -> Key
     }
 }
 
-fn edge(hart: u8, at: Count, other: u8, after: Count) -> Edge
+pub(crate) fn edge(hart: u8, at: Count, other: u8, after: Count) -> Edge
     requires hart { hart < 8 }
     requires other { other < 8 }
 {
@@ -52,7 +52,7 @@ fn put(alloc: Global, store: &mut Store, frame: &Frame) -> Result<Put, Memory> {
 }
 
 /// Puts the opening of a term.
-fn open(
+pub(crate) fn open(
     alloc: Global,
     store: &mut Store,
     term: Term,
@@ -67,7 +67,7 @@ fn open(
 }
 
 /// Puts a piece of a hart's log.
-fn hold(
+pub(crate) fn hold(
     alloc: Global,
     store: &mut Store,
     key: Key,
@@ -84,7 +84,7 @@ fn hold(
 }
 
 /// The plan of the store, asked for again where memory was refused.
-fn plan_of(alloc: Global, store: &Store) -> Result<Plan, Fail> {
+pub(crate) fn plan_of(alloc: Global, store: &Store) -> Result<Plan, Fail> {
     let position = match position(alloc, store) {
         Ok(position) => position,
         Err(Memory) => position(alloc, store)?,

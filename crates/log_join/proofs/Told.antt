@@ -6,14 +6,14 @@ use Rattle.std.specs.Cmp.Lexicographic.{pointwise}
 use Rattle.std.proofs.lemmas.Bool.Decides.{Decides-and, Decides-eqb, Decides-like}
 use Rattle.std.proofs.lemmas.Slice.Eq.{slice_eq-Decides, bytes_eq-Decides}
 use Rattle.ft_types.specs.declared.guest.Guest.{Guest}
-use Rattle.input_log.specs.declared.Input.{Input as HartInput}
-use Rattle.input_log.specs.declared.Input.TheVariants.{Timer, Word, Bell}
+use Rattle.input_log.specs.Alike.{same_input}
+use Rattle.input_log.proofs.Told.{inputs_told}
 use Rattle.edge_log.specs.declared.Edge.{Edge as OwnedEdge}
 use Rattle.fragment_codec.specs.declared.types.Key.{Key}
 use Rattle.fragment_codec.specs.declared.types.Record.{Record}
 use Rattle.fragment_codec.specs.declared.types.Record.TheVariants.{Edge as EdgeRecord, Input as InputRecord}
 use Rattle.fragment_codec.specs.Rules.{FragmentParts, OpeningParts}
-use Rattle.log_join.specs.Tests.{same_guest, same_key, same_edge, same_input, same_record, same_opening, same_fragment}
+use Rattle.log_join.specs.Tests.{same_guest, same_key, same_edge, same_record, same_opening, same_fragment}
 
 pub guests_told : (a b : Guest) → Decides (same_guest a b) (a ≡ b)
 guests_told a b =
@@ -31,17 +31,6 @@ edges_told a b =
     Decides-like (same_edge a b) (λ p i. record { hart = p.0.0.0 i; at = p.0.0.1 i; other = p.0.1 i; after = p.1 i })
     (λ e. (((ap (λ (k : OwnedEdge). k.hart) e, ap (λ (k : OwnedEdge). k.at) e), ap (λ (k : OwnedEdge). k.other) e), ap (λ (k : OwnedEdge). k.after) e))
     (Decides-and _ _ (Decides-and _ _ (Decides-and _ _ (Decides-eqb a.hart b.hart) (Decides-eqb a.at b.at)) (Decides-eqb a.other b.other)) (Decides-eqb a.after b.after))
-
-inputs_told : (a b : HartInput) → Decides (same_input a b) (a ≡ b)
-inputs_told Timer Timer = (λ _. refl, λ _. refl)
-inputs_told Timer (Word n) = (λ e. absurd (cc e), λ e. absurd (cc e))
-inputs_told Timer (Bell n) = (λ e. absurd (cc e), λ e. absurd (cc e))
-inputs_told (Word m) Timer = (λ e. absurd (cc e), λ e. absurd (cc e))
-inputs_told (Word m) (Word n) = Decides-like (m == n) (λ e. ap Word e) (λ e. cc e) (Decides-eqb m n)
-inputs_told (Word m) (Bell n) = (λ e. absurd (cc e), λ e. absurd (cc e))
-inputs_told (Bell m) Timer = (λ e. absurd (cc e), λ e. absurd (cc e))
-inputs_told (Bell m) (Word n) = (λ e. absurd (cc e), λ e. absurd (cc e))
-inputs_told (Bell m) (Bell n) = Decides-like (m == n) (λ e. ap Bell e) (λ e. cc e) (Decides-eqb m n)
 
 records_told : (a b : Record) → Decides (same_record a b) (a ≡ b)
 records_told (EdgeRecord a) (EdgeRecord b) = Decides-like (same_edge a b) (λ e. ap EdgeRecord e) (λ e. cc e) (edges_told a b)

@@ -2,8 +2,7 @@
 use Rattle.std.specs.Prelude.{Bool, true, false, ◌&&◌, ◌==◌, nat_eq}
 use Rattle.std.specs.Cmp.Lexicographic.{pointwise}
 use Rattle.ft_types.specs.declared.guest.Guest.{Guest}
-use Rattle.input_log.specs.declared.Input.{Input as HartInput}
-use Rattle.input_log.specs.declared.Input.TheVariants.{Timer, Word, Bell}
+use Rattle.input_log.specs.Alike.{same_input}
 use Rattle.edge_log.specs.declared.Edge.{Edge as OwnedEdge}
 use Rattle.fragment_codec.specs.declared.types.Key.{Key}
 use Rattle.fragment_codec.specs.declared.types.Record.{Record}
@@ -18,12 +17,6 @@ same_key a b = (a.term == b.term) && (a.hart == b.hart) && (a.place == b.place)
 
 abbrev pub same_edge : OwnedEdge → OwnedEdge → Bool
 same_edge a b = (a.hart == b.hart) && (a.at == b.at) && (a.other == b.other) && (a.after == b.after)
-
-abbrev pub same_input : HartInput → HartInput → Bool
-same_input Timer Timer = true
-same_input (Word a) (Word b) = a == b
-same_input (Bell a) (Bell b) = a == b
-same_input a b = false
 
 abbrev pub same_record : Record → Record → Bool
 same_record (EdgeRecord a) (EdgeRecord b) = same_edge a b
