@@ -1,10 +1,6 @@
 pub mod Lists
-pub mod Entries
-pub mod Kept
-pub mod Ends
 pub mod StreamLemmas
-pub mod Replayed
-pub mod Filling
-pub mod Going
+pub mod Taken
 pub mod Lifted
 pub mod FirstFault
+pub mod Outcomes

@@ -1,10 +1,9 @@
 -- Reading a stream piece by piece.
-use Rattle.std.proofs.Common.{◌≡◌, ◌≢◌, ℕ, ◌+◌, ◌<◌, List, [], ◌∷◌, ◌++◌, take, drop, length, get_or, suc, add-one, Option, Some, None, Result, Ok, Err, refl, sym, ap, subst, ◌∙◌, inl, inr, append_assoc}
+use Rattle.std.proofs.Common.{◌≡◌, ◌≢◌, ℕ, List, [], ◌∷◌, ◌++◌, Option, Some, None, Result, Ok, Err, refl, sym, ap, subst, ◌∙◌, append_assoc}
 use Rattle.std.specs.Prelude.{OnOk, IfErr}
 use Rattle.std.specs.List.{flat_map, AllByRecursion}
 use Rattle.std.specs.Io.KnownBytes.{Consumes, IsAtEnd}
-use Rattle.std.proofs.lemmas.List.{append-nil, take-append-drop}
-use Rattle.std.proofs.Math.Seq.{drop-cons, take-suc}
+use Rattle.std.proofs.lemmas.List.{append-nil}
 use Rattle.std.proofs.lemmas.Grind.{flat_map-append}
 use Rattle.ft_types.specs.declared.guest.Guest.{Guest as GuestName}
 use Rattle.fragment_codec.specs.declared.frame.Frame.{Frame as LogFrame}
@@ -12,13 +11,15 @@ use Rattle.fragment_codec.specs.declared.fault.FrameFault.{FrameFault}
 use Rattle.fragment_codec.specs.declared.fault.FrameFault.TheVariants.{Magic, Version, Kind, Length, Digest, Body, Memory as NoMemory}
 use Rattle.fragment_codec.specs.Streams.{spelling, IsFrame, Splits, Unread, Keeps, Follows}
 use Rattle.fragment_codec.proofs.Readings.{one_feed}
+use Rattle.log_join.specs.Stores.{StoreView, IsJoin, alone}
+use Rattle.log_join.specs.declared.answers.StoreFault.{StoreFault}
+use Rattle.log_join.specs.declared.answers.StoreFault.TheVariants.{OtherGuest, Memory as NoRoom}
 use Rattle.workbench.specs.declared.faults.StreamsFault.{StreamsFault}
 use Rattle.workbench.specs.declared.faults.StreamsFault.TheVariants.{Read, Frame, Guest, Replay, Write, Memory}
-use Rattle.workbench.specs.declared.pieces.Pieces.{Pieces}
-use Rattle.workbench.specs.Streams.{IsPlain, Says, GoesOnWith}
-use Rattle.workbench.specs.Pieces.{Holds}
-use Rattle.workbench.specs.Faults.{IsFirstFault, IsFaultOf, HasFaulty, IsFaultAmong, fault_in, IsPushFault, Told, Refused, Fails}
-use Rattle.workbench.proofs.Lists.{of_all, all_append, all_front, all_back}
+use Rattle.workbench.specs.Streams.{IsOf, Says, GoesOnWith, Come}
+use Rattle.workbench.specs.Faults.{IsFaultOfStream, Fails}
+use Rattle.workbench.specs.Reading.{Takes, IsFaultOf, IsFaultAmong, fault_at, fault_in, IsPushFault, Told, Refused}
+use Rattle.workbench.proofs.Lists.{all_append, all_front, all_back}
 
 pub on_ok : {A E P Q : Type 0} (r : Result A E) → (P → Q) → OnOk r P → OnOk r Q
 on_ok (Ok x) f p = f p
@@ -37,10 +38,10 @@ respell : (text rest : List ℕ) (all front back : List LogFrame) → text ≡ f
 respell text rest all front back e s =
     e ∙ ap (λ (x : List LogFrame). flat_map spelling x ++ rest) s ∙ ap (λ (x : List ℕ). x ++ rest) (flat_map-append spelling front back) ∙ append_assoc (flat_map spelling front) (flat_map spelling back) rest
 
--- the frame that is at fault stands behind plain ones
+-- the frame that is at fault stands behind frames of the guest
 goes_on : (guest : GuestName) (text : List ℕ) (given frames before : List LogFrame) (frame : LogFrame) (after : List LogFrame) (rest : List ℕ) →
-    Splits text (given ++ frames) rest → frames ≡ before ++ frame ∷ after → AllByRecursion (IsPlain guest) given → AllByRecursion (IsPlain guest) before → GoesOnWith guest text frame
-goes_on guest text given frames before frame after rest s e plain more =
+    Splits text (given ++ frames) rest → frames ≡ before ++ frame ∷ after → AllByRecursion (IsOf guest) given → AllByRecursion (IsOf guest) before → GoesOnWith guest text frame
+goes_on guest text given frames before frame after rest s e own more =
     let same : given ++ frames ≡ ((given ++ before) ++ frame ∷ []) ++ after = ap (λ (x : List LogFrame). given ++ x) e ∙ regroup given before frame after in
     record {
       frames = given ++ before;
@@ -49,80 +50,80 @@ goes_on guest text given frames before frame after rest s e plain more =
         whole = respell text rest (given ++ frames) ((given ++ before) ++ frame ∷ []) after s.whole same;
         each = all_front IsFrame ((given ++ before) ++ frame ∷ []) after (subst (AllByRecursion IsFrame) same s.each);
       };
-      plain = all_append (IsPlain guest) given before plain more;
+      own = all_append (IsOf guest) given before own more;
     }
 
-faulty_push : (number : ℕ) (guest : GuestName) (text : List ℕ) (given frames : List LogFrame) (feed : Unread) →
-    Follows text (given ++ frames) feed → AllByRecursion (IsPlain guest) given → (f : StreamsFault) → (h : HasFaulty number guest frames f) → GoesOnWith guest text h.frame
-faulty_push number guest text given frames feed follows plain f h =
-    goes_on guest text given frames h.before h.frame h.after follows.rest follows.splits h.parts plain h.plain
+among_push : (number : ℕ) (guest : GuestName) (text : List ℕ) (given frames : List LogFrame) (feed : Unread) →
+    Follows text (given ++ frames) feed → AllByRecursion (IsOf guest) given → (f : StoreFault) → IsFaultAmong guest frames f → IsPushFault number guest text (fault_at number f)
+among_push number guest text given frames feed follows own OtherGuest h =
+    (refl, (h.frame, goes_on guest text given frames h.before h.frame h.after follows.rest follows.splits h.parts own h.own, h.other))
+among_push number guest text given frames feed follows own NoRoom h = tt
 
-pub among_push : (number : ℕ) (guest : GuestName) (text : List ℕ) (given frames : List LogFrame) (feed : Unread) →
-    Follows text (given ++ frames) feed → AllByRecursion (IsPlain guest) given → (f : StreamsFault) → IsFaultAmong number guest frames f → IsPushFault number guest text f
-among_push number guest text given frames feed follows plain (Frame i g) h =
-    (h.fault.0, inr (h.fault.1, (h.frame, faulty_push number guest text given frames feed follows plain (Frame i g) h, h.fault.2, h.fault.3)))
-among_push number guest text given frames feed follows plain (Guest i) h =
-    (h.fault.0, (h.frame, faulty_push number guest text given frames feed follows plain (Guest i) h, h.fault.1))
-among_push number guest text given frames feed follows plain Memory h = tt
-among_push number guest text given frames feed follows plain (Read i) h = absurd h.fault
-among_push number guest text given frames feed follows plain (Replay r) h = absurd h.fault
-among_push number guest text given frames feed follows plain Write h = absurd h.fault
-
--- the frame at a place is at fault
-pub to_among : (number : ℕ) (guest : GuestName) (frames : List LogFrame) (i : ℕ) (frame : LogFrame) (f : StreamsFault) → i < length frames → frame ≡ get_or frames i frame →
-    AllByRecursion (IsPlain guest) (take i frames) → IsFaultOf number guest frame f → IsFaultAmong number guest frames f
-to_among number guest frames i frame f lt is plain fault =
-    among f (record {
-      before = take i frames;
+-- a frame behind frames of the guest is at fault
+to_among : (guest : GuestName) (frames before : List LogFrame) (frame : LogFrame) (after : List LogFrame) (f : StoreFault) → frames ≡ before ++ frame ∷ after →
+    AllByRecursion (IsOf guest) before → IsFaultOf guest frame f → IsFaultAmong guest frames f
+to_among guest frames before frame after OtherGuest parts own fault =
+    record {
+      before = before;
       frame = frame;
-      after = drop (suc i) frames;
-      parts = sym (take-append-drop i frames) ∙ ap (λ (r : List LogFrame). take i frames ++ r) (drop-cons frames i frame lt ∙ ap (λ (y : LogFrame). y ∷ drop (suc i) frames) (sym is));
-      plain = plain;
-      fault = fault;
-    })
-  where
-    among : (g : StreamsFault) → HasFaulty number guest frames g → IsFaultAmong number guest frames g
-    among Memory h = tt
-    among (Frame j x) h = h
-    among (Guest j) h = h
-    among (Read j) h = h
-    among (Replay r) h = h
-    among Write h = h
+      after = after;
+      parts = parts;
+      own = own;
+      other = fault;
+    }
+to_among guest frames before frame after NoRoom parts own fault = tt
 
--- one frame more was taken
-pub one_more : (guest : GuestName) (given frames : List LogFrame) (i : ℕ) (frame : LogFrame) (p : Pieces) → i < length frames → frame ≡ get_or frames i frame →
-    Holds guest ((given ++ take i frames) ++ frame ∷ []) p → Holds guest (given ++ take (i + 1) frames) p
-one_more guest given frames i frame p lt is h =
-    let front : take (i + 1) frames ≡ take i frames ++ frame ∷ [] = rw (add-one, take-suc frames i frame lt) (ap (λ (y : LogFrame). take i frames ++ y ∷ []) (sym is)) in
-    subst (λ (x : List LogFrame). Holds guest x p) (append_assoc (given) (take i frames) (frame ∷ []) ∙ ap (λ (x : List LogFrame). given ++ x) (sym front)) h
+-- frames that come one behind the other
+pub come_more : (a b c : StoreView) (front back : List LogFrame) → Come a front b → Come b back c → Come a (front ++ back) c
+come_more a b c [] back e h = subst (λ (x : StoreView). Come x back c) e h
+come_more a b c (frame ∷ front) back k h = (k.0, k.1, come_more k.0 b c front back k.2 h)
 
--- a right frame at a place
-pub frame_at : (frames : List LogFrame) (i : ℕ) (frame : LogFrame) → i < length frames → frame ≡ get_or frames i frame → AllByRecursion IsFrame frames → IsFrame frame
-frame_at frames i frame lt is all = of_all IsFrame frames frame all (i, lt, sym is)
+-- and they are of the guest
+pub same_guest_comes : (a b : StoreView) (frames : List LogFrame) → Come a frames b → b.guest ≡ a.guest
+same_guest_comes a b [] e = ap (λ (x : StoreView). x.guest) e
+same_guest_comes a b (frame ∷ frames) h = same_guest_comes h.0 b frames h.2 ∙ h.1.guest
+
+-- none came
+pub takes_none : (first : StoreView) → Takes first [] first
+takes_none first = record { own = tt; come = refl }
+
+-- one frame more came
+pub takes_one : (first old new : StoreView) (given : List LogFrame) (frame : LogFrame) → Takes first given old → IsOf old.guest frame → IsJoin old (alone frame) new → Takes first (given ++ frame ∷ []) new
+takes_one first old new given frame t own joined = record {
+  own = all_append (IsOf first.guest) given (frame ∷ []) t.own (own ∙ same_guest_comes first old given t.come, tt);
+  come = come_more first old new given (frame ∷ []) t.come (new, joined, refl);
+}
+
+-- a frame that is not taken behind those that were
+pub taken_among : (first : StoreView) (given : List LogFrame) (store : StoreView) (frames before : List LogFrame) (frame : LogFrame) (after : List LogFrame) (f : StoreFault) →
+    frames ≡ before ++ frame ∷ after → Takes first (given ++ before) store → IsFaultOf store.guest frame f → IsFaultAmong first.guest frames f
+taken_among first given store frames before frame after f parts t fault =
+    to_among first.guest frames before frame after f parts (all_back (IsOf first.guest) given before t.own)
+    (subst (λ (g : GuestName). IsFaultOf g frame f) (same_guest_comes first store (given ++ before) t.come) fault)
 
 -- a feed's fault is the stream's
 pub feed_fault : (number : ℕ) (guest : GuestName) (text : List ℕ) (given : List LogFrame) (feed : Unread) (f : FrameFault) →
-    Follows text given feed → feed.fault ≡ Some f → AllByRecursion (IsPlain guest) given → IsPushFault number guest text (Frame number f)
-feed_fault number guest text given feed f follows is plain = (
+    Follows text given feed → feed.fault ≡ Some f → AllByRecursion (IsOf guest) given → IsPushFault number guest text (Frame number f)
+feed_fault number guest text given feed f follows is own = (
   refl,
-  inl (record {
+  record {
     frames = given;
     rest = follows.rest;
     splits = follows.splits;
-    plain = plain;
+    own = own;
     fault = subst (λ (o : Option FrameFault). Keeps follows.rest feed.rest o) is follows.keeps;
-  }),
+  },
 )
 
 pub feed_faults : (number : ℕ) (guest : GuestName) (text : List ℕ) (given : List LogFrame) (feed : Unread) (f : FrameFault) →
-    (f ≢ NoMemory → Follows text given feed) → (f ≢ NoMemory → feed.fault ≡ Some f) → AllByRecursion (IsPlain guest) given → IsPushFault number guest text (fault_in number f)
-feed_faults number guest text given feed Magic a b plain = (let ne : Magic ≢ NoMemory = λ e. cc in feed_fault number guest text given feed Magic (a ne) (b ne) plain)
-feed_faults number guest text given feed Version a b plain = (let ne : Version ≢ NoMemory = λ e. cc in feed_fault number guest text given feed Version (a ne) (b ne) plain)
-feed_faults number guest text given feed Kind a b plain = (let ne : Kind ≢ NoMemory = λ e. cc in feed_fault number guest text given feed Kind (a ne) (b ne) plain)
-feed_faults number guest text given feed Length a b plain = (let ne : Length ≢ NoMemory = λ e. cc in feed_fault number guest text given feed Length (a ne) (b ne) plain)
-feed_faults number guest text given feed Digest a b plain = (let ne : Digest ≢ NoMemory = λ e. cc in feed_fault number guest text given feed Digest (a ne) (b ne) plain)
-feed_faults number guest text given feed Body a b plain = (let ne : Body ≢ NoMemory = λ e. cc in feed_fault number guest text given feed Body (a ne) (b ne) plain)
-feed_faults number guest text given feed NoMemory a b plain = tt
+    (f ≢ NoMemory → Follows text given feed) → (f ≢ NoMemory → feed.fault ≡ Some f) → AllByRecursion (IsOf guest) given → IsPushFault number guest text (fault_in number f)
+feed_faults number guest text given feed Magic a b own = (let ne : Magic ≢ NoMemory = λ e. cc in feed_fault number guest text given feed Magic (a ne) (b ne) own)
+feed_faults number guest text given feed Version a b own = (let ne : Version ≢ NoMemory = λ e. cc in feed_fault number guest text given feed Version (a ne) (b ne) own)
+feed_faults number guest text given feed Kind a b own = (let ne : Kind ≢ NoMemory = λ e. cc in feed_fault number guest text given feed Kind (a ne) (b ne) own)
+feed_faults number guest text given feed Length a b own = (let ne : Length ≢ NoMemory = λ e. cc in feed_fault number guest text given feed Length (a ne) (b ne) own)
+feed_faults number guest text given feed Digest a b own = (let ne : Digest ≢ NoMemory = λ e. cc in feed_fault number guest text given feed Digest (a ne) (b ne) own)
+feed_faults number guest text given feed Body a b own = (let ne : Body ≢ NoMemory = λ e. cc in feed_fault number guest text given feed Body (a ne) (b ne) own)
+feed_faults number guest text given feed NoMemory a b own = tt
 
 -- ---- the calls of one push
 
@@ -133,28 +134,22 @@ always (Err e) p = tt
 pub not_both : {A E : Type 0} (x : A) (e : E) → Ok x ≡ Err e → ⊥
 not_both x e h = cc
 
-pub push_ok : {A : Type 0} (r : Result A StreamsFault) (guest : GuestName) (slice items : List LogFrame) (piece : List ℕ) (old new : Unread) (p q : Pieces) → slice ≡ items →
-    OnOk r ((given : List LogFrame) → AllByRecursion IsFrame slice → Holds guest given p → Holds guest (given ++ slice) q) →
+pub push_ok : (items : List LogFrame) (piece : List ℕ) (old new : Unread) (p q : StoreView) →
+    ((first : StoreView) (given : List LogFrame) → Takes first given p → Takes first (given ++ items) q) →
     ((read : List ℕ) (given : List LogFrame) → Follows read given old → Follows (read ++ piece) (given ++ items) new) →
-    OnOk r ((read : List ℕ) (given : List LogFrame) → Follows read given old → Holds guest given p → (frames : List LogFrame) × Follows (read ++ piece) (given ++ frames) new × Holds guest (given ++ frames) q)
-push_ok r guest slice items piece old new p q e took follows =
-    on_ok r (λ t. λ read given f h.
-    let g = follows read given f in
-    let back : Follows (read ++ piece) (given ++ slice) new = subst (λ (x : List LogFrame). Follows (read ++ piece) (given ++ x) new) (sym e) g in
-    (slice, back, t given (all_back IsFrame given slice back.splits.each) h)) took
+    (first : StoreView) (read : List ℕ) (given : List LogFrame) → Follows read given old → Takes first given p →
+    (frames : List LogFrame) × Follows (read ++ piece) (given ++ frames) new × Takes first (given ++ frames) q
+push_ok items piece old new p q took follows = λ first read given f h. (items, follows read given f, took first given h)
 
-pub push_fault : {A : Type 0} (r : Result A StreamsFault) (number : ℕ) (guest : GuestName) (slice items : List LogFrame) (piece : List ℕ) (old new : Unread) (p : Pieces) → slice ≡ items →
-    IfErr r (λ f. (given : List LogFrame) → AllByRecursion IsFrame slice → Holds guest given p → IsFaultAmong number guest slice f) →
+pub push_fault : (number : ℕ) (items : List LogFrame) (piece : List ℕ) (old new : Unread) (p : StoreView) (f : StoreFault) →
+    ((first : StoreView) (given : List LogFrame) → Takes first given p → IsFaultAmong first.guest items f) →
     ((read : List ℕ) (given : List LogFrame) → Follows read given old → Follows (read ++ piece) (given ++ items) new) →
-    IfErr r (λ f. (read : List ℕ) (given : List LogFrame) → Follows read given old → Holds guest given p → IsPushFault number guest (read ++ piece) f)
-push_fault r number guest slice items piece old new p e failed follows =
-    if_err r (λ x t. λ read given f h.
-    let g = follows read given f in
-    let back : Follows (read ++ piece) (given ++ slice) new = subst (λ (y : List LogFrame). Follows (read ++ piece) (given ++ y) new) (sym e) g in
-    among_push number guest (read ++ piece) given slice new back h.plain x (t given (all_back IsFrame given slice back.splits.each) h)) failed
+    (first : StoreView) (read : List ℕ) (given : List LogFrame) → Follows read given old → Takes first given p → IsPushFault number first.guest (read ++ piece) (fault_at number f)
+push_fault number items piece old new p f failed follows = λ first read given g h.
+    among_push number first.guest (read ++ piece) given items new (follows read given g) h.own f (failed first given h)
 
 -- what a push may answer is the first fault
-pub push_first : (number : ℕ) (guest : GuestName) (text : List ℕ) (f : StreamsFault) → IsPushFault number guest text f → IsFirstFault number guest text f
+pub push_first : (number : ℕ) (guest : GuestName) (text : List ℕ) (f : StreamsFault) → IsPushFault number guest text f → IsFaultOfStream number guest text f
 push_first number guest text (Frame i g) h = h
 push_first number guest text (Guest i) h = h
 push_first number guest text Memory h = tt
@@ -173,12 +168,12 @@ push_fails number f g guest text Write e h = absurd h
 
 -- ---- the reader
 
-pub record IsReading (guest : GuestName) (old now : Option (List ℕ)) (feed : Unread) (p : Pieces) : Type 0 where
+pub record IsReading (first : StoreView) (old now : Option (List ℕ)) (feed : Unread) (p : StoreView) : Type 0 where
   pub read : List ℕ
   pub given : List LogFrame
   pub consumed : Consumes old now read
   pub follows : Follows read given feed
-  pub holds : Holds guest given p
+  pub takes : Takes first given p
 
 pub consumes_nothing : (o : Option (List ℕ)) → Consumes o o []
 consumes_nothing None = tt
@@ -191,9 +186,9 @@ consumes_more (Some xs) (Some ys) None read piece a b = absurd b
 consumes_more (Some xs) (Some ys) (Some zs) read piece a b = a ∙ ap (λ (y : List ℕ). read ++ y) b ∙ sym (append_assoc read piece zs)
 
 -- a feed that had met no fault meets none by the empty piece
-pub ended : (guest : GuestName) (read : List ℕ) (given all : List LogFrame) (old new : Unread) (p : Pieces) →
-    Follows read given old → old.fault ≡ None → Follows (read ++ []) all new → Holds guest all p → Says guest (read ++ []) all
-ended guest read given all old new p before none after holds =
+pub ended : (first : StoreView) (read : List ℕ) (given all : List LogFrame) (old new : Unread) (p : StoreView) →
+    Follows read given old → old.fault ≡ None → Follows (read ++ []) all new → Takes first all p → Says first.guest (read ++ []) all
+ended first read given all old new p before none after takes =
     let back : Follows read all new = subst (λ (x : List ℕ). Follows x all new) (append-nil read) after in
     let same = one_feed read given all old new before back in
     let kept : Keeps after.rest new.rest None = subst (λ (o : Option FrameFault). Keeps after.rest new.rest o) (sym same.1 ∙ none) after.keeps in
@@ -201,46 +196,51 @@ ended guest read given all old new p before none after holds =
       rest = after.rest;
       splits = after.splits;
       partial = kept.1;
-      plain = holds.plain;
+      own = takes.own;
     }
 
 -- what one push on a reader's bytes makes of what was read
 
-pub push_refused : (number : ℕ) (guest : GuestName) (old now next : Option (List ℕ)) (feed : Unread) (p : Pieces) (got whole : List ℕ) (f : StreamsFault) → got ≡ whole →
-    IsReading guest old now feed p → Consumes now next whole →
-    ((read : List ℕ) (given : List LogFrame) → Follows read given feed → Holds guest given p → IsPushFault number guest (read ++ got) f) → Refused number guest old next f
-push_refused number guest old now next feed p got whole f e r taken h =
+-- a push to this fault
+abbrev pub Pushes : ℕ → Unread → StoreView → List ℕ → StreamsFault → Type 0
+Pushes number feed p got f =
+    (first : StoreView) (read : List ℕ) (given : List LogFrame) → Follows read given feed → Takes first given p → IsPushFault number first.guest (read ++ got) f
+
+-- a push that went well
+abbrev pub Goes : Unread → Unread → StoreView → StoreView → List ℕ → Type 0
+Goes feed later p q got =
+    (first : StoreView) (read : List ℕ) (given : List LogFrame) → Follows read given feed → Takes first given p →
+    (frames : List LogFrame) × Follows (read ++ got) (given ++ frames) later × Takes first (given ++ frames) q
+
+pub push_refused : (number : ℕ) (first : StoreView) (old now next : Option (List ℕ)) (feed : Unread) (p : StoreView) (got whole : List ℕ) (f : StreamsFault) → got ≡ whole →
+    IsReading first old now feed p → Consumes now next whole → Pushes number feed p got f → Refused number first.guest old next f
+push_refused number first old now next feed p got whole f e r taken h =
     record {
       read = r.read ++ got;
       consumed = consumes_more old now next r.read got r.consumed (subst (λ (x : List ℕ). Consumes now next x) (sym e) taken);
-      fault = push_first number guest (r.read ++ got) f (h r.read r.given r.follows r.holds);
+      fault = push_first number first.guest (r.read ++ got) f (h first r.read r.given r.follows r.takes);
     }
 
-pub push_failures : (number : ℕ) (guest : GuestName) (old now : Option (List ℕ)) (feed : Unread) (p : Pieces) (got : List ℕ) (x : StreamsFault) (f g : ℕ) →
-    IsReading guest old now feed p → g ≡ f →
-    ((read : List ℕ) (given : List LogFrame) → Follows read given feed → Holds guest given p → IsPushFault number guest (read ++ got) x) → Fails number f g x
-push_failures number guest old now feed p got x f g r e h = push_fails number f g guest (r.read ++ got) x e (h r.read r.given r.follows r.holds)
+pub push_failures : (number : ℕ) (first : StoreView) (old now : Option (List ℕ)) (feed : Unread) (p : StoreView) (got : List ℕ) (x : StreamsFault) (f g : ℕ) →
+    IsReading first old now feed p → g ≡ f → Pushes number feed p got x → Fails number f g x
+push_failures number first old now feed p got x f g r e h = push_fails number f g first.guest (r.read ++ got) x e (h first r.read r.given r.follows r.takes)
 
-pub reading_more : (guest : GuestName) (old now next : Option (List ℕ)) (feed later : Unread) (p q : Pieces) (got whole : List ℕ) → got ≡ whole →
-    IsReading guest old now feed p → Consumes now next whole →
-    ((read : List ℕ) (given : List LogFrame) → Follows read given feed → Holds guest given p → (frames : List LogFrame) × Follows (read ++ got) (given ++ frames) later × Holds guest (given ++ frames) q) →
-    IsReading guest old next later q
-reading_more guest old now next feed later p q got whole e r taken h =
-    let t = h r.read r.given r.follows r.holds in
+pub reading_more : (first : StoreView) (old now next : Option (List ℕ)) (feed later : Unread) (p q : StoreView) (got whole : List ℕ) → got ≡ whole →
+    IsReading first old now feed p → Consumes now next whole → Goes feed later p q got → IsReading first old next later q
+reading_more first old now next feed later p q got whole e r taken h =
+    let t = h first r.read r.given r.follows r.takes in
     record {
       read = r.read ++ got;
       given = r.given ++ t.0;
       consumed = consumes_more old now next r.read got r.consumed (subst (λ (x : List ℕ). Consumes now next x) (sym e) taken);
       follows = t.1;
-      holds = t.2;
+      takes = t.2;
     }
 
-pub told : (guest : GuestName) (old now next : Option (List ℕ)) (feed later : Unread) (p q : Pieces) (got whole : List ℕ) → got ≡ whole → whole ≡ [] →
-    IsReading guest old now feed p → Consumes now next whole → IsAtEnd next → feed.fault ≡ None →
-    ((read : List ℕ) (given : List LogFrame) → Follows read given feed → Holds guest given p → (frames : List LogFrame) × Follows (read ++ got) (given ++ frames) later × Holds guest (given ++ frames) q) →
-    Told guest old next q
-told guest old now next feed later p q got whole e nothing r taken end none h =
-    let t = h r.read r.given r.follows r.holds in
+pub told : (first : StoreView) (old now next : Option (List ℕ)) (feed later : Unread) (p q : StoreView) (got whole : List ℕ) → got ≡ whole → whole ≡ [] →
+    IsReading first old now feed p → Consumes now next whole → IsAtEnd next → feed.fault ≡ None → Goes feed later p q got → Told first old next q
+told first old now next feed later p q got whole e nothing r taken end none h =
+    let t = h first r.read r.given r.follows r.takes in
     let empty : got ≡ [] = e ∙ nothing in
     let follows : Follows (r.read ++ []) (r.given ++ t.0) later = subst (λ (x : List ℕ). Follows (r.read ++ x) (r.given ++ t.0) later) empty t.1 in
     record {
@@ -248,6 +248,6 @@ told guest old now next feed later p q got whole e nothing r taken end none h =
       frames = r.given ++ t.0;
       consumed = consumes_more old now next r.read [] r.consumed (subst (λ (x : List ℕ). Consumes now next x) nothing taken);
       ended = end;
-      says = ended guest r.read r.given (r.given ++ t.0) feed later q r.follows none follows t.2;
-      holds = t.2;
+      says = ended first r.read r.given (r.given ++ t.0) feed later q r.follows none follows t.2;
+      takes = t.2;
     }

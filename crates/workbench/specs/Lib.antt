@@ -1,5 +1,4 @@
 pub mod Streams
 pub mod Faults
-pub mod Pieces
+pub mod Reading
 pub mod Outcome
-pub mod Replays

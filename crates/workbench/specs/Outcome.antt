@@ -1,50 +1,50 @@
--- What a replay of one stream of a guest with one hart gives.
-use Rattle.std.specs.Prelude.{◌≡◌, ◌<◌, ◌+◌, ℕ, List, Option, None, Some, Result, Ok, Err}
-use Rattle.ft_types.specs.declared.guest.Guest.{Guest as GuestName}
+-- What a replay of streams gives.
+use Rattle.std.specs.Prelude.{◌≡◌, ℕ, List, Option, Result, Ok, Err}
 use Rattle.ft_types.specs.Devices.{Writes}
-use Rattle.fragment_codec.specs.declared.frame.Frame.{Frame as LogFrame}
+use Rattle.log_join.specs.Stores.{StoreView}
+use Rattle.closed_cut.specs.declared.answer.Position.{Position}
+use Rattle.closed_cut.specs.Position.{IsPosition}
 use Rattle.guest_image.specs.Image.{ImageContents, guest_of}
-use Rattle.guest_image.specs.Machine.{MachineState, boot_machine}
+use Rattle.guest_image.specs.Machine.{MachineState}
 use Rattle.guest_image.specs.Text.{machine_text}
-use Rattle.page_book.specs.Runs.{run_of, turns_in_a_row}
-use Rattle.workbench.specs.declared.faults.ReplayFault.{ReplayFault}
-use Rattle.workbench.specs.declared.faults.ReplayFault.TheVariants.{HaltedInside, Memory as NoMemory}
+use Rattle.hart_replay.specs.declared.plans.PlannedLeg.{PlannedLeg}
+use Rattle.hart_replay.specs.declared.fault.ReplayFault.{ReplayFault}
+use Rattle.hart_replay.specs.declared.fault.ReplayFault.TheVariants.{Cyclic, HaltedInside, OtherGuest, Memory as NoMemory}
+use Rattle.hart_replay.specs.Laws.{ArePlanned}
+use Rattle.hart_replay.specs.Replays.{IsAtLeg, IsCyclicAt, HaltsInsideAt, IsOutcome as LegsEndIn}
 use Rattle.workbench.specs.declared.faults.StreamsFault.{StreamsFault}
-use Rattle.workbench.specs.declared.faults.StreamsFault.TheVariants.{Read, Frame, Guest, Replay, Write, Memory}
-use Rattle.workbench.specs.Streams.{Says, IsEnd}
+use Rattle.workbench.specs.declared.faults.StreamsFault.TheVariants.{Replay, Write, Memory}
+use Rattle.workbench.specs.Streams.{AreJoined}
 use Rattle.workbench.specs.Faults.{IsFirstFault}
 
--- ---- the run of the one hart
+-- ---- a store
 
--- the machine after so many steps of the image's one hart, from boot; none where it halts before
-abbrev pub machine_after : ImageContents → ℕ → Option MachineState
-machine_after image steps = run_of (boot_machine image) (turns_in_a_row 0 steps)
+-- the legs are planned up to the store's position
+pub record ArePlannedTo (store : StoreView) (legs : List PlannedLeg) : Type 0 where
+  pub position : Position
+  pub is_position : IsPosition store position
+  pub planned : ArePlanned store position legs
 
--- the hart halts at this count: so many steps run, and no further one
-abbrev pub HaltsAt : ImageContents → ℕ → Type 0
-HaltsAt image count = (machine : MachineState) × (machine_after image count ≡ Some machine) × (machine_after image (count + 1) ≡ None)
+-- schedules of the planned legs lead from the image's boot to the machine
+abbrev pub IsOutcomeOf : ImageContents → StoreView → MachineState → Type 0
+IsOutcomeOf image store machine = (legs : List PlannedLeg) × ArePlannedTo store legs × LegsEndIn image legs machine
 
--- the hart halts below this end, where the fault says so
-abbrev pub HaltsBelow : ImageContents → ℕ → ReplayFault → Type 0
-HaltsBelow image end (HaltedInside hart count) = (hart ≡ 0) × (count < end) × HaltsAt image count
-HaltsBelow image end _ = ⊥
+-- why the legs lead to no machine
+abbrev pub HaveNoEnd : ImageContents → List PlannedLeg → ReplayFault → Type 0
+HaveNoEnd image legs (Cyclic counts) = IsAtLeg image legs (λ leg m. IsCyclicAt leg m counts)
+HaveNoEnd image legs (HaltedInside hart count) = IsAtLeg image legs (λ leg m. HaltsInsideAt leg m hart count)
+HaveNoEnd image legs OtherGuest = ⊥
+HaveNoEnd image legs NoMemory = ⊥
 
--- a fault of the run to this end: memory was refused, or the hart halts below
-abbrev pub IsReplayFault : ImageContents → ℕ → ReplayFault → Type 0
-IsReplayFault image end NoMemory = Unit {0}
-IsReplayFault image end fault = HaltsBelow image end fault
+-- the planned legs lead to no machine for this reason
+abbrev pub HasNoOutcome : ImageContents → StoreView → ReplayFault → Type 0
+HasNoOutcome image store fault = (legs : List PlannedLeg) × ArePlannedTo store legs × HaveNoEnd image legs fault
 
--- ---- the outcome of a stream
+-- ---- streams
 
--- the stream is frames without a fault, which reach this count
-pub record Reaches (guest : GuestName) (stream : List ℕ) (end : ℕ) : Type 0 where
-  pub frames : List LogFrame
-  pub says : Says guest stream frames
-  pub reach : IsEnd frames end
-
--- the machine that the stream's frames lead to: that of the run from boot to the count that they reach
-abbrev pub IsOutcome : ImageContents → List ℕ → MachineState → Type 0
-IsOutcome image stream machine = (end : ℕ) × Reaches (guest_of image) stream end × (machine_after image end ≡ Some machine)
+-- the machine that the join of the streams' frames leads to
+abbrev pub IsOutcome : ImageContents → List (List ℕ) → MachineState → Type 0
+IsOutcome image streams machine = (store : StoreView) × AreJoined (guest_of image) streams store × IsOutcomeOf image store machine
 
 -- Only the fault Write comes with anything written, and with a failure of the writer: the text of a machine of which P holds
 -- was written and nothing else, or a beginning of it. old and new are the writer's bytes before and after, f and g its
@@ -56,34 +56,22 @@ WritesTextOf {A} P (Err Write) old new f g =
     (machine : MachineState) × P machine × Writes {A = A} {E = StreamsFault} (Err Write) old new f g (machine_text machine)
 WritesTextOf P (Err e) old new f g = (new ≡ old) × (g ≡ f)
 
--- What a fault says of the image and the stream: a fault of the stream is the first one in it, and a run that halts inside
--- does so at that count, below the one that the stream's frames reach.
-abbrev pub IsCause : ImageContents → List ℕ → StreamsFault → Type 0
-IsCause image stream (Replay fault) = (end : ℕ) × Reaches (guest_of image) stream end × HaltsBelow image end fault
-IsCause image stream Write = Unit {0}
-IsCause image stream fault = IsFirstFault 0 (guest_of image) stream fault
+-- What a fault says of the image and the streams: a fault of a stream is the first one in them, and a replay's is that of
+-- the plan of their frames' join.
+abbrev pub IsCause : ImageContents → List (List ℕ) → StreamsFault → Type 0
+IsCause image streams (Replay fault) = (store : StoreView) × AreJoined (guest_of image) streams store × HasNoOutcome image store fault
+IsCause image streams Write = Unit {0}
+IsCause image streams Memory = Unit {0}
+IsCause image streams fault = IsFirstFault 0 (guest_of image) streams fault
 
--- P of the stream that a reader has left, or of some stream where it does not tell
-abbrev pub OfStream : Option (List ℕ) → (List ℕ → Type 0) → Type 0
-OfStream None P = (stream : List ℕ) × P stream
-OfStream (Some stream) P = P stream
+-- a fault of the replay of a store: a private word
+abbrev pub IsReplayFault : ImageContents → StoreView → ReplayFault → Type 0
+IsReplayFault image store NoMemory = Unit {0}
+IsReplayFault image store fault = HasNoOutcome image store fault
 
--- a fault that stands in a stream's bytes
-abbrev pub StandsInBytes : StreamsFault → Type 0
-StandsInBytes (Frame i fault) = Unit {0}
-StandsInBytes (Guest i) = Unit {0}
-StandsInBytes _ = ⊥
-
--- this fault is the answer, unless the reader or memory failed before
-abbrev pub AnswersOnly : {A : Type 0} → Result A StreamsFault → StreamsFault → Type 0
-AnswersOnly (Ok x) f = ⊥
-AnswersOnly (Err (Read i)) f = Unit {0}
-AnswersOnly (Err Memory) f = Unit {0}
-AnswersOnly (Err e) f = e ≡ f
-
--- a fault once the end is known: a private word
-abbrev pub IsReplayCause : ImageContents → ℕ → StreamsFault → Type 0
-IsReplayCause image end (Replay fault) = HaltsBelow image end fault
-IsReplayCause image end Write = Unit {0}
-IsReplayCause image end Memory = Unit {0}
-IsReplayCause image end _ = ⊥
+-- a fault once the store is known: a private word
+abbrev pub IsCauseIn : ImageContents → StoreView → StreamsFault → Type 0
+IsCauseIn image store (Replay fault) = HasNoOutcome image store fault
+IsCauseIn image store Write = Unit {0}
+IsCauseIn image store Memory = Unit {0}
+IsCauseIn image store _ = ⊥

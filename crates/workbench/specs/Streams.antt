@@ -1,91 +1,75 @@
--- What a stream of frames says of a guest with one hart: how far the log of the first term reaches.
-use Rattle.std.specs.Prelude.{◌≡◌, ◌≢◌, ℕ, zero, suc, List, [], ◌∷◌, ◌++◌, Contains, ◌⊎◌}
+-- What streams of frames say of a guest.
+use Rattle.std.specs.Prelude.{◌≡◌, ◌≢◌, ℕ, List, [], ◌∷◌, ◌++◌, Option, None, Some}
 use Rattle.std.specs.List.{AllByRecursion}
 use Rattle.ft_types.specs.declared.guest.Guest.{Guest}
-use Rattle.fragment_codec.specs.declared.types.Key.{Key}
-use Rattle.fragment_codec.specs.declared.types.Record.{Record}
 use Rattle.fragment_codec.specs.declared.fault.FrameFault.{FrameFault}
 use Rattle.fragment_codec.specs.declared.frame.Frame.{Frame}
-use Rattle.fragment_codec.specs.declared.frame.Frame.TheVariants.{Log, Opening}
-use Rattle.fragment_codec.specs.Rules.{FragmentParts, OpeningParts}
 use Rattle.fragment_codec.specs.Streams.{IsPartial, HasFault, Splits}
+use Rattle.log_join.specs.Stores.{StoreView, IsJoin, nothing, alone, guest_of}
 
 -- ---- a stream
 
-abbrev pub guest_of : Frame → Guest
-guest_of (Log piece) = piece.guest
-guest_of (Opening o) = o.guest
+-- a frame of the guest
+abbrev pub IsOf : Guest → Frame → Type 0
+IsOf guest frame = guest_of frame ≡ guest
 
-abbrev pub records_of : Frame → List Record
-records_of (Log piece) = piece.records
-records_of (Opening o) = []
-
--- a frame of the guest, without records
-abbrev pub IsPlain : Guest → Frame → Type 0
-IsPlain guest frame = (guest_of frame ≡ guest) × (records_of frame ≡ [])
-
--- the stream is these plain frames, and behind them stands no whole frame and no fault
+-- the stream is these frames of the guest, and behind them stands no whole frame and no fault
 pub record Says (guest : Guest) (stream : List ℕ) (frames : List Frame) : Type 0 where
   pub rest : List ℕ
   pub splits : Splits stream frames rest
   pub partial : IsPartial rest
-  pub plain : AllByRecursion (IsPlain guest) frames
+  pub own : AllByRecursion (IsOf guest) frames
 
--- behind plain frames stands this fault
+-- behind frames of the guest stands this fault
 pub record Breaks (guest : Guest) (stream : List ℕ) (f : FrameFault) : Type 0 where
   pub frames : List Frame
   pub rest : List ℕ
   pub splits : Splits stream frames rest
-  pub plain : AllByRecursion (IsPlain guest) frames
+  pub own : AllByRecursion (IsOf guest) frames
   pub fault : HasFault rest f
 
--- behind plain frames stands this one
+-- behind frames of the guest stands this one
 pub record GoesOnWith (guest : Guest) (stream : List ℕ) (frame : Frame) : Type 0 where
   pub frames : List Frame
   pub rest : List ℕ
   pub splits : Splits stream (frames ++ frame ∷ []) rest
-  pub plain : AllByRecursion (IsPlain guest) frames
+  pub own : AllByRecursion (IsOf guest) frames
 
--- behind plain frames stands one of another guest
+-- behind frames of the guest stands one of another guest
 abbrev pub HasForeign : Guest → List ℕ → Type 0
 HasForeign guest stream = (frame : Frame) × GoesOnWith guest stream frame × (guest_of frame ≢ guest)
 
--- behind plain frames stands one of the guest that has records
-abbrev pub HasRecord : Guest → List ℕ → Type 0
-HasRecord guest stream = (frame : Frame) × GoesOnWith guest stream frame × (guest_of frame ≡ guest) × (records_of frame ≢ [])
+-- ---- several streams
 
--- ---- how far the frames reach
+-- the streams are these frames of the guest, one stream's behind the other's
+abbrev pub SayAll : Guest → List (List ℕ) → List Frame → Type 0
+SayAll guest [] frames = frames ≡ []
+SayAll guest (stream ∷ streams) frames =
+    (front : List Frame) × (back : List Frame) × Says guest stream front × SayAll guest streams back × (frames ≡ front ++ back)
 
--- the first term is opened
-abbrev pub IsOpened : List Frame → Type 0
-IsOpened frames = (o : OpeningParts) × Contains frames (Opening o) × (o.term ≡ 1)
+-- P of the stream that a reader has left, or of some stream where it does not tell
+abbrev pub OfStream : Option (List ℕ) → (List ℕ → Type 0) → Type 0
+OfStream None P = (stream : List ℕ) × P stream
+OfStream (Some stream) P = P stream
 
--- a place of the one hart in the first term
-abbrev pub first_key : ℕ → Key
-first_key place = record { term = 1; hart = 0; place = place }
+-- P of the streams that readers have left
+abbrev pub OfStreams : List (Option (List ℕ)) → (List (List ℕ) → Type 0) → Type 0
+OfStreams [] P = P []
+OfStreams (left ∷ others) P = OfStream left (λ stream. OfStreams others (λ streams. P (stream ∷ streams)))
 
--- the piece is there, and no other content at its key
-pub record IsOne (frames : List Frame) (piece : FragmentParts) : Type 0 where
-  pub there : Contains frames (Log piece)
-  pub only : (other : FragmentParts) → Contains frames (Log other) → other.key ≡ piece.key → other ≡ piece
+-- ---- the store of frames
 
--- the place has one content, which leads from one count to the other
-pub record Leads (frames : List Frame) (place from to : ℕ) : Type 0 where
-  pub piece : FragmentParts
-  pub one : IsOne frames piece
-  pub key : piece.key ≡ first_key place
-  pub from_is : piece.from ≡ from
-  pub to_is : piece.to ≡ to
+-- the frames came to the store, one after the other
+abbrev pub Come : StoreView → List Frame → StoreView → Type 0
+Come old [] new = new ≡ old
+Come old (frame ∷ frames) new = (next : StoreView) × IsJoin old (alone frame) next × Come next frames new
 
--- so many places, from place 0 on, lead from count 0 to this count without a gap
-abbrev pub Reach : List Frame → ℕ → ℕ → Type 0
-Reach frames zero end = end ≡ 0
-Reach frames (suc places) end = (from : ℕ) × Reach frames places from × Leads frames places from end
+-- the join of these frames of the guest
+abbrev pub IsJoinOf : Guest → List Frame → StoreView → Type 0
+IsJoinOf guest frames store = Come (nothing guest) frames store
 
--- no further place leads on
-abbrev pub ReachNoFurther : List Frame → ℕ → ℕ → Type 0
-ReachNoFurther frames places end = Reach frames places end × ((to : ℕ) → Leads frames places end to → ⊥)
-
--- the count that the frames reach: 0 where the first term isn't opened
-abbrev pub IsEnd : List Frame → ℕ → Type 0
-IsEnd frames end = (IsOpened frames × ((places : ℕ) × ReachNoFurther frames places end)) ⊎ ((IsOpened frames → ⊥) × (end ≡ 0))
+-- the store is the join of the streams' frames
+pub record AreJoined (guest : Guest) (streams : List (List ℕ)) (store : StoreView) : Type 0 where
+  pub frames : List Frame
+  pub say : SayAll guest streams frames
+  pub joined : IsJoinOf guest frames store

@@ -2,7 +2,8 @@
 
 use crate::faults::{CommandFault, StreamsFault, status_of, write_fault, write_words_fault};
 use crate::files::Files;
-use crate::stores::{read_store, write_position, write_size, write_store};
+use crate::reading::read_store;
+use crate::stores::{write_position, write_size, write_store};
 use crate::streams::replay_streams;
 use crate::words::{NamedFile, Request, WordsFault, read_words};
 use closed_cut::{chain, position};
@@ -74,36 +75,12 @@ fn read_image_file<F: Files>(
     read_image_from(alloc, &mut reader)
 }
 
-fn replay_log<F: Files, W: Sink>(
+/// Opens these logs, all of them before the first is read.
+fn open_logs<F: Files>(
     alloc: Global,
-    image: &Image,
-    name: &str,
-    files: &mut F,
-    out: &mut W,
-) -> Result<(), CommandFault> {
-    if image.harts() != 1 {
-        return Err(CommandFault::Usage);
-    }
-    let Ok(reader) = files.reader(name) else {
-        return Err(CommandFault::File(NamedFile::Log(0)));
-    };
-    let mut readers = Vec::new(alloc);
-    if readers.push(reader).is_err() {
-        return Err(CommandFault::Memory);
-    }
-    match replay_streams(alloc, image, &mut readers, out) {
-        Ok(()) => Ok(()),
-        Err(fault) => Err(CommandFault::Streams(fault)),
-    }
-}
-
-/// The store of the frames of these logs. All are opened before the first is read.
-fn read_logs<F: Files>(
-    alloc: Global,
-    image: &Image,
     names: &[&str],
     files: &mut F,
-) -> Result<Store, CommandFault> {
+) -> Result<Vec<F::Reader>, CommandFault> {
     let mut readers = Vec::new(alloc);
     for (number, name) in names.iter().enumerate() {
         let Ok(reader) = files.reader(name) else {
@@ -113,6 +90,32 @@ fn read_logs<F: Files>(
             return Err(CommandFault::Memory);
         }
     }
+    Ok(readers)
+}
+
+/// Replays the logs, and writes the text of the machine.
+fn replay_logs<F: Files, W: Sink>(
+    alloc: Global,
+    image: &Image,
+    names: &[&str],
+    files: &mut F,
+    out: &mut W,
+) -> Result<(), CommandFault> {
+    let mut readers = open_logs(alloc, names, files)?;
+    match replay_streams(alloc, image, &mut readers, out) {
+        Ok(()) => Ok(()),
+        Err(fault) => Err(CommandFault::Streams(fault)),
+    }
+}
+
+/// The store of the frames of these logs.
+fn read_logs<F: Files>(
+    alloc: Global,
+    image: &Image,
+    names: &[&str],
+    files: &mut F,
+) -> Result<Store, CommandFault> {
+    let mut readers = open_logs(alloc, names, files)?;
     let store = read_store(alloc, &image.guest(), &mut readers)?;
     Ok(store)
 }
@@ -153,7 +156,7 @@ fn run<F: Files, W: Sink>(
 ) -> Result<(), CommandFault> {
     let image = read_image_file(alloc, request.name(NamedFile::Image), files)?;
     match request {
-        Request::Replay { log, .. } => replay_log(alloc, &image, log, files, out),
+        Request::Replay { logs, .. } => replay_logs(alloc, &image, logs, files, out),
         Request::Join { made, logs, .. } => {
             let store = read_logs(alloc, &image, logs, files)?;
             write_joined(alloc, &store, made, files, out)

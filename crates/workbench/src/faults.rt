@@ -5,33 +5,10 @@ ghost use Rattle.std.specs.Prelude.{◌≡◌, ◌≢◌};
 use crate::lines::write_numbered;
 use crate::words::{NamedFile, Request, WordsFault};
 use fragment_codec::FrameFault;
-use ft_types::{Count, Counts, Failed, Hart, Memory, Sink, write_all};
+use ft_types::{Failed, Memory, Sink, write_all};
 use guest_image::ImageFault;
+use hart_replay::ReplayFault;
 use thiserror::Error;
-
-/// Why a replay has no machine.
-#[derive(Clone, Copy, Debug, PartialEq, Eq)]
-pub enum ReplayFault {
-    /// These are the counts where no hart below its end can go on, and none of them is halted.
-    Cyclic(Counts),
-    /// The least hart that halted below its end, and its count.
-    HaltedInside(Hart, Count),
-    /// The log is of another guest than the image.
-    OtherGuest,
-    /// A growth was refused.
-    Memory,
-}
-
-impl From<Memory> for ReplayFault {
-    ghost use Rattle.std.specs.Prelude.{◌≡◌};
-    ghost use Rattle.workbench.specs.declared.faults.ReplayFault.TheVariants.{Memory as NoMemory};
-
-    ghost from_gives = { λ _ e. e ≡ NoMemory };
-
-    fn from(_e: Memory) -> ReplayFault {
-        ReplayFault::Memory
-    }
-}
 
 /// Why streams gave no text.
 #[derive(Clone, Copy, Debug, PartialEq, Eq, Error)]
@@ -58,15 +35,6 @@ impl From<Memory> for StreamsFault {
 
     fn from(_e: Memory) -> StreamsFault {
         StreamsFault::Memory
-    }
-}
-
-impl From<ReplayFault> for StreamsFault {
-    fn from(fault: ReplayFault) -> StreamsFault {
-        match fault {
-            ReplayFault::Memory => StreamsFault::Memory,
-            fault => StreamsFault::Replay(fault),
-        }
     }
 }
 
@@ -137,7 +105,7 @@ fn write_replay_fault<W: Sink>(fault: ReplayFault, out: &mut W) -> Result<(), Fa
             )?;
             write_numbered(b"", count, b"\n", out)
         }
-        ReplayFault::OtherGuest => write_all(out, b"fault stream 0 guest\n"),
+        ReplayFault::OtherGuest => write_all(out, b"fault replay 3\n"),
         ReplayFault::Memory => write_all(out, b"fault memory\n"),
     }
 }

@@ -6,8 +6,9 @@ mod faults;
 mod files;
 mod host;
 mod lines;
-mod pieces;
-mod replay;
+mod reading;
+#[cfg(test)]
+mod replay_tests;
 #[cfg(test)]
 mod store_tests;
 mod stores;

@@ -14,16 +14,16 @@ use std::rc::Rc;
 use std::test::Fail;
 
 /// Two harts that jump to where they are.
-const TWO_LOOPS: &[u8] = b"harts 2\npages 1\n0000006f\n";
+pub const TWO_LOOPS: &[u8] = b"harts 2\npages 1\n0000006f\n";
 
-fn opening_from(guest: Guest, term: Term, parent: Term, base: &[Count]) -> Result<Frame, Fail> {
+pub fn opening_from(guest: Guest, term: Term, parent: Term, base: &[Count]) -> Result<Frame, Fail> {
     let base = Counts::from_slice(base).ok_or("counts")?;
     let opening = Opening::new(guest, term, parent, base).ok_or("an opening")?;
     Ok(Frame::Opening(opening))
 }
 
 /// The first piece of a hart of term 1, with an input and at most one edge.
-fn piece_of(
+pub fn piece_of(
     alloc: Global,
     guest: Guest,
     hart: Hart,
@@ -259,6 +259,14 @@ fn the_first_fault_in_the_order_of_streams_and_bytes(rt: HostRuntime) -> Result<
 #[test]
 fn one_to_eight_logs(rt: HostRuntime) -> Result<(), Fail> {
     let alloc = rt.alloc();
+    assert!(rt;
+        is_usage(
+            alloc,
+            &[
+                "replay", "image", "0", "1", "2", "3", "4", "5", "6", "7", "8"
+            ]
+        )?
+    );
     assert!(rt; is_usage(alloc, &["cut", "image"])?);
     assert!(rt; is_usage(alloc, &["join", "image", "made"])?);
     let nine = ["cut", "image", "0", "1", "2", "3", "4", "5", "6", "7", "8"];

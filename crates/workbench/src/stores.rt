@@ -1,12 +1,11 @@
-//! Stores of the frames of several streams.
+//! What a store holds, written as frames or as words.
 
 use crate::faults::StreamsFault;
 use crate::lines::write_numbered;
-use crate::streams::{PIECE, front_of, stream_fault};
 use closed_cut::Position;
-use fragment_codec::{Feed, Frame, write_frame};
-use ft_types::{Failed, Guest, Sink, Source, Term, write_all};
-use log_join::{Found, Put, Store};
+use fragment_codec::write_frame;
+use ft_types::{Failed, Sink, Term, write_all};
+use log_join::{Found, Store};
 use std::alloc::Global;
 
 /// How many keys a store has, by what stands at them.
@@ -18,56 +17,6 @@ pub struct StoreSize {
     pub fragments: usize,
     /// Keys with several contents.
     pub clashes: usize,
-}
-
-/// Puts frames into the store, up to the first of another guest.
-fn put_all(stream: usize, store: &mut Store, frames: Vec<Frame>) -> Result<(), StreamsFault> {
-    for frame in frames {
-        match store.put(frame)? {
-            Put::OtherGuest => return Err(StreamsFault::Guest(stream)),
-            Put::New | Put::Same | Put::Clash => {}
-        }
-    }
-    Ok(())
-}
-
-/// Puts the frames of one stream into the store. The stream is read to its end or its first fault.
-fn read_into<R: Source>(
-    alloc: Global,
-    stream: usize,
-    store: &mut Store,
-    reader: &mut R,
-) -> Result<(), StreamsFault> {
-    let mut feed = Feed::new(alloc)?;
-    let mut piece = [0; PIECE];
-    for _read in 0..u64::MAX {
-        let Ok(count) = reader.read(&mut piece) else {
-            return Err(StreamsFault::Read(stream));
-        };
-        // The empty piece at the end brings out a fault behind the last frame.
-        match feed.push(alloc, front_of(&piece, count)) {
-            Ok(frames) => put_all(stream, store, frames)?,
-            Err(fault) => return Err(stream_fault(stream, fault)),
-        }
-        if count == 0 {
-            return Ok(());
-        }
-    }
-    // No memory holds a stream of so many bytes.
-    Err(StreamsFault::Memory)
-}
-
-/// The join of all frames of the streams. They are read whole and in order, up to the first fault.
-pub fn read_store<R: Source>(
-    alloc: Global,
-    guest: &Guest,
-    readers: &mut [R],
-) -> Result<Store, StreamsFault> {
-    let mut store = Store::new(alloc, *guest);
-    for (stream, reader) in readers.iter_mut().enumerate() {
-        read_into(alloc, stream, &mut store, reader)?;
-    }
-    Ok(store)
 }
 
 fn write_found<W: Sink>(found: &Found<'_>, out: &mut W) -> Result<(), StreamsFault> {

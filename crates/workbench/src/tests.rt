@@ -2,10 +2,9 @@
 
 use crate::command::command;
 use crate::files::Files;
-use fragment_codec::{Fragment, Frame, Key, Opening, Record, write_frame};
+use fragment_codec::{Fragment, Frame, Key, Opening, write_frame};
 use ft_types::{Count, Counts, Failed, Guest, Hart, MemorySink, MemorySource, Sink, Term};
 use guest_image::read_image;
-use input_log::Input;
 use std::alloc::Global;
 use std::cell::RefCell;
 use std::rc::Rc;
@@ -13,7 +12,7 @@ use std::test::Fail;
 
 pub const IMAGE_A: &[u8] = b"harts 1\npages 1\nf00000b7\n02a00113\n0020a423\n0000aa23\n";
 
-const TEXT_A: &[u8] = b"hart 0 count 4 pc 80000010 halted\n\
+pub const TEXT_A: &[u8] = b"hart 0 count 4 pc 80000010 halted\n\
 csr 00001800 00000000 00000000 00000000 00000000 00000000 00000000\n\
 dev 00000000 00000000\n\
 x1 f0000000\n\
@@ -288,8 +287,6 @@ fn the_end_is_what_the_places_reach(rt: HostRuntime) -> Result<(), Fail> {
         opening(guest, 1)?,
         piece(alloc, guest, 1, 0, 0, 3)?,
         piece(alloc, guest, 1, 0, 0, 3)?,
-        opening(guest, 2)?,
-        piece(alloc, guest, 2, 0, 4, 5)?,
     ];
     assert!(rt; replay_frames(alloc, &two)?.is(0, TEXT_A, b""));
     let unopened = [piece(alloc, guest, 1, 0, 0, 4)?];
@@ -323,14 +320,11 @@ fn words_of_no_form(rt: HostRuntime) -> Result<(), Fail> {
     assert!(rt; is_usage(alloc, &["reply", "image", "log"])?);
     assert!(rt; is_usage(alloc, &["replay"])?);
     assert!(rt; is_usage(alloc, &["replay", "image"])?);
-    assert!(rt; is_usage(alloc, &["replay", "image", "log", "log"])?);
     assert!(rt; is_usage(alloc, &["replay", "--help"])?);
     assert!(rt; is_usage(alloc, &["-V"])?);
     assert!(rt; is_usage(alloc, &["replay", "--", "image", "log"])?);
     assert!(rt; is_usage(alloc, &["replay", "-image", "log"])?);
     assert!(rt; is_usage(alloc, &["audit", "image", "log"])?);
-    let done = replay(alloc, b"harts 2\npages 1\n", Vec::new(alloc))?;
-    assert!(rt; done.is(2, b"", b"fault usage\n"));
     Ok(())
 }
 
@@ -402,23 +396,6 @@ fn frames_at_fault(rt: HostRuntime) -> Result<(), Fail> {
     let mut log = log_to(alloc, IMAGE_A, 4)?;
     log.truncate(188);
     assert!(rt; replay(alloc, IMAGE_A, log)?.is(0, BOOT_A, b""));
-    Ok(())
-}
-
-#[test]
-fn records_are_not_replayed_yet(rt: HostRuntime) -> Result<(), Fail> {
-    let alloc = rt.alloc();
-    let guest = guest_of(alloc, IMAGE_A)?;
-    let key = Key {
-        term: 1,
-        hart: first_hart(),
-        place: 0,
-    };
-    let mut records = Vec::new(alloc);
-    records.push(Record::Input(1, Input::Timer))?;
-    let fragment = Fragment::new(guest, key, 0, 4, records).ok_or("a fragment")?;
-    let done = replay_frames(alloc, &[opening(guest, 1)?, Frame::Log(fragment)])?;
-    assert!(rt; done.is(1, b"", b"fault stream 0 frame 6\n"));
     Ok(())
 }
 

@@ -8,10 +8,10 @@ use std::alloc::{AllocError, Global};
 /// A request.
 #[derive(Drop, Debug, PartialEq, Eq)]
 pub enum Request<'a> {
-    /// Replay one log of an image.
+    /// Replay the logs of an image.
     Replay {
         image: &'a str,
-        log: &'a str,
+        logs: Vec<&'a str>,
     },
     /// Join the logs of an image, and write what they hold to a file.
     Join {
@@ -59,7 +59,7 @@ impl<'a> Request<'a> {
 
     fn log(&self, number: usize) -> &'a str {
         match self {
-            Request::Replay { log, .. } => log,
+            Request::Replay { logs, .. } => name_at(logs, number),
             Request::Join { logs, .. } => name_at(logs, number),
             Request::Cut { logs, .. } => name_at(logs, number),
         }
@@ -110,7 +110,7 @@ fn form<'a>(alloc: Global, name: &'a str) -> Result<Command<'a>, AllocError> {
 }
 
 fn forms<'a>(alloc: Global) -> Result<Command<'a>, AllocError> {
-    let replay = form(alloc, "replay")?.arg(word(alloc, "log"))?;
+    let replay = form(alloc, "replay")?.arg(words(alloc, "logs"))?;
     let join = form(alloc, "join")?
         .arg(word(alloc, "made"))?
         .arg(words(alloc, "logs"))?;
@@ -140,8 +140,8 @@ fn request_of<'a>(
     let image = matches.get_str("image").ok_or(WordsFault::Usage)?;
     match command {
         "replay" => {
-            let log = matches.get_str("log").ok_or(WordsFault::Usage)?;
-            Ok(Request::Replay { image, log })
+            let logs = logs_of(alloc, matches)?;
+            Ok(Request::Replay { image, logs })
         }
         "join" => {
             let made = matches.get_str("made").ok_or(WordsFault::Usage)?;
