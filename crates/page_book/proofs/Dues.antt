@@ -1,12 +1,17 @@
 -- What is due to harts, and what waits for them.
-use Rattle.std.proofs.Common.{◌≡◌, ◌≢◌, ◌==◌, ◌⊎◌, inl, inr, ℕ, zero, suc, ◌+◌, ◌-◌, ◌<◌, ◌≤◌, Bool, true, false, List, [], ◌∷◌, ◌++◌, length, slice_set, take, drop, map, get_or, replicate, slice_index, All, if◌then◌else◌, Option, None, Some, refl, ap, sym, subst, ◌∙◌, arith, length-set}
+use Rattle.std.proofs.Common.{◌≡◌, ◌≢◌, ◌==◌, ◌⊎◌, inl, inr, ℕ, zero, suc, ◌+◌, ◌-◌, ◌<◌, ◌≤◌, Bool, true, false, List, [], ◌∷◌, ◌++◌, length, slice_set, take, drop, map, get_or, replicate, slice_index, All, if◌then◌else◌, cond, nat_le, Option, None, Some, refl, ap, sym, subst, ◌∙◌, arith, length-set}
+use Rattle.std.specs.List.{take_while}
+use Rattle.std.proofs.lemmas.Bool.{eqb-false}
+use Rattle.std.proofs.lemmas.List.Sums.{take_while-cons}
 use Rattle.std.proofs.lemmas.List.{get_or-set_same, get_or-set_other}
 use Rattle.std.proofs.lemmas.List.Elements.{All-cons, All-head, All-tail, All-take, All-drop, All-append, All-map}
 use Rattle.interleaving.proofs.Put.{same_or_not}
 use Rattle.input_log.specs.declared.Input.{Input}
 use Rattle.input_log.specs.declared.WaitingBell.{WaitingBell}
-use Rattle.input_log.specs.Inputs.{inputs_of, inputs_at, AreAddedTo}
-use Rattle.input_log.specs.Waiting.{bells_of, bells_going}
+use Rattle.input_log.specs.declared.Input.TheVariants.{Bell}
+use Rattle.input_log.specs.declared.WaitingInput.{WaitingInput}
+use Rattle.input_log.specs.Inputs.{IsInputOf, inputs_of, inputs_at, AreAddedTo}
+use Rattle.input_log.specs.Waiting.{bells_of, others_of, bells_going, room_beside, others_going, going}
 use Rattle.input_log.proofs.Added.{added_at, kept_at, none_from}
 use Rattle.edge_log.specs.declared.Edge.{Edge}
 use Rattle.guest_image.specs.Machine.{MachineState}
@@ -16,24 +21,33 @@ use Rattle.page_book.specs.Leases.{LeaseView, rung_bell, bells_rung, laid}
 use Rattle.page_book.specs.Runs.{IsLease, counts_of}
 use Rattle.page_book.specs.Modes.{HearsOn}
 use Rattle.page_book.specs.Dues.{DueView, nothing_due, due_at, bell_edges, due_from, is_silent}
-use Rattle.page_book.specs.Recordings.{RecordingView, IsRecorded, IsDueEdge, IsRung, IsFilled, TakesFromDesk, LogsInputs, HasRung, due_after, heard_by}
+use Rattle.page_book.specs.Recordings.{RecordingView, IsRecorded, AreInputs, IsDueEdge, IsRung, IsFilled, TakesFromDesk, LogsInputs, HasRung, due_after, heard_by}
+
+-- what holds of all holds of those from the front on that pass a test
+All-while : {A : Type 0} (P : A → Type 0) (test : A → Bool) (xs : List A) → All P xs → All P (take_while test xs)
+All-while P test [] all = λ k d below. absurd (omega arith)
+All-while {A} P test (x ∷ xs) all = subst (All P) (sym (take_while-cons test x xs)) (of (test x) (All-while P test xs (All-tail P x xs all)))
+  where
+    of : (passes : Bool) → All P (take_while test xs) → All P (cond passes (x ∷ take_while test xs) [])
+    of true rest = All-cons P x (take_while test xs) (All-head P x xs all) rest
+    of false rest = λ k d below. absurd (omega arith)
 
 -- the edges of bells that harts have rung are due
 bell_edges_due : (m : MachineState) (hart count : ℕ) → count ≡ counts_of m hart → (bells : List WaitingBell) → All (IsRung m) bells →
     All (IsDueEdge m hart) (bell_edges hart count bells)
 bell_edges_due m hart count at [] rung = λ k d below. absurd (omega arith)
-bell_edges_due m hart count at (b ∷ bells) rung = of (b.source == hart) (bell_edges_due m hart count at bells (All-tail (IsRung m) b bells rung))
+bell_edges_due m hart count at (b ∷ bells) rung = of (b.source == hart) refl (bell_edges_due m hart count at bells (All-tail (IsRung m) b bells rung))
   where
     its : IsRung m b
     its = All-head (IsRung m) b bells rung
 
-    of : (own : Bool) → All (IsDueEdge m hart) (bell_edges hart count bells) →
+    of : (own : Bool) → (b.source == hart) ≡ own → All (IsDueEdge m hart) (bell_edges hart count bells) →
         All (IsDueEdge m hart)
         (if own then bell_edges hart count bells else record { hart = hart; at = count; other = b.source; after = b.after } ∷ bell_edges hart count bells)
-    of true rest = rest
-    of false rest =
+    of true is rest = rest
+    of false is rest =
         All-cons (IsDueEdge m hart) (record { hart = hart; at = count; other = b.source; after = b.after }) (bell_edges hart count bells)
-        (record { own = refl; at = at; other = its.source; settled = its.settled }) rest
+        (record { own = refl; at = at; other = its.source; another = eqb-false b.source hart is; settled = its.settled }) rest
 
 -- what is due to one hart is set anew
 due_set : (due : List DueView) (hart : ℕ) (new : DueView) (P : ℕ → DueView → Type 0) → hart < length due → P hart new →
@@ -72,6 +86,7 @@ module _ (r new : RecordingView) (hart count : ℕ) (start m : MachineState) (jo
             (due_set r.due hart (due_from hart count (bells_of r.desk hart) _) (λ h d. All (IsDueEdge m h) d.edges) (omega (arith, row, p.dues))
             (bell_edges_due m hart count at (bells_going (bells_of r.desk hart)) (All-take (IsRung m) 8 (bells_of r.desk hart) (p.bells hart))) (λ h ne. p.due h) h);
         bells = bells_left;
+        inputs = record { logged = p.inputs.logged; due = due_left; waiting = waiting_left };
         given = given_left;
         stubs = p.stubs;
       })
@@ -83,6 +98,39 @@ module _ (r new : RecordingView) (hart count : ℕ) (start m : MachineState) (jo
                 subst (λ h. All (IsRung m) (bells_of new.desk h)) same
                 (subst (All (IsRung m)) (sym t.bells) (All-drop (IsRung m) 8 (bells_of r.desk hart) (p.bells hart)))
             | inr ne ↦ subst (All (IsRung m)) (sym (t.bells_of_others h (λ e. ne (sym e)))) (p.bells h)
+          ]
+
+      crew : ℕ
+      crew = length start.harts
+
+      -- what goes from the desk
+      goes : All (IsInputOf crew) (going count (bells_of r.desk hart) (others_of r.desk hart))
+      goes =
+          All-append (IsInputOf crew) (map (λ b. Bell b.source) (bells_going (bells_of r.desk hart)))
+          (map (λ w. w.input) (others_going count (room_beside (bells_of r.desk hart)) (others_of r.desk hart)))
+          (All-map (IsInputOf crew) (λ (b : WaitingBell). Bell b.source) (bells_going (bells_of r.desk hart))
+          (λ k d below.
+          let rung = All-take (IsRung m) 8 (bells_of r.desk hart) (p.bells hart) k d below in
+          omega (arith, rung.source, p.harts_stay)))
+          (All-map (IsInputOf crew) (λ (w : WaitingInput). w.input) (others_going count (room_beside (bells_of r.desk hart)) (others_of r.desk hart))
+          (All-take (λ w. IsInputOf crew w.input) (room_beside (bells_of r.desk hart)) (take_while (λ w. nat_le w.not_before count) (others_of r.desk hart))
+          (All-while (λ w. IsInputOf crew w.input) (λ w. nat_le w.not_before count) (others_of r.desk hart) (p.inputs.waiting hart))))
+
+      due_left : (h : ℕ) → All (IsInputOf crew) (due_at new.due h).inputs
+      due_left h =
+          subst (λ (due : List DueView). All (IsInputOf crew) (due_at due h).inputs) (sym t.due)
+          (due_set r.due hart (due_from hart count (bells_of r.desk hart) (others_of r.desk hart)) (λ h d. All (IsInputOf crew) d.inputs) (omega (arith, row, p.dues))
+          goes (λ h ne. p.inputs.due h) h)
+
+      waiting_left : (h : ℕ) → All (λ w. IsInputOf crew w.input) (others_of new.desk h)
+      waiting_left h =
+          elim (same_or_not hart h) [
+            | inl same ↦
+                subst (λ h. All (λ w. IsInputOf crew w.input) (others_of new.desk h)) same
+                (subst (All (λ w. IsInputOf crew w.input)) (sym t.others)
+                (All-drop (λ w. IsInputOf crew w.input) (length (others_going count (room_beside (bells_of r.desk hart)) (others_of r.desk hart)))
+                (others_of r.desk hart) (p.inputs.waiting hart)))
+            | inr ne ↦ subst (All (λ w. IsInputOf crew w.input)) (sym (t.others_of_others h (λ e. ne (sym e)))) (p.inputs.waiting h)
           ]
 
       given_left : (h : ℕ) (lent : OpenView) → open_at leases h ≡ Some lent → lent.inputs ≡ (due_at new.due h).inputs
@@ -158,7 +206,7 @@ module _ (r new : RecordingView) (start m : MachineState) (journal : List Stretc
   due_on : (hart : ℕ) → counts_of (laid m l) hart ≡ counts_of m hart → (e : Edge) → IsDueEdge m hart e → IsDueEdge (laid m l) hart e
   due_on hart same e d =
       let more = grown e.other in
-      record { own = d.own; at = d.at ∙ sym same; other = omega (arith, d.other, harts); settled = omega (arith, d.settled, more) }
+      record { own = d.own; at = d.at ∙ sym same; other = omega (arith, d.other, harts); another = d.another; settled = omega (arith, d.settled, more) }
 
   pub still_due : (steps : ℕ) → l.steps ≡ steps → new.due ≡ due_after steps r.due l.hart → (hart : ℕ) →
       All (IsDueEdge (laid m l) hart) (due_at new.due hart).edges
@@ -210,3 +258,31 @@ pub logs_some : (steps : ℕ) (before : List (List (ℕ × Input))) (l : LeaseVi
     AreAddedTo before l.hart (map (λ i. (l.base.count, i)) l.inputs) after → LogsInputs steps before l after
 logs_some zero before l after some added = absurd (some refl)
 logs_some (suc steps) before l after some added = added
+
+-- what is logged, due and waiting still are inputs of the machine
+pub still_inputs : (crew : ℕ) (r new : RecordingView) (l : LeaseView) (steps : ℕ) → l.hart < length r.due → All (IsInputOf crew) l.inputs →
+    LogsInputs steps r.inputs l new.inputs → new.due ≡ due_after steps r.due l.hart → HasRung r.desk l new.desk → AreInputs crew r → AreInputs crew new
+still_inputs crew r new l steps row given logs due rung p =
+    record {
+      logged = logged steps logs;
+      due = still steps due;
+      waiting = λ h. subst (All (λ w. IsInputOf crew w.input)) (sym (rung.others h)) (p.waiting h);
+    }
+  where
+    logged : (steps : ℕ) → LogsInputs steps r.inputs l new.inputs → (h : ℕ) → All (λ x. IsInputOf crew x.1) (inputs_of new.inputs h)
+    logged zero same h = subst (λ log. All (λ x. IsInputOf crew x.1) (inputs_of log h)) (sym same) (p.logged h)
+    logged (suc steps) added h =
+        elim (same_or_not l.hart h) [
+          | inl same ↦
+              subst (λ h. All (λ x. IsInputOf crew x.1) (inputs_of new.inputs h)) same
+              (subst (All (λ x. IsInputOf crew x.1)) (sym added.row)
+              (All-append (λ x. IsInputOf crew x.1) (inputs_of r.inputs l.hart) (map (λ i. (l.base.count, i)) l.inputs) (p.logged l.hart)
+              (All-map (λ x. IsInputOf crew x.1) (λ i. (l.base.count, i)) l.inputs given)))
+          | inr ne ↦ subst (All (λ x. IsInputOf crew x.1)) (sym (added.others h (λ e. ne (sym e)))) (p.logged h)
+        ]
+
+    still : (steps : ℕ) → new.due ≡ due_after steps r.due l.hart → (h : ℕ) → All (IsInputOf crew) (due_at new.due h).inputs
+    still zero same h = subst (λ (ds : List DueView). All (IsInputOf crew) (due_at ds h).inputs) (sym same) (p.due h)
+    still (suc steps) is h =
+        subst (λ (ds : List DueView). All (IsInputOf crew) (due_at ds h).inputs) (sym is)
+        (due_set r.due l.hart nothing_due (λ h d. All (IsInputOf crew) d.inputs) row (λ k d below. absurd (omega arith)) (λ h ne. p.due h) h)

@@ -113,6 +113,7 @@ module _ (r : RecordingView) (hart count : ℕ) (taken : List (Option Taken))
           dues = e.kept.dues;
           due = e.kept.due;
           bells = e.kept.bells;
+          inputs = record { logged = e.kept.inputs.logged; due = e.kept.inputs.due; waiting = e.kept.inputs.waiting };
           given = λ other o is_other. e.kept.given other o (row-set_some e.leases hart other o is_other);
           stubs = stubs_without b.stubs e.leases e.kept.stubs hart (open_within e.leases hart e.lent e.is_open);
         })

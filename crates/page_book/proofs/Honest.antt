@@ -1,5 +1,5 @@
 -- A recording book begins, and its log is honest.
-use Rattle.std.proofs.Common.{◌≡◌, ℕ, zero, suc, ◌≤◌, List, [], ◌∷◌, ◌++◌, length, replicate, All, ◌<◌, ◌≢◌, ◌⊎◌, inl, inr, ◌+◌, Option, None, option_map, Contains, refl, sym, ap, subst, ◌∙◌, arith}
+use Rattle.std.proofs.Common.{◌≡◌, ℕ, zero, suc, ◌≤◌, List, [], ◌∷◌, ◌++◌, length, replicate, All, ◌<◌, ◌≢◌, ◌⊎◌, inl, inr, ◌+◌, Option, None, option_map, Contains, get_or, le_trans, le_of_eq, refl, sym, ap, subst, ◌∙◌, arith}
 use Rattle.std.proofs.Math.Path.{fun_ext}
 use Rattle.interleaving.specs.Machine.{System, Machine, Turn, after, step_of, counts, steps, Runs}
 use Rattle.interleaving.specs.Log as theory
@@ -8,12 +8,14 @@ use Rattle.interleaving.proofs.Put.{same_or_not, put_same, put_other, bump_same,
 use Rattle.interleaving.specs.Cuts.{IsEnough}
 use Rattle.interleaving.specs.Stored.{view}
 use Rattle.input_log.specs.declared.Input.{Input}
-use Rattle.edge_log.specs.EdgeLog.{edges_of, start_of}
+use Rattle.edge_log.specs.declared.Edge.{Edge}
+use Rattle.edge_log.specs.EdgeLog.{edge_as, edges_of, row_of, start_of}
+use Rattle.edge_log.proofs.Logs.{to_edges}
 use Rattle.ft_types.specs.Counts.{count_at, greater}
 use Rattle.lease_ledger.specs.Ledger as ledger
 use Rattle.lease_ledger.specs.Calls.{Begun}
-use Rattle.lease_ledger.specs.Laws.{IsOf, IsKept}
-use Rattle.lease_ledger.proofs.Laws.{keeps_ledger}
+use Rattle.lease_ledger.specs.Laws.{IsOf, IsKept, IsInLog}
+use Rattle.lease_ledger.proofs.Laws.{keeps_ledger, keeps_order}
 use Rattle.rv32_hart.specs.Hart.{Hart}
 use Rattle.rv32_hart.specs.Hardware.{hardware}
 use Rattle.guest_image.specs.Machine.{MachineState}
@@ -23,10 +25,12 @@ use Rattle.page_book.specs.Recorded.{system}
 use Rattle.page_book.specs.Runs.{Heard, counts_of, harts_of}
 use Rattle.page_book.specs.Dues.{DueView, nothing_due, due_at}
 use Rattle.page_book.proofs.Silences.{unheard_rung}
-use Rattle.input_log.specs.Waiting.{bells_of}
+use Rattle.input_log.specs.Inputs.{IsInputOf}
+use Rattle.input_log.specs.Waiting.{bells_of, others_of}
+use Rattle.std.proofs.lemmas.List.Elements.{All-append, All-cons, Contains-get_or}
 use Rattle.std.proofs.lemmas.List.{length-replicate}
 use Rattle.page_book.specs.Books.{IsBook}
-use Rattle.page_book.specs.Recordings.{RecordingView, IsRecorded, IsUnused, IsOffered, IsDueEdge, IsRung, heard_by, stub_as, log_of, HasHonestLog}
+use Rattle.page_book.specs.Recordings.{RecordingView, IsRecorded, IsUnused, IsOffered, IsDueEdge, IsRung, heard_by, stub_as, IsBetween, log_of, HasHonestLog}
 use Rattle.page_book.proofs.Slots.{none-replicate}
 use Rattle.page_book.proofs.Ledgers.{counts_is}
 
@@ -80,6 +84,36 @@ honest_log r start machine journal leases p =
               ap (λ (k : Machine (Option Hart) (Option (List ℕ))). counts (system pages) k hart) (sym p.at_machine);
         }
 
+-- an edge of the log is between two harts, and what it names has been settled
+pub between : (r : RecordingView) (start machine : MachineState) (journal : List Stretch) (leases : List (Option OpenView)) →
+    IsRecorded r start machine journal leases → (hart : ℕ) → All (IsBetween machine hart) (row_of r.edges hart)
+between r start machine journal leases p hart k d below =
+    record {
+      own = own;
+      other = omega (arith, found.other, p.harts_stay);
+      another = λ same. found.another (same ∙ sym own);
+      at = le_trans found.so_far (le_of_eq (count_in e.hart ∙ ap (counts_of machine) own));
+      some = let later = p.log.later hart k d below in omega (arith, later);
+      settled = le_trans found.met (le_of_eq (count_in e.other));
+    }
+  where
+    pages : ℕ
+    pages = length start.pages
+
+    e : Edge
+    e = get_or (get_or r.edges.rows hart []) k d
+
+    own : e.hart ≡ hart
+    own = (p.log.own hart k d below).own
+
+    count_in : (other : ℕ) → counts (system pages) p.ledger.machine other ≡ counts_of machine other
+    count_in other = ap (λ (k : Machine (Option Hart) (Option (List ℕ))). counts (system pages) k other) p.at_machine ∙ counts_is pages machine other
+
+    found : IsInLog (system pages) (length start.harts) (view (hardware pages) start) p.ledger.machine (edge_as e)
+    found =
+        (keeps_order (system pages) (length start.harts) (view (hardware pages) start) p.ledger p.few p.reached).log (edge_as e)
+        (p.enough.among (edge_as e) (to_edges r.edges.rows hart e (Contains-get_or (get_or r.edges.rows hart []) k d below)))
+
 -- nobody has used a page
 index_same : (n hart : ℕ) → due_at (replicate n nothing_due) hart ≡ nothing_due
 index_same zero hart = refl
@@ -113,6 +147,15 @@ begun_kept r start limits many u =
           subst (λ (d : DueView). All (IsDueEdge start hart) d.edges)
           (sym (ap (λ (ds : List DueView). due_at ds hart) u.due ∙ index_same 8 hart)) (λ k d below. absurd (omega arith));
       bells = λ hart. subst (All (IsRung start)) (sym (u.bells hart)) (unheard_rung start hart);
+      inputs =
+          record {
+            logged = λ hart. subst (All (λ x. IsInputOf (length start.harts) x.1)) (sym (u.inputs hart)) (λ k d below. absurd (omega arith));
+            due =
+                λ hart.
+                subst (λ (d : DueView). All (IsInputOf (length start.harts)) d.inputs)
+                (sym (ap (λ (ds : List DueView). due_at ds hart) u.due ∙ index_same 8 hart)) (λ k d below. absurd (omega arith));
+            waiting = λ hart. subst (All (λ w. IsInputOf (length start.harts) w.input)) (sym (u.others hart)) (λ k d below. absurd (omega arith));
+          };
       given = λ hart lent e. let same = sym (none-replicate {A = OpenView} 8 hart) ∙ e in cc;
       stubs = λ hart. ap (option_map stub_as) (sym (none-replicate {A = OpenView} 8 hart));
     }
@@ -143,15 +186,16 @@ raised_kept r limits start machine journal leases as_many p =
       dues = p.dues;
       due = p.due;
       bells = p.bells;
+      inputs = record { logged = p.inputs.logged; due = p.inputs.due; waiting = p.inputs.waiting };
       given = p.given;
       stubs = p.stubs;
     }
 
 -- so does one more input that waits
 pub offered_kept : (r new : RecordingView) (hart not_before : ℕ) (input : Input) (start machine : MachineState) (journal : List Stretch)
-    (leases : List (Option OpenView)) → IsOffered r hart not_before input new → IsRecorded r start machine journal leases →
-    IsRecorded new start machine journal leases
-offered_kept r new hart not_before input start machine journal leases o p =
+    (leases : List (Option OpenView)) → IsOffered r hart not_before input new → IsInputOf (length start.harts) input →
+    IsRecorded r start machine journal leases → IsRecorded new start machine journal leases
+offered_kept r new hart not_before input start machine journal leases o told p =
     subst (λ v. IsRecorded v start machine journal leases) (sym o.rest)
     (record {
       ledger = p.ledger;
@@ -177,6 +221,22 @@ offered_kept r new hart not_before input start machine journal leases o p =
             | inl same ↦ subst (λ h. All (IsRung machine) (bells_of new.desk h)) same (subst (All (IsRung machine)) (sym o.bells) (p.bells hart))
             | inr ne ↦ subst (All (IsRung machine)) (sym (o.bells_of_others other (λ e. ne (sym e)))) (p.bells other)
           ];
+      inputs =
+          record {
+            logged = p.inputs.logged;
+            due = p.inputs.due;
+            waiting =
+                λ other.
+                elim (same_or_not hart other) [
+                  | inl same ↦
+                      subst (λ h. All (λ w. IsInputOf (length start.harts) w.input) (others_of new.desk h)) same
+                      (subst (All (λ w. IsInputOf (length start.harts) w.input)) (sym o.others)
+                      (All-append (λ w. IsInputOf (length start.harts) w.input) (others_of r.desk hart) (record { not_before = not_before; input = input } ∷ [])
+                      (p.inputs.waiting hart) (All-cons (λ w. IsInputOf (length start.harts) w.input) (record { not_before = not_before; input = input }) [] told (λ k d below. absurd (omega arith)))))
+                  | inr ne ↦
+                      subst (All (λ w. IsInputOf (length start.harts) w.input)) (sym (o.others_of_others other (λ e. ne (sym e)))) (p.inputs.waiting other)
+                ];
+          };
       given = p.given;
       stubs = p.stubs;
     })
@@ -199,6 +259,16 @@ kept_so start m journal leases stops edges heard before after p kept =
       counted = p.counted;
       keeps = kept;
     }
+
+pub offered_book : (r new : RecordingView) (hart not_before : ℕ) (input : Input) (start m : MachineState) (journal : List Stretch)
+    (leases : List (Option OpenView)) → IsOffered r hart not_before input new → IsInputOf (length start.harts) input →
+    IsBook start m journal leases r.limits [] (heard_by r) (IsRecorded r start m journal leases) →
+    IsBook start m journal leases new.limits [] (heard_by new) (IsRecorded new start m journal leases)
+offered_book r new hart not_before input start m journal leases o told p =
+    subst (λ v. IsBook start m journal leases v.limits [] (heard_by v) (IsRecorded v start m journal leases)) (sym o.rest)
+    (kept_so start m journal leases r.limits [] (heard_by r) (IsRecorded r start m journal leases)
+    (IsRecorded (record r { desk = new.desk }) start m journal leases) p
+    (subst (λ v. IsRecorded v start m journal leases) o.rest (offered_kept r new hart not_before input start m journal leases o told p.keeps)))
 
 begins_higher : (edges : List theory.Edge) (cut higher now : ℕ → ℕ) (order : List ℕ) → ((hart : ℕ) → cut hart ≤ higher hart) →
     Begins edges cut now order → Begins edges higher now order

@@ -7,7 +7,7 @@ use Rattle.interleaving.specs.Stored.{view}
 use Rattle.ft_types.specs.Counts.{count_at}
 use Rattle.input_log.specs.declared.Input.{Input}
 use Rattle.input_log.specs.declared.WaitingBell.{WaitingBell}
-use Rattle.input_log.specs.Inputs.{inputs_of, AreAddedTo}
+use Rattle.input_log.specs.Inputs.{IsInputOf, inputs_of, AreAddedTo}
 use Rattle.input_log.specs.Waiting.{Queues, bells_of, others_of, others_staying, room_beside, next_going, IsBellAddedTo}
 use Rattle.edge_log.specs.declared.Edge.{Edge}
 use Rattle.edge_log.specs.EdgeLog.{Edges, IsLog, edge_as, edges_of, start_of, AreAdded}
@@ -174,12 +174,19 @@ pub record IsDueEdge (machine : MachineState) (hart : ℕ) (e : Edge) : Type 0 w
   pub own : e.hart ≡ hart
   pub at : e.at ≡ counts_of machine hart
   pub other : e.other < length machine.harts
+  pub another : e.other ≢ hart
   pub settled : e.after ≤ counts_of machine e.other
 
 -- a bell that a hart has rung
 pub record IsRung (machine : MachineState) (bell : WaitingBell) : Type 0 where
   pub source : bell.source < length machine.harts
   pub settled : bell.after ≤ counts_of machine bell.source
+
+-- what is logged, due and waiting are inputs of a machine with so many harts
+pub record AreInputs (harts : ℕ) (r : RecordingView) : Type 0 where
+  pub logged : (hart : ℕ) → All (λ x. IsInputOf harts x.1) (inputs_of r.inputs hart)
+  pub due : (hart : ℕ) → All (IsInputOf harts) (due_at r.due hart).inputs
+  pub waiting : (hart : ℕ) → All (λ w. IsInputOf harts w.input) (others_of r.desk hart)
 
 -- What a recording book keeps: it is a ledger of the theory, to which calls have led from the start.
 pub record IsRecorded (r : RecordingView) (start machine : MachineState) (journal : List Stretch) (leases : List (Option OpenView)) : Type 0 where
@@ -203,6 +210,7 @@ pub record IsRecorded (r : RecordingView) (start machine : MachineState) (journa
   pub dues : length r.due ≡ 8
   pub due : (hart : ℕ) → All (IsDueEdge machine hart) (due_at r.due hart).edges
   pub bells : (hart : ℕ) → All (IsRung machine) (bells_of r.desk hart)
+  pub inputs : AreInputs (length start.harts) r
   pub given : (hart : ℕ) (lent : OpenView) → open_at leases hart ≡ Some lent → lent.inputs ≡ (due_at r.due hart).inputs
   pub stubs : (hart : ℕ) → ledger.stubs hart ≡ option_map stub_as (open_at leases hart)
 
@@ -216,6 +224,15 @@ abbrev pub HasHonestLog : Edges → Heard → MachineState → List Stretch → 
 HasHonestLog edges heard start journal machine =
     IsHonest (system (length start.pages)) (log_of edges heard start machine) (view (hardware (length start.pages)) start)
     (journal_turns heard start journal)
+
+-- an edge of a hart is between it and another of the machine's, and names a step that it has reached, and steps that the other has settled
+pub record IsBetween (machine : MachineState) (hart : ℕ) (e : Edge) : Type 0 where
+  pub own : e.hart ≡ hart
+  pub other : e.other < length machine.harts
+  pub another : e.other ≢ hart
+  pub at : e.at ≤ counts_of machine hart
+  pub some : 1 ≤ e.after
+  pub settled : e.after ≤ counts_of machine e.other
 
 -- a right that nobody used for each page; and nothing waits but the bells that the start rang and nobody heard
 pub record IsUnused (r : RecordingView) (start : MachineState) (limits : List ℕ) : Type 0 where
