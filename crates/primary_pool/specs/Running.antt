@@ -1,0 +1,38 @@
+-- What running a primary comes to.
+use Rattle.std.specs.Prelude.{◌≡◌, ◌<◌, ◌≤◌, ◌⊎◌, ◌++◌, ℕ, List, [], length, replicate, max, All, slice_get, true, Option, Some, None}
+use Rattle.ft_types.specs.Counts.{count_at}
+use Rattle.edge_log.specs.declared.Edge.{Edge}
+use Rattle.edge_log.specs.EdgeLog.{AreAdded}
+use Rattle.input_log.specs.declared.Input.{Input}
+use Rattle.input_log.specs.Inputs.{inputs_of}
+use Rattle.rv32_hart.specs.Hart.{Hart}
+use Rattle.page_book.specs.declared.stretch.Stretch.{Stretch}
+use Rattle.page_book.specs.Runs.{counts_of}
+use Rattle.page_book.specs.Books.{BookView}
+use Rattle.page_book.specs.Recordings.{RecordingView}
+
+-- no lease is open
+abbrev pub IsIdle : {M : Type 0} → BookView M → Type 0
+IsIdle b = b.leases ≡ replicate 8 None
+
+-- each hart is halted, or has come to its limit
+abbrev pub AreThrough : BookView RecordingView → Type 0
+AreThrough b = (hart : ℕ) (h : Hart) → slice_get b.machine.harts hart ≡ Some h → (h.halted ≡ true) ⊎ (count_at b.mode.limits hart ≤ h.count)
+
+-- no count falls, and none goes past its hart's limit
+abbrev pub GoWithin : BookView RecordingView → BookView RecordingView → Type 0
+GoWithin b c =
+    (hart : ℕ) → (counts_of b.machine hart ≤ counts_of c.machine hart) ×
+    (counts_of c.machine hart ≤ max (count_at b.mode.limits hart) (counts_of b.machine hart))
+
+-- what a hart was given before stays, and the rest was given at its settled count or later
+abbrev pub HearsOn : List (ℕ × Input) → ℕ → List (ℕ × Input) → Type 0
+HearsOn before count after = (more : List (ℕ × Input)) × (after ≡ before ++ more) × All (λ x. count ≤ x.0) more
+
+-- The second book goes on from the first: what the first tells begins what the second tells.
+pub record Continues (b c : BookView RecordingView) : Type 0 where
+  pub start : c.start ≡ b.start
+  pub harts : length c.machine.harts ≡ length b.machine.harts
+  pub journal : (more : List Stretch) × (c.journal ≡ b.journal ++ more)
+  pub inputs : (hart : ℕ) → HearsOn (inputs_of b.mode.inputs hart) (counts_of b.machine hart) (inputs_of c.mode.inputs hart)
+  pub edges : (found : List Edge) × AreAdded b.mode.edges found c.mode.edges
