@@ -1,2 +1,3 @@
 pub mod Filling
 pub mod Coming
+pub mod Going
