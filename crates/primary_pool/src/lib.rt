@@ -7,3 +7,6 @@ mod plain;
 pub use fault::PoolFault;
 pub use plain::run_plain;
 
+
+#[cfg(test)]
+mod tests;
