@@ -22,7 +22,7 @@ use Rattle.page_book.specs.Books.{BookView, IsOurs, refusal}
 use Rattle.page_book.specs.OpenLeases.{OpenView, LentView, open_at, nothing_taken, lent_with}
 use Rattle.page_book.specs.Recordings.{RecordingView, GoesOut, IsFilled}
 use Rattle.primary_pool.specs.Running.{IsIdle, AreThrough, Continues, GoWithin, HearsOn}
-use Rattle.primary_pool.specs.Leading.{IsAlone, Settles, IsFurther, IsThrough, Goes, Rounds, IsSoFar, steps_left}
+use Rattle.primary_pool.specs.Leading.{IsAlone, Settles, IsFurther, IsThrough, Goes, Rounds, HasRun, IsSoFar, steps_left}
 use Rattle.primary_pool.proofs.Filling.{row_kept}
 
 -- ---- a book goes on
@@ -323,12 +323,13 @@ round_harts false n b c p = ap (λ (x : BookView RecordingView). length x.machin
 
 -- ---- rounds
 
-pub begins : (b : BookView RecordingView) → IsIdle b → IsSoFar b b
-begins b idle = record { idle = idle; limits = refl; continues = continues_none b; counts = within_none b }
+pub begins : (b : BookView RecordingView) → IsIdle b → HasRun b → IsSoFar b b
+begins b idle ran = record { ran = ran; idle = idle; limits = refl; continues = continues_none b; counts = within_none b }
 
 pub leads_on : (a b c : BookView RecordingView) → IsSoFar a b → IsFurther b c → IsSoFar a c
 leads_on a b c p q =
     record {
+      ran = p.ran;
       idle = q.idle;
       limits = q.limits ∙ p.limits;
       continues = continues_on a b c p.counts p.continues q.continues;
@@ -350,3 +351,6 @@ has_come false b c none p = (
   p.0,
   subst (λ (x : BookView RecordingView). AreThrough x) (sym p.0) (λ hart h there. p.1 hart (some_below b.machine.harts hart h there) h there),
 )
+
+pub round_end : (went : Bool) (a b c : BookView RecordingView) → IsSoFar a b → went ≡ false → Rounds went (length b.machine.harts) b c → IsSoFar a c
+round_end went a b c so_far none p = subst (λ (x : BookView RecordingView). IsSoFar a x) (sym (has_come went b c none p).0) so_far

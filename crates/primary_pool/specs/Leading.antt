@@ -3,13 +3,14 @@ use Rattle.std.specs.Prelude.{◌≡◌, ◌≢◌, ◌<◌, ◌≤◌, ◌+◌,
 use Rattle.ft_types.specs.declared.names.Want.{Want}
 use Rattle.ft_types.specs.declared.names.Want.TheVariants.{Read, Write}
 use Rattle.ft_types.specs.Counts.{count_at}
+use Rattle.interleaving.specs.Log.{counts_after}
 use Rattle.rv32_hart.specs.Hart.{Hart}
 use Rattle.page_book.specs.Slots.{want_of}
 use Rattle.page_book.specs.Leases.{LeaseView, laid}
 use Rattle.page_book.specs.OpenLeases.{open_at}
 use Rattle.page_book.specs.Books.{BookView, IsOurs, added}
-use Rattle.page_book.specs.Recordings.{RecordingView, LogsInputs, AreLogged, right_at}
-use Rattle.page_book.specs.Runs.{counts_of}
+use Rattle.page_book.specs.Recordings.{RecordingView, heard_by, LogsInputs, AreLogged, right_at}
+use Rattle.page_book.specs.Runs.{LeadsTo, harts_of, counts_of}
 use Rattle.primary_pool.specs.Running.{IsIdle, Continues, GoWithin}
 
 -- ---- one lease
@@ -109,8 +110,15 @@ abbrev pub Rounds : Bool → ℕ → BookView RecordingView → BookView Recordi
 Rounds true harts b c = IsFurther b c
 Rounds false harts b c = (c ≡ b) × ((hart : ℕ) → hart < harts → IsThrough b hart)
 
--- the book went on so far, and no lease is open
+-- the journal led to the machine, and its counts are the machine's
+pub record HasRun (b : BookView RecordingView) : Type 0 where
+  pub run : LeadsTo (heard_by b.mode) b.start b.journal b.machine
+  pub counted : (hart : ℕ) → counts_after (counts_of b.start) (harts_of b.journal) hart ≡ counts_of b.machine hart
+  pub pages : length b.machine.pages ≡ length b.start.pages
+
+-- the book, which had run before, went on so far, and no lease is open
 pub record IsSoFar (b c : BookView RecordingView) : Type 0 where
+  pub ran : HasRun b
   pub idle : IsIdle c
   pub limits : c.mode.limits ≡ b.mode.limits
   pub continues : Continues b c

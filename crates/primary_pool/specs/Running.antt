@@ -7,9 +7,9 @@ use Rattle.input_log.specs.declared.Input.{Input}
 use Rattle.input_log.specs.Inputs.{inputs_of}
 use Rattle.rv32_hart.specs.Hart.{Hart}
 use Rattle.page_book.specs.declared.stretch.Stretch.{Stretch}
-use Rattle.page_book.specs.Runs.{counts_of}
+use Rattle.page_book.specs.Runs.{LeadsTo, counts_of}
 use Rattle.page_book.specs.Books.{BookView}
-use Rattle.page_book.specs.Recordings.{RecordingView}
+use Rattle.page_book.specs.Recordings.{RecordingView, heard_by}
 
 -- no lease is open
 abbrev pub IsIdle : {M : Type 0} → BookView M → Type 0
@@ -36,3 +36,7 @@ pub record Continues (b c : BookView RecordingView) : Type 0 where
   pub journal : (more : List Stretch) × (c.journal ≡ b.journal ++ more)
   pub inputs : (hart : ℕ) → HearsOn (inputs_of b.mode.inputs hart) (counts_of b.machine hart) (inputs_of c.mode.inputs hart)
   pub edges : (found : List Edge) × AreAdded b.mode.edges found c.mode.edges
+
+-- What the journal has more leads from the first machine to the second, each step on what the log has now at its count.
+abbrev pub RunsOn : BookView RecordingView → BookView RecordingView → Type 0
+RunsOn b c = (more : List Stretch) → c.journal ≡ b.journal ++ more → LeadsTo (heard_by c.mode) b.machine more c.machine

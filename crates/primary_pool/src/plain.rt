@@ -5,8 +5,8 @@ ghost use Rattle.page_book.specs.Slots.{slot_at, want_of};
 ghost use Rattle.page_book.specs.Leases.{IsFull};
 ghost use Rattle.page_book.specs.Books.{IsOurs};
 ghost use Rattle.page_book.specs.Laws.{Covers};
-ghost use Rattle.primary_pool.specs.Running.{IsIdle, AreThrough, Continues, GoWithin};
-ghost use Rattle.primary_pool.specs.Leading.{IsAlone, Fills, Gives, ComesBack, Settles, Goes, Rounds};
+ghost use Rattle.primary_pool.specs.Running.{IsIdle, AreThrough, Continues, RunsOn, GoWithin};
+ghost use Rattle.primary_pool.specs.Leading.{IsAlone, Fills, Gives, ComesBack, Settles, Goes, Rounds, HasRun};
 
 use crate::fault::PoolFault;
 use ft_types::{Hart, Memory, PageNo, Want};
@@ -115,6 +115,13 @@ fn go_round(alloc: Global, book: &mut Book<Recording>) -> Result<bool, Memory>
     Ok(went)
 }
 
+/// The book's journal led from its start to its machine.
+fn has_run(book: &Book<Recording>)
+    ensures { HasRun book.now }
+{
+    let _machine = book.machine();
+}
+
 /// Runs a primary's harts in rising order, again and again, each for one lease until it is full, which is settled and whose
 /// hart keeps its rights, until each hart is halted or at its limit. Where memory is refused the book is given up.
 pub fn run_plain(alloc: Global, book: Book<Recording>) -> Result<Book<Recording>, PoolFault>
@@ -122,12 +129,15 @@ pub fn run_plain(alloc: Global, book: Book<Recording>) -> Result<Book<Recording>
     ensures done { IfOk result (λ b. AreThrough b) }
     ensures idle { IfOk result (λ b. IsIdle b) }
     ensures continues { IfOk result (λ b. Continues book b) }
+    ensures runs { IfOk result (λ b. RunsOn book b) }
     ensures limits { IfOk result (λ b. b.mode.limits ≡ book.mode.limits) }
     ensures counts { IfOk result (λ b. GoWithin book b) }
 {
     let mut book = book;
+    has_run(&book);
     loop {
         if !go_round(alloc, &mut book)? {
+            has_run(&book);
             return Ok(book);
         }
     }

@@ -1,5 +1,8 @@
 //! Primaries that were worked out by hand, and the replay of what one recorded.
 
+ghost use Rattle.std.specs.Prelude.{◌≡◌, IfSome};
+ghost use Rattle.primary_pool.specs.Running.{IsIdle};
+
 use super::*;
 use edge_log::Edge;
 use ft_types::{Count, Counts, Hart, Memory, PageNo};
@@ -8,6 +11,7 @@ use input_log::Input;
 use page_book::{Book, Keep, Lease, Leg, Mode, Recording, Replaying};
 use rv32_hart::Tick;
 use std::alloc::Global;
+use std::process::Abort;
 use std::test::Fail;
 
 /// lui x1, f0000; addi x2, x0, 42; sw x2, 8(x1), which is put out; sw x0, 20(x1), which halts.
@@ -38,28 +42,34 @@ fn image_of(alloc: Global, text: &[u8]) -> Result<Image, Fail> {
     }
 }
 
-fn offer(book: &mut Book<Recording>, not_before: Count, input: &Input) -> Result<(), Memory> {
+/// Offers the first hart an input, where there is one.
+fn offer(book: &mut Book<Recording>, offered: &Option<(Count, Input)>) -> Result<(), Memory>
+    ensures { book.new.leases ≡ book.old.leases }
+{
+    let Some((not_before, input)) = *offered else {
+        return Ok(());
+    };
     if book.machine().harts() == 0 || input.is_bell() {
         return Ok(());
     }
-    book.offer(Hart::new(0), not_before, *input)
+    book.offer(Hart::new(0), not_before, input)
 }
 
 fn begin(
     alloc: Global,
     image: &Image,
     limits: &[Count],
-    offers: &[(Count, Input)],
-) -> Option<Book<Recording>> {
+    offered: &Option<(Count, Input)>,
+) -> Option<Book<Recording>>
+    ensures { IfSome result (λ b. IsIdle b) }
+{
     let start = Machine::boot(alloc, image).ok()?;
     let limits = Counts::from_slice(limits)?;
     if start.harts() != limits.harts() {
         return None;
     }
     let mut book = Book::<Recording>::begin(alloc, start, limits).ok()?;
-    for (not_before, input) in offers {
-        offer(&mut book, *not_before, input).ok()?;
-    }
+    offer(&mut book, offered).ok()?;
     Some(book)
 }
 
@@ -67,23 +77,23 @@ fn ran_once(
     alloc: Global,
     image: &Image,
     limits: &[Count],
-    offers: &[(Count, Input)],
+    offered: &Option<(Count, Input)>,
 ) -> Option<Book<Recording>> {
-    let book = begin(alloc, image, limits, offers)?;
+    let book = begin(alloc, image, limits, offered)?;
     run_plain(alloc, book).ok()
 }
 
-/// The image's primary, once it ran to these limits, whose first hart was offered these inputs.
+/// The image's primary, once it ran to these limits, whose first hart was offered this input.
 fn ran(
     alloc: Global,
     text: &[u8],
     limits: &[Count],
-    offers: &[(Count, Input)],
+    offered: &Option<(Count, Input)>,
 ) -> Result<Book<Recording>, Fail> {
     let image = image_of(alloc, text)?;
-    match ran_once(alloc, &image, limits, offers) {
+    match ran_once(alloc, &image, limits, offered) {
         Some(book) => Ok(book),
-        None => Ok(ran_once(alloc, &image, limits, offers).ok_or("book")?),
+        None => Ok(ran_once(alloc, &image, limits, offered).ok_or("book")?),
     }
 }
 
@@ -96,18 +106,10 @@ fn edge(hart: Hart, at: Count, other: Hart, after: Count) -> Edge {
     }
 }
 
-/// Whether each hart is halted, or none is.
-fn all_halted(book: &Book<Recording>) -> Option<bool> {
-    let mut halted = 0u8;
-    for number in 0..book.machine().harts() {
-        if book.machine().hart(Hart::new(number)).is_halted() {
-            halted += 1;
-        }
+fn assert_halted(rt: &impl Abort, machine: &Machine, halted: bool) {
+    for number in 0..machine.harts() {
+        assert_eq!(rt; machine.hart(Hart::new(number)).is_halted(), halted);
     }
-    if halted == 0 {
-        return Some(false);
-    }
-    (halted == book.machine().harts()).then_some(true)
 }
 
 #[test]
@@ -121,9 +123,9 @@ fn each_hart_halts_or_comes_to_its_limit(rt: HostRuntime) -> Result<(), Fail> {
         (RING_EACH_OTHER, &[100, 7], &[100, 7], false),
     ];
     for (text, limits, counts, halted) in cases {
-        let book = ran(rt.alloc(), text, limits, &[])?;
+        let book = ran(rt.alloc(), text, limits, &None)?;
         assert_eq!(rt; book.counts().as_slice(), counts);
-        assert_eq!(rt; all_halted(&book), Some(halted));
+        assert_halted(&rt, book.machine(), halted);
     }
     Ok(())
 }
@@ -131,7 +133,7 @@ fn each_hart_halts_or_comes_to_its_limit(rt: HostRuntime) -> Result<(), Fail> {
 #[test]
 fn what_a_primary_says(rt: HostRuntime) -> Result<(), Fail> {
     let hart = Hart::new(0);
-    let book = ran(rt.alloc(), HALTS, &[100], &[])?;
+    let book = ran(rt.alloc(), HALTS, &[100], &None)?;
     assert!(rt; book.machine().harts() == 1);
     assert_eq!(rt; book.machine().hart(hart).outputs(), [(2, 42)].as_slice());
     Ok(())
@@ -139,7 +141,7 @@ fn what_a_primary_says(rt: HostRuntime) -> Result<(), Fail> {
 
 #[test]
 fn four_harts_that_add(rt: HostRuntime) -> Result<(), Fail> {
-    let book = ran(rt.alloc(), ADDS, &[5000; 4], &[])?;
+    let book = ran(rt.alloc(), ADDS, &[5000; 4], &None)?;
     // Two leases each: 1,024 steps, and what is left.
     assert_eq!(rt; book.journal().len(), 8);
     assert!(rt; book.machine().pages() == 2);
@@ -150,7 +152,7 @@ fn four_harts_that_add(rt: HostRuntime) -> Result<(), Fail> {
 #[test]
 fn an_input_is_given_at_its_count(rt: HostRuntime) -> Result<(), Fail> {
     let hart = Hart::new(0);
-    let book = ran(rt.alloc(), SAYS_ITS_WORD, &[100], &[(1, Input::Word(42))])?;
+    let book = ran(rt.alloc(), SAYS_ITS_WORD, &[100], &Some((1, Input::Word(42))))?;
     assert_eq!(rt; book.inputs().at(hart, 0).len(), 0);
     assert_eq!(rt; book.inputs().at(hart, 1), [Input::Word(42)].as_slice());
     assert!(rt; book.machine().harts() == 1);
@@ -161,7 +163,7 @@ fn an_input_is_given_at_its_count(rt: HostRuntime) -> Result<(), Fail> {
 #[test]
 fn harts_that_ring_each_other(rt: HostRuntime) -> Result<(), Fail> {
     let (first, second) = (Hart::new(0), Hart::new(1));
-    let book = ran(rt.alloc(), RING_EACH_OTHER, &[100, 100], &[])?;
+    let book = ran(rt.alloc(), RING_EACH_OTHER, &[100, 100], &None)?;
     assert_eq!(rt; book.inputs().at(second, 0), [Input::Bell(first)].as_slice());
     assert_eq!(rt; book.inputs().at(first, 4), [Input::Bell(second)].as_slice());
     assert_eq!(rt; book.edges().at(second, 0), [edge(second, 0, first, 4)].as_slice());
@@ -223,7 +225,7 @@ fn a_replay_leads_to_the_primarys_machine(rt: HostRuntime) -> Result<(), Fail> {
         (SAYS_ITS_WORD, &[100]),
     ];
     for (text, limits) in cases {
-        let recorded = ran(rt.alloc(), text, limits, &[(1, Input::Word(42)), (2, Input::Timer)])?;
+        let recorded = ran(rt.alloc(), text, limits, &Some((1, Input::Word(42))))?;
         let book = replay(rt.alloc(), text, &recorded)?;
         assert_eq!(rt; book.counts(), recorded.counts());
         assert!(rt; book.machine().same(recorded.machine()));
