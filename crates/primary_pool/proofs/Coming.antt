@@ -1,9 +1,9 @@
 -- A lease that comes back to its book.
-use Rattle.std.proofs.Common.{◌≡◌, ◌≢◌, ℕ, zero, suc, ◌+◌, ◌<◌, ◌≤◌, ◌++◌, List, [], ◌∷◌, All, map, length, length-set, replicate, slice_get, slice_set, Option, None, Some, Result, Ok, Err, true, false, refl, sym, ap, subst, ◌∙◌, ◌⊎◌, inl, inr, arith, append-nil}
+use Rattle.std.proofs.Common.{◌≡◌, ◌≢◌, ℕ, zero, suc, ◌<◌, ◌≤◌, ◌++◌, List, [], ◌∷◌, All, map, length, length-set, replicate, slice_set, Option, None, Some, Result, Ok, Err, false, refl, sym, ap, subst, ◌∙◌, inl, inr, arith, append-nil}
 use Rattle.std.specs.Result.{OnOk, is_err}
 use Rattle.std.proofs.lemmas.Bool.{cases_eq}
 use Rattle.std.proofs.lemmas.Grind.{common_steps}
-use Rattle.std.proofs.lemmas.List.Elements.{All-nil, All-map, All-from_recursion}
+use Rattle.std.proofs.lemmas.List.Elements.{All-nil, All-map}
 use Rattle.edge_log.specs.EdgeLog.{AreAdded}
 use Rattle.input_log.specs.declared.Input.{Input}
 use Rattle.input_log.specs.Inputs.{inputs_of}
@@ -15,7 +15,7 @@ use Rattle.page_book.specs.Books.{BookView, IsLentBy, added}
 use Rattle.page_book.specs.OpenLeases.{OpenView, open_at}
 use Rattle.page_book.specs.Recordings.{RecordingView, LogsInputs}
 use Rattle.page_book.specs.Runs.{counts_of, steps_taken}
-use Rattle.primary_pool.specs.Running.{IsIdle, Continues, HearsOn}
+use Rattle.primary_pool.specs.Running.{Continues, HearsOn}
 use Rattle.primary_pool.specs.Leading.{GoesOn, Fills, ComesBack, Settles}
 
 pub where_ok : {A E P : Type 0} (r : Result A E) → false ≡ is_err r → OnOk r P → P

@@ -17,7 +17,7 @@ use Rattle.page_book.specs.Books.{BookView, IsLentBy, IsOurs}
 use Rattle.page_book.specs.OpenLeases.{OpenView, open_at, has_taken}
 use Rattle.page_book.specs.Recordings.{RecordingView, IsTaker, IsGiven}
 use Rattle.page_book.specs.Laws.{StepCounts, LacksOnAPage, Covers}
-use Rattle.primary_pool.specs.Leading.{IsAlone, GoesOn, Gives, Fills, KeepsRest, lacking, rights_short}
+use Rattle.primary_pool.specs.Leading.{IsAlone, GoesOn, Gives, Fills, lacking, rights_short}
 
 -- no step yet
 pub fills_nothing : (b : BookView RecordingView) (l : LeaseView) → IsAlone b l → Fills b b l l
@@ -148,7 +148,7 @@ pub free : (b : BookView RecordingView) (l : LeaseView) (page : ℕ) (want : Wan
 free b l page want alone other taker =
     let ne : other ≢ l.hart =
     λ (e : other ≡ l.hart). not_own b.mode b.leases (asked_by l page want)
-        (subst (λ (h : ℕ). IsTaker b.mode b.leases (asked_by l page want) h) e taker) in
+    (subst (λ (h : ℕ). IsTaker b.mode b.leases (asked_by l page want) h) e taker) in
     let no : false ≡ true = ap (λ (o : Option OpenView). has_taken o page) (sym (alone.alone other ne)) ∙ taker.1 in
     cc
 

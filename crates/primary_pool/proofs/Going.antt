@@ -1,10 +1,9 @@
 -- From lease to lease, and from round to round.
-use Rattle.std.proofs.Common.{◌≡◌, ◌≢◌, ℕ, zero, suc, ◌+◌, ◌<◌, ◌≤◌, ◌++◌, max, All, List, [], ◌∷◌, length, length-set, replicate, slice_get, slice_set, Option, None, Some, Bool, true, false, nat_le, if◌then◌else◌, refl, sym, ap, subst, ◌∙◌, ◌⊎◌, inl, inr, arith, le_trans, append_assoc, append-nil}
-use Rattle.std.proofs.lemmas.Bool.{cases_lt, cases_eq}
+use Rattle.std.proofs.Common.{◌≡◌, ◌≢◌, ℕ, zero, suc, ◌+◌, ◌<◌, ◌≤◌, ◌++◌, max, List, [], ◌∷◌, length, length-set, replicate, slice_get, slice_set, Option, None, Some, Bool, true, false, nat_le, if◌then◌else◌, refl, sym, ap, subst, ◌∙◌, ◌⊎◌, inl, inr, arith, le_trans, append_assoc, append-nil}
+use Rattle.std.proofs.lemmas.Bool.{cases_lt}
 use Rattle.std.proofs.lemmas.Bool.Decides.{nat_tests}
 use Rattle.std.proofs.lemmas.List.Elements.{All-append, All-nil, All-weaker}
 use Rattle.rv32_hart.specs.Hart.{Hart}
-use Rattle.guest_image.specs.Machine.{MachineState}
 use Rattle.ft_types.specs.Counts.{count_at}
 use Rattle.input_log.specs.declared.Input.{Input}
 use Rattle.input_log.specs.Inputs.{inputs_of}
@@ -19,7 +18,7 @@ use Rattle.page_book.specs.Runs.{counts_of, steps_taken}
 use Rattle.page_book.specs.Dues.{stop_before}
 use Rattle.page_book.specs.Leases.{LeaseView, IsFull, fresh}
 use Rattle.page_book.specs.Books.{BookView, IsOurs, refusal}
-use Rattle.page_book.specs.OpenLeases.{OpenView, LentView, open_at, nothing_taken, lent_with}
+use Rattle.page_book.specs.OpenLeases.{OpenView, open_at, nothing_taken, lent_with}
 use Rattle.page_book.specs.Recordings.{RecordingView, GoesOut, IsFilled}
 use Rattle.primary_pool.specs.Running.{IsIdle, AreThrough, Continues, GoWithin, HearsOn}
 use Rattle.primary_pool.specs.Leading.{IsAlone, Settles, IsFurther, IsThrough, Goes, Rounds, HasRun, IsSoFar, steps_left}
@@ -217,7 +216,7 @@ module _ (b c : BookView RecordingView) (hart : ℕ) (l : LeaseView) (given : Is
         counts = λ other.
             subst
             (λ (hs : List Hart). (counts_of b.machine other ≤ steps_taken (slice_get hs other)) ×
-                (steps_taken (slice_get hs other) ≤ max (count_at b.mode.limits other) (counts_of b.machine other))) (sym harts_are)
+            (steps_taken (slice_get hs other) ≤ max (count_at b.mode.limits other) (counts_of b.machine other))) (sym harts_are)
             (set_counts b.machine.harts hart h s.after (count_at b.mode.limits other) other there rises
             (λ e. subst (λ (n : ℕ). s.after.count ≤ count_at b.mode.limits n) (sym e) (le_trans s.within stop.1)));
         fewer = subst (λ (hs : List Hart). steps_left b.mode.limits hs < steps_left b.mode.limits b.machine.harts) (sym harts_are)

@@ -1,5 +1,5 @@
 -- The steps that a journal has more lead from the machine before to the one after.
-use Rattle.std.proofs.Common.{◌≡◌, ◌≢◌, ℕ, ◌+◌, ◌<◌, ◌≤◌, ◌++◌, All, List, [], ◌∷◌, length, replicate, Option, None, Some, refl, sym, ap, subst, ◌∙◌, inl, inr, arith, append_assoc, append-nil, ne_eqb}
+use Rattle.std.proofs.Common.{◌≡◌, ◌≢◌, ℕ, ◌+◌, ◌<◌, ◌≤◌, ◌++◌, All, List, [], ◌∷◌, length, replicate, Option, Some, refl, sym, ap, subst, ◌∙◌, inl, inr, arith, append_assoc, append-nil, ne_eqb}
 use Rattle.std.proofs.Math.Path.{fun_ext}
 use Rattle.std.proofs.lemmas.List.Elements.{All-head, All-tail}
 use Rattle.interleaving.specs.Log.{counts_after, bump, turns_of}
@@ -78,8 +78,8 @@ module _ (b c : BookView RecordingView) (p : Continues b c) (first : HasRun b) (
       ∙ ap (λ ts. ts ++ turns_of (heard_by c.mode) then (harts_of more))
       (turns_of-same (heard_by b.mode) (heard_by c.mode) (counts_of b.start) (harts_of b.journal)
       (λ hart n lt.
-          heard_before (inputs_of b.mode.inputs hart) (counts_of b.machine hart) (inputs_of c.mode.inputs hart) n (p.inputs hart)
-          (omega (arith, lt, first.counted hart))))
+      heard_before (inputs_of b.mode.inputs hart) (counts_of b.machine hart) (inputs_of c.mode.inputs hart) n (p.inputs hart)
+      (omega (arith, lt, first.counted hart))))
       ∙ ap (λ (now : ℕ → ℕ). turns_of (heard_by b.mode) (counts_of b.start) (harts_of b.journal) ++ turns_of (heard_by c.mode) now (harts_of more))
       (fun_ext first.counted)
 

@@ -1,5 +1,5 @@
 -- What running a primary comes to.
-use Rattle.std.specs.Prelude.{◌≡◌, ◌<◌, ◌≤◌, ◌⊎◌, ◌++◌, ℕ, List, [], length, replicate, max, All, slice_get, true, Option, Some, None}
+use Rattle.std.specs.Prelude.{◌≡◌, ◌≤◌, ◌⊎◌, ◌++◌, ℕ, List, length, replicate, max, All, slice_get, true, Some, None}
 use Rattle.ft_types.specs.Counts.{count_at}
 use Rattle.edge_log.specs.declared.Edge.{Edge}
 use Rattle.edge_log.specs.EdgeLog.{AreAdded}

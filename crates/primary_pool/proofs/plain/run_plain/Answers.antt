@@ -1,6 +1,6 @@
-use Rattle.std.proofs.Common.{Bool, true, false, ◌≡◌, sym, subst, length}
+use Rattle.std.proofs.Common.{Bool, subst, length}
 use Rattle.primary_pool.specs.Leading.{Rounds, IsSoFar}
-use Rattle.primary_pool.proofs.Going.{begins, leads_on, has_come, round_end}
+use Rattle.primary_pool.proofs.Going.{begins, leads_on, round_end}
 use Rattle.primary_pool.proofs.Onward.{runs_on}
 use Rattle.primary_pool.proofs.plain.run_plain.Goals as goal
 
