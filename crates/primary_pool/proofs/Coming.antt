@@ -15,7 +15,7 @@ use Rattle.page_book.specs.Books.{BookView, IsLentBy, added}
 use Rattle.page_book.specs.OpenLeases.{OpenView, open_at}
 use Rattle.page_book.specs.Recordings.{RecordingView, LogsInputs}
 use Rattle.page_book.specs.Runs.{counts_of, steps_taken}
-use Rattle.primary_pool.specs.Running.{Continues, HearsOn}
+use Rattle.primary_pool.specs.Running.{Continues, HearsMore}
 use Rattle.primary_pool.specs.Leading.{GoesOn, Fills, ComesBack, Settles}
 
 pub where_ok : {A E P : Type 0} (r : Result A E) → false ≡ is_err r → OnOk r P → P
@@ -80,19 +80,19 @@ lent_at : (lent : Option OpenView) (m : MachineState) (l : LeaseView) → IsLent
 lent_at None m l p = absurd p
 lent_at (Some lent) m l p = ap steps_taken p.is_lent.state
 
-hears_nothing : (row : List (ℕ × Input)) (count : ℕ) (now : List (ℕ × Input)) → now ≡ row → HearsOn row count now
+hears_nothing : (row : List (ℕ × Input)) (count : ℕ) (now : List (ℕ × Input)) → now ≡ row → HearsMore row count now
 hears_nothing row count now e = ([], e ∙ sym (append-nil row), All-nil (λ x. count ≤ x.0))
 
 all_at : (count at : ℕ) (inputs : List Input) → count ≤ at → All (λ x. count ≤ x.0) (map (λ (i : Input). let x : ℕ × Input = (at, i) in x) inputs)
 all_at count at inputs le = All-map (λ (x : ℕ × Input). count ≤ x.0) (λ (i : Input). let x : ℕ × Input = (at, i) in x) inputs (λ k d lt. le)
 
 hears_on : (b : MachineState) (l : LeaseView) (steps : ℕ) (before after : List (List (ℕ × Input))) → counts_of b l.hart ≡ l.base.count →
-    LogsInputs steps before l after → (hart : ℕ) → HearsOn (inputs_of before hart) (counts_of b hart) (inputs_of after hart)
+    LogsInputs steps before l after → (hart : ℕ) → HearsMore (inputs_of before hart) (counts_of b hart) (inputs_of after hart)
 hears_on b l zero before after lent logs hart =
     hears_nothing (inputs_of before hart) (counts_of b hart) (inputs_of after hart) (ap (λ (x : List (List (ℕ × Input))). inputs_of x hart) logs)
 hears_on b l (suc steps) before after lent logs hart = elim (cases_eq hart l.hart) [
   | inl own ↦
-      subst (λ (h : ℕ). HearsOn (inputs_of before h) (counts_of b h) (inputs_of after h)) (sym own)
+      subst (λ (h : ℕ). HearsMore (inputs_of before h) (counts_of b h) (inputs_of after h)) (sym own)
       (map (λ i. (l.base.count, i)) l.inputs, logs.row, all_at (counts_of b l.hart) l.base.count l.inputs (omega (arith, lent)))
   | inr other ↦ hears_nothing (inputs_of before hart) (counts_of b hart) (inputs_of after hart) (logs.others hart other)
 ]
@@ -118,8 +118,8 @@ module _ (b c d : BookView RecordingView) (l k : LeaseView) (f : Fills b c l k) 
             let more = longer b.journal k.hart k.steps in
             (more.0, back.journal ∙ ap (λ (x : BookView RecordingView). added x.journal k.hart k.steps) f.book ∙ more.1);
         inputs = λ hart.
-            subst (λ (x : BookView RecordingView). HearsOn (inputs_of x.mode.inputs hart) (counts_of b.machine hart) (inputs_of d.mode.inputs hart)) f.book
-            (subst (λ (m : MachineState). HearsOn (inputs_of c.mode.inputs hart) (counts_of m hart) (inputs_of d.mode.inputs hart)) same_machine
+            subst (λ (x : BookView RecordingView). HearsMore (inputs_of x.mode.inputs hart) (counts_of b.machine hart) (inputs_of d.mode.inputs hart)) f.book
+            (subst (λ (m : MachineState). HearsMore (inputs_of c.mode.inputs hart) (counts_of m hart) (inputs_of d.mode.inputs hart)) same_machine
             (hears_on c.machine k k.steps c.mode.inputs d.mode.inputs (lent_at (open_at c.leases k.hart) c.machine k f.alone.ours) back.inputs hart));
         edges = (k.edges, ap_edges);
       }

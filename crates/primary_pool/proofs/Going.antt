@@ -20,8 +20,8 @@ use Rattle.page_book.specs.Leases.{LeaseView, IsFull, fresh}
 use Rattle.page_book.specs.Books.{BookView, IsOurs, refusal}
 use Rattle.page_book.specs.OpenLeases.{OpenView, open_at, nothing_taken, lent_with}
 use Rattle.page_book.specs.Recordings.{RecordingView, GoesOut, IsFilled}
-use Rattle.primary_pool.specs.Running.{IsIdle, AreThrough, Continues, GoWithin, HearsOn}
-use Rattle.primary_pool.specs.Leading.{IsAlone, Settles, IsFurther, IsThrough, Goes, Rounds, HasRun, IsSoFar, steps_left}
+use Rattle.primary_pool.specs.Running.{IsIdle, AreThrough, IsThrough, Continues, GoWithin, HearsMore}
+use Rattle.primary_pool.specs.Leading.{IsAlone, Settles, IsFurther, Goes, Rounds, HasRun, IsSoFar, steps_left}
 use Rattle.primary_pool.proofs.Filling.{row_kept}
 
 -- ---- a book goes on
@@ -38,7 +38,7 @@ added_on : (a b c : Edges) (found rest : List Edge) → AreAdded a found b → A
 added_on a b c [] rest same on = subst (λ (x : Edges). AreAdded x rest c) same on
 added_on a b c (e ∷ found) rest (now, one, more) on = (now, one, added_on now b c found rest more on)
 
-hears_more : (a : List (ℕ × Input)) (m : ℕ) (b : List (ℕ × Input)) (n : ℕ) (c : List (ℕ × Input)) → m ≤ n → HearsOn a m b → HearsOn b n c → HearsOn a m c
+hears_more : (a : List (ℕ × Input)) (m : ℕ) (b : List (ℕ × Input)) (n : ℕ) (c : List (ℕ × Input)) → m ≤ n → HearsMore a m b → HearsMore b n c → HearsMore a m c
 hears_more a m b n c le p q = (
   p.0 ++ q.0,
   q.1 ∙ ap (λ (row : List (ℕ × Input)). row ++ q.0) p.1 ∙ append_assoc a p.0 q.0,
@@ -292,8 +292,6 @@ further_on b c d p q =
           omega (arith, first, second);
     }
 
-pub round_begins : (b : BookView RecordingView) → Rounds false 0 b b
-round_begins b = (refl, λ hart lt. absurd (omega (arith, lt)))
 
 pub round_goes : (went : Bool) (n : ℕ) (b c d : BookView RecordingView) → Rounds went n b c → Goes true n c d → Rounds true (n + 1) b d
 round_goes true n b c d p q = further_on b c d p q
@@ -312,13 +310,7 @@ round_holds false n b c d p q = (
       ],
 )
 
-pub round_idle : (went : Bool) (n : ℕ) (b c : BookView RecordingView) → IsIdle b → Rounds went n b c → IsIdle c
-round_idle true n b c idle p = p.idle
-round_idle false n b c idle p = subst (λ (x : BookView RecordingView). IsIdle x) (sym p.0) idle
 
-pub round_harts : (went : Bool) (n : ℕ) (b c : BookView RecordingView) → Rounds went n b c → length c.machine.harts ≡ length b.machine.harts
-round_harts true n b c p = p.continues.harts
-round_harts false n b c p = ap (λ (x : BookView RecordingView). length x.machine.harts) p.0
 
 -- ---- rounds
 
@@ -335,8 +327,6 @@ leads_on a b c p q =
       counts = within_on a b c p.limits p.counts q.counts;
     }
 
-pub leads_nearer : (b c : BookView RecordingView) → IsFurther b c → steps_left c.mode.limits c.machine.harts < steps_left b.mode.limits b.machine.harts
-leads_nearer b c q = subst (λ (row : List ℕ). steps_left row c.machine.harts < steps_left b.mode.limits b.machine.harts) (sym q.limits) q.fewer
 
 some_below : (harts : List Hart) (hart : ℕ) (h : Hart) → slice_get harts hart ≡ Some h → hart < length harts
 some_below [] hart h there = cc

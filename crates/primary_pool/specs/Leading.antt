@@ -11,7 +11,7 @@ use Rattle.page_book.specs.OpenLeases.{open_at}
 use Rattle.page_book.specs.Books.{BookView, IsOurs, added}
 use Rattle.page_book.specs.Recordings.{RecordingView, heard_by, LogsInputs, AreLogged, right_at}
 use Rattle.page_book.specs.Runs.{LeadsTo, harts_of, counts_of}
-use Rattle.primary_pool.specs.Running.{IsIdle, Continues, GoWithin}
+use Rattle.primary_pool.specs.Running.{IsIdle, IsThrough, Continues, GoWithin}
 
 -- ---- one lease
 
@@ -95,10 +95,6 @@ pub record IsFurther (b c : BookView RecordingView) : Type 0 where
   pub continues : Continues b c
   pub counts : GoWithin b c
   pub fewer : steps_left b.mode.limits c.machine.harts < steps_left b.mode.limits b.machine.harts
-
--- the hart is halted, or has come to its limit
-abbrev pub IsThrough : BookView RecordingView → ℕ → Type 0
-IsThrough b hart = (h : Hart) → slice_get b.machine.harts hart ≡ Some h → (h.halted ≡ true) ⊎ (count_at b.mode.limits hart ≤ h.count)
 
 -- the hart went, or nothing has changed, and it is through
 abbrev pub Goes : Bool → ℕ → BookView RecordingView → BookView RecordingView → Type 0

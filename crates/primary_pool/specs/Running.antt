@@ -15,9 +15,13 @@ use Rattle.page_book.specs.Recordings.{RecordingView, heard_by}
 abbrev pub IsIdle : {M : Type 0} → BookView M → Type 0
 IsIdle b = b.leases ≡ replicate 8 None
 
--- each hart is halted, or has come to its limit
+-- the hart is halted, or has come to its limit
+abbrev pub IsThrough : BookView RecordingView → ℕ → Type 0
+IsThrough b hart = (h : Hart) → slice_get b.machine.harts hart ≡ Some h → (h.halted ≡ true) ⊎ (count_at b.mode.limits hart ≤ h.count)
+
+-- each hart is
 abbrev pub AreThrough : BookView RecordingView → Type 0
-AreThrough b = (hart : ℕ) (h : Hart) → slice_get b.machine.harts hart ≡ Some h → (h.halted ≡ true) ⊎ (count_at b.mode.limits hart ≤ h.count)
+AreThrough b = (hart : ℕ) → IsThrough b hart
 
 -- no count falls, and none goes past its hart's limit
 abbrev pub GoWithin : BookView RecordingView → BookView RecordingView → Type 0
@@ -26,15 +30,15 @@ GoWithin b c =
     (counts_of c.machine hart ≤ max (count_at b.mode.limits hart) (counts_of b.machine hart))
 
 -- what a hart was given before stays, and the rest was given at its settled count or later
-abbrev pub HearsOn : List (ℕ × Input) → ℕ → List (ℕ × Input) → Type 0
-HearsOn before count after = (more : List (ℕ × Input)) × (after ≡ before ++ more) × All (λ x. count ≤ x.0) more
+abbrev pub HearsMore : List (ℕ × Input) → ℕ → List (ℕ × Input) → Type 0
+HearsMore before count after = (more : List (ℕ × Input)) × (after ≡ before ++ more) × All (λ x. count ≤ x.0) more
 
 -- The second book goes on from the first: what the first tells begins what the second tells.
 pub record Continues (b c : BookView RecordingView) : Type 0 where
   pub start : c.start ≡ b.start
   pub harts : length c.machine.harts ≡ length b.machine.harts
   pub journal : (more : List Stretch) × (c.journal ≡ b.journal ++ more)
-  pub inputs : (hart : ℕ) → HearsOn (inputs_of b.mode.inputs hart) (counts_of b.machine hart) (inputs_of c.mode.inputs hart)
+  pub inputs : (hart : ℕ) → HearsMore (inputs_of b.mode.inputs hart) (counts_of b.machine hart) (inputs_of c.mode.inputs hart)
   pub edges : (found : List Edge) × AreAdded b.mode.edges found c.mode.edges
 
 -- What the journal has more leads from the first machine to the second, each step on what the log has now at its count.
