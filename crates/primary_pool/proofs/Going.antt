@@ -292,7 +292,6 @@ further_on b c d p q =
           omega (arith, first, second);
     }
 
-
 pub round_goes : (went : Bool) (n : ℕ) (b c d : BookView RecordingView) → Rounds went n b c → Goes true n c d → Rounds true (n + 1) b d
 round_goes true n b c d p q = further_on b c d p q
 round_goes false n b c d p q = further_from b c d p.0 q
@@ -310,8 +309,6 @@ round_holds false n b c d p q = (
       ],
 )
 
-
-
 -- ---- rounds
 
 pub begins : (b : BookView RecordingView) → IsIdle b → HasRun b → IsSoFar b b
@@ -326,7 +323,6 @@ leads_on a b c p q =
       continues = continues_on a b c p.counts p.continues q.continues;
       counts = within_on a b c p.limits p.counts q.counts;
     }
-
 
 some_below : (harts : List Hart) (hart : ℕ) (h : Hart) → slice_get harts hart ≡ Some h → hart < length harts
 some_below [] hart h there = cc

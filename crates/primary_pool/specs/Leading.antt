@@ -1,8 +1,7 @@
 -- A primary that goes on lease by lease: private words.
-use Rattle.std.specs.Prelude.{◌≡◌, ◌≢◌, ◌<◌, ◌≤◌, ◌+◌, ◌-◌, ◌⊎◌, ℕ, List, [], ◌∷◌, map, length, slice_get, slice_set, Bool, true, false, Option, None, Some}
+use Rattle.std.specs.Prelude.{◌≡◌, ◌≢◌, ◌<◌, ◌≤◌, ◌+◌, ◌-◌, ◌⊎◌, ℕ, List, [], ◌∷◌, map, length, slice_set, Bool, true, false, Option, None, Some}
 use Rattle.ft_types.specs.declared.names.Want.{Want}
 use Rattle.ft_types.specs.declared.names.Want.TheVariants.{Read, Write}
-use Rattle.ft_types.specs.Counts.{count_at}
 use Rattle.interleaving.specs.Log.{counts_after}
 use Rattle.rv32_hart.specs.Hart.{Hart}
 use Rattle.page_book.specs.Slots.{want_of}
