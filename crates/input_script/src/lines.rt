@@ -28,8 +28,14 @@ fn read_hart(harts: u8, text: &[u8]) -> Option<Hart>
     ensures none { IfNone result ((h : ℕ) → IsHart harts h → text.now ≡ decimal h → ⊥) }
 {
     match read_number(text) {
-        Some(number) if number < u64::from(harts.min(HART_LIMIT)) => Some(Hart::new(number as u8)),
-        _ => None,
+        None => None,
+        Some(number) => {
+            if number < u64::from(harts.min(HART_LIMIT)) {
+                Some(Hart::new(number as u8))
+            } else {
+                None
+            }
+        }
     }
 }
 
@@ -39,8 +45,14 @@ fn read_count(text: &[u8]) -> Option<Count>
     ensures none { IfNone result ((n : ℕ) → n < 2 ^ 48 → text.now ≡ decimal n → ⊥) }
 {
     match read_number(text) {
-        Some(number) if number < COUNT_LIMIT => Some(number),
-        _ => None,
+        None => None,
+        Some(number) => {
+            if number < COUNT_LIMIT {
+                Some(number)
+            } else {
+                None
+            }
+        }
     }
 }
 

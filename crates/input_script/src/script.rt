@@ -43,11 +43,7 @@ fn read_lines(alloc: Global, bytes: &[u8], harts: u8) -> Result<Vec<Offered>, Sc
 }
 
 /// Reads a script for this number of harts.
-pub fn read_script(
-    alloc: Global,
-    bytes: &[u8],
-    harts: u8,
-) -> Result<Vec<Offered>, ScriptFault>
+pub fn read_script(alloc: Global, bytes: &[u8], harts: u8) -> Result<Vec<Offered>, ScriptFault>
     // What is read is spelled so.
     ensures found { IfOk result (λ script. AreOffered harts script.items × (bytes.now ≡ script_text script.items)) }
     // The first line at fault decides.

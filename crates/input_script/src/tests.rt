@@ -63,7 +63,10 @@ fn the_first_line_at_fault_decides(rt: HostRuntime) -> Result<(), Fail> {
         (b"0 0 timers\n", 1),
     ];
     for (text, line) in faults {
-        assert_eq!(rt; read_script(rt.alloc(), text, 2).err(), Some(ScriptFault::BadLine(line)));
+        assert_eq!(rt;
+            read_script(rt.alloc(), text, 2).err(),
+            Some(ScriptFault::BadLine(line))
+        );
     }
     Ok(())
 }
