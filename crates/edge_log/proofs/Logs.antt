@@ -13,7 +13,7 @@ use Rattle.edge_log.specs.declared.Edge.{Edge}
 use Rattle.edge_log.specs.declared.Added.{Added}
 use Rattle.edge_log.specs.declared.Added.TheVariants.{New, Implied}
 use Rattle.edge_log.specs.Rows.{IsPut, SaysAsMuch, EdgesOfOne}
-use Rattle.edge_log.specs.EdgeLog.{edge_as, IsOfHart, IsLog}
+use Rattle.edge_log.specs.EdgeLog.{edge_as, IsOfHart, IsLater, IsLog}
 use Rattle.edge_log.proofs.Rows.{put_has, put_kept, put_among, all_put}
 
 pub edges_at_map : (rows : List EdgesOfOne) (h : ℕ) (d : EdgesOfOne) → h < length rows → get_or (map (λ r. r.edges) rows) h [] ≡ (get_or rows h d).edges
@@ -117,8 +117,8 @@ module _ (start : List ℕ) (rows : List (List Edge)) (log : IsLog start rows) w
     its_row : get_or (set rows e.hart row) e.hart [] ≡ row
     its_row = get_or-set_same rows e.hart row [] small
 
-    pub log_after : e.other < length start → count_at start e.hart ≤ e.at → IsLog start (set rows e.hart row)
-    log_after other from =
+    pub log_after : e.other < length start → count_at start e.hart ≤ e.at → IsLater start e → IsLog start (set rows e.hart row)
+    log_after other from later =
         record {
           harts = log.harts;
           eight = length-set rows e.hart row ∙ log.eight;
@@ -129,6 +129,12 @@ module _ (start : List ℕ) (rows : List (List Edge)) (log : IsLog start rows) w
                     rw (same, its_row)
                     (all_put (IsOfHart start e.hart) (get_or rows e.hart []) e row put (record { own = refl; other = other; from_start = from }) (log.own e.hart))
                 | inr ne ↦ rw (others_row h ne) (log.own h)
+              ];
+          later =
+              λ h.
+              elim (cases_eq h e.hart) [
+                | inl same ↦ rw (same, its_row) (all_put (IsLater start) (get_or rows e.hart []) e row put later (log.later e.hart))
+                | inr ne ↦ rw (others_row h ne) (log.later h)
               ];
         }
 
@@ -289,7 +295,7 @@ module _ (start : List ℕ) (inner : List EdgesOfOne) (log : IsLog start (map (�
     still_log = go result refl
       where
         go : (o : Result Added Memory) → result ≡ o → IsLog start (map (λ r. r.edges) (set inner i new))
-        go (Ok New) f = subst (IsLog start) (sym rows_are) (log_after start (map (λ r. r.edges) inner) log e there new.edges (put_in f) other from)
+        go (Ok New) f = subst (IsLog start) (sym rows_are) (log_after start (map (λ r. r.edges) inner) log e there new.edges (put_in f) other from more)
         go (Ok Implied) f = subst (IsLog start) (sym (all_stay (kept (λ g. let h = sym f ∙ g in cc)))) log
         go (Err m) f = subst (IsLog start) (sym (all_stay (kept (λ g. let h = sym f ∙ g in cc)))) log
 

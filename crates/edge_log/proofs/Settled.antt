@@ -1,6 +1,7 @@
 -- Edges that are added one after another to one row.
 use Rattle.std.proofs.Common.{◌≡◌, ◌≢◌, ℕ, ◌<◌, ◌≤◌, List, [], ◌∷◌, ◌++◌, length, get_or, set, map, refl, sym, ap, subst, ◌∙◌, inl, inr, le_refl, All, Contains, Result, Ok, Err, OnOk, OnErr, arith, append_assoc, append-nil, length-set, get_or-set_same, get_or-set_other}
 use Rattle.std.specs.List.{flat_map}
+use Rattle.std.proofs.lemmas.Bool.{cases_lt}
 use Rattle.std.proofs.lemmas.List.{set-get_or, set-set, map-set, length-map}
 use Rattle.std.proofs.lemmas.List.Elements.{All-head, All-tail}
 use Rattle.ft_types.specs.Counts.{count_at}
@@ -91,7 +92,7 @@ module _ (start : List ℕ) where
       entered rows log e now small other from not put = (
         Enters (λ implied. not (implying start rows log e implied)) (put_in_log rows e now small put),
         (λ all. enough_after start rows log e small now put other from (λ says. not (inr says)) all),
-        log_after start rows log e small now put other from,
+        log_after start rows log e small now put other from (elim (cases_lt (count_at start e.other) e.after) [ inl less ↦ less | inr le ↦ absurd (not (inl le)) ]),
       )
 
   -- an edge of the new log was in the old one, or was added

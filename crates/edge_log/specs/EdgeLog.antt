@@ -57,7 +57,12 @@ pub record IsOfHart (start : List ℕ) (hart : ℕ) (e : Edge) : Type 0 where
   pub other : e.other < length start
   pub from_start : count_at start hart ≤ e.at
 
+-- the edge says more than the start does
+abbrev pub IsLater : List ℕ → Edge → Type 0
+IsLater start e = count_at start e.other < e.after
+
 pub record IsLog (start : List ℕ) (rows : List (List Edge)) : Type 0 where
   pub harts : length start ≤ 8
   pub eight : length rows ≡ 8
   pub own : (hart : ℕ) → All (IsOfHart start hart) (slice_index_or rows hart [])
+  pub later : (hart : ℕ) → All (IsLater start) (slice_index_or rows hart [])

@@ -6,10 +6,11 @@ use Rattle.std.proofs.lemmas.Bool.Decides.{nat_tests}
 use Rattle.std.proofs.lemmas.List.Sums.{sum_by-cons}
 use Rattle.edge_log.specs.declared.Edge.{Edge}
 use Rattle.input_log.specs.declared.Input.{Input as HartInput}
+use Rattle.input_log.specs.Inputs.{IsInputOf}
 use Rattle.input_log.specs.declared.Input.TheVariants.{Timer, Word, Bell}
 use Rattle.fragment_codec.specs.declared.types.Record.{Record}
 use Rattle.fragment_codec.specs.declared.types.Record.TheVariants.{Edge as EdgeRecord, Input as InputRecord}
-use Rattle.fragment_codec.specs.Rules.{count_of, IsInputOf, IsFactOf, IsRecordOf, MayPrecede, AreInOrder, is_input_at, AreRecords}
+use Rattle.fragment_codec.specs.Rules.{count_of, IsFactOf, IsRecordOf, MayPrecede, AreInOrder, is_input_at, AreRecords}
 use Rattle.fragment_codec.proofs.Fields.{chosen_some}
 use Rattle.fragment_codec.specs.Slots.{free_slot, is_source, slot_after, if_some, are_right}
 

@@ -4,10 +4,11 @@ use Rattle.std.specs.List.{AllByRecursion}
 use Rattle.std.proofs.lemmas.List.{drop_all}
 use Rattle.ft_types.specs.Counts.{IsCount}
 use Rattle.input_log.specs.declared.Input.{Input as HartInput}
+use Rattle.input_log.specs.Inputs.{IsInputOf}
 use Rattle.input_log.specs.declared.Input.TheVariants.{Timer, Word, Bell}
 use Rattle.fragment_codec.specs.declared.types.Record.{Record}
 use Rattle.fragment_codec.specs.declared.types.Record.TheVariants.{Edge as EdgeRecord, Input as InputRecord}
-use Rattle.fragment_codec.specs.Rules.{FragmentParts, OpeningParts, IsFragment, IsOpening, IsRecordOf, IsInputOf, count_of}
+use Rattle.fragment_codec.specs.Rules.{FragmentParts, OpeningParts, IsFragment, IsOpening, IsRecordOf, count_of}
 use Rattle.fragment_codec.specs.Slots.{slot_after, are_right}
 use Rattle.fragment_codec.proofs.Order.{all_map}
 

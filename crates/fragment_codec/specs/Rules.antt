@@ -4,7 +4,7 @@ use Rattle.std.specs.List.{AllByRecursion}
 use Rattle.ft_types.specs.Counts.{IsCount}
 use Rattle.ft_types.specs.declared.guest.Guest.{Guest}
 use Rattle.input_log.specs.declared.Input.{Input as HartInput}
-use Rattle.input_log.specs.declared.Input.TheVariants.{Timer, Word, Bell}
+use Rattle.input_log.specs.Inputs.{IsInputOf}
 use Rattle.fragment_codec.specs.declared.types.Key.{Key}
 use Rattle.fragment_codec.specs.declared.types.Record.{Record}
 use Rattle.fragment_codec.specs.declared.types.Record.TheVariants.{Edge as EdgeRecord, Input as InputRecord}
@@ -35,12 +35,6 @@ pub record IsKey (harts : ℕ) (key : Key) : Type 0 where
 abbrev pub count_of : Record → ℕ
 count_of (EdgeRecord edge) = edge.at
 count_of (InputRecord at input) = at
-
--- a word has 32 bits, and a bell was rung by a hart of the guest
-abbrev pub IsInputOf : ℕ → HartInput → Type 0
-IsInputOf harts Timer = Unit {0}
-IsInputOf harts (Word word) = word < 2 ^ 32
-IsInputOf harts (Bell source) = source < harts
 
 -- an edge is the hart's own, and names another hart of the guest and at least one step of it
 abbrev pub IsFactOf : ℕ → ℕ → Record → Type 0

@@ -1,5 +1,5 @@
 -- Inputs at counts.
-use Rattle.std.specs.Prelude.{ℕ, ◌≡◌, ◌≢◌, ◌<◌, ◌≤◌, ◌==◌, ◌++◌, Bool, true, false, List, [], map, filter, zip, length, slice_index_or, All}
+use Rattle.std.specs.Prelude.{ℕ, ◌≡◌, ◌≢◌, ◌<◌, ◌≤◌, ◌==◌, ◌++◌, ◌^◌, Bool, true, false, List, [], map, filter, zip, length, slice_index_or, All}
 use Rattle.std.specs.List.Sorted.{IsNonDecreasing}
 use Rattle.input_log.specs.declared.Input.{Input}
 use Rattle.input_log.specs.declared.Input.TheVariants as input
@@ -9,6 +9,12 @@ abbrev pub is_bell : Input → Bool
 is_bell input.Timer = false
 is_bell (input.Word w) = false
 is_bell (input.Bell source) = true
+
+-- of a machine with so many harts: a word has 32 bits, and a bell was rung by one of them
+abbrev pub IsInputOf : ℕ → Input → Type 0
+IsInputOf harts input.Timer = Unit {0}
+IsInputOf harts (input.Word w) = w < 2 ^ 32
+IsInputOf harts (input.Bell source) = source < harts
 
 -- a hart's inputs, each beside its count
 abbrev pub inputs_of : List (List (ℕ × Input)) → ℕ → List (ℕ × Input)

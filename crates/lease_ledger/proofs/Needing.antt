@@ -184,7 +184,7 @@ module _ {Hart Page Input : Type 0} (system : System Hart Page Input) (crew : �
         let o = owed.only e i in
         let p = owes_only_settled (scene system crew m past b.edges b.stubs page) r h want n e right o in
         let at : e.step ≡ n = o.at in
-        record { own = o.own; other = p.0; unsettled = omega arith; met = p.1 }
+        record { own = o.own; other = p.0; another = subst (λ g. e.other ≢ g) (sym o.own) o.other; unsettled = omega arith; met = p.1 }
 
     stands_now : has_it r h want ≡ false → StoodAt (counts system m h) next n
     stands_now lacks = go want free lacks

@@ -36,7 +36,7 @@ module _ {Hart Page Input : Type 0} (system : System Hart Page Input) (crew : �
           edges =
               λ e i.
               let a = heard e i in
-              record { own = a.own; other = a.other; unsettled = le_of_eq (sym a.at); met = a.settled };
+              record { own = a.own; other = a.other; another = a.another; unsettled = le_of_eq (sym a.at); met = a.settled };
           in_order =
               pairs_all InOrder edges
               (λ e f in_e in_f same.

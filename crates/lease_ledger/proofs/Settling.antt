@@ -245,6 +245,7 @@ module _ {Hart Page Input : Type 0} (system : System Hart Page Input) (crew : �
             record {
               hart = o.hart;
               other = o.other;
+              another = o.another;
               from_start = o.from_start;
               so_far = le_trans o.so_far (grow e.hart);
               met = le_trans o.met (grow e.other);
@@ -254,6 +255,7 @@ module _ {Hart Page Input : Type 0} (system : System Hart Page Input) (crew : �
             record {
               hart = subst (λ g. g < crew) (sym o.own) stub_is.is_hart;
               other = o.other;
+              another = o.another;
               from_start = le_trans (started e.hart) (subst (λ g. counts system m g ≤ e.step) (sym o.own) o.unsettled);
               so_far = subst (λ g. e.step ≤ counts system end g) (sym o.own) (stood_by e.step (stub_is.stood e f));
               met = le_trans o.met (grow e.other);
@@ -280,6 +282,7 @@ module _ {Hart Page Input : Type 0} (system : System Hart Page Input) (crew : �
             record {
               own = o.own;
               other = o.other;
+              another = o.another;
               unsettled = subst (λ x. system.count x ≤ e.step) (sym stays_put) o.unsettled;
               met = le_trans o.met (grow e.other);
             };

@@ -1,5 +1,5 @@
 -- The calls of a ledger, and the ledgers that they lead to.
-use Rattle.std.specs.Prelude.{ℕ, ◌≡◌, ◌≤◌, ◌<◌, is_some, Bool, true, false, List, ◌++◌, Option, Some, None, Contains, if◌then◌else◌}
+use Rattle.std.specs.Prelude.{ℕ, ◌≡◌, ◌≢◌, ◌≤◌, ◌<◌, is_some, Bool, true, false, List, ◌++◌, Option, Some, None, Contains, if◌then◌else◌}
 use Rattle.ft_types.specs.declared.names.Want.{Want}
 use Rattle.interleaving.specs.Lists.{put}
 use Rattle.interleaving.specs.Machine.{System, Machine, counts}
@@ -100,6 +100,7 @@ module _ {Hart Page Input : Type 0} (system : System Hart Page Input) where
     pub own : e.hart ≡ hart
     pub at : e.step ≡ counts system m hart
     pub other : e.other < crew
+    pub another : e.other ≢ e.hart
     pub settled : e.count ≤ counts system m e.other
 
   -- The ledgers of a machine with `crew` harts. Whatever value of the lease's type passes the comparison may be handed in.

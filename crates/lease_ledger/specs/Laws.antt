@@ -79,10 +79,11 @@ module _ {Hart Page Input : Type 0} (system : System Hart Page Input) where
 
   -- The order of edges.
 
-  -- an edge of the log is between harts that there are, of a step that its hart had reached, and met
+  -- an edge of the log is between two harts that there are, of a step that its hart had reached, and met
   pub record IsInLog (crew : ℕ) (start m : Machine Hart Page) (e : Edge) : Type 0 where
     pub hart : e.hart < crew
     pub other : e.other < crew
+    pub another : e.other ≢ e.hart
     pub from_start : counts system start e.hart ≤ e.step
     pub so_far : e.step ≤ counts system m e.hart
     pub met : e.count ≤ counts system m e.other
@@ -91,6 +92,7 @@ module _ {Hart Page Input : Type 0} (system : System Hart Page Input) where
   pub record IsWaiting (crew : ℕ) (m : Machine Hart Page) (hart : ℕ) (e : Edge) : Type 0 where
     pub own : e.hart ≡ hart
     pub other : e.other < crew
+    pub another : e.other ≢ e.hart
     pub unsettled : counts system m hart ≤ e.step
     pub met : e.count ≤ counts system m e.other
 

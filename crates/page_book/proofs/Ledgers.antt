@@ -92,6 +92,7 @@ lent_due r hart lent start m journal leases is_hart row closed inputs edges p =
       dues = p.dues;
       due = p.due;
       bells = p.bells;
+      inputs = p.inputs;
       given =
           set_each (λ h o. o.inputs ≡ (due_at r.due h).inputs) leases hart (Some (nothing_taken lent)) row
           (λ o e. let same : nothing_taken lent ≡ o = cc in ap (λ (v : OpenView). v.inputs) (sym same) ∙ inputs) p.given;
@@ -115,6 +116,7 @@ lent_due r hart lent start m journal leases is_hart row closed inputs edges p =
           own = d.own;
           at = d.at ∙ sym (count_in hart);
           other = omega (arith, d.other, p.harts_stay);
+          another = λ e. d.another (e ∙ d.own);
           settled = omega (arith, d.settled, count_in x.other);
         })
 
@@ -330,6 +332,7 @@ module _ (r : RecordingView) (machine : MachineState) (leases : List (Option Ope
             dues = p.dues;
             due = p.due;
             bells = p.bells;
+            inputs = record { logged = p.inputs.logged; due = p.inputs.due; waiting = p.inputs.waiting };
             given =
                 set_each (λ h o. o.inputs ≡ (due_at r.due h).inputs) leases asked.hart _ row_there
                 (λ o e.

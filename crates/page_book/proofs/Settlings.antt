@@ -31,11 +31,11 @@ use Rattle.page_book.specs.Recorded.{stub_of, as_lease, system}
 use Rattle.page_book.specs.Modes.{IsSettling, HearsOn}
 use Rattle.page_book.specs.Recordings.{RecordingView, IsRecorded, IsSettled, LogsInputs, heard_by, keep_as, right_at, stub_as}
 use Rattle.page_book.proofs.Compared.{lent_ours, settled_is}
-use Rattle.input_log.specs.Inputs.{inputs_of}
+use Rattle.input_log.specs.Inputs.{IsInputOf, inputs_of}
 use Rattle.page_book.specs.Dues.{DueView}
 use Rattle.page_book.proofs.Journals.{turns_go_on, stands_ours, row-set_some, row-set_other, others_laid, get-set_here}
 use Rattle.page_book.proofs.Places.{get_within}
-use Rattle.page_book.proofs.Dues.{last_logged, heard_on, still_logged, still_due, still_rung, dues_stay, others_due}
+use Rattle.page_book.proofs.Dues.{last_logged, heard_on, still_logged, still_due, still_rung, dues_stay, others_due, still_inputs}
 use Rattle.page_book.proofs.Played.{played_with, present_played}
 use Rattle.page_book.proofs.Laid.{length-laid_pages}
 use Rattle.page_book.proofs.Slots.{length-map, index-map}
@@ -220,6 +220,10 @@ module _ (r : RecordingView) (l : LeaseView) (s : IsSettling (IsRecorded r) l) w
           dues = dues_stay r new s.start s.machine s.journal s.leases l s.is_lease lent_at now_at in_row (others_laid s.machine l) harts_many s.kept l.steps is.due;
           due = still_due r new s.start s.machine s.journal s.leases l s.is_lease lent_at now_at in_row (others_laid s.machine l) harts_many s.kept l.steps refl is.due;
           bells = still_rung r new s.start s.machine s.journal s.leases l s.is_lease lent_at now_at in_row (others_laid s.machine l) harts_many s.kept (get_within s.machine.harts l.hart l.base on.state) is.desk;
+          inputs =
+              still_inputs (length s.start.harts) r new l l.steps in_row
+              (subst (All (IsInputOf (length s.start.harts))) (sym (its.is_open.inputs ∙ s.kept.given l.hart its.lent its.is)) (s.kept.inputs.due l.hart)) is.inputs is.due is.desk
+              s.kept.inputs;
           given =
               λ other o e.
               let ne = row-set_other s.leases l.hart other o e (open_within s.leases l.hart its.lent its.is) in

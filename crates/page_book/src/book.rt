@@ -1,6 +1,6 @@
 //! The book.
 
-ghost use Rattle.std.specs.Prelude.{◌≡◌, ◌≢◌, ◌<◌, ◌≤◌, ◌^◌, ◌⊎◌, ◌+◌, ◌↔◌, ◌++◌, ◌∷◌, ℕ, List, [], length, replicate, map, slice_set, slice_get, slice_index, slice_index_or, Some, None, Ok, Err, true, false, IfOk, IfErr, OnOk, OnErr, IsTrue};
+ghost use Rattle.std.specs.Prelude.{All, ◌≡◌, ◌≢◌, ◌<◌, ◌≤◌, ◌^◌, ◌⊎◌, ◌+◌, ◌↔◌, ◌++◌, ◌∷◌, ℕ, List, [], length, replicate, map, slice_set, slice_get, slice_index, slice_index_or, Some, None, Ok, Err, true, false, IfOk, IfErr, OnOk, OnErr, IsTrue};
 ghost use Rattle.std.specs.Vec.{vec_len, vec_capacity};
 ghost use Rattle.ft_types.specs.Counts.{count_at, greater};
 ghost use Rattle.ft_types.specs.Sets.{IsMember};
@@ -10,10 +10,11 @@ ghost use Rattle.interleaving.specs.Log.{IsMet, HasUnmet};
 ghost use Rattle.page_book.specs.Runs.{LeadsTo, IsLease, BeginsSchedule, counts_of};
 ghost use Rattle.page_book.specs.OpenLeases.{OpenView, open_at, nothing_taken, given_more, lent_with};
 ghost use Rattle.page_book.specs.Books.{BookView, IsOurs, added, IsLentBy, HasTaken, refusal};
+ghost use Rattle.edge_log.specs.EdgeLog.{row_of};
 ghost use Rattle.page_book.specs.Asks.{asked_by};
 ghost use Rattle.page_book.specs.Modes.{IsAsking};
-ghost use Rattle.page_book.specs.Recordings.{RecordingView, IsUnused, IsOffered, heard_by, HasHonestLog};
-ghost use Rattle.input_log.specs.Inputs.{is_bell};
+ghost use Rattle.page_book.specs.Recordings.{RecordingView, IsUnused, IsOffered, IsBetween, heard_by, HasHonestLog};
+ghost use Rattle.input_log.specs.Inputs.{IsInputOf, inputs_of, is_bell};
 ghost use Rattle.page_book.specs.Answers.{IfHeldBy, OnHeldBy, OnGiven};
 ghost use Rattle.rv32_hart.specs.Hart.{Hart as HartRecord};
 
@@ -95,13 +96,16 @@ impl Book<Recording> {
     pub fn edges(&self) -> &EdgeLog
         ensures value { result.now ≡ self.now.mode.edges }
         ensures honest { HasHonestLog result.now (heard_by self.now.mode) self.now.start self.now.journal self.now.machine }
+        // Each is between two harts, and what it names has been settled.
+        ensures between { (hart : ℕ) → All (IsBetween self.now.machine hart) (row_of result.now hart) }
     {
         self.mode.edges()
     }
 
     /// The inputs that the harts were given at the settled steps.
     pub fn inputs(&self) -> &InputLog
-        ensures { result.now ≡ self.now.mode.inputs }
+        ensures value { result.now ≡ self.now.mode.inputs }
+        ensures each { (hart : ℕ) → All (λ x. IsInputOf (length self.now.machine.harts) x.1) (inputs_of result.now hart) }
     {
         self.mode.inputs()
     }

@@ -12,7 +12,7 @@ ghost use Rattle.input_log.specs.declared.WaitingBell.{WaitingBell as bell_of_sp
 ghost use Rattle.input_log.specs.Waiting.{Queues};
 ghost use Rattle.page_book.specs.Modes.{IsSettling};
 ghost use Rattle.page_book.specs.OpenLeases.{has_taken};
-ghost use Rattle.input_log.specs.Inputs.{is_bell, inputs_of};
+ghost use Rattle.input_log.specs.Inputs.{IsInputOf, is_bell, inputs_of};
 ghost use Rattle.page_book.specs.Dues.{nothing_due, due_at, is_silent, stop_before};
 ghost use Rattle.page_book.specs.Runs.{counts_of};
 ghost use Rattle.page_book.specs.Recordings.{RecordingView, IsUnused, IsRecorded, heard_by, IsFilled, GoesOut, IsOffered, LogsInputs, due_after, AreLogged, PutsBell, IsTaker, AreOwed, IsGiven, IsSettled, IsEnded, keep_as, right_at, right_met, yielded};
@@ -180,8 +180,13 @@ impl Recording {
         requires { is_bell input ≡ false }
         ensures ok { OnOk result (IsOffered self.old hart not_before input self.new) }
         ensures err { OnErr result (self.new ≡ self.old) }
+        // It may be given to each machine.
+        ensures each { (harts : ℕ) → IsInputOf harts input }
     {
-        self.desk.put(hart, not_before, input)
+        match input {
+            Input::Timer | Input::Word(_) => self.desk.put(hart, not_before, input),
+            Input::Bell(_) => unreachable!(),
+        }
     }
 
     /// Sees to it that the hart, which is at this count, has due what its next step is given: what a lease that ended without
