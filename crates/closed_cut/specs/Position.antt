@@ -8,6 +8,7 @@ use Rattle.edge_log.specs.EdgeLog.{edge_as}
 use Rattle.fragment_codec.specs.declared.types.Record.{Record}
 use Rattle.fragment_codec.specs.declared.types.Record.TheVariants.{Edge as EdgeRecord, Input as InputRecord}
 use Rattle.fragment_codec.specs.Rules.{FragmentParts, OpeningParts}
+use Rattle.fragment_codec.specs.Pieces.{edge_in}
 use Rattle.log_join.specs.Cells.{Cell, One}
 use Rattle.log_join.specs.Stores.{StoreView, opening_at, fragment_at}
 use Rattle.closed_cut.specs.Chain.{Sound, IsTop}
@@ -16,11 +17,6 @@ use Rattle.closed_cut.specs.declared.answer.Position.{Position}
 -- a hart's pieces of a term, by place
 abbrev pub pieces_of : StoreView → ℕ → ℕ → ℕ → Cell FragmentParts
 pieces_of store term hart place = fragment_at store (record { term = term; hart = hart; place = place })
-
--- the edge that a record is
-abbrev pub edge_in : Record → Option OwnedEdge
-edge_in (EdgeRecord edge) = Some edge
-edge_in (InputRecord at input) = None
 
 -- the edges of a piece, in the theory's words
 abbrev pub edges_of : FragmentParts → List Edge

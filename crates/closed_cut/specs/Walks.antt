@@ -10,7 +10,8 @@ use Rattle.fragment_codec.specs.Rules.{FragmentParts}
 use Rattle.log_join.specs.Cells.{Cell, Absent, One, Clash}
 use Rattle.log_join.specs.Stores.{StoreView}
 use Rattle.closed_cut.specs.Chain.{Sound}
-use Rattle.closed_cut.specs.Position.{edge_in, Goes}
+use Rattle.fragment_codec.specs.Pieces.{edge_in}
+use Rattle.closed_cut.specs.Position.{Goes}
 
 abbrev pub cell_edges : Cell FragmentParts → List Edge
 cell_edges Absent = []

@@ -7,6 +7,9 @@ use Rattle.edge_log.specs.declared.Edge.{Edge as OwnedEdge}
 use Rattle.edge_log.specs.EdgeLog.{Edges, row_of}
 use Rattle.input_log.specs.declared.Input.{Input as HartInput}
 use Rattle.input_log.specs.Inputs.{inputs_of}
+use Rattle.page_book.specs.Books.{BookView}
+use Rattle.page_book.specs.Recordings.{RecordingView}
+use Rattle.page_book.specs.Runs.{counts_of}
 use Rattle.fragment_codec.specs.declared.types.Record.{Record}
 use Rattle.fragment_codec.specs.declared.types.Record.TheVariants.{Edge as EdgeRecord, Input as InputRecord}
 use Rattle.fragment_codec.specs.declared.frame.Frame.{Frame}
@@ -112,6 +115,17 @@ hart_log guest term edges inputs settled hart =
       hart = hart;
       settled = count_at settled hart;
       facts = record { edges = row_of edges hart; inputs = inputs_of inputs hart };
+    }
+
+-- the log of a hart of a recording book
+abbrev pub book_log : Guest → ℕ → BookView RecordingView → ℕ → HartLog
+book_log guest term book hart =
+    record {
+      guest = guest;
+      term = term;
+      hart = hart;
+      settled = counts_of book.machine hart;
+      facts = record { edges = row_of book.mode.edges hart; inputs = inputs_of book.mode.inputs hart };
     }
 
 -- each edge of the log is one that a fragment of a guest with so many harts can tell

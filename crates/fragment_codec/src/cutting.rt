@@ -1,9 +1,10 @@
 //! Cuts the logs of a guest's harts into pieces.
 
-ghost use Rattle.std.specs.Prelude.{◌≡◌, ◌≤◌, ◌<◌, length, filter, nat_lt, nat_le, IfOk, OnOk, OnErr};
-ghost use Rattle.ft_types.specs.Counts.{IsWithin};
+ghost use Rattle.std.specs.Prelude.{◌≡◌, ℕ, ◌≤◌, ◌<◌, length, filter, nat_lt, nat_le, IfOk, OnOk, OnErr};
+ghost use Rattle.ft_types.specs.Counts.{IsWithin, count_at};
 ghost use Rattle.fragment_codec.specs.Rules.{count_of, AreInOrder, IsGuest, IsFragment};
-ghost use Rattle.fragment_codec.specs.Pieces.{AreEdgesOf, AreInputsOf, IsCut, hart_log, mark_of};
+ghost use Rattle.fragment_codec.specs.Pieces.{AreEdgesOf, AreInputsOf, IsCut, hart_log, book_log, mark_of};
+ghost use Rattle.page_book.specs.Runs.{counts_of};
 ghost use Rattle.fragment_codec.specs.Cutting.{MayCut, CutsHart, end_of, log_of_records};
 
 use crate::frame::{Fragment, Frame, count};
@@ -13,6 +14,7 @@ use crate::types::{Key, Record};
 use edge_log::EdgeLog;
 use ft_types::{Count, Counts, Guest, Hart, Memory, Term};
 use input_log::InputLog;
+use page_book::{Book, Recording};
 use std::alloc::Global;
 
 /// The number of records in a piece, at the most.
@@ -132,4 +134,33 @@ pub fn cut_logs(
     }
     *sealed = next;
     Ok(frames)
+}
+
+/// Cuts what a recording book's log says from the sealed counts to the settled ones into pieces of this term, and seals it:
+/// each hart in order, as long as it has places. Where memory is refused nothing is cut, and `sealed` is as it was.
+pub fn cut_pieces(
+    alloc: Global,
+    book: &Book<Recording>,
+    guest: &Guest,
+    term: Term,
+    sealed: &mut Sealed,
+) -> Result<Vec<Frame>, Memory>
+    requires guest { IsGuest guest.now }
+    requires granted { 1 ≤ term }
+    requires book_harts { length book.now.machine.harts ≡ guest.now.harts }
+    requires sealed_harts { length sealed.old.reached ≡ guest.now.harts }
+    requires within { (hart : ℕ) → count_at sealed.old.reached hart ≤ counts_of book.now.machine hart }
+    ensures cut { IfOk result (λ frames. IsCut (book_log guest.now term book.now) guest.now.harts sealed.old frames.items sealed.new) }
+    ensures kept { OnErr result (sealed.new ≡ sealed.old) }
+{
+    let settled = book.counts();
+    cut_logs(
+        alloc,
+        book.edges(),
+        book.inputs(),
+        &settled,
+        guest,
+        term,
+        sealed,
+    )
 }

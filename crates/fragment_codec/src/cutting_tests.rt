@@ -16,7 +16,7 @@ use std::test::Fail;
 /// What is expected of a piece: hart, place, from, to and the number of records.
 type Shape = (u8, u32, Count, Count, usize);
 
-fn two_harts() -> Guest
+pub(crate) fn two_harts() -> Guest
     ensures guest { IsGuest result }
     ensures two { result.harts ≡ 2 }
 {
@@ -100,7 +100,7 @@ fn cut(
 }
 
 /// The frames are log frames of these shapes, in this order.
-fn have_shapes(frames: &[Frame], shapes: &[Shape]) -> bool {
+pub(crate) fn have_shapes(frames: &[Frame], shapes: &[Shape]) -> bool {
     frames.len() == shapes.len()
         && frames.iter().zip(shapes).all(|(frame, shape)| match frame {
             Frame::Opening(_) => false,

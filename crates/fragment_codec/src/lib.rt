@@ -15,7 +15,7 @@ mod types;
 mod writing;
 
 pub use cut_laws::{one_cut, one_piece, whole_counts};
-pub use cutting::cut_logs;
+pub use cutting::{cut_logs, cut_pieces};
 pub use fault::FrameFault;
 pub use feed::Feed;
 pub use frame::{Fragment, Frame, Opening};
@@ -24,6 +24,8 @@ pub use sealed::Sealed;
 pub use types::{Key, Record};
 pub use writing::write_frame;
 
+#[cfg(test)]
+mod book_tests;
 #[cfg(test)]
 mod cutting_tests;
 #[cfg(test)]

@@ -31,7 +31,7 @@ unfolding pages_with
 many_pages zero words = refl
 many_pages (suc n) words = ap suc (many_pages n (drop 1024 words))
 
-boot_pages : (image : ImageContents) → length (boot_machine image).pages ≡ image.pages
+pub boot_pages : (image : ImageContents) → length (boot_machine image).pages ≡ image.pages
 boot_pages image = many_pages image.pages image.words
 
 legs_keep_pages : (legs : List PlannedLeg) (m n : MachineState) → LegsLead legs m n → length n.pages ≡ length m.pages

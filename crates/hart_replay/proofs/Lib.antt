@@ -15,3 +15,4 @@ pub mod Ran
 pub mod Ended
 pub mod Outcomes
 pub mod Confluent
+pub mod Primaries

@@ -12,7 +12,8 @@ use Rattle.fragment_codec.specs.declared.types.Record.TheVariants.{Edge as EdgeR
 use Rattle.fragment_codec.specs.Rules.{FragmentParts, count_of}
 use Rattle.log_join.specs.Cells.{Cell, Absent, One, Clash}
 use Rattle.log_join.specs.Stores.{StoreView}
-use Rattle.closed_cut.specs.Position.{edge_in, pieces_of, Avail}
+use Rattle.fragment_codec.specs.Pieces.{edge_in, input_in}
+use Rattle.closed_cut.specs.Position.{pieces_of, Avail}
 use Rattle.hart_replay.specs.declared.plans.PlannedLeg.{PlannedLeg}
 use Rattle.hart_replay.specs.Plans.{log_of}
 
@@ -34,11 +35,6 @@ below end records = filter (λ fact. nat_lt (count_of fact) end) records
 -- the edges among records, in the theory's words
 abbrev pub edges_among : List Record → List Edge
 edges_among records = map edge_as (filter_map edge_in records)
-
--- the input that a record is, beside its count
-abbrev pub input_in : Record → Option (ℕ × Input)
-input_in (EdgeRecord edge) = None
-input_in (InputRecord at input) = Some (at, input)
 
 -- the inputs among records, each beside its count
 abbrev pub inputs_among : List Record → List (ℕ × Input)

@@ -6,3 +6,4 @@ pub mod Histories
 pub mod Laws
 pub mod Replays
 pub mod Leading
+pub mod Primaries

@@ -256,4 +256,5 @@ fn a_term_that_is_not_reached(rt: HostRuntime) -> Result<(), Fail> {
 #[test]
 fn laws_hold() {
     honest_plans::<u64, u64>();
+    honest_primaries();
 }

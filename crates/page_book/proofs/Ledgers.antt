@@ -1,5 +1,5 @@
 -- What a recording book keeps, when a lease is opened and when it gets a page.
-use Rattle.std.proofs.Common.{◌≡◌, ◌≢◌, ℕ, zero, suc, ◌<◌, ◌⊎◌, inl, inr, Bool, true, false, is_some, List, [], ◌++◌, slice_set, slice_get, map, length, replicate, Option, None, Some, option_map, Contains, refl, sym, ap, subst, ◌∙◌, arith, true≢false, if◌then◌else◌}
+use Rattle.std.proofs.Common.{◌≡◌, ◌≢◌, ℕ, zero, suc, ◌<◌, ◌⊎◌, inl, inr, Bool, true, false, is_some, List, ◌++◌, slice_set, map, length, Option, None, Some, option_map, Contains, refl, sym, ap, subst, ◌∙◌, arith, true≢false, if◌then◌else◌}
 use Rattle.std.proofs.lemmas.List.{get_or-set_same, get_or-set_other, map-append}
 use Rattle.std.proofs.lemmas.List.Elements.{All-contains}
 use Rattle.interleaving.specs.Lists.{put}
@@ -26,7 +26,7 @@ use Rattle.page_book.specs.declared.taken.Taken.{Taken}
 use Rattle.page_book.specs.Taken.{taken_at, right_of_taken, taking}
 use Rattle.page_book.specs.OpenLeases.{OpenView, LentView, lent_with, open_at, nothing_taken, given_more, has_taken}
 use Rattle.page_book.specs.Recorded.{system, stub_of, as_lease}
-use Rattle.page_book.specs.Runs.{counts_of, steps_taken}
+use Rattle.page_book.specs.Runs.{counts_of}
 use Rattle.page_book.specs.Books.{IsLentBy, IsOpen}
 use Rattle.page_book.specs.Modes.{IsAsking, KeepsLending}
 use Rattle.page_book.specs.Recordings.{RecordingView, right_at, IsTaker, yielded, right_met, AreOwed, IsGiven, IsRecorded, IsDueEdge, IsFilled, GoesOut, stub_as}
@@ -34,6 +34,7 @@ use Rattle.page_book.specs.Dues.{due_at, is_silent, stop_before}
 use Rattle.input_log.specs.Waiting.{bells_of, others_of, next_going}
 use Rattle.ft_types.specs.Counts.{count_at}
 use Rattle.page_book.specs.declared.stretch.Stretch.{Stretch}
+use Rattle.page_book.proofs.Counted.{counts_is}
 use Rattle.page_book.proofs.Journals.{row_within}
 use Rattle.page_book.proofs.Noted.{set_each, more}
 use Rattle.page_book.proofs.Dues.{filled_kept}
@@ -41,14 +42,6 @@ use Rattle.page_book.proofs.Recorded.{stub_fresh, stub_taking}
 use Rattle.page_book.proofs.Played.{played_with, present_played}
 use Rattle.page_book.proofs.Compared.{lent_ours}
 use Rattle.page_book.proofs.Yields.{still, nobody_stands, met_is}
-
--- how many steps a hart of the machine has taken, in the theory's words
-pub counts_is : (pages : ℕ) (m : MachineState) (hart : ℕ) → counts (system pages) (view (hardware pages) m) hart ≡ counts_of m hart
-counts_is pages m hart = of (slice_get m.harts hart)
-  where
-    of : (o : Option Hart) → (system pages).count o ≡ steps_taken o
-    of None = refl
-    of (Some h) = refl
 
 -- the stubs, with one put anew
 stubs_put : (stubs : ℕ → Option Stub) (leases : List (Option OpenView)) (hart : ℕ) (stub : Option Stub) (lent : Option OpenView) → hart < length leases →
@@ -96,6 +89,12 @@ lent_due r hart lent start m journal leases is_hart row closed inputs edges p =
       given =
           set_each (λ h o. o.inputs ≡ (due_at r.due h).inputs) leases hart (Some (nothing_taken lent)) row
           (λ o e. let same : nothing_taken lent ≡ o = cc in ap (λ (v : OpenView). v.inputs) (sym same) ∙ inputs) p.given;
+      given_edges =
+          set_each (λ h o. (x : Edge) → Contains (due_at r.due h).edges x → Contains o.edges x) leases hart (Some (nothing_taken lent)) row
+          (λ o e x i.
+          let same : nothing_taken lent ≡ o = cc in
+          subst (λ (v : OpenView). Contains v.edges x) same (subst (λ es. Contains es x) (sym edges) i)) p.given_edges;
+      heard = p.heard;
       stubs =
           stubs_put p.ledger.stubs leases hart (Some (ledger.fresh_stub (map edge_as lent.edges))) (Some (nothing_taken lent)) row
           (ap (λ s. Some s) (sym (stub_fresh (map edge_as lent.edges)))) p.stubs;
@@ -136,7 +135,7 @@ pub lending_kept : (r new : RecordingView) (hart count : ℕ) (lent : LentView) 
     KeepsLending (IsRecorded r) (IsRecorded new) hart count lent
 lending_kept r new hart count lent below out start m journal leases is_hart row closed at p =
     lent_due new hart lent start m journal leases is_hart row closed out.inputs out.edges
-    (filled_kept r new hart count start m journal leases below closed at p (is_silent (due_at r.due hart).inputs) out.filled)
+    (filled_kept r new hart count start m journal leases below closed at p (is_silent (due_at r.due hart).inputs) refl out.filled)
 
 -- A hart asks.
 
@@ -337,6 +336,12 @@ module _ (r : RecordingView) (machine : MachineState) (leases : List (Option Ope
                 set_each (λ h o. o.inputs ≡ (due_at r.due h).inputs) leases asked.hart _ row_there
                 (λ o e.
                 let i = more (open_at leases asked.hart) asked.page asked.want asked.count found o e in i.inputs ∙ p.given asked.hart i.was i.is_old) p.given;
+            given_edges =
+                set_each (λ h o. (x : Edge) → Contains (due_at r.due h).edges x → Contains o.edges x) leases asked.hart _ row_there
+                (λ o e x at.
+                let i = more (open_at leases asked.hart) asked.page asked.want asked.count found o e in
+                i.edges x (p.given_edges asked.hart i.was i.is_old x at)) p.given_edges;
+            heard = p.heard;
             stubs =
                 λ other.
                 ap (λ h. put p.ledger.stubs h (Some (ledger.taking l.stub asked.page asked.want (present (system pages) l) (map edge_as found))) other) (sym a.hart) ∙
