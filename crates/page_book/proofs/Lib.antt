@@ -2,12 +2,15 @@ pub mod Alike
 pub mod BellEdges
 pub mod Changed
 pub mod Dues
+pub mod DueSet
 pub mod Endings
 pub mod Compared
+pub mod Counted
 pub mod Given
 pub mod Halted
 pub mod Hearing
 pub mod Honest
+pub mod InTurn
 pub mod Journals
 pub mod Obeyed
 pub mod Lacking
@@ -15,6 +18,7 @@ pub mod Laid
 pub mod OneHart
 pub mod Ours
 pub mod Noted
+pub mod Numbered
 pub mod Places
 pub mod Recorded
 pub mod Silences
@@ -26,5 +30,7 @@ pub mod Runs
 pub mod Settlings
 pub mod Shown
 pub mod Slots
+pub mod StepBells
 pub mod Ticked
 pub mod Ticks
+pub mod WaitingBells

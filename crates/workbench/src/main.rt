@@ -6,6 +6,8 @@ mod faults;
 mod files;
 mod host;
 mod lines;
+#[cfg(test)]
+mod random_tests;
 mod reading;
 #[cfg(test)]
 mod replay_tests;
