@@ -95,15 +95,16 @@ fn record(
 
 /// Whether the bytes have a whole frame at this place, whose body goes on so behind the guest's digest.
 fn has_log(bytes: &[u8], place: usize, log: &[u8]) -> bool {
-    let length = log.len() + 32;
-    let head = [0x56, 0x46, 1, 1, length as u8, (length / 256) as u8, 0, 0];
-    bytes
-        .get(place..)
-        .is_some_and(|frame| frame.starts_with(&head))
-        && bytes
-            .get(place + 40..)
-            .is_some_and(|body| body.starts_with(log))
-        && bytes.len() >= place + 72 + log.len()
+    let length = (log.len() as u64).wrapping_add(32).to_le_bytes();
+    let head = [0x56, 0x46, 1, 1, length[0], length[1], 0, 0];
+    match bytes.get(place..) {
+        Some(frame) => {
+            frame.starts_with(&head)
+                && frame.len() >= 72 + log.len()
+                && frame[40..].starts_with(log)
+        }
+        None => false,
+    }
 }
 
 #[test]
