@@ -4,19 +4,19 @@ use Rattle.std.proofs.lemmas.List.{get_or-set_same, get_or-set_other, map-append
 use Rattle.std.proofs.lemmas.List.Elements.{All-cons, All-head, All-tail, Contains-append_left}
 use Rattle.std.proofs.lemmas.List.Kept.{AllPairs-cons}
 use Rattle.interleaving.specs.Lists.{put, EachPair}
-use Rattle.interleaving.specs.Log as theory
-use Rattle.interleaving.specs.Cuts.{IsEnough}
+use Rattle.interleaving.specs.Machine.{Machine, Turn, counts, steps, run}
+use Rattle.interleaving.proofs.Runs.{steps_append}
 use Rattle.interleaving.specs.Stored.{view}
 use Rattle.interleaving.proofs.Put.{same_or_not, put_same, put_other}
 use Rattle.interleaving.proofs.Each.{each_at}
 use Rattle.input_log.specs.declared.Input.{Input}
 use Rattle.edge_log.specs.declared.Edge.{Edge}
-use Rattle.edge_log.specs.EdgeLog.{Edges, IsLog, edge_as, edges_of, start_of, MayAdd}
+use Rattle.edge_log.specs.EdgeLog.{edge_as, MayAdd}
 use Rattle.lease_ledger.specs.Ledger as ledger
 use Rattle.lease_ledger.specs.Ledger.{present}
 use Rattle.lease_ledger.specs.Calls.{Settled, settled, kept}
-use Rattle.lease_ledger.specs.Laws.{InOrder, HasItsOrder, HasItsRights, IsAdding}
-use Rattle.lease_ledger.proofs.Laws.{keeps_order, keeps_rights, may_add_next}
+use Rattle.lease_ledger.specs.Laws.{InOrder, HasItsOrder, HasItsRights, IsAdding, IsKept, IsLaid}
+use Rattle.lease_ledger.proofs.Laws.{keeps_ledger, keeps_order, keeps_rights, lays_its_run, may_add_next}
 use Rattle.ft_types.specs.Counts.{count_at}
 use Rattle.rv32_hart.specs.Hart.{Hart}
 use Rattle.rv32_hart.specs.Hardware.{hardware}
@@ -30,6 +30,9 @@ use Rattle.page_book.specs.Books.{IsOpen, IsLentBy, added}
 use Rattle.page_book.specs.Recorded.{stub_of, as_lease, system}
 use Rattle.page_book.specs.Modes.{IsSettling, HearsOn}
 use Rattle.page_book.specs.Recordings.{RecordingView, IsRecorded, IsSettled, LogsInputs, heard_by, keep_as, right_at, stub_as}
+use Rattle.page_book.specs.Hearings.{KeepsBells}
+use Rattle.page_book.proofs.InTurn.{settled_bells}
+use Rattle.page_book.proofs.StepBells.{step_below}
 use Rattle.page_book.proofs.Compared.{lent_ours, settled_is}
 use Rattle.input_log.specs.Inputs.{IsInputOf, inputs_of}
 use Rattle.page_book.specs.Dues.{DueView}
@@ -196,6 +199,32 @@ module _ (r : RecordingView) (l : LeaseView) (s : IsSettling (IsRecorded r) l) w
         (ap (kept (keep_as keep) (right_at r.rights page) l.hart) (present_played l s.is_lease.played n slots (map edge_as l.edges)) ∙
         sym (is.rights page (omega (arith, lt, s.kept.many))))
 
+    abbrev start_at : Machine (Option Hart) (Option (List ℕ))
+    start_at = view (hardware n) s.start
+
+    abbrev turns : List (Turn (List Input))
+    turns = turns_from l.inputs l.hart l.steps
+
+    kept_ledger : IsKept (system n) start_at b
+    kept_ledger = keeps_ledger (system n) (length s.start.harts) start_at b s.kept.few s.kept.reached
+
+    laid_run : IsLaid (system n) b settler (λ page. keep_as keep)
+    laid_run = lays_its_run (system n) b settler (λ page. keep_as keep) lease ours
+
+    -- bells are still heard in their turn
+    heard_after : KeepsBells s.start after.machine (steps (system n) start_at after.journal) after.edges new.due new.desk
+    heard_after =
+        subst (λ m. KeepsBells s.start m (steps (system n) start_at after.journal) after.edges new.due new.desk) (sym laid_run.machine)
+        (subst (λ ts. KeepsBells s.start (run (system n) b.machine turns) ts after.edges new.due new.desk)
+        (ap (λ m. steps (system n) start_at b.journal ++ steps (system n) m turns) kept_ledger.machine ∙ sym (steps_append (system n) start_at b.journal turns))
+        (settled_bells s.start b.machine (steps (system n) start_at b.journal) b.edges r.due r.desk s.kept.heard l
+        (ap (λ (m : Machine (Option Hart) (Option (List ℕ))). m.harts l.hart) s.kept.at_machine ∙ on.state) laid_run.runs
+        (ap (λ (m : Machine (Option Hart) (Option (List ℕ))). m.harts l.hart) (sym laid_run.machine ∙ machine_is) ∙
+        get-set_here s.machine.harts l.hart l.present l.base on.state)
+        (λ x i. subst (λ m. (system n).count x.found < counts (system n) m x.hart) (sym kept_ledger.machine) (step_below n start_at b.journal x kept_ledger.runs i))
+        s.is_lease.rings (its.is_open.inputs ∙ s.kept.given l.hart its.lent its.is)
+        (λ x i. subst (λ es. Contains es x) (sym its.is_open.edges) (s.kept.given_edges l.hart its.lent its.is x i)) in_row new.due is.due new.desk is.desk))
+
     pub settled_recorded : IsRecorded new s.start (laid s.machine l) (added s.journal l.hart l.steps) (slice_set s.leases l.hart None)
     settled_recorded =
         record {
@@ -230,5 +259,12 @@ module _ (r : RecordingView) (l : LeaseView) (s : IsSettling (IsRecorded r) l) w
               s.kept.given other o (row-set_some s.leases l.hart other o e) ∙
               ap (λ (d : DueView). d.inputs)
               (sym (others_due r new s.start s.machine s.journal s.leases l s.is_lease lent_at now_at in_row (others_laid s.machine l) harts_many s.kept l.steps is.due other ne));
+          given_edges =
+              λ other o e x i.
+              let ne = row-set_other s.leases l.hart other o e (open_within s.leases l.hart its.lent its.is) in
+              s.kept.given_edges other o (row-set_some s.leases l.hart other o e) x
+              (subst (λ (d : DueView). Contains d.edges x)
+              (others_due r new s.start s.machine s.journal s.leases l s.is_lease lent_at now_at in_row (others_laid s.machine l) harts_many s.kept l.steps is.due other ne) i);
+          heard = heard_after;
           stubs = stubs_without b.stubs s.leases s.kept.stubs l.hart (open_within s.leases l.hart its.lent its.is);
         }

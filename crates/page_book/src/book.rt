@@ -13,6 +13,7 @@ ghost use Rattle.page_book.specs.Books.{BookView, IsOurs, added, IsLentBy, HasTa
 ghost use Rattle.edge_log.specs.EdgeLog.{row_of};
 ghost use Rattle.page_book.specs.Asks.{asked_by};
 ghost use Rattle.page_book.specs.Modes.{IsAsking};
+ghost use Rattle.page_book.specs.Hearings.{HearsBellsInTurn};
 ghost use Rattle.page_book.specs.Recordings.{RecordingView, IsUnused, IsOffered, IsBetween, heard_by, HasHonestLog};
 ghost use Rattle.input_log.specs.Inputs.{IsInputOf, inputs_of, is_bell};
 ghost use Rattle.page_book.specs.Answers.{IfHeldBy, OnHeldBy, OnGiven};
@@ -96,6 +97,8 @@ impl Book<Recording> {
     pub fn edges(&self) -> &EdgeLog
         ensures value { result.now ≡ self.now.mode.edges }
         ensures honest { HasHonestLog result.now (heard_by self.now.mode) self.now.start self.now.journal self.now.machine }
+        // Each bell that a hart heard since the start was rung by the start, or at a step that comes before by the edges.
+        ensures bells { HearsBellsInTurn result.now (heard_by self.now.mode) self.now.start self.now.journal }
         // Each is between two harts, and what it names has been settled.
         ensures between { (hart : ℕ) → All (IsBetween self.now.machine hart) (row_of result.now hart) }
     {

@@ -1,6 +1,6 @@
 //! Books that record: who has which right to each page, and the edges found.
 
-ghost use Rattle.std.specs.Prelude.{◌≡◌, ◌<◌, ◌≤◌, ◌^◌, ◌↔◌, ℕ, All, AllPairs, Contains, List, [], map, length, slice_index, IsTrue, IfOk, OnOk, OnErr, true, false, replicate};
+ghost use Rattle.std.specs.Prelude.{◌≡◌, ◌<◌, ◌≤◌, ◌^◌, ◌↔◌, ℕ, All, AllPairs, Contains, List, [], map, length, slice_index, slice_get, Some, IsTrue, IfOk, OnOk, OnErr, true, false, replicate};
 ghost use Rattle.ft_types.specs.Counts.{count_at, greater};
 ghost use Rattle.ft_types.specs.Sets.{IsMember};
 ghost use Rattle.edge_log.specs.EdgeLog.{edge_as};
@@ -14,6 +14,7 @@ ghost use Rattle.page_book.specs.Modes.{IsSettling};
 ghost use Rattle.page_book.specs.OpenLeases.{has_taken};
 ghost use Rattle.input_log.specs.Inputs.{IsInputOf, is_bell, inputs_of};
 ghost use Rattle.page_book.specs.Dues.{nothing_due, due_at, is_silent, stop_before};
+ghost use Rattle.rv32_hart.specs.Hart.{Hart as HartRecord};
 ghost use Rattle.page_book.specs.Runs.{counts_of};
 ghost use Rattle.page_book.specs.Recordings.{RecordingView, IsUnused, IsRecorded, heard_by, IsFilled, GoesOut, IsOffered, LogsInputs, due_after, AreLogged, PutsBell, IsTaker, AreOwed, IsGiven, IsSettled, IsEnded, keep_as, right_at, right_met, yielded};
 
@@ -141,7 +142,8 @@ fn right_kept(right: PageRight, hart: Hart, count: Count, keep: Keep) -> PageRig
 impl Recording {
     /// Nobody has used a page.
     pub(crate) fn new(alloc: Global, start: &Machine, limits: Counts) -> Result<Recording, Memory>
-        ensures { IfOk result (λ r. IsUnused r start.now limits) }
+        ensures unused { IfOk result (λ r. IsUnused r start.now limits) }
+        ensures rows { OnOk result ((hart : ℕ) (h : HartRecord) → slice_get start.now.harts hart ≡ Some h → length h.received.heard ≡ 8) }
     {
         let rights = unused_rights(alloc, start.pages())?;
         let edges = EdgeLog::new(alloc, settled_counts(start));

@@ -4,3 +4,4 @@ pub mod Taken
 pub mod Lifted
 pub mod FirstFault
 pub mod Outcomes
+pub mod Openings

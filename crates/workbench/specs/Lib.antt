@@ -2,3 +2,4 @@ pub mod Streams
 pub mod Faults
 pub mod Reading
 pub mod Outcome
+pub mod Primary

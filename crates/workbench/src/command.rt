@@ -1,14 +1,19 @@
 //! The commands of the program.
 
+ghost use Rattle.std.specs.Prelude.{IfOk};
+ghost use Rattle.input_script.specs.Script.{AreOffered};
+
 use crate::faults::{CommandFault, StreamsFault, status_of, write_fault, write_words_fault};
 use crate::files::Files;
+use crate::primary::{frames_of, run_primary};
 use crate::reading::read_store;
-use crate::stores::{write_position, write_size, write_store};
+use crate::stores::{write_frames, write_position, write_size, write_store};
 use crate::streams::replay_streams;
 use crate::words::{NamedFile, Request, WordsFault, read_words};
 use closed_cut::{chain, position};
-use ft_types::{Sink, Source};
-use guest_image::{Image, ImageFault, read_image};
+use ft_types::{Failed, Sink, Source};
+use guest_image::{Image, read_image};
+use input_script::{Offered, read_script};
 use log_join::Store;
 use std::alloc::Global;
 
@@ -20,24 +25,6 @@ const PIECE: usize = 4096;
 enum FileFault {
     Failed,
     Memory,
-}
-
-impl From<FileFault> for CommandFault {
-    fn from(fault: FileFault) -> CommandFault {
-        match fault {
-            FileFault::Failed => CommandFault::File(NamedFile::Image),
-            FileFault::Memory => CommandFault::Memory,
-        }
-    }
-}
-
-impl From<ImageFault> for CommandFault {
-    fn from(fault: ImageFault) -> CommandFault {
-        match fault {
-            ImageFault::Memory => CommandFault::Memory,
-            fault => CommandFault::Image(fault),
-        }
-    }
 }
 
 /// Reads to the end.
@@ -58,21 +45,60 @@ fn read_whole<R: Source>(alloc: Global, reader: &mut R) -> Result<Vec<u8>, FileF
     Ok(bytes)
 }
 
-fn read_image_from<R: Source>(alloc: Global, reader: &mut R) -> Result<Image, CommandFault> {
-    let bytes = read_whole(alloc, reader)?;
-    let image = read_image(alloc, &bytes)?;
-    Ok(image)
+/// The bytes of a file that the request names.
+fn read_file<F: Files>(
+    alloc: Global,
+    request: &Request<'_>,
+    file: NamedFile,
+    files: &mut F,
+) -> Result<Vec<u8>, CommandFault> {
+    let Ok(mut reader) = files.reader(request.name(file)) else {
+        return Err(CommandFault::File(file));
+    };
+    match read_whole(alloc, &mut reader) {
+        Ok(bytes) => Ok(bytes),
+        Err(FileFault::Failed) => Err(CommandFault::File(file)),
+        Err(FileFault::Memory) => Err(CommandFault::Memory),
+    }
 }
 
 fn read_image_file<F: Files>(
     alloc: Global,
-    name: &str,
+    request: &Request<'_>,
     files: &mut F,
 ) -> Result<Image, CommandFault> {
-    let Ok(mut reader) = files.reader(name) else {
-        return Err(CommandFault::File(NamedFile::Image));
-    };
-    read_image_from(alloc, &mut reader)
+    let bytes = read_file(alloc, request, NamedFile::Image, files)?;
+    let image = read_image(alloc, &bytes)?;
+    Ok(image)
+}
+
+fn read_script_file<F: Files>(
+    alloc: Global,
+    request: &Request<'_>,
+    harts: u8,
+    files: &mut F,
+) -> Result<Vec<Offered>, CommandFault>
+    ensures { IfOk result (λ script. AreOffered harts script.items) }
+{
+    let bytes = read_file(alloc, request, NamedFile::Script, files)?;
+    let script = read_script(alloc, &bytes, harts)?;
+    Ok(script)
+}
+
+/// What came of writing to standard output.
+fn written(done: Result<(), Failed>) -> Result<(), CommandFault> {
+    match done {
+        Ok(()) => Ok(()),
+        Err(_) => Err(CommandFault::Streams(StreamsFault::Write)),
+    }
+}
+
+/// Makes the file that the request names.
+fn make_file<F: Files>(request: &Request<'_>, files: &mut F) -> Result<F::Writer, CommandFault> {
+    match files.maker(request.name(NamedFile::Made)) {
+        Ok(made) => Ok(made),
+        Err(_) => Err(CommandFault::File(NamedFile::Made)),
+    }
 }
 
 /// Opens these logs, all of them before the first is read.
@@ -124,28 +150,37 @@ fn read_logs<F: Files>(
 fn write_joined<F: Files, W: Sink>(
     alloc: Global,
     store: &Store,
-    name: &str,
+    request: &Request<'_>,
     files: &mut F,
     out: &mut W,
 ) -> Result<(), CommandFault> {
-    let Ok(mut made) = files.maker(name) else {
-        return Err(CommandFault::File(NamedFile::Made));
-    };
+    let mut made = make_file(request, files)?;
     let size = write_store(alloc, store, &mut made)?;
-    match write_size(&size, out) {
-        Ok(()) => Ok(()),
-        Err(_) => Err(CommandFault::Streams(StreamsFault::Write)),
-    }
+    written(write_size(&size, out))
 }
 
 /// Tells the chain and the position of a store.
 fn tell_position<W: Sink>(alloc: Global, store: &Store, out: &mut W) -> Result<(), CommandFault> {
     let terms = chain(alloc, store)?;
     let position = position(alloc, store)?;
-    match write_position(&terms, &position, out) {
-        Ok(()) => Ok(()),
-        Err(_) => Err(CommandFault::Streams(StreamsFault::Write)),
-    }
+    written(write_position(&terms, &position, out))
+}
+
+/// Runs a primary, writes its frames to the file that is made, and then the text of its machine.
+fn record<F: Files, W: Sink>(
+    alloc: Global,
+    image: &Image,
+    budget: u32,
+    request: &Request<'_>,
+    files: &mut F,
+    out: &mut W,
+) -> Result<(), CommandFault> {
+    let script = read_script_file(alloc, request, image.harts(), files)?;
+    let book = run_primary(alloc, image, &script, budget)?;
+    let frames = frames_of(alloc, image, &book)?;
+    let mut made = make_file(request, files)?;
+    write_frames(&frames, &mut made)?;
+    written(book.machine().write_text(out))
 }
 
 fn run<F: Files, W: Sink>(
@@ -154,13 +189,14 @@ fn run<F: Files, W: Sink>(
     files: &mut F,
     out: &mut W,
 ) -> Result<(), CommandFault> {
-    let image = read_image_file(alloc, request.name(NamedFile::Image), files)?;
+    let image = read_image_file(alloc, request, files)?;
     match request {
         Request::Replay { logs, .. } => replay_logs(alloc, &image, logs, files, out),
-        Request::Join { made, logs, .. } => {
+        Request::Join { logs, .. } => {
             let store = read_logs(alloc, &image, logs, files)?;
-            write_joined(alloc, &store, made, files, out)
+            write_joined(alloc, &store, request, files, out)
         }
+        Request::Run { budget, .. } => record(alloc, &image, *budget, request, files, out),
         Request::Cut { logs, .. } => {
             let store = read_logs(alloc, &image, logs, files)?;
             tell_position(alloc, &store, out)

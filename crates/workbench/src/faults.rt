@@ -8,6 +8,7 @@ use fragment_codec::FrameFault;
 use ft_types::{Failed, Memory, Sink, write_all};
 use guest_image::ImageFault;
 use hart_replay::ReplayFault;
+use input_script::ScriptFault;
 use thiserror::Error;
 
 /// Why streams gave no text.
@@ -43,10 +44,12 @@ impl From<Memory> for StreamsFault {
 pub enum CommandFault {
     /// The words have no form that there is.
     Usage,
-    /// A file could not be opened or read.
+    /// A file could not be opened, read or made.
     File(NamedFile),
     /// What is wrong with the image.
     Image(ImageFault),
+    /// The line of the script, from 1, that is at fault.
+    Script(u64),
     /// What is wrong with the logs, their replay or the output.
     Streams(StreamsFault),
     /// A growth was refused.
@@ -62,6 +65,24 @@ impl From<StreamsFault> for CommandFault {
 impl From<Memory> for CommandFault {
     fn from(_e: Memory) -> CommandFault {
         CommandFault::Memory
+    }
+}
+
+impl From<ImageFault> for CommandFault {
+    fn from(fault: ImageFault) -> CommandFault {
+        match fault {
+            ImageFault::Memory => CommandFault::Memory,
+            fault => CommandFault::Image(fault),
+        }
+    }
+}
+
+impl From<ScriptFault> for CommandFault {
+    fn from(fault: ScriptFault) -> CommandFault {
+        match fault {
+            ScriptFault::BadLine(line) => CommandFault::Script(line),
+            ScriptFault::Memory => CommandFault::Memory,
+        }
     }
 }
 
@@ -142,6 +163,7 @@ pub fn write_fault<W: Sink>(
             write_all(out, b"\n")
         }
         CommandFault::Image(fault) => write_image_fault(*fault, out),
+        CommandFault::Script(line) => write_numbered(b"fault script line ", *line, b"\n", out),
         CommandFault::Streams(fault) => write_streams_fault(*fault, out),
         CommandFault::Memory => write_all(out, b"fault memory\n"),
     }

@@ -1,4 +1,4 @@
-//! The program: it replays logs of a guest, and prints the machine that they lead to.
+//! The program: it runs a primary of a guest and writes its log, replays logs, and prints the machine that they lead to.
 #![tactic(auto)]
 
 mod command;
@@ -6,9 +6,14 @@ mod faults;
 mod files;
 mod host;
 mod lines;
+mod primary;
+#[cfg(test)]
+mod random_tests;
 mod reading;
 #[cfg(test)]
 mod replay_tests;
+#[cfg(test)]
+mod run_tests;
 #[cfg(test)]
 mod store_tests;
 mod stores;

@@ -1,9 +1,13 @@
-//! What a store holds, written as frames or as words.
+//! Frames, and what a store holds, written as frames or as words.
+
+ghost use Rattle.std.specs.List.{flat_map};
+ghost use Rattle.ft_types.specs.Devices.{Writes};
+ghost use Rattle.fragment_codec.specs.Streams.{spelling};
 
 use crate::faults::StreamsFault;
 use crate::lines::write_numbered;
 use closed_cut::Position;
-use fragment_codec::write_frame;
+use fragment_codec::{Frame, write_frame};
 use ft_types::{Failed, Sink, Term, write_all};
 use log_join::{Found, Store};
 use std::alloc::Global;
@@ -19,12 +23,28 @@ pub struct StoreSize {
     pub clashes: usize,
 }
 
+fn write_one<W: Sink>(frame: &Frame, out: &mut W) -> Result<(), StreamsFault>
+    ensures { Writes result (W.bytes out.old) (W.bytes out.new) (W.failures out.old) (W.failures out.new) (spelling frame.now) }
+{
+    match write_frame(frame, out) {
+        Ok(()) => Ok(()),
+        Err(_) => Err(StreamsFault::Write),
+    }
+}
+
+/// Writes frames, in their order.
+pub fn write_frames<W: Sink>(frames: &[Frame], out: &mut W) -> Result<(), StreamsFault>
+    ensures { Writes result (W.bytes out.old) (W.bytes out.new) (W.failures out.old) (W.failures out.new) (flat_map spelling frames.now) }
+{
+    for frame in frames {
+        write_one(frame, out)?;
+    }
+    Ok(())
+}
+
 fn write_found<W: Sink>(found: &Found<'_>, out: &mut W) -> Result<(), StreamsFault> {
     match found {
-        Found::One(frame) => match write_frame(frame, out) {
-            Ok(()) => Ok(()),
-            Err(_) => Err(StreamsFault::Write),
-        },
+        Found::One(frame) => write_one(frame, out),
         Found::Absent | Found::Clash => Ok(()),
     }
 }

@@ -221,7 +221,7 @@ pub fn run(alloc: Global, words: &[&str], files: MemoryFiles) -> Result<Done, Fa
 }
 
 /// `replay` of an image and a log.
-fn replay(alloc: Global, image: &[u8], log: Vec<u8>) -> Result<Done, Fail> {
+pub fn replay(alloc: Global, image: &[u8], log: Vec<u8>) -> Result<Done, Fail> {
     let mut files = MemoryFiles::new(alloc);
     files.add("image", image.to_vec(alloc)?)?;
     files.add("log", log)?;

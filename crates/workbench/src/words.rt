@@ -2,8 +2,11 @@
 
 use clap::error::ErrorKind;
 use clap::{Arg, ArgAction, ArgMatches, Command, Error};
-use ft_types::Memory;
+use ft_types::read_number;
 use std::alloc::{AllocError, Global};
+
+/// The number of steps that a run may ask of each hart, at the most.
+const BUDGET_LIMIT: u32 = 1_000_000;
 
 /// A request.
 #[derive(Drop, Debug, PartialEq, Eq)]
@@ -24,6 +27,14 @@ pub enum Request<'a> {
         image: &'a str,
         logs: Vec<&'a str>,
     },
+    /// Run a primary of an image, and write its frames to a file.
+    Run {
+        image: &'a str,
+        script: &'a str,
+        /// The limit of each hart, 1 to `BUDGET_LIMIT`.
+        budget: u32,
+        made: &'a str,
+    },
 }
 
 /// A file that a request names.
@@ -32,6 +43,8 @@ pub enum NamedFile {
     Image,
     /// The log with this number, from 0 on.
     Log(usize),
+    /// What is offered to the harts of a run.
+    Script,
     /// The file that is made.
     Made,
 }
@@ -42,8 +55,13 @@ impl<'a> Request<'a> {
         match file {
             NamedFile::Image => self.image(),
             NamedFile::Log(number) => self.log(number),
+            NamedFile::Script => match self {
+                Request::Run { script, .. } => script,
+                _ => "",
+            },
             NamedFile::Made => match self {
                 Request::Join { made, .. } => made,
+                Request::Run { made, .. } => made,
                 _ => "",
             },
         }
@@ -54,6 +72,7 @@ impl<'a> Request<'a> {
             Request::Replay { image, .. } => image,
             Request::Join { image, .. } => image,
             Request::Cut { image, .. } => image,
+            Request::Run { image, .. } => image,
         }
     }
 
@@ -62,6 +81,7 @@ impl<'a> Request<'a> {
             Request::Replay { logs, .. } => name_at(logs, number),
             Request::Join { logs, .. } => name_at(logs, number),
             Request::Cut { logs, .. } => name_at(logs, number),
+            Request::Run { .. } => "",
         }
     }
 }
@@ -115,13 +135,18 @@ fn forms<'a>(alloc: Global) -> Result<Command<'a>, AllocError> {
         .arg(word(alloc, "made"))?
         .arg(words(alloc, "logs"))?;
     let cut = form(alloc, "cut")?.arg(words(alloc, "logs"))?;
+    let run = form(alloc, "run")?
+        .arg(word(alloc, "script"))?
+        .arg(word(alloc, "budget"))?
+        .arg(word(alloc, "made"))?;
     Command::new(alloc, "workbench")
         .no_binary_name(true)
         .disable_help_flag(true)
         .disable_help_subcommand(true)
         .subcommand(replay)?
         .subcommand(join)?
-        .subcommand(cut)
+        .subcommand(cut)?
+        .subcommand(run)
 }
 
 /// The names of the logs.
@@ -132,19 +157,33 @@ fn logs_of<'a>(alloc: Global, matches: &ArgMatches<'a>) -> Result<Vec<&'a str>, 
     }
 }
 
+/// The word of this name.
+fn word_of<'a>(matches: &ArgMatches<'a>, name: &str) -> Result<&'a str, WordsFault> {
+    matches.get_str(name).ok_or(WordsFault::Usage)
+}
+
+/// The budget that the word is.
+fn read_budget(word: &str) -> Result<u32, WordsFault> {
+    let number = read_number(word.as_bytes()).ok_or(WordsFault::Usage)?;
+    match u32::try_from(number) {
+        Ok(budget) if (1..=BUDGET_LIMIT).contains(&budget) => Ok(budget),
+        _ => Err(WordsFault::Usage),
+    }
+}
+
 fn request_of<'a>(
     alloc: Global,
     command: &str,
     matches: &ArgMatches<'a>,
 ) -> Result<Request<'a>, WordsFault> {
-    let image = matches.get_str("image").ok_or(WordsFault::Usage)?;
+    let image = word_of(matches, "image")?;
     match command {
         "replay" => {
             let logs = logs_of(alloc, matches)?;
             Ok(Request::Replay { image, logs })
         }
         "join" => {
-            let made = matches.get_str("made").ok_or(WordsFault::Usage)?;
+            let made = word_of(matches, "made")?;
             let logs = logs_of(alloc, matches)?;
             Ok(Request::Join { image, made, logs })
         }
@@ -152,6 +191,12 @@ fn request_of<'a>(
             let logs = logs_of(alloc, matches)?;
             Ok(Request::Cut { image, logs })
         }
+        "run" => Ok(Request::Run {
+            image,
+            script: word_of(matches, "script")?,
+            budget: read_budget(word_of(matches, "budget")?)?,
+            made: word_of(matches, "made")?,
+        }),
         _ => Err(WordsFault::Usage),
     }
 }

@@ -1,5 +1,5 @@
-use Rattle.std.proofs.Common.{◌∙◌, sym, ap, subst, length}
-use Rattle.page_book.specs.Leases.{LeaseView, fresh}
+use Rattle.std.proofs.Common.{◌∙◌, sym, subst, length}
+use Rattle.page_book.specs.Leases.{LeaseView}
 use Rattle.page_book.specs.Runs.{IsLease}
 use Rattle.page_book.proofs.Given.{fresh_kept}
 use Rattle.page_book.proofs.lease.Lease.go_out.Goals as goal

@@ -1,6 +1,5 @@
-use Rattle.std.proofs.Common.{rules, ◌≡◌, ◌∙◌, sym, ap, subst}
-use Rattle.input_log.specs.declared.Input.{Input}
-use Rattle.page_book.specs.Recordings.{RecordingView, IsSettled, LogsInputs}
+use Rattle.std.proofs.Common.{rules}
+use Rattle.page_book.specs.Recordings.{IsSettled, LogsInputs}
 use Rattle.page_book.proofs.Settlings.{heard_there, settled_recorded}
 use Rattle.page_book.proofs.recording.RecordingMode.settle.Goals as goal
 
