@@ -14,7 +14,7 @@ ghost use Rattle.page_book.specs.Leases.{LeaseView, fresh, rung_bell, bells_rung
 use crate::asked::Asked;
 use crate::lease_pages::{LeasePages, Slot};
 use crate::lent::Lent;
-use crate::taken::{Taken, with_taken};
+use crate::taken::{Taken, TakenPages};
 use edge_log::Edge;
 use ft_types::{Count, HART_LIMIT, Hart, Memory, PageNo, Want};
 use guest_image::{Machine, Page};
@@ -38,7 +38,7 @@ pub struct Lease {
     bases: Vec<Option<Page>>,
     pages: LeasePages,
     /// The counts at which it took each page.
-    taken: [Option<Taken>; 64],
+    taken: TakenPages,
     /// The edges found, which wait until it is settled.
     edges: SmallVec<Edge, 8>,
     steps: u64,
@@ -129,6 +129,7 @@ impl Lease {
         let present = state.copy()?;
         let bases = no_pages(alloc, pages)?;
         let pages = LeasePages::missing(alloc, pages)?;
+        let taken = TakenPages::none(alloc)?;
         Ok(Lease {
             hart,
             base,
@@ -136,7 +137,7 @@ impl Lease {
             inputs: SmallVec::new(alloc),
             bases,
             pages,
-            taken: [None; 64],
+            taken,
             edges: SmallVec::new(alloc),
             steps: 0,
             stop: 0,
@@ -273,8 +274,7 @@ impl Lease {
         requires missing { slot_at self.old.slots page ≡ Slot.Missing }
         ensures { self.new ≡ with_page_to_read self.old page here }
     {
-        let held = self.taken[page.index()];
-        self.taken[page.index()] = Some(with_taken(held, Want::Read, self.present.count()));
+        self.taken.take(page, Want::Read, self.present.count());
         drop(self.pages.put(page, Slot::Readable(here)));
     }
 
@@ -286,8 +286,7 @@ impl Lease {
         requires same { present ≡ base }
         ensures { self.new ≡ with_page_to_write self.old page base present }
     {
-        let held = self.taken[page.index()];
-        self.taken[page.index()] = Some(with_taken(held, Want::Write, self.present.count()));
+        self.taken.take(page, Want::Write, self.present.count());
         self.bases[page.index()] = Some(base);
         drop(self.pages.put(page, Slot::Writable(present)));
     }
@@ -321,7 +320,7 @@ impl Lease {
     fn took(&self, taken: &[Option<Taken>; 64]) -> bool
         ensures { IsTrue result ↔ (self.now.taken ≡ taken.now) }
     {
-        self.taken == *taken
+        self.taken.same(taken)
     }
 
     fn pages_are_lent(&self, machine: &Machine) -> bool
@@ -396,7 +395,7 @@ impl Lease {
             inputs,
             bases,
             pages,
-            taken: _,
+            taken,
             edges,
             steps,
             stop: _,
@@ -404,6 +403,7 @@ impl Lease {
         drop(base);
         drop(inputs);
         drop(bases);
+        drop(taken);
         drop(edges);
         (present, pages.into_slots(), steps)
     }
