@@ -3,10 +3,7 @@ use Rattle.std.specs.Prelude.{ℕ, zero, suc, ◌≡◌, ◌<◌, ◌≤◌, Lis
 use Rattle.std.specs.List.{filter_map}
 use Rattle.ft_types.specs.Counts.{count_at}
 use Rattle.interleaving.specs.Log.{Edge}
-use Rattle.edge_log.specs.declared.Edge.{Edge as OwnedEdge}
 use Rattle.edge_log.specs.EdgeLog.{edge_as}
-use Rattle.fragment_codec.specs.declared.types.Record.{Record}
-use Rattle.fragment_codec.specs.declared.types.Record.TheVariants.{Edge as EdgeRecord, Input as InputRecord}
 use Rattle.fragment_codec.specs.Rules.{FragmentParts, OpeningParts}
 use Rattle.fragment_codec.specs.Pieces.{edge_in}
 use Rattle.log_join.specs.Cells.{Cell, One}

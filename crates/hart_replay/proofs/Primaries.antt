@@ -1,37 +1,31 @@
 -- What a recording book tells of its term is true.
-use Rattle.std.proofs.Common.{◌≡◌, ◌≢◌, ◌≤◌, ◌<◌, ◌==◌, ◌&&◌, ℕ, zero, suc, Bool, true, false, List, [], ◌∷◌, ◌++◌, length, map, filter, get_or, slice_index_or, Option, Contains, refl, sym, ap, subst, ◌∙◌, inl, inr, arith, le_refl, le_of_eq}
+use Rattle.std.proofs.Common.{◌≡◌, ◌≢◌, ◌≤◌, ◌<◌, ◌==◌, ℕ, suc, Bool, true, false, List, [], ◌∷◌, length, map, filter, get_or, slice_index_or, Contains, refl, sym, ap, subst, ◌∙◌, inl, inr, arith, le_of_eq}
 use Rattle.std.specs.List.{filter_map, flat_map}
-use Rattle.std.proofs.lemmas.Bool.{cases_eq, eq-eqb, ne_eqb, eqb-true, cases_lt, lt-ltb, le-leb}
-use Rattle.std.proofs.lemmas.List.Elements.{Contains-append_cases, Contains-append_left, Contains-append_right}
-use Rattle.interleaving.specs.Machine.{Machine}
+use Rattle.std.proofs.lemmas.Bool.{cases_eq, eq-eqb, ne_eqb, lt-ltb, le-leb}
+use Rattle.std.proofs.lemmas.List.Elements.{Contains-append_cases, Contains-append_right}
 use Rattle.interleaving.specs.Log as theory
 use Rattle.interleaving.specs.Log.{IsCut}
 use Rattle.interleaving.specs.Stored.{system_of, view}
 use Rattle.interleaving.proofs.Cuts.{here, here_or_later}
-use Rattle.ft_types.specs.Counts.{count_at}
 use Rattle.ft_types.specs.declared.guest.Guest.{Guest}
 use Rattle.edge_log.specs.declared.Edge.{Edge}
-use Rattle.edge_log.specs.EdgeLog.{IsLog, edge_as, edges_of, row_of}
+use Rattle.edge_log.specs.EdgeLog.{edge_as, edges_of}
 use Rattle.edge_log.proofs.Logs.{contains_map, map_contains, to_edges, in_row, of_row}
 use Rattle.input_log.specs.declared.Input.{Input}
 use Rattle.input_log.specs.Inputs.{inputs_of, inputs_at}
-use Rattle.rv32_hart.specs.Hart.{Hart}
 use Rattle.rv32_hart.specs.Hardware.{hardware}
-use Rattle.guest_image.specs.Image.{ImageContents}
 use Rattle.guest_image.specs.Machine.{boot_machine}
 use Rattle.page_book.specs.Books.{BookView}
-use Rattle.page_book.specs.Recordings.{RecordingView, heard_by}
+use Rattle.page_book.specs.Recordings.{RecordingView}
 use Rattle.page_book.specs.Runs.{counts_of}
-use Rattle.fragment_codec.specs.declared.frame.Frame.{Frame}
 use Rattle.fragment_codec.specs.declared.frame.Frame.TheVariants.{Log}
-use Rattle.fragment_codec.specs.Rules.{FragmentParts, OpeningParts}
-use Rattle.fragment_codec.specs.Pieces.{HartLog, Mark, SealedView, IsPiece, ArePieces, mark_behind, mark_of, book_log, told_by, is_between, facts_between, edge_in, input_in, IsCut as AreCut, Facts}
+use Rattle.fragment_codec.specs.Rules.{FragmentParts}
+use Rattle.fragment_codec.specs.Pieces.{HartLog, Mark, IsPiece, ArePieces, mark_behind, mark_of, book_log, is_between, edge_in, Facts}
 use Rattle.fragment_codec.proofs.Between.{between_is}
-use Rattle.log_join.specs.Stores.{StoreView}
 use Rattle.closed_cut.specs.Position.{edges_of as edges_told}
 use Rattle.hart_replay.specs.Facts.{inputs_among}
-use Rattle.hart_replay.specs.Histories.{TermHistory, TellsOf, machine_at, Opens, IsTerm, IsHonestStore}
-use Rattle.hart_replay.specs.Primaries.{IsPrimary, term_of, IsPieceOf, IsOfPrimary, CutsArePieces, PiecesTell, OpeningsOpen, PrimariesAreHonest}
+use Rattle.hart_replay.specs.Histories.{machine_at}
+use Rattle.hart_replay.specs.Primaries.{term_of, IsPieceOf, CutsArePieces, PiecesTell, OpeningsOpen, PrimariesAreHonest}
 use Rattle.hart_replay.proofs.Confluent.{boot_pages}
 
 -- ---- lists

@@ -7,7 +7,6 @@ pub mod Endings
 pub mod Compared
 pub mod Counted
 pub mod Given
-pub mod Halted
 pub mod Hearing
 pub mod Honest
 pub mod InTurn
@@ -15,7 +14,6 @@ pub mod Journals
 pub mod Obeyed
 pub mod Lacking
 pub mod Laid
-pub mod OneHart
 pub mod Ours
 pub mod Noted
 pub mod Numbered

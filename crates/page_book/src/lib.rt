@@ -21,7 +21,7 @@ pub use answers::{BookFault, Keep, Need};
 pub use asked::Asked;
 pub use book::Book;
 pub use due::Due;
-pub use laws::{one_hart, steps_of_leases};
+pub use laws::steps_of_leases;
 pub use lease::Lease;
 pub use lease_pages::{LeasePages, Slot};
 pub use lent::Lent;

@@ -1,19 +1,21 @@
 -- A lease that comes back to its book.
-use Rattle.std.proofs.Common.{◌≡◌, ◌≢◌, ℕ, zero, suc, ◌<◌, ◌≤◌, ◌++◌, List, [], ◌∷◌, All, map, length, length-set, replicate, slice_set, Option, None, Some, Result, Ok, Err, false, refl, sym, ap, subst, ◌∙◌, inl, inr, arith, append-nil}
+use Rattle.std.proofs.Common.{◌≡◌, ◌≢◌, ℕ, zero, suc, ◌<◌, ◌≤◌, ◌++◌, List, [], ◌∷◌, All, map, length, length-set, replicate, slice_get, slice_set, true, Option, None, Some, Result, Ok, Err, false, refl, sym, ap, subst, ◌∙◌, inl, inr, arith, append-nil}
 use Rattle.std.specs.Result.{OnOk, is_err}
-use Rattle.std.proofs.lemmas.Bool.{cases_eq}
+use Rattle.std.proofs.lemmas.Bool.{cases_eq, cases_lt}
 use Rattle.std.proofs.lemmas.Grind.{common_steps}
 use Rattle.std.proofs.lemmas.List.Elements.{All-nil, All-map}
 use Rattle.edge_log.specs.EdgeLog.{AreAdded}
 use Rattle.input_log.specs.declared.Input.{Input}
 use Rattle.input_log.specs.Inputs.{inputs_of}
+use Rattle.crew_pages.specs.declared.right.PageRight.{PageRight}
+use Rattle.crew_pages.specs.Rights.{Right, holds}
 use Rattle.rv32_hart.specs.Hart.{Hart}
 use Rattle.guest_image.specs.Machine.{MachineState}
 use Rattle.page_book.specs.declared.stretch.Stretch.{Stretch}
 use Rattle.page_book.specs.Leases.{LeaseView, IsFull}
 use Rattle.page_book.specs.Books.{BookView, IsLentBy, added}
 use Rattle.page_book.specs.OpenLeases.{OpenView, open_at}
-use Rattle.page_book.specs.Recordings.{RecordingView, LogsInputs}
+use Rattle.page_book.specs.Recordings.{RecordingView, LogsInputs, right_at, right_stored}
 use Rattle.page_book.specs.Runs.{counts_of, steps_taken}
 use Rattle.primary_pool.specs.Running.{Continues, HearsMore}
 use Rattle.primary_pool.specs.Leading.{GoesOn, Fills, ComesBack, Settles}
@@ -97,6 +99,20 @@ hears_on b l (suc steps) before after lent logs hart = elim (cases_eq hart l.har
   | inr other ↦ hears_nothing (inputs_of before hart) (counts_of b hart) (inputs_of after hart) (logs.others hart other)
 ]
 
+-- ---- rights
+
+beyond : (rights : List PageRight) (page : ℕ) → length rights ≤ page → slice_get rights page ≡ None
+beyond [] page le = refl
+beyond (r ∷ rights) zero le = absurd (omega (arith, le))
+beyond (r ∷ rights) (suc page) le = beyond rights page (omega (arith, le))
+
+rights_stay : (old new : List PageRight) → length new ≡ length old → ((page : ℕ) → page < length old → right_at new page ≡ right_at old page) →
+    (page : ℕ) → right_at new page ≡ right_at old page
+rights_stay old new many same page = elim (cases_lt page (length old)) [
+  | inl below ↦ same page below
+  | inr above ↦ ap right_stored (beyond new page (omega (arith, many, above)) ∙ sym (beyond old page above))
+]
+
 -- ---- back in the book
 
 module _ (b c d : BookView RecordingView) (l k : LeaseView) (f : Fills b c l k) (back : ComesBack c d k) where
@@ -138,4 +154,6 @@ module _ (b c d : BookView RecordingView) (l k : LeaseView) (f : Fills b c l k) 
         harts = harts_are;
         further = on.0;
         within = on.1;
+        held = λ page held.
+            subst (λ (r : Right). (hart : ℕ) × (holds r hart ≡ true)) (sym (rights_stay c.mode.rights d.mode.rights back.many back.rights page)) (f.held page held);
       }

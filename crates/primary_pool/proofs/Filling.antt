@@ -1,6 +1,9 @@
 -- A lease, step by step.
-use Rattle.std.proofs.Common.{◌≡◌, ◌≢◌, ℕ, zero, suc, ◌+◌, ◌<◌, ◌≤◌, List, [], ◌∷◌, map, length, length-set, slice_get, slice_set, Option, None, Some, true, false, refl, sym, ap, subst, ◌∙◌, inl, inr, arith, lit<}
+use Rattle.std.proofs.Common.{◌≡◌, ◌≢◌, ℕ, zero, suc, ◌+◌, ◌<◌, ◌≤◌, List, [], ◌∷◌, map, length, length-set, slice_get, slice_set, Option, None, Some, true, false, refl, sym, ap, subst, ◌∙◌, inl, inr, arith, lit<, eq-eqb}
 use Rattle.std.proofs.lemmas.Grind.{common_steps}
+use Rattle.interleaving.proofs.Put.{same_or_not, put_same}
+use Rattle.crew_pages.specs.Rights as crew
+use Rattle.crew_pages.specs.Rights.{Right, Shared, Exclusive, holds}
 use Rattle.rv32_hart.specs.declared.outcome.Tick.TheVariants.{Done, Miss}
 use Rattle.rv32_hart.specs.Hart.{Hart}
 use Rattle.ft_types.specs.declared.names.Want.{Want}
@@ -15,8 +18,9 @@ use Rattle.page_book.specs.Slots.{slot_at, want_of}
 use Rattle.page_book.specs.Leases.{LeaseView, Ticks, IsFull, inputs_next, IsLent, with_page, with_page_beside}
 use Rattle.page_book.specs.Books.{BookView, IsLentBy, IsOurs}
 use Rattle.page_book.specs.OpenLeases.{OpenView, open_at, has_taken}
-use Rattle.page_book.specs.Recordings.{RecordingView, IsTaker, IsGiven}
+use Rattle.page_book.specs.Recordings.{RecordingView, IsTaker, IsGiven, right_at, right_met}
 use Rattle.page_book.specs.Laws.{StepCounts, LacksOnAPage, Covers}
+use Rattle.primary_pool.specs.Running.{KeepHeld}
 use Rattle.primary_pool.specs.Leading.{IsAlone, GoesOn, Gives, Fills, lacking, rights_short}
 
 -- no step yet
@@ -28,6 +32,7 @@ fills_nothing b l alone = record {
   base = refl;
   stop = refl;
   goes_on = inl (refl, refl);
+  held = λ page held. held;
 }
 
 below_stop : (l : LeaseView) → (IsFull l → ⊥) → l.present.count < l.stop
@@ -65,6 +70,31 @@ fills_step b c l k n counts still f room t =
       base = ap (λ (x : LeaseView). x.base) t.0 ∙ f.base;
       stop = stop ∙ f.stop;
       goes_on = counts_on l k n f.goes_on stop (counts k n t) (below_stop k room);
+      held = f.held;
+    }
+
+goes_as : (l k m : LeaseView) → GoesOn l k → m.present ≡ k.present → m.steps ≡ k.steps → m.stop ≡ k.stop → GoesOn l m
+goes_as l k m goes present steps stop =
+    let count : m.present.count ≡ k.present.count = ap (λ (h : Hart). h.count) present in
+    elim goes [
+      | inl same ↦ inl (present ∙ same.0, steps ∙ same.1)
+      | inr on ↦ inr (omega (arith, count, on.0), omega (arith, count, stop, on.1))
+    ]
+
+-- one page more
+pub fills_page : (b c d : BookView RecordingView) (l k n m : LeaseView) → Fills b c l k → n ≡ k → Gives c d n m → Fills b d l m
+fills_page b c d l k n m f same g =
+    record {
+      book =
+          g.book
+          ∙ ap (λ (x : BookView RecordingView). let y : BookView RecordingView = record x { leases = d.leases; mode = record x.mode { rights = d.mode.rights } } in y) f.book;
+      alone = g.alone;
+      hart = g.hart ∙ ap (λ (x : LeaseView). x.hart) same ∙ f.hart;
+      base = g.base ∙ ap (λ (x : LeaseView). x.base) same ∙ f.base;
+      stop = g.stop ∙ ap (λ (x : LeaseView). x.stop) same ∙ f.stop;
+      goes_on = goes_as l k m f.goes_on (g.present ∙ ap (λ (x : LeaseView). x.present) same) (g.steps ∙ ap (λ (x : LeaseView). x.steps) same)
+          (g.stop ∙ ap (λ (x : LeaseView). x.stop) same);
+      held = λ page held. g.held page (f.held page held);
     }
 
 -- the page that a step lacks
@@ -112,6 +142,21 @@ lent_pages : (lent : Option OpenView) (m : MachineState) (l : LeaseView) → IsL
 lent_pages None m l p = absurd p
 lent_pages (Some lent) m l p = p.is_lent.as_many
 
+-- whoever is given a right has it
+has_given : (r : Right) (hart : ℕ) (want : Want) (n : ℕ) → (other : ℕ) × (holds (crew.given r hart want n) other ≡ true)
+has_given (Shared since readers left) hart Read n = (hart, put_same readers hart hart true refl)
+has_given (Shared since readers left) hart Write n = (hart, eq-eqb hart hart refl)
+has_given (Exclusive owner at since left) hart want n = (owner, eq-eqb owner owner refl)
+
+held_on : (b c : BookView RecordingView) (settled : ℕ → ℕ) (asked : Asked) → IsGiven b.mode settled asked c.mode → KeepHeld b c
+held_on b c settled asked g = λ page held.
+    elim (same_or_not asked.page page) [
+      | inl same ↦
+          (let now = has_given (right_met b.mode settled asked) asked.hart asked.want asked.count in
+          subst (λ (p : ℕ). (hart : ℕ) × (holds (right_at c.mode.rights p) hart ≡ true)) same (subst (λ (r : Right). (hart : ℕ) × (holds r hart ≡ true)) (sym g.page) now))
+      | inr other ↦ subst (λ (r : Right). (hart : ℕ) × (holds r hart ≡ true)) (sym (g.others page other)) held
+    ]
+
 pub given : (b c : BookView RecordingView) (l k : LeaseView) (page : ℕ) (want : Want) (settled : ℕ → ℕ) (asked : Asked) → IsAlone b l → page < length l.slots →
     (Covers (want_of (slot_at l.slots page)) want → ⊥) → c ≡ record b { leases = c.leases; mode = c.mode } → IsGiven b.mode settled asked c.mode → k.hart ≡ l.hart →
     k.base ≡ l.base → k.present ≡ l.present → k.steps ≡ l.steps → k.stop ≡ l.stop → IsOurs c k → (lent : Option OpenView) →
@@ -136,6 +181,7 @@ given b c l k page want settled asked alone lt lacks book mode hart base present
       stop = stop;
       fewer = subst (λ (x : LeaseView). lacking (map want_of x.slots) < lacking (map want_of l.slots)) (sym (gives here.0 here.1))
           (fewer_beside (want_of (slot_at l.slots page)) want l page here.0 refl lt lacks);
+      held = held_on b c settled asked mode;
     }
 
 -- no hart is in its own way

@@ -3,6 +3,7 @@ use Rattle.std.proofs.Common.{◌≡◌, ◌≢◌, ℕ, zero, suc, ◌+◌, ◌
 use Rattle.std.proofs.lemmas.Bool.{cases_lt}
 use Rattle.std.proofs.lemmas.Bool.Decides.{nat_tests}
 use Rattle.std.proofs.lemmas.List.Elements.{All-append, All-nil, All-weaker}
+use Rattle.crew_pages.specs.Rights.{holds}
 use Rattle.rv32_hart.specs.Hart.{Hart}
 use Rattle.ft_types.specs.Counts.{count_at}
 use Rattle.input_log.specs.declared.Input.{Input}
@@ -19,7 +20,7 @@ use Rattle.page_book.specs.Dues.{stop_before}
 use Rattle.page_book.specs.Leases.{LeaseView, IsFull, fresh}
 use Rattle.page_book.specs.Books.{BookView, IsOurs, refusal}
 use Rattle.page_book.specs.OpenLeases.{OpenView, open_at, nothing_taken, lent_with}
-use Rattle.page_book.specs.Recordings.{RecordingView, GoesOut, IsFilled}
+use Rattle.page_book.specs.Recordings.{RecordingView, GoesOut, IsFilled, right_at}
 use Rattle.primary_pool.specs.Running.{IsIdle, AreThrough, IsThrough, Continues, GoWithin, HearsMore}
 use Rattle.primary_pool.specs.Leading.{IsAlone, Settles, IsFurther, Goes, Rounds, HasRun, IsSoFar, steps_left}
 use Rattle.primary_pool.proofs.Filling.{row_kept}
@@ -213,6 +214,9 @@ module _ (b c : BookView RecordingView) (hart : ℕ) (l : LeaseView) (given : Is
         idle = s.idle;
         limits = s.limits ∙ ap (λ (m : RecordingView). m.limits) mode_is;
         continues = goes_from d s.continues;
+        held = λ page held.
+            s.held page
+            (subst (λ (m : RecordingView). (other : ℕ) × (holds (right_at m.rights page) other ≡ true)) (sym mode_is) held);
         counts = λ other.
             subst
             (λ (hs : List Hart). (counts_of b.machine other ≤ steps_taken (slice_get hs other)) ×
@@ -285,6 +289,7 @@ further_on b c d p q =
       limits = q.limits ∙ p.limits;
       continues = continues_on b c d p.counts p.continues q.continues;
       counts = within_on b c d p.limits p.counts q.counts;
+      held = λ page held. q.held page (p.held page held);
       fewer =
           let first = p.fewer in
           let second =
@@ -312,7 +317,7 @@ round_holds false n b c d p q = (
 -- ---- rounds
 
 pub begins : (b : BookView RecordingView) → IsIdle b → HasRun b → IsSoFar b b
-begins b idle ran = record { ran = ran; idle = idle; limits = refl; continues = continues_none b; counts = within_none b }
+begins b idle ran = record { ran = ran; idle = idle; limits = refl; continues = continues_none b; counts = within_none b; held = λ page held. held }
 
 pub leads_on : (a b c : BookView RecordingView) → IsSoFar a b → IsFurther b c → IsSoFar a c
 leads_on a b c p q =
@@ -322,6 +327,7 @@ leads_on a b c p q =
       limits = q.limits ∙ p.limits;
       continues = continues_on a b c p.counts p.continues q.continues;
       counts = within_on a b c p.limits p.counts q.counts;
+      held = λ page held. q.held page (p.held page held);
     }
 
 some_below : (harts : List Hart) (hart : ℕ) (h : Hart) → slice_get harts hart ≡ Some h → hart < length harts

@@ -10,7 +10,7 @@ use Rattle.page_book.specs.OpenLeases.{open_at}
 use Rattle.page_book.specs.Books.{BookView, IsOurs, added}
 use Rattle.page_book.specs.Recordings.{RecordingView, heard_by, LogsInputs, AreLogged, right_at}
 use Rattle.page_book.specs.Runs.{LeadsTo, harts_of, counts_of}
-use Rattle.primary_pool.specs.Running.{IsIdle, IsThrough, Continues, GoWithin}
+use Rattle.primary_pool.specs.Running.{IsIdle, IsThrough, Continues, GoWithin, KeepHeld}
 
 -- ---- one lease
 
@@ -48,6 +48,7 @@ pub record Gives (b c : BookView RecordingView) (l k : LeaseView) : Type 0 where
   pub steps : k.steps ≡ l.steps
   pub stop : k.stop ≡ l.stop
   pub fewer : lacking (map want_of k.slots) < lacking (map want_of l.slots)
+  pub held : KeepHeld b c
 
 -- the book and its one lease after steps and pages
 pub record Fills (b c : BookView RecordingView) (l k : LeaseView) : Type 0 where
@@ -57,6 +58,7 @@ pub record Fills (b c : BookView RecordingView) (l k : LeaseView) : Type 0 where
   pub base : k.base ≡ l.base
   pub stop : k.stop ≡ l.stop
   pub goes_on : GoesOn l k
+  pub held : KeepHeld b c
 
 -- the book after its lease came back, whose steps, inputs and edges it has now: rights stay as they were
 pub record ComesBack (b c : BookView RecordingView) (l : LeaseView) : Type 0 where
@@ -67,6 +69,7 @@ pub record ComesBack (b c : BookView RecordingView) (l : LeaseView) : Type 0 whe
   pub leases : c.leases ≡ slice_set b.leases l.hart None
   pub inputs : LogsInputs l.steps b.mode.inputs l c.mode.inputs
   pub edges : AreLogged b.mode.edges l.edges c.mode.edges
+  pub many : length c.mode.rights ≡ length b.mode.rights
   pub rights : (page : ℕ) → page < length b.mode.rights → right_at c.mode.rights page ≡ right_at b.mode.rights page
 
 -- the book after the steps of its one lease: no lease is open, and its hart has gone on, not past its stop
@@ -78,6 +81,7 @@ pub record Settles (b c : BookView RecordingView) (l : LeaseView) : Type 0 where
   pub harts : c.machine.harts ≡ slice_set b.machine.harts l.hart after
   pub further : l.present.count < after.count
   pub within : after.count ≤ l.stop
+  pub held : KeepHeld b c
 
 -- ---- rounds
 
@@ -94,6 +98,7 @@ pub record IsFurther (b c : BookView RecordingView) : Type 0 where
   pub continues : Continues b c
   pub counts : GoWithin b c
   pub fewer : steps_left b.mode.limits c.machine.harts < steps_left b.mode.limits b.machine.harts
+  pub held : KeepHeld b c
 
 -- the hart went, or nothing has changed, and it is through
 abbrev pub Goes : Bool → ℕ → BookView RecordingView → BookView RecordingView → Type 0
@@ -118,3 +123,4 @@ pub record IsSoFar (b c : BookView RecordingView) : Type 0 where
   pub limits : c.mode.limits ≡ b.mode.limits
   pub continues : Continues b c
   pub counts : GoWithin b c
+  pub held : KeepHeld b c

@@ -5,7 +5,7 @@ ghost use Rattle.page_book.specs.Slots.{slot_at, want_of};
 ghost use Rattle.page_book.specs.Leases.{IsFull};
 ghost use Rattle.page_book.specs.Books.{IsOurs};
 ghost use Rattle.page_book.specs.Laws.{Covers};
-ghost use Rattle.primary_pool.specs.Running.{IsIdle, AreThrough, Continues, RunsOn, GoWithin};
+ghost use Rattle.primary_pool.specs.Running.{IsIdle, AreThrough, Continues, RunsOn, GoWithin, KeepHeld};
 ghost use Rattle.primary_pool.specs.Leading.{IsAlone, Fills, Gives, ComesBack, Settles, Goes, Rounds, HasRun};
 
 use crate::fault::PoolFault;
@@ -132,6 +132,7 @@ pub fn run_plain(alloc: Global, book: Book<Recording>) -> Result<Book<Recording>
     ensures runs { IfOk result (λ b. RunsOn book b) }
     ensures limits { IfOk result (λ b. b.mode.limits ≡ book.mode.limits) }
     ensures counts { IfOk result (λ b. GoWithin book b) }
+    ensures held { IfOk result (λ b. KeepHeld book b) }
 {
     let mut book = book;
     has_run(&book);
