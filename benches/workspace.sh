@@ -5,7 +5,8 @@ work=$(mktemp -d)
 trap 'rm -rf "$work"' EXIT
 
 # workspace NAME CRATES USES [WORDS..]: the program NAME, which uses USES, with the crates CRATES that it stands on, in a
-# workspace of their own. Proves, builds and runs it with these words, and sets `program` to it.
+# workspace of their own. Proves, builds and runs it with these words, and sets `program` to it. Where `kept` is set, as in
+# `kept=yes sh measure.sh`, what checks of the repository kept in out/ is copied too, and not proved again.
 workspace() {
     name=$1
     crates=$2
@@ -14,7 +15,7 @@ workspace() {
     mkdir "$work/crates"
     for crate in $crates; do
         mkdir "$work/crates/$crate"
-        for part in src specs proofs; do
+        for part in src specs proofs ${kept:+out}; do
             if [ -d "$top/crates/$crate/$part" ]; then
                 cp -R "$top/crates/$crate/$part" "$work/crates/$crate/"
             fi

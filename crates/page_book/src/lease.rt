@@ -14,7 +14,7 @@ ghost use Rattle.page_book.specs.Leases.{LeaseView, fresh, rung_bell, bells_rung
 use crate::asked::Asked;
 use crate::lease_pages::{LeasePages, Slot};
 use crate::lent::Lent;
-use crate::taken::{Taken, with_taken};
+use crate::taken::{Taken, TakenPages};
 use edge_log::Edge;
 use ft_types::{Count, HART_LIMIT, Hart, Memory, PageNo, Want};
 use guest_image::{Machine, Page};
@@ -38,7 +38,7 @@ pub struct Lease {
     bases: Vec<Option<Page>>,
     pages: LeasePages,
     /// The counts at which it took each page.
-    taken: [Option<Taken>; 64],
+    taken: TakenPages,
     /// The edges found, which wait until it is settled.
     edges: SmallVec<Edge, 8>,
     steps: u64,
@@ -91,6 +91,23 @@ fn given_at(inputs: &SmallVec<Input, 8>, steps: u64) -> &[Input]
     if steps == 0 { inputs.as_slice() } else { &[] }
 }
 
+/// Whether both rows are equal. Each step asks it, so it has no branches.
+#[inline(always)]
+fn same_rung(rung: &[u64; 8], before: &[u64; 8]) -> bool
+    ensures { IsTrue result ↔ (rung.now ≡ before.now) }
+{
+    let [r0, r1, r2, r3, r4, r5, r6, r7] = *rung;
+    let [b0, b1, b2, b3, b4, b5, b6, b7] = *before;
+    (r0 == b0)
+        & (r1 == b1)
+        & (r2 == b2)
+        & (r3 == b3)
+        & (r4 == b4)
+        & (r5 == b5)
+        & (r6 == b6)
+        & (r7 == b7)
+}
+
 fn same_inputs(inputs: &[Input], others: &[Input]) -> bool
     ensures { result ≡ pointwise same_input inputs.now others.now }
 {
@@ -112,6 +129,7 @@ impl Lease {
         let present = state.copy()?;
         let bases = no_pages(alloc, pages)?;
         let pages = LeasePages::missing(alloc, pages)?;
+        let taken = TakenPages::none(alloc)?;
         Ok(Lease {
             hart,
             base,
@@ -119,7 +137,7 @@ impl Lease {
             inputs: SmallVec::new(alloc),
             bases,
             pages,
-            taken: [None; 64],
+            taken,
             edges: SmallVec::new(alloc),
             steps: 0,
             stop: 0,
@@ -227,7 +245,7 @@ impl Lease {
         self.steps >= LEASE_STEPS
             || self.present.count() >= self.stop
             || self.present.is_halted()
-            || self.present.rung().as_slice() != self.base.rung().as_slice()
+            || !same_rung(self.present.rung(), self.base.rung())
     }
 
     /// One step, where the lease is not full.
@@ -256,8 +274,7 @@ impl Lease {
         requires missing { slot_at self.old.slots page ≡ Slot.Missing }
         ensures { self.new ≡ with_page_to_read self.old page here }
     {
-        let held = self.taken[page.index()];
-        self.taken[page.index()] = Some(with_taken(held, Want::Read, self.present.count()));
+        self.taken.take(page, Want::Read, self.present.count());
         drop(self.pages.put(page, Slot::Readable(here)));
     }
 
@@ -269,8 +286,7 @@ impl Lease {
         requires same { present ≡ base }
         ensures { self.new ≡ with_page_to_write self.old page base present }
     {
-        let held = self.taken[page.index()];
-        self.taken[page.index()] = Some(with_taken(held, Want::Write, self.present.count()));
+        self.taken.take(page, Want::Write, self.present.count());
         self.bases[page.index()] = Some(base);
         drop(self.pages.put(page, Slot::Writable(present)));
     }
@@ -304,7 +320,7 @@ impl Lease {
     fn took(&self, taken: &[Option<Taken>; 64]) -> bool
         ensures { IsTrue result ↔ (self.now.taken ≡ taken.now) }
     {
-        self.taken == *taken
+        self.taken.same(taken)
     }
 
     fn pages_are_lent(&self, machine: &Machine) -> bool
@@ -379,7 +395,7 @@ impl Lease {
             inputs,
             bases,
             pages,
-            taken: _,
+            taken,
             edges,
             steps,
             stop: _,
@@ -387,6 +403,7 @@ impl Lease {
         drop(base);
         drop(inputs);
         drop(bases);
+        drop(taken);
         drop(edges);
         (present, pages.into_slots(), steps)
     }

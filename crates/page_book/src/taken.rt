@@ -1,9 +1,11 @@
 //! When a lease took a page, and with which right.
 
-ghost use Rattle.std.specs.Prelude.{◌≡◌};
-ghost use Rattle.page_book.specs.Taken.{right_of_taken, taking};
+ghost use Rattle.std.specs.Prelude.{◌≡◌, ◌<◌, ◌↔◌, length, replicate, slice_set, None, Some, IfOk, IsTrue};
+ghost use Rattle.page_book.specs.Taken.{right_of_taken, taken_at, taking};
 
-use ft_types::{Count, Want};
+use ft_types::{Count, Memory, PageNo, Want};
+use std::alloc::Global;
+use std::marker::Model;
 
 /// The counts at which a lease first took a page, and at which it took it to write.
 #[derive(Clone, Copy, Debug, PartialEq, Eq)]
@@ -44,4 +46,53 @@ pub(crate) fn with_taken(held: Option<Taken>, want: Want, count: Count) -> Taken
         _ => written,
     };
     Taken { read_at, write_at }
+}
+
+fn same_row(row: &[Option<Taken>; 64], other: &[Option<Taken>; 64]) -> bool
+    ensures { IsTrue result ↔ (row.now ≡ other.now) }
+{
+    row == other
+}
+
+/// Since when a lease has each page. The row lies apart, so that a lease is small to move.
+#[derive(Drop)]
+pub(crate) struct TakenPages {
+    row: Box<[Option<Taken>; 64]>,
+}
+
+impl Model for TakenPages {
+    ghost use Rattle.std.specs.Prelude.{◌≡◌, List, Option, length};
+    ghost use Rattle.page_book.specs.declared.taken.Taken.{Taken};
+
+    ghost Value = { List (Option Taken) };
+
+    ghost view = { λ t. t.row.value };
+
+    ghost invariant = { λ t. length t.row.value ≡ 64 };
+}
+
+impl TakenPages {
+    /// No page.
+    pub(crate) fn none(alloc: Global) -> Result<TakenPages, Memory>
+        ensures { IfOk result (λ t. t ≡ replicate 64 None) }
+    {
+        let row = Box::new(alloc, [None; 64])?;
+        Ok(TakenPages { row })
+    }
+
+    /// Writes down that the page was taken at this count.
+    pub(crate) fn take(&mut self, page: PageNo, want: Want, count: Count)
+        ensures value { self.new ≡ slice_set self.old page (Some (taking (taken_at self.old page) want count)) }
+        ensures row { page < length self.old }
+    {
+        let held = self.row[page.index()];
+        self.row[page.index()] = Some(with_taken(held, want, count));
+    }
+
+    /// Whether each page was taken as in this row.
+    pub(crate) fn same(&self, row: &[Option<Taken>; 64]) -> bool
+        ensures { IsTrue result ↔ (self.now ≡ row.now) }
+    {
+        same_row(&*self.row, row)
+    }
 }

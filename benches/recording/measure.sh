@@ -1,0 +1,35 @@
+#!/bin/sh
+# Counts the host instructions that a step of a guest with one hart takes, bare and recorded, by callgrind.
+# Needs rt and valgrind on the PATH. Works in a folder of its own, which it removes.
+set -eu
+
+here=$(cd "$(dirname "$0")" && pwd)
+. "$here/../workspace.sh"
+
+workspace recording_bench "interleaving zaamo ft_types rv32_isa input_log rv32_hart edge_log guest_image crew_pages lease_ledger page_book primary_pool" "ft_types rv32_hart guest_image page_book primary_pool anyhow" record loop 3000
+
+# Both leave the same hart.
+for guest in loop outputs; do
+    "$program" bare "$guest" 30000 > "$work/bare.txt"
+    "$program" record "$guest" 30000 > "$work/recorded.txt"
+    cmp "$work/bare.txt" "$work/recorded.txt"
+done
+
+# What the steps from one number to another cost, per step.
+per_step() {
+    few=$(count "$program" "$1" "$2" "$3")
+    many=$(count "$program" "$1" "$2" "$4")
+    awk "BEGIN { printf \"%.2f\", ($many - $few) / ($4 - $3) }"
+}
+
+a=$(per_step bare loop 300000 1000000)
+b=$(per_step record loop 300000 1000000)
+echo "bare        $a host instructions per guest instruction"
+echo "recorded    $b host instructions per guest instruction"
+awk "BEGIN { printf \"ratio       %.2f\n\", $b / $a }"
+
+for way in bare record; do
+    a=$(per_step "$way" outputs 0 30000)
+    b=$(per_step "$way" outputs 30000 300000)
+    echo "$way, with an output at every third step: $a per step up to 30,000 steps, then $b up to 300,000"
+done

@@ -1,0 +1,33 @@
+#!/bin/sh
+# Counts what running four harts takes and what replaying their log does, and what a frame of a long log of small pieces costs
+# to join and to plan, by callgrind. Needs rt and valgrind on the PATH. Works in a folder of its own, which it removes.
+set -eu
+
+here=$(cd "$(dirname "$0")" && pwd)
+. "$here/../workspace.sh"
+
+workspace replaying_bench "interleaving zaamo ft_types rv32_isa input_log rv32_hart edge_log guest_image crew_pages lease_ledger page_book primary_pool fragment_codec log_join closed_cut hart_replay" "ft_types input_log guest_image page_book primary_pool fragment_codec log_join closed_cut hart_replay anyhow" run 1
+
+"$program" run 1
+"$program" replay 1
+
+# What two more rounds cost, each.
+per_round() {
+    few=$(count "$program" "$1" 1)
+    many=$(count "$program" "$1" 3)
+    echo $(((many - few) / 2))
+}
+
+a=$(per_round run)
+b=$(per_round replay)
+awk "BEGIN { printf \"run %d, replay %d instructions, ratio %.3f\n\", $a, $b, $b / $a }"
+
+for frames in 10000 100000 1000000; do
+    made=$(count "$program" make "$frames")
+    joined=$(count "$program" join "$frames")
+    few=$(count "$program" plan "$frames" 1)
+    many=$(count "$program" plan "$frames" 3)
+    awk "BEGIN { printf \"%-8s frames: join %.0f, plan %.0f instructions per frame\n\", \"$frames\", ($joined - $made) / $frames, ($many - $few) / 2 / $frames }"
+done
+"$program" join 1000000
+"$program" plan 1000000 3
