@@ -23,8 +23,8 @@ workspace() {
         grep "^$crate:" "$top/crates.txt" >> "$work/crates.txt"
     done
     cp -R "$here/$name" "$work/crates/"
-    # The gate reads each .rt file as a part of a crate, so the sources of benchmarks end in .rt.txt.
-    for file in "$work/crates/$name"/src/*.rt.txt; do
+    # The gate reads each .rt and .antt file as a part of a crate, so those of benchmarks end in .rt.txt and .antt.txt.
+    find "$work/crates/$name" -name '*.txt' | while read -r file; do
         mv "$file" "${file%.txt}"
     done
     echo "$name: $uses" >> "$work/crates.txt"

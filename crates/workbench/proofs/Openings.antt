@@ -1,11 +1,11 @@
 -- An opening from boot keeps the rules.
-use Rattle.std.proofs.Common.{◌≡◌, ℕ, zero, suc, ◌<◌, ◌≤◌, List, length, replicate, refl, arith}
+use Rattle.std.proofs.Common.{◌≡◌, ℕ, zero, suc, ◌≤◌, replicate, refl, arith}
 use Rattle.std.specs.List.{AllByRecursion}
 use Rattle.std.proofs.lemmas.List.Elements.{All-replicate}
 use Rattle.std.proofs.lemmas.Grind.{common_steps}
 use Rattle.ft_types.specs.Counts.{IsCount}
 use Rattle.ft_types.specs.declared.guest.Guest.{Guest}
-use Rattle.fragment_codec.specs.Rules.{IsGuest, IsDigest, IsOpening}
+use Rattle.fragment_codec.specs.Rules.{IsDigest, IsOpening}
 
 zeros_are_counts : (n : ℕ) → AllByRecursion IsCount (replicate n 0)
 zeros_are_counts zero = tt

@@ -6,7 +6,7 @@ use Rattle.input_log.specs.Inputs.{inputs_of}
 use Rattle.input_log.specs.Waiting.{bells_of, others_of}
 use Rattle.input_script.specs.declared.script.Offered.{Offered}
 use Rattle.edge_log.specs.EdgeLog.{edges_of}
-use Rattle.guest_image.specs.Image.{ImageContents, guest_of}
+use Rattle.guest_image.specs.Image.{ImageContents}
 use Rattle.guest_image.specs.Machine.{boot_machine}
 use Rattle.fragment_codec.specs.Pieces.{SealedView, mark_of, book_log, IsCut}
 use Rattle.fragment_codec.specs.declared.frame.Frame.{Frame}

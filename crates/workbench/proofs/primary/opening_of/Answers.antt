@@ -1,5 +1,4 @@
-use Rattle.std.proofs.Common.{◌≡◌, replicate, arith}
-use Rattle.fragment_codec.specs.Rules.{IsDigest, IsOpening}
+use Rattle.fragment_codec.specs.Rules.{IsDigest}
 use Rattle.workbench.proofs.Openings.{opens_from_boot}
 use Rattle.workbench.proofs.primary.opening_of.Goals as goal
 
