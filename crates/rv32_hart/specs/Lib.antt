@@ -7,6 +7,7 @@ pub mod Access
 pub mod Step
 pub mod Granted
 pub mod Bells
+pub mod Outputs
 pub mod CountedSteps
 pub mod Local
 pub mod Hardware

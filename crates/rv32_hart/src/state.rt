@@ -1,12 +1,13 @@
 //! A hart's state.
-ghost use Rattle.std.specs.Prelude.{◌≡◌, ◌<◌, ◌≤◌, ◌^◌, ◌↔◌, length, drop, IfOk, IsTrue};
-ghost use Rattle.rv32_hart.specs.Hart.{boot_hart, csr_words, device_words};
+ghost use Rattle.std.specs.Prelude.{◌≡◌, ◌<◌, ◌≤◌, ◌^◌, ◌↔◌, ◌++◌, length, drop, take, IfOk, OnOk, OnErr, IsTrue};
+ghost use Rattle.rv32_hart.specs.Hart.{boot_hart, csr_words, device_words, without_outputs, with_outputs_of};
 
 use super::hart_core::HartCore;
 use super::registers::{Csrs, Received};
 use ft_types::{Count, Hart, Memory};
 use std::alloc::Global;
 use std::marker::Model;
+use std::mem;
 use std::vec::Vec;
 
 /// A hart's state. Contracts see the record of its parts.
@@ -168,25 +169,78 @@ impl HartState {
         ensures { IfOk result (λ h. h ≡ self.now) }
     {
         let outputs = self.core.outputs.clone()?;
-        Ok(HartState {
+        Ok(self.with(outputs))
+    }
+
+    /// The state without its outputs. Takes no memory.
+    pub fn without_outputs(&self) -> HartState
+        ensures { result ≡ without_outputs self.now }
+    {
+        self.with(Vec::new(*self.core.outputs.allocator()))
+    }
+
+    /// The state with these outputs in place of its own.
+    fn with(&self, outputs: Vec<(Count, u32)>) -> HartState
+        ensures { result ≡ record self.now { outputs = outputs.items } }
+    {
+        let core = &self.core;
+        HartState {
             core: HartCore {
-                number: self.core.number,
-                harts: self.core.harts,
-                pc: self.core.pc,
-                registers: self.core.registers,
-                csrs: self.core.csrs,
-                received: self.core.received,
+                number: core.number,
+                harts: core.harts,
+                pc: core.pc,
+                registers: core.registers,
+                csrs: core.csrs,
+                received: core.received,
                 outputs,
-                rung: self.core.rung,
-                halted: self.core.halted,
-                count: self.core.count,
+                rung: core.rung,
+                halted: core.halted,
+                count: core.count,
             },
-        })
+        }
+    }
+
+    /// Puts these outputs behind the hart's. Memory changes nothing.
+    pub fn add_outputs(&mut self, outputs: &[(Count, u32)]) -> Result<(), Memory>
+        ensures added { OnOk result (self.new ≡ record self.old { outputs = self.old.outputs ++ outputs.now }) }
+        ensures kept { OnErr result (self.new ≡ self.old) }
+    {
+        self.core.outputs.extend_from_slice(outputs)?;
+        Ok(())
+    }
+
+    /// Drops the outputs from such a number on.
+    pub fn cut_outputs(&mut self, number: usize)
+        ensures { self.new ≡ record self.old { outputs = take number self.old.outputs } }
+    {
+        self.core.outputs.truncate(number);
+    }
+
+    /// Each of both states gets the outputs of the other.
+    pub fn swap_outputs(&mut self, other: &mut HartState)
+        ensures mine { self.new ≡ with_outputs_of other.old self.old }
+        ensures theirs { other.new ≡ with_outputs_of self.old other.old }
+    {
+        mem::swap(&mut self.core.outputs, &mut other.core.outputs);
     }
 
     /// Whether both states are equal.
     pub fn same(&self, other: &HartState) -> bool
         ensures { IsTrue result ↔ (self.now ≡ other.now) }
+    {
+        self.same_but_outputs(other)
+            && same_outputs(self.core.outputs.as_slice(), other.core.outputs.as_slice())
+    }
+
+    /// Whether the other is this state without its outputs.
+    pub fn is_without_outputs(&self, other: &HartState) -> bool
+        ensures { IsTrue result ↔ (without_outputs self.now ≡ other.now) }
+    {
+        self.same_but_outputs(other) && other.core.outputs.is_empty()
+    }
+
+    fn same_but_outputs(&self, other: &HartState) -> bool
+        ensures { IsTrue result ↔ (without_outputs self.now ≡ without_outputs other.now) }
     {
         let mine = &self.core;
         let theirs = &other.core;
@@ -202,7 +256,7 @@ impl HartState {
         if mine.csrs != theirs.csrs || mine.received != theirs.received {
             return false;
         }
-        same_outputs(mine.outputs.as_slice(), theirs.outputs.as_slice())
+        true
     }
 }
 
