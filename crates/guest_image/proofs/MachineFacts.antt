@@ -1,8 +1,9 @@
 -- What every machine keeps.
-use Rattle.std.proofs.Common.{◌≡◌, ℕ, zero, suc, ◌+◌, ◌-◌, ◌*◌, ◌≤◌, List, [], ◌∷◌, length, take, drop, map, replicate, slice_set, refl, ap, arith, length-append, length-set}
+use Rattle.std.proofs.Common.{◌≡◌, ℕ, zero, suc, ◌+◌, ◌-◌, ◌*◌, ◌<◌, ◌≤◌, List, [], ◌∷◌, length, take, drop, map, replicate, slice_get, slice_set, slice_index_or, Option, Some, refl, sym, ap, ◌∙◌, arith, length-append, length-set}
 use Rattle.std.specs.List.{flat_map, range_with_len, AllByRecursion}
-use Rattle.std.proofs.lemmas.List.{length-replicate}
+use Rattle.std.proofs.lemmas.List.{length-replicate, set-set}
 use Rattle.std.proofs.lemmas.Grind.{common_steps}
+use Rattle.std.proofs.lemmas.Option.{slice_get-get_or}
 use Rattle.guest_image.specs.Image.{ImageContents, Fits}
 use Rattle.rv32_hart.specs.Hart.{Hart, boot_hart}
 use Rattle.guest_image.specs.Machine.{AreInPlace, IsMachine, word_bytes, page_with, pages_with, boot_harts, boot_machine}
@@ -67,6 +68,12 @@ set_in_place harts place zero (x ∷ hs) h e f p = (omega arith, f, p.2)
 set_in_place harts place (suc i) (x ∷ hs) h e f p =
     (p.0, p.1, set_in_place harts (place + 1) i hs h (omega arith) f p.2)
 
+pub in_place : (harts place i : ℕ) (hs : List Hart) (h : Hart) → AreInPlace harts place hs → slice_get hs i ≡ Some h → (h.number ≡ place + i) × (h.harts ≡ harts)
+in_place harts place i [] h p e = cc
+in_place harts place zero (x ∷ hs) h p e =
+    let same : x ≡ h = cc in (ap (λ k. k.number) (sym same) ∙ (p.0 ∙ omega arith), ap (λ k. k.harts) (sym same) ∙ p.1)
+in_place harts place (suc i) (x ∷ hs) h p e = let (number, all) = in_place harts (place + 1) i hs h p.2 e in (number ∙ omega arith, all)
+
 pub whole_with_hart : (hs : List Hart) (ps : List (List ℕ)) (i : ℕ) (h : Hart) → h.number ≡ i → h.harts ≡ length hs →
     IsMachine (record { harts = hs; pages = ps }) → IsMachine (record { harts = slice_set hs i h; pages = ps })
 whole_with_hart hs ps i h e f p =
@@ -79,3 +86,22 @@ whole_with_hart hs ps i h e f p =
       pages = p.pages;
       bytes = p.bytes;
     }
+
+-- with other outputs it stays there
+pub whole_with_outputs : (hs : List Hart) (ps : List (List ℕ)) (i : ℕ) (old new : Hart) → slice_get hs i ≡ Some old → new ≡ record old { outputs = new.outputs } →
+    IsMachine (record { harts = hs; pages = ps }) → IsMachine (record { harts = slice_set hs i new; pages = ps })
+whole_with_outputs hs ps i old new e rest p =
+    let (number, all) = in_place (length hs) 0 i hs old p.places e in
+    whole_with_hart hs ps i new (ap (λ h. h.number) rest ∙ (number ∙ omega arith)) (ap (λ h. h.harts) rest ∙ all) p
+
+-- the hart that is found in a place
+pub found_there : (hs : List Hart) (i : ℕ) (x h : Hart) → x ≡ slice_index_or hs i x → slice_get hs i ≡ Some h → x ≡ h
+found_there [] i x h found e = cc
+found_there (y ∷ hs) zero x h found e = cc
+found_there (y ∷ hs) (suc i) x h found e = found_there hs i x h found e
+
+pub got_there : (hs : List Hart) (i : ℕ) (x : Hart) → x ≡ slice_index_or hs i x → i < length hs → slice_get hs i ≡ Some x
+got_there hs i x found within = slice_get-get_or hs i x within ∙ ap (λ h. Some h) (sym found)
+
+pub set_twice : (hs : List Hart) (i : ℕ) (h k : Hart) → slice_set (slice_set hs i h) i k ≡ slice_set hs i k
+set_twice hs i h k = set-set hs i h k

@@ -1,5 +1,5 @@
 -- A machine, what each one keeps, and how one starts.
-use Rattle.std.specs.Prelude.{◌≡◌, ℕ, zero, suc, ◌+◌, ◌-◌, ◌*◌, ◌<◌, ◌≤◌, List, [], ◌∷◌, ◌++◌, length, take, drop, map, replicate}
+use Rattle.std.specs.Prelude.{◌≡◌, ℕ, zero, suc, ◌+◌, ◌-◌, ◌*◌, ◌<◌, ◌≤◌, List, [], ◌∷◌, ◌++◌, length, take, drop, map, replicate, slice_set}
 use Rattle.std.specs.Int.{to_le_bytes, from_le_bytes, w32}
 use Rattle.std.specs.List.{flat_map, range_with_len, AllByRecursion}
 use Rattle.interleaving.specs.Stored.{Store}
@@ -23,6 +23,10 @@ pub record IsMachine (m : MachineState) : Type 0 where
   pub some_pages : 0 < length m.pages
   pub pages : length m.pages ≤ 64
   pub bytes : AllByRecursion (λ page. length page ≡ 4096) m.pages
+
+-- the machine with a hart in this place
+abbrev pub with_hart : MachineState → ℕ → Hart → MachineState
+with_hart m place h = record m { harts = slice_set m.harts place h }
 
 -- a word in memory, its lowest byte first
 abbrev pub word_bytes : ℕ → List ℕ

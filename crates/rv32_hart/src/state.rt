@@ -204,6 +204,7 @@ impl HartState {
     pub fn add_outputs(&mut self, outputs: &[(Count, u32)]) -> Result<(), Memory>
         ensures added { OnOk result (self.new ≡ record self.old { outputs = self.old.outputs ++ outputs.now }) }
         ensures kept { OnErr result (self.new ≡ self.old) }
+        ensures rest { self.new ≡ record self.old { outputs = self.new.outputs } }
     {
         self.core.outputs.extend_from_slice(outputs)?;
         Ok(())
