@@ -32,3 +32,4 @@ pub mod StepBells
 pub mod Ticked
 pub mod Ticks
 pub mod WaitingBells
+pub mod Bare

@@ -6,17 +6,20 @@ use Rattle.std.proofs.lemmas.Bool.{cases_lt}
 use Rattle.input_log.specs.declared.Input.{Input}
 use Rattle.input_log.specs.declared.Input.TheVariants.{Timer, Word, Bell}
 use Rattle.rv32_hart.specs.Ram.{Ram}
-use Rattle.rv32_hart.specs.Hart.{Hart}
+use Rattle.rv32_hart.specs.Hart.{Hart, with_earlier}
 use Rattle.rv32_hart.specs.Step.{IsTaken}
 use Rattle.rv32_hart.specs.Csrs.{receive, received_all}
 use Rattle.rv32_hart.specs.CountedSteps.{effect_counted}
 use Rattle.rv32_hart.specs.Bells.{IsRungOnce}
+use Rattle.rv32_hart.proofs.Earlier.{leaves_earlier}
 use Rattle.rv32_hart.proofs.Ringing.{rings_one}
+use Rattle.guest_image.specs.Machine.{MachineState}
+use Rattle.page_book.specs.declared.taken.Taken.{Taken}
 use Rattle.page_book.specs.declared.lease_pages.Slot.{Slot}
 use Rattle.page_book.specs.Slots.{ram_of, present_bytes}
-use Rattle.page_book.specs.Leases.{LeaseView, inputs_next, stepped, IsFull}
-use Rattle.page_book.specs.Runs.{IsLease}
-use Rattle.page_book.proofs.Ticked.{ticked, rights_stay}
+use Rattle.page_book.specs.Leases.{LeaseView, inputs_next, stepped, whole, IsFull, IsLent}
+use Rattle.page_book.specs.Runs.{IsLease, IsBareLease}
+use Rattle.page_book.proofs.Ticked.{ticked, rights_stay, still_lent}
 use Rattle.page_book.proofs.Played.{ticked_played}
 use Rattle.page_book.proofs.Slots.{length-map}
 
@@ -86,3 +89,21 @@ below_stop l not_full =
       | inl lt ↦ lt
       | inr le ↦ absurd (not_full (inr (inl le)))
     ]
+
+-- so is a bare one
+pub bare_tick_kept : (l : LeaseView) (after : Hart) (slots : List Slot) → IsBareLease l →
+    IsTaken (inputs_next l) l.present (ram_of l.slots) after (ram_of slots) → l.present.count < l.stop → l.present.rung ≡ l.base.rung →
+    IsBareLease (stepped l after slots)
+bare_tick_kept l after slots p t lt quiet = record {
+  bare = tick_kept l after slots p.bare t lt quiet;
+  with_any = λ earlier.
+      tick_kept (whole earlier l) (with_earlier earlier after) slots (p.with_any earlier)
+      (leaves_earlier earlier (inputs_next l) l.present (ram_of l.slots) after (ram_of slots) t) lt quiet;
+}
+
+-- whoever lent it, whatever its hart had put out, still did
+pub bare_still_lent : (l : LeaseView) (after : Hart) (slots : List Slot) → IsTaken (inputs_next l) l.present (ram_of l.slots) after (ram_of slots) →
+    (m : MachineState) (taken : List (Option Taken)) (earlier : List (ℕ × ℕ)) → IsLent m taken (whole earlier l) → IsLent m taken (whole earlier (stepped l after slots))
+bare_still_lent l after slots t m taken earlier lent =
+    still_lent (whole earlier l) (with_earlier earlier after) slots
+    (leaves_earlier earlier (inputs_next l) l.present (ram_of l.slots) after (ram_of slots) t) m taken lent

@@ -2,7 +2,7 @@
 use Rattle.std.specs.Prelude.{◌≡◌, ◌≢◌, ◌≤◌, ◌<◌, ◌⊎◌, ◌+◌, ◌-◌, ℕ, List, [], ◌∷◌, length, replicate, slice_get, slice_set, slice_index, slice_index_or, true, Option, Some, None}
 use Rattle.ft_types.specs.declared.names.Want.{Want}
 use Rattle.ft_types.specs.declared.names.Want.TheVariants.{Read, Write}
-use Rattle.rv32_hart.specs.Hart.{Hart}
+use Rattle.rv32_hart.specs.Hart.{Hart, with_earlier}
 use Rattle.rv32_hart.specs.Step.{IsTaken, IsMissing, IsOutput}
 use Rattle.rv32_hart.specs.declared.outcome.Tick.{Tick}
 use Rattle.rv32_hart.specs.declared.outcome.Tick.TheVariants.{Done, Miss, Halted, Memory}
@@ -20,8 +20,8 @@ use Rattle.guest_image.specs.Machine.{MachineState}
 
 pub record LeaseView : Type 0 where
   pub hart : ℕ
-  pub base : Hart  -- the hart as it was lent
-  pub present : Hart
+  pub base : Hart  -- the hart as it was lent, without its outputs
+  pub present : Hart  -- with the outputs of the lease's steps alone
   pub inputs : List Input  -- of its first step
   pub bases : List (Option (List ℕ))  -- each page to be written, as it was lent
   pub slots : List Slot  -- the pages at present
@@ -45,6 +45,18 @@ fresh hart state pages lent =
       steps = 0;
       stop = lent.stop;
     }
+
+-- the lease, of a hart that had these outputs before
+abbrev pub whole : List (ℕ × ℕ) → LeaseView → LeaseView
+whole earlier l = record l { base = with_earlier earlier l.base; present = with_earlier earlier l.present }
+
+abbrev pub outputs_of : Option Hart → List (ℕ × ℕ)
+outputs_of None = []
+outputs_of (Some h) = h.outputs
+
+-- the lease, of a hart that had the outputs which its hart has in this machine
+abbrev pub whole_in : MachineState → LeaseView → LeaseView
+whole_in m l = whole (outputs_of (slice_get m.harts l.hart)) l
 
 -- the page as it was lent
 abbrev pub base_at : LeaseView → ℕ → Option (List ℕ)

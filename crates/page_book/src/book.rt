@@ -5,9 +5,9 @@ ghost use Rattle.std.specs.Vec.{vec_len, vec_capacity};
 ghost use Rattle.ft_types.specs.Counts.{count_at, greater};
 ghost use Rattle.ft_types.specs.Sets.{IsMember};
 ghost use Rattle.page_book.specs.Slots.{slot_at, want_of};
-ghost use Rattle.page_book.specs.Leases.{LeaseView, fresh, IsFull, base_at, laid, laid_pages, with_slot, with_page};
+ghost use Rattle.page_book.specs.Leases.{LeaseView, fresh, IsFull, base_at, laid, laid_pages, whole_in, with_slot, with_page};
 ghost use Rattle.interleaving.specs.Log.{IsMet, HasUnmet};
-ghost use Rattle.page_book.specs.Runs.{LeadsTo, IsLease, BeginsSchedule, counts_of};
+ghost use Rattle.page_book.specs.Runs.{LeadsTo, IsBareLease, BeginsSchedule, counts_of};
 ghost use Rattle.page_book.specs.OpenLeases.{OpenView, open_at, nothing_taken, given_more, lent_with};
 ghost use Rattle.page_book.specs.Books.{BookView, IsOurs, added, IsLentBy, HasTaken, refusal};
 ghost use Rattle.edge_log.specs.EdgeLog.{row_of};
@@ -17,7 +17,7 @@ ghost use Rattle.page_book.specs.Hearings.{HearsBellsInTurn};
 ghost use Rattle.page_book.specs.Recordings.{RecordingView, IsUnused, IsOffered, IsBetween, heard_by, HasHonestLog};
 ghost use Rattle.input_log.specs.Inputs.{IsInputOf, inputs_of, is_bell};
 ghost use Rattle.page_book.specs.Answers.{IfHeldBy, OnHeldBy, OnGiven};
-ghost use Rattle.rv32_hart.specs.Hart.{Hart as HartRecord};
+ghost use Rattle.rv32_hart.specs.Hart.{Hart as HartRecord, with_outputs_of, without_outputs};
 
 use crate::answers::{BookFault, Keep, Need};
 use crate::asked::Asked;
@@ -197,18 +197,18 @@ fn lay(machine: &mut Machine, slots: Vec<Slot>)
     }
 }
 
-/// Puts the lease's hart and pages back, and says how many steps it has.
+/// Puts the lease's hart back, which keeps the outputs that it has here, and its pages, and says how many steps it has.
 fn take_back(machine: &mut Machine, lease: Lease) -> u64
-    requires state { slice_get machine.old.harts lease.hart ≡ Some lease.base }
+    requires state { (h : HartRecord) × (slice_get machine.old.harts lease.hart ≡ Some h) × (without_outputs h ≡ without_outputs lease.base) }
     requires as_many { length lease.slots ≡ length machine.old.pages }
-    ensures machine { machine.new ≡ laid machine.old lease }
+    ensures machine { (h : HartRecord) → slice_get machine.old.harts lease.hart ≡ Some h → machine.new ≡ laid machine.old (record lease { present = with_outputs_of h lease.present }) }
     ensures steps { result ≡ lease.steps }
-    ensures kept { IsLease lease }
+    ensures kept { IsBareLease lease }
 {
     let _pages = machine.pages();
     let hart = lease.hart();
     let (present, slots, steps) = lease.spend();
-    machine.put_hart(hart, present);
+    machine.put_hart_but_outputs(hart, present);
     lay(machine, slots);
     steps
 }
@@ -268,7 +268,7 @@ impl<M: Mode> Book<M> {
     /// Lends a hart, unless it has an open lease, is halted, is at its limit, or has to wait for another.
     pub fn lease(&mut self, alloc: Global, hart: Hart) -> Result<Lease, BookFault>
         requires { hart < length self.old.machine.harts }
-        ensures lent { IfOk result (λ l. (h : HartRecord) → slice_get self.old.machine.harts hart ≡ Some h → l ≡ fresh hart h (length self.old.machine.pages) (lent_with l.stop l.inputs l.edges)) }
+        ensures lent { IfOk result (λ l. (h : HartRecord) → slice_get self.old.machine.harts hart ≡ Some h → l ≡ fresh hart (without_outputs h) (length self.old.machine.pages) (lent_with l.stop l.inputs l.edges)) }
         // It goes out with what the mode lends it.
         ensures mode { IfOk result (λ l. M.lends self.old.mode hart (counts_of self.old.machine hart) (lent_with l.stop l.inputs l.edges) self.new.mode) }
         ensures unrefused { OnOk result ((h : HartRecord) → slice_get self.old.machine.harts hart ≡ Some h →
@@ -410,7 +410,7 @@ impl<M: Mode> Book<M> {
         ensures back { IfErr result (λ e. e.0 ≡ lease) }
         ensures only { IfErr result (λ e. (e.1 ≡ BookFault.Foreign) ⊎ ((e.1 ≡ BookFault.Memory) × IsOurs self.old lease)) }
         ensures kept { OnErr result (self.new ≡ self.old) }
-        ensures machine { OnOk result (self.new.machine ≡ laid self.old.machine lease) }
+        ensures machine { OnOk result (self.new.machine ≡ laid self.old.machine (whole_in self.old.machine lease)) }
         ensures journal { OnOk result (self.new.journal ≡ added self.old.journal lease.hart lease.steps) }
         ensures leases { OnOk result (self.new.leases ≡ slice_set self.old.leases lease.hart None) }
         ensures start { OnOk result (self.new.start ≡ self.old.start) }
@@ -423,9 +423,17 @@ impl<M: Mode> Book<M> {
             return Err((lease, BookFault::Memory));
         }
         let hart = lease.hart();
-        match self.mode.settle(&lease, keep) {
+        let before = self.machine.hart(hart).outputs().len();
+        match self.machine.add_outputs(hart, lease.outputs()) {
             Ok(()) => {}
             Err(_) => return Err((lease, BookFault::Memory)),
+        }
+        match self.mode.settle(&lease, keep) {
+            Ok(()) => {}
+            Err(_) => {
+                self.machine.cut_outputs(hart, before);
+                return Err((lease, BookFault::Memory));
+            }
         }
         let steps = take_back(&mut self.machine, lease);
         add_stretch(&mut self.journal, hart, steps);

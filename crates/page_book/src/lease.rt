@@ -2,14 +2,15 @@
 
 ghost use Rattle.std.specs.Cmp.Lexicographic.{pointwise};
 ghost use Rattle.std.specs.Prelude.{◌≡◌, ◌==◌, ◌&&◌, ◌≢◌, ◌<◌, ◌≤◌, ◌^◌, ◌⊎◌, ◌+◌, ◌↔◌, ℕ, List, [], length, replicate, map, slice_set, slice_index_or, Option, Some, None, ◌∷◌, true, false, IfOk, IfSome, IfNone, OnOk, OnErr, IsTrue};
+ghost use Rattle.rv32_hart.specs.Hart.{without_outputs};
 ghost use Rattle.guest_image.specs.Machine.{MachineState};
 ghost use Rattle.page_book.specs.Slots.{slot_at, want_of, base_of, is_writable};
-ghost use Rattle.page_book.specs.Runs.{IsLease};
+ghost use Rattle.page_book.specs.Runs.{IsBareLease};
 ghost use Rattle.page_book.specs.Asks.{asked_by};
 ghost use Rattle.page_book.specs.Turns.{given_at};
 ghost use Rattle.page_book.specs.OpenLeases.{idle};
 ghost use Rattle.input_log.specs.Alike.{same_input};
-ghost use Rattle.page_book.specs.Leases.{LeaseView, fresh, rung_bell, bells_rung, IsFull, Ticks, IsLent, IsLentAt, base_at, with_page_to_read, with_page_to_write};
+ghost use Rattle.page_book.specs.Leases.{LeaseView, fresh, rung_bell, bells_rung, IsFull, Ticks, IsLent, IsLentAt, base_at, whole, whole_in, with_page_to_read, with_page_to_write};
 
 use crate::asked::Asked;
 use crate::lease_pages::{LeasePages, Slot};
@@ -30,7 +31,9 @@ pub const LEASE_STEPS: u64 = 1024;
 /// One hart's state and some pages, on loan from a book. It has to be spent, by `Book::settle` or `Book::discard`.
 pub struct Lease {
     hart: Hart,
+    /// The hart as it was lent, without its outputs.
     base: HartState,
+    /// The hart at present, with the outputs of the lease's steps alone.
     present: HartState,
     /// The inputs of its first step.
     inputs: SmallVec<Input, 8>,
@@ -47,13 +50,13 @@ pub struct Lease {
 
 impl Model for Lease {
     ghost use Rattle.page_book.specs.Leases.{LeaseView};
-    ghost use Rattle.page_book.specs.Runs.{IsLease};
+    ghost use Rattle.page_book.specs.Runs.{IsBareLease};
 
     ghost Value = { LeaseView };
 
     ghost view = { λ l. record { hart = l.hart; base = l.base; present = l.present; inputs = l.inputs.items; bases = l.bases.items; slots = l.pages; taken = l.taken; edges = l.edges.items; steps = l.steps; stop = l.stop } };
 
-    ghost invariant = { λ l. IsLease (record { hart = l.hart; base = l.base; present = l.present; inputs = l.inputs.items; bases = l.bases.items; slots = l.pages; taken = l.taken; edges = l.edges.items; steps = l.steps; stop = l.stop }) };
+    ghost invariant = { λ l. IsBareLease (record { hart = l.hart; base = l.base; present = l.present; inputs = l.inputs.items; bases = l.bases.items; slots = l.pages; taken = l.taken; edges = l.edges.items; steps = l.steps; stop = l.stop }) };
 }
 
 fn no_pages(alloc: Global, pages: u8) -> Result<Vec<Option<Page>>, Memory>
@@ -115,7 +118,7 @@ fn same_inputs(inputs: &[Input], others: &[Input]) -> bool
 }
 
 impl Lease {
-    /// A lease of a hart in this state, without steps and pages, which may not take any yet.
+    /// A lease of a hart in this state but for its outputs, without steps and pages, which may not take any yet.
     pub(crate) fn fresh(
         alloc: Global,
         hart: Hart,
@@ -123,10 +126,10 @@ impl Lease {
         pages: u8,
     ) -> Result<Lease, Memory>
         requires pages { pages ≤ 64 }
-        ensures { IfOk result (λ l. l ≡ fresh hart state.now pages idle) }
+        ensures { IfOk result (λ l. l ≡ fresh hart (without_outputs state.now) pages idle) }
     {
-        let base = state.copy()?;
-        let present = state.copy()?;
+        let base = state.without_outputs();
+        let present = state.without_outputs();
         let bases = no_pages(alloc, pages)?;
         let pages = LeasePages::missing(alloc, pages)?;
         let taken = TakenPages::none(alloc)?;
@@ -160,7 +163,7 @@ impl Lease {
     /// The hart. Its steps are what every lease's are.
     pub fn hart(&self) -> Hart
         ensures value { result ≡ self.now.hart }
-        ensures kept { IsLease self.now }
+        ensures kept { IsBareLease self.now }
     {
         self.hart
     }
@@ -205,7 +208,7 @@ impl Lease {
     pub(crate) fn asks(&self, page: PageNo, want: Want) -> Asked
         ensures value { result ≡ asked_by self.now page want }
         ensures count { result.count < 2 ^ 48 }
-        ensures kept { IsLease self.now }
+        ensures kept { IsBareLease self.now }
     {
         Asked {
             hart: self.hart,
@@ -220,6 +223,13 @@ impl Lease {
         ensures { self.new ≡ record self.old { edges = edges.items } }
     {
         self.edges = edges;
+    }
+
+    /// The outputs of its steps.
+    pub(crate) fn outputs(&self) -> &[(Count, u32)]
+        ensures { result.now ≡ self.now.present.outputs }
+    {
+        self.present.outputs()
     }
 
     /// How many steps the lease has.
@@ -254,7 +264,7 @@ impl Lease {
         requires { ¬ (IsFull self.old) }
         ensures does { Ticks result self.old self.new }
         // Whoever lent the lease still did.
-        ensures lent { (machine : MachineState) (taken : List (Option Taken)) → IsLent machine taken self.old → IsLent machine taken self.new }
+        ensures lent { (machine : MachineState) (taken : List (Option Taken)) (earlier : List (ℕ × ℕ)) → IsLent machine taken (whole earlier self.old) → IsLent machine taken (whole earlier self.new) }
     {
         let inputs = given_at(&self.inputs, self.steps);
         match tick(&mut self.present, inputs, &mut self.pages) {
@@ -292,11 +302,12 @@ impl Lease {
     }
 
     /// Whether the lease's hart and pages were lent by the machine, the pages at these counts.
+    #[tactic(auto, using(crate::proofs::Bare::lent_whole, crate::proofs::Bare::lent_bare))]
     pub(crate) fn is_lent(&self, machine: &Machine, taken: &[Option<Taken>; 64]) -> bool
         requires { self.now.hart < length machine.now.harts }
-        ensures { IsTrue result ↔ IsLent machine.now taken.now self.now }
+        ensures { IsTrue result ↔ IsLent machine.now taken.now (whole_in machine.now self.now) }
     {
-        machine.hart(self.hart).same(&self.base)
+        machine.hart(self.hart).is_without_outputs(&self.base)
             && machine.pages() as usize == self.pages.len()
             && self.took(taken)
             && self.pages_are_lent(machine)
@@ -386,7 +397,7 @@ impl Lease {
         ensures steps { result.2 ≡ self.steps }
         ensures number { result.0.number ≡ self.base.number }
         ensures harts { result.0.harts ≡ self.base.harts }
-        ensures kept { IsLease self }
+        ensures kept { IsBareLease self }
     {
         let Lease {
             hart: _,

@@ -10,6 +10,7 @@ ghost use Rattle.lease_ledger.specs.Calls.{kept};
 ghost use Rattle.input_log.specs.declared.Input.{Input as input_of_specs};
 ghost use Rattle.input_log.specs.declared.WaitingBell.{WaitingBell as bell_of_specs};
 ghost use Rattle.input_log.specs.Waiting.{Queues};
+ghost use Rattle.page_book.specs.Leases.{whole};
 ghost use Rattle.page_book.specs.Modes.{IsSettling};
 ghost use Rattle.page_book.specs.OpenLeases.{has_taken};
 ghost use Rattle.input_log.specs.Inputs.{IsInputOf, is_bell, inputs_of};
@@ -250,7 +251,7 @@ impl Recording {
 
     /// Writes down the inputs and the edges of a lease that comes back: both or neither.
     fn log(&mut self, lease: &Lease) -> Result<(), Memory>
-        requires settles { (r : RecordingView) × IsSettling (IsRecorded r) lease.now × (self.old ≡ record r { desk = self.old.desk }) }
+        requires settles { (earlier : List (ℕ × ℕ)) × (r : RecordingView) × IsSettling (IsRecorded r) (whole earlier lease.now) × (self.old ≡ record r { desk = self.old.desk }) }
         ensures inputs { OnOk result (LogsInputs lease.now.steps self.old.inputs lease.now self.new.inputs) }
         ensures edges { OnOk result (AreLogged self.old.edges lease.now.edges self.new.edges) }
         ensures rest { self.new ≡ record self.old { inputs = self.new.inputs; edges = self.new.edges } }

@@ -1,4 +1,5 @@
-use Rattle.std.proofs.Common.{rules, ◌≡◌, ◌∙◌, sym, false, true≢false}
+use Rattle.std.proofs.Common.{rules, ◌≡◌, ◌∙◌, sym, slice_get, false, true≢false}
+use Rattle.page_book.specs.Leases.{whole_in, outputs_of}
 use Rattle.page_book.proofs.Ours.{need_ours}
 use Rattle.page_book.proofs.book.Book.need.Goals as goal
 
@@ -13,3 +14,21 @@ returns-then-not-is_empty-clause-not_free g c free =
     let empty = c.is_empty.ensures.none.1 (λ n member. free n (rw (← c.self.view_is, ← c.asks-asked.ensures.value) ((c.holders-harts.ensures n).0 member))) in
     let none : c.is_empty.result ≡ false = search rules in
     true≢false (sym empty ∙ none)
+
+pub hand_over-requires-clause-asks : goal.hand_over-requires-clause-asks
+hand_over-requires-clause-asks g c =
+    let b = c.args.self.now in
+    let l = c.args.lease.now in
+    record {
+      start = b.start;
+      journal = b.journal;
+      asker = whole_in b.machine l;
+      is_lease = c.asks-asked.ensures.kept.with_any (outputs_of (slice_get b.machine.harts l.hart));
+      is_lent = c.is_ours.ensures.0 (search rules);
+      hart = search rules;
+      count = search rules;
+      page = search rules;
+      row = search rules;
+      limit = search rules;
+      kept = search rules;
+    }

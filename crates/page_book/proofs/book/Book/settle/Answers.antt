@@ -1,26 +1,113 @@
-use Rattle.std.proofs.Common.{rules}
+use Rattle.std.proofs.Common.{rules, ◌≡◌, ◌∙◌, take, slice_get, length, ℕ, List, Some}
+use Rattle.rv32_hart.specs.Hart.{Hart}
+use Rattle.guest_image.specs.Machine.{MachineState, with_hart}
+use Rattle.page_book.specs.Leases.{LeaseView, outputs_of, whole_in, laid}
+use Rattle.page_book.specs.OpenLeases.{open_at}
+use Rattle.page_book.specs.Books.{IsLentBy}
 use Rattle.page_book.specs.Modes.{IsSettling, KeepsSettling, SettlesHeard}
-use Rattle.page_book.proofs.Journals.{settled_kept}
+use Rattle.page_book.proofs.Bare.{longer, longer_there, cut_back, laid_longer, base_bare}
+use Rattle.page_book.proofs.Journals.{settled_kept, stands_ours}
 use Rattle.page_book.proofs.book.Book.settle.Goals as goal
 
-pub invariant_of-self-2 : goal.invariant_of-self-2
-invariant_of-self-2 g c =
+-- where its hart stands, the machine has its outputs with the lease's behind them
+made_longer : (m new : MachineState) (l : LeaseView) (i : ℕ) (h : Hart) (more : List (ℕ × ℕ)) → i ≡ l.hart → more ≡ l.present.outputs →
+    new ≡ with_hart m i (longer h more) → new ≡ with_hart m l.hart (longer h l.present.outputs)
+made_longer m new l i h more at outs is = rw (← at, ← outs) is
+
+-- so it is as it was, once they are cut off again
+made_back : (m new back : MachineState) (l : LeaseView) (i : ℕ) (h : Hart) (more outs : List (ℕ × ℕ)) → i ≡ l.hart → more ≡ l.present.outputs → outs ≡ h.outputs →
+    slice_get m.harts i ≡ Some h → new ≡ with_hart m i (longer h more) →
+    ((k : Hart) → slice_get new.harts i ≡ Some k → back ≡ with_hart new i (record k { outputs = take (length outs) k.outputs })) → back ≡ m
+made_back m new back l i h more outs at all own is new_is cut =
+    let there : slice_get new.harts i ≡ Some (longer h more) = rw new_is (longer_there m i h more is) in
+    cut (longer h more) there ∙ rw (new_is, own) (cut_back m i h more is)
+
+pub settle-requires : goal.settle-requires
+settle-requires g c =
     let i = c.self.inside in
     let l = c.args.lease in
-    let ours = rw (← c.self.view_is) at (c.is_ours.ensures.0 (search rules)) in
-    let settling : IsSettling (g.M.Mode.keeps i.mode) l =
+    let ours : IsLentBy (open_at i.leases l.hart) i.machine (whole_in i.machine l) = rw (← c.self.view_is) at (c.is_ours.ensures.0 (search rules)) in
+    let settling : IsSettling (g.M.Mode.keeps i.mode) (whole_in i.machine l) =
     record {
       start = i.start;
       machine = i.machine;
       journal = i.journal.items;
       leases = i.leases;
-      is_lease = c.take_back-steps.ensures.kept;
+      is_lease = c.hart-hart.ensures.kept.with_any (outputs_of (slice_get i.machine.harts l.hart));
       is_lent = ours;
       counted = c.self.invariant.counted;
       kept = c.self.invariant.keeps;
     } in
-    let kept : KeepsSettling (g.M.Mode.keeps i.mode) (g.M.Mode.keeps c.settle.new.self) l = c.in-Ok.ensures.kept in
-    let hears : SettlesHeard (g.M.Mode.keeps i.mode) (g.M.Mode.heard i.mode) (g.M.Mode.heard c.settle.new.self) l = c.in-Ok.ensures.heard in
-    rw (c.take_back-steps.ensures.machine, c.add_stretch.ensures, c.reserve.ensures.items, c.take_back-steps.ensures.steps, c.index.ensures.value, c.hart-hart.ensures.value, c.settle.ensures.stops, c.settle.ensures.obeyed)
+    (outputs_of (slice_get i.machine.harts l.hart), settling)
+
+pub invariant_of-self-in-Err-settle : goal.invariant_of-self-in-Err-settle
+invariant_of-self-in-Err-settle g c =
+    let i = c.self.inside in
+    let back = made_back i.machine c.add_outputs.new.self c.cut_outputs.new.self c.args.lease c.hart-hart.result c.hart.result.now c.outputs.result.now
+    c.outputs-before.result.now c.hart-hart.ensures.value c.outputs.ensures c.outputs-before.ensures c.hart.ensures (c.in-Ok.ensures.added c.hart.result.now c.hart.ensures)
+    c.cut_outputs.ensures in
+    rw (back, c.in-Err-settle.ensures.err, c.reserve.ensures.items) c.self.invariant
+
+pub returns-in-Err-settle-clause-kept : goal.returns-in-Err-settle-clause-kept
+returns-in-Err-settle-clause-kept g c =
+    let i = c.self.inside in
+    let back = made_back i.machine c.add_outputs.new.self c.cut_outputs.new.self c.args.lease c.hart-hart.result c.hart.result.now c.outputs.result.now
+    c.outputs-before.result.now c.hart-hart.ensures.value c.outputs.ensures c.outputs-before.ensures c.hart.ensures (c.in-Ok.ensures.added c.hart.result.now c.hart.ensures)
+    c.cut_outputs.ensures in
+    rw (back, c.in-Err-settle.ensures.err, c.reserve.ensures.items) c.self.view_is
+
+pub take_back-steps-requires-clause-state : goal.take_back-steps-requires-clause-state
+take_back-steps-requires-clause-state g c =
+    let m = c.self.inside.machine in
+    let l = c.args.lease in
+    let h = c.hart.result.now in
+    let ours : IsLentBy (open_at c.self.inside.leases l.hart) m (whole_in m l) = rw (← c.self.view_is) at (c.is_ours.ensures.0 (search rules)) in
+    let there : slice_get m.harts l.hart ≡ Some h = rw (← c.hart-hart.ensures.value) c.hart.ensures in
+    let new = made_longer m c.add_outputs.new.self l c.hart-hart.result h c.outputs.result.now c.hart-hart.ensures.value c.outputs.ensures
+    (c.in-Ok.ensures.added h c.hart.ensures) in
+    (
+      longer h l.present.outputs,
+      rw new (longer_there m l.hart h l.present.outputs there),
+      base_bare m l h there (stands_ours (open_at c.self.inside.leases l.hart) m (whole_in m l) ours),
+    )
+
+pub returns-clause-machine : goal.returns-clause-machine
+returns-clause-machine g c =
+    let m = c.self.inside.machine in
+    let l = c.args.lease in
+    let h = c.hart.result.now in
+    let there : slice_get m.harts l.hart ≡ Some h = rw (← c.hart-hart.ensures.value) c.hart.ensures in
+    let new = made_longer m c.add_outputs.new.self l c.hart-hart.result h c.outputs.result.now c.hart-hart.ensures.value c.outputs.ensures
+    (c.in-Ok.ensures.added h c.hart.ensures) in
+    let taken = c.take_back-steps.ensures.machine (longer h l.present.outputs) (rw new (longer_there m l.hart h l.present.outputs there)) in
+    rw (← c.self.view_is) (taken ∙ rw new (laid_longer m l h there))
+
+pub invariant_of-self-2 : goal.invariant_of-self-2
+invariant_of-self-2 g c =
+    let i = c.self.inside in
+    let l = c.args.lease in
+    let h = c.hart.result.now in
+    let earlier = outputs_of (slice_get i.machine.harts l.hart) in
+    let w = whole_in i.machine l in
+    let ours : IsLentBy (open_at i.leases l.hart) i.machine w = rw (← c.self.view_is) at (c.is_ours.ensures.0 (search rules)) in
+    let there : slice_get i.machine.harts l.hart ≡ Some h = rw (← c.hart-hart.ensures.value) c.hart.ensures in
+    let new = made_longer i.machine c.add_outputs.new.self l c.hart-hart.result h c.outputs.result.now c.hart-hart.ensures.value c.outputs.ensures
+    (c.in-Ok.ensures.added h c.hart.ensures) in
+    let taken = c.take_back-steps.ensures.machine (longer h l.present.outputs) (rw new (longer_there i.machine l.hart h l.present.outputs there)) in
+    let laid_is : c.take_back-steps.new.machine ≡ laid i.machine w = taken ∙ rw new (laid_longer i.machine l h there) in
+    let settling : IsSettling (g.M.Mode.keeps i.mode) w =
+    record {
+      start = i.start;
+      machine = i.machine;
+      journal = i.journal.items;
+      leases = i.leases;
+      is_lease = c.hart-hart.ensures.kept.with_any earlier;
+      is_lent = ours;
+      counted = c.self.invariant.counted;
+      kept = c.self.invariant.keeps;
+    } in
+    let kept : KeepsSettling (g.M.Mode.keeps i.mode) (g.M.Mode.keeps c.settle.new.self) w = c.in-Ok-settle.ensures.kept earlier in
+    let hears : SettlesHeard (g.M.Mode.keeps i.mode) (g.M.Mode.heard i.mode) (g.M.Mode.heard c.settle.new.self) w = c.in-Ok-settle.ensures.heard earlier in
+    rw (laid_is, c.add_stretch.ensures, c.reserve.ensures.items, c.take_back-steps.ensures.steps, c.index.ensures.value, c.hart-hart.ensures.value, c.settle.ensures.stops, c.settle.ensures.obeyed)
     (settled_kept i.start i.machine i.journal.items i.leases (g.M.Mode.stops i.mode) (g.M.Mode.obeyed i.mode) (g.M.Mode.heard i.mode)
-    (g.M.Mode.heard c.settle.new.self) _ _ l c.self.invariant c.take_back-steps.ensures.kept ours (hears.hears settling) (kept settling))
+    (g.M.Mode.heard c.settle.new.self) _ _ w c.self.invariant (c.hart-hart.ensures.kept.with_any earlier) ours (hears.hears settling) (kept settling))
