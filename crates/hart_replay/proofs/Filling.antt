@@ -10,7 +10,7 @@ use Rattle.page_book.specs.declared.lease_pages.Slot.TheVariants.{Readable, Writ
 use Rattle.guest_image.specs.Machine.{MachineState}
 use Rattle.page_book.specs.declared.taken.Taken.{Taken}
 use Rattle.page_book.specs.Slots.{slot_at, want_of}
-use Rattle.page_book.specs.Leases.{LeaseView, Ticks, IsFull, inputs_next, IsLent, laid, with_page, with_page_beside}
+use Rattle.page_book.specs.Leases.{LeaseView, Ticks, IsFull, inputs_next, IsLent, outputs_of, whole, whole_in, laid, with_page, with_page_beside}
 use Rattle.page_book.specs.Books.{BookView, IsLentBy, IsOurs, IsHolder, stands_against}
 use Rattle.page_book.specs.OpenLeases.{OpenView, open_at, right_of}
 use Rattle.page_book.specs.Laws.{StepCounts, LacksOnAPage, Covers}
@@ -36,14 +36,14 @@ counts_on l k n goes stop one lt = elim goes [
   | inr on ↦ inr (omega (arith, one, on.0), omega (arith, one, stop, lt))
 ]
 
-lent_on : (lent : Option OpenView) (m : MachineState) (k n : LeaseView) → n.stop ≡ k.stop → n.inputs ≡ k.inputs → n.edges ≡ k.edges →
-    ((machine : MachineState) (taken : List (Option Taken)) → IsLent machine taken k → IsLent machine taken n) → IsLentBy lent m k → IsLentBy lent m n
-lent_on None m k n stop inputs edges still p = absurd p
-lent_on (Some lent) m k n stop inputs edges still p =
-    record { stop = stop ∙ p.stop; inputs = inputs ∙ p.inputs; edges = edges ∙ p.edges; is_lent = still m lent.taken p.is_lent }
+lent_on : (lent : Option OpenView) (m : MachineState) (earlier : List (ℕ × ℕ)) (k n : LeaseView) → n.stop ≡ k.stop → n.inputs ≡ k.inputs → n.edges ≡ k.edges →
+    ((machine : MachineState) (taken : List (Option Taken)) (earlier : List (ℕ × ℕ)) → IsLent machine taken (whole earlier k) → IsLent machine taken (whole earlier n)) → IsLentBy lent m (whole earlier k) → IsLentBy lent m (whole earlier n)
+lent_on None m earlier k n stop inputs edges still p = absurd p
+lent_on (Some lent) m earlier k n stop inputs edges still p =
+    record { stop = stop ∙ p.stop; inputs = inputs ∙ p.inputs; edges = edges ∙ p.edges; is_lent = still m lent.taken earlier p.is_lent }
 
 -- one step more
-pub fills_step : {M : Type 0} (b c : BookView M) (l k n : LeaseView) → StepCounts → ((machine : MachineState) (taken : List (Option Taken)) → IsLent machine taken k → IsLent machine taken n) →
+pub fills_step : {M : Type 0} (b c : BookView M) (l k n : LeaseView) → StepCounts → ((machine : MachineState) (taken : List (Option Taken)) (earlier : List (ℕ × ℕ)) → IsLent machine taken (whole earlier k) → IsLent machine taken (whole earlier n)) →
     Fills b c l k → (IsFull k → ⊥) → Ticks Done k n → Fills b c l n
 fills_step b c l k n counts still f room t =
     let hart : n.hart ≡ k.hart = ap (λ (x : LeaseView). x.hart) t.0 in
@@ -53,7 +53,7 @@ fills_step b c l k n counts still f room t =
     record {
       book = f.book;
       alone = record {
-        ours = subst (λ (h : ℕ). IsLentBy (open_at c.leases h) c.machine n) (sym hart) (lent_on (open_at c.leases k.hart) c.machine k n stop inputs edges still f.alone.ours);
+        ours = subst (λ (h : ℕ). IsLentBy (open_at c.leases h) c.machine (whole (outputs_of (slice_get c.machine.harts h)) n)) (sym hart) (lent_on (open_at c.leases k.hart) c.machine (outputs_of (slice_get c.machine.harts k.hart)) k n stop inputs edges still f.alone.ours);
         alone = λ h ne. f.alone.alone h (λ e. ne (e ∙ sym hart));
       };
       hart = hart ∙ f.hart;
@@ -104,17 +104,18 @@ none_left (x ∷ leases) (suc hart) zero e = e (λ f. cc)
 none_left (x ∷ leases) (suc hart) (suc other) e = none_left leases hart other (λ ne. e (λ f. ne (let same : other ≡ hart = cc in same)))
 
 pub settled : {M : Type 0} (b c d : BookView M) (l k : LeaseView) → (IsFull l → ⊥) → IsFull k → Fills b c l k → d.start ≡ c.start → d.mode ≡ c.mode →
-    d.leases ≡ slice_set c.leases k.hart None → d.machine ≡ laid c.machine k → Settles b d l
+    d.leases ≡ slice_set c.leases k.hart None → d.machine ≡ laid c.machine (whole_in c.machine k) → Settles b d l
 settled {M} b c d l k room full f start mode leases machine =
     let on = went_on l k room full f.base f.stop f.goes_on in
+    let went : Hart = (whole_in c.machine k).present in
     record {
       start = start ∙ ap (λ (x : BookView M). x.start) f.book;
       mode = mode ∙ ap (λ (x : BookView M). x.mode) f.book;
       idle = λ h. ap (λ (x : List (Option OpenView)). open_at x h) leases ∙ none_left c.leases k.hart h (f.alone.alone h);
-      after = k.present;
+      after = went;
       harts = ap (λ (m : MachineState). m.harts) machine
-          ∙ ap (λ (x : BookView M). slice_set x.machine.harts k.hart k.present) f.book
-          ∙ ap (λ (h : ℕ). slice_set b.machine.harts h k.present) f.hart;
+          ∙ ap (λ (x : BookView M). slice_set x.machine.harts k.hart went) f.book
+          ∙ ap (λ (h : ℕ). slice_set b.machine.harts h went) f.hart;
       further = on.0;
       within = on.1;
     }
@@ -162,7 +163,7 @@ pub given : {M : Type 0} (b c : BookView M) (l k : LeaseView) (page : ℕ) (want
     k.steps ≡ l.steps → k.stop ≡ l.stop → IsOurs c k → (lent : Option OpenView) → c.leases ≡ slice_set b.leases l.hart lent →
     ((here : List ℕ) → slice_get b.machine.pages page ≡ Some here → k ≡ record (with_page l page want here) { edges = k.edges }) → Gives b c l k
 given {M} b c l k page want alone lt lacks book mode hart base present steps stop ours lent leases gives =
-    let here = page_at b.machine.pages page (omega (arith, lt, lent_pages (open_at b.leases l.hart) b.machine l alone.ours)) in
+    let here = page_at b.machine.pages page (omega (arith, lt, lent_pages (open_at b.leases l.hart) b.machine (whole_in b.machine l) alone.ours)) in
     record {
       book = book ∙ ap (λ (m : M). let d : BookView M = record b { leases = c.leases; mode = m } in d) mode;
       alone = record {
@@ -188,4 +189,4 @@ free b l page want alone other holder =
     cc
 
 pub need_within : {M : Type 0} (b : BookView M) (l : LeaseView) (page : ℕ) → IsAlone b l → page < length l.slots → page < length b.machine.pages
-need_within b l page alone lt = omega (arith, lt, lent_pages (open_at b.leases l.hart) b.machine l alone.ours)
+need_within b l page alone lt = omega (arith, lt, lent_pages (open_at b.leases l.hart) b.machine (whole_in b.machine l) alone.ours)

@@ -2,7 +2,7 @@
 use Rattle.std.proofs.Common.{◌≡◌, ◌≢◌, ℕ, zero, suc, ◌+◌, ◌<◌, ◌≤◌, List, [], ◌∷◌, length, length-set, slice_get, slice_set, Option, None, Some, Bool, true, false, nat_le, if◌then◌else◌, refl, sym, ap, subst, ◌∙◌, ◌⊎◌, inl, inr, arith, le_trans}
 use Rattle.std.proofs.lemmas.Bool.{cases_lt}
 use Rattle.std.proofs.lemmas.Bool.Decides.{nat_tests}
-use Rattle.rv32_hart.specs.Hart.{Hart}
+use Rattle.rv32_hart.specs.Hart.{Hart, without_outputs}
 use Rattle.rv32_hart.specs.Hardware.{hardware}
 use Rattle.guest_image.specs.Machine.{MachineState}
 use Rattle.ft_types.specs.Counts.{count_at}
@@ -52,14 +52,14 @@ lent_as l = lent_with l.stop l.inputs l.edges
 
 -- what `lease` answers of a hart that it lends
 pub record IsLending (b c : BookView Leg) (hart : ℕ) (l : LeaseView) : Type 0 where
-  pub lent : (h : Hart) → slice_get b.machine.harts hart ≡ Some h → l ≡ fresh hart h (length b.machine.pages) (lent_with l.stop l.inputs l.edges)
+  pub lent : (h : Hart) → slice_get b.machine.harts hart ≡ Some h → l ≡ fresh hart (without_outputs h) (length b.machine.pages) (lent_with l.stop l.inputs l.edges)
   pub goes_out : (c.mode ≡ b.mode) × GoesOut b.mode hart (counts_of b.machine hart) (lent_with l.stop l.inputs l.edges)
   pub free : (h : Hart) → slice_get b.machine.harts hart ≡ Some h → refusal (open_at b.leases hart) h (count_at b.mode.ends hart) ≡ None
   pub opened : c ≡ record b { leases = slice_set b.leases hart (Some (nothing_taken (lent_with l.stop l.inputs l.edges))); mode = c.mode }
 
 module _ (b c : BookView Leg) (hart : ℕ) (l : LeaseView) (given : IsLending b c hart l) (idle : IsIdle b) (h : Hart)
     (there : slice_get b.machine.harts hart ≡ Some h) where
-  lent : l ≡ fresh hart h (length b.machine.pages) (lent_with l.stop l.inputs l.edges)
+  lent : l ≡ fresh hart (without_outputs h) (length b.machine.pages) (lent_with l.stop l.inputs l.edges)
   lent = given.lent h there
 
   stop : IsStop (edges_of b.mode.edges) (heard_in b.mode.inputs) (count_at b.mode.ends hart) hart (counts_of b.machine hart) l.stop

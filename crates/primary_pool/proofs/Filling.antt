@@ -15,7 +15,7 @@ use Rattle.page_book.specs.declared.lease_pages.Slot.TheVariants.{Readable, Writ
 use Rattle.page_book.specs.declared.taken.Taken.{Taken}
 use Rattle.page_book.specs.Asks.{asked_by}
 use Rattle.page_book.specs.Slots.{slot_at, want_of}
-use Rattle.page_book.specs.Leases.{LeaseView, Ticks, IsFull, inputs_next, IsLent, with_page, with_page_beside}
+use Rattle.page_book.specs.Leases.{LeaseView, Ticks, IsFull, inputs_next, IsLent, outputs_of, whole, whole_in, with_page, with_page_beside}
 use Rattle.page_book.specs.Books.{BookView, IsLentBy, IsOurs}
 use Rattle.page_book.specs.OpenLeases.{OpenView, open_at, has_taken}
 use Rattle.page_book.specs.Recordings.{RecordingView, IsTaker, IsGiven, right_at, right_met}
@@ -44,15 +44,15 @@ counts_on l k n goes stop one lt = elim goes [
   | inr on ↦ inr (omega (arith, one, on.0), omega (arith, one, stop, lt))
 ]
 
-lent_on : (lent : Option OpenView) (m : MachineState) (k n : LeaseView) → n.stop ≡ k.stop → n.inputs ≡ k.inputs → n.edges ≡ k.edges →
-    ((machine : MachineState) (taken : List (Option Taken)) → IsLent machine taken k → IsLent machine taken n) → IsLentBy lent m k → IsLentBy lent m n
-lent_on None m k n stop inputs edges still p = absurd p
-lent_on (Some lent) m k n stop inputs edges still p =
-    record { stop = stop ∙ p.stop; inputs = inputs ∙ p.inputs; edges = edges ∙ p.edges; is_lent = still m lent.taken p.is_lent }
+lent_on : (lent : Option OpenView) (m : MachineState) (earlier : List (ℕ × ℕ)) (k n : LeaseView) → n.stop ≡ k.stop → n.inputs ≡ k.inputs → n.edges ≡ k.edges →
+    ((machine : MachineState) (taken : List (Option Taken)) (earlier : List (ℕ × ℕ)) → IsLent machine taken (whole earlier k) → IsLent machine taken (whole earlier n)) → IsLentBy lent m (whole earlier k) → IsLentBy lent m (whole earlier n)
+lent_on None m earlier k n stop inputs edges still p = absurd p
+lent_on (Some lent) m earlier k n stop inputs edges still p =
+    record { stop = stop ∙ p.stop; inputs = inputs ∙ p.inputs; edges = edges ∙ p.edges; is_lent = still m lent.taken earlier p.is_lent }
 
 -- one step more
 pub fills_step : (b c : BookView RecordingView) (l k n : LeaseView) → StepCounts →
-    ((machine : MachineState) (taken : List (Option Taken)) → IsLent machine taken k → IsLent machine taken n) → Fills b c l k → (IsFull k → ⊥) →
+    ((machine : MachineState) (taken : List (Option Taken)) (earlier : List (ℕ × ℕ)) → IsLent machine taken (whole earlier k) → IsLent machine taken (whole earlier n)) → Fills b c l k → (IsFull k → ⊥) →
     Ticks Done k n → Fills b c l n
 fills_step b c l k n counts still f room t =
     let hart : n.hart ≡ k.hart = ap (λ (x : LeaseView). x.hart) t.0 in
@@ -62,7 +62,7 @@ fills_step b c l k n counts still f room t =
     record {
       book = f.book;
       alone = record {
-        ours = subst (λ (h : ℕ). IsLentBy (open_at c.leases h) c.machine n) (sym hart) (lent_on (open_at c.leases k.hart) c.machine k n stop inputs edges still f.alone.ours);
+        ours = subst (λ (h : ℕ). IsLentBy (open_at c.leases h) c.machine (whole (outputs_of (slice_get c.machine.harts h)) n)) (sym hart) (lent_on (open_at c.leases k.hart) c.machine (outputs_of (slice_get c.machine.harts k.hart)) k n stop inputs edges still f.alone.ours);
         alone = λ h ne. f.alone.alone h (λ e. ne (e ∙ sym hart));
         rows = f.alone.rows;
       };
@@ -163,7 +163,7 @@ pub given : (b c : BookView RecordingView) (l k : LeaseView) (page : ℕ) (want 
     c.leases ≡ slice_set b.leases l.hart lent →
     ((here : List ℕ) → slice_get b.machine.pages page ≡ Some here → k ≡ record (with_page l page want here) { edges = k.edges }) → Gives b c l k
 given b c l k page want settled asked alone lt lacks book mode hart base present steps stop ours lent leases gives =
-    let here = page_at b.machine.pages page (omega (arith, lt, lent_pages (open_at b.leases l.hart) b.machine l alone.ours)) in
+    let here = page_at b.machine.pages page (omega (arith, lt, lent_pages (open_at b.leases l.hart) b.machine (whole_in b.machine l) alone.ours)) in
     record {
       book = book ∙ ap (λ (m : RecordingView). let d : BookView RecordingView = record b { leases = c.leases; mode = m } in d) mode.rest;
       alone = record {
@@ -199,4 +199,4 @@ free b l page want alone other taker =
     cc
 
 pub need_within : (b : BookView RecordingView) (l : LeaseView) (page : ℕ) → IsAlone b l → page < length l.slots → page < length b.machine.pages
-need_within b l page alone lt = omega (arith, lt, lent_pages (open_at b.leases l.hart) b.machine l alone.ours)
+need_within b l page alone lt = omega (arith, lt, lent_pages (open_at b.leases l.hart) b.machine (whole_in b.machine l) alone.ours)
