@@ -1,5 +1,5 @@
 -- What every machine keeps.
-use Rattle.std.proofs.Common.{◌≡◌, ℕ, zero, suc, ◌+◌, ◌-◌, ◌*◌, ◌<◌, ◌≤◌, List, [], ◌∷◌, length, take, drop, map, replicate, slice_get, slice_set, slice_index_or, Option, Some, refl, sym, ap, ◌∙◌, arith, length-append, length-set}
+use Rattle.std.proofs.Common.{◌≡◌, ℕ, zero, suc, ◌+◌, ◌-◌, ◌*◌, ◌<◌, ◌≤◌, List, [], ◌∷◌, length, take, drop, map, replicate, slice_get, slice_set, slice_index_or, Some, refl, sym, ap, ◌∙◌, arith, length-append, length-set}
 use Rattle.std.specs.List.{flat_map, range_with_len, AllByRecursion}
 use Rattle.std.proofs.lemmas.List.{length-replicate, set-set}
 use Rattle.std.proofs.lemmas.Grind.{common_steps}

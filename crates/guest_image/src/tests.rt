@@ -380,3 +380,33 @@ fn a_page(rt: HostRuntime) -> Result<(), Fail> {
     assert_eq!(rt; page.bytes().len(), 4096);
     Ok(())
 }
+
+/// A machine of two harts, of which the second put this out.
+fn loud(alloc: Global, outputs: &[(u64, u32)]) -> Result<Machine, Fail> {
+    let image = read_image(alloc, b"harts 2\npages 1\n").map_err(|_| "image")?;
+    let mut machine = Machine::boot(alloc, &image)?;
+    if machine.harts() != 2 {
+        return Err("harts".into());
+    }
+    machine.add_outputs(Hart::new(1), outputs)?;
+    Ok(machine)
+}
+
+#[test]
+fn a_hart_that_is_put_back_keeps_the_outputs_there(rt: HostRuntime) -> Result<(), Fail> {
+    let alloc = rt.alloc();
+    let mut machine = loud(alloc, &[(3, 1), (4, 2)])?;
+    let bare = match machine.harts() {
+        2 => machine.hart(Hart::new(1)).without_outputs(),
+        _ => return Err("harts".into()),
+    };
+    if bare.number() != Hart::new(1) || bare.harts() != machine.harts() {
+        return Err("another hart".into());
+    }
+    machine.put_hart_but_outputs(Hart::new(1), bare);
+    assert!(rt; machine.same(&loud(alloc, &[(3, 1), (4, 2)])?));
+    assert_eq!(rt; machine.harts(), 2);
+    machine.cut_outputs(Hart::new(1), 1);
+    assert!(rt; machine.same(&loud(alloc, &[(3, 1)])?));
+    Ok(())
+}

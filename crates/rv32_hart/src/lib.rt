@@ -18,4 +18,6 @@ pub use state::HartState;
 pub use step::tick;
 
 #[cfg(test)]
+mod output_tests;
+#[cfg(test)]
 mod tests;

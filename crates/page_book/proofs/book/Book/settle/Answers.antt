@@ -64,8 +64,7 @@ take_back-steps-requires-clause-state g c =
     let ours : IsLentBy (open_at c.self.inside.leases l.hart) m (whole_in m l) = rw (← c.self.view_is) at (c.is_ours.ensures.0 (search rules)) in
     let there : slice_get m.harts l.hart ≡ Some h = rw (← c.hart-hart.ensures.value) c.hart.ensures in
     let new = made_longer m c.add_outputs.new.self l c.hart-hart.result h c.outputs.result.now c.hart-hart.ensures.value c.outputs.ensures
-    (c.in-Ok.ensures.added h c.hart.ensures) in
-    (
+    (c.in-Ok.ensures.added h c.hart.ensures) in (
       longer h l.present.outputs,
       rw new (longer_there m l.hart h l.present.outputs there),
       base_bare m l h there (stands_ours (open_at c.self.inside.leases l.hart) m (whole_in m l) ours),
