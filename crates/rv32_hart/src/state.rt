@@ -1,5 +1,5 @@
 //! A hart's state.
-ghost use Rattle.std.specs.Prelude.{◌≡◌, ◌<◌, ◌≤◌, ◌^◌, ◌↔◌, length, drop, IfOk, IsTrue};
+ghost use Rattle.std.specs.Prelude.{◌≡◌, ◌<◌, ◌≤◌, ◌^◌, ◌↔◌, length, drop, sum, IfOk, IsTrue};
 ghost use Rattle.rv32_hart.specs.Hart.{boot_hart, csr_words, device_words};
 
 use super::hart_core::HartCore;
@@ -57,6 +57,7 @@ impl HartState {
                 },
                 outputs: Vec::new(alloc),
                 rung: [0; 8],
+                rings: 0,
                 halted: false,
                 count: 0,
             },
@@ -155,6 +156,14 @@ impl HartState {
         &self.core.rung
     }
 
+    /// How many bells were rung in all.
+    #[inline(always)]
+    pub fn rings(&self) -> u64
+        ensures { result ≡ sum self.now.rung }
+    {
+        self.core.rings
+    }
+
     /// The bells heard, by source.
     pub fn heard(&self) -> &[u64; 8]
         ensures value { result.now ≡ self.now.received.heard }
@@ -178,6 +187,7 @@ impl HartState {
                 received: self.core.received,
                 outputs,
                 rung: self.core.rung,
+                rings: self.core.rings,
                 halted: self.core.halted,
                 count: self.core.count,
             },
