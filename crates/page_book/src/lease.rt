@@ -19,7 +19,7 @@ use edge_log::Edge;
 use ft_types::{Count, HART_LIMIT, Hart, Memory, PageNo, Want};
 use guest_image::{Machine, Page};
 use input_log::{Input, WaitingBell};
-use rv32_hart::{HartState, Tick, tick};
+use rv32_hart::{Decoder, HartState, Tick, tick_with};
 use smallvec::SmallVec;
 use std::alloc::Global;
 use std::marker::Model;
@@ -43,6 +43,7 @@ pub struct Lease {
     edges: SmallVec<Edge, 8>,
     steps: u64,
     stop: Count,
+    decoder: Box<Decoder>,
 }
 
 impl Model for Lease {
@@ -91,23 +92,6 @@ fn given_at(inputs: &SmallVec<Input, 8>, steps: u64) -> &[Input]
     if steps == 0 { inputs.as_slice() } else { &[] }
 }
 
-/// Whether both rows are equal. Each step asks it, so it has no branches.
-#[inline(always)]
-fn same_rung(rung: &[u64; 8], before: &[u64; 8]) -> bool
-    ensures { IsTrue result ↔ (rung.now ≡ before.now) }
-{
-    let [r0, r1, r2, r3, r4, r5, r6, r7] = *rung;
-    let [b0, b1, b2, b3, b4, b5, b6, b7] = *before;
-    (r0 == b0)
-        & (r1 == b1)
-        & (r2 == b2)
-        & (r3 == b3)
-        & (r4 == b4)
-        & (r5 == b5)
-        & (r6 == b6)
-        & (r7 == b7)
-}
-
 fn same_inputs(inputs: &[Input], others: &[Input]) -> bool
     ensures { result ≡ pointwise same_input inputs.now others.now }
 {
@@ -130,6 +114,7 @@ impl Lease {
         let bases = no_pages(alloc, pages)?;
         let pages = LeasePages::missing(alloc, pages)?;
         let taken = TakenPages::none(alloc)?;
+        let decoder = Box::new(alloc, Decoder::new())?;
         Ok(Lease {
             hart,
             base,
@@ -141,6 +126,7 @@ impl Lease {
             edges: SmallVec::new(alloc),
             steps: 0,
             stop: 0,
+            decoder,
         })
     }
 
@@ -245,7 +231,7 @@ impl Lease {
         self.steps >= LEASE_STEPS
             || self.present.count() >= self.stop
             || self.present.is_halted()
-            || !same_rung(self.present.rung(), self.base.rung())
+            || self.present.rings() != self.base.rings()
     }
 
     /// One step, where the lease is not full.
@@ -257,7 +243,12 @@ impl Lease {
         ensures lent { (machine : MachineState) (taken : List (Option Taken)) → IsLent machine taken self.old → IsLent machine taken self.new }
     {
         let inputs = given_at(&self.inputs, self.steps);
-        match tick(&mut self.present, inputs, &mut self.pages) {
+        match tick_with(
+            &mut self.present,
+            inputs,
+            &mut *self.decoder,
+            &mut self.pages,
+        ) {
             Tick::Done => {
                 self.steps += 1;
                 Tick::Done
@@ -399,12 +390,14 @@ impl Lease {
             edges,
             steps,
             stop: _,
+            decoder,
         } = self;
         drop(base);
         drop(inputs);
         drop(bases);
         drop(taken);
         drop(edges);
+        drop(decoder);
         (present, pages.into_slots(), steps)
     }
 }
