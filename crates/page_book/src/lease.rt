@@ -1,7 +1,7 @@
 //! A lease: one hart's state and some pages, on loan from a book.
 
 ghost use Rattle.std.specs.Cmp.Lexicographic.{pointwise};
-ghost use Rattle.std.specs.Prelude.{◌≡◌, ◌==◌, ◌&&◌, ◌≢◌, ◌<◌, ◌≤◌, ◌^◌, ◌⊎◌, ◌+◌, ◌↔◌, ℕ, List, [], length, replicate, map, slice_set, slice_index_or, Option, Some, None, ◌∷◌, true, false, IfOk, IfSome, IfNone, OnOk, OnErr, IsTrue};
+ghost use Rattle.std.specs.Prelude.{◌≡◌, ◌==◌, ◌&&◌, ◌≢◌, ◌<◌, ◌≤◌, ◌^◌, ◌⊎◌, ◌+◌, ◌-◌, ◌↔◌, ℕ, List, [], length, replicate, map, slice_set, slice_index_or, Option, Some, None, ◌∷◌, true, false, IfOk, IfSome, IfNone, OnOk, OnErr, IsTrue};
 ghost use Rattle.guest_image.specs.Machine.{MachineState};
 ghost use Rattle.page_book.specs.Slots.{slot_at, want_of, base_of, is_writable};
 ghost use Rattle.page_book.specs.Runs.{IsLease};
@@ -41,20 +41,25 @@ pub struct Lease {
     taken: TakenPages,
     /// The edges found, which wait until it is settled.
     edges: SmallVec<Edge, 8>,
-    steps: u64,
     stop: Count,
+    /// The count at which it is full, if not before: its stop, or that after 1,024 steps.
+    last: Count,
     decoder: Box<Decoder>,
+    ghost last_stops: { last ≤ stop },
+    ghost last_ends: { last ≤ base.count + 1024 },
+    ghost last_is_one: { last < stop → base.count + 1024 ≤ last },
 }
 
 impl Model for Lease {
+    ghost use Rattle.std.specs.Prelude.{◌-◌};
     ghost use Rattle.page_book.specs.Leases.{LeaseView};
     ghost use Rattle.page_book.specs.Runs.{IsLease};
 
     ghost Value = { LeaseView };
 
-    ghost view = { λ l. record { hart = l.hart; base = l.base; present = l.present; inputs = l.inputs.items; bases = l.bases.items; slots = l.pages; taken = l.taken; edges = l.edges.items; steps = l.steps; stop = l.stop } };
+    ghost view = { λ l. record { hart = l.hart; base = l.base; present = l.present; inputs = l.inputs.items; bases = l.bases.items; slots = l.pages; taken = l.taken; edges = l.edges.items; steps = l.present.count - l.base.count; stop = l.stop } };
 
-    ghost invariant = { λ l. IsLease (record { hart = l.hart; base = l.base; present = l.present; inputs = l.inputs.items; bases = l.bases.items; slots = l.pages; taken = l.taken; edges = l.edges.items; steps = l.steps; stop = l.stop }) };
+    ghost invariant = { λ l. IsLease (record { hart = l.hart; base = l.base; present = l.present; inputs = l.inputs.items; bases = l.bases.items; slots = l.pages; taken = l.taken; edges = l.edges.items; steps = l.present.count - l.base.count; stop = l.stop }) };
 }
 
 fn no_pages(alloc: Global, pages: u8) -> Result<Vec<Option<Page>>, Memory>
@@ -124,8 +129,8 @@ impl Lease {
             pages,
             taken,
             edges: SmallVec::new(alloc),
-            steps: 0,
             stop: 0,
+            last: 0,
             decoder,
         })
     }
@@ -138,7 +143,9 @@ impl Lease {
     {
         let stop = lent.stop();
         let (inputs, edges) = lent.into_parts();
+        let full = self.base.count() + LEASE_STEPS;
         self.stop = stop;
+        self.last = if full < stop { full } else { stop };
         self.inputs = inputs;
         self.edges = edges;
     }
@@ -209,10 +216,11 @@ impl Lease {
     }
 
     /// How many steps the lease has.
+    #[inline(always)]
     pub fn steps(&self) -> u64
         ensures { result ≡ self.now.steps }
     {
-        self.steps
+        self.present.count() - self.base.count()
     }
 
     /// The right that the lease has on a page.
@@ -228,8 +236,7 @@ impl Lease {
     pub fn full(&self) -> bool
         ensures { IsTrue result ↔ IsFull self.now }
     {
-        self.steps >= LEASE_STEPS
-            || self.present.count() >= self.stop
+        self.present.count() >= self.last
             || self.present.is_halted()
             || self.present.rings() != self.base.rings()
     }
@@ -242,21 +249,14 @@ impl Lease {
         // Whoever lent the lease still did.
         ensures lent { (machine : MachineState) (taken : List (Option Taken)) → IsLent machine taken self.old → IsLent machine taken self.new }
     {
-        let inputs = given_at(&self.inputs, self.steps);
-        match tick_with(
+        let steps = self.steps();
+        let inputs = given_at(&self.inputs, steps);
+        tick_with(
             &mut self.present,
             inputs,
             &mut *self.decoder,
             &mut self.pages,
-        ) {
-            Tick::Done => {
-                self.steps += 1;
-                Tick::Done
-            }
-            Tick::Miss(page, want) => Tick::Miss(page, want),
-            Tick::Halted => Tick::Halted,
-            Tick::Memory => Tick::Memory,
-        }
+        )
     }
 
     /// Takes a page in to read.
@@ -379,6 +379,7 @@ impl Lease {
         ensures harts { result.0.harts ≡ self.base.harts }
         ensures kept { IsLease self }
     {
+        let steps = self.steps();
         let Lease {
             hart: _,
             base,
@@ -388,8 +389,8 @@ impl Lease {
             pages,
             taken,
             edges,
-            steps,
             stop: _,
+            last: _,
             decoder,
         } = self;
         drop(base);

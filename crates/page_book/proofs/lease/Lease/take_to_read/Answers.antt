@@ -1,4 +1,4 @@
-use Rattle.std.proofs.Common.{◌∙◌, ◌<◌, ap, length, arith}
+use Rattle.std.proofs.Common.{◌-◌, ◌∙◌, ◌<◌, ap, length, arith}
 use Rattle.page_book.specs.Slots.{slot_at}
 use Rattle.page_book.specs.Leases.{LeaseView}
 use Rattle.page_book.proofs.Given.{read_kept}
@@ -11,5 +11,5 @@ invariant_of-self c =
     let lt : c.args.page < length i.pages = omega (arith, ap (λ (l : LeaseView). length l.slots) view, c.requires.page) in
     let row : c.args.page < length i.taken = c.take.ensures.row in
     rw (c.put.ensures.new, c.take.ensures.value, c.count.ensures.value)
-    (read_kept (record { hart = i.hart; base = i.base; present = i.present; inputs = i.inputs.items; bases = i.bases.items; slots = i.pages; taken = i.taken; edges = i.edges.items; steps = i.steps; stop = i.stop })
+    (read_kept (record { hart = i.hart; base = i.base; present = i.present; inputs = i.inputs.items; bases = i.bases.items; slots = i.pages; taken = i.taken; edges = i.edges.items; steps = i.present.count - i.base.count; stop = i.stop })
     c.args.page c.args.here lt row (ap (λ (l : LeaseView). slot_at l.slots c.args.page) view ∙ c.requires.missing) c.self.invariant)
