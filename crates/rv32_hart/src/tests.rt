@@ -259,6 +259,14 @@ fn missing_rights(rt: HostRuntime) {
     }
 }
 
+/// RAM with one more word.
+fn and_word(mut ram: OnePage, at: usize, word: u32) -> OnePage
+    requires { at + 4 ≤ 4096 }
+{
+    ram.bytes[at..at + 4].copy_from_slice(&word.to_le_bytes());
+    ram
+}
+
 fn step_with<P: Pages>(
     rt: &impl Abort,
     state: &mut HartState,
@@ -277,9 +285,11 @@ fn overwritten_instruction(rt: HostRuntime) {
     set(&mut state, 11, 0x8000_0000);
     set(&mut state, 12, 0x0025_0513);
     let mut decoder = Decoder::new();
-    let mut ram = ram_with(0, 0x0015_0513);
-    ram.bytes[4..8].copy_from_slice(&0x00c5_a023u32.to_le_bytes());
-    ram.bytes[8..12].copy_from_slice(&0xff9f_f06fu32.to_le_bytes());
+    let mut ram = and_word(
+        and_word(ram_with(0, 0x0015_0513), 4, 0x00c5_a023),
+        8,
+        0xff9f_f06f,
+    );
     for want in [1, 1, 1, 3, 3, 3, 5] {
         assert_eq!(rt;
             step_with(&rt, &mut state, &mut decoder, &mut ram),
