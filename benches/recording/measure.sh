@@ -1,5 +1,5 @@
 #!/bin/sh
-# Counts the host instructions that a step of a guest with one hart takes, bare and recorded, by callgrind.
+# Counts the host instructions that a step of a guest with one hart takes, bare, with a decoder and recorded, by callgrind.
 # Needs rt and valgrind on the PATH. Works in a folder of its own, which it removes.
 set -eu
 
@@ -8,11 +8,13 @@ here=$(cd "$(dirname "$0")" && pwd)
 
 workspace recording_bench "interleaving zaamo ft_types rv32_isa input_log rv32_hart edge_log guest_image crew_pages lease_ledger page_book primary_pool" "ft_types rv32_hart guest_image page_book primary_pool anyhow" record loop 3000
 
-# Both leave the same hart.
+# All leave the same hart.
 for guest in loop outputs; do
     "$program" bare "$guest" 30000 > "$work/bare.txt"
-    "$program" record "$guest" 30000 > "$work/recorded.txt"
-    cmp "$work/bare.txt" "$work/recorded.txt"
+    for way in decoder record; do
+        "$program" "$way" "$guest" 30000 > "$work/other.txt"
+        cmp "$work/bare.txt" "$work/other.txt"
+    done
 done
 
 # What the steps from one number to another cost, per step.
@@ -23,8 +25,10 @@ per_step() {
 }
 
 a=$(per_step bare loop 300000 1000000)
+d=$(per_step decoder loop 300000 1000000)
 b=$(per_step record loop 300000 1000000)
 echo "bare        $a host instructions per guest instruction"
+echo "decoder     $d host instructions per guest instruction"
 echo "recorded    $b host instructions per guest instruction"
 awk "BEGIN { printf \"ratio       %.2f\n\", $b / $a }"
 

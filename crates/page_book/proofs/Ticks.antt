@@ -1,5 +1,5 @@
 -- What a step leaves of a lease.
-use Rattle.std.proofs.Common.{◌≡◌, ℕ, ◌+◌, List, [], ◌∷◌, length, ◌<◌, inl, inr, slice_get, length-set, Option, None, Some, refl, ap, sym, subst, ◌∙◌, arith}
+use Rattle.std.proofs.Common.{◌≡◌, ℕ, ◌+◌, ◌-◌, true, List, [], ◌∷◌, length, ◌<◌, inl, inr, slice_get, length-set, Option, None, Some, refl, ap, sym, subst, ◌∙◌, arith}
 use Rattle.interleaving.specs.Machine.{Write}
 use Rattle.interleaving.specs.Stored.{written_in}
 use Rattle.std.proofs.lemmas.Bool.{cases_lt}
@@ -7,7 +7,7 @@ use Rattle.input_log.specs.declared.Input.{Input}
 use Rattle.input_log.specs.declared.Input.TheVariants.{Timer, Word, Bell}
 use Rattle.rv32_hart.specs.Ram.{Ram}
 use Rattle.rv32_hart.specs.Hart.{Hart, with_earlier}
-use Rattle.rv32_hart.specs.Step.{IsTaken}
+use Rattle.rv32_hart.specs.Step.{IsTaken, IsMissing, IsOutput, OnDone, OnMiss, OnHalted, OnMemory, UnlessDone}
 use Rattle.rv32_hart.specs.Csrs.{receive, received_all}
 use Rattle.rv32_hart.specs.CountedSteps.{effect_counted}
 use Rattle.rv32_hart.specs.Bells.{IsRungOnce}
@@ -17,11 +17,15 @@ use Rattle.guest_image.specs.Machine.{MachineState}
 use Rattle.page_book.specs.declared.taken.Taken.{Taken}
 use Rattle.page_book.specs.declared.lease_pages.Slot.{Slot}
 use Rattle.page_book.specs.Slots.{ram_of, present_bytes}
-use Rattle.page_book.specs.Leases.{LeaseView, inputs_next, stepped, whole, IsFull, IsLent}
+use Rattle.page_book.specs.Leases.{LeaseView, inputs_next, stepped, whole, IsFull, IsLent, Ticks as Does}
+use Rattle.rv32_hart.specs.declared.outcome.Tick.{Tick}
+use Rattle.rv32_hart.specs.declared.outcome.Tick.TheVariants as tick
+use Rattle.page_book.proofs.Rungs.{quiet_so_far}
 use Rattle.page_book.specs.Runs.{IsLease, IsBareLease}
+use Rattle.page_book.specs.Turns.{given_at}
 use Rattle.page_book.proofs.Ticked.{ticked, rights_stay, still_lent}
 use Rattle.page_book.proofs.Played.{ticked_played}
-use Rattle.page_book.proofs.Slots.{length-map}
+use Rattle.page_book.proofs.Slots.{length-map, ram_tells}
 
 -- inputs do not change which hart it is, nor its count
 record SameHart (h k : Hart) : Type 0 where
@@ -107,3 +111,65 @@ pub bare_still_lent : (l : LeaseView) (after : Hart) (slots : List Slot) → IsT
 bare_still_lent l after slots t m taken earlier lent =
     still_lent (whole earlier l) (with_earlier earlier after) slots
     (leaves_earlier earlier (inputs_next l) l.present (ram_of l.slots) after (ram_of slots) t) m taken lent
+
+-- a lease whose hart and pages are these now
+abbrev pub moved : LeaseView → Hart → List Slot → LeaseView
+moved l after slots = record l { present = after; slots = slots; steps = after.count - l.base.count }
+
+moved_on : (l : LeaseView) (after : Hart) (slots : List Slot) → IsLease l →
+    IsTaken (inputs_next l) l.present (ram_of l.slots) after (ram_of slots) → moved l after slots ≡ stepped l after slots
+moved_on l after slots p t =
+    let c = taken_counted (inputs_next l) l.present after (ram_of l.slots) (ram_of slots) t in
+    let one : after.count - l.base.count ≡ l.steps + 1 = omega (arith, c.count, p.count) in
+    ap (λ (n : ℕ). let v : LeaseView = record l { present = after; slots = slots; steps = n } in v) one
+
+unmoved : (l : LeaseView) (after : Hart) (slots : List Slot) → IsLease l → after ≡ l.present → ram_of slots ≡ ram_of l.slots → moved l after slots ≡ l
+unmoved l after slots p same pages =
+    let none : l.present.count - l.base.count ≡ l.steps = omega (arith, p.count) in
+    ap (λ (h : Hart). moved l h slots) same ∙ ap (moved l l.present) (ram_tells slots l.slots pages)
+    ∙ ap (λ (n : ℕ). let v : LeaseView = record l { steps = n } in v) none
+
+-- what a step that was tried leaves of a lease that was not full
+pub record Tried (answer : Tick) (l new : LeaseView) : Type 0 where
+  pub kept : IsBareLease new
+  pub does : Does answer l new
+  pub lent : (m : MachineState) (counts : List (Option Taken)) (earlier : List (ℕ × ℕ)) → IsLent m counts (whole earlier l) → IsLent m counts (whole earlier new)
+
+unchanged : (answer : Tick) (l new : LeaseView) → new ≡ l → IsBareLease l → Does answer l new → Tried answer l new
+unchanged answer l new same p does =
+    record {
+      kept = subst (λ (v : LeaseView). IsBareLease v) (sym same) p;
+      does = does;
+      lent = λ m counts earlier lent. subst (λ (v : LeaseView). IsLent m counts (whole earlier v)) (sym same) lent;
+    }
+
+pub tried : (answer : Tick) (l : LeaseView) (after : Hart) (slots : List Slot) → IsBareLease l → (IsFull l → ⊥) →
+    OnDone answer (IsTaken (inputs_next l) l.present (ram_of l.slots) after (ram_of slots)) →
+    OnMiss answer (λ w. IsMissing (inputs_next l) l.present (ram_of l.slots) w) → OnHalted answer (l.present.halted ≡ true) →
+    OnMemory answer (IsOutput (inputs_next l) l.present (ram_of l.slots)) → UnlessDone answer (after ≡ l.present) →
+    UnlessDone answer (ram_of slots ≡ ram_of l.slots) → Tried answer l (moved l after slots)
+tried tick.Done l after slots p not_full done miss halted memory same pages =
+    let is : moved l after slots ≡ stepped l after slots = moved_on l after slots p.bare done in
+    record {
+      kept = subst (λ (v : LeaseView). IsBareLease v) (sym is) (bare_tick_kept l after slots p done (below_stop l not_full) (quiet_so_far l not_full));
+      does = (is, done);
+      lent = λ m counts earlier lent. subst (λ (v : LeaseView). IsLent m counts (whole earlier v)) (sym is) (bare_still_lent l after slots done m counts earlier lent);
+    }
+tried (tick.Miss page want) l after slots p not_full done miss halted memory same pages =
+    let is : moved l after slots ≡ l = unmoved l after slots p.bare same pages in
+    unchanged (tick.Miss page want) l (moved l after slots) is p (is, miss)
+tried tick.Halted l after slots p not_full done miss halted memory same pages = absurd (not_full (inr (inr (inl halted))))
+tried tick.Memory l after slots p not_full done miss halted memory same pages =
+    let is : moved l after slots ≡ l = unmoved l after slots p.bare same pages in
+    unchanged tick.Memory l (moved l after slots) is p (is, memory)
+
+-- the same of an equal lease, and of the inputs that the step was given
+pub tried_at : (answer : Tick) (l k : LeaseView) (after : Hart) (slots : List Slot) (steps : ℕ) (inputs : List Input) → l ≡ k → steps ≡ k.steps →
+    inputs ≡ given_at l.inputs steps → IsBareLease l → (IsFull k → ⊥) → OnDone answer (IsTaken inputs l.present (ram_of l.slots) after (ram_of slots)) →
+    OnMiss answer (λ w. IsMissing inputs l.present (ram_of l.slots) w) → OnHalted answer (l.present.halted ≡ true) →
+    OnMemory answer (IsOutput inputs l.present (ram_of l.slots)) → UnlessDone answer (after ≡ l.present) →
+    UnlessDone answer (ram_of slots ≡ ram_of l.slots) → Tried answer k (moved l after slots)
+tried_at answer l k after slots steps inputs is counted given p not_full done miss halted memory same pages =
+    let next : inputs ≡ inputs_next l = given ∙ ap (given_at l.inputs) (counted ∙ ap (λ (v : LeaseView). v.steps) (sym is)) in
+    subst (λ (v : LeaseView). Tried answer v (moved l after slots)) is
+    (tried answer l after slots p (λ full. not_full (subst (λ (v : LeaseView). IsFull v) is full)) (rw next at done) (rw next at miss) halted (rw next at memory) same pages)

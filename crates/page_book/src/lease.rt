@@ -1,7 +1,7 @@
 //! A lease: one hart's state and some pages, on loan from a book.
 
 ghost use Rattle.std.specs.Cmp.Lexicographic.{pointwise};
-ghost use Rattle.std.specs.Prelude.{◌≡◌, ◌==◌, ◌&&◌, ◌≢◌, ◌<◌, ◌≤◌, ◌^◌, ◌⊎◌, ◌+◌, ◌↔◌, ℕ, List, [], length, replicate, map, slice_set, slice_index_or, Option, Some, None, ◌∷◌, true, false, IfOk, IfSome, IfNone, OnOk, OnErr, IsTrue};
+ghost use Rattle.std.specs.Prelude.{◌≡◌, ◌==◌, ◌&&◌, ◌≢◌, ◌<◌, ◌≤◌, ◌^◌, ◌⊎◌, ◌+◌, ◌-◌, ◌↔◌, ℕ, List, [], length, replicate, map, slice_set, slice_index_or, Option, Some, None, ◌∷◌, true, false, IfOk, IfSome, IfNone, OnOk, OnErr, IsTrue};
 ghost use Rattle.rv32_hart.specs.Hart.{without_outputs};
 ghost use Rattle.guest_image.specs.Machine.{MachineState};
 ghost use Rattle.page_book.specs.Slots.{slot_at, want_of, base_of, is_writable};
@@ -20,7 +20,7 @@ use edge_log::Edge;
 use ft_types::{Count, HART_LIMIT, Hart, Memory, PageNo, Want};
 use guest_image::{Machine, Page};
 use input_log::{Input, WaitingBell};
-use rv32_hart::{HartState, Tick, tick};
+use rv32_hart::{Decoder, HartState, Tick, tick_with};
 use smallvec::SmallVec;
 use std::alloc::Global;
 use std::marker::Model;
@@ -44,19 +44,25 @@ pub struct Lease {
     taken: TakenPages,
     /// The edges found, which wait until it is settled.
     edges: SmallVec<Edge, 8>,
-    steps: u64,
     stop: Count,
+    /// The count at which it is full, if not before: its stop, or that after 1,024 steps.
+    last: Count,
+    decoder: Box<Decoder>,
+    ghost last_stops: { last ≤ stop },
+    ghost last_ends: { last ≤ base.count + 1024 },
+    ghost last_is_one: { last < stop → base.count + 1024 ≤ last },
 }
 
 impl Model for Lease {
+    ghost use Rattle.std.specs.Prelude.{◌-◌};
     ghost use Rattle.page_book.specs.Leases.{LeaseView};
     ghost use Rattle.page_book.specs.Runs.{IsBareLease};
 
     ghost Value = { LeaseView };
 
-    ghost view = { λ l. record { hart = l.hart; base = l.base; present = l.present; inputs = l.inputs.items; bases = l.bases.items; slots = l.pages; taken = l.taken; edges = l.edges.items; steps = l.steps; stop = l.stop } };
+    ghost view = { λ l. record { hart = l.hart; base = l.base; present = l.present; inputs = l.inputs.items; bases = l.bases.items; slots = l.pages; taken = l.taken; edges = l.edges.items; steps = l.present.count - l.base.count; stop = l.stop } };
 
-    ghost invariant = { λ l. IsBareLease (record { hart = l.hart; base = l.base; present = l.present; inputs = l.inputs.items; bases = l.bases.items; slots = l.pages; taken = l.taken; edges = l.edges.items; steps = l.steps; stop = l.stop }) };
+    ghost invariant = { λ l. IsBareLease (record { hart = l.hart; base = l.base; present = l.present; inputs = l.inputs.items; bases = l.bases.items; slots = l.pages; taken = l.taken; edges = l.edges.items; steps = l.present.count - l.base.count; stop = l.stop }) };
 }
 
 fn no_pages(alloc: Global, pages: u8) -> Result<Vec<Option<Page>>, Memory>
@@ -94,23 +100,6 @@ fn given_at(inputs: &SmallVec<Input, 8>, steps: u64) -> &[Input]
     if steps == 0 { inputs.as_slice() } else { &[] }
 }
 
-/// Whether both rows are equal. Each step asks it, so it has no branches.
-#[inline(always)]
-fn same_rung(rung: &[u64; 8], before: &[u64; 8]) -> bool
-    ensures { IsTrue result ↔ (rung.now ≡ before.now) }
-{
-    let [r0, r1, r2, r3, r4, r5, r6, r7] = *rung;
-    let [b0, b1, b2, b3, b4, b5, b6, b7] = *before;
-    (r0 == b0)
-        & (r1 == b1)
-        & (r2 == b2)
-        & (r3 == b3)
-        & (r4 == b4)
-        & (r5 == b5)
-        & (r6 == b6)
-        & (r7 == b7)
-}
-
 fn same_inputs(inputs: &[Input], others: &[Input]) -> bool
     ensures { result ≡ pointwise same_input inputs.now others.now }
 {
@@ -133,6 +122,7 @@ impl Lease {
         let bases = no_pages(alloc, pages)?;
         let pages = LeasePages::missing(alloc, pages)?;
         let taken = TakenPages::none(alloc)?;
+        let decoder = Box::new(alloc, Decoder::new())?;
         Ok(Lease {
             hart,
             base,
@@ -142,8 +132,9 @@ impl Lease {
             pages,
             taken,
             edges: SmallVec::new(alloc),
-            steps: 0,
             stop: 0,
+            last: 0,
+            decoder,
         })
     }
 
@@ -155,7 +146,9 @@ impl Lease {
     {
         let stop = lent.stop();
         let (inputs, edges) = lent.into_parts();
+        let full = self.base.count() + LEASE_STEPS;
         self.stop = stop;
+        self.last = if full < stop { full } else { stop };
         self.inputs = inputs;
         self.edges = edges;
     }
@@ -233,10 +226,11 @@ impl Lease {
     }
 
     /// How many steps the lease has.
+    #[inline(always)]
     pub fn steps(&self) -> u64
         ensures { result ≡ self.now.steps }
     {
-        self.steps
+        self.present.count() - self.base.count()
     }
 
     /// The right that the lease has on a page.
@@ -252,10 +246,9 @@ impl Lease {
     pub fn full(&self) -> bool
         ensures { IsTrue result ↔ IsFull self.now }
     {
-        self.steps >= LEASE_STEPS
-            || self.present.count() >= self.stop
+        self.present.count() >= self.last
             || self.present.is_halted()
-            || !same_rung(self.present.rung(), self.base.rung())
+            || self.present.rings() != self.base.rings()
     }
 
     /// One step, where the lease is not full.
@@ -266,16 +259,14 @@ impl Lease {
         // Whoever lent the lease still did.
         ensures lent { (machine : MachineState) (taken : List (Option Taken)) (earlier : List (ℕ × ℕ)) → IsLent machine taken (whole earlier self.old) → IsLent machine taken (whole earlier self.new) }
     {
-        let inputs = given_at(&self.inputs, self.steps);
-        match tick(&mut self.present, inputs, &mut self.pages) {
-            Tick::Done => {
-                self.steps += 1;
-                Tick::Done
-            }
-            Tick::Miss(page, want) => Tick::Miss(page, want),
-            Tick::Halted => Tick::Halted,
-            Tick::Memory => Tick::Memory,
-        }
+        let steps = self.steps();
+        let inputs = given_at(&self.inputs, steps);
+        tick_with(
+            &mut self.present,
+            inputs,
+            &mut *self.decoder,
+            &mut self.pages,
+        )
     }
 
     /// Takes a page in to read.
@@ -399,6 +390,7 @@ impl Lease {
         ensures harts { result.0.harts ≡ self.base.harts }
         ensures kept { IsBareLease self }
     {
+        let steps = self.steps();
         let Lease {
             hart: _,
             base,
@@ -408,14 +400,16 @@ impl Lease {
             pages,
             taken,
             edges,
-            steps,
             stop: _,
+            last: _,
+            decoder,
         } = self;
         drop(base);
         drop(inputs);
         drop(bases);
         drop(taken);
         drop(edges);
+        drop(decoder);
         (present, pages.into_slots(), steps)
     }
 }

@@ -2,6 +2,7 @@
 #![tactic(auto)]
 
 mod arithmetic;
+mod decoder;
 mod hart_core;
 mod memory_steps;
 mod outcome;
@@ -11,11 +12,12 @@ mod state;
 mod step;
 mod steps;
 
+pub use decoder::{Anew, Decode, Decoder};
 pub use outcome::Tick;
 pub use pages::Pages;
 pub use registers::{Csrs, Received};
 pub use state::HartState;
-pub use step::tick;
+pub use step::{tick, tick_with};
 
 #[cfg(test)]
 mod output_tests;

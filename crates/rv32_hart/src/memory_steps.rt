@@ -48,7 +48,7 @@ pub(crate) fn is_in_ram<P: Pages>(address: u32, pages: &P) -> bool
     ensures value { result ≡ in_ram (length (P.ram pages.now).contents) address }
     ensures limit { result ≡ true → page_at address < 64 }
 {
-    address >= 0x8000_0000 && (address - 0x8000_0000) >> 12 < pages.count()
+    address.wrapping_sub(0x8000_0000) >> 12 < pages.count()
 }
 
 /// The page of an address in RAM.

@@ -258,3 +258,88 @@ fn missing_rights(rt: HostRuntime) {
         assert_eq!(rt; state.count(), 0);
     }
 }
+
+/// RAM with one more word.
+fn and_word(mut ram: OnePage, at: usize, word: u32) -> OnePage
+    requires { at + 4 ≤ 4096 }
+{
+    ram.bytes[at..at + 4].copy_from_slice(&word.to_le_bytes());
+    ram
+}
+
+fn step_with<P: Pages>(
+    rt: &impl Abort,
+    state: &mut HartState,
+    decoder: &mut Decoder,
+    pages: &mut P,
+) -> Tick {
+    assert!(rt; state.count() < 1000);
+    tick_with(state, &[], decoder, pages)
+}
+
+// addi x10, x10, 1; sw x12, 0(x11); jal x0, -8, where x11 is 80000000 and x12 the word of addi x10, x10, 2: the hart
+// overwrites the instruction that it has run, and then runs the new one.
+#[test]
+fn overwritten_instruction(rt: HostRuntime) {
+    let mut state = HartState::boot(rt.alloc(), Hart::new(0), 1);
+    set(&mut state, 11, 0x8000_0000);
+    set(&mut state, 12, 0x0025_0513);
+    let mut decoder = Decoder::new();
+    let mut ram = and_word(
+        and_word(ram_with(0, 0x0015_0513), 4, 0x00c5_a023),
+        8,
+        0xff9f_f06f,
+    );
+    for want in [1, 1, 1, 3, 3, 3, 5] {
+        assert_eq!(rt;
+            step_with(&rt, &mut state, &mut decoder, &mut ram),
+            Tick::Done
+        );
+        assert_eq!(rt; state.registers()[9], want);
+    }
+}
+
+/// A hart whose registers x1 to x31 are of these words.
+fn hart_of(alloc: Global, seed: u32) -> HartState {
+    let mut state = HartState::boot(alloc, Hart::new(1), 2);
+    for register in 1..32u8 {
+        let word = seed.wrapping_mul(u32::from(register) + 1);
+        let value = if register & 1 == 0 {
+            word
+        } else {
+            0x8000_0000 + (word & 0xffc)
+        };
+        set(&mut state, register, value);
+    }
+    state
+}
+
+/// The opcodes, and one that is none.
+static OPCODES: [u32; 12] = [
+    0x37, 0x17, 0x6f, 0x67, 0x63, 0x03, 0x23, 0x13, 0x33, 0x0f, 0x73, 0x2f,
+];
+
+// A step with a decoder does what one without does, on words of each opcode, twice over.
+#[test]
+fn steps_with_a_decoder(rt: HostRuntime) {
+    let mut decoder = Decoder::new();
+    let mut random = 1u32;
+    for round in 0..600usize {
+        random = random.wrapping_mul(1_664_525).wrapping_add(1_013_904_223);
+        let word = (random >> 3 & 0xffff_ff80) | OPCODES[round % 12];
+        for _again in 0..2 {
+            let mut mine = hart_of(rt.alloc(), random);
+            let mut theirs = hart_of(rt.alloc(), random);
+            let mut ram = ram_with(0, word);
+            let mut other = ram_with(0, word);
+            let answer = step_with(&rt, &mut mine, &mut decoder, &mut ram);
+            assert_eq!(rt;
+                answer,
+                step(&rt, &mut theirs, &[], &mut other),
+                "{word:08x}"
+            );
+            assert!(rt; mine.same(&theirs), "{word:08x}");
+            assert!(rt; ram.bytes == other.bytes, "{word:08x}");
+        }
+    }
+}
