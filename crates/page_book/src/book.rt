@@ -29,6 +29,7 @@ use crate::open_lease::OpenLease;
 use crate::recording::Recording;
 use crate::settled::{settled_counts, steps_taken};
 use crate::stretch::Stretch;
+use crate::taken::TakenPages;
 use edge_log::{Edge, EdgeLog};
 use ft_types::{Count, Counts, Hart, HartSet, Memory, PageNo, Want};
 use guest_image::{Machine, Page};
@@ -163,10 +164,14 @@ fn give(lease: &mut Lease, page: PageNo, here: &Page, want: Want) -> Result<(), 
 {
     match (want, lease.right(page)) {
         (Want::Read, None) => lease.take_to_read(page, here.copy()?),
-        (Want::Write, None | Some(Want::Read)) => {
+        (Want::Write, None) => {
             let base = here.copy()?;
             lease.take_to_write(page, base, here.copy()?);
         }
+        (Want::Write, Some(held)) => match held {
+            Want::Read => lease.raise_to_write(page, here.copy()?),
+            Want::Write => {}
+        },
         _ => {}
     }
     Ok(())
@@ -299,14 +304,16 @@ impl<M: Mode> Book<M> {
         if self.mode.is_open(hart, &self.machine) {
             return Err(BookFault::EdgeOpen);
         }
+        let taken = TakenPages::none(alloc)?;
         let mut lease = Lease::fresh(alloc, hart, state, self.machine.pages())?;
-        let lent = self.lend_out(alloc, hart, count);
+        let lent = self.lend_out(alloc, hart, count, taken);
         lease.go_out(lent);
         Ok(lease)
     }
 
     /// What the hart, which is at this count, goes out with. It has an open lease then, of no page.
-    fn lend_out(&mut self, alloc: Global, hart: Hart, count: Count) -> Lent
+    fn lend_out(&mut self, alloc: Global, hart: Hart, count: Count, taken: TakenPages) -> Lent
+        requires taken { taken ≡ replicate 64 None }
         requires hart { hart < length self.old.machine.harts }
         requires unlent { open_at self.old.leases hart ≡ None }
         requires count { count ≡ counts_of self.old.machine hart }
@@ -317,7 +324,7 @@ impl<M: Mode> Book<M> {
         ensures stop { result.stop < 2 ^ 48 }
     {
         let lent = self.mode.lend(alloc, hart, count);
-        self.leases[hart.index()] = Some(OpenLease::new(alloc, &lent));
+        self.leases[hart.index()] = Some(OpenLease::new(alloc, &lent, taken));
         lent
     }
 

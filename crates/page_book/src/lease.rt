@@ -292,6 +292,19 @@ impl Lease {
         drop(self.pages.put(page, Slot::Writable(present)));
     }
 
+    /// Takes a page in to write that it has to read, given once more.
+    pub(crate) fn raise_to_write(&mut self, page: PageNo, present: Page)
+        requires page { page < length self.old.slots }
+        requires readable { slot_at self.old.slots page ≡ Slot.Readable present }
+        ensures { self.new ≡ with_page_to_write self.old page present present }
+    {
+        self.taken.take(page, Want::Write, self.present.count());
+        match self.pages.put(page, Slot::Writable(present)) {
+            Slot::Readable(base) => self.bases[page.index()] = Some(base),
+            _ => unreachable!(),
+        }
+    }
+
     /// Whether the lease's hart and pages were lent by the machine, the pages at these counts.
     #[tactic(auto, using(crate::proofs::Bare::lent_whole, crate::proofs::Bare::lent_bare))]
     pub(crate) fn is_lent(&self, machine: &Machine, taken: &[Option<Taken>; 64]) -> bool
