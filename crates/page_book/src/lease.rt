@@ -7,7 +7,6 @@ ghost use Rattle.guest_image.specs.Machine.{MachineState};
 ghost use Rattle.page_book.specs.Slots.{slot_at, want_of, base_of, is_writable};
 ghost use Rattle.page_book.specs.Runs.{IsBareLease};
 ghost use Rattle.page_book.specs.Asks.{asked_by};
-ghost use Rattle.page_book.specs.Turns.{given_at};
 ghost use Rattle.page_book.specs.OpenLeases.{idle};
 ghost use Rattle.input_log.specs.Alike.{same_input};
 ghost use Rattle.page_book.specs.Leases.{LeaseView, fresh, rung_bell, bells_rung, IsFull, Ticks, IsLent, IsLentAt, base_at, whole, whole_in, with_page_to_read, with_page_to_write};
@@ -20,7 +19,7 @@ use edge_log::Edge;
 use ft_types::{Count, HART_LIMIT, Hart, Memory, PageNo, Want};
 use guest_image::{Machine, Page};
 use input_log::{Input, WaitingBell};
-use rv32_hart::{Decoder, HartState, Tick, tick_with};
+use rv32_hart::{Decoder, HartState, Tick, tick, tick_running};
 use smallvec::SmallVec;
 use std::alloc::Global;
 use std::marker::Model;
@@ -90,14 +89,6 @@ fn same_edges(edges: &[Edge], others: &[Edge]) -> bool
     ensures { result ≡ pointwise (λ a b. a.hart == b.hart && a.at == b.at && a.other == b.other && a.after == b.after) edges.now others.now }
 {
     edges == others
-}
-
-/// What the step is given before which so many were taken.
-#[inline(always)]
-fn given_at(inputs: &SmallVec<Input, 8>, steps: u64) -> &[Input]
-    ensures { result.now ≡ given_at inputs.now.items steps }
-{
-    if steps == 0 { inputs.as_slice() } else { &[] }
 }
 
 fn same_inputs(inputs: &[Input], others: &[Input]) -> bool
@@ -259,14 +250,21 @@ impl Lease {
         // Whoever lent the lease still did.
         ensures lent { (machine : MachineState) (taken : List (Option Taken)) (earlier : List (ℕ × ℕ)) → IsLent machine taken (whole earlier self.old) → IsLent machine taken (whole earlier self.new) }
     {
-        let steps = self.steps();
-        let inputs = given_at(&self.inputs, steps);
-        tick_with(
-            &mut self.present,
-            inputs,
-            &mut *self.decoder,
-            &mut self.pages,
-        )
+        if self.steps() == 0 {
+            return self.first_tick();
+        }
+        tick_running(&mut self.present, &mut *self.decoder, &mut self.pages)
+    }
+
+    /// The first step, on the lease's inputs. The later ones have none, and so it stands apart.
+    #[inline(never)]
+    fn first_tick(&mut self) -> Tick
+        requires room { ¬ (IsFull self.old) }
+        requires first { self.old.steps ≡ 0 }
+        ensures does { Ticks result self.old self.new }
+        ensures lent { (machine : MachineState) (taken : List (Option Taken)) (earlier : List (ℕ × ℕ)) → IsLent machine taken (whole earlier self.old) → IsLent machine taken (whole earlier self.new) }
+    {
+        tick(&mut self.present, self.inputs.as_slice(), &mut self.pages)
     }
 
     /// Takes a page in to read.

@@ -17,7 +17,7 @@ pub use outcome::Tick;
 pub use pages::Pages;
 pub use registers::{Csrs, Received};
 pub use state::HartState;
-pub use step::{tick, tick_with};
+pub use step::{tick, tick_running, tick_with};
 
 #[cfg(test)]
 mod output_tests;
