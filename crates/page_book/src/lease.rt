@@ -251,9 +251,20 @@ impl Lease {
         ensures lent { (machine : MachineState) (taken : List (Option Taken)) (earlier : List (ℕ × ℕ)) → IsLent machine taken (whole earlier self.old) → IsLent machine taken (whole earlier self.new) }
     {
         if self.steps() == 0 {
-            return self.first_tick();
+            return self.tick_on_inputs();
         }
         tick_running(&mut self.present, &mut *self.decoder, &mut self.pages)
+    }
+
+    /// The first step. Inlined, so that the place of its answer is made ready at the first step alone.
+    #[inline(always)]
+    fn tick_on_inputs(&mut self) -> Tick
+        requires room { ¬ (IsFull self.old) }
+        requires first { self.old.steps ≡ 0 }
+        ensures does { Ticks result self.old self.new }
+        ensures lent { (machine : MachineState) (taken : List (Option Taken)) (earlier : List (ℕ × ℕ)) → IsLent machine taken (whole earlier self.old) → IsLent machine taken (whole earlier self.new) }
+    {
+        self.first_tick()
     }
 
     /// The first step, on the lease's inputs. The later ones have none, and so it stands apart.
