@@ -6,7 +6,7 @@ use Rattle.std.proofs.lemmas.Grind.{common_steps}
 use Rattle.std.proofs.lemmas.Option.{slice_get-get_or}
 use Rattle.guest_image.specs.Image.{ImageContents, Fits}
 use Rattle.rv32_hart.specs.Hart.{Hart, boot_hart}
-use Rattle.guest_image.specs.Machine.{AreInPlace, IsMachine, word_bytes, page_with, pages_with, boot_harts, boot_machine}
+use Rattle.guest_image.specs.Machine.{MachineState, AreInPlace, IsMachine, word_bytes, page_with, pages_with, boot_harts, boot_machine}
 
 -- ---- at the start
 
@@ -68,7 +68,7 @@ set_in_place harts place zero (x ∷ hs) h e f p = (omega arith, f, p.2)
 set_in_place harts place (suc i) (x ∷ hs) h e f p =
     (p.0, p.1, set_in_place harts (place + 1) i hs h (omega arith) f p.2)
 
-pub in_place : (harts place i : ℕ) (hs : List Hart) (h : Hart) → AreInPlace harts place hs → slice_get hs i ≡ Some h → (h.number ≡ place + i) × (h.harts ≡ harts)
+in_place : (harts place i : ℕ) (hs : List Hart) (h : Hart) → AreInPlace harts place hs → slice_get hs i ≡ Some h → (h.number ≡ place + i) × (h.harts ≡ harts)
 in_place harts place i [] h p e = cc
 in_place harts place zero (x ∷ hs) h p e =
     let same : x ≡ h = cc in (ap (λ k. k.number) (sym same) ∙ (p.0 ∙ omega arith), ap (λ k. k.harts) (sym same) ∙ p.1)
@@ -87,12 +87,16 @@ whole_with_hart hs ps i h e f p =
       bytes = p.bytes;
     }
 
+-- a hart of a machine has its place as its number, and knows how many harts there are
+pub place_of : (m : MachineState) (i : ℕ) (h : Hart) → IsMachine m → slice_get m.harts i ≡ Some h → (h.number ≡ i) × (h.harts ≡ length m.harts)
+place_of m i h p e = let (number, all) = in_place (length m.harts) 0 i m.harts h p.places e in (number ∙ omega arith, all)
+
 -- with other outputs it stays there
 pub whole_with_outputs : (hs : List Hart) (ps : List (List ℕ)) (i : ℕ) (old new : Hart) → slice_get hs i ≡ Some old → new ≡ record old { outputs = new.outputs } →
     IsMachine (record { harts = hs; pages = ps }) → IsMachine (record { harts = slice_set hs i new; pages = ps })
 whole_with_outputs hs ps i old new e rest p =
-    let (number, all) = in_place (length hs) 0 i hs old p.places e in
-    whole_with_hart hs ps i new (ap (λ h. h.number) rest ∙ (number ∙ omega arith)) (ap (λ h. h.harts) rest ∙ all) p
+    let (number, all) = place_of (record { harts = hs; pages = ps }) i old p e in
+    whole_with_hart hs ps i new (ap (λ h. h.number) rest ∙ number) (ap (λ h. h.harts) rest ∙ all) p
 
 -- the hart that is found in a place
 pub found_there : (hs : List Hart) (i : ℕ) (x h : Hart) → x ≡ slice_index_or hs i x → slice_get hs i ≡ Some h → x ≡ h
