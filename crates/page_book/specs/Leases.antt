@@ -50,6 +50,7 @@ fresh hart state pages lent =
 abbrev pub whole : List (ℕ × ℕ) → LeaseView → LeaseView
 whole earlier l = record l { base = with_earlier earlier l.base; present = with_earlier earlier l.present }
 
+-- a hart that is not there has put nothing out
 abbrev pub outputs_of : Option Hart → List (ℕ × ℕ)
 outputs_of None = []
 outputs_of (Some h) = h.outputs
