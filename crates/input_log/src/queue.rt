@@ -89,6 +89,18 @@ fn take_others(others: &mut VecDeque<WaitingInput>, count: Count, inputs: &mut S
     }
 }
 
+fn bells_copied(bells: &VecDeque<WaitingBell>) -> Result<VecDeque<WaitingBell>, Memory>
+    ensures { IfOk result (λ copied. copied.items ≡ bells.now.items) }
+{
+    Ok(bells.clone()?)
+}
+
+fn others_copied(others: &VecDeque<WaitingInput>) -> Result<VecDeque<WaitingInput>, Memory>
+    ensures { IfOk result (λ copied. copied.items ≡ others.now.items) }
+{
+    Ok(others.clone()?)
+}
+
 impl Queue {
     /// Nothing waits.
     pub(crate) fn new(alloc: Global) -> Queue
@@ -104,10 +116,9 @@ impl Queue {
     pub(crate) fn copy(&self) -> Result<Queue, Memory>
         ensures { IfOk result (λ q. q ≡ self.now) }
     {
-        Ok(Queue {
-            bells: self.bells.clone()?,
-            others: self.others.clone()?,
-        })
+        let bells = bells_copied(&self.bells)?;
+        let others = others_copied(&self.others)?;
+        Ok(Queue { bells, others })
     }
 
     /// Puts a bell at the back.

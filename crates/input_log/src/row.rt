@@ -100,6 +100,18 @@ fn push_all(
     }
 }
 
+fn counts_copied(counts: &Vec<Count>) -> Result<Vec<Count>, Memory>
+    ensures { IfOk result (λ copied. copied.items ≡ counts.now.items) }
+{
+    Ok(counts.clone()?)
+}
+
+fn inputs_copied(inputs: &Vec<Input>) -> Result<Vec<Input>, Memory>
+    ensures { IfOk result (λ copied. copied.items ≡ inputs.now.items) }
+{
+    Ok(inputs.clone()?)
+}
+
 impl Row {
     /// A row without inputs.
     pub(crate) fn new(alloc: Global) -> Row
@@ -115,10 +127,9 @@ impl Row {
     pub(crate) fn copy(&self) -> Result<Row, Memory>
         ensures { IfOk result (λ r. r ≡ self.now) }
     {
-        Ok(Row {
-            counts: self.counts.clone()?,
-            inputs: self.inputs.clone()?,
-        })
+        let counts = counts_copied(&self.counts)?;
+        let inputs = inputs_copied(&self.inputs)?;
+        Ok(Row { counts, inputs })
     }
 
     /// All counts, and the input of each.
