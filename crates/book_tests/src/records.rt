@@ -317,9 +317,12 @@ fn raised(alloc: Global, limits: &[u64], raised: &[u64]) -> Result<Book<Recordin
 }
 
 /// What a lease says of itself: its hart, count, stop and steps, whether it is full, and how many edges wait in it.
-fn known(lease: &Lease) -> (Hart, [u64; 3], bool, usize) {
+fn known(lease: &Option<Lease>) -> Option<(Hart, [u64; 3], bool, usize)> {
+    let Some(lease) = lease else {
+        return None;
+    };
     let counts = [lease.count(), lease.stop(), lease.steps()];
-    (lease.hart(), counts, lease.full(), lease.edges().len())
+    Some((lease.hart(), counts, lease.full(), lease.edges().len()))
 }
 
 #[test]
@@ -331,7 +334,7 @@ fn a_lease_says_how_far_it_is(rt: HostRuntime) -> Result<(), Fail> {
         (Act::Go(hart(0), 1), Said::Steps(1)),
     ];
     let played = crew.play(rt.alloc(), &script);
-    let told = crew.leases[0].as_ref().map(known);
+    let told = known(&crew.leases[0]);
     let _book = crew.end();
     assert_eq!(rt; played, script.len());
     assert_eq!(rt; told, Some((hart(0), [1, 2, 1], false, 0)));

@@ -2,7 +2,7 @@
 
 use fixtures::{opening_of, piece_of};
 use fragment_codec::{Frame, Key, Record};
-use ft_types::{Count, Guest, Memory, Term};
+use ft_types::{Count, Counts, Guest, Memory, Term};
 use log_join::{Put, Store};
 use std::alloc::Global;
 use std::test::Fail;
@@ -11,9 +11,14 @@ use std::test::Fail;
 #[derive(Clone, Copy)]
 pub enum Come<'a> {
     /// The opening of a term, its parent and its base.
-    Opening(Term, Term, &'a [Count]),
+    Opening(Term, Term, Counts),
     /// A piece from a count to another.
     Piece(Key, Count, Count, &'a [Record]),
+}
+
+/// A row of counts. None, where there is no such row.
+pub fn row(counts: &[Count]) -> Counts {
+    Counts::from_slice(counts).unwrap_or(Counts::zero(0))
 }
 
 /// A guest of so many harts.
@@ -27,7 +32,7 @@ pub fn guest_of(harts: u8) -> Guest {
 /// The frame of a guest.
 pub fn frame_of(alloc: Global, guest: Guest, come: Come) -> Result<Frame, Fail> {
     match come {
-        Come::Opening(term, parent, base) => opening_of(guest, term, parent, base),
+        Come::Opening(term, parent, base) => opening_of(guest, term, parent, base.as_slice()),
         Come::Piece(key, from, to, records) => piece_of(alloc, guest, key, from, to, records),
     }
 }

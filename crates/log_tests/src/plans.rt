@@ -1,11 +1,11 @@
 //! Plans: that there is an answer where memory is there, and plans that were worked out by hand.
 
-use crate::filled::{Come, all_come, guest_of, store_of};
+use crate::filled::{Come, all_come, guest_of, row, store_of};
 use closed_cut::position;
 use edge_log::Edge;
 use fixtures::{edge, hart, key};
 use fragment_codec::Record;
-use ft_types::{Count, Memory, Term};
+use ft_types::{Count, Counts, Memory, Term};
 use hart_replay::{Plan, PlannedLeg, honest_plans, honest_primaries, plan};
 use input_log::Input;
 use log_join::Store;
@@ -26,13 +26,10 @@ pub fn plan_of(alloc: Global, store: &Store) -> Result<Plan, Fail> {
 }
 
 /// A leg's term, base and ends.
-type Shape<'a> = (Term, &'a [Count], &'a [Count]);
+type Shape = (Term, Counts, Counts);
 
 fn is_so(leg: &PlannedLeg, (term, base, ends): Shape) -> bool {
-    leg.term == term
-        && leg.base.as_slice() == base
-        && leg.ends.as_slice() == ends
-        && leg.edges.start().as_slice() == base
+    leg.term == term && leg.base == base && leg.ends == ends && leg.edges.start() == base
 }
 
 /// Whether the plan's legs are these.
@@ -76,16 +73,16 @@ fn nothing_came(rt: HostRuntime) -> Result<(), Fail> {
 
 #[test]
 fn to_the_end_of_what_came(rt: HostRuntime) -> Result<(), Fail> {
-    let mut store = store_of(rt.alloc(), guest_of(1), &[Come::Opening(1, 0, &[0])])?;
+    let mut store = store_of(rt.alloc(), guest_of(1), &[Come::Opening(1, 0, row(&[0]))])?;
     let none = plan_of(rt.alloc(), &store)?;
-    assert!(rt; has_legs(&none, &[(1, &[0], &[0])]));
+    assert!(rt; has_legs(&none, &[(1, row(&[0]), row(&[0]))]));
     all_come(
         rt.alloc(),
         &mut store,
         &[Come::Piece(key(1, 0, 0), 0, 5, &[])],
     )?;
     let plan = plan_of(rt.alloc(), &store)?;
-    assert!(rt; has_legs(&plan, &[(1, &[0], &[5])]));
+    assert!(rt; has_legs(&plan, &[(1, row(&[0]), row(&[5]))]));
     Ok(())
 }
 
@@ -93,13 +90,13 @@ fn to_the_end_of_what_came(rt: HostRuntime) -> Result<(), Fail> {
 fn edges_that_wait_for_one_another(rt: HostRuntime) -> Result<(), Fail> {
     let (forth, back) = (edge(0, 2, 1, 3), edge(1, 1, 0, 4));
     let frames = [
-        Come::Opening(1, 0, &[0, 0]),
+        Come::Opening(1, 0, row(&[0, 0])),
         Come::Piece(key(1, 0, 0), 0, 5, &[Record::Edge(forth)]),
         Come::Piece(key(1, 1, 0), 0, 5, &[Record::Edge(back)]),
     ];
     let store = store_of(rt.alloc(), guest_of(2), &frames)?;
     let plan = plan_of(rt.alloc(), &store)?;
-    assert!(rt; has_legs(&plan, &[(1, &[0, 0], &[5, 5])]));
+    assert!(rt; has_legs(&plan, &[(1, row(&[0, 0]), row(&[5, 5]))]));
     assert!(rt; has_edges(&plan, 0, &[forth], &[back]));
     Ok(())
 }
@@ -124,8 +121,8 @@ fn two_terms(alloc: Global) -> Result<Plan, Fail> {
         Record::Edge(edge(1, 7, 0, 8)),
     ];
     let frames = [
-        Come::Opening(2, 1, &[3, 4]),
-        Come::Opening(1, 0, &[0, 0]),
+        Come::Opening(2, 1, row(&[3, 4])),
+        Come::Opening(1, 0, row(&[0, 0])),
         Come::Piece(key(1, 0, 0), 0, 3, &[Record::Input(1, Input::Word(17))]),
         Come::Piece(key(1, 1, 0), 0, 6, &first),
         Come::Piece(key(2, 0, 0), 3, 7, &second),
@@ -138,7 +135,15 @@ fn two_terms(alloc: Global) -> Result<Plan, Fail> {
 #[test]
 fn a_leg_for_each_term(rt: HostRuntime) -> Result<(), Fail> {
     let plan = two_terms(rt.alloc())?;
-    assert!(rt; has_legs(&plan, &[(1, &[0, 0], &[3, 4]), (2, &[3, 4], &[7, 7])]));
+    assert!(rt;
+        has_legs(
+            &plan,
+            &[
+                (1, row(&[0, 0]), row(&[3, 4])),
+                (2, row(&[3, 4]), row(&[7, 7]))
+            ]
+        )
+    );
     Ok(())
 }
 
@@ -169,7 +174,7 @@ fn nine_inputs_in_a_row(rt: HostRuntime) -> Result<(), Fail> {
     let mut records = [Record::Input(2, Input::Timer); 9];
     records[8] = Record::Input(3, Input::Timer);
     let frames = [
-        Come::Opening(1, 0, &[0]),
+        Come::Opening(1, 0, row(&[0])),
         Come::Piece(key(1, 0, 0), 0, 4, &records),
     ];
     let plan = plan_of(rt.alloc(), &store_of(rt.alloc(), guest_of(1), &frames)?)?;
@@ -182,14 +187,14 @@ fn nine_inputs_in_a_row(rt: HostRuntime) -> Result<(), Fail> {
 #[test]
 fn a_term_that_is_not_reached(rt: HostRuntime) -> Result<(), Fail> {
     let frames = [
-        Come::Opening(2, 1, &[20, 20]),
-        Come::Opening(1, 0, &[0, 0]),
+        Come::Opening(2, 1, row(&[20, 20])),
+        Come::Opening(1, 0, row(&[0, 0])),
         Come::Piece(key(1, 0, 0), 0, 18, &[]),
         Come::Piece(key(1, 1, 0), 0, 20, &[Record::Edge(edge(1, 19, 0, 19))]),
         Come::Piece(key(2, 0, 0), 20, 30, &[]),
     ];
     let plan = plan_of(rt.alloc(), &store_of(rt.alloc(), guest_of(2), &frames)?)?;
-    assert!(rt; has_legs(&plan, &[(1, &[0, 0], &[18, 19])]));
+    assert!(rt; has_legs(&plan, &[(1, row(&[0, 0]), row(&[18, 19]))]));
     assert!(rt; has_edges(&plan, 0, &[], &[]));
     Ok(())
 }

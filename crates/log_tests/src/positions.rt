@@ -1,6 +1,6 @@
 //! Chains and positions of stores: that there is an answer where memory is there, and the rows that were worked out by hand.
 
-use crate::filled::{Come, all_come, comes, guest_of, store_of};
+use crate::filled::{Come, all_come, comes, guest_of, row, store_of};
 use closed_cut::{Position, chain, position};
 use edge_log::Edge;
 use fixtures::{Dice, edge, key};
@@ -52,7 +52,7 @@ fn three_harts(alloc: Global, to: Count) -> Result<Store, Fail> {
     let second = [Record::Edge(edge(1, 4, 0, 10)), timer(9)];
     let third = [Record::Edge(edge(2, 3, 1, 5)), timer(7)];
     let frames = [
-        Come::Opening(1, 0, &[0, 0, 0]),
+        Come::Opening(1, 0, row(&[0, 0, 0])),
         Come::Piece(key(1, 0, 0), 0, to, &[timer(to)]),
         Come::Piece(key(1, 1, 0), 0, 9, &second),
         Come::Piece(key(1, 2, 0), 0, 7, &third),
@@ -71,7 +71,7 @@ fn an_edge_that_is_not_met_stops_another(rt: HostRuntime) -> Result<(), Fail> {
 
 /// Pieces of one hart in term 1 from boot: a piece's place, and the counts from which and to which it goes.
 fn one_hart(alloc: Global, pieces: &[(u32, Count, Count)]) -> Result<Store, Fail> {
-    let mut store = store_of(alloc, guest_of(1), &[Come::Opening(1, 0, &[0])])?;
+    let mut store = store_of(alloc, guest_of(1), &[Come::Opening(1, 0, row(&[0]))])?;
     for (place, from, to) in pieces {
         let piece = Come::Piece(key(1, 0, *place), *from, *to, &[timer(*to)]);
         let _put = comes(alloc, &mut store, piece)?;
@@ -102,8 +102,8 @@ fn a_place_with_two_contents(rt: HostRuntime) -> Result<(), Fail> {
 /// Two harts, term 1 from boot, held to 18 and 20, and term 2 from 20 and 20.
 fn two_terms(alloc: Global, second: &[Record]) -> Result<Store, Fail> {
     let frames = [
-        Come::Opening(2, 1, &[20, 20]),
-        Come::Opening(1, 0, &[0, 0]),
+        Come::Opening(2, 1, row(&[20, 20])),
+        Come::Opening(1, 0, row(&[0, 0])),
         Come::Piece(key(1, 0, 0), 0, 18, &[timer(18)]),
         Come::Piece(key(1, 1, 0), 0, 20, second),
     ];
@@ -137,7 +137,7 @@ fn a_walk_goes_on_from_the_next_base(rt: HostRuntime) -> Result<(), Fail> {
 #[test]
 fn an_opening_that_clashes(rt: HostRuntime) -> Result<(), Fail> {
     let mut store = two_terms(rt.alloc(), &[timer(20)])?;
-    let other = comes(rt.alloc(), &mut store, Come::Opening(2, 1, &[19, 20]))?;
+    let other = comes(rt.alloc(), &mut store, Come::Opening(2, 1, row(&[19, 20])))?;
     assert_eq!(rt; other, Put::Clash);
     assert!(rt; has_chain(rt.alloc(), &store, &[1])?);
     assert!(rt; stands_at(rt.alloc(), &store, 1, 1, &[18, 20])?);
@@ -150,12 +150,16 @@ fn an_opening_that_clashes(rt: HostRuntime) -> Result<(), Fail> {
 fn terms_that_are_not_sound(rt: HostRuntime) -> Result<(), Fail> {
     let mut store = two_terms(rt.alloc(), &[timer(20)])?;
     let unsound = [
-        Come::Opening(4, 3, &[30, 30]),
-        Come::Opening(5, 2, &[20, 19]),
+        Come::Opening(4, 3, row(&[30, 30])),
+        Come::Opening(5, 2, row(&[20, 19])),
     ];
     all_come(rt.alloc(), &mut store, &unsound)?;
     assert!(rt; has_chain(rt.alloc(), &store, &[1, 2])?);
-    all_come(rt.alloc(), &mut store, &[Come::Opening(3, 1, &[18, 19])])?;
+    all_come(
+        rt.alloc(),
+        &mut store,
+        &[Come::Opening(3, 1, row(&[18, 19]))],
+    )?;
     assert!(rt; has_chain(rt.alloc(), &store, &[1, 3, 4])?);
     assert!(rt; stands_at(rt.alloc(), &store, 3, 4, &[18, 19])?);
     Ok(())
@@ -218,7 +222,7 @@ fn records_of(alloc: Global, edges: &[Edge]) -> Result<Vec<Record>, Memory> {
 /// Eight harts in term 1 from 0, held to these counts, with random edges: the store, and the edges.
 fn random_store(alloc: Global, share: u32, bound: &[Count; 8]) -> Result<(Store, Vec<Edge>), Fail> {
     let mut dice = Dice::new(u64::from(share) + 1);
-    let mut store = store_of(alloc, guest_of(8), &[Come::Opening(1, 0, &[0; 8])])?;
+    let mut store = store_of(alloc, guest_of(8), &[Come::Opening(1, 0, row(&[0; 8]))])?;
     let mut all = Vec::new(alloc);
     for (number, to) in (0u8..8).zip(bound) {
         let edges = random_row(alloc, number, *to, share, &mut dice)?;

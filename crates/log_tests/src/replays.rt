@@ -1,6 +1,6 @@
 //! Replays that were worked out by hand.
 
-use crate::filled::{Come, all_come, comes};
+use crate::filled::{Come, all_come, comes, row};
 use crate::plans::plan_of;
 use fixtures::{BOTH_STORE, HALTS, TWO_LOOPS, edge, hart, image_of, key};
 use fragment_codec::Record;
@@ -36,7 +36,7 @@ type Row<'a> = (Count, &'a [Record]);
 fn one_term(alloc: Global, image: &Image, rows: &[Row]) -> Result<Store, Fail> {
     let mut store = Store::new(alloc, image.guest());
     let base = Counts::zero(image.harts());
-    let _put = comes(alloc, &mut store, Come::Opening(1, 0, base.as_slice()))?;
+    let _put = comes(alloc, &mut store, Come::Opening(1, 0, base))?;
     for (number, (end, records)) in (0u8..8).zip(rows) {
         let piece = Come::Piece(key(1, number, 0), 0, *end, records);
         let _put = comes(alloc, &mut store, piece)?;
@@ -114,7 +114,10 @@ fn words_read(machine: &Machine) -> Option<[u32; 3]> {
         return None;
     }
     let registers = machine.hart(hart(0)).registers();
-    Some([*registers.get(1)?, *registers.get(2)?, *registers.get(3)?])
+    if registers.len() < 4 {
+        return None;
+    }
+    Some([registers[1], registers[2], registers[3]])
 }
 
 #[test]
@@ -157,7 +160,7 @@ fn one_term_after_the_other(rt: HostRuntime) -> Result<(), Fail> {
     let mut store = one_term(rt.alloc(), &image, &[(4, &[]), (1, &[])])?;
     let waits = [Record::Edge(edge(1, 1, 0, 4))];
     let more = [
-        Come::Opening(2, 1, &[3, 1]),
+        Come::Opening(2, 1, row(&[3, 1])),
         Come::Piece(key(2, 0, 0), 3, 4, &[]),
         Come::Piece(key(2, 1, 0), 1, 3, &waits),
     ];

@@ -1,6 +1,6 @@
 //! Stores that frames come to, and their joins.
 
-use crate::filled::{Come, come_so, comes, frame_of, put, store_of};
+use crate::filled::{Come, come_so, comes, frame_of, put, row, store_of};
 use fixtures::key;
 use fragment_codec::{Frame, Key, Record};
 use ft_types::{Count, Guest, Memory, Term};
@@ -88,7 +88,7 @@ fn are_same(alloc: Global, one: &Store, other: &Store) -> Result<bool, Fail> {
 fn filled(alloc: Global) -> Result<Store, Fail> {
     let timed = timer();
     let frames = [
-        Come::Opening(1, 0, &[0, 0]),
+        Come::Opening(1, 0, row(&[0, 0])),
         log(key(1, 0, 0), 0, 4),
         Come::Piece(key(1, 1, 0), 0, 3, &timed),
     ];
@@ -120,15 +120,15 @@ fn openings_are_put_once(rt: HostRuntime) -> Result<(), Fail> {
     let mut store = Store::new(rt.alloc(), guest(1));
     assert_eq!(rt; store.last_term(), 0);
     let rows = [
-        (Come::Opening(1, 0, &[0, 0]), Put::New),
-        (Come::Opening(1, 0, &[0, 0]), Put::Same),
+        (Come::Opening(1, 0, row(&[0, 0])), Put::New),
+        (Come::Opening(1, 0, row(&[0, 0])), Put::Same),
         (log(key(1, 0, 0), 0, 4), Put::New),
         (Come::Piece(key(1, 0, 0), 0, 4, &timed), Put::Clash),
-        (Come::Opening(3, 1, &[4, 4]), Put::New),
-        (Come::Opening(3, 1, &[5, 5]), Put::Clash),
+        (Come::Opening(3, 1, row(&[4, 4])), Put::New),
+        (Come::Opening(3, 1, row(&[5, 5])), Put::Clash),
     ];
     assert_eq!(rt; come_so(rt.alloc(), &mut store, &rows)?, rows.len());
-    let parents = [1, 2, 3].map(|term| parent(&store, term));
+    let parents = [parent(&store, 1), parent(&store, 2), parent(&store, 3)];
     assert_eq!(rt; (parents, told(&store)), ([0, 98, 99], (2, 3)));
     assert_eq!(rt; terms_of(rt.alloc(), &store)?.as_slice(), [1].as_slice());
     Ok(())
@@ -163,7 +163,7 @@ fn two_contents_clash_in_either_order(rt: HostRuntime) -> Result<(), Fail> {
     let rows = [
         (Come::Piece(first, 0, 4, &timed), Put::New),
         (log(first, 0, 4), Put::Clash),
-        (Come::Opening(1, 0, &[0, 0]), Put::New),
+        (Come::Opening(1, 0, row(&[0, 0])), Put::New),
         (Come::Piece(key(1, 1, 0), 0, 3, &timed), Put::New),
     ];
     assert_eq!(rt; come_so(rt.alloc(), &mut other, &rows)?, rows.len());
@@ -185,7 +185,7 @@ fn joined(alloc: Global, one: &mut Store, other: &Store) -> Result<(), StoreFaul
 fn other_filled(alloc: Global) -> Result<Store, Fail> {
     let mut store = Store::new(alloc, guest(1));
     let rows = [
-        (Come::Opening(2, 1, &[4, 4]), Put::New),
+        (Come::Opening(2, 1, row(&[4, 4])), Put::New),
         (log(key(1, 0, 0), 0, 5), Put::New),
         (log(key(2, 1, 0), 4, 5), Put::New),
     ];
@@ -205,7 +205,7 @@ fn joins_are_the_same_both_ways(rt: HostRuntime) -> Result<(), Fail> {
     assert!(rt; joined(rt.alloc(), &mut one, &other).is_ok());
     assert!(rt; joined(rt.alloc(), &mut other, &before).is_ok());
     assert!(rt; are_same(rt.alloc(), &one, &other)?);
-    let ends = [key(1, 0, 0), key(2, 1, 0)].map(|at| end(&one, at));
+    let ends = [end(&one, key(1, 0, 0)), end(&one, key(2, 1, 0))];
     assert_eq!(rt; (parent(&one, 2), ends), (1, [1, 5]));
     Ok(())
 }
@@ -254,13 +254,13 @@ fn two_stores(alloc: Global) -> Result<(Store, Store), Fail> {
             && put_anyway(
                 alloc,
                 &mut other,
-                Come::Opening(place + 2, place + 1, &[3, 3]),
+                Come::Opening(place + 2, place + 1, row(&[3, 3])),
             )?;
         if !all {
             return Err("a put".into());
         }
     }
-    let last = put_anyway(alloc, &mut one, Come::Opening(1, 0, &[0, 0]))?
+    let last = put_anyway(alloc, &mut one, Come::Opening(1, 0, row(&[0, 0])))?
         && put_anyway(alloc, &mut one, log(key(1, 1, 7), 0, 9))?;
     if last {
         Ok((one, other))

@@ -6,17 +6,43 @@ use ft_types::{Count, Memory};
 use input_log::{Desk, Input, InputLog, WaitingBell};
 use std::test::Fail;
 
+/// At most eight inputs.
+#[derive(Clone, Copy)]
+struct Eight {
+    all: [Input; 8],
+    many: usize,
+}
+
+impl Eight {
+    fn as_slice(&self) -> &[Input] {
+        let all = self.all.as_slice();
+        all.get(..self.many).unwrap_or(all)
+    }
+}
+
+/// The first eight of these inputs.
+fn these(inputs: &[Input]) -> Eight {
+    let mut all = [Input::Timer; 8];
+    for (place, input) in all.iter_mut().zip(inputs) {
+        *place = *input;
+    }
+    Eight {
+        all,
+        many: inputs.len(),
+    }
+}
+
 /// A call of a log for one hart, with what it answers.
 #[derive(Clone, Copy)]
-enum Logged<'a> {
+enum Logged {
     /// Adds an input, which may be added.
     Add(Count, Input),
     /// Adds inputs, for all of which there is room.
-    AddAll(Count, &'a [Input]),
+    AddAll(Count, Eight),
     /// Whether an input may be added.
     May(Count, bool),
     /// What the hart is given at a count.
-    At(Count, &'a [Input]),
+    At(Count, Eight),
     /// The next count at which it is given something.
     Next(Count, Option<Count>),
     /// Drops so many of the last inputs.
@@ -69,9 +95,9 @@ fn add(log: &mut InputLog, number: u8, count: Count, input: &Input) -> Result<bo
 fn does(log: &mut InputLog, number: u8, call: &Logged) -> Result<bool, Memory> {
     match *call {
         Logged::Add(count, input) => add(log, number, count, &input),
-        Logged::AddAll(count, inputs) => add_all(log, number, count, inputs),
+        Logged::AddAll(count, inputs) => add_all(log, number, count, inputs.as_slice()),
         Logged::May(count, may) => Ok(log.may_add(hart(number), count) == may),
-        Logged::At(count, inputs) => Ok(log.at(hart(number), count) == inputs),
+        Logged::At(count, inputs) => Ok(log.at(hart(number), count) == inputs.as_slice()),
         Logged::Next(from, count) => Ok(log.next(hart(number), from) == count),
         Logged::TakeBack(many) => {
             log.take_back(hart(number), many);
@@ -104,7 +130,7 @@ fn eight_at_a_count(rt: HostRuntime) -> Result<(), Fail> {
         Logged::May(3, false),
         Logged::May(2, false),
         Logged::May(4, true),
-        Logged::At(3, &eight),
+        Logged::At(3, these(&eight)),
     ];
     assert_eq!(rt; done_by(&mut log, 1, &calls)?, calls.len());
     assert!(rt; log.may_add(hart(0), 0));
@@ -132,8 +158,8 @@ fn inputs_in_their_order(rt: HostRuntime) -> Result<(), Fail> {
     assert!(rt; add(&mut log, 0, 1, &Input::Timer)?);
     let mut copy = copy_of(&log)?;
     let calls = [
-        Logged::At(3, &three),
-        Logged::At(4, &[]),
+        Logged::At(3, these(&three)),
+        Logged::At(4, these(&[])),
         Logged::Next(0, Some(3)),
         Logged::Next(4, Some(9)),
         Logged::Next(10, None),
@@ -154,16 +180,17 @@ fn many_at_a_count_and_back(rt: HostRuntime) -> Result<(), Fail> {
         Input::Timer,
         Input::Bell(hart(0)),
     ];
-    let three = &four[1..];
+    let all = four.as_slice();
+    let three = &all[1..];
     let calls = [
         Logged::Add(3, Input::Timer),
-        Logged::AddAll(3, three),
-        Logged::At(3, &four),
+        Logged::AddAll(3, these(three)),
+        Logged::At(3, these(&four)),
         Logged::TakeBack(3),
-        Logged::At(3, &[Input::Timer]),
-        Logged::AddAll(4, three),
+        Logged::At(3, these(&[Input::Timer])),
+        Logged::AddAll(4, these(three)),
         Logged::TakeBack(2),
-        Logged::At(4, &[Input::Word(7)]),
+        Logged::At(4, these(&[Input::Word(7)])),
         Logged::TakeBack(9),
         Logged::Next(0, None),
     ];
@@ -171,9 +198,35 @@ fn many_at_a_count_and_back(rt: HostRuntime) -> Result<(), Fail> {
     Ok(())
 }
 
+/// At most eight bells.
+#[derive(Clone, Copy)]
+struct EightBells {
+    all: [WaitingBell; 8],
+    many: usize,
+}
+
+impl EightBells {
+    fn as_slice(&self) -> &[WaitingBell] {
+        let all = self.all.as_slice();
+        all.get(..self.many).unwrap_or(all)
+    }
+}
+
+/// The first eight of these bells.
+fn bells(bells: &[WaitingBell]) -> EightBells {
+    let mut all = [bell(0, 0); 8];
+    for (place, bell) in all.iter_mut().zip(bells) {
+        *place = *bell;
+    }
+    EightBells {
+        all,
+        many: bells.len(),
+    }
+}
+
 /// A call of a desk for one hart, with what it answers.
 #[derive(Clone, Copy)]
-enum Waits<'a> {
+enum Waits {
     /// Puts an input that is no bell.
     Put(Count, Input),
     /// Puts a bell of the hart of this number, after so many of its steps.
@@ -181,11 +234,11 @@ enum Waits<'a> {
     /// Takes back the bell that came last.
     Back,
     /// Takes what is given at a count.
-    Take(Count, &'a [Input]),
+    Take(Count, Eight),
     /// The least count at which something may be given.
     Next(Option<Count>),
     /// The bells that are given next.
-    Bells(&'a [WaitingBell]),
+    Bells(EightBells),
 }
 
 /// Puts an input, a second time where memory was refused, which must leave the desk as it was.
@@ -221,9 +274,11 @@ fn keeps(desk: &mut Desk, number: u8, call: &Waits) -> Result<bool, Memory> {
             desk.take_back_bell(hart(number));
             Ok(true)
         }
-        Waits::Take(count, inputs) => Ok(desk.take(hart(number), count).as_slice() == inputs),
+        Waits::Take(count, inputs) => Ok(
+            desk.take(hart(number), count).as_slice() == inputs.as_slice(),
+        ),
         Waits::Next(count) => Ok(desk.next(hart(number)) == count),
-        Waits::Bells(bells) => Ok(desk.bells_next(hart(number)).as_slice() == bells),
+        Waits::Bells(bells) => Ok(desk.bells_next(hart(number)).as_slice() == bells.as_slice()),
     }
 }
 
@@ -253,12 +308,12 @@ fn nine_timers(rt: HostRuntime) -> Result<(), Fail> {
     assert_eq!(rt; served(&mut desk, 0, &nine)?, 9);
     let calls = [
         Waits::Next(Some(2)),
-        Waits::Take(1, &[]),
-        Waits::Take(2, &[Input::Timer; 8]),
+        Waits::Take(1, these(&[])),
+        Waits::Take(2, these(&[Input::Timer; 8])),
         Waits::Next(Some(2)),
-        Waits::Take(3, &[Input::Timer]),
+        Waits::Take(3, these(&[Input::Timer])),
         Waits::Next(None),
-        Waits::Take(4, &[]),
+        Waits::Take(4, these(&[])),
     ];
     assert_eq!(rt; served(&mut desk, 0, &calls)?, calls.len());
     Ok(())
@@ -284,13 +339,16 @@ fn bells_before_others(rt: HostRuntime) -> Result<(), Fail> {
     let mut copy = copy_of_desk(&desk)?;
     let calls = [
         Waits::Next(Some(0)),
-        Waits::Bells(&[bell(1, 6), bell(0, 4)]),
+        Waits::Bells(bells(&[bell(1, 6), bell(0, 4)])),
     ];
     assert_eq!(rt; served(&mut copy, 2, &calls)?, calls.len());
     let three = [Input::Bell(hart(1)), Input::Bell(hart(0)), Input::Word(5)];
-    let calls = [Waits::Take(0, &three), Waits::Bells(&[])];
+    let calls = [Waits::Take(0, these(&three)), Waits::Bells(bells(&[]))];
     assert_eq!(rt; served(&mut desk, 2, &calls)?, calls.len());
-    assert_eq!(rt; served(&mut desk, 3, &[Waits::Bells(&[bell(0, 5)])])?, 1);
+    assert_eq!(rt;
+        served(&mut desk, 3, &[Waits::Bells(bells(&[bell(0, 5)]))])?,
+        1
+    );
     Ok(())
 }
 
@@ -302,11 +360,11 @@ fn bells_and_back(rt: HostRuntime) -> Result<(), Fail> {
         Waits::Ring(1, 6),
         Waits::Ring(0, 4),
         Waits::Back,
-        Waits::Bells(&[bell(1, 6)]),
+        Waits::Bells(bells(&[bell(1, 6)])),
         Waits::Back,
         Waits::Next(Some(4)),
         Waits::Back,
-        Waits::Take(4, &[Input::Word(5)]),
+        Waits::Take(4, these(&[Input::Word(5)])),
     ];
     assert_eq!(rt; served(&mut desk, 2, &calls)?, calls.len());
     Ok(())
@@ -325,9 +383,9 @@ fn ten_bells_and_a_timer(rt: HostRuntime) -> Result<(), Fail> {
     }
     let bell = Input::Bell(hart(1));
     let calls = [
-        Waits::Bells(&eight),
-        Waits::Take(0, &[bell; 8]),
-        Waits::Take(1, &[bell, bell, Input::Timer]),
+        Waits::Bells(bells(&eight)),
+        Waits::Take(0, these(&[bell; 8])),
+        Waits::Take(1, these(&[bell, bell, Input::Timer])),
     ];
     assert_eq!(rt; served(&mut desk, 0, &calls)?, calls.len());
     Ok(())
@@ -340,10 +398,10 @@ fn one_that_waits_holds_those_behind_it(rt: HostRuntime) -> Result<(), Fail> {
         Waits::Put(1, Input::Word(1)),
         Waits::Put(9, Input::Word(2)),
         Waits::Put(0, Input::Word(3)),
-        Waits::Take(5, &[Input::Word(1)]),
+        Waits::Take(5, these(&[Input::Word(1)])),
         Waits::Next(Some(9)),
-        Waits::Take(8, &[]),
-        Waits::Take(9, &[Input::Word(2), Input::Word(3)]),
+        Waits::Take(8, these(&[])),
+        Waits::Take(9, these(&[Input::Word(2), Input::Word(3)])),
     ];
     assert_eq!(rt; served(&mut desk, 0, &calls)?, calls.len());
     Ok(())

@@ -22,10 +22,10 @@ fn x28() -> Reg {
 
 /// Whether there is such an instruction, and the word is its own.
 fn agrees(word: u32, instr: Option<Instr>) -> bool {
-    match instr {
-        Some(instr) => encode(instr) == word && decode(word) == Some(instr),
-        None => false,
-    }
+    let Some(named) = instr else {
+        return false;
+    };
+    encode(named) == word && decode(word) == instr
 }
 
 fn agree(rt: &impl Abort, rows: &[(u32, Option<Instr>)]) {

@@ -49,7 +49,6 @@ impl OpenPages {
     }
 
     /// From now on the hart may write no page, and may read each only if it is so told.
-    #[tactic(auto, using(crate::proofs::OpenPages::none_writable))]
     pub fn lock(self, readable: bool) -> OpenPages {
         OpenPages {
             pages: self.pages,

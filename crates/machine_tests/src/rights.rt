@@ -33,16 +33,18 @@ fn does(alloc: Global, right: &mut PageRight, call: &Call) -> bool {
             Some(counts) => is_given(&right.ask(alloc, hart(number), want, &counts), edges),
         },
         Call::Leave(number, at) => {
-            let holds = right.holds(hart(number));
+            let hart = hart(number);
+            let holds = right.holds(hart);
             if holds {
-                right.give_up(hart(number), at);
+                right.give_up(hart, at);
             }
             holds
         }
         Call::Lower(number, at) => {
-            let owns = right.owns(hart(number));
+            let hart = hart(number);
+            let owns = right.owns(hart);
             if owns {
-                right.lower(hart(number), at);
+                right.lower(hart, at);
             }
             owns
         }

@@ -11,24 +11,12 @@ fn machine(alloc: Global, harts: &[Counter], pages: &[u64]) -> Result<Counters, 
     })
 }
 
-/// A start, turns from it, and where they end: none where they cannot be taken.
-#[derive(Clone, Copy)]
-struct Schedule<'a> {
-    harts: &'a [Counter],
-    pages: &'a [u64],
-    turns: &'a [Turn],
-    ended: Option<(&'a [Counter], &'a [u64])>,
-}
-
-fn ends_so(alloc: Global, schedule: &Schedule) -> Result<bool, AllocError> {
-    let ended = machine(alloc, schedule.harts, schedule.pages)?.run(schedule.turns);
-    Ok(match (ended, schedule.ended) {
-        (None, None) => true,
-        (Some(ended), Some((harts, pages))) => {
-            ended.harts.as_slice() == harts && ended.pages.as_slice() == pages
-        }
-        _ => false,
-    })
+/// Whether a machine is this one.
+fn is_so(machine: &Option<Counters>, harts: &[Counter], pages: &[u64]) -> bool {
+    match machine {
+        None => false,
+        Some(machine) => machine.harts.as_slice() == harts && machine.pages.as_slice() == pages,
+    }
 }
 
 const fn stores(hart: usize, page: usize) -> Turn {
@@ -75,13 +63,9 @@ fn schedules_end_alike(rt: HostRuntime) -> Result<(), Fail> {
         stores(1, 1),
     ];
     for (turns, loaded) in [(own, 1), (other, 1), (forbidden, 2)] {
-        let schedule = Schedule {
-            harts: &[at(0, 0), at(0, 0), at(0, 0)],
-            pages: &[0, 0],
-            turns: &turns,
-            ended: Some((&[at(2, 0), at(2, loaded), at(1, 0)], &[2, 2])),
-        };
-        assert!(rt; ends_so(rt.alloc(), &schedule)?);
+        let ended = machine(rt.alloc(), &[at(0, 0); 3], &[0, 0])?.run(&turns);
+        let harts = [at(2, 0), at(2, loaded), at(1, 0)];
+        assert!(rt; is_so(&ended, &harts, &[2, 2]));
     }
     Ok(())
 }
@@ -92,53 +76,35 @@ fn dishonest_logs_go_wrong(rt: HostRuntime) -> Result<(), Fail> {
     let passing = [stores(0, 0), loads(1)];
     let early = [loads(1), stores(0, 0)];
     for (turns, loaded) in [(passing, 8), (early, 0)] {
-        let schedule = Schedule {
-            harts: &[at(7, 0), at(5, 0)],
-            pages: &[0],
-            turns: &turns,
-            ended: Some((&[at(8, 0), at(6, loaded)], &[8])),
-        };
-        assert!(rt; ends_so(rt.alloc(), &schedule)?);
+        let ended = machine(rt.alloc(), &[at(7, 0), at(5, 0)], &[0])?.run(&turns);
+        assert!(rt; is_so(&ended, &[at(8, 0), at(6, loaded)], &[8]));
     }
+    Ok(())
+}
+
+#[test]
+fn logs_that_hand_on_go_wrong(rt: HostRuntime) -> Result<(), Fail> {
     let handed_on = [stores(0, 0), loads(2)];
     let lost = [loads(2), stores(0, 0)];
     for (turns, loaded) in [(handed_on, 1), (lost, 0)] {
-        let schedule = Schedule {
-            harts: &[at(0, 0), at(0, 0), at(0, 0)],
-            pages: &[0, 0],
-            turns: &turns,
-            ended: Some((&[at(1, 0), at(0, 0), at(1, loaded)], &[1, 0])),
-        };
-        assert!(rt; ends_so(rt.alloc(), &schedule)?);
+        let ended = machine(rt.alloc(), &[at(0, 0); 3], &[0, 0])?.run(&turns);
+        let harts = [at(1, 0), at(0, 0), at(1, loaded)];
+        assert!(rt; is_so(&ended, &harts, &[1, 0]));
     }
     Ok(())
+}
+
+/// What a machine of one hart at a count comes to, whose page holds 7.
+fn one_hart(alloc: Global, count: u64, turns: &[Turn]) -> Result<Option<Counters>, AllocError> {
+    Ok(machine(alloc, &[at(count, 0)], &[7])?.run(turns))
 }
 
 /// A hart that is not there, or whose count is full, takes no turn; a page that is not there holds nothing.
 #[test]
 fn halted_harts_have_no_run(rt: HostRuntime) -> Result<(), Fail> {
-    let schedules = [
-        Schedule {
-            harts: &[at(0, 0)],
-            pages: &[0],
-            turns: &[loads(0), loads(1)],
-            ended: None,
-        },
-        Schedule {
-            harts: &[at(u64::MAX, 0)],
-            pages: &[0],
-            turns: &[stores(0, 0)],
-            ended: None,
-        },
-        Schedule {
-            harts: &[at(u64::MAX - 1, 0)],
-            pages: &[7],
-            turns: &[stores(0, 1)],
-            ended: Some((&[at(u64::MAX, 0)], &[7])),
-        },
-    ];
-    for schedule in &schedules {
-        assert!(rt; ends_so(rt.alloc(), schedule)?);
-    }
+    assert!(rt; one_hart(rt.alloc(), 0, &[loads(0), loads(1)])?.is_none());
+    assert!(rt; one_hart(rt.alloc(), u64::MAX, &[stores(0, 0)])?.is_none());
+    let ended = one_hart(rt.alloc(), u64::MAX - 1, &[stores(0, 1)])?;
+    assert!(rt; is_so(&ended, &[at(u64::MAX, 0)], &[7]));
     Ok(())
 }
