@@ -2,7 +2,7 @@
 
 use crate::starts::{obeying, stands_at};
 use fixtures::{Act, BOTH_STORE, Crew, Said, TWO_LOOPS, edge, given, hart, held_by};
-use ft_types::{PageNo, Want};
+use ft_types::{Hart, PageNo, Want};
 use page_book::{BookFault, Keep, Replaying, Stretch};
 use std::alloc::Global;
 use std::mem;
@@ -48,7 +48,7 @@ fn tenth(crew: &Crew<Replaying>) -> Option<u32> {
     if machine.harts() == 0 {
         return None;
     }
-    machine.hart(hart(0)).registers().get(9).copied()
+    machine.hart(Hart::new(0)).registers().get(9).copied()
 }
 
 #[test]

@@ -167,13 +167,23 @@ fn each_replay_of_a_log_leads_to_the_recorded_machine(rt: HostRuntime) -> Result
     Ok(())
 }
 
+/// A replay of what a book recorded, without its edges.
+fn without_edges(
+    alloc: Global,
+    file: &[u8],
+    recorded: &Book<Recording>,
+) -> Result<Book<Replaying>, Fail> {
+    let image = image_of(alloc, file)?;
+    let ends = recorded.counts();
+    let none = EdgeLog::new(alloc, Counts::zero(ends.harts()));
+    replayed(alloc, &image, ends, &none, Order::Rising)
+}
+
 #[test]
 fn without_its_edges_a_log_leads_elsewhere(rt: HostRuntime) -> Result<(), Fail> {
     let file = mixing(rt.alloc(), 3)?;
     let recorded = recorded_turns(rt.alloc(), &file, 1000, 1)?;
-    let image = image_of(rt.alloc(), &file)?;
-    let none = EdgeLog::new(rt.alloc(), recorded.edges().start());
-    let book = replayed(rt.alloc(), &image, recorded.counts(), &none, Order::Rising)?;
+    let book = without_edges(rt.alloc(), &file, &recorded)?;
     assert!(rt; !same_machine(&book, &recorded));
     Ok(())
 }

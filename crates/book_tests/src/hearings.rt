@@ -78,7 +78,7 @@ fn words_of(book: &Book<Recording>) -> Option<[u32; 2]> {
     if machine.harts() == 0 {
         return None;
     }
-    Some(machine.hart(hart(0)).device_words())
+    Some(machine.hart(Hart::new(0)).device_words())
 }
 
 /// The calls by which a word at count 1 is given.
@@ -148,13 +148,14 @@ fn what_an_ended_lease_had_is_the_next_ones(rt: HostRuntime) -> Result<(), Fail>
 
 /// Raises the limits of a book of as many harts.
 fn raise(book: &mut Book<Recording>, limits: &[Count]) -> bool {
-    match Counts::from_slice(limits) {
-        Some(limits) if limits.harts() == book.machine().harts() => {
-            book.limit_to(limits);
-            true
-        }
-        _ => false,
+    let Some(limits) = Counts::from_slice(limits) else {
+        return false;
+    };
+    if book.machine().harts() != limits.harts() {
+        return false;
     }
+    book.limit_to(limits);
+    true
 }
 
 #[test]
@@ -179,7 +180,6 @@ fn a_hart_refused_at_its_limit_goes_on_once_that_is_raised(rt: HostRuntime) -> R
 #[test]
 fn a_bell_is_heard_after_the_step_that_rang_it(rt: HostRuntime) -> Result<(), Fail> {
     let (first, second) = (hart(0), hart(1));
-    let waits = edge(1, 6, 0, 4);
     let mut crew = crew_of(rt.alloc(), RING_EACH_OTHER, &[100, 100], &[])?;
     let script = [
         (Act::Run(second), Said::Steps(4)),
@@ -188,7 +188,7 @@ fn a_bell_is_heard_after_the_step_that_rang_it(rt: HostRuntime) -> Result<(), Fa
         (Act::Settle(second, Keep::All), Said::Done),
         (Act::Run(first), Said::Steps(4)),
         (Act::Lend(second), Said::Done),
-        (Act::Wait(second), Said::Waits(1, Some(waits))),
+        (Act::Wait(second), Said::Waits(1, Some(edge(1, 6, 0, 4)))),
         (Act::Go(second, 2), Said::Steps(1)),
         (Act::Settle(second, Keep::All), Said::Done),
     ];
@@ -197,7 +197,7 @@ fn a_bell_is_heard_after_the_step_that_rang_it(rt: HostRuntime) -> Result<(), Fa
     assert_eq!(rt; played, script.len());
     assert!(rt; has_given(&book, 0, 0, &[Input::Bell(second)]));
     assert!(rt; has_given(&book, 1, 6, &[Input::Bell(first)]));
-    assert!(rt; has_edges(&book, &[edge(0, 0, 1, 4)], &[waits]));
+    assert!(rt; has_edges(&book, &[edge(0, 0, 1, 4)], &[edge(1, 6, 0, 4)]));
     Ok(())
 }
 

@@ -3,7 +3,8 @@
 use crate::starts::{has_put_out, recording, same_machine};
 use fixtures::{Act, Said, given, hart};
 use ft_types::{Count, PageNo, Want};
-use page_book::Keep;
+use page_book::{Book, Keep, Recording};
+use std::alloc::Global;
 use std::test::Fail;
 
 /// lui x1, f0000; then again and again addi x2, x2, 1; sw x2, 8(x1), which is an output; and back.
@@ -20,24 +21,37 @@ fn one_lease(steps: u32, end: Act) -> [(Act, Said); 4] {
     ]
 }
 
-#[test]
-fn outputs_of_leases_stand_in_the_order_of_their_steps(rt: HostRuntime) -> Result<(), Fail> {
-    let settle = Act::Settle(hart(0), Keep::All);
-    let all: &[(Count, u32)] = &[(2, 1), (5, 2), (8, 3), (11, 4)];
-    let mut crew = recording(rt.alloc(), COUNTS_ALOUD, &[100])?;
+/// What the hart has put out after twelve steps.
+const ALL: [(Count, u32); 4] = [(2, 1), (5, 2), (8, 3), (11, 4)];
+
+/// Settles leases of so many steps in turn, while so many outputs are there after each.
+fn settle_each(alloc: Global, rows: &[(u32, usize)]) -> Result<(usize, Book<Recording>), Fail> {
+    let mut crew = recording(alloc, COUNTS_ALOUD, &[100])?;
     let mut ended = 0usize;
-    for (steps, outputs) in [(6, 2usize), (3, 3), (1, 3), (2, 4)] {
-        let played = crew.play(rt.alloc(), &one_lease(steps, settle));
-        if played == 4 && has_put_out(&crew.book, 0, &all[..outputs]) {
+    for (steps, outputs) in rows {
+        let script = one_lease(*steps, Act::Settle(hart(0), Keep::All));
+        if crew.play(alloc, &script) == 4 && has_first(&crew.book, *outputs) {
             ended = ended.saturating_add(1);
         }
     }
-    let parts = crew.end();
-    // One lease of as many steps leads to the same machine.
-    let mut crew = recording(rt.alloc(), COUNTS_ALOUD, &[100])?;
-    let played = crew.play(rt.alloc(), &one_lease(12, settle));
-    let whole = crew.end();
-    assert_eq!(rt; (ended, played), (4, 4));
+    Ok((ended, crew.end()))
+}
+
+/// Whether the book's hart has put out the first so many.
+fn has_first(book: &Book<Recording>, many: usize) -> bool {
+    let all = ALL;
+    match all.as_slice().get(..many) {
+        Some(outputs) => has_put_out(book, 0, outputs),
+        None => false,
+    }
+}
+
+/// One lease of as many steps leads to the same machine.
+#[test]
+fn outputs_of_leases_stand_in_the_order_of_their_steps(rt: HostRuntime) -> Result<(), Fail> {
+    let (ended, parts) = settle_each(rt.alloc(), &[(6, 2), (3, 3), (1, 3), (2, 4)])?;
+    let (at_once, whole) = settle_each(rt.alloc(), &[(12, 4)])?;
+    assert_eq!(rt; (ended, at_once), (4, 1));
     assert!(rt; same_machine(&parts, &whole));
     Ok(())
 }

@@ -2,7 +2,7 @@
 
 use edge_log::{Edge, EdgeLog};
 use fixtures::{Crew, hart, image_of, recorder};
-use ft_types::{Count, Counts, Memory};
+use ft_types::{Count, Counts, Hart, Memory};
 use guest_image::{Image, Machine};
 use input_log::{Input, InputLog};
 use page_book::{Book, Leg, Mode, Recording, Replaying};
@@ -94,21 +94,30 @@ pub fn stands_at<M: Mode>(book: &Book<M>, counts: &[Count], stretches: usize) ->
     book.counts().as_slice() == counts && book.journal().len() == stretches
 }
 
+/// The edges of a hart.
+fn edges_in(book: &Book<Recording>, hart: Hart) -> &[Edge] {
+    book.edges().of_hart(hart)
+}
+
 /// Whether a book has these edges of its first two harts.
 pub fn has_edges(book: &Book<Recording>, first: &[Edge], second: &[Edge]) -> bool {
-    let edges = book.edges();
-    edges.of_hart(hart(0)) == first && edges.of_hart(hart(1)) == second
+    edges_in(book, hart(0)) == first && edges_in(book, hart(1)) == second
+}
+
+/// The inputs that a hart was given at a count.
+fn inputs_at(book: &Book<Recording>, hart: Hart, count: Count) -> &[Input] {
+    book.inputs().at(hart, count)
 }
 
 /// Whether a book has given a hart these inputs at a count.
 pub fn has_given(book: &Book<Recording>, number: u8, count: Count, inputs: &[Input]) -> bool {
-    book.inputs().at(hart(number), count) == inputs
+    inputs_at(book, hart(number), count) == inputs
 }
 
 /// Whether these are the outputs of a hart of a book.
 pub fn has_put_out<M: Mode>(book: &Book<M>, number: u8, outputs: &[(Count, u32)]) -> bool {
     let machine = book.machine();
-    number < machine.harts() && machine.hart(hart(number)).outputs() == outputs
+    number < machine.harts() && machine.hart(Hart::new(number)).outputs() == outputs
 }
 
 /// Whether two books came to the same machine.

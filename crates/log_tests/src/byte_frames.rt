@@ -69,11 +69,19 @@ fn piece(alloc: Global, harts: u8, to: u64, records: &[Record]) -> Result<Frame,
     piece_of(alloc, guest(harts), key(1, 0, 0), 0, to, records)
 }
 
+/// An input at a count, or else an edge.
+fn record(at: u64, input: Option<Input>) -> Record {
+    match input {
+        Some(input) => Record::Input(at, input),
+        None => Record::Edge(edge(0, at, 1, 9)),
+    }
+}
+
 /// Edges at the counts below 256.
 fn edges(alloc: Global) -> Result<Vec<Record>, AllocError> {
     let mut records = Vec::new(alloc);
     for at in 0..256u64 {
-        records.push(Record::Edge(edge(0, at, 1, 9)))?;
+        records.push(record(at, None))?;
     }
     Ok(records)
 }
@@ -199,7 +207,7 @@ fn opening_body(alloc: Global) -> Result<Vec<u8>, AllocError> {
 /// Frames are written as the format says, also where they are copied.
 #[test]
 fn bytes_of_frames(rt: HostRuntime) -> Result<(), Fail> {
-    let word = [Record::Input(1, Input::Word(42))];
+    let word = [record(1, Some(Input::Word(42)))];
     let opening = bytes_of(rt.alloc(), &opening()?)?;
     assert_eq!(rt; opening.bytes(), OPENING.as_slice());
     let log = bytes_of(rt.alloc(), &piece(rt.alloc(), 1, 4, &[])?)?;
@@ -302,13 +310,13 @@ fn a_changed_digest(rt: HostRuntime) -> Result<(), Fail> {
     let mut feed = Feed::new(rt.alloc())?;
     let most = bytes.get(..4707).ok_or("there are more")?;
     assert_eq!(rt; feed.push(rt.alloc(), most)?.len(), 0);
-    let last: [&[u8]; 3] = [&[0xe2], bytes, &[]];
-    for piece in last {
-        assert_eq!(rt;
-            fault_of(rt.alloc(), &mut feed, piece),
-            Some(FrameFault::Digest)
-        );
-    }
+    let faults = (
+        fault_of(rt.alloc(), &mut feed, &[0xe2]),
+        fault_of(rt.alloc(), &mut feed, bytes),
+        fault_of(rt.alloc(), &mut feed, &[]),
+    );
+    let digest = Some(FrameFault::Digest);
+    assert_eq!(rt; faults, (digest, digest, digest));
     Ok(())
 }
 
@@ -422,13 +430,9 @@ fn frame_before_fault(rt: HostRuntime) -> Result<(), Fail> {
     let mut bytes = OPENING.to_vec(rt.alloc())?;
     bytes.extend_from_slice(b"VF\x02")?;
     assert_eq!(rt; feed.push(rt.alloc(), &bytes)?.len(), 1);
-    let later: [&[u8]; 2] = [&[], &OPENING];
-    for piece in later {
-        assert_eq!(rt;
-            fault_of(rt.alloc(), &mut feed, piece),
-            Some(FrameFault::Version)
-        );
-    }
+    let version = Some(FrameFault::Version);
+    assert_eq!(rt; fault_of(rt.alloc(), &mut feed, &[]), version);
+    assert_eq!(rt; fault_of(rt.alloc(), &mut feed, &OPENING), version);
     assert_eq!(rt; FrameFault::Version.number(), 2);
     Ok(())
 }

@@ -3,17 +3,44 @@
 use fixtures::{opening_of, piece_of};
 use fragment_codec::{Frame, Key, Record};
 use ft_types::{Count, Counts, Guest, Memory, Term};
+use input_log::Input;
 use log_join::{Put, Store};
 use std::alloc::Global;
 use std::test::Fail;
 
+/// At most nine records.
+#[derive(Clone, Copy)]
+pub struct Records {
+    all: [Record; 9],
+    many: usize,
+}
+
+impl Records {
+    fn as_slice(&self) -> &[Record] {
+        let all = self.all.as_slice();
+        all.get(..self.many).unwrap_or(all)
+    }
+}
+
+/// The first nine of these records.
+pub fn told(records: &[Record]) -> Records {
+    let mut all = [Record::Input(0, Input::Timer); 9];
+    for (place, record) in all.iter_mut().zip(records) {
+        *place = *record;
+    }
+    Records {
+        all,
+        many: records.len(),
+    }
+}
+
 /// A frame that comes to a store.
 #[derive(Clone, Copy)]
-pub enum Come<'a> {
+pub enum Come {
     /// The opening of a term, its parent and its base.
     Opening(Term, Term, Counts),
     /// A piece from a count to another.
-    Piece(Key, Count, Count, &'a [Record]),
+    Piece(Key, Count, Count, Records),
 }
 
 /// A row of counts. None, where there is no such row.
@@ -33,7 +60,9 @@ pub fn guest_of(harts: u8) -> Guest {
 pub fn frame_of(alloc: Global, guest: Guest, come: Come) -> Result<Frame, Fail> {
     match come {
         Come::Opening(term, parent, base) => opening_of(guest, term, parent, base.as_slice()),
-        Come::Piece(key, from, to, records) => piece_of(alloc, guest, key, from, to, records),
+        Come::Piece(key, from, to, records) => {
+            piece_of(alloc, guest, key, from, to, records.as_slice())
+        }
     }
 }
 

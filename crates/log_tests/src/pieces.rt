@@ -192,12 +192,13 @@ fn twenty(rt: &impl Abort, alloc: Global) -> Result<EdgeLog, Memory>
     }
 }
 
-/// Whether the harts' sealed pieces go no further than these counts.
-fn is_within(sealed: &Sealed, counts: [Count; 2]) -> bool {
-    match Counts::from_slice(&counts) {
-        Some(counts) => sealed.is_within(&counts),
-        None => false,
+/// How far the second hart's sealed pieces go. None, where a hart's go further than these counts.
+fn reached(sealed: &Sealed, counts: [Count; 2]) -> Option<Count> {
+    let counts = Counts::from_slice(&counts)?;
+    if counts.harts() != 2 || !sealed.is_within(&counts) {
+        return None;
     }
+    Some(sealed.reached(Hart::new(1)))
 }
 
 /// A cut to which memory is refused seals nothing: the same cut again gives all pieces.
@@ -214,7 +215,7 @@ fn refused_cuts(rt: HostRuntime) -> Result<(), Fail> {
         }
     };
     assert!(rt; have_shapes(&frames, &[(0, 0, 0, 30, 20), (1, 0, 0, 9, 0)]));
-    assert!(rt; !is_within(&sealed, [30, 8]) && is_within(&sealed, [30, 9]));
-    assert_eq!(rt; sealed.reached(Hart::new(1)), 9);
+    assert_eq!(rt; reached(&sealed, [30, 8]), None);
+    assert_eq!(rt; reached(&sealed, [30, 9]), Some(9));
     Ok(())
 }

@@ -1,6 +1,6 @@
 //! Plans: that there is an answer where memory is there, and plans that were worked out by hand.
 
-use crate::filled::{Come, all_come, guest_of, row, store_of};
+use crate::filled::{Come, all_come, guest_of, row, store_of, told};
 use closed_cut::position;
 use edge_log::Edge;
 use fixtures::{edge, hart, key};
@@ -79,7 +79,7 @@ fn to_the_end_of_what_came(rt: HostRuntime) -> Result<(), Fail> {
     all_come(
         rt.alloc(),
         &mut store,
-        &[Come::Piece(key(1, 0, 0), 0, 5, &[])],
+        &[Come::Piece(key(1, 0, 0), 0, 5, told(&[]))],
     )?;
     let plan = plan_of(rt.alloc(), &store)?;
     assert!(rt; has_legs(&plan, &[(1, row(&[0]), row(&[5]))]));
@@ -91,13 +91,13 @@ fn edges_that_wait_for_one_another(rt: HostRuntime) -> Result<(), Fail> {
     let (forth, back) = (edge(0, 2, 1, 3), edge(1, 1, 0, 4));
     let frames = [
         Come::Opening(1, 0, row(&[0, 0])),
-        Come::Piece(key(1, 0, 0), 0, 5, &[Record::Edge(forth)]),
-        Come::Piece(key(1, 1, 0), 0, 5, &[Record::Edge(back)]),
+        Come::Piece(key(1, 0, 0), 0, 5, told(&[Record::Edge(forth)])),
+        Come::Piece(key(1, 1, 0), 0, 5, told(&[Record::Edge(back)])),
     ];
     let store = store_of(rt.alloc(), guest_of(2), &frames)?;
     let plan = plan_of(rt.alloc(), &store)?;
     assert!(rt; has_legs(&plan, &[(1, row(&[0, 0]), row(&[5, 5]))]));
-    assert!(rt; has_edges(&plan, 0, &[forth], &[back]));
+    assert!(rt; has_edges(&plan, 0, &[edge(0, 2, 1, 3)], &[edge(1, 1, 0, 4)]));
     Ok(())
 }
 
@@ -123,11 +123,16 @@ fn two_terms(alloc: Global) -> Result<Plan, Fail> {
     let frames = [
         Come::Opening(2, 1, row(&[3, 4])),
         Come::Opening(1, 0, row(&[0, 0])),
-        Come::Piece(key(1, 0, 0), 0, 3, &[Record::Input(1, Input::Word(17))]),
-        Come::Piece(key(1, 1, 0), 0, 6, &first),
-        Come::Piece(key(2, 0, 0), 3, 7, &second),
-        Come::Piece(key(2, 1, 0), 4, 6, &[]),
-        Come::Piece(key(2, 1, 1), 6, 9, &late),
+        Come::Piece(
+            key(1, 0, 0),
+            0,
+            3,
+            told(&[Record::Input(1, Input::Word(17))]),
+        ),
+        Come::Piece(key(1, 1, 0), 0, 6, told(&first)),
+        Come::Piece(key(2, 0, 0), 3, 7, told(&second)),
+        Come::Piece(key(2, 1, 0), 4, 6, told(&[])),
+        Come::Piece(key(2, 1, 1), 6, 9, told(&late)),
     ];
     plan_of(alloc, &store_of(alloc, guest_of(2), &frames)?)
 }
@@ -175,7 +180,7 @@ fn nine_inputs_in_a_row(rt: HostRuntime) -> Result<(), Fail> {
     records[8] = Record::Input(3, Input::Timer);
     let frames = [
         Come::Opening(1, 0, row(&[0])),
-        Come::Piece(key(1, 0, 0), 0, 4, &records),
+        Come::Piece(key(1, 0, 0), 0, 4, told(&records)),
     ];
     let plan = plan_of(rt.alloc(), &store_of(rt.alloc(), guest_of(1), &frames)?)?;
     assert_eq!(rt; plan.legs().len(), 1);
@@ -189,9 +194,14 @@ fn a_term_that_is_not_reached(rt: HostRuntime) -> Result<(), Fail> {
     let frames = [
         Come::Opening(2, 1, row(&[20, 20])),
         Come::Opening(1, 0, row(&[0, 0])),
-        Come::Piece(key(1, 0, 0), 0, 18, &[]),
-        Come::Piece(key(1, 1, 0), 0, 20, &[Record::Edge(edge(1, 19, 0, 19))]),
-        Come::Piece(key(2, 0, 0), 20, 30, &[]),
+        Come::Piece(key(1, 0, 0), 0, 18, told(&[])),
+        Come::Piece(
+            key(1, 1, 0),
+            0,
+            20,
+            told(&[Record::Edge(edge(1, 19, 0, 19))]),
+        ),
+        Come::Piece(key(2, 0, 0), 20, 30, told(&[])),
     ];
     let plan = plan_of(rt.alloc(), &store_of(rt.alloc(), guest_of(2), &frames)?)?;
     assert!(rt; has_legs(&plan, &[(1, row(&[0, 0]), row(&[18, 19]))]));

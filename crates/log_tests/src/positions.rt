@@ -1,9 +1,9 @@
 //! Chains and positions of stores: that there is an answer where memory is there, and the rows that were worked out by hand.
 
-use crate::filled::{Come, all_come, comes, guest_of, row, store_of};
+use crate::filled::{Come, all_come, comes, guest_of, put, row, store_of, told};
 use closed_cut::{Position, chain, position};
 use edge_log::Edge;
-use fixtures::{Dice, edge, key};
+use fixtures::{Dice, edge, key, piece_of};
 use fragment_codec::Record;
 use ft_types::{Count, Memory, Term};
 use input_log::Input;
@@ -53,9 +53,9 @@ fn three_harts(alloc: Global, to: Count) -> Result<Store, Fail> {
     let third = [Record::Edge(edge(2, 3, 1, 5)), timer(7)];
     let frames = [
         Come::Opening(1, 0, row(&[0, 0, 0])),
-        Come::Piece(key(1, 0, 0), 0, to, &[timer(to)]),
-        Come::Piece(key(1, 1, 0), 0, 9, &second),
-        Come::Piece(key(1, 2, 0), 0, 7, &third),
+        Come::Piece(key(1, 0, 0), 0, to, told(&[timer(to)])),
+        Come::Piece(key(1, 1, 0), 0, 9, told(&second)),
+        Come::Piece(key(1, 2, 0), 0, 7, told(&third)),
     ];
     store_of(alloc, guest_of(3), &frames)
 }
@@ -73,7 +73,7 @@ fn an_edge_that_is_not_met_stops_another(rt: HostRuntime) -> Result<(), Fail> {
 fn one_hart(alloc: Global, pieces: &[(u32, Count, Count)]) -> Result<Store, Fail> {
     let mut store = store_of(alloc, guest_of(1), &[Come::Opening(1, 0, row(&[0]))])?;
     for (place, from, to) in pieces {
-        let piece = Come::Piece(key(1, 0, *place), *from, *to, &[timer(*to)]);
+        let piece = Come::Piece(key(1, 0, *place), *from, *to, told(&[timer(*to)]));
         let _put = comes(alloc, &mut store, piece)?;
     }
     Ok(store)
@@ -83,7 +83,7 @@ fn one_hart(alloc: Global, pieces: &[(u32, Count, Count)]) -> Result<Store, Fail
 fn a_gap_that_is_filled_later(rt: HostRuntime) -> Result<(), Fail> {
     let mut store = one_hart(rt.alloc(), &[(0, 0, 4), (2, 7, 9)])?;
     assert!(rt; stands_at(rt.alloc(), &store, 1, 1, &[4])?);
-    let piece = Come::Piece(key(1, 0, 1), 4, 7, &[timer(7)]);
+    let piece = Come::Piece(key(1, 0, 1), 4, 7, told(&[timer(7)]));
     assert_eq!(rt; comes(rt.alloc(), &mut store, piece)?, Put::New);
     assert!(rt; stands_at(rt.alloc(), &store, 1, 1, &[9])?);
     Ok(())
@@ -93,7 +93,7 @@ fn a_gap_that_is_filled_later(rt: HostRuntime) -> Result<(), Fail> {
 fn a_place_with_two_contents(rt: HostRuntime) -> Result<(), Fail> {
     let mut store = one_hart(rt.alloc(), &[(0, 0, 4), (1, 4, 7)])?;
     assert!(rt; stands_at(rt.alloc(), &store, 1, 1, &[7])?);
-    let other = Come::Piece(key(1, 0, 1), 4, 8, &[timer(8)]);
+    let other = Come::Piece(key(1, 0, 1), 4, 8, told(&[timer(8)]));
     assert_eq!(rt; comes(rt.alloc(), &mut store, other)?, Put::Clash);
     assert!(rt; stands_at(rt.alloc(), &store, 1, 1, &[4])?);
     Ok(())
@@ -104,8 +104,8 @@ fn two_terms(alloc: Global, second: &[Record]) -> Result<Store, Fail> {
     let frames = [
         Come::Opening(2, 1, row(&[20, 20])),
         Come::Opening(1, 0, row(&[0, 0])),
-        Come::Piece(key(1, 0, 0), 0, 18, &[timer(18)]),
-        Come::Piece(key(1, 1, 0), 0, 20, second),
+        Come::Piece(key(1, 0, 0), 0, 18, told(&[timer(18)])),
+        Come::Piece(key(1, 1, 0), 0, 20, told(second)),
     ];
     store_of(alloc, guest_of(2), &frames)
 }
@@ -125,8 +125,14 @@ fn a_hart_is_short_of_the_next_base(rt: HostRuntime) -> Result<(), Fail> {
 fn a_walk_goes_on_from_the_next_base(rt: HostRuntime) -> Result<(), Fail> {
     let mut store = two_terms(rt.alloc(), &[timer(20)])?;
     for (piece, counts) in [
-        (Come::Piece(key(1, 0, 1), 18, 25, &[timer(25)]), [20, 20]),
-        (Come::Piece(key(2, 1, 0), 20, 22, &[timer(22)]), [20, 22]),
+        (
+            Come::Piece(key(1, 0, 1), 18, 25, told(&[timer(25)])),
+            [20, 20],
+        ),
+        (
+            Come::Piece(key(2, 1, 0), 20, 22, told(&[timer(22)])),
+            [20, 22],
+        ),
     ] {
         let _put = comes(rt.alloc(), &mut store, piece)?;
         assert!(rt; stands_at(rt.alloc(), &store, 2, 2, &counts)?);
@@ -211,11 +217,14 @@ fn random_row(
     Ok(edges)
 }
 
-fn records_of(alloc: Global, edges: &[Edge]) -> Result<Vec<Record>, Memory> {
+/// The records of these edges, and of an input at the last step before a count.
+fn records_of(alloc: Global, edges: &[Edge], to: Count) -> Result<Vec<Record>, Memory> {
     let mut records = Vec::new(alloc);
     for edge in edges {
         records.push(Record::Edge(*edge))?;
     }
+    let last = Input::Timer;
+    records.push(Record::Input(to.saturating_sub(1), last))?;
     Ok(records)
 }
 
@@ -226,9 +235,9 @@ fn random_store(alloc: Global, share: u32, bound: &[Count; 8]) -> Result<(Store,
     let mut all = Vec::new(alloc);
     for (number, to) in (0u8..8).zip(bound) {
         let edges = random_row(alloc, number, *to, share, &mut dice)?;
-        let records = records_of(alloc, &edges)?;
-        let piece = Come::Piece(key(1, number, 0), 0, *to, &records);
-        let _put = comes(alloc, &mut store, piece)?;
+        let records = records_of(alloc, &edges, *to)?;
+        let piece = piece_of(alloc, guest_of(8), key(1, number, 0), 0, *to, &records)?;
+        let _put = put(alloc, &mut store, &piece)?;
         all.extend_from_slice(&edges)?;
     }
     Ok((store, all))

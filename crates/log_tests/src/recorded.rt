@@ -3,7 +3,7 @@
 use crate::pieces::{Shape, have_records, have_shapes, two_harts};
 use fixtures::{Crew, hart, image_of, recorder};
 use fragment_codec::{Frame, Record, Sealed, cut_pieces};
-use ft_types::Counts;
+use ft_types::{Counts, Hart};
 use input_log::Input;
 use page_book::{Book, Keep, Recording};
 use std::alloc::Global;
@@ -27,7 +27,7 @@ fn offered(alloc: Global) -> Result<Book<Recording>, Fail> {
     if book.machine().harts() != 2 {
         return Err("harts".into());
     }
-    book.offer(hart(1), 1, Input::Word(42))
+    book.offer(Hart::new(1), 1, Input::Word(42))
         .map_err(|_| "memory")?;
     Ok(book)
 }

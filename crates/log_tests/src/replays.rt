@@ -1,10 +1,10 @@
 //! Replays that were worked out by hand.
 
-use crate::filled::{Come, all_come, comes, row};
+use crate::filled::{Come, Records, all_come, comes, row, told};
 use crate::plans::plan_of;
 use fixtures::{BOTH_STORE, HALTS, TWO_LOOPS, edge, hart, image_of, key};
 use fragment_codec::Record;
-use ft_types::{Count, Counts, PageNo};
+use ft_types::{Count, Counts, Hart, PageNo};
 use guest_image::{Image, Machine};
 use hart_replay::{ReplayFault, replay_plain};
 use input_log::Input;
@@ -30,7 +30,7 @@ fn replay_of(
 }
 
 /// A hart's end, and what is told of it until then.
-type Row<'a> = (Count, &'a [Record]);
+type Row = (Count, Records);
 
 /// A store of one term from boot, in which each hart has one piece.
 fn one_term(alloc: Global, image: &Image, rows: &[Row]) -> Result<Store, Fail> {
@@ -38,7 +38,7 @@ fn one_term(alloc: Global, image: &Image, rows: &[Row]) -> Result<Store, Fail> {
     let base = Counts::zero(image.harts());
     let _put = comes(alloc, &mut store, Come::Opening(1, 0, base))?;
     for (number, (end, records)) in (0u8..8).zip(rows) {
-        let piece = Come::Piece(key(1, number, 0), 0, *end, records);
+        let piece = Come::Piece(key(1, number, 0), 0, *end, *records);
         let _put = comes(alloc, &mut store, piece)?;
     }
     Ok(store)
@@ -64,7 +64,7 @@ fn has_counts(machine: &Machine, counts: &[Count]) -> bool {
         return false;
     }
     for number in 0..machine.harts() {
-        if counts.get(usize::from(number)) != Some(&machine.hart(hart(number)).count()) {
+        if counts.get(usize::from(number)) != Some(&machine.hart(Hart::new(number)).count()) {
             return false;
         }
     }
@@ -82,7 +82,7 @@ fn word_at(machine: &Machine, offset: u32) -> Option<u32> {
 #[test]
 fn two_harts_in_turn(rt: HostRuntime) -> Result<(), Fail> {
     let waits = [Record::Edge(edge(1, 1, 0, 2))];
-    let machine = machine_of(rt.alloc(), BOTH_STORE, &[(4, &[]), (4, &waits)])?;
+    let machine = machine_of(rt.alloc(), BOTH_STORE, &[(4, told(&[])), (4, told(&waits))])?;
     assert!(rt; has_counts(&machine, &[4, 4]));
     let words = (word_at(&machine, 0), word_at(&machine, 4));
     assert_eq!(rt; words, (Some(0x8000_1000), Some(0)));
@@ -93,7 +93,11 @@ fn two_harts_in_turn(rt: HostRuntime) -> Result<(), Fail> {
 fn harts_that_wait_for_one_another(rt: HostRuntime) -> Result<(), Fail> {
     let forth = [Record::Edge(edge(0, 2, 1, 3))];
     let back = [Record::Edge(edge(1, 1, 0, 4))];
-    let fault = fault_of(rt.alloc(), TWO_LOOPS, &[(5, &forth), (5, &back)])?;
+    let fault = fault_of(
+        rt.alloc(),
+        TWO_LOOPS,
+        &[(5, told(&forth)), (5, told(&back))],
+    )?;
     let counts = Counts::from_slice(&[2, 1]).ok_or("counts")?;
     assert_eq!(rt; fault, Some(ReplayFault::Cyclic(counts)));
     Ok(())
@@ -101,9 +105,9 @@ fn harts_that_wait_for_one_another(rt: HostRuntime) -> Result<(), Fail> {
 
 #[test]
 fn a_hart_that_halts(rt: HostRuntime) -> Result<(), Fail> {
-    let machine = machine_of(rt.alloc(), HALTS, &[(4, &[])])?;
+    let machine = machine_of(rt.alloc(), HALTS, &[(4, told(&[]))])?;
     assert!(rt; has_counts(&machine, &[4]));
-    let fault = fault_of(rt.alloc(), HALTS, &[(5, &[])])?;
+    let fault = fault_of(rt.alloc(), HALTS, &[(5, told(&[]))])?;
     assert_eq!(rt; fault, Some(ReplayFault::HaltedInside(hart(0), 4)));
     Ok(())
 }
@@ -113,7 +117,7 @@ fn words_read(machine: &Machine) -> Option<[u32; 3]> {
     if machine.harts() != 1 {
         return None;
     }
-    let registers = machine.hart(hart(0)).registers();
+    let registers = machine.hart(Hart::new(0)).registers();
     if registers.len() < 4 {
         return None;
     }
@@ -126,7 +130,7 @@ fn inputs_at_their_counts(rt: HostRuntime) -> Result<(), Fail> {
         Record::Input(1, Input::Word(42)),
         Record::Input(3, Input::Word(7)),
     ];
-    let machine = machine_of(rt.alloc(), READS_WORDS, &[(4, &words)])?;
+    let machine = machine_of(rt.alloc(), READS_WORDS, &[(4, told(&words))])?;
     assert!(rt; has_counts(&machine, &[4]));
     assert_eq!(rt; words_read(&machine), Some([42, 42, 7]));
     Ok(())
@@ -157,12 +161,12 @@ fn a_plan_of_another_guest(rt: HostRuntime) -> Result<(), Fail> {
 #[test]
 fn one_term_after_the_other(rt: HostRuntime) -> Result<(), Fail> {
     let image = image_of(rt.alloc(), BOTH_STORE)?;
-    let mut store = one_term(rt.alloc(), &image, &[(4, &[]), (1, &[])])?;
+    let mut store = one_term(rt.alloc(), &image, &[(4, told(&[])), (1, told(&[]))])?;
     let waits = [Record::Edge(edge(1, 1, 0, 4))];
     let more = [
         Come::Opening(2, 1, row(&[3, 1])),
-        Come::Piece(key(2, 0, 0), 3, 4, &[]),
-        Come::Piece(key(2, 1, 0), 1, 3, &waits),
+        Come::Piece(key(2, 0, 0), 3, 4, told(&[])),
+        Come::Piece(key(2, 1, 0), 1, 3, told(&waits)),
     ];
     all_come(rt.alloc(), &mut store, &more)?;
     let machine = replay_of(rt.alloc(), &image, &store)?

@@ -1,6 +1,6 @@
 //! Stores that frames come to, and their joins.
 
-use crate::filled::{Come, come_so, comes, frame_of, put, row, store_of};
+use crate::filled::{Come, come_so, comes, frame_of, put, row, store_of, told};
 use fixtures::key;
 use fragment_codec::{Frame, Key, Record};
 use ft_types::{Count, Guest, Memory, Term};
@@ -21,8 +21,8 @@ fn timer() -> [Record; 1] {
     [Record::Input(0, Input::Timer)]
 }
 
-fn log(key: Key, from: Count, to: Count) -> Come<'static> {
-    Come::Piece(key, from, to, &[])
+fn log(key: Key, from: Count, to: Count) -> Come {
+    Come::Piece(key, from, to, told(&[]))
 }
 
 /// The count to which the one fragment goes: 0 where there is none, 1 where there are several.
@@ -66,7 +66,7 @@ fn copy_of(alloc: Global, store: &Store) -> Result<Store, Memory> {
 }
 
 /// How many clashes a store has, and its last term.
-fn told(store: &Store) -> (usize, Term) {
+fn marks(store: &Store) -> (usize, Term) {
     (store.clashes(), store.last_term())
 }
 
@@ -81,7 +81,7 @@ fn are_same(alloc: Global, one: &Store, other: &Store) -> Result<bool, Fail> {
             return Ok(false);
         }
     }
-    Ok(told(one) == told(other))
+    Ok(marks(one) == marks(other))
 }
 
 /// An opening and two fragments in their order.
@@ -90,7 +90,7 @@ fn filled(alloc: Global) -> Result<Store, Fail> {
     let frames = [
         Come::Opening(1, 0, row(&[0, 0])),
         log(key(1, 0, 0), 0, 4),
-        Come::Piece(key(1, 1, 0), 0, 3, &timed),
+        Come::Piece(key(1, 1, 0), 0, 3, told(&timed)),
     ];
     store_of(alloc, guest(1), &frames)
 }
@@ -105,7 +105,7 @@ fn pieces_are_put_once(rt: HostRuntime) -> Result<(), Fail> {
     assert_eq!(rt; end(&store, first), 0);
     let rows = [
         (log(first, 0, 4), Put::New),
-        (Come::Piece(first, 0, 4, &timed), Put::Clash),
+        (Come::Piece(first, 0, 4, told(&timed)), Put::Clash),
         (log(first, 0, 4), Put::Clash),
     ];
     assert_eq!(rt; come_so(rt.alloc(), &mut store, &rows)?, rows.len());
@@ -123,13 +123,13 @@ fn openings_are_put_once(rt: HostRuntime) -> Result<(), Fail> {
         (Come::Opening(1, 0, row(&[0, 0])), Put::New),
         (Come::Opening(1, 0, row(&[0, 0])), Put::Same),
         (log(key(1, 0, 0), 0, 4), Put::New),
-        (Come::Piece(key(1, 0, 0), 0, 4, &timed), Put::Clash),
+        (Come::Piece(key(1, 0, 0), 0, 4, told(&timed)), Put::Clash),
         (Come::Opening(3, 1, row(&[4, 4])), Put::New),
         (Come::Opening(3, 1, row(&[5, 5])), Put::Clash),
     ];
     assert_eq!(rt; come_so(rt.alloc(), &mut store, &rows)?, rows.len());
     let parents = [parent(&store, 1), parent(&store, 2), parent(&store, 3)];
-    assert_eq!(rt; (parents, told(&store)), ([0, 98, 99], (2, 3)));
+    assert_eq!(rt; (parents, marks(&store)), ([0, 98, 99], (2, 3)));
     assert_eq!(rt; terms_of(rt.alloc(), &store)?.as_slice(), [1].as_slice());
     Ok(())
 }
@@ -161,13 +161,13 @@ fn two_contents_clash_in_either_order(rt: HostRuntime) -> Result<(), Fail> {
     let mut one = filled(rt.alloc())?;
     let mut other = Store::new(rt.alloc(), guest(1));
     let rows = [
-        (Come::Piece(first, 0, 4, &timed), Put::New),
+        (Come::Piece(first, 0, 4, told(&timed)), Put::New),
         (log(first, 0, 4), Put::Clash),
         (Come::Opening(1, 0, row(&[0, 0])), Put::New),
-        (Come::Piece(key(1, 1, 0), 0, 3, &timed), Put::New),
+        (Come::Piece(key(1, 1, 0), 0, 3, told(&timed)), Put::New),
     ];
     assert_eq!(rt; come_so(rt.alloc(), &mut other, &rows)?, rows.len());
-    let clash = comes(rt.alloc(), &mut one, Come::Piece(first, 0, 4, &timed))?;
+    let clash = comes(rt.alloc(), &mut one, Come::Piece(first, 0, 4, told(&timed)))?;
     assert_eq!(rt; (clash, one.clashes()), (Put::Clash, 1));
     assert!(rt; are_same(rt.alloc(), &one, &other)?);
     Ok(())
@@ -236,10 +236,10 @@ fn copy_of_frame(alloc: Global, frame: &Frame) -> Result<Frame, Memory> {
 fn put_anyway(alloc: Global, store: &mut Store, come: Come) -> Result<bool, Fail> {
     let frame = frame_of(alloc, guest(1), come)?;
     let again = copy_of_frame(alloc, &frame)?;
-    let before = told(store);
+    let before = marks(store);
     match store.put(frame) {
         Ok(answer) => Ok(answer == Put::New),
-        Err(Memory) => Ok(told(store) == before && store.put(again)? == Put::New),
+        Err(Memory) => Ok(marks(store) == before && store.put(again)? == Put::New),
     }
 }
 
@@ -273,7 +273,7 @@ fn two_stores(alloc: Global) -> Result<(Store, Store), Fail> {
 fn summary(alloc: Global, store: &Store) -> Result<[u64; 5], Fail> {
     let terms = terms_of(alloc, store)?.len() as u64;
     let keys = keys_of(alloc, store)?.len() as u64;
-    let (clashes, last) = told(store);
+    let (clashes, last) = marks(store);
     Ok([
         terms,
         keys,
