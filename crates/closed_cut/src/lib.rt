@@ -11,6 +11,3 @@ pub use ancestry::{chain, opening_of};
 pub use answer::Position;
 pub use gathering::piece_from;
 pub use walk::position;
-
-#[cfg(test)]
-mod tests;

@@ -7,8 +7,6 @@ ghost use Rattle.crew_pages.specs.Page.{Begins, KeepsGoingOn, KeepsGivingUp, Kee
 ghost use Rattle.crew_pages.specs.Page.{OwesSettled, PutsBefore, OneWriter, GivesIt};
 
 mod right;
-#[cfg(test)]
-mod tests;
 
 pub use right::{Ask, LastWriter, PageRight};
 

@@ -3,8 +3,6 @@
 
 mod log;
 mod row;
-#[cfg(test)]
-mod tests;
 
 use ft_types::{Count, Hart};
 pub use log::EdgeLog;

@@ -23,10 +23,3 @@ pub use laws::{any_cutting, lasting_fault, one_fault, one_reading, one_spelling,
 pub use sealed::Sealed;
 pub use types::{Key, Record};
 pub use writing::write_frame;
-
-#[cfg(test)]
-mod book_tests;
-#[cfg(test)]
-mod cutting_tests;
-#[cfg(test)]
-mod tests;

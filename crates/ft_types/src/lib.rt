@@ -24,6 +24,3 @@ pub use names::{
 };
 pub use sets::{HartSet, KeeperSet, NumberSet};
 pub use text::{first_line, read_number, read_word, word_text};
-
-#[cfg(test)]
-mod tests;

@@ -4,4 +4,3 @@ pub mod BootFacts
 pub mod MachineFacts
 pub mod RamFacts
 pub mod TextFacts
-pub mod OpenPages

@@ -12,6 +12,3 @@ pub use fault::ImageFault;
 pub use image::{Image, read_image};
 pub use machine::Machine;
 pub use page::Page;
-
-#[cfg(test)]
-mod tests;

@@ -14,8 +14,3 @@ pub use laws::{honest_plans, honest_primaries};
 pub use plain::replay_plain;
 pub use planning::plan;
 pub use plans::{Plan, PlannedLeg};
-
-#[cfg(test)]
-mod plain_tests;
-#[cfg(test)]
-mod tests;

@@ -8,8 +8,6 @@ mod desk;
 mod log;
 mod queue;
 mod row;
-#[cfg(test)]
-mod tests;
 
 pub use desk::Desk;
 use ft_types::{Count, Hart};

@@ -7,6 +7,3 @@ mod script;
 
 pub use fault::ScriptFault;
 pub use script::{Offered, read_script};
-
-#[cfg(test)]
-mod tests;

@@ -9,9 +9,6 @@ ghost use Rattle.lease_ledger.specs.Laws.{KeepsOrder, MayAddNext, KeepsRights, H
 ghost use Rattle.lease_ledger.specs.Laws.{LeasesGoOn, NoneIsForeign, TicksGoOn, LendsMore};
 ghost use Rattle.lease_ledger.specs.Examples.{SideBySide, ForgetsCounts};
 
-#[cfg(test)]
-mod tests;
-
 /// Over every list of calls, with several leases open at once and whatever values of a lease's type are handed in: the
 /// machine is the run of the journal, and the log is honest for it.
 pub fn honest_ledger<H, P, I>()

@@ -9,8 +9,6 @@ mod place;
 mod shelf;
 mod shelves;
 mod store;
-#[cfg(test)]
-mod tests;
 
 pub use answers::{Found, Put, StoreFault};
 pub use laws::{joins_of_cells, joins_of_stores};

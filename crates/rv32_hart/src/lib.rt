@@ -18,8 +18,3 @@ pub use pages::Pages;
 pub use registers::{Csrs, Received};
 pub use state::HartState;
 pub use step::{tick, tick_running, tick_with};
-
-#[cfg(test)]
-mod output_tests;
-#[cfg(test)]
-mod tests;

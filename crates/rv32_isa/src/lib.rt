@@ -12,6 +12,3 @@ pub use encoding::encode;
 pub use instruction::{Comparison, CsrOp, ImmOp, Instr, LoadKind, RegOp, ShiftOp, StoreKind};
 pub use operands::{BranchOffset, CsrNumber, Imm12, JumpOffset, Reg, ShiftAmount, Uimm5, UpperImm};
 pub use zaamo::AmoOp;
-
-#[cfg(test)]
-mod tests;

@@ -1,0 +1,189 @@
+//! Records that fall by chance, and their replays in several orders.
+
+use crate::starts::{recording, replayer, same_machine};
+use edge_log::EdgeLog;
+use fixtures::{Crew, Dice, hart, image_of};
+use ft_types::{Count, Counts, Memory};
+use guest_image::Image;
+use input_log::InputLog;
+use page_book::{Book, Keep, Mode, Recording, Replaying};
+use std::alloc::Global;
+use std::test::Fail;
+
+/// Six times over each hart adds to a word of one of two pages, or loads it: which one, and what it adds, is made of what it
+/// loaded before. One of these words lies in the code's page. Then it halts.
+static MIXES: &[u8] =
+    b"800010b7\n80008093\n00600113\nf14021f3\n00118193\n0011f293\n00c29293\n001282b3\n0021f313\n00030663\n0032a3af\n0080006f\n0002a383\n00319413\n008181b3\n007181b3\n00518193\nfff10113\nfc0116e3\nf0000237\n00022a23\n";
+
+fn mixing_text(alloc: Global, harts: u8) -> Result<Vec<u8>, Memory> {
+    let head: &[u8] = match harts {
+        2 => b"harts 2\npages 2\n",
+        3 => b"harts 3\npages 2\n",
+        _ => b"harts 4\npages 2\n",
+    };
+    let mut text = Vec::new(alloc);
+    text.extend_from_slice(head)?;
+    text.extend_from_slice(MIXES)?;
+    Ok(text)
+}
+
+/// The file of so many harts that mix what they load.
+fn mixing(alloc: Global, harts: u8) -> Result<Vec<u8>, Fail> {
+    match mixing_text(alloc, harts) {
+        Ok(text) => Ok(text),
+        Err(_) => Ok(mixing_text(alloc, harts).map_err(|_| "memory")?),
+    }
+}
+
+/// Lends a hart that has no open lease, lets it go on, settles it or discards it, as the dice fall.
+fn turn<M: Mode>(crew: &mut Crew<M>, alloc: Global, dice: &mut Dice) {
+    let hart = hart(dice.roll() % 4);
+    let _answer = match dice.roll() % 10 {
+        0 => crew.settle(hart, Keep::All),
+        1 => crew.settle(hart, Keep::Readable),
+        2 => crew.settle(hart, Keep::Nothing),
+        3 => crew.discard(hart),
+        _ => {
+            let lent = crew.lend(alloc, hart);
+            let _steps = crew.go(hart, u32::from(dice.roll() % 8));
+            lent
+        }
+    };
+}
+
+fn turns<M: Mode>(crew: &mut Crew<M>, alloc: Global, seed: u64) {
+    let mut dice = Dice::new(seed);
+    for _turn in 0..600 {
+        turn(crew, alloc, &mut dice);
+    }
+}
+
+/// A book that has recorded many turns. There, harts have waited for one another.
+fn recorded_turns(
+    alloc: Global,
+    file: &[u8],
+    limit: Count,
+    seed: u64,
+) -> Result<Book<Recording>, Fail> {
+    let mut crew = recording(alloc, file, &[limit; 8])?;
+    turns(&mut crew, alloc, seed);
+    let (waits, refusals) = (crew.waits, crew.refusals);
+    let book = crew.end();
+    if waits > 0 && refusals < 2 {
+        Ok(book)
+    } else {
+        Err("turns".into())
+    }
+}
+
+/// Which hart goes next.
+#[derive(Clone, Copy, Debug, PartialEq, Eq)]
+enum Order {
+    /// The next one up.
+    Rising,
+    /// The next one down.
+    Falling,
+    /// One by chance, with several open leases, and later the next one up.
+    Mixed,
+}
+
+/// Lets each hart in turn go as far as it may. Says how many steps they took.
+fn go_once<M: Mode>(crew: &mut Crew<M>, alloc: Global, order: Order) -> u64 {
+    let mut steps = 0u64;
+    for place in 0..4u8 {
+        let number = if order == Order::Falling {
+            3 - place
+        } else {
+            place
+        };
+        let taken = crew.run(alloc, hart(number), Keep::All);
+        steps = steps.saturating_add(taken.unwrap_or(0));
+    }
+    steps
+}
+
+/// The same, until none goes on.
+fn go_round<M: Mode>(crew: &mut Crew<M>, alloc: Global, order: Order) {
+    for _round in 0..1000 {
+        if go_once(crew, alloc, order) == 0 {
+            return;
+        }
+    }
+}
+
+/// A replay of these edges up to these counts, in this order.
+fn replayed(
+    alloc: Global,
+    image: &Image,
+    ends: Counts,
+    edges: &EdgeLog,
+    order: Order,
+) -> Result<Book<Replaying>, Fail> {
+    let none = InputLog::new(alloc);
+    let mut crew = Crew::new(replayer(alloc, image, ends, edges, &none)?);
+    if order == Order::Mixed {
+        turns(&mut crew, alloc, 99);
+        crew = Crew::new(crew.end());
+    }
+    go_round(&mut crew, alloc, order);
+    Ok(crew.end())
+}
+
+/// Whether a replay in this order comes to the recorded counts and machine.
+fn comes_out(
+    alloc: Global,
+    file: &[u8],
+    recorded: &Book<Recording>,
+    order: Order,
+) -> Result<bool, Fail> {
+    let image = image_of(alloc, file)?;
+    let ends = recorded.counts();
+    let book = replayed(alloc, &image, ends, recorded.edges(), order)?;
+    Ok(book.counts() == ends && same_machine(&book, recorded))
+}
+
+/// Whether each replay of what such turns recorded does.
+fn all_come_out(alloc: Global, file: &[u8], limit: Count, seed: u64) -> Result<bool, Fail> {
+    let recorded = recorded_turns(alloc, file, limit, seed)?;
+    for order in [Order::Rising, Order::Falling, Order::Mixed] {
+        if !comes_out(alloc, file, &recorded, order)? {
+            return Ok(false);
+        }
+    }
+    Ok(true)
+}
+
+#[test]
+fn each_replay_of_a_log_leads_to_the_recorded_machine(rt: HostRuntime) -> Result<(), Fail> {
+    for harts in [2, 3, 4] {
+        let file = mixing(rt.alloc(), harts)?;
+        for (seed, limit) in [(1, 1000), (2, 30), (3, 1000), (4, 1000), (5, 60), (6, 1000)] {
+            assert!(rt;
+                all_come_out(rt.alloc(), &file, limit, seed)?,
+                "{harts} {seed}"
+            );
+        }
+    }
+    Ok(())
+}
+
+/// A replay of what a book recorded, without its edges.
+fn without_edges(
+    alloc: Global,
+    file: &[u8],
+    recorded: &Book<Recording>,
+) -> Result<Book<Replaying>, Fail> {
+    let image = image_of(alloc, file)?;
+    let ends = recorded.counts();
+    let none = EdgeLog::new(alloc, Counts::zero(ends.harts()));
+    replayed(alloc, &image, ends, &none, Order::Rising)
+}
+
+#[test]
+fn without_its_edges_a_log_leads_elsewhere(rt: HostRuntime) -> Result<(), Fail> {
+    let file = mixing(rt.alloc(), 3)?;
+    let recorded = recorded_turns(rt.alloc(), &file, 1000, 1)?;
+    let book = without_edges(rt.alloc(), &file, &recorded)?;
+    assert!(rt; !same_machine(&book, &recorded));
+    Ok(())
+}

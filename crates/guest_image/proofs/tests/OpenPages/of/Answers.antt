@@ -1,8 +1,0 @@
-use Rattle.guest_image.proofs.OpenPages.{next_page}
-use Rattle.guest_image.proofs.tests.OpenPages.of.Goals as goal
-
-pub loop-number-preserved : goal.loop-number-preserved
-loop-number-preserved c =
-    next_page c.args.machine.now.pages c.loop-number.pages.items c.push.new.self.items c.loop-number.number
-    c.new.result c.page.result.now c.in_ok-copy.field-0 c.new.ensures c.page.ensures c.in_ok-copy.ensures
-    c.in_ok-push.ensures.items c.loop-number.invariant
