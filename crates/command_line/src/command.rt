@@ -1,6 +1,6 @@
 //! The commands of the program.
 
-ghost use Rattle.std.specs.Prelude.{IfOk};
+ghost use Rattle.std.specs.Prelude.{◌≡◌, length, IfOk};
 ghost use Rattle.input_script.specs.Script.{AreOffered};
 
 use crate::faults::{CommandFault, status_of, write_fault, write_words_fault};
@@ -15,6 +15,7 @@ use log_streams::{
     StreamsFault, frames_of, read_store, replay_streams, run_primary, write_frames, write_position,
     write_size, write_store,
 };
+use page_book::{Book, Recording};
 use std::alloc::Global;
 
 /// How many bytes of a file are read at once.
@@ -166,6 +167,35 @@ fn tell_position<W: Sink>(alloc: Global, store: &Store, out: &mut W) -> Result<(
     written(write_position(&terms, &position, out))
 }
 
+/// Runs a primary with what the request's script offers.
+fn run_script<F: Files>(
+    alloc: Global,
+    image: &Image,
+    budget: u32,
+    request: &Request<'_>,
+    files: &mut F,
+) -> Result<Book<Recording>, CommandFault>
+    ensures { IfOk result (λ b. length b.machine.harts ≡ image.now.harts) }
+{
+    let script = read_script_file(alloc, request, image.harts(), files)?;
+    Ok(run_primary(alloc, image, &script, budget)?)
+}
+
+/// Writes the frames of a primary to the file that is made.
+fn write_log<F: Files>(
+    alloc: Global,
+    image: &Image,
+    book: &Book<Recording>,
+    request: &Request<'_>,
+    files: &mut F,
+) -> Result<(), CommandFault>
+    requires { length book.now.machine.harts ≡ image.now.harts }
+{
+    let frames = frames_of(alloc, image, book)?;
+    let mut made = make_file(request, files)?;
+    Ok(write_frames(&frames, &mut made)?)
+}
+
 /// Runs a primary, writes its frames to the file that is made, and then the text of its machine.
 fn record<F: Files, W: Sink>(
     alloc: Global,
@@ -175,11 +205,8 @@ fn record<F: Files, W: Sink>(
     files: &mut F,
     out: &mut W,
 ) -> Result<(), CommandFault> {
-    let script = read_script_file(alloc, request, image.harts(), files)?;
-    let book = run_primary(alloc, image, &script, budget)?;
-    let frames = frames_of(alloc, image, &book)?;
-    let mut made = make_file(request, files)?;
-    write_frames(&frames, &mut made)?;
+    let book = run_script(alloc, image, budget, request, files)?;
+    write_log(alloc, image, &book, request, files)?;
     written(book.machine().write_text(out))
 }
 

@@ -122,31 +122,45 @@ fn words<'a>(alloc: Global, name: &'a str) -> Arg<'a> {
     word(alloc, name).num_args(1..=8)
 }
 
-/// A command with an image and these arguments.
+/// A command with an image.
 fn form<'a>(alloc: Global, name: &'a str) -> Result<Command<'a>, AllocError> {
     Command::new(alloc, name)
         .disable_help_flag(true)
         .arg(word(alloc, "image"))
 }
 
-fn forms<'a>(alloc: Global) -> Result<Command<'a>, AllocError> {
-    let replay = form(alloc, "replay")?.arg(words(alloc, "logs"))?;
-    let join = form(alloc, "join")?
+/// A command with an image and logs.
+fn form_of_logs<'a>(alloc: Global, name: &'a str) -> Result<Command<'a>, AllocError> {
+    form(alloc, name)?.arg(words(alloc, "logs"))
+}
+
+fn join_form<'a>(alloc: Global) -> Result<Command<'a>, AllocError> {
+    form(alloc, "join")?
         .arg(word(alloc, "made"))?
-        .arg(words(alloc, "logs"))?;
-    let cut = form(alloc, "cut")?.arg(words(alloc, "logs"))?;
-    let run = form(alloc, "run")?
+        .arg(words(alloc, "logs"))
+}
+
+fn run_form<'a>(alloc: Global) -> Result<Command<'a>, AllocError> {
+    form(alloc, "run")?
         .arg(word(alloc, "script"))?
         .arg(word(alloc, "budget"))?
-        .arg(word(alloc, "made"))?;
+        .arg(word(alloc, "made"))
+}
+
+/// The program, without its commands.
+fn program<'a>(alloc: Global) -> Command<'a> {
     Command::new(alloc, "workbench")
         .no_binary_name(true)
         .disable_help_flag(true)
         .disable_help_subcommand(true)
-        .subcommand(replay)?
-        .subcommand(join)?
-        .subcommand(cut)?
-        .subcommand(run)
+}
+
+fn forms<'a>(alloc: Global) -> Result<Command<'a>, AllocError> {
+    program(alloc)
+        .subcommand(form_of_logs(alloc, "replay")?)?
+        .subcommand(join_form(alloc)?)?
+        .subcommand(form_of_logs(alloc, "cut")?)?
+        .subcommand(run_form(alloc)?)
 }
 
 /// The names of the logs.
