@@ -10,7 +10,7 @@ use input_script::ScriptFault;
 use log_streams::{StreamsFault, write_numbered};
 
 /// Why a command failed.
-#[derive(Clone, Copy, Debug, PartialEq, Eq)]
+#[derive(Clone, Copy)]
 pub enum CommandFault {
     /// The words have no form that there is.
     Usage,

@@ -2,11 +2,11 @@
 //! status.
 #![tactic(auto)]
 
-mod command;
+mod commands;
 mod faults;
 mod files;
 mod words;
 
-pub use command::{command, no_request};
+pub use commands::{command, no_request};
 pub use files::Files;
 pub use words::WordsFault;

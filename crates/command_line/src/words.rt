@@ -8,28 +8,28 @@ use std::alloc::{AllocError, Global};
 /// The number of steps that a run may ask of each hart, at the most.
 const BUDGET_LIMIT: u32 = 1_000_000;
 
-/// A request.
-#[derive(Drop, Debug, PartialEq, Eq)]
-pub enum Request<'a> {
-    /// Replay the logs of an image.
-    Replay {
-        image: &'a str,
-        logs: Vec<&'a str>,
-    },
-    /// Join the logs of an image, and write what they hold to a file.
+/// A request: something to do with an image.
+#[derive(Drop)]
+pub struct Request<'a> {
+    image: &'a str,
+    /// What is to be done.
+    pub task: Task<'a>,
+}
+
+/// What is to be done.
+#[derive(Drop)]
+pub enum Task<'a> {
+    /// Replay these logs.
+    Replay(Vec<&'a str>),
+    /// Join these logs, and write what they hold to a file.
     Join {
-        image: &'a str,
         made: &'a str,
         logs: Vec<&'a str>,
     },
-    /// Tell how far the logs of an image reach.
-    Cut {
-        image: &'a str,
-        logs: Vec<&'a str>,
-    },
-    /// Run a primary of an image, and write its frames to a file.
+    /// Tell how far these logs reach.
+    Cut(Vec<&'a str>),
+    /// Run a primary, and write its frames to a file.
     Run {
-        image: &'a str,
         script: &'a str,
         /// The limit of each hart, 1 to `BUDGET_LIMIT`.
         budget: u32,
@@ -38,7 +38,7 @@ pub enum Request<'a> {
 }
 
 /// A file that a request names.
-#[derive(Clone, Copy, Debug, PartialEq, Eq)]
+#[derive(Clone, Copy)]
 pub enum NamedFile {
     Image,
     /// The log with this number, from 0 on.
@@ -53,35 +53,36 @@ impl<'a> Request<'a> {
     /// The name of a file: empty where the request names no such file.
     pub fn name(&self, file: NamedFile) -> &'a str {
         match file {
-            NamedFile::Image => self.image(),
-            NamedFile::Log(number) => self.log(number),
-            NamedFile::Script => match self {
-                Request::Run { script, .. } => script,
-                _ => "",
-            },
-            NamedFile::Made => match self {
-                Request::Join { made, .. } => made,
-                Request::Run { made, .. } => made,
-                _ => "",
-            },
+            NamedFile::Image => self.image,
+            NamedFile::Log(number) => self.task.log(number),
+            NamedFile::Script => self.task.script(),
+            NamedFile::Made => self.task.made(),
         }
     }
+}
 
-    fn image(&self) -> &'a str {
-        match self {
-            Request::Replay { image, .. } => image,
-            Request::Join { image, .. } => image,
-            Request::Cut { image, .. } => image,
-            Request::Run { image, .. } => image,
-        }
-    }
-
+impl<'a> Task<'a> {
     fn log(&self, number: usize) -> &'a str {
         match self {
-            Request::Replay { logs, .. } => name_at(logs, number),
-            Request::Join { logs, .. } => name_at(logs, number),
-            Request::Cut { logs, .. } => name_at(logs, number),
-            Request::Run { .. } => "",
+            Task::Replay(logs) => name_at(logs, number),
+            Task::Join { logs, .. } => name_at(logs, number),
+            Task::Cut(logs) => name_at(logs, number),
+            Task::Run { .. } => "",
+        }
+    }
+
+    fn script(&self) -> &'a str {
+        match self {
+            Task::Run { script, .. } => script,
+            _ => "",
+        }
+    }
+
+    fn made(&self) -> &'a str {
+        match self {
+            Task::Join { made, .. } => made,
+            Task::Run { made, .. } => made,
+            _ => "",
         }
     }
 }
@@ -113,54 +114,64 @@ fn fault_of(error: Error) -> WordsFault {
     }
 }
 
-fn word<'a>(alloc: Global, name: &'a str) -> Arg<'a> {
-    Arg::new(alloc, name).required(true).action(ArgAction::Set)
+/// The command with a word more.
+fn with_word<'a>(
+    alloc: Global,
+    command: Command<'a>,
+    name: &'a str,
+) -> Result<Command<'a>, AllocError> {
+    command.arg(Arg::new(alloc, name).required(true).action(ArgAction::Set))
 }
 
-/// One to eight words.
-fn words<'a>(alloc: Global, name: &'a str) -> Arg<'a> {
-    word(alloc, name).num_args(1..=8)
+/// The command with one to eight logs more.
+fn with_logs<'a>(alloc: Global, command: Command<'a>) -> Result<Command<'a>, AllocError> {
+    let logs = Arg::new(alloc, "logs")
+        .required(true)
+        .action(ArgAction::Set)
+        .num_args(1..=8);
+    command.arg(logs)
 }
 
 /// A command with an image.
 fn form<'a>(alloc: Global, name: &'a str) -> Result<Command<'a>, AllocError> {
-    Command::new(alloc, name)
-        .disable_help_flag(true)
-        .arg(word(alloc, "image"))
+    let command = Command::new(alloc, name).disable_help_flag(true);
+    with_word(alloc, command, "image")
 }
 
 /// A command with an image and logs.
 fn form_of_logs<'a>(alloc: Global, name: &'a str) -> Result<Command<'a>, AllocError> {
-    form(alloc, name)?.arg(words(alloc, "logs"))
+    with_logs(alloc, form(alloc, name)?)
 }
 
 fn join_form<'a>(alloc: Global) -> Result<Command<'a>, AllocError> {
-    form(alloc, "join")?
-        .arg(word(alloc, "made"))?
-        .arg(words(alloc, "logs"))
+    let join = with_word(alloc, form(alloc, "join")?, "made")?;
+    with_logs(alloc, join)
 }
 
 fn run_form<'a>(alloc: Global) -> Result<Command<'a>, AllocError> {
-    form(alloc, "run")?
-        .arg(word(alloc, "script"))?
-        .arg(word(alloc, "budget"))?
-        .arg(word(alloc, "made"))
+    let run = with_word(alloc, form(alloc, "run")?, "script")?;
+    let run = with_word(alloc, run, "budget")?;
+    with_word(alloc, run, "made")
 }
 
-/// The program, without its commands.
-fn program<'a>(alloc: Global) -> Command<'a> {
+/// The program without its commands.
+fn bare_program<'a>(alloc: Global) -> Command<'a> {
     Command::new(alloc, "workbench")
         .no_binary_name(true)
         .disable_help_flag(true)
         .disable_help_subcommand(true)
 }
 
+/// The program with a command more.
+fn with_form<'a>(program: Command<'a>, form: Command<'a>) -> Result<Command<'a>, AllocError> {
+    program.subcommand(form)
+}
+
 fn forms<'a>(alloc: Global) -> Result<Command<'a>, AllocError> {
-    program(alloc)
-        .subcommand(form_of_logs(alloc, "replay")?)?
-        .subcommand(join_form(alloc)?)?
-        .subcommand(form_of_logs(alloc, "cut")?)?
-        .subcommand(run_form(alloc)?)
+    let program = with_form(bare_program(alloc), form_of_logs(alloc, "replay")?)?;
+    let program = with_form(program, join_form(alloc)?)?;
+    let program = with_form(program, form_of_logs(alloc, "cut")?)?;
+    with_form(program, run_form(alloc)?)
 }
 
 /// The names of the logs.
@@ -185,33 +196,52 @@ fn read_budget(word: &str) -> Result<u32, WordsFault> {
     }
 }
 
+fn join_of<'a>(alloc: Global, matches: &ArgMatches<'a>) -> Result<Task<'a>, WordsFault> {
+    let made = word_of(matches, "made")?;
+    let logs = logs_of(alloc, matches)?;
+    Ok(Task::Join { made, logs })
+}
+
+fn run_of<'a>(matches: &ArgMatches<'a>) -> Result<Task<'a>, WordsFault> {
+    let script = word_of(matches, "script")?;
+    let budget = read_budget(word_of(matches, "budget")?)?;
+    let made = word_of(matches, "made")?;
+    Ok(Task::Run {
+        script,
+        budget,
+        made,
+    })
+}
+
+fn task_of<'a>(
+    alloc: Global,
+    command: &str,
+    matches: &ArgMatches<'a>,
+) -> Result<Task<'a>, WordsFault> {
+    match command {
+        "replay" => Ok(Task::Replay(logs_of(alloc, matches)?)),
+        "join" => join_of(alloc, matches),
+        "cut" => Ok(Task::Cut(logs_of(alloc, matches)?)),
+        "run" => run_of(matches),
+        _ => Err(WordsFault::Usage),
+    }
+}
+
 fn request_of<'a>(
     alloc: Global,
     command: &str,
     matches: &ArgMatches<'a>,
 ) -> Result<Request<'a>, WordsFault> {
     let image = word_of(matches, "image")?;
-    match command {
-        "replay" => {
-            let logs = logs_of(alloc, matches)?;
-            Ok(Request::Replay { image, logs })
-        }
-        "join" => {
-            let made = word_of(matches, "made")?;
-            let logs = logs_of(alloc, matches)?;
-            Ok(Request::Join { image, made, logs })
-        }
-        "cut" => {
-            let logs = logs_of(alloc, matches)?;
-            Ok(Request::Cut { image, logs })
-        }
-        "run" => Ok(Request::Run {
-            image,
-            script: word_of(matches, "script")?,
-            budget: read_budget(word_of(matches, "budget")?)?,
-            made: word_of(matches, "made")?,
-        }),
-        _ => Err(WordsFault::Usage),
+    let task = task_of(alloc, command, matches)?;
+    Ok(Request { image, task })
+}
+
+/// What clap finds in the words.
+fn matches_of<'a>(alloc: Global, words: &'a [String]) -> Result<ArgMatches<'a>, WordsFault> {
+    match forms(alloc)?.try_get_matches_from(words) {
+        Ok(matches) => Ok(matches),
+        Err(error) => Err(fault_of(error)),
     }
 }
 
@@ -220,11 +250,7 @@ pub fn read_words<'a>(alloc: Global, words: &'a [String]) -> Result<Request<'a>,
     if words.iter().any(|word| word.as_str().starts_with('-')) {
         return Err(WordsFault::Usage);
     }
-    let matches = match forms(alloc)?.try_get_matches_from(words) {
-        Ok(matches) => matches,
-        Err(error) => return Err(fault_of(error)),
-    };
-    match matches.subcommand() {
+    match matches_of(alloc, words)?.subcommand() {
         Some((command, inner)) => request_of(alloc, command, inner),
         None => Err(WordsFault::Usage),
     }

@@ -5,7 +5,7 @@ ghost use Rattle.input_script.specs.Script.{AreOffered};
 
 use crate::faults::{CommandFault, status_of, write_fault, write_words_fault};
 use crate::files::Files;
-use crate::words::{NamedFile, Request, WordsFault, read_words};
+use crate::words::{NamedFile, Request, Task, WordsFault, read_words};
 use closed_cut::{chain, position};
 use ft_types::{Failed, Sink, Source};
 use guest_image::{Image, read_image};
@@ -22,7 +22,7 @@ use std::alloc::Global;
 const PIECE: usize = 4096;
 
 /// Why a file was not read.
-#[derive(Clone, Copy, Debug, PartialEq, Eq)]
+#[derive(Clone, Copy)]
 enum FileFault {
     Failed,
     Memory,
@@ -217,14 +217,14 @@ fn run<F: Files, W: Sink>(
     out: &mut W,
 ) -> Result<(), CommandFault> {
     let image = read_image_file(alloc, request, files)?;
-    match request {
-        Request::Replay { logs, .. } => replay_logs(alloc, &image, logs, files, out),
-        Request::Join { logs, .. } => {
+    match &request.task {
+        Task::Replay(logs) => replay_logs(alloc, &image, logs, files, out),
+        Task::Join { logs, .. } => {
             let store = read_logs(alloc, &image, logs, files)?;
             write_joined(alloc, &store, request, files, out)
         }
-        Request::Run { budget, .. } => record(alloc, &image, *budget, request, files, out),
-        Request::Cut { logs, .. } => {
+        Task::Run { budget, .. } => record(alloc, &image, *budget, request, files, out),
+        Task::Cut(logs) => {
             let store = read_logs(alloc, &image, logs, files)?;
             tell_position(alloc, &store, out)
         }
