@@ -167,6 +167,31 @@ fn tell_position<W: Sink>(alloc: Global, store: &Store, out: &mut W) -> Result<(
     written(write_position(&terms, &position, out))
 }
 
+/// Joins the logs, writes the store to the file that is made, and tells how much it holds.
+fn join_logs<F: Files, W: Sink>(
+    alloc: Global,
+    image: &Image,
+    names: &[&str],
+    request: &Request<'_>,
+    files: &mut F,
+    out: &mut W,
+) -> Result<(), CommandFault> {
+    let store = read_logs(alloc, image, names, files)?;
+    write_joined(alloc, &store, request, files, out)
+}
+
+/// Tells how far the logs reach.
+fn cut_logs<F: Files, W: Sink>(
+    alloc: Global,
+    image: &Image,
+    names: &[&str],
+    files: &mut F,
+    out: &mut W,
+) -> Result<(), CommandFault> {
+    let store = read_logs(alloc, image, names, files)?;
+    tell_position(alloc, &store, out)
+}
+
 /// Runs a primary with what the request's script offers.
 fn run_script<F: Files>(
     alloc: Global,
@@ -196,7 +221,22 @@ fn write_log<F: Files>(
     Ok(write_frames(&frames, &mut made)?)
 }
 
-/// Runs a primary, writes its frames to the file that is made, and then the text of its machine.
+/// Writes the frames of a primary to the file that is made, and then the text of its machine.
+fn write_run<F: Files, W: Sink>(
+    alloc: Global,
+    image: &Image,
+    book: &Book<Recording>,
+    request: &Request<'_>,
+    files: &mut F,
+    out: &mut W,
+) -> Result<(), CommandFault>
+    requires { length book.now.machine.harts ≡ image.now.harts }
+{
+    write_log(alloc, image, book, request, files)?;
+    written(book.machine().write_text(out))
+}
+
+/// Runs a primary, and writes its frames and its machine.
 fn record<F: Files, W: Sink>(
     alloc: Global,
     image: &Image,
@@ -206,8 +246,23 @@ fn record<F: Files, W: Sink>(
     out: &mut W,
 ) -> Result<(), CommandFault> {
     let book = run_script(alloc, image, budget, request, files)?;
-    write_log(alloc, image, &book, request, files)?;
-    written(book.machine().write_text(out))
+    write_run(alloc, image, &book, request, files, out)
+}
+
+/// Does what is asked for with the image.
+fn run_task<F: Files, W: Sink>(
+    alloc: Global,
+    image: &Image,
+    request: &Request<'_>,
+    files: &mut F,
+    out: &mut W,
+) -> Result<(), CommandFault> {
+    match &request.task {
+        Task::Replay(logs) => replay_logs(alloc, image, logs, files, out),
+        Task::Join { logs, .. } => join_logs(alloc, image, logs, request, files, out),
+        Task::Run { budget, .. } => record(alloc, image, *budget, request, files, out),
+        Task::Cut(logs) => cut_logs(alloc, image, logs, files, out),
+    }
 }
 
 fn run<F: Files, W: Sink>(
@@ -217,18 +272,7 @@ fn run<F: Files, W: Sink>(
     out: &mut W,
 ) -> Result<(), CommandFault> {
     let image = read_image_file(alloc, request, files)?;
-    match &request.task {
-        Task::Replay(logs) => replay_logs(alloc, &image, logs, files, out),
-        Task::Join { logs, .. } => {
-            let store = read_logs(alloc, &image, logs, files)?;
-            write_joined(alloc, &store, request, files, out)
-        }
-        Task::Run { budget, .. } => record(alloc, &image, *budget, request, files, out),
-        Task::Cut(logs) => {
-            let store = read_logs(alloc, &image, logs, files)?;
-            tell_position(alloc, &store, out)
-        }
-    }
+    run_task(alloc, &image, request, files, out)
 }
 
 fn run_and_tell<F: Files, W: Sink, E: Sink>(

@@ -132,26 +132,47 @@ fn with_logs<'a>(alloc: Global, command: Command<'a>) -> Result<Command<'a>, All
     command.arg(logs)
 }
 
-/// A command with an image.
-fn form<'a>(alloc: Global, name: &'a str) -> Result<Command<'a>, AllocError> {
-    let command = Command::new(alloc, name).disable_help_flag(true);
-    with_word(alloc, command, "image")
+/// A command, by the names of its words.
+struct Form {
+    name: &'static str,
+    words: &'static [&'static str],
+    /// Whether logs stand behind the words.
+    has_logs: bool,
 }
 
-/// A command with an image and logs.
-fn form_of_logs<'a>(alloc: Global, name: &'a str) -> Result<Command<'a>, AllocError> {
-    with_logs(alloc, form(alloc, name)?)
-}
+static FORMS: [Form; 4] = [
+    Form {
+        name: "replay",
+        words: &["image"],
+        has_logs: true,
+    },
+    Form {
+        name: "join",
+        words: &["image", "made"],
+        has_logs: true,
+    },
+    Form {
+        name: "cut",
+        words: &["image"],
+        has_logs: true,
+    },
+    Form {
+        name: "run",
+        words: &["image", "script", "budget", "made"],
+        has_logs: false,
+    },
+];
 
-fn join_form<'a>(alloc: Global) -> Result<Command<'a>, AllocError> {
-    let join = with_word(alloc, form(alloc, "join")?, "made")?;
-    with_logs(alloc, join)
-}
-
-fn run_form<'a>(alloc: Global) -> Result<Command<'a>, AllocError> {
-    let run = with_word(alloc, form(alloc, "run")?, "script")?;
-    let run = with_word(alloc, run, "budget")?;
-    with_word(alloc, run, "made")
+fn command_of<'a>(alloc: Global, form: &Form) -> Result<Command<'a>, AllocError> {
+    let mut command = Command::new(alloc, form.name).disable_help_flag(true);
+    for word in form.words {
+        command = with_word(alloc, command, word)?;
+    }
+    if form.has_logs {
+        with_logs(alloc, command)
+    } else {
+        Ok(command)
+    }
 }
 
 /// The program without its commands.
@@ -162,16 +183,12 @@ fn bare_program<'a>(alloc: Global) -> Command<'a> {
         .disable_help_subcommand(true)
 }
 
-/// The program with a command more.
-fn with_form<'a>(program: Command<'a>, form: Command<'a>) -> Result<Command<'a>, AllocError> {
-    program.subcommand(form)
-}
-
-fn forms<'a>(alloc: Global) -> Result<Command<'a>, AllocError> {
-    let program = with_form(bare_program(alloc), form_of_logs(alloc, "replay")?)?;
-    let program = with_form(program, join_form(alloc)?)?;
-    let program = with_form(program, form_of_logs(alloc, "cut")?)?;
-    with_form(program, run_form(alloc)?)
+fn program<'a>(alloc: Global) -> Result<Command<'a>, AllocError> {
+    let mut program = bare_program(alloc);
+    for form in &FORMS {
+        program = program.subcommand(command_of(alloc, form)?)?;
+    }
+    Ok(program)
 }
 
 /// The names of the logs.
@@ -239,7 +256,7 @@ fn request_of<'a>(
 
 /// What clap finds in the words.
 fn matches_of<'a>(alloc: Global, words: &'a [String]) -> Result<ArgMatches<'a>, WordsFault> {
-    match forms(alloc)?.try_get_matches_from(words) {
+    match program(alloc)?.try_get_matches_from(words) {
         Ok(matches) => Ok(matches),
         Err(error) => Err(fault_of(error)),
     }
