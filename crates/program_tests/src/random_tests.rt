@@ -143,6 +143,24 @@ impl Primary {
         }
     }
 
+    fn act_often(&mut self, alloc: Global, dice: &mut Dice) {
+        for _call in 0..300 {
+            self.act(alloc, dice);
+        }
+    }
+
+    /// What the log says behind what is sealed, after many calls more.
+    fn go_on(
+        &mut self,
+        alloc: Global,
+        image: &Image,
+        dice: &mut Dice,
+        sealed: &mut Sealed,
+    ) -> Result<Vec<Frame>, Fail> {
+        self.act_often(alloc, dice);
+        cut(alloc, image, &self.book, sealed)
+    }
+
     /// The book, once each open lease has gone back without its steps.
     fn end(self) -> Book<Recording> {
         let Primary {
@@ -182,32 +200,57 @@ fn cut(
     Ok(cut_pieces(alloc, book, &image.guest(), 1, sealed)?)
 }
 
-/// The frames of a primary that has made many calls, cut twice, and the text of its machine.
+fn opening_of(image: &Image) -> Result<Opening, Fail> {
+    let base = Counts::zero(image.harts());
+    Ok(Opening::new(image.guest(), 1, 0, base).ok_or("opening")?)
+}
+
+/// What a primary logs that makes many calls, and is cut once on the way and once at the end, and its book.
+fn log_of(
+    alloc: Global,
+    image: &Image,
+    dice: &mut Dice,
+) -> Result<(Vec<Frame>, Book<Recording>), Fail> {
+    let mut sealed = Sealed::new(Counts::zero(image.harts()));
+    let mut primary = Primary::new(alloc, image, 5000)?;
+    let early = primary.go_on(alloc, image, dice, &mut sealed);
+    primary.act_often(alloc, dice);
+    let book = primary.end();
+    let frames = with_rest(alloc, image, &book, &mut sealed, early?)?;
+    Ok((frames, book))
+}
+
+/// These frames, and what the book's log says behind what is sealed.
+fn with_rest(
+    alloc: Global,
+    image: &Image,
+    book: &Book<Recording>,
+    sealed: &mut Sealed,
+    mut frames: Vec<Frame>,
+) -> Result<Vec<Frame>, Fail> {
+    for frame in cut(alloc, image, book, sealed)? {
+        frames.push(frame)?;
+    }
+    Ok(frames)
+}
+
+fn text_of(alloc: Global, book: &Book<Recording>) -> Result<MemorySink, Fail> {
+    let mut text = MemorySink::new(alloc, 1 << 20);
+    match book.machine().write_text(&mut text) {
+        Ok(()) => Ok(text),
+        Err(_) => Err(Fail::from("text")),
+    }
+}
+
+/// The frames of a primary that has made many calls, the opening last, and the text of its machine.
 fn recorded(
     alloc: Global,
     image: &Image,
     dice: &mut Dice,
 ) -> Result<(Vec<Frame>, MemorySink), Fail> {
-    let base = Counts::zero(image.harts());
-    let opening = Opening::new(image.guest(), 1, 0, base).ok_or("opening")?;
-    let mut sealed = Sealed::new(base);
-    let mut primary = Primary::new(alloc, image, 5000)?;
-    for _call in 0..300 {
-        primary.act(alloc, dice);
-    }
-    let early = cut(alloc, image, &primary.book, &mut sealed);
-    for _call in 0..300 {
-        primary.act(alloc, dice);
-    }
-    let book = primary.end();
-    let mut frames = early?;
-    for frame in cut(alloc, image, &book, &mut sealed)? {
-        frames.push(frame)?;
-    }
-    frames.push(Frame::Opening(opening))?;
-    let mut text = MemorySink::new(alloc, 1 << 20);
-    book.machine().write_text(&mut text).map_err(|_| "text")?;
-    Ok((frames, text))
+    let (mut frames, book) = log_of(alloc, image, dice)?;
+    frames.push(Frame::Opening(opening_of(image)?))?;
+    Ok((frames, text_of(alloc, &book)?))
 }
 
 /// Writes a frame to one of the streams.
@@ -219,6 +262,40 @@ fn put(sinks: &mut [MemorySink], frame: &Frame, dice: &mut Dice) -> Result<(), F
     Ok(write_frame(frame, &mut sinks[stream]).map_err(|_| "frame")?)
 }
 
+/// So many streams, without frames yet.
+fn empty_streams(alloc: Global, streams: u8) -> Result<Vec<MemorySink>, Fail> {
+    let mut sinks = Vec::new(alloc);
+    for _stream in 0..streams {
+        sinks.push(MemorySink::new(alloc, 1 << 20))?;
+    }
+    Ok(sinks)
+}
+
+/// Writes as many frames as there are, any of them, to any of the streams.
+fn scatter(sinks: &mut [MemorySink], frames: &[Frame], dice: &mut Dice) -> Result<(), Fail> {
+    for _frame in frames {
+        let number = usize::from(dice.roll()) % frames.len();
+        put(sinks, &frames[number], dice)?;
+    }
+    Ok(())
+}
+
+/// Writes each frame once, the last one first.
+fn scatter_each(sinks: &mut [MemorySink], frames: &[Frame], dice: &mut Dice) -> Result<(), Fail> {
+    for frame in frames.iter().rev() {
+        put(sinks, frame, dice)?;
+    }
+    Ok(())
+}
+
+fn readers_of(alloc: Global, sinks: &[MemorySink]) -> Result<Vec<MemorySource>, Fail> {
+    let mut readers = Vec::new(alloc);
+    for sink in sinks {
+        readers.push(MemorySource::new(sink.bytes().to_vec(alloc)?))?;
+    }
+    Ok(readers)
+}
+
 /// Each frame in one stream or several, once or more often, in any order.
 fn shuffled(
     alloc: Global,
@@ -226,24 +303,11 @@ fn shuffled(
     streams: u8,
     dice: &mut Dice,
 ) -> Result<Vec<MemorySource>, Fail> {
-    let mut sinks = Vec::new(alloc);
-    for _stream in 0..streams {
-        sinks.push(MemorySink::new(alloc, 1 << 20))?;
-    }
-    for _pick in 0..2 {
-        for _frame in frames {
-            let number = usize::from(dice.roll()) % frames.len();
-            put(&mut sinks, &frames[number], dice)?;
-        }
-    }
-    for frame in frames.iter().rev() {
-        put(&mut sinks, frame, dice)?;
-    }
-    let mut readers = Vec::new(alloc);
-    for sink in &sinks {
-        readers.push(MemorySource::new(sink.bytes().to_vec(alloc)?))?;
-    }
-    Ok(readers)
+    let mut sinks = empty_streams(alloc, streams)?;
+    scatter(&mut sinks, frames, dice)?;
+    scatter(&mut sinks, frames, dice)?;
+    scatter_each(&mut sinks, frames, dice)?;
+    readers_of(alloc, &sinks)
 }
 
 /// How many records the frames have.
@@ -257,30 +321,38 @@ fn records(frames: &[Frame]) -> usize {
     records
 }
 
+/// Whether a replay of these streams writes this text.
+fn are_replayed(alloc: Global, image: &Image, readers: &mut [MemorySource], text: &[u8]) -> bool {
+    let mut out = MemorySink::new(alloc, 1 << 20);
+    let replayed = replay_streams(alloc, image, readers, &mut out).is_ok();
+    replayed && out.bytes() == text
+}
+
 /// Whether a guest of so many harts that was recorded so is replayed to the recorded machine, from so many streams.
 fn is_replayed(alloc: Global, harts: u8, streams: u8, seed: u64) -> Result<bool, Fail> {
     let mut dice = Dice { state: seed };
     let image = guest(alloc, harts, &mut dice)?;
     let (frames, text) = recorded(alloc, &image, &mut dice)?;
     let mut readers = shuffled(alloc, &frames, streams, &mut dice)?;
-    let mut out = MemorySink::new(alloc, 1 << 20);
-    let replayed = replay_streams(alloc, &image, &mut readers, &mut out).is_ok();
-    Ok(replayed && records(&frames) > 10 && out.bytes() == text.bytes())
+    Ok(records(&frames) > 10 && are_replayed(alloc, &image, &mut readers, text.bytes()))
+}
+
+/// The first of three seeds whose guest of so many harts is replayed to another machine.
+fn first_missed(alloc: Global, harts: u8) -> Result<Option<u8>, Fail> {
+    for seed in 1..4u8 {
+        let streams = harts.wrapping_mul(3).wrapping_add(seed) % 8 + 1;
+        let state = u64::from(seed) * 0x9e37 + u64::from(harts);
+        if !is_replayed(alloc, harts, streams, state)? {
+            return Ok(Some(seed));
+        }
+    }
+    Ok(None)
 }
 
 #[test]
 fn what_is_recorded_by_chance_is_replayed(rt: HostRuntime) -> Result<(), Fail> {
     for harts in 2..9u8 {
-        for seed in 1..4u64 {
-            let streams = (harts * 3 + seed as u8) % 8 + 1;
-            let replayed = is_replayed(
-                rt.alloc(),
-                harts,
-                streams,
-                seed * 0x9e37 + u64::from(harts),
-            )?;
-            assert!(rt; replayed, "{harts} {streams} {seed}");
-        }
+        assert_eq!(rt; first_missed(rt.alloc(), harts)?, None, "{harts} harts");
     }
     Ok(())
 }

@@ -9,7 +9,8 @@ use crate::cases::{
 use crate::files_in_memory::MemoryFiles;
 use crate::samples::Part::{Bytes, Image};
 use crate::samples::{
-    EMPTY_IMAGE, FIFTY_OF_TEXT_A, FOUR_STEPS, IMAGE_A, IMAGE_B, TEXT_A, TEXT_B, TRAPPED, TWO_LOOPS,
+    EMPTY_IMAGE, FIFTY_OF_TEXT_A, FOUR_HARTS, FOUR_STEPS, IMAGE_A, IMAGE_B, TEXT_A, TEXT_B,
+    TEXT_OF_FOUR, TRAPPED, TWO_LOOPS,
 };
 use ft_types::MemorySource;
 use std::alloc::Global;
@@ -235,45 +236,6 @@ fn a_bell_is_logged_where_it_was_heard(rt: HostRuntime) -> Result<(), Fail> {
     assert_eq!(rt; first_wrong_run(rt.alloc(), &WITH_BELLS)?, None);
     Ok(())
 }
-
-/// Four harts, each of which adds 1 to the word at 80001000 five times, and halts.
-const FOUR_HARTS: &[u8] = b"harts 4\npages 2\n\
-800010b7\n00000137\n00510113\n00100193\n0030a02f\nfff10113\nfe011ce3\nf0000237\n00022a23\n";
-
-const TEXT_OF_FOUR: &[u8] = b"hart 0 count 21 pc 80000024 halted\n\
-csr 00001800 00000000 00000000 00000000 00000000 00000000 00000000\n\
-dev 00000000 00000000\n\
-x1 80001000\n\
-x3 00000001\n\
-x4 f0000000\n\
-hart 1 count 21 pc 80000024 halted\n\
-csr 00001800 00000000 00000000 00000000 00000000 00000000 00000000\n\
-dev 00000000 00000000\n\
-x1 80001000\n\
-x3 00000001\n\
-x4 f0000000\n\
-hart 2 count 21 pc 80000024 halted\n\
-csr 00001800 00000000 00000000 00000000 00000000 00000000 00000000\n\
-dev 00000000 00000000\n\
-x1 80001000\n\
-x3 00000001\n\
-x4 f0000000\n\
-hart 3 count 21 pc 80000024 halted\n\
-csr 00001800 00000000 00000000 00000000 00000000 00000000 00000000\n\
-dev 00000000 00000000\n\
-x1 80001000\n\
-x3 00000001\n\
-x4 f0000000\n\
-80000000 800010b7\n\
-80000004 00000137\n\
-80000008 00510113\n\
-8000000c 00100193\n\
-80000010 0030a02f\n\
-80000014 fff10113\n\
-80000018 fe011ce3\n\
-8000001c f0000237\n\
-80000020 00022a23\n\
-80001000 00000014\n";
 
 static OF_FOUR_HARTS: [Run; 1] = [Run {
     image: FOUR_HARTS,

@@ -58,6 +58,45 @@ dev 00000000 00000000\n";
 /// Two harts that jump to where they are.
 pub const TWO_LOOPS: &[u8] = b"harts 2\npages 1\n0000006f\n";
 
+/// Four harts, each of which adds 1 to the word at 80001000 five times, and halts.
+pub const FOUR_HARTS: &[u8] = b"harts 4\npages 2\n\
+800010b7\n00000137\n00510113\n00100193\n0030a02f\nfff10113\nfe011ce3\nf0000237\n00022a23\n";
+
+pub const TEXT_OF_FOUR: &[u8] = b"hart 0 count 21 pc 80000024 halted\n\
+csr 00001800 00000000 00000000 00000000 00000000 00000000 00000000\n\
+dev 00000000 00000000\n\
+x1 80001000\n\
+x3 00000001\n\
+x4 f0000000\n\
+hart 1 count 21 pc 80000024 halted\n\
+csr 00001800 00000000 00000000 00000000 00000000 00000000 00000000\n\
+dev 00000000 00000000\n\
+x1 80001000\n\
+x3 00000001\n\
+x4 f0000000\n\
+hart 2 count 21 pc 80000024 halted\n\
+csr 00001800 00000000 00000000 00000000 00000000 00000000 00000000\n\
+dev 00000000 00000000\n\
+x1 80001000\n\
+x3 00000001\n\
+x4 f0000000\n\
+hart 3 count 21 pc 80000024 halted\n\
+csr 00001800 00000000 00000000 00000000 00000000 00000000 00000000\n\
+dev 00000000 00000000\n\
+x1 80001000\n\
+x3 00000001\n\
+x4 f0000000\n\
+80000000 800010b7\n\
+80000004 00000137\n\
+80000008 00510113\n\
+8000000c 00100193\n\
+80000010 0030a02f\n\
+80000014 fff10113\n\
+80000018 fe011ce3\n\
+8000001c f0000237\n\
+80000020 00022a23\n\
+80001000 00000014\n";
+
 /// What a piece says of a count.
 pub enum Said {
     Timer(Count),
@@ -117,23 +156,20 @@ fn piece(
     Ok(Frame::Log(fragment))
 }
 
-fn record_of(said: &Said) -> Record {
-    match *said {
-        Said::Timer(at) => Record::Input(at, Input::Timer),
-        Said::Word(at, word) => Record::Input(at, Input::Word(word)),
-        Said::Waits(number, at, other, after) => Record::Edge(Edge {
-            hart: hart(number),
-            at,
-            other: hart(other),
-            after,
-        }),
-    }
-}
-
 fn records_of(alloc: Global, all: &[Said]) -> Result<Vec<Record>, Fail> {
     let mut records = Vec::new(alloc);
     for said in all {
-        records.push(record_of(said))?;
+        let record = match *said {
+            Said::Timer(at) => Record::Input(at, Input::Timer),
+            Said::Word(at, word) => Record::Input(at, Input::Word(word)),
+            Said::Waits(number, at, other, after) => Record::Edge(Edge {
+                hart: hart(number),
+                at,
+                other: hart(other),
+                after,
+            }),
+        };
+        records.push(record)?;
     }
     Ok(records)
 }
