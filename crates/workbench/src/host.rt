@@ -2,7 +2,7 @@
 
 ghost use Rattle.std.specs.Prelude.{None};
 
-use crate::files::Files;
+use command_line::Files;
 use ft_types::{Failed, Sink, Source};
 use std::fs;
 use std::io::{Read, Write};

@@ -1,30 +1,10 @@
 //! The program: it runs a primary of a guest and writes its log, replays logs, and prints the machine that they lead to.
 #![tactic(auto)]
 
-mod command;
-mod faults;
-mod files;
 mod host;
-mod lines;
-mod primary;
-#[cfg(test)]
-mod random_tests;
-mod reading;
-#[cfg(test)]
-mod replay_tests;
-#[cfg(test)]
-mod run_tests;
-#[cfg(test)]
-mod store_tests;
-mod stores;
-mod streams;
-#[cfg(test)]
-mod tests;
-mod words;
 
-use crate::command::{command, no_request};
 use crate::host::{HostFiles, HostWriter};
-use crate::words::WordsFault;
+use command_line::{WordsFault, command, no_request};
 use std::process::ExitCode;
 use std::{env, io};
 

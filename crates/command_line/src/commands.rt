@@ -1,0 +1,316 @@
+//! The commands of the program.
+
+ghost use Rattle.std.specs.Prelude.{◌≡◌, length, IfOk};
+ghost use Rattle.input_script.specs.Script.{AreOffered};
+
+use crate::faults::{CommandFault, status_of, write_fault, write_words_fault};
+use crate::files::Files;
+use crate::words::{NamedFile, Request, Task, WordsFault, read_words};
+use closed_cut::{chain, position};
+use ft_types::{Failed, Sink, Source};
+use guest_image::{Image, read_image};
+use input_script::{Offered, read_script};
+use log_join::Store;
+use log_streams::{
+    StreamsFault, frames_of, read_store, replay_streams, run_primary, write_frames, write_position,
+    write_size, write_store,
+};
+use page_book::{Book, Recording};
+use std::alloc::Global;
+
+/// How many bytes of a file are read at once.
+const PIECE: usize = 4096;
+
+/// Why a file was not read.
+#[derive(Clone, Copy)]
+enum FileFault {
+    Failed,
+    Memory,
+}
+
+/// Reads to the end.
+fn read_whole<R: Source>(alloc: Global, reader: &mut R) -> Result<Vec<u8>, FileFault> {
+    let mut bytes = Vec::new(alloc);
+    let mut piece = [0; PIECE];
+    for _read in 0..u64::MAX {
+        let Ok(count) = reader.read(&mut piece) else {
+            return Err(FileFault::Failed);
+        };
+        if count == 0 {
+            break;
+        }
+        if bytes.extend_from_slice(&piece[..count]).is_err() {
+            return Err(FileFault::Memory);
+        }
+    }
+    Ok(bytes)
+}
+
+/// The bytes of a file that the request names.
+fn read_file<F: Files>(
+    alloc: Global,
+    request: &Request<'_>,
+    file: NamedFile,
+    files: &mut F,
+) -> Result<Vec<u8>, CommandFault> {
+    let Ok(mut reader) = files.reader(request.name(file)) else {
+        return Err(CommandFault::File(file));
+    };
+    match read_whole(alloc, &mut reader) {
+        Ok(bytes) => Ok(bytes),
+        Err(FileFault::Failed) => Err(CommandFault::File(file)),
+        Err(FileFault::Memory) => Err(CommandFault::Memory),
+    }
+}
+
+fn read_image_file<F: Files>(
+    alloc: Global,
+    request: &Request<'_>,
+    files: &mut F,
+) -> Result<Image, CommandFault> {
+    let bytes = read_file(alloc, request, NamedFile::Image, files)?;
+    let image = read_image(alloc, &bytes)?;
+    Ok(image)
+}
+
+fn read_script_file<F: Files>(
+    alloc: Global,
+    request: &Request<'_>,
+    harts: u8,
+    files: &mut F,
+) -> Result<Vec<Offered>, CommandFault>
+    ensures { IfOk result (λ script. AreOffered harts script.items) }
+{
+    let bytes = read_file(alloc, request, NamedFile::Script, files)?;
+    let script = read_script(alloc, &bytes, harts)?;
+    Ok(script)
+}
+
+/// What came of writing to standard output.
+fn written(done: Result<(), Failed>) -> Result<(), CommandFault> {
+    match done {
+        Ok(()) => Ok(()),
+        Err(_) => Err(CommandFault::Streams(StreamsFault::Write)),
+    }
+}
+
+/// Makes the file that the request names.
+fn make_file<F: Files>(request: &Request<'_>, files: &mut F) -> Result<F::Writer, CommandFault> {
+    match files.maker(request.name(NamedFile::Made)) {
+        Ok(made) => Ok(made),
+        Err(_) => Err(CommandFault::File(NamedFile::Made)),
+    }
+}
+
+/// Opens these logs, all of them before the first is read.
+fn open_logs<F: Files>(
+    alloc: Global,
+    names: &[&str],
+    files: &mut F,
+) -> Result<Vec<F::Reader>, CommandFault> {
+    let mut readers = Vec::new(alloc);
+    for (number, name) in names.iter().enumerate() {
+        let Ok(reader) = files.reader(name) else {
+            return Err(CommandFault::File(NamedFile::Log(number)));
+        };
+        if readers.push(reader).is_err() {
+            return Err(CommandFault::Memory);
+        }
+    }
+    Ok(readers)
+}
+
+/// Replays the logs, and writes the text of the machine.
+fn replay_logs<F: Files, W: Sink>(
+    alloc: Global,
+    image: &Image,
+    names: &[&str],
+    files: &mut F,
+    out: &mut W,
+) -> Result<(), CommandFault> {
+    let mut readers = open_logs(alloc, names, files)?;
+    match replay_streams(alloc, image, &mut readers, out) {
+        Ok(()) => Ok(()),
+        Err(fault) => Err(CommandFault::Streams(fault)),
+    }
+}
+
+/// The store of the frames of these logs.
+fn read_logs<F: Files>(
+    alloc: Global,
+    image: &Image,
+    names: &[&str],
+    files: &mut F,
+) -> Result<Store, CommandFault> {
+    let mut readers = open_logs(alloc, names, files)?;
+    let store = read_store(alloc, &image.guest(), &mut readers)?;
+    Ok(store)
+}
+
+/// Writes a store to the file that is made, and tells how much it holds.
+fn write_joined<F: Files, W: Sink>(
+    alloc: Global,
+    store: &Store,
+    request: &Request<'_>,
+    files: &mut F,
+    out: &mut W,
+) -> Result<(), CommandFault> {
+    let mut made = make_file(request, files)?;
+    let size = write_store(alloc, store, &mut made)?;
+    written(write_size(&size, out))
+}
+
+/// Tells the chain and the position of a store.
+fn tell_position<W: Sink>(alloc: Global, store: &Store, out: &mut W) -> Result<(), CommandFault> {
+    let terms = chain(alloc, store)?;
+    let position = position(alloc, store)?;
+    written(write_position(&terms, &position, out))
+}
+
+/// Joins the logs, writes the store to the file that is made, and tells how much it holds.
+fn join_logs<F: Files, W: Sink>(
+    alloc: Global,
+    image: &Image,
+    names: &[&str],
+    request: &Request<'_>,
+    files: &mut F,
+    out: &mut W,
+) -> Result<(), CommandFault> {
+    let store = read_logs(alloc, image, names, files)?;
+    write_joined(alloc, &store, request, files, out)
+}
+
+/// Tells how far the logs reach.
+fn cut_logs<F: Files, W: Sink>(
+    alloc: Global,
+    image: &Image,
+    names: &[&str],
+    files: &mut F,
+    out: &mut W,
+) -> Result<(), CommandFault> {
+    let store = read_logs(alloc, image, names, files)?;
+    tell_position(alloc, &store, out)
+}
+
+/// Runs a primary with what the request's script offers.
+fn run_script<F: Files>(
+    alloc: Global,
+    image: &Image,
+    budget: u32,
+    request: &Request<'_>,
+    files: &mut F,
+) -> Result<Book<Recording>, CommandFault>
+    ensures { IfOk result (λ b. length b.machine.harts ≡ image.now.harts) }
+{
+    let script = read_script_file(alloc, request, image.harts(), files)?;
+    Ok(run_primary(alloc, image, &script, budget)?)
+}
+
+/// Writes the frames of a primary to the file that is made.
+fn write_log<F: Files>(
+    alloc: Global,
+    image: &Image,
+    book: &Book<Recording>,
+    request: &Request<'_>,
+    files: &mut F,
+) -> Result<(), CommandFault>
+    requires { length book.now.machine.harts ≡ image.now.harts }
+{
+    let frames = frames_of(alloc, image, book)?;
+    let mut made = make_file(request, files)?;
+    Ok(write_frames(&frames, &mut made)?)
+}
+
+/// Writes the frames of a primary to the file that is made, and then the text of its machine.
+fn write_run<F: Files, W: Sink>(
+    alloc: Global,
+    image: &Image,
+    book: &Book<Recording>,
+    request: &Request<'_>,
+    files: &mut F,
+    out: &mut W,
+) -> Result<(), CommandFault>
+    requires { length book.now.machine.harts ≡ image.now.harts }
+{
+    write_log(alloc, image, book, request, files)?;
+    written(book.machine().write_text(out))
+}
+
+/// Runs a primary, and writes its frames and its machine.
+fn record<F: Files, W: Sink>(
+    alloc: Global,
+    image: &Image,
+    budget: u32,
+    request: &Request<'_>,
+    files: &mut F,
+    out: &mut W,
+) -> Result<(), CommandFault> {
+    let book = run_script(alloc, image, budget, request, files)?;
+    write_run(alloc, image, &book, request, files, out)
+}
+
+/// Does what is asked for with the image.
+fn run_task<F: Files, W: Sink>(
+    alloc: Global,
+    image: &Image,
+    request: &Request<'_>,
+    files: &mut F,
+    out: &mut W,
+) -> Result<(), CommandFault> {
+    match &request.task {
+        Task::Replay(logs) => replay_logs(alloc, image, logs, files, out),
+        Task::Join { logs, .. } => join_logs(alloc, image, logs, request, files, out),
+        Task::Run { budget, .. } => record(alloc, image, *budget, request, files, out),
+        Task::Cut(logs) => cut_logs(alloc, image, logs, files, out),
+    }
+}
+
+fn run<F: Files, W: Sink>(
+    alloc: Global,
+    request: &Request<'_>,
+    files: &mut F,
+    out: &mut W,
+) -> Result<(), CommandFault> {
+    let image = read_image_file(alloc, request, files)?;
+    run_task(alloc, &image, request, files, out)
+}
+
+fn run_and_tell<F: Files, W: Sink, E: Sink>(
+    alloc: Global,
+    request: &Request<'_>,
+    files: &mut F,
+    out: &mut W,
+    err: &mut E,
+) -> u8 {
+    match run(alloc, request, files, out) {
+        Ok(()) => 0,
+        Err(fault) => {
+            // Where not even the fault can be told, the status says it alone.
+            let _told = write_fault(&fault, request, err);
+            status_of(&fault)
+        }
+    }
+}
+
+/// Says why there is no request, and gives the status that the program ends with.
+pub fn no_request<E: Sink>(fault: WordsFault, err: &mut E) -> u8 {
+    let _told = write_words_fault(fault, err);
+    match fault {
+        WordsFault::Usage => 2,
+        WordsFault::Memory => 1,
+    }
+}
+
+/// Does what the words ask for, and gives the status that the program ends with.
+pub fn command<F: Files, W: Sink, E: Sink>(
+    alloc: Global,
+    words: &[String],
+    files: &mut F,
+    out: &mut W,
+    err: &mut E,
+) -> u8 {
+    match read_words(alloc, words) {
+        Ok(request) => run_and_tell(alloc, &request, files, out, err),
+        Err(fault) => no_request(fault, err),
+    }
+}

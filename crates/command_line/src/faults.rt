@@ -1,0 +1,148 @@
+//! What can go wrong, and the one line that says so.
+
+ghost use Rattle.std.specs.Prelude.{◌≡◌, ◌≢◌};
+
+use crate::words::{NamedFile, Request, WordsFault};
+use ft_types::{Failed, Memory, Sink, write_all};
+use guest_image::ImageFault;
+use hart_replay::ReplayFault;
+use input_script::ScriptFault;
+use log_streams::{StreamsFault, write_numbered};
+
+/// Why a command failed.
+#[derive(Clone, Copy)]
+pub enum CommandFault {
+    /// The words have no form that there is.
+    Usage,
+    /// A file could not be opened, read or made.
+    File(NamedFile),
+    /// What is wrong with the image.
+    Image(ImageFault),
+    /// The line of the script, from 1, that is at fault.
+    Script(u64),
+    /// What is wrong with the logs, their replay or the output.
+    Streams(StreamsFault),
+    /// A growth was refused.
+    Memory,
+}
+
+impl From<StreamsFault> for CommandFault {
+    fn from(fault: StreamsFault) -> CommandFault {
+        CommandFault::Streams(fault)
+    }
+}
+
+impl From<Memory> for CommandFault {
+    fn from(_e: Memory) -> CommandFault {
+        CommandFault::Memory
+    }
+}
+
+impl From<ImageFault> for CommandFault {
+    fn from(fault: ImageFault) -> CommandFault {
+        match fault {
+            ImageFault::Memory => CommandFault::Memory,
+            fault => CommandFault::Image(fault),
+        }
+    }
+}
+
+impl From<ScriptFault> for CommandFault {
+    fn from(fault: ScriptFault) -> CommandFault {
+        match fault {
+            ScriptFault::BadLine(line) => CommandFault::Script(line),
+            ScriptFault::Memory => CommandFault::Memory,
+        }
+    }
+}
+
+/// The status that the program ends with.
+pub fn status_of(fault: &CommandFault) -> u8
+    ensures usage { fault.now ≡ CommandFault.Usage → result ≡ 2 }
+    ensures others { fault.now ≢ CommandFault.Usage → result ≡ 1 }
+{
+    match fault {
+        CommandFault::Usage => 2,
+        _ => 1,
+    }
+}
+
+fn write_image_fault<W: Sink>(fault: ImageFault, out: &mut W) -> Result<(), Failed> {
+    match fault {
+        ImageFault::BadLine(line) => {
+            write_numbered(b"fault image 1 line ", line as u64, b"\n", out)
+        }
+        ImageFault::TooLarge => write_all(out, b"fault image 2\n"),
+        ImageFault::NoHarts => write_all(out, b"fault image 3\n"),
+        ImageFault::Memory => write_all(out, b"fault memory\n"),
+    }
+}
+
+fn write_replay_fault<W: Sink>(fault: ReplayFault, out: &mut W) -> Result<(), Failed> {
+    match fault {
+        ReplayFault::Cyclic(counts) => {
+            write_all(out, b"fault replay 1 counts")?;
+            for count in counts.as_slice() {
+                write_numbered(b" ", *count, b"", out)?;
+            }
+            write_all(out, b"\n")
+        }
+        ReplayFault::HaltedInside(hart, count) => {
+            write_numbered(
+                b"fault replay 2 hart ",
+                u64::from(hart.number()),
+                b" count ",
+                out,
+            )?;
+            write_numbered(b"", count, b"\n", out)
+        }
+        ReplayFault::OtherGuest => write_all(out, b"fault replay 3\n"),
+        ReplayFault::Memory => write_all(out, b"fault memory\n"),
+    }
+}
+
+fn write_streams_fault<W: Sink>(fault: StreamsFault, out: &mut W) -> Result<(), Failed> {
+    match fault {
+        StreamsFault::Read(stream) => {
+            write_numbered(b"fault stream ", stream as u64, b" read\n", out)
+        }
+        StreamsFault::Frame(stream, fault) => {
+            write_numbered(b"fault stream ", stream as u64, b" frame ", out)?;
+            write_numbered(b"", u64::from(fault.number()), b"\n", out)
+        }
+        StreamsFault::Guest(stream) => {
+            write_numbered(b"fault stream ", stream as u64, b" guest\n", out)
+        }
+        StreamsFault::Replay(fault) => write_replay_fault(fault, out),
+        StreamsFault::Write => write_all(out, b"fault write\n"),
+        StreamsFault::Memory => write_all(out, b"fault memory\n"),
+    }
+}
+
+/// Writes the line that says what went wrong with a request.
+pub fn write_fault<W: Sink>(
+    fault: &CommandFault,
+    request: &Request<'_>,
+    out: &mut W,
+) -> Result<(), Failed> {
+    match fault {
+        CommandFault::Usage => write_all(out, b"fault usage\n"),
+        CommandFault::File(file) => {
+            write_all(out, b"fault file ")?;
+            write_all(out, request.name(*file).as_bytes())?;
+            write_all(out, b"\n")
+        }
+        CommandFault::Image(fault) => write_image_fault(*fault, out),
+        CommandFault::Script(line) => write_numbered(b"fault script line ", *line, b"\n", out),
+        CommandFault::Streams(fault) => write_streams_fault(*fault, out),
+        CommandFault::Memory => write_all(out, b"fault memory\n"),
+    }
+}
+
+/// Writes the line that says why the words are no request.
+pub fn write_words_fault<W: Sink>(fault: WordsFault, out: &mut W) -> Result<(), Failed> {
+    match fault {
+        WordsFault::Usage => write_all(out, b"fault usage\n"),
+        WordsFault::Memory => write_all(out, b"fault memory\n"),
+    }
+}

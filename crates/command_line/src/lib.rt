@@ -1,0 +1,12 @@
+//! The command line of the program: what its words ask for, done over files that the caller opens, and told in texts and a
+//! status.
+#![tactic(auto)]
+
+mod commands;
+mod faults;
+mod files;
+mod words;
+
+pub use commands::{command, no_request};
+pub use files::Files;
+pub use words::WordsFault;

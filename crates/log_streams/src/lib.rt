@@ -1,0 +1,17 @@
+//! What the commands do with streams of frames: they are read into a store, a store is written, its plan is replayed, and a
+//! primary's run becomes frames.
+#![tactic(auto)]
+
+mod faults;
+mod lines;
+mod primary;
+mod reading;
+mod stores;
+mod streams;
+
+pub use faults::StreamsFault;
+pub use lines::write_numbered;
+pub use primary::{frames_of, run_primary};
+pub use reading::read_store;
+pub use stores::{StoreSize, write_frames, write_position, write_size, write_store};
+pub use streams::replay_streams;

@@ -1,0 +1,109 @@
+//! A primary's run of a guest, in term 1.
+
+ghost use Rattle.std.specs.Prelude.{◌≡◌, ◌<◌, ◌≤◌, ◌^◌, ℕ, length, replicate, slice_index, IfOk, OnOk};
+ghost use Rattle.guest_image.specs.Image.{guest_of};
+ghost use Rattle.fragment_codec.specs.Rules.{IsGuest};
+ghost use Rattle.input_script.specs.Script.{AreOffered};
+ghost use Rattle.log_streams.specs.Primary.{AreOfferedTo, IsReady, IsRunOf, AreFramesOf};
+
+use fragment_codec::{Frame, Opening, Sealed, cut_pieces};
+use ft_types::{Count, Counts, Guest, Hart, Memory, Term};
+use guest_image::{Image, Machine};
+use input_script::Offered;
+use page_book::{Book, Recording};
+use primary_pool::{PoolFault, run_plain};
+use std::alloc::Global;
+
+/// The term of the run.
+const TERM: Term = 1;
+
+/// One limit for all harts.
+fn limits_of(harts: u8, limit: u32) -> Counts
+    requires { harts ≤ 8 }
+    ensures { result ≡ replicate harts limit }
+{
+    let mut limits = Counts::zero(harts);
+    for number in 0..harts {
+        limits.set(Hart::new(number), Count::from(limit));
+    }
+    limits
+}
+
+/// Offers all that the script says, in its order.
+fn offer_all(book: &mut Book<Recording>, script: &[Offered]) -> Result<(), Memory>
+    requires { AreOffered (length book.old.machine.harts) script.now }
+    ensures offered { OnOk result (AreOfferedTo book.old.mode script.now book.new.mode) }
+    ensures book { OnOk result (book.new ≡ record book.old { mode = book.new.mode }) }
+{
+    for offered in script {
+        book.offer(offered.hart, offered.not_before, offered.input)?;
+    }
+    Ok(())
+}
+
+/// A book of the image from boot, with what the script offers.
+fn begin(
+    alloc: Global,
+    image: &Image,
+    script: &[Offered],
+    limit: u32,
+) -> Result<Book<Recording>, Memory>
+    requires { AreOffered image.now.harts script.now }
+    ensures { IfOk result (λ b. IsReady image.now script.now limit b) }
+{
+    let start = Machine::boot(alloc, image)?;
+    let limits = limits_of(image.harts(), limit);
+    let mut book = Book::<Recording>::begin(alloc, start, limits)?;
+    offer_all(&mut book, script)?;
+    Ok(book)
+}
+
+/// Runs a primary of the image from boot, with what the script offers, until each hart is halted or at the limit.
+pub fn run_primary(
+    alloc: Global,
+    image: &Image,
+    script: &[Offered],
+    limit: u32,
+) -> Result<Book<Recording>, Memory>
+    requires { AreOffered image.now.harts script.now }
+    ensures run { IfOk result (λ b. IsRunOf image.now script.now limit b) }
+    ensures harts { IfOk result (λ b. length b.machine.harts ≡ image.now.harts) }
+{
+    let book = begin(alloc, image, script, limit)?;
+    match run_plain(alloc, book) {
+        Ok(book) => Ok(book),
+        Err(PoolFault::Memory) => Err(Memory),
+    }
+}
+
+/// What the type of bytes says of each.
+fn bytes_fit(_bytes: &[u8])
+    ensures { (i : ℕ) → slice_index _bytes.now i < 256 }
+{}
+
+/// The opening of the term, from boot.
+fn opening_of(guest: Guest) -> Opening
+    requires some { 1 ≤ guest.harts }
+    requires limit { guest.harts ≤ 8 }
+    ensures opening { result ≡ record { guest = guest; term = 1; parent = 0; base = replicate guest.harts 0 } }
+    ensures guest { IsGuest guest }
+{
+    let digest = guest.digest;
+    bytes_fit(&digest);
+    let base = Counts::zero(guest.harts);
+    Opening::new(guest, TERM, 0, base).unwrap()
+}
+
+/// The opening of the term, and the pieces of the book's log.
+pub fn frames_of(alloc: Global, image: &Image, book: &Book<Recording>) -> Result<Vec<Frame>, Memory>
+    requires { length book.now.machine.harts ≡ image.now.harts }
+    ensures { IfOk result (λ frames. AreFramesOf (guest_of image.now) book.now frames.items) }
+{
+    let harts = image.harts();
+    let guest = image.guest();
+    let opening = opening_of(guest);
+    let mut sealed = Sealed::new(Counts::zero(harts));
+    let mut frames = cut_pieces(alloc, book, &guest, TERM, &mut sealed)?;
+    frames.insert(0, Frame::Opening(opening))?;
+    Ok(frames)
+}

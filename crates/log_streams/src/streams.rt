@@ -1,0 +1,82 @@
+//! From streams of frames to the text of the machine.
+
+ghost use Rattle.std.specs.Prelude.{◌≡◌, ℕ, List, map, slice_get, Some, IfOk, IfErr, OnOk};
+ghost use Rattle.log_join.specs.Stores.{StoreView};
+ghost use Rattle.guest_image.specs.Image.{guest_of};
+ghost use Rattle.log_streams.specs.declared.faults.StreamsFault.{StreamsFault as StreamsFaultName};
+ghost use Rattle.log_streams.specs.Streams.{OfStreams};
+ghost use Rattle.log_streams.specs.Faults.{IsFirstFault, StandsInBytes, AnswersOnly, Fails, IsBehind};
+ghost use Rattle.log_streams.specs.Outcome.{IsOutcome, IsOutcomeOf, WritesTextOf, IsCause, IsReplayFault, IsCauseIn};
+
+use crate::faults::StreamsFault;
+use crate::reading::read_store;
+use closed_cut::position;
+use ft_types::{Sink, Source};
+use guest_image::{Image, Machine};
+use hart_replay::{ReplayFault, plan, replay_plain};
+use log_join::Store;
+use std::alloc::Global;
+
+/// The machine that the plan of a store leads to.
+fn replay_store(alloc: Global, image: &Image, store: &Store) -> Result<Machine, ReplayFault>
+    requires { store.now.guest ≡ guest_of image.now }
+    ensures ok { IfOk result (λ m. IsOutcomeOf image.now store.now m) }
+    ensures fault { IfErr result (λ f. IsReplayFault image.now store.now f) }
+{
+    let position = position(alloc, store)?;
+    let plan = plan(alloc, store, &position)?;
+    replay_plain(alloc, image, &plan)
+}
+
+/// Writes the text of the machine that the plan of a store leads to.
+fn write_replayed<W: Sink>(
+    alloc: Global,
+    image: &Image,
+    store: &Store,
+    out: &mut W,
+) -> Result<(), StreamsFault>
+    requires { store.now.guest ≡ guest_of image.now }
+    ensures written { WritesTextOf (IsOutcomeOf image.now store.now) result (W.bytes out.old) (W.bytes out.new) (W.failures out.old) (W.failures out.new) }
+    ensures fault { IfErr result (λ f. IsCauseIn image.now store.now f) }
+{
+    match replay_store(alloc, image, store) {
+        Ok(machine) => match machine.write_text(out) {
+            Ok(()) => Ok(()),
+            Err(_) => Err(StreamsFault::Write),
+        },
+        Err(ReplayFault::Memory) => Err(StreamsFault::Memory),
+        Err(fault) => Err(StreamsFault::Replay(fault)),
+    }
+}
+
+/// Writes the text of the machine that the frames of the streams lead to.
+pub fn replay_streams<R: Source, W: Sink>(
+    alloc: Global,
+    image: &Image,
+    readers: &mut [R],
+    out: &mut W,
+) -> Result<(), StreamsFault>
+    // Nothing is written before the replay is done, and then the text of the machine that the plan of the streams' frames
+    // leads to.
+    ensures written { OfStreams (map R.left readers.old) (λ streams.
+        WritesTextOf (IsOutcome image.now streams) result (W.bytes out.old) (W.bytes out.new) (W.failures out.old) (W.failures out.new)) }
+
+    // A fault is the first one of the streams, or where the plan of their frames has no end.
+    ensures fault { IfErr result (λ f. OfStreams (map R.left readers.old) (λ streams. IsCause image.now streams f)) }
+
+    // Where the streams have a fault in their bytes, the first one is the answer, unless a reader or memory failed before.
+    ensures exact { (streams : List (List ℕ)) (f : StreamsFaultName) → map R.left readers.old ≡ map Some streams → StandsInBytes f →
+        IsFirstFault 0 (guest_of image.now) streams f → AnswersOnly result f }
+
+    // The streams behind a fault are not read.
+    ensures behind { IfErr result (λ f. (i : ℕ) → IsBehind f i → slice_get readers.new i ≡ slice_get readers.old i) }
+
+    // A reader failed in this call exactly where the fault says so.
+    ensures failed { IfErr result (λ f. (i : ℕ) (reader later : R) → slice_get readers.old i ≡ Some reader → slice_get readers.new i ≡ Some later →
+        Fails i (R.failures reader) (R.failures later) f) }
+    ensures kept { OnOk result ((i : ℕ) (reader later : R) → slice_get readers.old i ≡ Some reader → slice_get readers.new i ≡ Some later →
+        R.failures later ≡ R.failures reader) }
+{
+    let store = read_store(alloc, &image.guest(), readers)?;
+    write_replayed(alloc, image, &store, out)
+}

@@ -1,8 +1,0 @@
-use Rattle.fragment_codec.specs.Rules.{IsDigest}
-use Rattle.workbench.proofs.Openings.{opens_from_boot}
-use Rattle.workbench.proofs.primary.opening_of.Goals as goal
-
-pub unwrap-requires : goal.unwrap-requires
-unwrap-requires c =
-    let digest : IsDigest c.args.guest.digest = record { len = search; bytes = search (c.bytes_fit.ensures) } in
-    c.new.ensures.exact.1 (rw c.zero-base.ensures (opens_from_boot c.args.guest digest c.requires.some c.requires.limit))
