@@ -181,7 +181,7 @@ module _ {M : Type 0} (g : Ghosts M) (keep : Keep) where
 
   -- what holds of each lease, and of two of which one goes on from the other, holds of a round in which a hart went; in another
   -- one nothing has changed, and no hart can go
-  module _ (IsFurther : BookView M → BookView M → Type 0) (one : (hart : ℕ) (b c : BookView M) → IsIdle b → GoesOn g keep hart b c → IsFurther b c × IsIdle c)
+  module _ (IsFurther : BookView M → BookView M → Type 0) (one : (hart : ℕ) (b c : BookView M) → IsIdle b → GoesOn g keep hart b c → IsFurther b c)
       (on : (b c d : BookView M) → IsFurther b c → IsFurther c d → IsFurther b d) where
     abbrev pub AsFar : BookView M → Bool → ℕ → BookView M → Type 0
     AsFar b true harts c = IsFurther b c
@@ -204,14 +204,13 @@ module _ {M : Type 0} (g : Ghosts M) (keep : Keep) where
           ],
     )
 
-    both : (b : BookView M) → IsIdle b → (went : Bool) (n : ℕ) (c : BookView M) → Rounds g keep b went n c → AsFar b went n c × IsIdle c
-    both b idle went n c NoHart = ((refl, λ hart lt. absurd (omega (arith, lt))), idle)
-    both b idle went n d (Went {went = before} {n = m} {c = c} e rounds goes) =
-        let p = both b idle before m c rounds in
-        let q = one m c d p.1 goes in
-        (as_far b c d before m p.0 q.0, q.1)
-    both b idle went n c (Stood {went = same} {n = m} rounds held) =
-        let p = both b idle went m c rounds in (stands b c went m p.0 held, p.1)
+    idle_still : (b : BookView M) → IsIdle b → (went : Bool) (n : ℕ) (c : BookView M) → Rounds g keep b went n c → IsIdle c
+    idle_still b idle went n c NoHart = idle
+    idle_still b idle went n d (Went e rounds goes) = goes.idle
+    idle_still b idle went n c (Stood {went = same} {n = m} rounds held) = idle_still b idle went m c rounds
 
     pub round_far : (b : BookView M) → IsIdle b → (went : Bool) (n : ℕ) (c : BookView M) → Rounds g keep b went n c → AsFar b went n c
-    round_far b idle went n c rounds = (both b idle went n c rounds).0
+    round_far b idle went n c NoHart = (refl, λ hart lt. absurd (omega (arith, lt)))
+    round_far b idle went n d (Went {went = before} {n = m} {c = c} e rounds goes) =
+        as_far b c d before m (round_far b idle before m c rounds) (one m c d (idle_still b idle before m c rounds) goes)
+    round_far b idle went n c (Stood {went = same} {n = m} rounds held) = stands b c went m (round_far b idle went m c rounds) held

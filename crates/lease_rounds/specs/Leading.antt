@@ -99,12 +99,13 @@ module _ {M : Type 0} (g : Ghosts M) where
     pub mode : g.lends b.mode hart (counts_of b.machine hart) (lent_as l) c.mode
     pub book : c ≡ record b { leases = slice_set b.leases hart (Some (nothing_taken (lent_as l))); mode = c.mode }
 
-  -- the hart went on for one lease
+  -- the hart went on for one lease, and no lease is open
   pub record GoesOn (keep : Keep) (hart : ℕ) (b d : BookView M) : Type 0 where
     pub opened : BookView M
     pub lease : LeaseView
     pub lends : Lends hart b lease opened
     pub leads : Leads keep opened lease d
+    pub idle : IsIdle d
 
   -- the hart is halted, at its stop, or waits for another
   abbrev pub IsHeld : BookView M → ℕ → Type 0

@@ -39,6 +39,7 @@ returns-in_ok-go_on-in-Ok g c =
               book = c.in-Ok.ensures.kept_open;
             };
             leads = c.in_ok-go_on-in-Ok.ensures.leads;
+            idle = c.in_ok-go_on-in-Ok.ensures.idle;
           };
       idle = c.in_ok-go_on-in-Ok.ensures.idle;
     }
