@@ -9,7 +9,6 @@ pub mod Covers
 pub mod Schedules
 pub mod Led
 pub mod Onward
-pub mod Filling
 pub mod Going
 pub mod Ran
 pub mod Ended

@@ -1,0 +1,196 @@
+-- A lease, step by step, and back in its book.
+use Rattle.std.proofs.Common.{◌≡◌, ◌≢◌, ℕ, zero, suc, ◌+◌, ◌<◌, ◌≤◌, ◌⊎◌, List, [], ◌∷◌, map, length, length-set, replicate, slice_get, slice_set, Option, None, Some, Result, Ok, Err, true, false, refl, sym, ap, subst, ◌∙◌, inl, inr, arith, lit<}
+use Rattle.std.specs.Result.{OnOk, is_err}
+use Rattle.rv32_hart.specs.declared.outcome.Tick.TheVariants.{Done, Miss}
+use Rattle.rv32_hart.specs.Hart.{Hart}
+use Rattle.ft_types.specs.declared.names.Want.{Want}
+use Rattle.ft_types.specs.declared.names.Want.TheVariants.{Read, Write}
+use Rattle.guest_image.specs.Machine.{MachineState}
+use Rattle.page_book.specs.declared.lease_pages.Slot.{Slot}
+use Rattle.page_book.specs.declared.lease_pages.Slot.TheVariants.{Readable, Writable}
+use Rattle.page_book.specs.declared.mode.Mode.{Ghosts}
+use Rattle.page_book.specs.declared.taken.Taken.{Taken}
+use Rattle.page_book.specs.Slots.{slot_at, want_of}
+use Rattle.page_book.specs.Leases.{LeaseView, Ticks, IsFull, inputs_next, IsLent, outputs_of, whole, whole_in, with_page, with_page_beside}
+use Rattle.page_book.specs.Books.{BookView, IsLentBy, IsOurs}
+use Rattle.page_book.specs.OpenLeases.{OpenView, open_at}
+use Rattle.page_book.specs.Laws.{StepCounts, LacksOnAPage, Covers}
+use Rattle.lease_rounds.specs.Leading.{IsIdle, IsAlone, Gives, Fills, NoneYet, Steps, Takes, lacking, rights_short}
+
+-- ---- a page that is given
+
+-- the other leases stay
+pub row_kept : (leases : List (Option OpenView)) (hart other : ℕ) (lent : Option OpenView) → other ≢ hart → open_at (slice_set leases hart lent) other ≡ open_at leases other
+row_kept [] hart other lent ne = refl
+row_kept (x ∷ leases) zero zero lent ne = absurd (ne refl)
+row_kept (x ∷ leases) zero (suc other) lent ne = refl
+row_kept (x ∷ leases) (suc hart) zero lent ne = refl
+row_kept (x ∷ leases) (suc hart) (suc other) lent ne = row_kept leases hart other lent (λ e. ne (ap suc e))
+
+-- a right more on one page leaves fewer to lack
+fewer_set : (slots : List Slot) (page : ℕ) (slot : Slot) → page < length slots → rights_short (want_of slot) < rights_short (want_of (slot_at slots page)) →
+    lacking (map want_of (slice_set slots page slot)) < lacking (map want_of slots)
+fewer_set [] page slot lt short = absurd (omega arith)
+fewer_set (s ∷ slots) zero slot lt short = omega (arith, short)
+fewer_set (s ∷ slots) (suc page) slot lt short = let rest = fewer_set slots page slot (omega arith) short in omega (arith, rest)
+
+fewer_beside : (held : Option Want) (want : Want) (l : LeaseView) (page : ℕ) (here : List ℕ) → want_of (slot_at l.slots page) ≡ held → page < length l.slots → (Covers held want → ⊥) →
+    lacking (map want_of (with_page_beside held want l page here).slots) < lacking (map want_of l.slots)
+fewer_beside None Read l page here is lt lacks = fewer_set l.slots page (Readable here) lt (rw is (lit< tt))
+fewer_beside (Some held) Read l page here is lt lacks = absurd (lacks (covers_read held))
+  where
+    covers_read : (w : Want) → Covers (Some w) Read
+    covers_read Read = tt
+    covers_read Write = tt
+fewer_beside None Write l page here is lt lacks = fewer_set l.slots page (Writable here) lt (rw is (lit< tt))
+fewer_beside (Some Read) Write l page here is lt lacks = fewer_set l.slots page (Writable here) lt (rw is (lit< tt))
+fewer_beside (Some Write) Write l page here is lt lacks = absurd (lacks tt)
+
+page_at : (pages : List (List ℕ)) (page : ℕ) → page < length pages → (here : List ℕ) × (slice_get pages page ≡ Some here)
+page_at [] page lt = absurd (omega arith)
+page_at (p ∷ pages) zero lt = (p, refl)
+page_at (p ∷ pages) (suc page) lt = page_at pages page (omega arith)
+
+lent_pages : (lent : Option OpenView) (m : MachineState) (l : LeaseView) → IsLentBy lent m l → length l.slots ≡ length m.pages
+lent_pages None m l p = absurd p
+lent_pages (Some lent) m l p = p.is_lent.as_many
+
+module _ {M : Type 0} (b : BookView M) (l : LeaseView) (alone : IsAlone b l) (page : ℕ) (on_page : page < length l.slots) where
+  pub need_within : page < length b.machine.pages
+  need_within = omega (arith, on_page, lent_pages (open_at b.leases l.hart) b.machine (whole_in b.machine l) alone.ours)
+
+  -- the lease lacks fewer rights then
+  pub fewer : (k : LeaseView) (want : Want) → (Covers (want_of (slot_at l.slots page)) want → ⊥) →
+      ((here : List ℕ) → slice_get b.machine.pages page ≡ Some here → k ≡ record (with_page l page want here) { edges = k.edges }) →
+      lacking (map want_of k.slots) < lacking (map want_of l.slots)
+  fewer k want lacks given =
+      let here = page_at b.machine.pages page need_within in
+      subst (λ (x : LeaseView). lacking (map want_of x.slots) < lacking (map want_of l.slots)) (sym (given here.0 here.1))
+      (fewer_beside (want_of (slot_at l.slots page)) want l page here.0 refl on_page lacks)
+
+-- the lease stays the book's only one
+pub still_alone : {M : Type 0} (b c : BookView M) (l k : LeaseView) (lent : Option OpenView) → IsAlone b l → k.hart ≡ l.hart → IsOurs c k →
+    c.leases ≡ slice_set b.leases l.hart lent → IsAlone c k
+still_alone b c l k lent alone hart ours leases =
+    record {
+      ours = ours;
+      alone = λ h ne.
+          ap (λ (x : List (Option OpenView)). open_at x h) leases
+          ∙ row_kept b.leases l.hart h lent (λ e. ne (e ∙ sym hart))
+          ∙ alone.alone h (λ e. ne (e ∙ sym hart));
+      rows = ap length leases ∙ length-set b.leases l.hart lent ∙ alone.rows;
+    }
+
+-- ---- a step
+
+lent_on : (lent : Option OpenView) (m : MachineState) (earlier : List (ℕ × ℕ)) (k n : LeaseView) → n.stop ≡ k.stop → n.inputs ≡ k.inputs → n.edges ≡ k.edges →
+    ((machine : MachineState) (taken : List (Option Taken)) (earlier : List (ℕ × ℕ)) → IsLent machine taken (whole earlier k) → IsLent machine taken (whole earlier n)) → IsLentBy lent m (whole earlier k) → IsLentBy lent m (whole earlier n)
+lent_on None m earlier k n stop inputs edges still p = absurd p
+lent_on (Some lent) m earlier k n stop inputs edges still p =
+    record { stop = stop ∙ p.stop; inputs = inputs ∙ p.inputs; edges = edges ∙ p.edges; is_lent = still m lent.taken earlier p.is_lent }
+
+-- a step leaves whose lease it is
+pub alone_ticked : {M : Type 0} (c : BookView M) (k n : LeaseView) →
+    ((machine : MachineState) (taken : List (Option Taken)) (earlier : List (ℕ × ℕ)) → IsLent machine taken (whole earlier k) → IsLent machine taken (whole earlier n)) →
+    IsAlone c k → Ticks Done k n → IsAlone c n
+alone_ticked c k n still alone t =
+    let hart : n.hart ≡ k.hart = ap (λ (x : LeaseView). x.hart) t.0 in
+    let stop : n.stop ≡ k.stop = ap (λ (x : LeaseView). x.stop) t.0 in
+    let inputs : n.inputs ≡ k.inputs = ap (λ (x : LeaseView). x.inputs) t.0 in
+    let edges : n.edges ≡ k.edges = ap (λ (x : LeaseView). x.edges) t.0 in
+    record {
+      ours = subst (λ (h : ℕ). IsLentBy (open_at c.leases h) c.machine (whole (outputs_of (slice_get c.machine.harts h)) n)) (sym hart) (lent_on (open_at c.leases k.hart) c.machine (outputs_of (slice_get c.machine.harts k.hart)) k n stop inputs edges still alone.ours);
+      alone = λ h ne. alone.alone h (λ e. ne (e ∙ sym hart));
+      rows = alone.rows;
+    }
+
+-- the page that a step lacks
+pub lacks_there : (k n : LeaseView) (page : ℕ) (want : Want) → LacksOnAPage → Ticks (Miss page want) k n →
+    (page < length n.slots) × (Covers (want_of (slot_at n.slots page)) want → ⊥)
+lacks_there k n page want law t =
+    let lacks = law k (inputs_next k) page want t.1 in
+    subst (λ (x : LeaseView). (page < length x.slots) × (Covers (want_of (slot_at x.slots page)) want → ⊥)) (sym t.0) lacks
+
+-- ---- steps and pages
+
+-- the lease's hart has taken no step, or some, not past its stop
+abbrev pub HasGone : LeaseView → LeaseView → Type 0
+HasGone l k = ((k.present ≡ l.present) × (k.steps ≡ l.steps)) ⊎ ((l.present.count < k.present.count) × (k.present.count ≤ k.stop))
+
+-- what stays while a lease is filled, and how far its hart goes
+pub record HasFilled {M : Type 0} (b : BookView M) (l : LeaseView) (c : BookView M) (k : LeaseView) : Type 0 where
+  pub book : c ≡ record b { leases = c.leases; mode = c.mode }
+  pub hart : k.hart ≡ l.hart
+  pub base : k.base ≡ l.base
+  pub stop : k.stop ≡ l.stop
+  pub gone : HasGone l k
+
+below_stop : (l : LeaseView) → (IsFull l → ⊥) → l.present.count < l.stop
+below_stop l room = omega (arith, λ (le : l.stop ≤ l.present.count). room (inr (inl le)))
+
+counts_on : (l k n : LeaseView) → HasGone l k → n.stop ≡ k.stop → n.present.count ≡ k.present.count + 1 → k.present.count < k.stop → HasGone l n
+counts_on l k n gone stop one lt = elim gone [
+  | inl same ↦ inr (omega (arith, one, ap (λ (h : Hart). h.count) same.0), omega (arith, one, stop, lt))
+  | inr on ↦ inr (omega (arith, one, on.0), omega (arith, one, stop, lt))
+]
+
+gone_as : (l k m : LeaseView) → HasGone l k → m.present ≡ k.present → m.steps ≡ k.steps → m.stop ≡ k.stop → HasGone l m
+gone_as l k m gone present steps stop =
+    let count : m.present.count ≡ k.present.count = ap (λ (h : Hart). h.count) present in
+    elim gone [
+      | inl same ↦ inl (present ∙ same.0, steps ∙ same.1)
+      | inr on ↦ inr (omega (arith, count, on.0), omega (arith, count, stop, on.1))
+    ]
+
+module _ {M : Type 0} (g : Ghosts M) (b : BookView M) (l : LeaseView) where
+  pub has_filled : StepCounts → (c : BookView M) (k : LeaseView) → Fills g b l c k → HasFilled b l c k
+  has_filled counts c k NoneYet = record { book = refl; hart = refl; base = refl; stop = refl; gone = inl (refl, refl) }
+  has_filled counts c k (Steps {c = now} {k = before} n fills room t) =
+      let f = has_filled counts now before fills in
+      record {
+        book = f.book;
+        hart = ap (λ (x : LeaseView). x.hart) t.0 ∙ f.hart;
+        base = ap (λ (x : LeaseView). x.base) t.0 ∙ f.base;
+        stop = ap (λ (x : LeaseView). x.stop) t.0 ∙ f.stop;
+        gone = counts_on l before k f.gone (ap (λ (x : LeaseView). x.stop) t.0) (counts before k t) (below_stop before room);
+      }
+  has_filled counts c k (Takes {c = before} {k = held} d n fills room given) =
+      let f = has_filled counts before held fills in
+      record {
+        book = given.book ∙ ap (λ (x : BookView M). let y : BookView M = record x { leases = c.leases; mode = c.mode } in y) f.book;
+        hart = given.hart ∙ f.hart;
+        base = given.base ∙ f.base;
+        stop = given.stop ∙ f.stop;
+        gone = gone_as l held k f.gone given.present given.steps given.stop;
+      }
+
+-- ---- back in the book
+
+pub where_ok : {A E P : Type 0} (r : Result A E) → false ≡ is_err r → OnOk r P → P
+where_ok (Ok x) e p = p
+where_ok (Err x) e p = cc
+
+pub on_ok : {A E P Q : Type 0} (r : Result A E) → (P → Q) → OnOk r P → OnOk r Q
+on_ok (Ok x) f p = f p
+on_ok (Err x) f p = tt
+
+none_left : (leases : List (Option OpenView)) (hart other : ℕ) → (other ≢ hart → open_at leases other ≡ None) → open_at (slice_set leases hart None) other ≡ None
+none_left [] hart other e = refl
+none_left (x ∷ leases) zero zero e = refl
+none_left (x ∷ leases) zero (suc other) e = e (λ f. cc)
+none_left (x ∷ leases) (suc hart) zero e = e (λ f. cc)
+none_left (x ∷ leases) (suc hart) (suc other) e = none_left leases hart other (λ ne. e (λ f. ne (let same : other ≡ hart = cc in same)))
+
+all_none : (leases : List (Option OpenView)) → ((hart : ℕ) → open_at leases hart ≡ None) → leases ≡ replicate (length leases) None
+all_none [] none = refl
+all_none (x ∷ leases) none =
+    let first : x ≡ None = none zero in
+    let rest : leases ≡ replicate (length leases) None = all_none leases (λ hart. none (suc hart)) in
+    ap (λ (y : Option OpenView). y ∷ leases) first ∙ ap (λ (ys : List (Option OpenView)). None ∷ ys) rest
+
+-- no lease is open, once the only one came back
+pub idle_again : {M : Type 0} (c d : BookView M) (k : LeaseView) → IsAlone c k → d.leases ≡ slice_set c.leases k.hart None → IsIdle d
+idle_again c d k alone is =
+    is
+    ∙ all_none (slice_set c.leases k.hart None) (λ other. none_left c.leases k.hart other (alone.alone other))
+    ∙ ap (λ (n : ℕ). replicate n None) (length-set c.leases k.hart None ∙ alone.rows)

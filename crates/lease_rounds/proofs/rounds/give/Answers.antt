@@ -1,0 +1,42 @@
+use Rattle.lease_rounds.proofs.Filling.{fewer, need_within, still_alone}
+use Rattle.page_book.specs.Asks.{asked_by}
+use Rattle.page_book.specs.OpenLeases.{open_at, given_more}
+use Rattle.lease_rounds.proofs.rounds.give.Goals as goal
+
+pub need-requires : goal.need-requires
+need-requires g c = need_within c.args.book.now c.args.lease.now c.requires.alone c.args.page c.requires.page
+
+pub unreachable-requires : goal.unreachable-requires
+unreachable-requires g c =
+    (rw c.in-Ok-HeldBy.field-0-is at c.in-Ok-HeldBy.ensures.not_free)
+    (c.requires.free c.args.book.now.mode c.args.book.now.leases (asked_by c.args.lease.now c.args.page c.args.want) c.requires.alone.alone)
+
+pub returns-in-Ok-Given-clause-gives : goal.returns-in-Ok-Given-clause-gives
+returns-in-Ok-Given-clause-gives g c =
+    record {
+      page = c.args.page;
+      want = c.args.want;
+      on_page = c.requires.page;
+      lacks = c.requires.lacks;
+      book = c.need.ensures.book;
+      mode = rw c.in-Ok-Given.field-0-is at c.in-Ok-Given.ensures.mode;
+      taken = rw c.in-Ok-Given.field-0-is at c.in-Ok-Given.ensures.taken;
+      given = rw c.in-Ok-Given.field-0-is at c.in-Ok-Given.ensures.given;
+      hart = c.need.ensures.hart;
+      base = c.need.ensures.base;
+      present = c.need.ensures.present;
+      steps = c.need.ensures.steps;
+      stop = c.need.ensures.stop;
+    }
+
+pub returns-in-Ok-Given-clause-alone : goal.returns-in-Ok-Given-clause-alone
+returns-in-Ok-Given-clause-alone g c =
+    let taken = rw c.in-Ok-Given.field-0-is at c.in-Ok-Given.ensures.taken in
+    let b = c.args.book.now in
+    let l = c.args.lease.now in
+    still_alone b c.need.new.self l c.need.new.lease (given_more (open_at b.leases l.hart) c.args.page c.args.want l.present.count taken.found) c.requires.alone c.need.ensures.hart c.in-Ok-Given.ensures.ours taken.noted
+
+pub returns-in-Ok-Given-clause-fewer : goal.returns-in-Ok-Given-clause-fewer
+returns-in-Ok-Given-clause-fewer g c =
+    fewer c.args.book.now c.args.lease.now c.requires.alone c.args.page c.requires.page c.need.new.lease c.args.want c.requires.lacks
+    (rw c.in-Ok-Given.field-0-is at c.in-Ok-Given.ensures.given)

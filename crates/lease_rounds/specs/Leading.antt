@@ -1,0 +1,125 @@
+-- A book that is led lease by lease.
+use Rattle.std.specs.Prelude.{◌≡◌, ◌≢◌, ◌<◌, ◌≤◌, ◌+◌, ◌⊎◌, ℕ, List, [], ◌∷◌, length, replicate, slice_get, slice_set, Bool, true, false, Option, None, Some}
+use Rattle.ft_types.specs.Counts.{count_at}
+use Rattle.ft_types.specs.declared.names.Want.{Want}
+use Rattle.ft_types.specs.declared.names.Want.TheVariants.{Read, Write}
+use Rattle.interleaving.specs.Log.{IsMet, HasUnmet}
+use Rattle.rv32_hart.specs.Hart.{Hart, without_outputs}
+use Rattle.rv32_hart.specs.declared.outcome.Tick.TheVariants.{Done}
+use Rattle.page_book.specs.declared.answers.Keep.{Keep}
+use Rattle.page_book.specs.declared.asked.Asked.{Asked}
+use Rattle.page_book.specs.declared.mode.Mode.{Ghosts}
+use Rattle.page_book.specs.Asks.{asked_by}
+use Rattle.page_book.specs.Books.{BookView, HasTaken, IsOurs, added, refusal}
+use Rattle.page_book.specs.Laws.{Covers}
+use Rattle.page_book.specs.Leases.{LeaseView, IsFull, Ticks, fresh, laid, whole_in, with_page}
+use Rattle.page_book.specs.OpenLeases.{OpenView, LentView, lent_with, nothing_taken, open_at}
+use Rattle.page_book.specs.Runs.{counts_of}
+use Rattle.page_book.specs.Slots.{slot_at, want_of}
+
+-- no lease is open
+abbrev pub IsIdle : {M : Type 0} → BookView M → Type 0
+IsIdle b = b.leases ≡ replicate 8 None
+
+-- the lease is the book's, and no other is open
+pub record IsAlone {M : Type 0} (b : BookView M) (l : LeaseView) : Type 0 where
+  pub ours : IsOurs b l
+  pub alone : (hart : ℕ) → hart ≢ l.hart → open_at b.leases hart ≡ None
+  pub rows : length b.leases ≡ 8
+
+-- how many rights on pages the lease lacks
+abbrev pub rights_short : Option Want → ℕ
+rights_short None = 2
+rights_short (Some Read) = 1
+rights_short (Some Write) = 0
+
+abbrev pub lacking : List (Option Want) → ℕ
+lacking [] = 0
+lacking (right ∷ rest) = rights_short right + lacking rest
+
+-- what the lease went out with
+abbrev pub lent_as : LeaseView → LentView
+lent_as l = lent_with l.stop l.inputs l.edges
+
+-- ---- in a mode
+
+module _ {M : Type 0} (g : Ghosts M) where
+  -- where no other lease is open, no hart is in the asker's way
+  abbrev pub IsFreeAlone : Type 0
+  IsFreeAlone =
+      (r : M) (leases : List (Option OpenView)) (asked : Asked) → ((hart : ℕ) → hart ≢ asked.hart → open_at leases hart ≡ None) → (other : ℕ) →
+      g.is_holder r leases asked other → ⊥
+
+  -- The lease, in the first book, was given a page on which it lacked the right: it comes as it stands in the machine, and the
+  -- edges owed wait in the lease.
+  pub record Gives (b : BookView M) (l : LeaseView) (c : BookView M) (k : LeaseView) : Type 0 where
+    pub page : ℕ
+    pub want : Want
+    pub on_page : page < length l.slots
+    pub lacks : Covers (want_of (slot_at l.slots page)) want → ⊥
+    pub book : c ≡ record b { leases = c.leases; mode = c.mode }
+    pub mode : g.gives b.mode (counts_of b.machine) (asked_by l page want) c.mode
+    pub taken : HasTaken (g.owes b.mode (counts_of b.machine) (asked_by l page want)) b.leases (asked_by l page want) l.edges k.edges c.leases
+    pub given : (here : List ℕ) → slice_get b.machine.pages page ≡ Some here → k ≡ record (with_page l page want here) { edges = k.edges }
+    pub hart : k.hart ≡ l.hart
+    pub base : k.base ≡ l.base
+    pub present : k.present ≡ l.present
+    pub steps : k.steps ≡ l.steps
+    pub stop : k.stop ≡ l.stop
+
+  -- while it was not full, the lease took a step or was given a page, again and again
+  pub data Fills (b : BookView M) (l : LeaseView) : BookView M → LeaseView → Type 0 where
+    NoneYet : Fills b l b l
+    Steps : {c : BookView M} {k : LeaseView} (n : LeaseView) → Fills b l c k → (IsFull k → ⊥) → Ticks Done k n → Fills b l c n
+    Takes : {c : BookView M} {k : LeaseView} (d : BookView M) (n : LeaseView) → Fills b l c k → (IsFull k → ⊥) → Gives c k d n → Fills b l d n
+
+  -- the lease came back to the first book with its steps, and its hart keeps what it is told of its rights
+  pub record ComesBack (keep : Keep) (b : BookView M) (l : LeaseView) (c : BookView M) : Type 0 where
+    pub start : c.start ≡ b.start
+    pub machine : c.machine ≡ laid b.machine (whole_in b.machine l)
+    pub journal : c.journal ≡ added b.journal l.hart l.steps
+    pub leases : c.leases ≡ slice_set b.leases l.hart None
+    pub mode : g.settles b.mode l keep c.mode
+
+  -- the lease, in the first book, was filled and came back
+  pub record Leads (keep : Keep) (b : BookView M) (l : LeaseView) (d : BookView M) : Type 0 where
+    pub filled : BookView M
+    pub lease : LeaseView
+    pub fills : Fills b l filled lease
+    pub full : IsFull lease
+    pub back : ComesBack keep filled lease d
+
+  -- the first book lent the hart, which runs, is below its stop and has each edge of its next step met
+  pub record Lends (hart : ℕ) (b : BookView M) (l : LeaseView) (c : BookView M) : Type 0 where
+    pub state : Hart
+    pub there : slice_get b.machine.harts hart ≡ Some state
+    pub unrefused : refusal (open_at b.leases hart) state (count_at (g.stops b.mode) hart) ≡ None
+    pub met : IsMet (g.obeyed b.mode) (counts_of b.machine) hart
+    pub lent : l ≡ fresh hart (without_outputs state) (length b.machine.pages) (lent_as l)
+    pub mode : g.lends b.mode hart (counts_of b.machine hart) (lent_as l) c.mode
+    pub book : c ≡ record b { leases = slice_set b.leases hart (Some (nothing_taken (lent_as l))); mode = c.mode }
+
+  -- the hart went on for one lease, and no lease is open
+  pub record GoesOn (keep : Keep) (hart : ℕ) (b d : BookView M) : Type 0 where
+    pub opened : BookView M
+    pub lease : LeaseView
+    pub lends : Lends hart b lease opened
+    pub leads : Leads keep opened lease d
+    pub idle : IsIdle d
+
+  -- the hart is halted, at its stop, or waits for another
+  abbrev pub IsHeld : BookView M → ℕ → Type 0
+  IsHeld b hart =
+      (h : Hart) → slice_get b.machine.harts hart ≡ Some h →
+      (h.halted ≡ true) ⊎ (count_at (g.stops b.mode) hart ≤ h.count) ⊎ HasUnmet (g.obeyed b.mode) (counts_of b.machine) hart
+
+  -- the hart went on, or it cannot, and nothing has changed
+  abbrev pub Goes : Keep → Bool → ℕ → BookView M → BookView M → Type 0
+  Goes keep true hart b c = GoesOn keep hart b c
+  Goes keep false hart b c = (c ≡ b) × IsHeld b hart
+
+  -- the first harts went on in rising order, each for one lease, but for those that could not; whether one did
+  pub data Rounds (keep : Keep) (b : BookView M) : Bool → ℕ → BookView M → Type 0 where
+    NoHart : Rounds keep b false 0 b
+    Went : {went : Bool} {n : ℕ} {c : BookView M} (d : BookView M) → Rounds keep b went n c → GoesOn keep n c d → Rounds keep b true (n + 1) d
+    Stood : {went : Bool} {n : ℕ} {c : BookView M} → Rounds keep b went n c → IsHeld c n → Rounds keep b went (n + 1) c

@@ -1,0 +1,6 @@
+//! Leading a book lease by lease, in either mode: its harts go on in turn.
+#![tactic(auto)]
+
+mod rounds;
+
+pub use rounds::{fill, go, go_round};

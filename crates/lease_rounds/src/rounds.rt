@@ -1,0 +1,130 @@
+//! One lease after the other: each is filled with steps and settled.
+
+ghost use Rattle.std.specs.Prelude.{◌≡◌, ◌<◌, ℕ, length, map, IfOk, OnOk};
+ghost use Rattle.page_book.specs.Slots.{slot_at, want_of};
+ghost use Rattle.page_book.specs.Leases.{IsFull};
+ghost use Rattle.page_book.specs.Books.{IsOurs};
+ghost use Rattle.page_book.specs.Laws.{Covers};
+ghost use Rattle.lease_rounds.specs.Leading.{IsIdle, IsAlone, IsFreeAlone, Gives, Fills, ComesBack, Leads, Goes, Rounds, lacking};
+
+use ft_types::{Hart, Memory, PageNo, Want};
+use page_book::{Book, BookFault, Keep, Lease, Mode, Need, steps_of_leases};
+use rv32_hart::Tick;
+use std::alloc::Global;
+use std::result::Result;
+
+/// Gives the one lease a page that its step lacks.
+fn give<M: Mode>(
+    book: &mut Book<M>,
+    lease: &mut Lease,
+    page: PageNo,
+    want: Want,
+) -> Result<(), Memory>
+    requires free { IsFreeAlone M.Mode }
+    requires alone { IsAlone book.old lease.old }
+    requires page { page < length lease.old.slots }
+    requires lacks { Covers (want_of (slot_at lease.old.slots page)) want → ⊥ }
+    ensures gives { OnOk result (Gives M.Mode book.old lease.old book.new lease.new) }
+    ensures alone { OnOk result (IsAlone book.new lease.new) }
+    ensures fewer { OnOk result (lacking (map want_of lease.new.slots) < lacking (map want_of lease.old.slots)) }
+{
+    match book.need(lease, page, want) {
+        Ok(Need::Given) => Ok(()),
+        Ok(Need::HeldBy(_)) => unreachable!(),
+        Err(BookFault::Memory) => Err(Memory),
+        Err(_) => unreachable!(),
+    }
+}
+
+/// Takes steps until the book's one lease is full. A page that a step lacks is given.
+pub fn fill<M: Mode>(book: &mut Book<M>, lease: &mut Lease) -> Result<(), Memory>
+    requires free { IsFreeAlone M.Mode }
+    requires alone { IsAlone book.old lease.old }
+    ensures fills { OnOk result (Fills M.Mode book.old lease.old book.new lease.new) }
+    ensures full { OnOk result (IsFull lease.new) }
+    ensures alone { OnOk result (IsAlone book.new lease.new) }
+{
+    steps_of_leases();
+    while !lease.full() {
+        match lease.tick() {
+            Tick::Done => {}
+            Tick::Miss(page, want) => give(book, lease, page, want)?,
+            Tick::Memory => return Err(Memory),
+            Tick::Halted => unreachable!(),
+        }
+    }
+    Ok(())
+}
+
+/// Settles the lease. Its hart keeps the rights that it is told.
+fn bring_back<M: Mode>(book: &mut Book<M>, lease: Lease, keep: Keep) -> Result<(), Memory>
+    requires { IsOurs book.old lease }
+    ensures { OnOk result (ComesBack M.Mode keep book.old lease book.new) }
+{
+    match book.settle(lease, keep) {
+        Ok(()) => Ok(()),
+        Err((lease, BookFault::Memory)) => {
+            let _ended = book.discard(lease);
+            Err(Memory)
+        }
+        Err((lease, _)) => {
+            let _ended = book.discard(lease);
+            unreachable!()
+        }
+    }
+}
+
+/// Takes the steps of a lease, and settles them.
+fn go_on<M: Mode>(book: &mut Book<M>, mut lease: Lease, keep: Keep) -> Result<(), Memory>
+    requires free { IsFreeAlone M.Mode }
+    requires alone { IsAlone book.old lease }
+    ensures leads { OnOk result (Leads M.Mode keep book.old lease book.new) }
+    ensures idle { OnOk result (IsIdle book.new) }
+{
+    if fill(book, &mut lease).is_err() {
+        let _ended = book.discard(lease);
+        return Err(Memory);
+    }
+    bring_back(book, lease, keep)
+}
+
+/// Takes the steps of one lease of a hart, where it may go on, and settles them. Whether it did. Where memory is refused, the
+/// lease is given up.
+pub fn go<M: Mode>(
+    alloc: Global,
+    book: &mut Book<M>,
+    hart: Hart,
+    keep: Keep,
+) -> Result<bool, Memory>
+    requires free { IsFreeAlone M.Mode }
+    requires hart { hart < length book.old.machine.harts }
+    requires idle { IsIdle book.old }
+    ensures goes { IfOk result (λ went. Goes M.Mode keep went hart book.old book.new) }
+    ensures idle { OnOk result (IsIdle book.new) }
+{
+    match book.lease(alloc, hart) {
+        Ok(lease) => {
+            go_on(book, lease, keep)?;
+            Ok(true)
+        }
+        Err(fault) if fault == BookFault::Memory => Err(Memory),
+        Err(_) => Ok(false),
+    }
+}
+
+/// Lets each hart go on in turn, where it may. Whether one did.
+pub fn go_round<M: Mode>(alloc: Global, book: &mut Book<M>, keep: Keep) -> Result<bool, Memory>
+    requires free { IsFreeAlone M.Mode }
+    requires idle { IsIdle book.old }
+    ensures rounds { IfOk result (λ went. Rounds M.Mode keep book.old went (length book.old.machine.harts) book.new) }
+    ensures idle { OnOk result (IsIdle book.new) }
+{
+    let mut went = false;
+    let harts = book.machine().harts();
+    for number in 0..harts {
+        if go(alloc, book, Hart::new(number), keep)? {
+            went = true;
+        }
+    }
+    Ok(went)
+}

@@ -1,0 +1,198 @@
+-- One lease of a book that records: what the book tells, and which rights are held.
+use Rattle.std.proofs.Common.{◌≡◌, ◌≢◌, ℕ, zero, suc, ◌+◌, ◌<◌, ◌≤◌, ◌++◌, List, [], ◌∷◌, All, map, length, slice_get, true, false, Bool, Option, None, Some, refl, sym, ap, subst, ◌∙◌, inl, inr, arith, append-nil, eq-eqb}
+use Rattle.std.proofs.lemmas.Bool.{cases_eq, cases_lt}
+use Rattle.std.proofs.lemmas.Grind.{common_steps}
+use Rattle.std.proofs.lemmas.List.Elements.{All-nil, All-map}
+use Rattle.interleaving.proofs.Put.{same_or_not, put_same}
+use Rattle.edge_log.specs.EdgeLog.{AreAdded}
+use Rattle.ft_types.specs.Counts.{count_at}
+use Rattle.ft_types.specs.declared.names.Want.{Want}
+use Rattle.ft_types.specs.declared.names.Want.TheVariants.{Read, Write}
+use Rattle.input_log.specs.declared.Input.{Input}
+use Rattle.input_log.specs.Inputs.{inputs_of}
+use Rattle.input_log.specs.Waiting.{bells_of, others_of, next_going}
+use Rattle.crew_pages.specs.declared.right.PageRight.{PageRight}
+use Rattle.crew_pages.specs.Rights as crew
+use Rattle.crew_pages.specs.Rights.{Right, Shared, Exclusive, holds}
+use Rattle.guest_image.specs.Machine.{MachineState}
+use Rattle.rv32_hart.specs.Hart.{Hart}
+use Rattle.page_book.specs.declared.answers.Keep.TheVariants as told
+use Rattle.page_book.specs.declared.asked.Asked.{Asked}
+use Rattle.page_book.specs.declared.mode.Mode.{Ghosts}
+use Rattle.page_book.specs.declared.stretch.Stretch.{Stretch}
+use Rattle.page_book.specs.Books.{BookView, added}
+use Rattle.page_book.specs.Dues.{stop_before}
+use Rattle.page_book.specs.Leases.{LeaseView}
+use Rattle.page_book.specs.OpenLeases.{OpenView, has_taken}
+use Rattle.page_book.specs.Recordings.{RecordingView, GoesOut, IsFilled, IsTaker, AreOwed, IsGiven, IsSettled, IsEnded, IsRecorded, LogsInputs, heard_by, right_at, right_met, right_stored}
+use Rattle.page_book.specs.Runs.{counts_of, steps_taken}
+use Rattle.lease_rounds.specs.Leading.{IsFreeAlone, Fills, NoneYet, Steps, Takes, GoesOn}
+use Rattle.lease_rounds.proofs.Going.{IsAhead, same_machine, lease_filled, own, harts_stay}
+use Rattle.primary_pool.specs.Running.{Continues, HearsMore, KeepHeld}
+
+-- recording, as a mode
+abbrev pub recording : Ghosts RecordingView
+recording =
+    record {
+      stops = λ r. r.limits;
+      obeyed = λ r. [];
+      heard = heard_by;
+      keeps = λ r start machine journal leases. IsRecorded r start machine journal leases;
+      lends = GoesOut;
+      is_holder = λ r leases asked other. IsTaker r leases asked other;
+      owes = λ r settled asked found. AreOwed r settled asked found;
+      gives = λ r settled asked new. IsGiven r settled asked new;
+      settles = λ r lease keep new. IsSettled r lease keep new;
+      ends = λ r hart count taken new. IsEnded r hart count taken new;
+    }
+
+-- ---- a hart that is lent
+
+-- no hart is in its own way
+not_own : (r : RecordingView) (leases : List (Option OpenView)) (asked : Asked) → IsTaker r leases asked asked.hart → ⊥
+not_own r leases asked taker = grind (arith, common_steps, taker.0)
+
+-- where no other lease is open, a page is free
+pub free_alone : IsFreeAlone recording
+free_alone r leases asked none other taker =
+    let ne : other ≢ asked.hart =
+    λ (e : other ≡ asked.hart). not_own r leases asked (subst (λ (h : ℕ). IsTaker r leases asked h) e taker) in
+    let no : false ≡ true = ap (λ (o : Option OpenView). has_taken o asked.page) (sym (none other ne)) ∙ taker.1 in
+    cc
+
+-- how far it goes
+stops_within : (limit count stop : ℕ) (next : Option ℕ) → count < limit → stop ≡ stop_before limit count next → (count < stop) × (stop ≤ limit)
+stops_within limit count stop None lt is = (omega (arith, is), omega (arith, is))
+stops_within limit count stop (Some next) lt is = (omega (arith, is), omega (arith, is))
+
+pub ahead : IsAhead recording
+ahead r s hart count lent lt goes = stops_within (count_at r.limits hart) count lent.stop (next_going (bells_of s.desk hart) (others_of s.desk hart)) lt goes.stop
+
+filled_keeps : (b : Bool) (r : RecordingView) (hart count : ℕ) (new : RecordingView) → IsFilled b r hart count new →
+    new ≡ record r { due = new.due; desk = new.desk }
+filled_keeps false r hart count new same = subst (λ (x : RecordingView). x ≡ record r { due = x.due; desk = x.desk }) (sym same) refl
+filled_keeps true r hart count new takes = takes.rest
+
+-- ---- a lease that is filled
+
+-- whoever is given a right has it
+has_given : (r : Right) (hart : ℕ) (want : Want) (n : ℕ) → (other : ℕ) × (holds (crew.given r hart want n) other ≡ true)
+has_given (Shared since readers left) hart Read n = (hart, put_same readers hart hart true refl)
+has_given (Shared since readers left) hart Write n = (hart, eq-eqb hart hart refl)
+has_given (Exclusive owner at since left) hart want n = (owner, eq-eqb owner owner refl)
+
+held_on : (b c : BookView RecordingView) (settled : ℕ → ℕ) (asked : Asked) → IsGiven b.mode settled asked c.mode → KeepHeld b c
+held_on b c settled asked g = λ page held.
+    elim (same_or_not asked.page page) [
+      | inl same ↦
+          (let now = has_given (right_met b.mode settled asked) asked.hart asked.want asked.count in
+          subst (λ (p : ℕ). (hart : ℕ) × (holds (right_at c.mode.rights p) hart ≡ true)) same (subst (λ (r : Right). (hart : ℕ) × (holds r hart ≡ true)) (sym g.page) now))
+      | inr other ↦ subst (λ (r : Right). (hart : ℕ) × (holds r hart ≡ true)) (sym (g.others page other)) held
+    ]
+
+-- rights may have changed, and nothing else of the mode; each page that was held is held
+record KeepsRest (b c : BookView RecordingView) : Type 0 where
+  mode : c.mode ≡ record b.mode { rights = c.mode.rights }
+  held : KeepHeld b c
+
+keeps_rest : (b : BookView RecordingView) (l : LeaseView) (c : BookView RecordingView) (k : LeaseView) → Fills recording b l c k → KeepsRest b c
+keeps_rest b l c k NoneYet = record { mode = refl; held = λ page held. held }
+keeps_rest b l c k (Steps {c = now} {k = before} n fills room t) = keeps_rest b l c before fills
+keeps_rest b l c k (Takes {c = before} {k = asker} d n fills room given) =
+    let p = keeps_rest b l before asker fills in
+    record {
+      mode = given.mode.rest ∙ ap (λ (m : RecordingView). let s : RecordingView = record m { rights = c.mode.rights } in s) p.mode;
+      held = λ page held.
+          held_on before c (counts_of before.machine) (record { hart = asker.hart; count = asker.present.count; page = given.page; want = given.want })
+          given.mode page (p.held page held);
+    }
+
+-- ---- what the log has then
+
+longer : (journal : List Stretch) (hart steps : ℕ) → (more : List Stretch) × (added journal hart steps ≡ journal ++ more)
+longer journal hart zero = ([], sym (append-nil journal))
+longer journal hart (suc steps) = (record { hart = hart; steps = suc steps } ∷ [], grind (arith, common_steps))
+
+hears_nothing : (row : List (ℕ × Input)) (count : ℕ) (now : List (ℕ × Input)) → now ≡ row → HearsMore row count now
+hears_nothing row count now e = ([], e ∙ sym (append-nil row), All-nil (λ x. count ≤ x.0))
+
+all_at : (count at : ℕ) (inputs : List Input) → count ≤ at → All (λ x. count ≤ x.0) (map (λ (i : Input). let x : ℕ × Input = (at, i) in x) inputs)
+all_at count at inputs le = All-map (λ (x : ℕ × Input). count ≤ x.0) (λ (i : Input). let x : ℕ × Input = (at, i) in x) inputs (λ k d lt. le)
+
+hears_on : (b : MachineState) (l : LeaseView) (steps : ℕ) (before after : List (List (ℕ × Input))) → counts_of b l.hart ≡ l.base.count →
+    LogsInputs steps before l after → (hart : ℕ) → HearsMore (inputs_of before hart) (counts_of b hart) (inputs_of after hart)
+hears_on b l zero before after lent logs hart =
+    hears_nothing (inputs_of before hart) (counts_of b hart) (inputs_of after hart) (ap (λ (x : List (List (ℕ × Input))). inputs_of x hart) logs)
+hears_on b l (suc steps) before after lent logs hart = elim (cases_eq hart l.hart) [
+  | inl own_hart ↦
+      subst (λ (h : ℕ). HearsMore (inputs_of before h) (counts_of b h) (inputs_of after h)) (sym own_hart)
+      (map (λ i. (l.base.count, i)) l.inputs, logs.row, all_at (counts_of b l.hart) l.base.count l.inputs (omega (arith, lent)))
+  | inr other ↦ hears_nothing (inputs_of before hart) (counts_of b hart) (inputs_of after hart) (logs.others hart other)
+]
+
+-- ---- rights
+
+beyond : (rights : List PageRight) (page : ℕ) → length rights ≤ page → slice_get rights page ≡ None
+beyond [] page le = refl
+beyond (r ∷ rights) zero le = absurd (omega (arith, le))
+beyond (r ∷ rights) (suc page) le = beyond rights page (omega (arith, le))
+
+rights_stay : (old new : List PageRight) → length new ≡ length old → ((page : ℕ) → page < length old → right_at new page ≡ right_at old page) →
+    (page : ℕ) → right_at new page ≡ right_at old page
+rights_stay old new many same page = elim (cases_lt page (length old)) [
+  | inl below ↦ same page below
+  | inr above ↦ ap right_stored (beyond new page (omega (arith, many, above)) ∙ sym (beyond old page above))
+]
+
+-- ---- a lease of a hart
+
+module _ (hart : ℕ) (b d : BookView RecordingView) (on : GoesOn recording told.All hart b d) where
+  abbrev filled : BookView RecordingView
+  filled = on.leads.filled
+
+  abbrev k : LeaseView
+  k = on.leads.lease
+
+  rest : KeepsRest on.opened on.leads.filled
+  rest = keeps_rest on.opened on.lease filled k on.leads.fills
+
+  mode_is : on.leads.filled.mode ≡ record b.mode { rights = on.leads.filled.mode.rights; due = on.opened.mode.due; desk = on.opened.mode.desk }
+  mode_is =
+      rest.mode
+      ∙ ap (λ (m : RecordingView). let s : RecordingView = record m { rights = filled.mode.rights } in s)
+      (filled_keeps _ b.mode hart (counts_of b.machine hart) on.opened.mode on.lends.mode.filled)
+
+  counted : counts_of b.machine on.leads.lease.hart ≡ on.leads.lease.base.count
+  counted =
+      let f = lease_filled recording told.All hart b d on in
+      ap (counts_of b.machine) (f.hart ∙ own recording told.All hart b d on)
+      ∙ ap steps_taken on.lends.there
+      ∙ sym (ap (λ (h : Hart). h.count) f.base ∙ ap (λ (x : LeaseView). x.base.count) on.lends.lent)
+
+  pub limits : d.mode.limits ≡ b.mode.limits
+  limits = on.leads.back.mode.limits ∙ ap (λ (m : RecordingView). m.limits) mode_is
+
+  pub keep_held : KeepHeld b d
+  keep_held page held =
+      let settled = on.leads.back.mode in
+      let opened =
+      subst (λ (m : RecordingView). (other : ℕ) × (holds (right_at m.rights page) other ≡ true))
+      (sym (filled_keeps _ b.mode hart (counts_of b.machine hart) on.opened.mode on.lends.mode.filled)) held in
+      subst (λ (r : Right). (other : ℕ) × (holds r other ≡ true))
+      (sym (rights_stay filled.mode.rights d.mode.rights settled.many settled.rights page)) (rest.held page opened)
+
+  pub continues : d.start ≡ b.start → Continues b d
+  continues start =
+      record {
+        start = start;
+        harts = harts_stay recording told.All hart b d on;
+        journal =
+            let more = longer b.journal k.hart k.steps in
+            let f = lease_filled recording told.All hart b d on in
+            let same : filled.journal ≡ b.journal = ap (λ (x : BookView RecordingView). x.journal) f.book ∙ ap (λ (x : BookView RecordingView). x.journal) on.lends.book in
+            (more.0, on.leads.back.journal ∙ ap (λ (j : List Stretch). added j k.hart k.steps) same ∙ more.1);
+        inputs = λ other.
+            subst (λ (m : RecordingView). HearsMore (inputs_of m.inputs other) (counts_of b.machine other) (inputs_of d.mode.inputs other)) mode_is
+            (hears_on b.machine k k.steps filled.mode.inputs d.mode.inputs counted on.leads.back.mode.inputs other);
+        edges = (k.edges, subst (λ (m : RecordingView). AreAdded m.edges k.edges d.mode.edges) mode_is on.leads.back.mode.edges.added);
+      }
