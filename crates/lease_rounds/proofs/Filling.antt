@@ -1,5 +1,5 @@
 -- A lease, step by step, and back in its book.
-use Rattle.std.proofs.Common.{◌≡◌, ◌≢◌, ℕ, zero, suc, ◌+◌, ◌<◌, ◌≤◌, ◌⊎◌, List, [], ◌∷◌, map, length, length-set, replicate, slice_get, slice_set, Option, None, Some, Result, Ok, Err, true, false, refl, sym, ap, subst, ◌∙◌, inl, inr, arith, lit<}
+use Rattle.std.proofs.Common.{◌≡◌, ◌≢◌, ℕ, zero, suc, ◌+◌, ◌<◌, ◌≤◌, ◌⊎◌, List, [], ◌∷◌, map, length, length-set, replicate, slice_get, slice_set, Option, None, Some, Result, Ok, Err, false, refl, sym, ap, subst, ◌∙◌, inl, inr, arith, lit<}
 use Rattle.std.specs.Result.{OnOk, is_err}
 use Rattle.rv32_hart.specs.declared.outcome.Tick.TheVariants.{Done, Miss}
 use Rattle.rv32_hart.specs.Hart.{Hart}
@@ -15,7 +15,7 @@ use Rattle.page_book.specs.Leases.{LeaseView, Ticks, IsFull, inputs_next, IsLent
 use Rattle.page_book.specs.Books.{BookView, IsLentBy, IsOurs}
 use Rattle.page_book.specs.OpenLeases.{OpenView, open_at}
 use Rattle.page_book.specs.Laws.{StepCounts, LacksOnAPage, Covers}
-use Rattle.lease_rounds.specs.Leading.{IsIdle, IsAlone, Gives, Fills, NoneYet, Steps, Takes, lacking, rights_short}
+use Rattle.lease_rounds.specs.Leading.{IsIdle, IsAlone, Fills, NoneYet, Steps, Takes, lacking, rights_short}
 
 -- ---- a page that is given
 

@@ -8,10 +8,10 @@ use Rattle.page_book.specs.declared.answers.Keep.{Keep}
 use Rattle.page_book.specs.declared.mode.Mode.{Ghosts}
 use Rattle.page_book.specs.Books.{BookView, refusal}
 use Rattle.page_book.specs.Leases.{LeaseView, IsFull, whole_in}
-use Rattle.page_book.specs.OpenLeases.{OpenView, LentView, open_at}
+use Rattle.page_book.specs.OpenLeases.{OpenView, LentView}
 use Rattle.page_book.specs.Runs.{counts_of, steps_taken}
 use Rattle.page_book.proofs.Lacking.{step_counts}
-use Rattle.lease_rounds.specs.Leading.{IsIdle, Lends, Leads, GoesOn, IsHeld, Goes, Rounds, NoHart, Went, Stood, lent_as}
+use Rattle.lease_rounds.specs.Leading.{IsIdle, GoesOn, IsHeld, Goes, Rounds, NoHart, Went, Stood, lent_as}
 use Rattle.lease_rounds.proofs.Filling.{HasFilled, HasGone, has_filled}
 use Rattle.lease_rounds.proofs.Lending.{idle_at, lent_runs}
 
@@ -173,8 +173,7 @@ module _ {M : Type 0} (g : Ghosts M) (keep : Keep) where
   pub round_stands : (b c d : BookView M) (went now new : Bool) (n : ℕ) → now ≡ false → new ≡ went → Rounds g keep b went n c → Goes g keep now n c d →
       Rounds g keep b new (n + 1) d × (length d.machine.harts ≡ length c.machine.harts)
   round_stands b c d went now new n stood is rounds goes =
-      let held = subst (λ (x : Bool). Goes g keep x n c d) stood goes in
-      (
+      let held = subst (λ (x : Bool). Goes g keep x n c d) stood goes in (
         subst (λ (x : Bool). Rounds g keep b x (n + 1) d) (sym is) (subst (λ (x : BookView M). Rounds g keep b went (n + 1) x) (sym held.0) (Stood rounds held.1)),
         ap (λ (x : BookView M). length x.machine.harts) held.0,
       )

@@ -1,14 +1,14 @@
 -- A hart that is lent, or refused.
 use Rattle.std.proofs.Common.{◌≡◌, ◌≢◌, ℕ, zero, suc, ◌<◌, ◌≤◌, ◌⊎◌, List, [], ◌∷◌, length, length-set, replicate, slice_get, slice_set, Option, None, Some, Bool, true, false, nat_le, if◌then◌else◌, refl, sym, ap, subst, ◌∙◌, inl, inr, arith}
 use Rattle.std.proofs.lemmas.Bool.Decides.{nat_tests}
-use Rattle.rv32_hart.specs.Hart.{Hart}
+use Rattle.rv32_hart.specs.Hart.{Hart, without_outputs}
 use Rattle.ft_types.specs.Counts.{count_at}
-use Rattle.interleaving.specs.Log.{HasUnmet}
+use Rattle.interleaving.specs.Log.{IsMet, HasUnmet}
 use Rattle.page_book.specs.declared.answers.BookFault.{BookFault}
 use Rattle.page_book.specs.declared.answers.BookFault.TheVariants.{Leased, Halted, EdgeOpen, AtLimit, Foreign, Memory}
 use Rattle.page_book.specs.declared.mode.Mode.{Ghosts}
 use Rattle.page_book.specs.Runs.{counts_of}
-use Rattle.page_book.specs.Leases.{LeaseView}
+use Rattle.page_book.specs.Leases.{LeaseView, fresh}
 use Rattle.page_book.specs.Books.{BookView, IsOurs, refusal}
 use Rattle.page_book.specs.OpenLeases.{OpenView, open_at, nothing_taken}
 use Rattle.lease_rounds.specs.Leading.{IsIdle, IsAlone, IsHeld, Lends, lent_as}
@@ -39,6 +39,17 @@ pub hart_at : (harts : List Hart) (hart : ℕ) → hart < length harts → (h : 
 hart_at [] hart lt = absurd (omega arith)
 hart_at (h ∷ harts) zero lt = (h, refl)
 hart_at (h ∷ harts) (suc hart) lt = hart_at harts hart (omega arith)
+
+-- what `lease` answers of a hart that it lends
+pub lent_out : {M : Type 0} (g : Ghosts M) (hart : ℕ) (b : BookView M) (l : LeaseView) (c : BookView M) → hart < length b.machine.harts →
+    ((h : Hart) → slice_get b.machine.harts hart ≡ Some h → refusal (open_at b.leases hart) h (count_at (g.stops b.mode) hart) ≡ None) →
+    IsMet (g.obeyed b.mode) (counts_of b.machine) hart →
+    ((h : Hart) → slice_get b.machine.harts hart ≡ Some h → l ≡ fresh hart (without_outputs h) (length b.machine.pages) (lent_as l)) →
+    g.lends b.mode hart (counts_of b.machine hart) (lent_as l) c.mode →
+    c ≡ record b { leases = slice_set b.leases hart (Some (nothing_taken (lent_as l))); mode = c.mode } → Lends g hart b l c
+lent_out g hart b l c within unrefused met lent mode book =
+    let (h, there) = hart_at b.machine.harts hart within in
+    record { state = h; there = there; unrefused = unrefused h there; met = met; lent = lent h there; mode = mode; book = book }
 
 -- a lease of the hart is the one lease of its book
 pub lease_alone : {M : Type 0} (g : Ghosts M) (hart : ℕ) (b : BookView M) (l : LeaseView) (c : BookView M) → IsIdle b → Lends g hart b l c → IsOurs c l → IsAlone c l

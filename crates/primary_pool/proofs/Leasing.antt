@@ -1,5 +1,5 @@
 -- One lease of a book that records: what the book tells, and which rights are held.
-use Rattle.std.proofs.Common.{◌≡◌, ◌≢◌, ℕ, zero, suc, ◌+◌, ◌<◌, ◌≤◌, ◌++◌, List, [], ◌∷◌, All, map, length, slice_get, true, false, Bool, Option, None, Some, refl, sym, ap, subst, ◌∙◌, inl, inr, arith, append-nil, eq-eqb}
+use Rattle.std.proofs.Common.{◌≡◌, ◌≢◌, ℕ, zero, suc, ◌<◌, ◌≤◌, ◌++◌, List, [], ◌∷◌, All, map, length, slice_get, true, false, Bool, Option, None, Some, refl, sym, ap, subst, ◌∙◌, inl, inr, arith, append-nil, eq-eqb}
 use Rattle.std.proofs.lemmas.Bool.{cases_eq, cases_lt}
 use Rattle.std.proofs.lemmas.Grind.{common_steps}
 use Rattle.std.proofs.lemmas.List.Elements.{All-nil, All-map}
@@ -27,7 +27,7 @@ use Rattle.page_book.specs.OpenLeases.{OpenView, has_taken}
 use Rattle.page_book.specs.Recordings.{RecordingView, GoesOut, IsFilled, IsTaker, AreOwed, IsGiven, IsSettled, IsEnded, IsRecorded, LogsInputs, heard_by, right_at, right_met, right_stored}
 use Rattle.page_book.specs.Runs.{counts_of, steps_taken}
 use Rattle.lease_rounds.specs.Leading.{IsFreeAlone, Fills, NoneYet, Steps, Takes, GoesOn}
-use Rattle.lease_rounds.proofs.Going.{IsAhead, same_machine, lease_filled, own, harts_stay}
+use Rattle.lease_rounds.proofs.Going.{IsAhead, lease_filled, own, harts_stay}
 use Rattle.primary_pool.specs.Running.{Continues, HearsMore, KeepHeld}
 
 -- recording, as a mode
