@@ -8,8 +8,8 @@ use Rattle.edge_log.specs.EdgeLog.{Edges, row_of}
 use Rattle.input_log.specs.declared.Input.{Input as HartInput}
 use Rattle.input_log.specs.Inputs.{inputs_of}
 use Rattle.page_book.specs.Books.{BookView}
-use Rattle.page_book.specs.Recordings.{RecordingView}
-use Rattle.page_book.specs.Runs.{counts_of}
+use Rattle.book_modes.specs.Recordings.{RecordingView}
+use Rattle.hart_lease.specs.Runs.{counts_of}
 use Rattle.fragment_codec.specs.declared.types.Record.{Record}
 use Rattle.fragment_codec.specs.declared.types.Record.TheVariants.{Edge as EdgeRecord, Input as InputRecord}
 use Rattle.fragment_codec.specs.declared.frame.Frame.{Frame}

@@ -8,8 +8,8 @@ use Rattle.ft_types.specs.Counts.{count_at}
 use Rattle.interleaving.specs.Log.{Begins, HasUnmet, counts_after, turns_of}
 use Rattle.edge_log.specs.EdgeLog.{edges_of}
 use Rattle.guest_image.specs.Machine.{MachineState}
-use Rattle.page_book.specs.declared.mode.Leg.{Leg}
-use Rattle.page_book.specs.Runs.{run_of, counts_of, harts_of, BeginsSchedule}
+use Rattle.book_modes.specs.declared.mode.Leg.{Leg}
+use Rattle.hart_lease.specs.Runs.{run_of, counts_of, harts_of, BeginsSchedule}
 use Rattle.page_book.specs.Books.{BookView}
 use Rattle.hart_replay.specs.declared.plans.PlannedLeg.{PlannedLeg}
 use Rattle.hart_replay.specs.declared.fault.ReplayFault.{ReplayFault}

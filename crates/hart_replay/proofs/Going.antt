@@ -4,14 +4,14 @@ use Rattle.rv32_hart.specs.Hardware.{hardware}
 use Rattle.guest_image.specs.Machine.{MachineState}
 use Rattle.interleaving.specs.Stored.{halted_of}
 use Rattle.edge_log.specs.EdgeLog.{edges_of}
-use Rattle.page_book.specs.declared.answers.Keep.TheVariants as told
-use Rattle.page_book.specs.declared.mode.Leg.{Leg}
-use Rattle.page_book.specs.declared.mode.Mode.{Ghosts}
-use Rattle.page_book.specs.Books.{BookView, IsHolder, stands_against}
-use Rattle.page_book.specs.Leases.{LeaseView}
-use Rattle.page_book.specs.Obeying.{GoesOut, EachHears}
-use Rattle.page_book.specs.OpenLeases.{OpenView, right_of}
-use Rattle.page_book.specs.Runs.{counts_of, steps_taken, heard_in}
+use Rattle.book_modes.specs.declared.keep.Keep.TheVariants as told
+use Rattle.book_modes.specs.declared.mode.Leg.{Leg}
+use Rattle.book_modes.specs.declared.mode.Mode.{Ghosts}
+use Rattle.page_book.specs.Books.{BookView}
+use Rattle.hart_lease.specs.OpenLeases.{IsHolder, stands_against, OpenView, right_of}
+use Rattle.hart_lease.specs.Leases.{LeaseView}
+use Rattle.book_modes.specs.Obeying.{GoesOut, EachHears}
+use Rattle.hart_lease.specs.Runs.{counts_of, steps_taken, heard_in}
 use Rattle.lease_rounds.specs.Leading as rounds
 use Rattle.lease_rounds.specs.Leading.{IsIdle, IsFreeAlone, Fills, NoneYet, Steps, Takes, GoesOn, Rounds}
 use Rattle.lease_rounds.proofs.Lending.{hart_at}

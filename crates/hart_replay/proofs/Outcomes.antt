@@ -8,7 +8,7 @@ use Rattle.interleaving.specs.Log.{counts_after, turns_of}
 use Rattle.rv32_hart.specs.Hart.{boot_hart}
 use Rattle.guest_image.specs.Image.{ImageContents, guest_of}
 use Rattle.guest_image.specs.Machine.{MachineState, boot_machine}
-use Rattle.page_book.specs.Runs.{run_of, counts_of, steps_taken}
+use Rattle.hart_lease.specs.Runs.{run_of, counts_of, steps_taken}
 use Rattle.hart_replay.specs.declared.plans.PlannedLeg.{PlannedLeg}
 use Rattle.hart_replay.specs.declared.fault.ReplayFault.{ReplayFault}
 use Rattle.hart_replay.specs.declared.fault.ReplayFault.TheVariants.{Cyclic, HaltedInside, OtherGuest, Memory}

@@ -16,8 +16,8 @@ use Rattle.input_log.specs.Inputs.{inputs_of, inputs_at}
 use Rattle.rv32_hart.specs.Hardware.{hardware}
 use Rattle.guest_image.specs.Machine.{boot_machine}
 use Rattle.page_book.specs.Books.{BookView}
-use Rattle.page_book.specs.Recordings.{RecordingView}
-use Rattle.page_book.specs.Runs.{counts_of}
+use Rattle.book_modes.specs.Recordings.{RecordingView}
+use Rattle.hart_lease.specs.Runs.{counts_of}
 use Rattle.fragment_codec.specs.declared.frame.Frame.TheVariants.{Log}
 use Rattle.fragment_codec.specs.Rules.{FragmentParts}
 use Rattle.fragment_codec.specs.Pieces.{HartLog, Mark, IsPiece, ArePieces, mark_behind, mark_of, book_log, is_between, edge_in, Facts}

@@ -12,8 +12,8 @@ use Rattle.rv32_hart.specs.Hart.{Hart}
 use Rattle.rv32_hart.specs.Step.{effect}
 use Rattle.rv32_hart.specs.Hardware.{hardware}
 use Rattle.guest_image.specs.Machine.{MachineState}
-use Rattle.page_book.specs.Runs.{run_of, counts_of}
-use Rattle.page_book.proofs.Counted.{counts_is}
+use Rattle.hart_lease.specs.Runs.{run_of, counts_of}
+use Rattle.hart_lease.proofs.Counted.{counts_is}
 
 -- as many harts and pages
 pub record IsAsLarge (m n : MachineState) : Type 0 where

@@ -5,9 +5,9 @@ use Rattle.interleaving.specs.Log.{HasUnmet}
 use Rattle.edge_log.specs.EdgeLog.{edges_of}
 use Rattle.guest_image.specs.Image.{ImageContents}
 use Rattle.guest_image.specs.Machine.{MachineState}
-use Rattle.page_book.specs.declared.mode.Leg.{Leg}
+use Rattle.book_modes.specs.declared.mode.Leg.{Leg}
 use Rattle.page_book.specs.Books.{BookView}
-use Rattle.page_book.specs.Runs.{counts_of}
+use Rattle.hart_lease.specs.Runs.{counts_of}
 use Rattle.lease_rounds.specs.Leading.{IsIdle}
 use Rattle.hart_replay.specs.declared.plans.PlannedLeg.{PlannedLeg}
 use Rattle.hart_replay.specs.declared.fault.ReplayFault.{ReplayFault}

@@ -12,8 +12,8 @@ use Rattle.rv32_hart.specs.Hardware.{hardware}
 use Rattle.guest_image.specs.Image.{ImageContents}
 use Rattle.guest_image.specs.Machine.{boot_machine}
 use Rattle.page_book.specs.Books.{BookView}
-use Rattle.page_book.specs.Recordings.{RecordingView, heard_by, log_of, HasHonestLog}
-use Rattle.page_book.specs.Runs.{counts_of, journal_turns}
+use Rattle.book_modes.specs.Recordings.{RecordingView, heard_by, log_of, HasHonestLog}
+use Rattle.hart_lease.specs.Runs.{counts_of, journal_turns}
 use Rattle.fragment_codec.specs.declared.types.Key.{Key}
 use Rattle.fragment_codec.specs.declared.frame.Frame.{Frame}
 use Rattle.fragment_codec.specs.declared.frame.Frame.TheVariants.{Log}

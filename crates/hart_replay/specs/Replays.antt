@@ -11,7 +11,7 @@ use Rattle.rv32_hart.specs.Hart.{Hart}
 use Rattle.rv32_hart.specs.Hardware.{hardware}
 use Rattle.guest_image.specs.Image.{ImageContents}
 use Rattle.guest_image.specs.Machine.{MachineState, boot_machine}
-use Rattle.page_book.specs.Runs.{run_of}
+use Rattle.hart_lease.specs.Runs.{run_of}
 use Rattle.hart_replay.specs.declared.plans.PlannedLeg.{PlannedLeg}
 use Rattle.hart_replay.specs.declared.fault.ReplayFault.{ReplayFault}
 use Rattle.hart_replay.specs.declared.fault.ReplayFault.TheVariants.{Cyclic, HaltedInside, OtherGuest, Memory}

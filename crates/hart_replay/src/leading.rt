@@ -2,7 +2,7 @@
 
 ghost use Rattle.std.specs.Prelude.{◌≡◌, ℕ, length, IfOk, IfErr};
 ghost use Rattle.ft_types.specs.Counts.{count_at};
-ghost use Rattle.page_book.specs.Runs.{counts_of};
+ghost use Rattle.hart_lease.specs.Runs.{counts_of};
 ghost use Rattle.hart_replay.specs.Plans.{IsLeg};
 ghost use Rattle.hart_replay.specs.Replays.{LegLeads};
 ghost use Rattle.hart_replay.specs.Leading.{HasStopped, ComesTo, ComesShort, IsLegFault};

@@ -6,15 +6,15 @@ use Rattle.rv32_hart.specs.Hart.{Hart}
 use Rattle.ft_types.specs.declared.names.Want.{Want}
 use Rattle.ft_types.specs.declared.names.Want.TheVariants.{Read, Write}
 use Rattle.guest_image.specs.Machine.{MachineState}
-use Rattle.page_book.specs.declared.lease_pages.Slot.{Slot}
-use Rattle.page_book.specs.declared.lease_pages.Slot.TheVariants.{Readable, Writable}
-use Rattle.page_book.specs.declared.mode.Mode.{Ghosts}
-use Rattle.page_book.specs.declared.taken.Taken.{Taken}
-use Rattle.page_book.specs.Slots.{slot_at, want_of}
-use Rattle.page_book.specs.Leases.{LeaseView, Ticks, IsFull, inputs_next, IsLent, outputs_of, whole, whole_in, with_page, with_page_beside}
-use Rattle.page_book.specs.Books.{BookView, IsLentBy, IsOurs}
-use Rattle.page_book.specs.OpenLeases.{OpenView, open_at}
-use Rattle.page_book.specs.Laws.{StepCounts, LacksOnAPage, Covers}
+use Rattle.hart_lease.specs.declared.lease_pages.Slot.{Slot}
+use Rattle.hart_lease.specs.declared.lease_pages.Slot.TheVariants.{Readable, Writable}
+use Rattle.book_modes.specs.declared.mode.Mode.{Ghosts}
+use Rattle.hart_lease.specs.declared.taken.Taken.{Taken}
+use Rattle.hart_lease.specs.Slots.{slot_at, want_of}
+use Rattle.hart_lease.specs.Leases.{LeaseView, Ticks, IsFull, inputs_next, IsLent, outputs_of, whole, whole_in, with_page, with_page_beside, IsLentBy}
+use Rattle.page_book.specs.Books.{BookView, IsOurs}
+use Rattle.hart_lease.specs.OpenLeases.{OpenView, open_at}
+use Rattle.hart_lease.specs.Laws.{StepCounts, LacksOnAPage, Covers}
 use Rattle.lease_rounds.specs.Leading.{IsIdle, IsAlone, Fills, NoneYet, Steps, Takes, lacking, rights_short}
 
 -- ---- a page that is given

@@ -4,13 +4,13 @@ use Rattle.std.proofs.lemmas.Bool.{cases_lt}
 use Rattle.rv32_hart.specs.Hart.{Hart}
 use Rattle.ft_types.specs.Counts.{count_at}
 use Rattle.guest_image.specs.Machine.{MachineState}
-use Rattle.page_book.specs.declared.answers.Keep.{Keep}
-use Rattle.page_book.specs.declared.mode.Mode.{Ghosts}
+use Rattle.book_modes.specs.declared.keep.Keep.{Keep}
+use Rattle.book_modes.specs.declared.mode.Mode.{Ghosts}
 use Rattle.page_book.specs.Books.{BookView, refusal}
-use Rattle.page_book.specs.Leases.{LeaseView, IsFull, whole_in}
-use Rattle.page_book.specs.OpenLeases.{OpenView, LentView}
-use Rattle.page_book.specs.Runs.{counts_of, steps_taken}
-use Rattle.page_book.proofs.Lacking.{step_counts}
+use Rattle.hart_lease.specs.Leases.{LeaseView, IsFull, whole_in}
+use Rattle.hart_lease.specs.OpenLeases.{OpenView, LentView}
+use Rattle.hart_lease.specs.Runs.{counts_of, steps_taken}
+use Rattle.hart_lease.proofs.Lacking.{step_counts}
 use Rattle.lease_rounds.specs.Leading.{IsIdle, GoesOn, IsHeld, Goes, Rounds, NoHart, Went, Stood, lent_as}
 use Rattle.lease_rounds.proofs.Filling.{HasFilled, HasGone, has_filled}
 use Rattle.lease_rounds.proofs.Lending.{idle_at, lent_runs}

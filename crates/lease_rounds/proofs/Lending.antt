@@ -6,11 +6,11 @@ use Rattle.ft_types.specs.Counts.{count_at}
 use Rattle.interleaving.specs.Log.{IsMet, HasUnmet}
 use Rattle.page_book.specs.declared.answers.BookFault.{BookFault}
 use Rattle.page_book.specs.declared.answers.BookFault.TheVariants.{Leased, Halted, EdgeOpen, AtLimit, Foreign, Memory}
-use Rattle.page_book.specs.declared.mode.Mode.{Ghosts}
-use Rattle.page_book.specs.Runs.{counts_of}
-use Rattle.page_book.specs.Leases.{LeaseView, fresh}
+use Rattle.book_modes.specs.declared.mode.Mode.{Ghosts}
+use Rattle.hart_lease.specs.Runs.{counts_of}
+use Rattle.hart_lease.specs.Leases.{LeaseView, fresh}
 use Rattle.page_book.specs.Books.{BookView, IsOurs, refusal}
-use Rattle.page_book.specs.OpenLeases.{OpenView, open_at, nothing_taken}
+use Rattle.hart_lease.specs.OpenLeases.{OpenView, open_at, nothing_taken}
 use Rattle.lease_rounds.specs.Leading.{IsIdle, IsAlone, IsHeld, Lends, lent_as}
 use Rattle.lease_rounds.proofs.Filling.{row_kept}
 

@@ -6,16 +6,16 @@ use Rattle.ft_types.specs.declared.names.Want.TheVariants.{Read, Write}
 use Rattle.interleaving.specs.Log.{IsMet, HasUnmet}
 use Rattle.rv32_hart.specs.Hart.{Hart, without_outputs}
 use Rattle.rv32_hart.specs.declared.outcome.Tick.TheVariants.{Done}
-use Rattle.page_book.specs.declared.answers.Keep.{Keep}
-use Rattle.page_book.specs.declared.asked.Asked.{Asked}
-use Rattle.page_book.specs.declared.mode.Mode.{Ghosts}
-use Rattle.page_book.specs.Asks.{asked_by}
-use Rattle.page_book.specs.Books.{BookView, HasTaken, IsOurs, added, refusal}
-use Rattle.page_book.specs.Laws.{Covers}
-use Rattle.page_book.specs.Leases.{LeaseView, IsFull, Ticks, fresh, laid, whole_in, with_page}
-use Rattle.page_book.specs.OpenLeases.{OpenView, LentView, lent_with, nothing_taken, open_at}
-use Rattle.page_book.specs.Runs.{counts_of}
-use Rattle.page_book.specs.Slots.{slot_at, want_of}
+use Rattle.book_modes.specs.declared.keep.Keep.{Keep}
+use Rattle.hart_lease.specs.declared.asked.Asked.{Asked}
+use Rattle.book_modes.specs.declared.mode.Mode.{Ghosts}
+use Rattle.hart_lease.specs.Asks.{asked_by}
+use Rattle.page_book.specs.Books.{BookView, HasTaken, IsOurs, refusal}
+use Rattle.hart_lease.specs.Runs.{added, counts_of}
+use Rattle.hart_lease.specs.Laws.{Covers}
+use Rattle.hart_lease.specs.Leases.{LeaseView, IsFull, Ticks, fresh, laid, whole_in, with_page}
+use Rattle.hart_lease.specs.OpenLeases.{OpenView, LentView, lent_with, nothing_taken, open_at}
+use Rattle.hart_lease.specs.Slots.{slot_at, want_of}
 
 -- no lease is open
 abbrev pub IsIdle : {M : Type 0} → BookView M → Type 0

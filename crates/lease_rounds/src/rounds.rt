@@ -1,10 +1,10 @@
 //! One lease after the other: each is filled with steps and settled.
 
 ghost use Rattle.std.specs.Prelude.{◌≡◌, ◌<◌, ℕ, length, map, IfOk, OnOk};
-ghost use Rattle.page_book.specs.Slots.{slot_at, want_of};
-ghost use Rattle.page_book.specs.Leases.{IsFull};
+ghost use Rattle.hart_lease.specs.Slots.{slot_at, want_of};
+ghost use Rattle.hart_lease.specs.Leases.{IsFull};
 ghost use Rattle.page_book.specs.Books.{IsOurs};
-ghost use Rattle.page_book.specs.Laws.{Covers};
+ghost use Rattle.hart_lease.specs.Laws.{Covers};
 ghost use Rattle.lease_rounds.specs.Leading.{IsIdle, IsAlone, IsFreeAlone, Gives, Fills, ComesBack, Leads, Goes, Rounds, lacking};
 
 use ft_types::{Hart, Memory, PageNo, Want};

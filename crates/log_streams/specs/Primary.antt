@@ -12,7 +12,7 @@ use Rattle.fragment_codec.specs.Pieces.{SealedView, mark_of, book_log, IsCut}
 use Rattle.fragment_codec.specs.declared.frame.Frame.{Frame}
 use Rattle.fragment_codec.specs.declared.frame.Frame.TheVariants.{Opening}
 use Rattle.page_book.specs.Books.{BookView}
-use Rattle.page_book.specs.Recordings.{RecordingView}
+use Rattle.book_modes.specs.Recordings.{RecordingView}
 use Rattle.primary_pool.specs.Running.{IsIdle, AreThrough, Continues, RunsOn, GoWithin}
 
 -- what a script offers to a hart, in its order

@@ -16,16 +16,16 @@ use Rattle.crew_pages.specs.Rights as crew
 use Rattle.crew_pages.specs.Rights.{Right, Shared, Exclusive, holds}
 use Rattle.guest_image.specs.Machine.{MachineState}
 use Rattle.rv32_hart.specs.Hart.{Hart}
-use Rattle.page_book.specs.declared.answers.Keep.TheVariants as told
-use Rattle.page_book.specs.declared.asked.Asked.{Asked}
-use Rattle.page_book.specs.declared.mode.Mode.{Ghosts}
-use Rattle.page_book.specs.declared.stretch.Stretch.{Stretch}
-use Rattle.page_book.specs.Books.{BookView, added}
-use Rattle.page_book.specs.Dues.{stop_before}
-use Rattle.page_book.specs.Leases.{LeaseView}
-use Rattle.page_book.specs.OpenLeases.{OpenView, has_taken}
-use Rattle.page_book.specs.Recordings.{RecordingView, GoesOut, IsFilled, IsTaker, AreOwed, IsGiven, IsSettled, IsEnded, IsRecorded, LogsInputs, heard_by, right_at, right_met, right_stored}
-use Rattle.page_book.specs.Runs.{counts_of, steps_taken}
+use Rattle.book_modes.specs.declared.keep.Keep.TheVariants as told
+use Rattle.hart_lease.specs.declared.asked.Asked.{Asked}
+use Rattle.book_modes.specs.declared.mode.Mode.{Ghosts}
+use Rattle.hart_lease.specs.declared.stretch.Stretch.{Stretch}
+use Rattle.page_book.specs.Books.{BookView}
+use Rattle.hart_lease.specs.Runs.{added, counts_of, steps_taken}
+use Rattle.book_modes.specs.Dues.{stop_before}
+use Rattle.hart_lease.specs.Leases.{LeaseView}
+use Rattle.hart_lease.specs.OpenLeases.{OpenView, has_taken}
+use Rattle.book_modes.specs.Recordings.{RecordingView, GoesOut, IsFilled, IsTaker, AreOwed, IsGiven, IsSettled, IsEnded, IsRecorded, LogsInputs, heard_by, right_at, right_met, right_stored}
 use Rattle.lease_rounds.specs.Leading.{IsFreeAlone, Fills, NoneYet, Steps, Takes, GoesOn}
 use Rattle.lease_rounds.proofs.Going.{IsAhead, lease_filled, own, harts_stay}
 use Rattle.primary_pool.specs.Running.{Continues, HearsMore, KeepHeld}

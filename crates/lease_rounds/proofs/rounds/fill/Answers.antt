@@ -1,5 +1,5 @@
 use Rattle.std.proofs.Common.{refl, sym, subst, true≢false}
-use Rattle.page_book.specs.Leases.{LeaseView}
+use Rattle.hart_lease.specs.Leases.{LeaseView}
 use Rattle.lease_rounds.specs.Leading.{Gives, NoneYet, Steps, Takes}
 use Rattle.lease_rounds.proofs.Filling.{alone_ticked, lacks_there}
 use Rattle.lease_rounds.proofs.rounds.fill.Goals as goal

@@ -1,5 +1,5 @@
 use Rattle.std.proofs.Common.{◌+◌, ◌-◌, map}
-use Rattle.page_book.specs.Slots.{want_of}
+use Rattle.hart_lease.specs.Slots.{want_of}
 use Rattle.lease_rounds.specs.Leading.{IsAlone, Fills, lacking}
 use Rattle.lease_rounds.proofs.rounds.fill.Given as goal
 

@@ -1,6 +1,6 @@
 use Rattle.lease_rounds.proofs.Filling.{fewer, need_within, still_alone}
-use Rattle.page_book.specs.Asks.{asked_by}
-use Rattle.page_book.specs.OpenLeases.{open_at, given_more}
+use Rattle.hart_lease.specs.Asks.{asked_by}
+use Rattle.hart_lease.specs.OpenLeases.{open_at, given_more}
 use Rattle.lease_rounds.proofs.rounds.give.Goals as goal
 
 pub need-requires : goal.need-requires

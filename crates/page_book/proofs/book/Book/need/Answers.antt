@@ -1,5 +1,5 @@
 use Rattle.std.proofs.Common.{rules, ◌≡◌, ◌∙◌, sym, slice_get, false, true≢false}
-use Rattle.page_book.specs.Leases.{whole_in, outputs_of}
+use Rattle.hart_lease.specs.Leases.{whole_in, outputs_of}
 use Rattle.page_book.proofs.Ours.{need_ours}
 use Rattle.page_book.proofs.book.Book.need.Goals as goal
 

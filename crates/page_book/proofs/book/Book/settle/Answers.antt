@@ -1,12 +1,12 @@
 use Rattle.std.proofs.Common.{rules, ◌≡◌, ◌∙◌, take, slice_get, length, ℕ, List, Some}
 use Rattle.rv32_hart.specs.Hart.{Hart}
 use Rattle.guest_image.specs.Machine.{MachineState, with_hart}
-use Rattle.page_book.specs.Leases.{LeaseView, outputs_of, whole_in, laid}
-use Rattle.page_book.specs.OpenLeases.{open_at}
-use Rattle.page_book.specs.Books.{IsLentBy}
-use Rattle.page_book.specs.Modes.{IsSettling, KeepsSettling, SettlesHeard}
-use Rattle.page_book.proofs.Bare.{longer, longer_there, cut_back, laid_longer, base_bare}
-use Rattle.page_book.proofs.Journals.{settled_kept, stands_ours}
+use Rattle.hart_lease.specs.Leases.{LeaseView, outputs_of, whole_in, laid, IsLentBy}
+use Rattle.hart_lease.specs.OpenLeases.{open_at}
+use Rattle.book_modes.specs.Modes.{IsSettling, KeepsSettling, SettlesHeard}
+use Rattle.hart_lease.proofs.Bare.{longer, longer_there, cut_back, laid_longer, base_bare}
+use Rattle.page_book.proofs.Kept.{settled_kept}
+use Rattle.hart_lease.proofs.Journals.{stands_ours}
 use Rattle.page_book.proofs.book.Book.settle.Goals as goal
 
 -- where its hart stands, the machine has its outputs with the lease's behind them

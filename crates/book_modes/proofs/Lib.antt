@@ -1,0 +1,16 @@
+pub mod BellEdges
+pub mod Changed
+pub mod DueSet
+pub mod Dues
+pub mod Endings
+pub mod Hearing
+pub mod Honest
+pub mod InTurn
+pub mod Ledgers
+pub mod Numbered
+pub mod Obeyed
+pub mod Settlings
+pub mod Silences
+pub mod StepBells
+pub mod WaitingBells
+pub mod Yields

@@ -1,0 +1,8 @@
+use Rattle.book_modes.proofs.Ledgers.{nobody_there}
+use Rattle.ft_types.specs.Counts.{count_at}
+use Rattle.book_modes.proofs.recording.RecordingMode.edges_owed.Goals as goal
+
+pub answer-requires-clause-free : goal.answer-requires-clause-free
+answer-requires-clause-free c =
+    let g = c.requires in
+    nobody_there c.args.self.now g.machine g.leases c.args.asked.now g.asks (count_at c.args.settled.now)

@@ -1,0 +1,7 @@
+use Rattle.std.proofs.Common.{◌≡◌, ◌<◌, ℕ, length, slice_index}
+use Rattle.hart_lease.specs.Runs.{counts_of}
+use Rattle.book_modes.proofs.settled.settled_counts.Given as goal
+
+abbrev pub invariant-loop-number : goal.invariant-loop-number
+invariant-loop-number l =
+    (length l.counts ≡ l.number-end) × ((hart : ℕ) → hart < l.number → slice_index l.counts hart ≡ counts_of l.machine hart)

@@ -1,0 +1,256 @@
+-- Books that record.
+use Rattle.std.specs.Prelude.{◌≡◌, ◌≢◌, ◌<◌, ◌≤◌, ◌↔◌, ℕ, zero, suc, Bool, true, false, List, [], ◌++◌, ◌∷◌, map, drop, replicate, length, slice_set, All, AllPairs, Contains, is_some, slice_get, Option, Some, None, option_map, if◌then◌else◌}
+use Rattle.interleaving.specs.Machine.{steps}
+use Rattle.interleaving.specs.Log as theory
+use Rattle.interleaving.specs.Log.{Log, IsHonest}
+use Rattle.interleaving.specs.Cuts.{IsEnough}
+use Rattle.interleaving.specs.Stored.{view}
+use Rattle.ft_types.specs.Counts.{count_at}
+use Rattle.input_log.specs.declared.Input.{Input}
+use Rattle.input_log.specs.declared.WaitingBell.{WaitingBell}
+use Rattle.input_log.specs.Inputs.{IsInputOf, inputs_of, AreAddedTo}
+use Rattle.input_log.specs.Waiting.{Queues, bells_of, others_of, others_staying, room_beside, next_going, IsBellAddedTo}
+use Rattle.edge_log.specs.declared.Edge.{Edge}
+use Rattle.edge_log.specs.EdgeLog.{Edges, IsLog, edge_as, edges_of, start_of, AreAdded}
+use Rattle.crew_pages.specs.declared.right.PageRight.{PageRight}
+use Rattle.crew_pages.specs.Rights.{Right, right_of, unused, stands, given, give_up, IsOwed}
+use Rattle.lease_ledger.specs.Ledger.{Ledger, Stub}
+use Rattle.lease_ledger.specs.Calls as calls
+use Rattle.lease_ledger.specs.Calls.{Reached, kept}
+use Rattle.rv32_hart.specs.Hart.{Hart}
+use Rattle.rv32_hart.specs.Hardware.{hardware}
+use Rattle.guest_image.specs.Machine.{MachineState}
+use Rattle.book_modes.specs.declared.keep.Keep.{Keep}
+use Rattle.book_modes.specs.declared.keep.Keep.TheVariants as told
+use Rattle.hart_lease.specs.declared.asked.Asked.{Asked}
+use Rattle.hart_lease.specs.declared.stretch.Stretch.{Stretch}
+use Rattle.hart_lease.specs.declared.taken.Taken.{Taken}
+use Rattle.hart_lease.specs.Taken.{taken_at}
+use Rattle.hart_lease.specs.OpenLeases.{OpenView, LentView, open_at, has_taken}
+use Rattle.hart_lease.specs.Leases.{LeaseView, bells_rung}
+use Rattle.hart_lease.specs.Recorded.{system, stub_of}
+use Rattle.hart_lease.specs.Runs.{Heard, heard_in, counts_of, journal_turns}
+use Rattle.book_modes.specs.Silences.{unheard_bells}
+use Rattle.book_modes.specs.Hearings.{KeepsBells}
+use Rattle.book_modes.specs.Dues.{DueView, nothing_due, due_at, due_from, is_silent, stop_before}
+
+pub record RecordingView : Type 0 where
+  pub limits : List ℕ  -- the count that each hart does not go past
+  pub rights : List PageRight  -- by page
+  pub edges : Edges  -- of the settled steps
+  pub inputs : List (List (ℕ × Input))  -- of the settled steps, by hart
+  pub due : List DueView  -- what each hart's next step is given
+  pub desk : List Queues  -- what waits for each hart
+
+abbrev pub right_stored : Option PageRight → Right
+right_stored None = unused
+right_stored (Some right) = right_of right
+
+-- the right to a page
+abbrev pub right_at : List PageRight → ℕ → Right
+right_at rights page = right_stored (slice_get rights page)
+
+-- The hart's right stands in the asker's way, and its open lease has taken the page.
+abbrev pub IsTaker : RecordingView → List (Option OpenView) → Asked → ℕ → Type 0
+IsTaker r leases asked other =
+    (stands (right_at r.rights asked.page) asked.hart asked.want other ≡ true) × (has_taken (open_at leases other) asked.page ≡ true)
+
+-- a hart whose right stands in the asker's way gives it up at its settled count
+abbrev pub yields : Asked → (ℕ → ℕ) → ℕ → Right → Right
+yields asked settled other right = if stands right asked.hart asked.want other then give_up right other (settled other) else right
+
+-- the first n harts do
+abbrev pub yielded : Asked → (ℕ → ℕ) → ℕ → Right → Right
+yielded asked settled zero right = right
+yielded asked settled (suc n) right = yields asked settled n (yielded asked settled n right)
+
+-- what the asker meets: the page's right, which all eight harts have yielded
+unfoldable pub right_met : RecordingView → (ℕ → ℕ) → Asked → Right
+right_met r settled asked = yielded asked settled 8 (right_at r.rights asked.page)
+
+-- the asker owes these edges, by rising other hart
+pub record AreOwed (r : RecordingView) (settled : ℕ → ℕ) (asked : Asked) (found : List Edge) : Type 0 where
+  pub exact : (e : Edge) → Contains found e ↔ IsOwed (right_met r settled asked) asked.hart asked.want asked.count (edge_as e)
+  pub rising : AllPairs (λ a b. a.other < b.other) found
+
+-- the asker has its right, and no other page's right has changed
+pub record IsGiven (r : RecordingView) (settled : ℕ → ℕ) (asked : Asked) (new : RecordingView) : Type 0 where
+  pub rest : new ≡ record r { rights = new.rights }
+  pub many : length new.rights ≡ length r.rights
+  pub page : right_at new.rights asked.page ≡ given (right_met r settled asked) asked.hart asked.want asked.count
+  pub others : (page : ℕ) → asked.page ≢ page → right_at new.rights page ≡ right_at r.rights page
+
+-- which rights a hart keeps, in the theory's words
+abbrev pub keep_as : Keep → calls.Keep
+keep_as told.All = calls.All
+keep_as told.Readable = calls.Readable
+keep_as told.Nothing = calls.Nothing
+
+-- the edges have been added to the log, which still says all that were found
+pub record AreLogged (old : Edges) (found : List Edge) (new : Edges) : Type 0 where
+  pub added : AreAdded old found new
+  pub log : IsLog new.start new.rows
+  pub start : new.start ≡ old.start
+  pub enough : (all : List theory.Edge) → IsEnough (edges_of old) all (start_of old) → IsEnough (edges_of new) (all ++ map edge_as found) (start_of new)
+
+-- the inputs of a lease that has a step are in the log, at the count at which it was lent
+abbrev pub LogsInputs : ℕ → List (List (ℕ × Input)) → LeaseView → List (List (ℕ × Input)) → Type 0
+LogsInputs zero before l after = after ≡ before
+LogsInputs (suc steps) before l after = AreAddedTo before l.hart (map (λ i. (l.base.count, i)) l.inputs) after
+
+-- and are due no more, where those of one without a step stay due
+abbrev pub due_after : ℕ → List DueView → ℕ → List DueView
+due_after zero due hart = due
+due_after (suc steps) due hart = slice_set due hart nothing_due
+
+-- this bell waits behind the others of its target, where there is one
+abbrev pub PutsBell : Option ℕ → List Queues → WaitingBell → List Queues → Type 0
+PutsBell None before bell after = after ≡ before
+PutsBell (Some target) before bell after = IsBellAddedTo before target bell after
+
+-- the bell that a lease rang waits behind the others of its target
+pub record HasRung (before : List Queues) (l : LeaseView) (after : List Queues) : Type 0 where
+  pub bells : (target : ℕ) → bells_of after target ≡ bells_of before target ++ bells_rung l target
+  pub others : (target : ℕ) → others_of after target ≡ others_of before target
+
+-- a lease has come back: its edges and inputs are in the log, the bell that it rang waits, and its hart keeps what it is told
+-- of each page that it holds
+pub record IsSettled (r : RecordingView) (l : LeaseView) (keep : Keep) (new : RecordingView) : Type 0 where
+  pub limits : new.limits ≡ r.limits
+  pub edges : AreLogged r.edges l.edges new.edges
+  pub inputs : LogsInputs l.steps r.inputs l new.inputs
+  pub due : new.due ≡ due_after l.steps r.due l.hart
+  pub desk : HasRung r.desk l new.desk
+  pub many : length new.rights ≡ length r.rights
+  pub rights : (page : ℕ) → page < length r.rights →
+      right_at new.rights page ≡ kept (keep_as keep) (right_at r.rights page) l.hart l.present.count
+
+-- a lease has ended without its steps: its hart has given up what it took
+pub record IsEnded (r : RecordingView) (hart count : ℕ) (taken : List (Option Taken)) (new : RecordingView) : Type 0 where
+  pub rest : new ≡ record r { rights = new.rights }
+  pub many : length new.rights ≡ length r.rights
+  pub rights : (page : ℕ) → page < length r.rights →
+      right_at new.rights page ≡
+      (if is_some (taken_at taken page) then give_up (right_at r.rights page) hart count else right_at r.rights page)
+
+-- the stub of an open lease, in the theory's words
+abbrev pub stub_as : OpenView → Stub
+stub_as lent = stub_of lent.taken (map edge_as lent.edges)
+
+-- what the harts were given at the settled steps
+abbrev pub heard_by : RecordingView → Heard
+heard_by r = heard_in r.inputs
+
+-- the hart has taken what the desk has for its count
+pub record TakesFromDesk (r : RecordingView) (hart count : ℕ) (new : RecordingView) : Type 0 where
+  pub rest : new ≡ record r { due = new.due; desk = new.desk }
+  pub due : new.due ≡ slice_set r.due hart (due_from hart count (bells_of r.desk hart) (others_of r.desk hart))
+  pub bells : bells_of new.desk hart ≡ drop 8 (bells_of r.desk hart)
+  pub others : others_of new.desk hart ≡ others_staying count (room_beside (bells_of r.desk hart)) (others_of r.desk hart)
+  pub bells_of_others : (other : ℕ) → other ≢ hart → bells_of new.desk other ≡ bells_of r.desk other
+  pub others_of_others : (other : ℕ) → other ≢ hart → others_of new.desk other ≡ others_of r.desk other
+
+-- the hart has something due by now: what a lease that ended without its first step left, or what the desk has
+abbrev pub IsFilled : Bool → RecordingView → ℕ → ℕ → RecordingView → Type 0
+IsFilled false r hart count new = new ≡ r
+IsFilled true r hart count new = TakesFromDesk r hart count new
+
+-- an input waits behind the others of the hart
+pub record IsOffered (r : RecordingView) (hart not_before : ℕ) (input : Input) (new : RecordingView) : Type 0 where
+  pub rest : new ≡ record r { desk = new.desk }
+  pub others : others_of new.desk hart ≡ others_of r.desk hart ++ record { not_before = not_before; input = input } ∷ []
+  pub bells : bells_of new.desk hart ≡ bells_of r.desk hart
+  pub bells_of_others : (other : ℕ) → other ≢ hart → bells_of new.desk other ≡ bells_of r.desk other
+  pub others_of_others : (other : ℕ) → other ≢ hart → others_of new.desk other ≡ others_of r.desk other
+
+-- what a hart at this count goes out with
+pub record GoesOut (r : RecordingView) (hart count : ℕ) (lent : LentView) (new : RecordingView) : Type 0 where
+  pub filled : IsFilled (is_silent (due_at r.due hart).inputs) r hart count new
+  pub inputs : lent.inputs ≡ (due_at new.due hart).inputs
+  pub edges : lent.edges ≡ (due_at new.due hart).edges
+  -- what is given later waits for a later lease
+  pub stop : lent.stop ≡ stop_before (count_at r.limits hart) count (next_going (bells_of new.desk hart) (others_of new.desk hart))
+
+-- an edge that the hart's next step owes for a bell
+pub record IsDueEdge (machine : MachineState) (hart : ℕ) (e : Edge) : Type 0 where
+  pub own : e.hart ≡ hart
+  pub at : e.at ≡ counts_of machine hart
+  pub other : e.other < length machine.harts
+  pub another : e.other ≢ hart
+  pub settled : e.after ≤ counts_of machine e.other
+
+-- a bell that a hart has rung
+pub record IsRung (machine : MachineState) (bell : WaitingBell) : Type 0 where
+  pub source : bell.source < length machine.harts
+  pub settled : bell.after ≤ counts_of machine bell.source
+
+-- what is logged, due and waiting are inputs of a machine with so many harts
+pub record AreInputs (harts : ℕ) (r : RecordingView) : Type 0 where
+  pub logged : (hart : ℕ) → All (λ x. IsInputOf harts x.1) (inputs_of r.inputs hart)
+  pub due : (hart : ℕ) → All (IsInputOf harts) (due_at r.due hart).inputs
+  pub waiting : (hart : ℕ) → All (λ w. IsInputOf harts w.input) (others_of r.desk hart)
+
+-- What a recording book keeps: it is a ledger of the theory, to which calls have led from the start.
+pub record IsRecorded (r : RecordingView) (start machine : MachineState) (journal : List Stretch) (leases : List (Option OpenView)) : Type 0 where
+  pub ledger : Ledger (Option Hart) (Option (List ℕ)) (List Input)
+  pub reached : Reached (system (length start.pages)) (length start.harts) (view (hardware (length start.pages)) start) ledger
+  pub few : length start.harts ≤ 8
+  pub harts_stay : length machine.harts ≡ length start.harts
+  pub pages_stay : length machine.pages ≡ length start.pages
+  pub at_machine : ledger.machine ≡ view (hardware (length start.pages)) machine
+  pub in_journal : ledger.journal ≡ journal_turns (heard_by r) start journal
+  -- its log has the edges that say all that were found
+  pub log : IsLog r.edges.start r.edges.rows
+  pub log_harts : length r.edges.start ≡ length start.harts
+  pub log_start : (hart : ℕ) → start_of r.edges hart ≡ counts_of start hart
+  pub enough : IsEnough (edges_of r.edges) ledger.edges (start_of r.edges)
+  pub many : length r.rights ≡ length start.pages
+  pub rights : (page : ℕ) → page < length start.pages → ledger.rights page ≡ right_at r.rights page
+  pub limits : length r.limits ≡ length start.harts
+  -- it has logged no input that a hart has yet to be given, and its open leases have what is due
+  pub logged : (hart : ℕ) → All (λ x. x.0 < counts_of machine hart) (inputs_of r.inputs hart)
+  pub dues : length r.due ≡ 8
+  pub due : (hart : ℕ) → All (IsDueEdge machine hart) (due_at r.due hart).edges
+  pub bells : (hart : ℕ) → All (IsRung machine) (bells_of r.desk hart)
+  pub inputs : AreInputs (length start.harts) r
+  pub given : (hart : ℕ) (lent : OpenView) → open_at leases hart ≡ Some lent → lent.inputs ≡ (due_at r.due hart).inputs
+  pub given_edges : (hart : ℕ) (lent : OpenView) → open_at leases hart ≡ Some lent → (e : Edge) → Contains (due_at r.due hart).edges e → Contains lent.edges e
+  -- bells are heard in their turn
+  pub heard :
+      KeepsBells start ledger.machine (steps (system (length start.pages)) (view (hardware (length start.pages)) start) ledger.journal) ledger.edges r.due r.desk
+  pub stubs : (hart : ℕ) → ledger.stubs hart ≡ option_map stub_as (open_at leases hart)
+
+-- the log of a book: its edges and inputs, from the start's counts to the machine's
+abbrev pub log_of : Edges → Heard → MachineState → MachineState → Log (List Input)
+log_of edges heard start machine =
+    record { edges = edges_of edges; inputs = heard; start = counts_of start; end = counts_of machine }
+
+-- the log tells truly of the journal's steps
+abbrev pub HasHonestLog : Edges → Heard → MachineState → List Stretch → MachineState → Type 0
+HasHonestLog edges heard start journal machine =
+    IsHonest (system (length start.pages)) (log_of edges heard start machine) (view (hardware (length start.pages)) start)
+    (journal_turns heard start journal)
+
+-- an edge of a hart is between it and another of the machine's, and names a step that it has reached, and steps that the other has settled
+pub record IsBetween (machine : MachineState) (hart : ℕ) (e : Edge) : Type 0 where
+  pub own : e.hart ≡ hart
+  pub other : e.other < length machine.harts
+  pub another : e.other ≢ hart
+  pub at : e.at ≤ counts_of machine hart
+  pub some : 1 ≤ e.after
+  pub settled : e.after ≤ counts_of machine e.other
+
+-- a right that nobody used for each page; and nothing waits but the bells that the start rang and nobody heard
+pub record IsUnused (r : RecordingView) (start : MachineState) (limits : List ℕ) : Type 0 where
+  pub limits_are : r.limits ≡ limits
+  pub inputs : (hart : ℕ) → inputs_of r.inputs hart ≡ []
+  pub due : r.due ≡ replicate 8 nothing_due
+  pub bells : (hart : ℕ) → bells_of r.desk hart ≡ unheard_bells start hart
+  pub others : (hart : ℕ) → others_of r.desk hart ≡ []
+  pub few : length start.harts ≤ 8
+  pub edges : edges_of r.edges ≡ []
+  pub log : IsLog r.edges.start r.edges.rows
+  pub log_harts : length r.edges.start ≡ length start.harts
+  pub log_start : (hart : ℕ) → start_of r.edges hart ≡ counts_of start hart
+  pub many : length r.rights ≡ length start.pages
+  pub rights : (page : ℕ) → page < length start.pages → right_at r.rights page ≡ unused

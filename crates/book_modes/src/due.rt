@@ -1,0 +1,97 @@
+//! What a hart's next step is given.
+
+ghost use Rattle.std.specs.Prelude.{◌≡◌, ◌≤◌, ◌<◌, ℕ, length};
+ghost use Rattle.smallvec.specs.SmallVec.{small_vec_len, HasRoomFor};
+ghost use Rattle.book_modes.specs.Dues.{DueView, nothing_due, bell_edges, is_silent};
+ghost use Rattle.hart_lease.specs.OpenLeases.{lent_with};
+
+use edge_log::Edge;
+use ft_types::{Count, Hart};
+use hart_lease::Lent;
+use input_log::{Input, WaitingBell};
+use smallvec::SmallVec;
+use std::alloc::Global;
+use std::marker::Model;
+
+/// What a hart's next step is given, until it is settled: its inputs, and the edges from the harts whose bells it hears. At
+/// most eight of each.
+#[derive(Drop)]
+pub struct Due {
+    inputs: SmallVec<Input, 8>,
+    edges: SmallVec<Edge, 8>,
+}
+
+impl Model for Due {
+    ghost use Rattle.std.specs.Prelude.{◌≤◌, length};
+    ghost use Rattle.book_modes.specs.Dues.{DueView};
+
+    ghost Value = { DueView };
+
+    ghost view = { λ d. record { inputs = d.inputs.items; edges = d.edges.items } };
+
+    ghost invariant = { λ d. (length d.inputs.items ≤ 8) × (length d.edges.items ≤ 8) };
+}
+
+/// The edges from harts whose bells this hart hears at this count.
+fn edges_of(alloc: Global, hart: Hart, count: Count, bells: &[WaitingBell]) -> SmallVec<Edge, 8>
+    requires { length bells.now ≤ 8 }
+    ensures value { result.items ≡ bell_edges hart count bells.now }
+    ensures few { length result.items ≤ 8 }
+{
+    let mut edges = SmallVec::new(alloc);
+    for bell in bells {
+        if bell.source != hart {
+            edges.push_reserved(Edge {
+                hart,
+                at: count,
+                other: bell.source,
+                after: bell.after,
+            });
+        }
+    }
+    edges
+}
+
+impl Due {
+    /// Nothing.
+    pub(crate) fn nothing(alloc: Global) -> Due
+        ensures { result ≡ nothing_due }
+    {
+        Due {
+            inputs: SmallVec::new(alloc),
+            edges: SmallVec::new(alloc),
+        }
+    }
+
+    /// What a hart at this count is given with these inputs, where it hears these bells among them.
+    pub(crate) fn new(
+        alloc: Global,
+        hart: Hart,
+        count: Count,
+        inputs: SmallVec<Input, 8>,
+        bells: &[WaitingBell],
+    ) -> Due
+        requires inputs { length inputs.items ≤ 8 }
+        requires bells { length bells.now ≤ 8 }
+        ensures { result ≡ record { inputs = inputs.items; edges = bell_edges hart count bells.now } }
+    {
+        let edges = edges_of(alloc, hart, count, bells);
+        Due { inputs, edges }
+    }
+
+    /// Whether it is given no inputs.
+    pub(crate) fn is_silent(&self) -> bool
+        ensures { result ≡ is_silent self.now.inputs }
+    {
+        self.inputs.is_empty()
+    }
+
+    /// A hart that is given this is lent with it, as far as this count.
+    pub(crate) fn lent(&self, alloc: Global, stop: Count) -> Lent
+        ensures { result ≡ lent_with stop self.now.inputs self.now.edges }
+    {
+        let inputs = SmallVec::from_slice(alloc, self.inputs.as_slice()).unwrap();
+        let edges = SmallVec::from_slice(alloc, self.edges.as_slice()).unwrap();
+        Lent::new(stop, inputs, edges)
+    }
+}

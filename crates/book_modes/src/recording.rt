@@ -1,0 +1,408 @@
+//! Books that record: who has which right to each page, and the edges found.
+
+ghost use Rattle.std.specs.Prelude.{◌≡◌, ◌<◌, ◌≤◌, ◌^◌, ◌↔◌, ℕ, All, AllPairs, Contains, List, [], map, length, slice_index, slice_get, Some, IsTrue, IfOk, OnOk, OnErr, true, false, replicate};
+ghost use Rattle.ft_types.specs.Counts.{count_at, greater};
+ghost use Rattle.ft_types.specs.Sets.{IsMember};
+ghost use Rattle.edge_log.specs.EdgeLog.{edge_as};
+ghost use Rattle.edge_log.specs.declared.Edge.{Edge as edge_found};
+ghost use Rattle.crew_pages.specs.Rights.{right_of, unused, holds, owns, IsFree, given, give_up, IsOwed};
+ghost use Rattle.lease_ledger.specs.Calls.{kept};
+ghost use Rattle.input_log.specs.declared.Input.{Input as input_of_specs};
+ghost use Rattle.input_log.specs.declared.WaitingBell.{WaitingBell as bell_of_specs};
+ghost use Rattle.input_log.specs.Waiting.{Queues};
+ghost use Rattle.hart_lease.specs.Leases.{whole};
+ghost use Rattle.book_modes.specs.Modes.{IsSettling};
+ghost use Rattle.hart_lease.specs.OpenLeases.{has_taken};
+ghost use Rattle.input_log.specs.Inputs.{IsInputOf, is_bell, inputs_of};
+ghost use Rattle.book_modes.specs.Dues.{nothing_due, due_at, is_silent, stop_before};
+ghost use Rattle.rv32_hart.specs.Hart.{Hart as HartRecord};
+ghost use Rattle.hart_lease.specs.Runs.{counts_of};
+ghost use Rattle.book_modes.specs.Recordings.{RecordingView, IsUnused, IsRecorded, heard_by, IsFilled, GoesOut, IsOffered, LogsInputs, due_after, AreLogged, PutsBell, IsTaker, AreOwed, IsGiven, IsSettled, IsEnded, keep_as, right_at, right_met, yielded};
+
+use crate::due::Due;
+use crate::keep::Keep;
+use crate::mode::Mode;
+use crate::settled::{count_of, settled_counts};
+use crate::unheard::desk_of;
+use crew_pages::{Ask, PageRight};
+use edge_log::{Edge, EdgeLog};
+use ft_types::{Count, Counts, HART_LIMIT, Hart, HartSet, Memory, PageNo};
+use guest_image::Machine;
+use hart_lease::{Asked, Lease, Lent, OpenLease, Taken};
+use input_log::{Desk, Input, InputLog, WaitingBell};
+use smallvec::SmallVec;
+use std::alloc::Global;
+use std::marker::Model;
+use std::option::Option;
+
+/// The log is written.
+#[derive(Drop)]
+pub struct Recording {
+    limits: Counts,
+    rights: Vec<PageRight>,
+    edges: EdgeLog,
+    inputs: InputLog,
+    /// What each hart's next step is given.
+    due: [Due; 8],
+    /// What waits for later steps.
+    desk: Desk,
+}
+
+impl Model for Recording {
+    ghost use Rattle.book_modes.specs.Recordings.{RecordingView};
+
+    ghost Value = { RecordingView };
+
+    ghost view = { λ r. record { limits = r.limits; rights = r.rights.items; edges = r.edges; inputs = r.inputs; due = r.due; desk = r.desk } };
+}
+
+fn unused_rights(alloc: Global, pages: u8) -> Result<Vec<PageRight>, Memory>
+    ensures many { IfOk result (λ rights. length rights.items ≡ pages) }
+    ensures each { IfOk result (λ rights. (page : ℕ) → page < pages → right_at rights.items page ≡ unused) }
+{
+    let mut rights = Vec::new(alloc);
+    rights.resize(pages as usize, PageRight::new())?;
+    Ok(rights)
+}
+
+fn nothing_due(alloc: Global) -> [Due; 8]
+    ensures { result ≡ replicate 8 nothing_due }
+{
+    [
+        Due::nothing(alloc),
+        Due::nothing(alloc),
+        Due::nothing(alloc),
+        Due::nothing(alloc),
+        Due::nothing(alloc),
+        Due::nothing(alloc),
+        Due::nothing(alloc),
+        Due::nothing(alloc),
+    ]
+}
+
+/// How far a hart at this count goes, where the next of what waits for it may be given at this other count.
+fn stop_before(limit: Count, count: Count, next: Option<Count>) -> Count
+    requires { count < limit }
+    ensures { result ≡ stop_before limit count next }
+{
+    match next {
+        None => limit,
+        Some(next) => limit.min(next.max(count + 1)),
+    }
+}
+
+/// Whether an open lease has taken the page.
+fn takes(lease: &Option<OpenLease>, page: PageNo) -> bool
+    ensures { result ≡ has_taken lease.now page }
+{
+    match lease {
+        None => false,
+        Some(open) => open.right(page).is_some(),
+    }
+}
+
+/// The right, once each hart that stands in the asker's way has given it up.
+fn right_yielded(right: PageRight, settled: &Counts, asked: &Asked) -> PageRight
+    ensures { right_of result ≡ yielded asked.now (count_at settled.now) 8 (right_of right) }
+{
+    let mut right = right;
+    for number in 0..HART_LIMIT {
+        let other = Hart::new(number);
+        if right.against(asked.hart, asked.want).contains(number) {
+            right.give_up(other, count_of(*settled, other));
+        }
+    }
+    right
+}
+
+/// What the hart keeps of a right, at its present count.
+fn right_kept(right: PageRight, hart: Hart, count: Count, keep: Keep) -> PageRight
+    ensures { right_of result ≡ kept (keep_as keep) (right_of right) hart count }
+{
+    let mut right = right;
+    match keep {
+        Keep::All => {}
+        Keep::Readable => {
+            if right.owns(hart) {
+                right.lower(hart, count);
+            }
+        }
+        Keep::Nothing => {
+            if right.holds(hart) {
+                right.give_up(hart, count);
+            }
+        }
+    }
+    right
+}
+
+impl Recording {
+    /// Nobody has used a page.
+    pub(crate) fn new(alloc: Global, start: &Machine, limits: Counts) -> Result<Recording, Memory>
+        ensures unused { IfOk result (λ r. IsUnused r start.now limits) }
+        ensures rows { OnOk result ((hart : ℕ) (h : HartRecord) → slice_get start.now.harts hart ≡ Some h → length h.received.heard ≡ 8) }
+    {
+        let rights = unused_rights(alloc, start.pages())?;
+        let edges = EdgeLog::new(alloc, settled_counts(start));
+        let desk = desk_of(alloc, start)?;
+        Ok(Recording {
+            limits,
+            rights,
+            edges,
+            inputs: InputLog::new(alloc),
+            due: nothing_due(alloc),
+            desk,
+        })
+    }
+
+    /// The edges of the settled steps.
+    pub(crate) fn edges(&self) -> &EdgeLog
+        ensures { result.now ≡ self.now.edges }
+    {
+        &self.edges
+    }
+
+    /// The inputs of the settled steps.
+    pub(crate) fn inputs(&self) -> &InputLog
+        ensures { result.now ≡ self.now.inputs }
+    {
+        &self.inputs
+    }
+
+    /// Puts an input behind the others that wait for the hart. It is given at no count before this one.
+    pub(crate) fn offer(
+        &mut self,
+        hart: Hart,
+        not_before: Count,
+        input: Input,
+    ) -> Result<(), Memory>
+        requires { is_bell input ≡ false }
+        ensures ok { OnOk result (IsOffered self.old hart not_before input self.new) }
+        ensures err { OnErr result (self.new ≡ self.old) }
+        // It may be given to each machine.
+        ensures each { (harts : ℕ) → IsInputOf harts input }
+    {
+        match input {
+            Input::Timer | Input::Word(_) => self.desk.put(hart, not_before, input),
+            Input::Bell(_) => unreachable!(),
+        }
+    }
+
+    /// Sees to it that the hart, which is at this count, has due what its next step is given: what a lease that ended without
+    /// its first step left, or else what waits at the desk. Takes no memory.
+    fn fill_due(&mut self, alloc: Global, hart: Hart, count: Count)
+        ensures filled { IsFilled (is_silent (due_at self.old.due hart).inputs) self.old hart count self.new }
+        ensures rest { self.new ≡ record self.old { due = self.new.due; desk = self.new.desk } }
+    {
+        if self.due[hart.index()].is_silent() {
+            let bells = self.desk.bells_next(hart);
+            let inputs = self.desk.take(hart, count);
+            self.due[hart.index()] = Due::new(alloc, hart, count, inputs, bells.as_slice());
+        }
+    }
+
+    /// Writes down the inputs of a lease that comes back, where it has a step.
+    fn log_inputs(&mut self, lease: &Lease) -> Result<(), Memory>
+        requires last { All (λ x. x.0 < lease.now.base.count) (inputs_of self.old.inputs lease.now.hart) }
+        ensures logged { OnOk result (LogsInputs lease.now.steps self.old.inputs lease.now self.new.inputs) }
+        ensures rest { self.new ≡ record self.old { inputs = self.new.inputs } }
+        ensures err { OnErr result (self.new ≡ self.old) }
+    {
+        if lease.steps() == 0 {
+            return Ok(());
+        }
+        self.inputs
+            .add_all(lease.hart(), lease.lent_at(), lease.inputs())
+    }
+
+    /// Strikes them out again.
+    fn strike_inputs(&mut self, lease: &Lease)
+        ensures { (before : List (List (ℕ × input_of_specs))) → LogsInputs lease.now.steps before lease.now self.old.inputs → self.new ≡ record self.old { inputs = before } }
+    {
+        if lease.steps() > 0 {
+            self.inputs.take_back(lease.hart(), lease.inputs().len());
+        }
+    }
+
+    /// Puts a bell behind the others that wait for its target, where there is one.
+    fn put_bell(&mut self, target: &Option<Hart>, bell: WaitingBell) -> Result<(), Memory>
+        ensures put { OnOk result (PutsBell target.now self.old.desk bell self.new.desk) }
+        ensures rest { self.new ≡ record self.old { desk = self.new.desk } }
+        ensures err { OnErr result (self.new ≡ self.old) }
+    {
+        match target {
+            None => Ok(()),
+            Some(target) => self.desk.put_bell(*target, bell.source, bell.after),
+        }
+    }
+
+    /// Takes it back again.
+    fn take_back_bell(&mut self, target: &Option<Hart>)
+        ensures { (before : List Queues) (bell : bell_of_specs) → PutsBell target.now before bell self.old.desk → self.new ≡ record self.old { desk = before } }
+    {
+        if let Some(target) = target {
+            self.desk.take_back_bell(*target);
+        }
+    }
+
+    /// Writes down the inputs and the edges of a lease that comes back: both or neither.
+    fn log(&mut self, lease: &Lease) -> Result<(), Memory>
+        requires settles { (earlier : List (ℕ × ℕ)) × (r : RecordingView) × IsSettling (IsRecorded r) (whole earlier lease.now) × (self.old ≡ record r { desk = self.old.desk }) }
+        ensures inputs { OnOk result (LogsInputs lease.now.steps self.old.inputs lease.now self.new.inputs) }
+        ensures edges { OnOk result (AreLogged self.old.edges lease.now.edges self.new.edges) }
+        ensures rest { self.new ≡ record self.old { inputs = self.new.inputs; edges = self.new.edges } }
+        ensures err { OnErr result (self.new ≡ self.old) }
+    {
+        self.log_inputs(lease)?;
+        match self.edges.add_all(lease.hart(), lease.edges()) {
+            Ok(()) => Ok(()),
+            Err(refused) => {
+                self.strike_inputs(lease);
+                Err(refused)
+            }
+        }
+    }
+
+    /// The hart, which is at this count, keeps what it is told of each page that it holds.
+    fn keep_rights(&mut self, hart: Hart, count: Count, keep: Keep)
+        ensures rest { self.new ≡ record self.old { rights = self.new.rights } }
+        ensures many { length self.new.rights ≡ length self.old.rights }
+        ensures rights { (page : ℕ) → page < length self.old.rights → right_at self.new.rights page ≡ kept (keep_as keep) (right_at self.old.rights page) hart count }
+    {
+        for page in 0..self.rights.len() {
+            self.rights[page] = right_kept(self.rights[page], hart, count, keep);
+        }
+    }
+
+    /// What was due to the hart of a lease that comes back was given, where it has a step.
+    fn clear_due(&mut self, lease: &Lease)
+        ensures { self.new ≡ record self.old { due = due_after lease.now.steps self.old.due lease.now.hart } }
+    {
+        if lease.steps() > 0 {
+            let alloc = *self.rights.allocator();
+            self.due[lease.hart().index()] = Due::nothing(alloc);
+        }
+    }
+
+    /// Each limit becomes the greater of the two.
+    pub(crate) fn raise(&mut self, limits: Counts)
+        requires { length limits ≡ length self.old.limits }
+        ensures { self.new ≡ record self.old { limits = greater self.old.limits limits } }
+    {
+        self.limits = self.limits.max(limits);
+    }
+
+    /// Whether the hart's right stands in the asker's way, and its open lease has taken the page.
+    fn is_taker(&self, leases: &[Option<OpenLease>; 8], asked: &Asked, other: Hart) -> bool
+        requires { asked.now.page < length self.now.rights }
+        ensures { IsTrue result ↔ IsTaker self.now leases.now asked.now other }
+    {
+        if !takes(&leases[other.index()], asked.page) {
+            return false;
+        }
+        let right = self.rights[asked.page.index()];
+        right
+            .against(asked.hart, asked.want)
+            .contains(other.number())
+    }
+
+    /// What the asker is answered, once nobody is in its way: the page's right from then on, and the edges that it owes.
+    fn answer(
+        &self,
+        alloc: Global,
+        settled: &Counts,
+        asked: &Asked,
+    ) -> (PageRight, SmallVec<Edge, 8>)
+        requires page { asked.now.page < length self.now.rights }
+        requires hart { asked.now.hart < length settled.now }
+        requires count { asked.now.count < 2 ^ 48 }
+        requires free { IsFree (right_met self.now (count_at settled.now) asked.now) asked.now.hart asked.now.want }
+        ensures right { right_of result.0 ≡ given (right_met self.now (count_at settled.now) asked.now) asked.now.hart asked.now.want asked.now.count }
+        ensures edges { (e : edge_found) → Contains result.1.items e ↔ IsOwed (right_met self.now (count_at settled.now) asked.now) asked.now.hart asked.now.want asked.now.count (edge_as e) }
+        ensures rising { AllPairs (λ a b. a.other < b.other) result.1.items }
+    {
+        let mut counts = *settled;
+        counts.set(asked.hart, asked.count);
+        let mut right = right_yielded(self.rights[asked.page.index()], settled, asked);
+        match right.ask(alloc, asked.hart, asked.want, &counts) {
+            Ask::Given(edges) => (right, edges),
+            Ask::HeldBy(_) => unreachable!(),
+        }
+    }
+}
+
+impl Mode for Recording {
+    ghost stops = { λ r. r.limits };
+
+    ghost obeyed = { λ r. [] };
+
+    ghost heard = { heard_by };
+
+    ghost keeps = { λ r start machine journal leases. IsRecorded r start machine journal leases };
+
+    ghost lends = { GoesOut };
+
+    ghost is_holder = { λ r leases asked other. IsTaker r leases asked other };
+
+    ghost owes = { λ r settled asked found. AreOwed r settled asked found };
+
+    ghost gives = { λ r settled asked new. IsGiven r settled asked new };
+
+    ghost settles = { λ r lease keep new. IsSettled r lease keep new };
+
+    ghost ends = { λ r hart count taken new. IsEnded r hart count taken new };
+
+    fn limit(&self, hart: Hart) -> Count {
+        count_of(self.limits, hart)
+    }
+
+    fn is_open(&self, _hart: Hart, _machine: &Machine) -> bool {
+        false
+    }
+
+    fn lend(&mut self, alloc: Global, hart: Hart, count: Count) -> Lent {
+        self.fill_due(alloc, hart, count);
+        let limit = count_of(self.limits, hart);
+        let stop = stop_before(limit, count, self.desk.next(hart));
+        self.due[hart.index()].lent(alloc, stop)
+    }
+
+    fn holders(&self, leases: &[Option<OpenLease>; 8], asked: &Asked) -> HartSet {
+        let mut harts = HartSet::new();
+        for number in 0..HART_LIMIT {
+            if self.is_taker(leases, asked, Hart::new(number)) {
+                harts = harts.with(number);
+            }
+        }
+        harts
+    }
+
+    fn edges_owed(&self, alloc: Global, settled: &Counts, asked: &Asked) -> SmallVec<Edge, 8> {
+        self.answer(alloc, settled, asked).1
+    }
+
+    fn give(&mut self, alloc: Global, settled: &Counts, asked: &Asked) {
+        let (right, _edges) = self.answer(alloc, settled, asked);
+        self.rights[asked.page.index()] = right;
+    }
+
+    fn settle(&mut self, lease: &Lease, keep: Keep) -> Result<(), Memory> {
+        let target = lease.rung();
+        self.put_bell(&target, lease.bell())?;
+        if let Err(refused) = self.log(lease) {
+            self.take_back_bell(&target);
+            return Err(refused);
+        }
+        self.clear_due(lease);
+        self.keep_rights(lease.hart(), lease.count(), keep);
+        Ok(())
+    }
+
+    fn end(&mut self, hart: Hart, count: Count, taken: &[Option<Taken>; 64]) {
+        for page in 0..self.rights.len().min(64) {
+            if taken[page].is_some() {
+                self.rights[page].give_up(hart, count);
+            }
+        }
+    }
+}

@@ -1,0 +1,46 @@
+//! How many steps the harts of a machine have taken.
+
+ghost use Rattle.std.specs.Prelude.{◌≡◌, ◌<◌, ◌≤◌, ◌^◌, ℕ, length, slice_index};
+ghost use Rattle.ft_types.specs.Counts.{count_at};
+ghost use Rattle.hart_lease.specs.Runs.{counts_of};
+
+use ft_types::{Count, Counts, Hart};
+use guest_image::Machine;
+
+/// How many steps the hart has taken: none where the machine has no such hart.
+pub(crate) fn steps_taken(machine: &Machine, hart: Hart) -> Count
+    ensures { result ≡ counts_of machine.now hart }
+{
+    if hart.number() < machine.harts() {
+        machine.hart(hart).count()
+    } else {
+        0
+    }
+}
+
+/// How many steps each hart has taken.
+pub(crate) fn settled_counts(machine: &Machine) -> Counts
+    ensures harts { length result ≡ length machine.now.harts }
+    ensures value { (hart : ℕ) → hart < length result → slice_index result hart ≡ counts_of machine.now hart }
+    ensures all { (hart : ℕ) → count_at result hart ≡ counts_of machine.now hart }
+    ensures few { length machine.now.harts ≤ 8 }
+{
+    let mut counts = Counts::zero(machine.harts());
+    for number in 0..machine.harts() {
+        let hart = Hart::new(number);
+        counts.set(hart, machine.hart(hart).count());
+    }
+    counts
+}
+
+/// The count of a hart in a row: 0 where the row has no such hart.
+pub(crate) fn count_of(counts: Counts, hart: Hart) -> Count
+    ensures value { result ≡ count_at counts hart }
+    ensures limit { result < 2 ^ 48 }
+{
+    if hart.number() < counts.harts() {
+        counts.get(hart)
+    } else {
+        0
+    }
+}

@@ -1,0 +1,42 @@
+-- Pages laid over those of a machine.
+use Rattle.std.proofs.Common.{◌≡◌, ℕ, suc, List, [], ◌∷◌, ◌++◌, length, refl, ap, slice_set}
+use Rattle.guest_image.specs.Machine.{MachineState}
+use Rattle.hart_lease.specs.declared.lease_pages.Slot.{Slot}
+use Rattle.hart_lease.specs.declared.lease_pages.Slot.TheVariants.{Missing, Readable, Writable}
+use Rattle.hart_lease.specs.Leases.{laid_pages, page_after, with_slot}
+
+pub length-laid_pages : (ps : List (List ℕ)) (ss : List Slot) → length (laid_pages ps ss) ≡ length ps
+length-laid_pages [] ss = refl
+length-laid_pages (p ∷ ps) [] = refl
+length-laid_pages (p ∷ ps) (s ∷ ss) = ap suc (length-laid_pages ps ss)
+
+pub laid_pages-nil : (ps : List (List ℕ)) → laid_pages ps [] ≡ ps
+laid_pages-nil [] = refl
+laid_pages-nil (p ∷ ps) = refl
+
+-- a slot that was not written
+pub laid_pages-kept : (ps : List (List ℕ)) (ss : List Slot) (s : Slot) → ((p : List ℕ) → page_after p s ≡ p) →
+    laid_pages ps (ss ++ s ∷ []) ≡ laid_pages ps ss
+laid_pages-kept [] ss s same = refl
+laid_pages-kept (p ∷ ps) [] s same = rw (same p, laid_pages-nil ps) refl
+laid_pages-kept (p ∷ ps) (x ∷ ss) s same = ap (λ l. page_after p x ∷ l) (laid_pages-kept ps ss s same)
+
+-- a slot that was written
+pub laid_pages-written : (ps : List (List ℕ)) (ss : List Slot) (new : List ℕ) →
+    laid_pages ps (ss ++ Writable new ∷ []) ≡ slice_set (laid_pages ps ss) (length ss) new
+laid_pages-written [] ss new = refl
+laid_pages-written (p ∷ ps) [] new = ap (λ l. new ∷ l) (laid_pages-nil ps)
+laid_pages-written (p ∷ ps) (x ∷ ss) new = ap (λ l. page_after p x ∷ l) (laid_pages-written ps ss new)
+
+-- one slot more
+pub laid_pages-more : (ps : List (List ℕ)) (ss : List Slot) (s : Slot) →
+    laid_pages ps (ss ++ s ∷ []) ≡ with_slot (laid_pages ps ss) (length ss) s
+laid_pages-more ps ss Missing = laid_pages-kept ps ss Missing (λ p. refl)
+laid_pages-more ps ss (Readable same) = laid_pages-kept ps ss (Readable same) (λ p. refl)
+laid_pages-more ps ss (Writable new) = laid_pages-written ps ss new
+
+pub lay_more : (m₀ m m' : MachineState) (ss : List Slot) (s : Slot) (i number : ℕ) →
+    m ≡ record m₀ { pages = laid_pages m₀.pages ss } → number ≡ length ss → i ≡ number →
+    m' ≡ record m { pages = with_slot m.pages i s } →
+    m' ≡ record m₀ { pages = laid_pages m₀.pages (ss ++ s ∷ []) }
+lay_more m₀ m m' ss s i number e at same e' = rw (laid_pages-more m₀.pages ss s) (rw (e, same, at) at e')

@@ -1,0 +1,9 @@
+pub mod Slots
+pub mod Taken
+pub mod OpenLeases
+pub mod Leases
+pub mod Asks
+pub mod Turns
+pub mod Recorded
+pub mod Runs
+pub mod Laws

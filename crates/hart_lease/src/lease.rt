@@ -1,0 +1,437 @@
+//! A lease: one hart's state and some pages, on loan from a book.
+
+ghost use Rattle.std.specs.Cmp.Lexicographic.{pointwise};
+ghost use Rattle.std.specs.Prelude.{◌≡◌, ◌==◌, ◌&&◌, ◌≢◌, ◌<◌, ◌≤◌, ◌^◌, ◌⊎◌, ◌+◌, ◌-◌, ◌↔◌, ℕ, List, [], length, replicate, map, slice_set, slice_index_or, Option, Some, None, ◌∷◌, true, false, IfOk, IfSome, IfNone, OnOk, OnErr, IsTrue};
+ghost use Rattle.rv32_hart.specs.Hart.{without_outputs};
+ghost use Rattle.guest_image.specs.Machine.{MachineState};
+ghost use Rattle.hart_lease.specs.Slots.{slot_at, want_of, base_of, is_writable};
+ghost use Rattle.hart_lease.specs.Runs.{IsBareLease};
+ghost use Rattle.hart_lease.specs.Asks.{asked_by};
+ghost use Rattle.hart_lease.specs.OpenLeases.{idle};
+ghost use Rattle.input_log.specs.Alike.{same_input};
+ghost use Rattle.hart_lease.specs.Leases.{LeaseView, fresh, rung_bell, bells_rung, IsFull, Ticks, IsLent, IsLentAt, base_at, whole, whole_in, with_page_to_read, with_page_to_write};
+
+use crate::asked::Asked;
+use crate::lease_pages::{LeasePages, Slot};
+use crate::lent::Lent;
+use crate::taken::{Taken, TakenPages};
+use edge_log::Edge;
+use ft_types::{Count, HART_LIMIT, Hart, Memory, PageNo, Want};
+use guest_image::{Machine, Page};
+use input_log::{Input, WaitingBell};
+use rv32_hart::{Decoder, HartState, Tick, tick, tick_running};
+use smallvec::SmallVec;
+use std::alloc::Global;
+use std::marker::Model;
+
+/// The most steps of one lease.
+pub const LEASE_STEPS: u64 = 1024;
+
+/// One hart's state and some pages, on loan from a book. It has to be spent, by `Book::settle` or `Book::discard`.
+pub struct Lease {
+    hart: Hart,
+    /// The hart as it was lent, without its outputs.
+    base: HartState,
+    /// The hart at present, with the outputs of the lease's steps alone.
+    present: HartState,
+    /// The inputs of its first step.
+    inputs: SmallVec<Input, 8>,
+    /// The contents that each page to be written had when it came.
+    bases: Vec<Option<Page>>,
+    pages: LeasePages,
+    /// The counts at which it took each page.
+    taken: TakenPages,
+    /// The edges found, which wait until it is settled.
+    edges: SmallVec<Edge, 8>,
+    stop: Count,
+    /// The count at which it is full, if not before: its stop, or that after 1,024 steps.
+    last: Count,
+    decoder: Box<Decoder>,
+    ghost last_stops: { last ≤ stop },
+    ghost last_ends: { last ≤ base.count + 1024 },
+    ghost last_is_one: { last < stop → base.count + 1024 ≤ last },
+}
+
+impl Model for Lease {
+    ghost use Rattle.std.specs.Prelude.{◌-◌};
+    ghost use Rattle.hart_lease.specs.Leases.{LeaseView};
+    ghost use Rattle.hart_lease.specs.Runs.{IsBareLease};
+
+    ghost Value = { LeaseView };
+
+    ghost view = { λ l. record { hart = l.hart; base = l.base; present = l.present; inputs = l.inputs.items; bases = l.bases.items; slots = l.pages; taken = l.taken; edges = l.edges.items; steps = l.present.count - l.base.count; stop = l.stop } };
+
+    ghost invariant = { λ l. IsBareLease (record { hart = l.hart; base = l.base; present = l.present; inputs = l.inputs.items; bases = l.bases.items; slots = l.pages; taken = l.taken; edges = l.edges.items; steps = l.present.count - l.base.count; stop = l.stop }) };
+}
+
+fn no_pages(alloc: Global, pages: u8) -> Result<Vec<Option<Page>>, Memory>
+    ensures { IfOk result (λ v. v.items ≡ replicate pages None) }
+{
+    let mut all = Vec::with_capacity(alloc, pages as usize)?;
+    for _page in 0..pages {
+        all.push(None)?;
+    }
+    Ok(all)
+}
+
+/// Whether the page that was lent, where one was, is this page.
+fn is_base(slot: &Slot, kept: &Option<Page>, here: &Page) -> bool
+    ensures { IsTrue result ↔ ((bytes : List ℕ) → base_of slot.now kept.now ≡ Some bytes → here.now ≡ bytes) }
+{
+    match (slot, kept) {
+        (Slot::Missing, _) | (Slot::Writable(_), None) => true,
+        (Slot::Readable(page), _) => here.same(page),
+        (Slot::Writable(_), Some(page)) => here.same(page),
+    }
+}
+
+fn same_edges(edges: &[Edge], others: &[Edge]) -> bool
+    ensures { result ≡ pointwise (λ a b. a.hart == b.hart && a.at == b.at && a.other == b.other && a.after == b.after) edges.now others.now }
+{
+    edges == others
+}
+
+fn same_inputs(inputs: &[Input], others: &[Input]) -> bool
+    ensures { result ≡ pointwise same_input inputs.now others.now }
+{
+    inputs == others
+}
+
+impl Lease {
+    /// A lease of a hart in this state but for its outputs, without steps and pages, which may not take any yet.
+    pub(crate) fn fresh(
+        alloc: Global,
+        hart: Hart,
+        state: &HartState,
+        pages: u8,
+    ) -> Result<Lease, Memory>
+        requires pages { pages ≤ 64 }
+        ensures { IfOk result (λ l. l ≡ fresh hart (without_outputs state.now) pages idle) }
+    {
+        let base = state.without_outputs();
+        let present = state.without_outputs();
+        let bases = no_pages(alloc, pages)?;
+        let pages = LeasePages::missing(alloc, pages)?;
+        let taken = TakenPages::none(alloc)?;
+        let decoder = Box::new(alloc, Decoder::new())?;
+        Ok(Lease {
+            hart,
+            base,
+            present,
+            inputs: SmallVec::new(alloc),
+            bases,
+            pages,
+            taken,
+            edges: SmallVec::new(alloc),
+            stop: 0,
+            last: 0,
+            decoder,
+        })
+    }
+
+    /// Sends the lease out with this.
+    pub(crate) fn go_out(&mut self, lent: Lent)
+        requires idle { self.old ≡ fresh self.old.hart self.old.base (length self.old.slots) idle }
+        requires stop { lent.stop < 2 ^ 48 }
+        ensures { self.new ≡ record self.old { stop = lent.stop; inputs = lent.inputs; edges = lent.edges } }
+    {
+        let stop = lent.stop();
+        let (inputs, edges) = lent.into_parts();
+        let full = self.base.count() + LEASE_STEPS;
+        self.stop = stop;
+        self.last = if full < stop { full } else { stop };
+        self.inputs = inputs;
+        self.edges = edges;
+    }
+
+    /// The hart. Its steps are what every lease's are.
+    pub fn hart(&self) -> Hart
+        ensures value { result ≡ self.now.hart }
+        ensures kept { IsBareLease self.now }
+    {
+        self.hart
+    }
+
+    /// The hart's present count.
+    pub fn count(&self) -> Count
+        ensures { result ≡ self.now.present.count }
+    {
+        self.present.count()
+    }
+
+    /// The hart's count when it was lent.
+    pub(crate) fn lent_at(&self) -> Count
+        ensures { result ≡ self.now.base.count }
+    {
+        self.base.count()
+    }
+
+    /// The count that the lease does not go past.
+    pub fn stop(&self) -> Count
+        ensures { result ≡ self.now.stop }
+    {
+        self.stop
+    }
+
+    /// The inputs of its first step.
+    pub fn inputs(&self) -> &[Input]
+        ensures value { result.now ≡ self.now.inputs }
+        ensures few { length result.now ≤ 8 }
+    {
+        self.inputs.as_slice()
+    }
+
+    /// The edges that wait in the lease until it is settled.
+    pub fn edges(&self) -> &[Edge]
+        ensures { result.now ≡ self.now.edges }
+    {
+        self.edges.as_slice()
+    }
+
+    /// What it asks for, when it asks for a right on a page.
+    pub(crate) fn asks(&self, page: PageNo, want: Want) -> Asked
+        ensures value { result ≡ asked_by self.now page want }
+        ensures count { result.count < 2 ^ 48 }
+        ensures kept { IsBareLease self.now }
+    {
+        Asked {
+            hart: self.hart,
+            count: self.present.count(),
+            page,
+            want,
+        }
+    }
+
+    /// Puts these edges in place of those that wait.
+    pub(crate) fn wait_with(&mut self, edges: SmallVec<Edge, 8>)
+        ensures { self.new ≡ record self.old { edges = edges.items } }
+    {
+        self.edges = edges;
+    }
+
+    /// The outputs of its steps.
+    pub(crate) fn outputs(&self) -> &[(Count, u32)]
+        ensures { result.now ≡ self.now.present.outputs }
+    {
+        self.present.outputs()
+    }
+
+    /// How many steps the lease has.
+    #[inline(always)]
+    pub fn steps(&self) -> u64
+        ensures { result ≡ self.now.steps }
+    {
+        self.present.count() - self.base.count()
+    }
+
+    /// The right that the lease has on a page.
+    pub fn right(&self, page: PageNo) -> Option<Want>
+        requires { page < length self.now.slots }
+        ensures { result ≡ want_of (slot_at self.now.slots page) }
+    {
+        self.pages.right(page)
+    }
+
+    /// Whether the lease takes no further step: after 1,024 steps, after a step that halts or rings, and at its stop.
+    #[inline(always)]
+    pub fn full(&self) -> bool
+        ensures { IsTrue result ↔ IsFull self.now }
+    {
+        self.present.count() >= self.last
+            || self.present.is_halted()
+            || self.present.rings() != self.base.rings()
+    }
+
+    /// One step, where the lease is not full.
+    #[inline(always)]
+    pub fn tick(&mut self) -> Tick
+        requires { ¬ (IsFull self.old) }
+        ensures does { Ticks result self.old self.new }
+        // Whoever lent the lease still did.
+        ensures lent { (machine : MachineState) (taken : List (Option Taken)) (earlier : List (ℕ × ℕ)) → IsLent machine taken (whole earlier self.old) → IsLent machine taken (whole earlier self.new) }
+    {
+        if self.steps() == 0 {
+            return self.tick_on_inputs();
+        }
+        tick_running(&mut self.present, &mut *self.decoder, &mut self.pages)
+    }
+
+    /// The first step. Inlined, so that the place of its answer is made ready at the first step alone.
+    #[inline(always)]
+    fn tick_on_inputs(&mut self) -> Tick
+        requires room { ¬ (IsFull self.old) }
+        requires first { self.old.steps ≡ 0 }
+        ensures does { Ticks result self.old self.new }
+        ensures lent { (machine : MachineState) (taken : List (Option Taken)) (earlier : List (ℕ × ℕ)) → IsLent machine taken (whole earlier self.old) → IsLent machine taken (whole earlier self.new) }
+    {
+        self.first_tick()
+    }
+
+    /// The first step, on the lease's inputs. The later ones have none, and so it stands apart.
+    #[inline(never)]
+    fn first_tick(&mut self) -> Tick
+        requires room { ¬ (IsFull self.old) }
+        requires first { self.old.steps ≡ 0 }
+        ensures does { Ticks result self.old self.new }
+        ensures lent { (machine : MachineState) (taken : List (Option Taken)) (earlier : List (ℕ × ℕ)) → IsLent machine taken (whole earlier self.old) → IsLent machine taken (whole earlier self.new) }
+    {
+        tick(&mut self.present, self.inputs.as_slice(), &mut self.pages)
+    }
+
+    /// Takes a page in to read.
+    pub(crate) fn take_to_read(&mut self, page: PageNo, here: Page)
+        requires page { page < length self.old.slots }
+        requires missing { slot_at self.old.slots page ≡ Slot.Missing }
+        ensures { self.new ≡ with_page_to_read self.old page here }
+    {
+        self.taken.take(page, Want::Read, self.present.count());
+        drop(self.pages.put(page, Slot::Readable(here)));
+    }
+
+    /// Takes a page in to write, given twice over.
+    pub(crate) fn take_to_write(&mut self, page: PageNo, base: Page, present: Page)
+        requires page { page < length self.old.slots }
+        requires unwritten { is_writable (slot_at self.old.slots page) ≡ false }
+        requires lent { (bytes : List ℕ) → base_at self.old page ≡ Some bytes → bytes ≡ base }
+        requires same { present ≡ base }
+        ensures { self.new ≡ with_page_to_write self.old page base present }
+    {
+        self.taken.take(page, Want::Write, self.present.count());
+        self.bases[page.index()] = Some(base);
+        drop(self.pages.put(page, Slot::Writable(present)));
+    }
+
+    /// Takes a page in to write that it has to read, given once more.
+    pub(crate) fn raise_to_write(&mut self, page: PageNo, present: Page)
+        requires page { page < length self.old.slots }
+        requires readable { slot_at self.old.slots page ≡ Slot.Readable present }
+        ensures { self.new ≡ with_page_to_write self.old page present present }
+    {
+        self.taken.take(page, Want::Write, self.present.count());
+        match self.pages.put(page, Slot::Writable(present)) {
+            Slot::Readable(base) => self.bases[page.index()] = Some(base),
+            _ => unreachable!(),
+        }
+    }
+
+    /// Whether the lease's hart and pages were lent by the machine, the pages at these counts.
+    #[tactic(auto, using(crate::proofs::Bare::lent_whole, crate::proofs::Bare::lent_bare))]
+    pub(crate) fn is_lent(&self, machine: &Machine, taken: &[Option<Taken>; 64]) -> bool
+        requires { self.now.hart < length machine.now.harts }
+        ensures { IsTrue result ↔ IsLent machine.now taken.now (whole_in machine.now self.now) }
+    {
+        machine.hart(self.hart).is_without_outputs(&self.base)
+            && machine.pages() as usize == self.pages.len()
+            && self.took(taken)
+            && self.pages_are_lent(machine)
+    }
+
+    /// Whether these edges wait in it.
+    pub(crate) fn waits_with(&self, edges: &[Edge]) -> bool
+        ensures { IsTrue result ↔ (self.now.edges ≡ edges.now) }
+    {
+        same_edges(self.edges.as_slice(), edges)
+    }
+
+    /// Whether these are the inputs of its first step.
+    pub(crate) fn hears(&self, inputs: &[Input]) -> bool
+        ensures { IsTrue result ↔ (self.now.inputs ≡ inputs.now) }
+    {
+        same_inputs(self.inputs.as_slice(), inputs)
+    }
+
+    /// Whether it took its pages at these counts.
+    fn took(&self, taken: &[Option<Taken>; 64]) -> bool
+        ensures { IsTrue result ↔ (self.now.taken ≡ taken.now) }
+    {
+        self.taken.same(taken)
+    }
+
+    fn pages_are_lent(&self, machine: &Machine) -> bool
+        requires { length self.now.slots ≡ length machine.now.pages }
+        ensures { IsTrue result ↔ ((page : ℕ) → page < length self.now.slots → IsLentAt machine.now self.now page) }
+    {
+        for number in 0..machine.pages() {
+            if !self.page_is_lent(PageNo::new(number), machine) {
+                return false;
+            }
+        }
+        true
+    }
+
+    fn page_is_lent(&self, page: PageNo, machine: &Machine) -> bool
+        requires slots { page < length self.now.slots }
+        requires pages { page < length machine.now.pages }
+        ensures { IsTrue result ↔ IsLentAt machine.now self.now page }
+    {
+        is_base(
+            self.pages.slot(page),
+            &self.bases[page.index()],
+            machine.page(page),
+        )
+    }
+
+    /// The bell that waits for the hart that the lease rang.
+    pub(crate) fn bell(&self) -> WaitingBell
+        ensures { result ≡ rung_bell self.now }
+    {
+        WaitingBell {
+            source: self.hart,
+            after: self.present.count(),
+        }
+    }
+
+    /// The hart that the lease rang, which it did at its last step. It rang one at most.
+    pub(crate) fn rung(&self) -> Option<Hart>
+        ensures some { IfSome result (λ t. (t < 8) × (bells_rung self.now t ≡ rung_bell self.now ∷ []) × ((other : ℕ) → other ≢ t → bells_rung self.now other ≡ [])) }
+        ensures none { IfNone result ((target : ℕ) → bells_rung self.now target ≡ []) }
+    {
+        let now = self.present.rung();
+        let before = self.base.rung();
+        for number in 0..HART_LIMIT {
+            if now[number as usize] != before[number as usize] {
+                return Some(Hart::new(number));
+            }
+        }
+        None
+    }
+
+    /// Nothing of the lease is needed.
+    pub(crate) fn waste(self) {
+        let (present, slots, _) = self.spend();
+        drop(present);
+        drop(slots);
+    }
+
+    /// What the lease has now. The lease is gone.
+    pub(crate) fn spend(self) -> (HartState, Vec<Slot>, u64)
+        ensures hart { result.0 ≡ self.present }
+        ensures slots { result.1.items ≡ self.slots }
+        ensures steps { result.2 ≡ self.steps }
+        ensures number { result.0.number ≡ self.base.number }
+        ensures harts { result.0.harts ≡ self.base.harts }
+        ensures kept { IsBareLease self }
+    {
+        let steps = self.steps();
+        let Lease {
+            hart: _,
+            base,
+            present,
+            inputs,
+            bases,
+            pages,
+            taken,
+            edges,
+            stop: _,
+            last: _,
+            decoder,
+        } = self;
+        drop(base);
+        drop(inputs);
+        drop(bases);
+        drop(taken);
+        drop(edges);
+        drop(decoder);
+        (present, pages.into_slots(), steps)
+    }
+}

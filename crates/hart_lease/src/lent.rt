@@ -1,0 +1,76 @@
+//! What a hart that is lent goes out with.
+
+ghost use Rattle.std.specs.Prelude.{◌≡◌, ◌≤◌, length};
+
+use edge_log::Edge;
+use ft_types::Count;
+use input_log::Input;
+use smallvec::SmallVec;
+use std::marker::Model;
+
+/// What a hart that is lent goes out with: the count that its lease does not go past, the inputs of its next step, and the
+/// edges that this step owes whatever page it uses. At most eight of each.
+#[derive(Drop)]
+pub struct Lent {
+    stop: Count,
+    inputs: SmallVec<Input, 8>,
+    edges: SmallVec<Edge, 8>,
+}
+
+impl Model for Lent {
+    ghost use Rattle.std.specs.Prelude.{◌≤◌, ◌<◌, ◌^◌, length};
+    ghost use Rattle.hart_lease.specs.OpenLeases.{LentView};
+
+    ghost Value = { LentView };
+
+    ghost view = { λ l. record { stop = l.stop; inputs = l.inputs.items; edges = l.edges.items } };
+
+    ghost invariant = { λ l. (length l.inputs.items ≤ 8) × (length l.edges.items ≤ 8) };
+}
+
+impl Lent {
+    /// So far, with these inputs and edges.
+    pub(crate) fn new(stop: Count, inputs: SmallVec<Input, 8>, edges: SmallVec<Edge, 8>) -> Lent
+        requires inputs { length inputs.items ≤ 8 }
+        requires edges { length edges.items ≤ 8 }
+        ensures { result ≡ record { stop = stop; inputs = inputs.items; edges = edges.items } }
+    {
+        Lent {
+            stop,
+            inputs,
+            edges,
+        }
+    }
+
+    /// The count that the lease does not go past.
+    pub(crate) fn stop(&self) -> Count
+        ensures { result ≡ self.now.stop }
+    {
+        self.stop
+    }
+
+    /// The inputs of its first step.
+    pub(crate) fn inputs(&self) -> &[Input]
+        ensures value { result.now ≡ self.now.inputs }
+        ensures few { length result.now ≤ 8 }
+    {
+        self.inputs.as_slice()
+    }
+
+    /// The edges of its first step.
+    pub(crate) fn edges(&self) -> &[Edge]
+        ensures value { result.now ≡ self.now.edges }
+        ensures few { length result.now ≤ 8 }
+    {
+        self.edges.as_slice()
+    }
+
+    /// The inputs, and the edges.
+    pub(crate) fn into_parts(self) -> (SmallVec<Input, 8>, SmallVec<Edge, 8>)
+        ensures inputs { result.0.items ≡ self.inputs }
+        ensures edges { result.1.items ≡ self.edges }
+        ensures few { length self.inputs ≤ 8 }
+    {
+        (self.inputs, self.edges)
+    }
+}

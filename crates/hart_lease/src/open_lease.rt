@@ -1,0 +1,97 @@
+//! What a book knows of an open lease.
+
+ghost use Rattle.std.specs.Prelude.{◌≡◌, ◌<◌, ℕ, length, replicate, slice_set, None, Some};
+ghost use Rattle.hart_lease.specs.OpenLeases.{OpenView, right_of, nothing_taken};
+ghost use Rattle.hart_lease.specs.Taken.{taken_at, taking};
+
+use crate::asked::Asked;
+use crate::lent::Lent;
+use crate::taken::{self, Taken, TakenPages};
+use edge_log::Edge;
+use ft_types::{Count, PageNo, Want};
+use input_log::Input;
+use smallvec::SmallVec;
+use std::alloc::Global;
+use std::marker::Model;
+
+/// What the book knows of an open lease: the count that it does not go past, the inputs of its first step, since when it
+/// has each page, and the edges that wait in it.
+#[derive(Drop)]
+pub struct OpenLease {
+    stop: Count,
+    inputs: SmallVec<Input, 8>,
+    taken: TakenPages,
+    edges: SmallVec<Edge, 8>,
+}
+
+impl Model for OpenLease {
+    ghost use Rattle.std.specs.Prelude.{◌≡◌, length};
+    ghost use Rattle.hart_lease.specs.OpenLeases.{OpenView};
+
+    ghost Value = { OpenView };
+
+    ghost view = { λ l. record { stop = l.stop; inputs = l.inputs.items; taken = l.taken; edges = l.edges.items } };
+
+    ghost invariant = { λ l. length l.taken ≡ 64 };
+}
+
+impl OpenLease {
+    /// A lease of no page.
+    pub(crate) fn new(alloc: Global, lent: &Lent, taken: TakenPages) -> OpenLease
+        requires { taken ≡ replicate 64 None }
+        ensures { result ≡ nothing_taken lent.now }
+    {
+        let inputs = SmallVec::from_slice(alloc, lent.inputs()).unwrap();
+        let edges = SmallVec::from_slice(alloc, lent.edges()).unwrap();
+        OpenLease {
+            stop: lent.stop(),
+            inputs,
+            taken,
+            edges,
+        }
+    }
+
+    /// The count that it does not go past.
+    pub(crate) fn stop(&self) -> Count
+        ensures { result ≡ self.now.stop }
+    {
+        self.stop
+    }
+
+    /// The inputs of its first step.
+    pub(crate) fn inputs(&self) -> &[Input]
+        ensures { result.now ≡ self.now.inputs }
+    {
+        self.inputs.as_slice()
+    }
+
+    /// Since when it has each page.
+    pub(crate) fn taken(&self) -> &[Option<Taken>; 64]
+        ensures value { result.now ≡ self.now.taken }
+        ensures row { length result.now ≡ 64 }
+    {
+        self.taken.row()
+    }
+
+    /// The edges that wait in it.
+    pub(crate) fn edges(&self) -> &[Edge]
+        ensures { result.now ≡ self.now.edges }
+    {
+        self.edges.as_slice()
+    }
+
+    /// The right that it has on a page.
+    pub(crate) fn right(&self, page: PageNo) -> Option<Want>
+        ensures { result ≡ right_of (Some self.now) page }
+    {
+        taken::right_of(&self.taken.row()[page.index()])
+    }
+
+    /// Writes down that it was given a right, and which edges wait in it now.
+    pub(crate) fn take(&mut self, asked: &Asked, waiting: SmallVec<Edge, 8>)
+        ensures { self.new ≡ record self.old { taken = slice_set self.old.taken asked.now.page (Some (taking (taken_at self.old.taken asked.now.page) asked.now.want asked.now.count)); edges = waiting.items } }
+    {
+        self.taken.take(asked.page, asked.want, asked.count);
+        self.edges = waiting;
+    }
+}
