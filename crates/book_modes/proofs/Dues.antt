@@ -69,33 +69,26 @@ module _ (r new : RecordingView) (hart count : ℕ) (start m : MachineState) (jo
       subst (λ v. IsRecorded v start m journal leases) (sym t.rest)
       (record {
         ledger = p.ledger;
-        reached = p.reached;
-        few = p.few;
-        harts_stay = p.harts_stay;
-        pages_stay = p.pages_stay;
-        at_machine = p.at_machine;
-        in_journal = p.in_journal;
+        led = p.led;
+        size = p.size;
         log = p.log;
-        log_harts = p.log_harts;
-        log_start = p.log_start;
-        enough = p.enough;
-        many = p.many;
         rights = p.rights;
         limits = p.limits;
         logged = p.logged;
-        dues = ap length t.due ∙ (length-set r.due hart _ ∙ p.dues);
-        due =
-            λ h. subst (λ (due : List DueView). All (IsDueEdge m h) (due_at due h).edges) (sym t.due)
-            (due_set r.due hart (due_from hart count (bells_of r.desk hart) _) (λ h d. All (IsDueEdge m h) d.edges) (omega (arith, row, p.dues))
-            (bell_edges_due m hart count at (bells_going (bells_of r.desk hart)) (All-take (IsRung m) 8 (bells_of r.desk hart) (p.bells hart))) (λ h ne. p.due h) h);
+        due = record {
+          many = ap length t.due ∙ (length-set r.due hart _ ∙ p.due.many);
+          edges =
+              λ h. subst (λ (due : List DueView). All (IsDueEdge m h) (due_at due h).edges) (sym t.due)
+              (due_set r.due hart (due_from hart count (bells_of r.desk hart) _) (λ h d. All (IsDueEdge m h) d.edges) (omega (arith, row, p.due.many))
+              (bell_edges_due m hart count at (bells_going (bells_of r.desk hart)) (All-take (IsRung m) 8 (bells_of r.desk hart) (p.bells hart))) (λ h ne. p.due.edges h) h);
+          given = given_left;
+          given_edges = edges_left;
+        };
         bells = bells_left;
         inputs = record { logged = p.inputs.logged; due = due_left; waiting = waiting_left };
-        given = given_left;
-        given_edges = edges_left;
         heard =
             taken_bells start p.ledger.machine (steps (system pages) (view (hardware pages) start) p.ledger.journal) p.ledger.edges r new hart count t
-            (of_silence (due_at r.due hart).inputs silent) at_ledger (omega (arith, row, p.dues)) p.heard;
-        stubs = p.stubs;
+            (of_silence (due_at r.due hart).inputs silent) at_ledger (omega (arith, row, p.due.many)) p.heard;
       })
     where
       bells_left : (h : ℕ) → All (IsRung m) (bells_of new.desk h)
@@ -115,7 +108,7 @@ module _ (r new : RecordingView) (hart count : ℕ) (start m : MachineState) (jo
 
       at_ledger : count ≡ counts (system pages) p.ledger.machine hart
       at_ledger =
-          at ∙ (sym (counts_is pages m hart) ∙ ap (λ (k : Machine (Option Hart) (Option (List ℕ))). counts (system pages) k hart) (sym p.at_machine))
+          at ∙ (sym (counts_is pages m hart) ∙ ap (λ (k : Machine (Option Hart) (Option (List ℕ))). counts (system pages) k hart) (sym p.led.at_machine))
 
       -- what goes from the desk
       goes : All (IsInputOf crew) (going count (bells_of r.desk hart) (others_of r.desk hart))
@@ -125,7 +118,7 @@ module _ (r new : RecordingView) (hart count : ℕ) (start m : MachineState) (jo
           (All-map (IsInputOf crew) (λ (b : WaitingBell). Bell b.source) (bells_going (bells_of r.desk hart))
           (λ k d below.
           let rung = All-take (IsRung m) 8 (bells_of r.desk hart) (p.bells hart) k d below in
-          omega (arith, rung.source, p.harts_stay)))
+          omega (arith, rung.source, p.size.harts)))
           (All-map (IsInputOf crew) (λ (w : WaitingInput). w.input) (others_going count (room_beside (bells_of r.desk hart)) (others_of r.desk hart))
           (All-take (λ w. IsInputOf crew w.input) (room_beside (bells_of r.desk hart)) (take_while (λ w. nat_le w.not_before count) (others_of r.desk hart))
           (All-while (λ w. IsInputOf crew w.input) (λ w. nat_le w.not_before count) (others_of r.desk hart) (p.inputs.waiting hart))))
@@ -133,7 +126,7 @@ module _ (r new : RecordingView) (hart count : ℕ) (start m : MachineState) (jo
       due_left : (h : ℕ) → All (IsInputOf crew) (due_at new.due h).inputs
       due_left h =
           subst (λ (due : List DueView). All (IsInputOf crew) (due_at due h).inputs) (sym t.due)
-          (due_set r.due hart (due_from hart count (bells_of r.desk hart) (others_of r.desk hart)) (λ h d. All (IsInputOf crew) d.inputs) (omega (arith, row, p.dues))
+          (due_set r.due hart (due_from hart count (bells_of r.desk hart) (others_of r.desk hart)) (λ h d. All (IsInputOf crew) d.inputs) (omega (arith, row, p.due.many))
           goes (λ h ne. p.inputs.due h) h)
 
       waiting_left : (h : ℕ) → All (λ w. IsInputOf crew w.input) (others_of new.desk h)
@@ -152,7 +145,7 @@ module _ (r new : RecordingView) (hart count : ℕ) (start m : MachineState) (jo
           elim (same_or_not hart h) [
             | inl same ↦ let no : None ≡ Some lent = sym closed ∙ (ap (open_at leases) same ∙ e) in cc
             | inr ne ↦
-                p.given h lent e ∙
+                p.due.given h lent e ∙
                 ap (λ (d : DueView). d.inputs) (sym (ap (λ (due : List DueView). due_at due h) t.due ∙ get_or-set_other r.due hart h _ nothing_due (λ e. ne (sym e))))
           ]
 
@@ -161,7 +154,7 @@ module _ (r new : RecordingView) (hart count : ℕ) (start m : MachineState) (jo
           elim (same_or_not hart h) [
             | inl same ↦ let no : None ≡ Some lent = sym closed ∙ (ap (open_at leases) same ∙ e) in cc
             | inr ne ↦
-                p.given_edges h lent e x
+                p.due.given_edges h lent e x
                 (subst (λ (d : DueView). Contains d.edges x)
                 (ap (λ (due : List DueView). due_at due h) t.due ∙ get_or-set_other r.due hart h _ nothing_due (λ e. ne (sym e))) i)
           ]
@@ -236,7 +229,7 @@ module _ (r new : RecordingView) (start m : MachineState) (journal : List Stretc
       All (IsDueEdge (laid m l) hart) (due_at new.due hart).edges
   still_due zero is due hart =
       subst (λ (ds : List DueView). All (IsDueEdge (laid m l) hart) (due_at ds hart).edges) (sym due)
-      (λ k d below. due_on hart stays _ (p.due hart k d below))
+      (λ k d below. due_on hart stays _ (p.due.edges hart k d below))
     where
       stays : counts_of (laid m l) hart ≡ counts_of m hart
       stays =
@@ -247,7 +240,7 @@ module _ (r new : RecordingView) (start m : MachineState) (journal : List Stretc
   still_due (suc steps) is due hart =
       subst (λ (ds : List DueView). All (IsDueEdge (laid m l) hart) (due_at ds hart).edges) (sym due)
       (due_set r.due l.hart nothing_due (λ h d. All (IsDueEdge (laid m l) h) d.edges) row (λ k d below. absurd (omega arith))
-      (λ h ne k d below. due_on h (others h ne) _ (p.due h k d below)) hart)
+      (λ h ne k d below. due_on h (others h ne) _ (p.due.edges h k d below)) hart)
 
   pub still_rung : l.hart < length m.harts → HasRung r.desk l new.desk → (hart : ℕ) → All (IsRung (laid m l)) (bells_of new.desk hart)
   still_rung there rung hart =
@@ -265,8 +258,8 @@ module _ (r new : RecordingView) (start m : MachineState) (journal : List Stretc
           All-cons (IsRung (laid m l)) (rung_bell l) (replicate n (rung_bell l)) (record { source = omega (arith, there, harts); settled = omega (arith, now_at) }) (its_own n)
 
   pub dues_stay : (steps : ℕ) → new.due ≡ due_after steps r.due l.hart → length new.due ≡ 8
-  dues_stay zero due = ap length due ∙ p.dues
-  dues_stay (suc steps) due = ap length due ∙ (length-set r.due l.hart nothing_due ∙ p.dues)
+  dues_stay zero due = ap length due ∙ p.due.many
+  dues_stay (suc steps) due = ap length due ∙ (length-set r.due l.hart nothing_due ∙ p.due.many)
 
   -- what was due to another hart still is
   pub others_due : (steps : ℕ) → new.due ≡ due_after steps r.due l.hart → (hart : ℕ) → l.hart ≢ hart → due_at new.due hart ≡ due_at r.due hart
@@ -285,7 +278,7 @@ logs_some (suc steps) before l after some added = added
 
 -- what is logged, due and waiting still are inputs of the machine
 pub still_inputs : (crew : ℕ) (r new : RecordingView) (l : LeaseView) (steps : ℕ) → l.hart < length r.due → All (IsInputOf crew) l.inputs →
-    LogsInputs steps r.inputs l new.inputs → new.due ≡ due_after steps r.due l.hart → HasRung r.desk l new.desk → AreInputs crew r → AreInputs crew new
+    LogsInputs steps r.inputs l new.inputs → new.due ≡ due_after steps r.due l.hart → HasRung r.desk l new.desk → AreInputs crew r.inputs r.due r.desk → AreInputs crew new.inputs new.due new.desk
 still_inputs crew r new l steps row given logs due rung p =
     record {
       logged = logged steps logs;

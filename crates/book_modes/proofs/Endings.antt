@@ -59,16 +59,16 @@ module _ (r : RecordingView) (hart count : ℕ) (taken : List (Option Taken))
   its = stub_as e.lent
 
   stub : b.stubs hart ≡ Some its
-  stub = e.kept.stubs hart ∙ ap (option_map stub_as) e.is_open
+  stub = e.kept.led.stubs hart ∙ ap (option_map stub_as) e.is_open
 
   rights : HasItsRights (system n) (length e.start.harts) b
-  rights = keeps_rights (system n) (length e.start.harts) (view (hardware n) e.start) b e.kept.few e.kept.reached
+  rights = keeps_rights (system n) (length e.start.harts) (view (hardware n) e.start) b e.kept.size.few e.kept.led.reached
 
   -- the hart holds what its lease took
   pub holds_it : (page : ℕ) → page < length r.rights → is_some (taken_at taken page) ≡ true → holds (right_at r.rights page) hart ≡ true
   holds_it page lt took =
       let (k, is) = read_taken (taken_at e.lent.taken page) (ap (λ row. is_some (taken_at row page)) (sym e.took) ∙ took) in
-      ap (λ right. holds right hart) (sym (e.kept.rights page (omega (arith, lt, e.kept.many)))) ∙ (rights.held hart its page k stub is).0
+      ap (λ right. holds right hart) (sym (e.kept.rights.each page (omega (arith, lt, e.kept.rights.many)))) ∙ (rights.held hart its page k stub is).0
 
   -- What the book keeps, once the lease has ended.
 
@@ -77,7 +77,7 @@ module _ (r : RecordingView) (hart count : ℕ) (taken : List (Option Taken))
     after = dropped (system n) b hart its
 
     count_is : counts (system n) b.machine hart ≡ count
-    count_is = ap (λ (m : Machine (Option Hart) (Option (List ℕ))). counts (system n) m hart) e.kept.at_machine ∙ sym e.at_count
+    count_is = ap (λ (m : Machine (Option Hart) (Option (List ℕ))). counts (system n) m hart) e.kept.led.at_machine ∙ sym e.at_count
 
     took_it : (page : ℕ) → is_some (its.read_at page) ≡ is_some (taken_at taken page)
     took_it page = taken_read (taken_at e.lent.taken page) ∙ ap (λ row. is_some (taken_at row page)) (sym e.took)
@@ -85,35 +85,33 @@ module _ (r : RecordingView) (hart count : ℕ) (taken : List (Option Taken))
     rights_are : (page : ℕ) → page < n → after.rights page ≡ right_at new.rights page
     rights_are page lt =
         ap (λ k. if is_some (its.read_at page) then give_up (b.rights page) hart k else b.rights page) count_is ∙
-        (ap (λ right. if is_some (its.read_at page) then give_up right hart count else right) (e.kept.rights page lt) ∙
+        (ap (λ right. if is_some (its.read_at page) then give_up right hart count else right) (e.kept.rights.each page lt) ∙
         (ap (λ took. if took then give_up (right_at r.rights page) hart count else right_at r.rights page) (took_it page) ∙
-        sym (is.rights page (omega (arith, lt, e.kept.many)))))
+        sym (is.rights page (omega (arith, lt, e.kept.rights.many)))))
 
     pub ended_recorded : IsRecorded new e.start e.machine e.journal (slice_set e.leases hart None)
     ended_recorded =
         subst (λ v. IsRecorded v e.start e.machine e.journal (slice_set e.leases hart None)) (sym is.rest)
         (record {
           ledger = after;
-          reached = Dropped hart its e.kept.reached stub;
-          few = e.kept.few;
-          harts_stay = e.kept.harts_stay;
-          pages_stay = e.kept.pages_stay;
-          at_machine = e.kept.at_machine;
-          in_journal = e.kept.in_journal;
+          led = record {
+            reached = Dropped hart its e.kept.led.reached stub;
+            at_machine = e.kept.led.at_machine;
+            in_journal = e.kept.led.in_journal;
+            stubs = stubs_without b.stubs e.leases e.kept.led.stubs hart (open_within e.leases hart e.lent e.is_open);
+          };
+          size = e.kept.size;
           log = e.kept.log;
-          log_harts = e.kept.log_harts;
-          log_start = e.kept.log_start;
-          enough = e.kept.enough;
-          many = is.many ∙ e.kept.many;
-          rights = rights_are;
+          rights = record { many = is.many ∙ e.kept.rights.many; each = rights_are };
           limits = e.kept.limits;
           logged = e.kept.logged;
-          dues = e.kept.dues;
-          due = e.kept.due;
+          due = record {
+            many = e.kept.due.many;
+            edges = e.kept.due.edges;
+            given = λ other o is_other. e.kept.due.given other o (row-set_some e.leases hart other o is_other);
+            given_edges = λ other o is_other. e.kept.due.given_edges other o (row-set_some e.leases hart other o is_other);
+          };
           bells = e.kept.bells;
-          inputs = record { logged = e.kept.inputs.logged; due = e.kept.inputs.due; waiting = e.kept.inputs.waiting };
-          given = λ other o is_other. e.kept.given other o (row-set_some e.leases hart other o is_other);
-          given_edges = λ other o is_other. e.kept.given_edges other o (row-set_some e.leases hart other o is_other);
+          inputs = e.kept.inputs;
           heard = e.kept.heard;
-          stubs = stubs_without b.stubs e.leases e.kept.stubs hart (open_within e.leases hart e.lent e.is_open);
         })

@@ -60,9 +60,9 @@ inputs_told {I = I} s log m now (h ∷ order) same runs = (
 pub honest_log : (r : RecordingView) (start machine : MachineState) (journal : List Stretch) (leases : List (Option OpenView)) →
     IsRecorded r start machine journal leases → HasHonestLog r.edges (heard_by r) start journal machine
 honest_log r start machine journal leases p =
-    subst (IsHonest (system pages) log (view (hardware pages) start)) p.in_journal
+    subst (IsHonest (system pages) log (view (hardware pages) start)) p.led.in_journal
     (is_kept.short log is_of
-    (subst (IsEnough (edges_of r.edges) p.ledger.edges) (fun_ext p.log_start) p.enough))
+    (subst (IsEnough (edges_of r.edges) p.ledger.edges) (fun_ext p.log.from_start) p.log.enough))
   where
     pages : ℕ
     pages = length start.pages
@@ -71,40 +71,40 @@ honest_log r start machine journal leases p =
     log = log_of r.edges (heard_by r) start machine
 
     is_kept : IsKept (system pages) (view (hardware pages) start) p.ledger
-    is_kept = keeps_ledger (system pages) (length start.harts) (view (hardware pages) start) p.ledger p.few p.reached
+    is_kept = keeps_ledger (system pages) (length start.harts) (view (hardware pages) start) p.ledger p.size.few p.led.reached
 
     is_of : IsOf (system pages) log (view (hardware pages) start) p.ledger
     is_of =
         record {
           inputs =
-              subst (λ ts. HasInputs (system pages) log (steps (system pages) (view (hardware pages) start) ts)) (sym p.in_journal)
+              subst (λ ts. HasInputs (system pages) log (steps (system pages) (view (hardware pages) start) ts)) (sym p.led.in_journal)
               (inputs_told (system pages) log (view (hardware pages) start) (counts_of start) (harts_of journal)
-              (λ hart. sym (counts_is pages start hart)) (subst (Runs (system pages) (view (hardware pages) start)) p.in_journal is_kept.runs));
+              (λ hart. sym (counts_is pages start hart)) (subst (Runs (system pages) (view (hardware pages) start)) p.led.in_journal is_kept.runs));
           from_start = λ hart. sym (counts_is pages start hart);
           to_end =
               λ hart.
               sym (counts_is pages machine hart) ∙
-              ap (λ (k : Machine (Option Hart) (Option (List ℕ))). counts (system pages) k hart) (sym p.at_machine);
+              ap (λ (k : Machine (Option Hart) (Option (List ℕ))). counts (system pages) k hart) (sym p.led.at_machine);
         }
 
 -- bells are heard in their turn
 pub heard_in_turn : (r : RecordingView) (start machine : MachineState) (journal : List Stretch) (leases : List (Option OpenView)) →
     IsRecorded r start machine journal leases → HearsBellsInTurn r.edges (heard_by r) start journal
 heard_in_turn r start machine journal leases p =
-    subst (λ ts. HearsInTurn (edges_of r.edges) start (steps (system pages) (view (hardware pages) start) ts)) p.in_journal
-    (turns_few (edges_of r.edges) p.ledger.edges start (steps (system pages) (view (hardware pages) start) p.ledger.journal) (start_of r.edges) p.enough
+    subst (λ ts. HearsInTurn (edges_of r.edges) start (steps (system pages) (view (hardware pages) start) ts)) p.led.in_journal
+    (turns_few (edges_of r.edges) p.ledger.edges start (steps (system pages) (view (hardware pages) start) p.ledger.journal) (start_of r.edges) p.log.enough
     (λ s i.
     let from = each_at (λ s. counts (system pages) (view (hardware pages) start) s.hart ≤ (system pages).count s.found)
     (steps (system pages) (view (hardware pages) start) p.ledger.journal) s
     (from_now (system pages) (counts (system pages) (view (hardware pages) start)) (steps (system pages) (view (hardware pages) start) p.ledger.journal)
     (in_turn (system pages) (view (hardware pages) start) p.ledger.journal is_kept.runs)) i in
-    omega (arith, from, p.log_start s.hart, counts_is pages start s.hart)) p.heard.in_turn)
+    omega (arith, from, p.log.from_start s.hart, counts_is pages start s.hart)) p.heard.in_turn)
   where
     pages : ℕ
     pages = length start.pages
 
     is_kept : IsKept (system pages) (view (hardware pages) start) p.ledger
-    is_kept = keeps_ledger (system pages) (length start.harts) (view (hardware pages) start) p.ledger p.few p.reached
+    is_kept = keeps_ledger (system pages) (length start.harts) (view (hardware pages) start) p.ledger p.size.few p.led.reached
 
 -- an edge of the log is between two harts, and what it names has been settled
 pub between : (r : RecordingView) (start machine : MachineState) (journal : List Stretch) (leases : List (Option OpenView)) →
@@ -112,10 +112,10 @@ pub between : (r : RecordingView) (start machine : MachineState) (journal : List
 between r start machine journal leases p hart k d below =
     record {
       own = own;
-      other = omega (arith, found.other, p.harts_stay);
+      other = omega (arith, found.other, p.size.harts);
       another = λ same. found.another (same ∙ sym own);
       at = le_trans found.so_far (le_of_eq (count_in e.hart ∙ ap (counts_of machine) own));
-      some = let later = p.log.later hart k d below in omega (arith, later);
+      some = let later = p.log.log.later hart k d below in omega (arith, later);
       settled = le_trans found.met (le_of_eq (count_in e.other));
     }
   where
@@ -126,15 +126,15 @@ between r start machine journal leases p hart k d below =
     e = get_or (get_or r.edges.rows hart []) k d
 
     own : e.hart ≡ hart
-    own = (p.log.own hart k d below).own
+    own = (p.log.log.own hart k d below).own
 
     count_in : (other : ℕ) → counts (system pages) p.ledger.machine other ≡ counts_of machine other
-    count_in other = ap (λ (k : Machine (Option Hart) (Option (List ℕ))). counts (system pages) k other) p.at_machine ∙ counts_is pages machine other
+    count_in other = ap (λ (k : Machine (Option Hart) (Option (List ℕ))). counts (system pages) k other) p.led.at_machine ∙ counts_is pages machine other
 
     found : IsInLog (system pages) (length start.harts) (view (hardware pages) start) p.ledger.machine (edge_as e)
     found =
-        (keeps_order (system pages) (length start.harts) (view (hardware pages) start) p.ledger p.few p.reached).log (edge_as e)
-        (p.enough.among (edge_as e) (to_edges r.edges.rows hart e (Contains-get_or (get_or r.edges.rows hart []) k d below)))
+        (keeps_order (system pages) (length start.harts) (view (hardware pages) start) p.ledger p.size.few p.led.reached).log (edge_as e)
+        (p.log.enough.among (edge_as e) (to_edges r.edges.rows hart e (Contains-get_or (get_or r.edges.rows hart []) k d below)))
 
 -- nobody has used a page
 index_same : (n hart : ℕ) → due_at (replicate n nothing_due) hart ≡ nothing_due
@@ -147,27 +147,33 @@ pub begun_kept : (r : RecordingView) (start : MachineState) (limits : List ℕ) 
 begun_kept r start limits many u rows =
     record {
       ledger = ledger.begin (view (hardware (length start.pages)) start);
-      reached = Begun;
-      few = u.few;
-      harts_stay = refl;
-      pages_stay = refl;
-      at_machine = refl;
-      in_journal = refl;
-      log = u.log;
-      log_harts = u.log_harts;
-      log_start = u.log_start;
-      enough =
-          subst (λ es. IsEnough es [] (start_of r.edges)) (sym u.edges)
-          (record { among = λ e i. i; implied = λ e i. absurd (nothing e i); start_closed = λ e i. absurd (nothing e i) });
-      many = u.many;
-      rights = λ page lt. sym (u.rights page lt);
+      led = record {
+        reached = Begun;
+        at_machine = refl;
+        in_journal = refl;
+        stubs = λ hart. ap (option_map stub_as) (sym (none-replicate {A = OpenView} 8 hart));
+      };
+      size = record { few = u.few; harts = refl; pages = refl };
+      log = record {
+        log = u.log;
+        harts = u.log_harts;
+        from_start = u.log_start;
+        enough =
+            subst (λ es. IsEnough es [] (start_of r.edges)) (sym u.edges)
+            (record { among = λ e i. i; implied = λ e i. absurd (nothing e i); start_closed = λ e i. absurd (nothing e i) });
+      };
+      rights = record { many = u.many; each = λ page lt. sym (u.rights page lt) };
       limits = ap length u.limits_are ∙ many;
       logged = λ hart. subst (All (λ x. x.0 < counts_of start hart)) (sym (u.inputs hart)) (λ k d below. absurd (omega arith));
-      dues = ap length u.due ∙ length-replicate {A = DueView} 8 nothing_due;
-      due =
-          λ hart.
-          subst (λ (d : DueView). All (IsDueEdge start hart) d.edges)
-          (sym (ap (λ (ds : List DueView). due_at ds hart) u.due ∙ index_same 8 hart)) (λ k d below. absurd (omega arith));
+      due = record {
+        many = ap length u.due ∙ length-replicate {A = DueView} 8 nothing_due;
+        edges =
+            λ hart.
+            subst (λ (d : DueView). All (IsDueEdge start hart) d.edges)
+            (sym (ap (λ (ds : List DueView). due_at ds hart) u.due ∙ index_same 8 hart)) (λ k d below. absurd (omega arith));
+        given = λ hart lent e. let same = sym (none-replicate {A = OpenView} 8 hart) ∙ e in cc;
+        given_edges = λ hart lent e. let same = sym (none-replicate {A = OpenView} 8 hart) ∙ e in cc;
+      };
       bells = λ hart. subst (All (IsRung start)) (sym (u.bells hart)) (unheard_rung start hart);
       inputs =
           record {
@@ -178,12 +184,9 @@ begun_kept r start limits many u rows =
                 (sym (ap (λ (ds : List DueView). due_at ds hart) u.due ∙ index_same 8 hart)) (λ k d below. absurd (omega arith));
             waiting = λ hart. subst (All (λ w. IsInputOf (length start.harts) w.input)) (sym (u.others hart)) (λ k d below. absurd (omega arith));
           };
-      given = λ hart lent e. let same = sym (none-replicate {A = OpenView} 8 hart) ∙ e in cc;
-      given_edges = λ hart lent e. let same = sym (none-replicate {A = OpenView} 8 hart) ∙ e in cc;
       heard =
           begun_bells start r.due r.desk (λ hart h is. let row = rows hart h is in omega (arith, row, u.few))
           (λ hart. ap (λ (ds : List DueView). due_at ds hart) u.due ∙ index_same 8 hart) u.bells u.others;
-      stubs = λ hart. ap (option_map stub_as) (sym (none-replicate {A = OpenView} 8 hart));
     }
   where
     nothing : (e : theory.Edge) → Contains [] e → ⊥
@@ -195,28 +198,16 @@ pub raised_kept : (r : RecordingView) (limits : List ℕ) (start machine : Machi
 raised_kept r limits start machine journal leases as_many p =
     record {
       ledger = p.ledger;
-      reached = p.reached;
-      few = p.few;
-      harts_stay = p.harts_stay;
-      pages_stay = p.pages_stay;
-      at_machine = p.at_machine;
-      in_journal = p.in_journal;
+      led = p.led;
+      size = p.size;
       log = p.log;
-      log_harts = p.log_harts;
-      log_start = p.log_start;
-      enough = p.enough;
-      many = p.many;
       rights = p.rights;
       limits = as_many ∙ p.limits;
       logged = p.logged;
-      dues = p.dues;
       due = p.due;
       bells = p.bells;
-      inputs = record { logged = p.inputs.logged; due = p.inputs.due; waiting = p.inputs.waiting };
-      given = p.given;
-      given_edges = p.given_edges;
+      inputs = p.inputs;
       heard = p.heard;
-      stubs = p.stubs;
     }
 
 -- so does one more input that waits
@@ -227,21 +218,12 @@ offered_kept r new hart not_before input start machine journal leases o told pla
     subst (λ v. IsRecorded v start machine journal leases) (sym o.rest)
     (record {
       ledger = p.ledger;
-      reached = p.reached;
-      few = p.few;
-      harts_stay = p.harts_stay;
-      pages_stay = p.pages_stay;
-      at_machine = p.at_machine;
-      in_journal = p.in_journal;
+      led = p.led;
+      size = p.size;
       log = p.log;
-      log_harts = p.log_harts;
-      log_start = p.log_start;
-      enough = p.enough;
-      many = p.many;
       rights = p.rights;
       limits = p.limits;
       logged = p.logged;
-      dues = p.dues;
       due = p.due;
       bells =
           λ other.
@@ -265,8 +247,5 @@ offered_kept r new hart not_before input start machine journal leases o told pla
                       subst (All (λ w. IsInputOf (length start.harts) w.input)) (sym (o.others_of_others other (λ e. ne (sym e)))) (p.inputs.waiting other)
                 ];
           };
-      given = p.given;
-      given_edges = p.given_edges;
       heard = offered_bells start p.ledger.machine _ p.ledger.edges r new hart not_before input o plain p.heard;
-      stubs = p.stubs;
     })

@@ -65,56 +65,54 @@ lent_due : (r : RecordingView) (hart : ℕ) (lent : LentView) (start m : Machine
     lent.edges ≡ (due_at r.due hart).edges → IsRecorded r start m journal leases →
     IsRecorded r start m journal (slice_set leases hart (Some (nothing_taken lent)))
 lent_due r hart lent start m journal leases is_hart row closed inputs edges p =
-    let none : p.ledger.stubs hart ≡ None = p.stubs hart ∙ ap (option_map stub_as) closed in
+    let none : p.ledger.stubs hart ≡ None = p.led.stubs hart ∙ ap (option_map stub_as) closed in
     record {
       ledger = calls.opened p.ledger hart (map edge_as lent.edges);
-      reached = Opened hart (map edge_as lent.edges) p.reached (omega (arith, is_hart, p.harts_stay)) none are_heard;
-      few = p.few;
-      harts_stay = p.harts_stay;
-      pages_stay = p.pages_stay;
-      at_machine = p.at_machine;
-      in_journal = p.in_journal;
+      led = record {
+        reached = Opened hart (map edge_as lent.edges) p.led.reached (omega (arith, is_hart, p.size.harts)) none are_heard;
+        at_machine = p.led.at_machine;
+        in_journal = p.led.in_journal;
+        stubs =
+            stubs_put p.ledger.stubs leases hart (Some (ledger.fresh_stub (map edge_as lent.edges))) (Some (nothing_taken lent)) row
+            (ap (λ s. Some s) (sym (stub_fresh (map edge_as lent.edges)))) p.led.stubs;
+      };
+      size = p.size;
       log = p.log;
-      log_harts = p.log_harts;
-      log_start = p.log_start;
-      enough = p.enough;
-      many = p.many;
       rights = p.rights;
       limits = p.limits;
       logged = p.logged;
-      dues = p.dues;
-      due = p.due;
+      due = record {
+        many = p.due.many;
+        edges = p.due.edges;
+        given =
+            set_each (λ h o. o.inputs ≡ (due_at r.due h).inputs) leases hart (Some (nothing_taken lent)) row
+            (λ o e. let same : nothing_taken lent ≡ o = cc in ap (λ (v : OpenView). v.inputs) (sym same) ∙ inputs) p.due.given;
+        given_edges =
+            set_each (λ h o. (x : Edge) → Contains (due_at r.due h).edges x → Contains o.edges x) leases hart (Some (nothing_taken lent)) row
+            (λ o e x i.
+            let same : nothing_taken lent ≡ o = cc in
+            subst (λ (v : OpenView). Contains v.edges x) same (subst (λ es. Contains es x) (sym edges) i)) p.due.given_edges;
+      };
       bells = p.bells;
       inputs = p.inputs;
-      given =
-          set_each (λ h o. o.inputs ≡ (due_at r.due h).inputs) leases hart (Some (nothing_taken lent)) row
-          (λ o e. let same : nothing_taken lent ≡ o = cc in ap (λ (v : OpenView). v.inputs) (sym same) ∙ inputs) p.given;
-      given_edges =
-          set_each (λ h o. (x : Edge) → Contains (due_at r.due h).edges x → Contains o.edges x) leases hart (Some (nothing_taken lent)) row
-          (λ o e x i.
-          let same : nothing_taken lent ≡ o = cc in
-          subst (λ (v : OpenView). Contains v.edges x) same (subst (λ es. Contains es x) (sym edges) i)) p.given_edges;
       heard = p.heard;
-      stubs =
-          stubs_put p.ledger.stubs leases hart (Some (ledger.fresh_stub (map edge_as lent.edges))) (Some (nothing_taken lent)) row
-          (ap (λ s. Some s) (sym (stub_fresh (map edge_as lent.edges)))) p.stubs;
     }
   where
     pages : ℕ
     pages = length start.pages
 
     count_in : (other : ℕ) → counts (system pages) p.ledger.machine other ≡ counts_of m other
-    count_in other = ap (λ (k : Machine (Option Hart) (Option (List ℕ))). counts (system pages) k other) p.at_machine ∙ counts_is pages m other
+    count_in other = ap (λ (k : Machine (Option Hart) (Option (List ℕ))). counts (system pages) k other) p.led.at_machine ∙ counts_is pages m other
 
     are_heard : (e : theory.Edge) → Contains (map edge_as lent.edges) e → IsHeard (system pages) (length start.harts) p.ledger.machine hart e
     are_heard e i =
         let (x, is_in, is) = map_contains edge_as lent.edges e i in
-        let d = All-contains (IsDueEdge m hart) (due_at r.due hart).edges x (p.due hart) (subst (λ es. Contains es x) edges is_in) in
+        let d = All-contains (IsDueEdge m hart) (due_at r.due hart).edges x (p.due.edges hart) (subst (λ es. Contains es x) edges is_in) in
         subst (IsHeard (system pages) (length start.harts) p.ledger.machine hart) is
         (record {
           own = d.own;
           at = d.at ∙ sym (count_in hart);
-          other = omega (arith, d.other, p.harts_stay);
+          other = omega (arith, d.other, p.size.harts);
           another = λ e. d.another (e ∙ d.own);
           settled = omega (arith, d.settled, count_in x.other);
         })
@@ -157,22 +155,22 @@ module _ (r : RecordingView) (machine : MachineState) (leases : List (Option Ope
   pages = length a.start.pages
 
   rights_are : HasItsRights (system pages) (length a.start.harts) p.ledger
-  rights_are = keeps_rights (system pages) (length a.start.harts) (view (hardware pages) a.start) p.ledger p.few p.reached
+  rights_are = keeps_rights (system pages) (length a.start.harts) (view (hardware pages) a.start) p.ledger p.size.few p.led.reached
 
   page_is : asked.page < pages
-  page_is = omega (arith, a.page, p.pages_stay)
+  page_is = omega (arith, a.page, p.size.pages)
 
   -- its right is stored
   pub right_stored_there : asked.page < length r.rights
-  right_stored_there = omega (arith, page_is, p.many)
+  right_stored_there = omega (arith, page_is, p.rights.many)
 
   right_is : p.ledger.rights asked.page ≡ right_at r.rights asked.page
-  right_is = p.rights asked.page page_is
+  right_is = p.rights.each asked.page page_is
 
   pub few_hold : (other : ℕ) → holds (right_at r.rights asked.page) other ≡ true → other < 8
   few_hold other e =
       let lt = rights_are.harts asked.page other (ap (λ s. holds s other) right_is ∙ e) in
-      omega (arith, lt, p.few)
+      omega (arith, lt, p.size.few)
 
   -- the asker's open lease
   record Lent : Type 0 where
@@ -189,12 +187,12 @@ module _ (r : RecordingView) (machine : MachineState) (leases : List (Option Ope
 
   is_hart_lent : asked.hart < length a.start.harts
   is_hart_lent =
-      let stub : p.ledger.stubs a.asker.hart ≡ Some (stub_as its_lease.lent) = p.stubs a.asker.hart ∙ ap (option_map stub_as) its_lease.is_open in
+      let stub : p.ledger.stubs a.asker.hart ≡ Some (stub_as its_lease.lent) = p.led.stubs a.asker.hart ∙ ap (option_map stub_as) its_lease.is_open in
       let lt = rights_are.leased a.asker.hart (stub_as its_lease.lent) stub in
       omega (arith, lt, a.hart)
 
   pub asker_there : asked.hart < length machine.harts
-  asker_there = omega (arith, is_hart_lent, p.harts_stay)
+  asker_there = omega (arith, is_hart_lent, p.size.harts)
 
   -- nobody is in its way once all have yielded
   pub nobody_there : (settled : ℕ → ℕ) → IsFree (right_met r settled asked) asked.hart asked.want
@@ -208,7 +206,7 @@ module _ (r : RecordingView) (machine : MachineState) (leases : List (Option Ope
       where
         of : (b : Bool) → has_taken (open_at leases other) asked.page ≡ b → calls.has_taken (p.ledger.stubs other) asked.page ≡ false
         of true took = absurd (free other (e, took))
-        of false took = ap (λ s. calls.has_taken s asked.page) (p.stubs other) ∙ (taken_as (open_at leases other) asked.page ∙ took)
+        of false took = ap (λ s. calls.has_taken s asked.page) (p.led.stubs other) ∙ (taken_as (open_at leases other) asked.page ∙ took)
 
     -- they give it up at the ledger's counts
     gives_up : (n : ℕ) → GivenUp (system pages) p.ledger asked.hart asked.page asked.want (yielded asked settled n (right_at r.rights asked.page))
@@ -220,7 +218,7 @@ module _ (r : RecordingView) (machine : MachineState) (leases : List (Option Ope
 
         at_count : counts (system pages) p.ledger.machine n ≡ settled n
         at_count =
-            ap (λ (k : Machine (Option Hart) (Option (List ℕ))). counts (system pages) k n) p.at_machine ∙ (counts_is pages machine n ∙ sym (settled_is n))
+            ap (λ (k : Machine (Option Hart) (Option (List ℕ))). counts (system pages) k n) p.led.at_machine ∙ (counts_is pages machine n ∙ sym (settled_is n))
 
         of : GivenUp (system pages) p.ledger asked.hart asked.page asked.want before → (b : Bool) → stands before asked.hart asked.want n ≡ b →
             GivenUp (system pages) p.ledger asked.hart asked.page asked.want (if stands before asked.hart asked.want n then give_up before n (settled n) else before)
@@ -255,18 +253,18 @@ module _ (r : RecordingView) (machine : MachineState) (leases : List (Option Ope
       l = as_lease a.asker (map edge_as a.asker.edges)
 
       many : length a.asker.slots ≡ pages
-      many = its_lease.is_of.is_lent.as_many ∙ p.pages_stay
+      many = its_lease.is_of.is_lent.as_many ∙ p.size.pages
 
       present_is : present (system pages) l ≡ asked.count
       present_is = present_played a.asker a.is_lease.played pages many (map edge_as a.asker.edges) ∙ sym a.count
 
       stub_is : p.ledger.stubs a.asker.hart ≡ Some (stub_of a.asker.taken (map edge_as a.asker.edges))
       stub_is =
-          p.stubs a.asker.hart ∙ (ap (option_map stub_as) its_lease.is_open ∙
+          p.led.stubs a.asker.hart ∙ (ap (option_map stub_as) its_lease.is_open ∙
           ap (λ s. Some s) (λ i. stub_of (sym its_lease.is_of.is_lent.counts i) (map edge_as (sym its_lease.is_of.edges i))))
 
       ours : ledger.IsOurs p.ledger l
-      ours = lent_ours machine its_lease.lent.taken a.asker a.is_lease its_lease.is_of.is_lent p.ledger pages (map edge_as a.asker.edges) p.at_machine stub_is
+      ours = lent_ours machine its_lease.lent.taken a.asker a.is_lease its_lease.is_of.is_lent p.ledger pages (map edge_as a.asker.edges) p.led.at_machine stub_is
 
       answered : calls.IsAnswered (right_met r settled asked) l.hart asked.want (present (system pages) l) (Given (map edge_as found))
       answered =
@@ -278,7 +276,7 @@ module _ (r : RecordingView) (machine : MachineState) (leases : List (Option Ope
 
       reaches : Reached (system pages) (length a.start.harts) (view (hardware pages) a.start) next
       reaches =
-          Needed l asked.page asked.want (right_met r settled asked) (Given (map edge_as found)) p.reached (played_with a.asker a.is_lease.played pages many (map edge_as a.asker.edges)).lease
+          Needed l asked.page asked.want (right_met r settled asked) (Given (map edge_as found)) p.led.reached (played_with a.asker a.is_lease.played pages many (map edge_as a.asker.edges)).lease
           ours (subst (λ h. IsYielded (system pages) p.ledger h asked.page asked.want (right_met r settled asked)) a.hart yields) answered
 
       stub_next : Some (ledger.taking l.stub asked.page asked.want (present (system pages) l) (map edge_as found)) ≡
@@ -304,7 +302,7 @@ module _ (r : RecordingView) (machine : MachineState) (leases : List (Option Ope
       right_put new g page lt (inl same) =
           put_same p.ledger.rights asked.page page _ same ∙
           ((λ i. given (right_met r settled asked) (sym a.hart i) asked.want (present_is i)) ∙ (sym g.page ∙ ap (right_at new.rights) same))
-      right_put new g page lt (inr ne) = put_other p.ledger.rights asked.page page _ ne ∙ (p.rights page lt ∙ sym (g.others page ne))
+      right_put new g page lt (inr ne) = put_other p.ledger.rights asked.page page _ ne ∙ (p.rights.each page lt ∙ sym (g.others page ne))
 
       pub giving_kept : (new : RecordingView) → IsGiven r settled asked new →
           IsRecorded new a.start machine a.journal
@@ -314,36 +312,34 @@ module _ (r : RecordingView) (machine : MachineState) (leases : List (Option Ope
           (sym g.rest)
           (record {
             ledger = next;
-            reached = reaches;
-            few = p.few;
-            harts_stay = p.harts_stay;
-            pages_stay = p.pages_stay;
-            at_machine = p.at_machine;
-            in_journal = p.in_journal;
+            led = record {
+              reached = reaches;
+              at_machine = p.led.at_machine;
+              in_journal = p.led.in_journal;
+              stubs =
+                  λ other.
+                  ap (λ h. put p.ledger.stubs h (Some (ledger.taking l.stub asked.page asked.want (present (system pages) l) (map edge_as found))) other) (sym a.hart) ∙
+                  stubs_put p.ledger.stubs leases asked.hart _ _ row_there stub_next p.led.stubs other;
+            };
+            size = p.size;
             log = p.log;
-            log_harts = p.log_harts;
-            log_start = p.log_start;
-            enough = p.enough;
-            many = g.many ∙ p.many;
-            rights = λ page lt. right_put new g page lt (same_or_not asked.page page);
+            rights = record { many = g.many ∙ p.rights.many; each = λ page lt. right_put new g page lt (same_or_not asked.page page) };
             limits = p.limits;
             logged = p.logged;
-            dues = p.dues;
-            due = p.due;
+            due = record {
+              many = p.due.many;
+              edges = p.due.edges;
+              given =
+                  set_each (λ h o. o.inputs ≡ (due_at r.due h).inputs) leases asked.hart _ row_there
+                  (λ o e.
+                  let i = more (open_at leases asked.hart) asked.page asked.want asked.count found o e in i.inputs ∙ p.due.given asked.hart i.was i.is_old) p.due.given;
+              given_edges =
+                  set_each (λ h o. (x : Edge) → Contains (due_at r.due h).edges x → Contains o.edges x) leases asked.hart _ row_there
+                  (λ o e x at.
+                  let i = more (open_at leases asked.hart) asked.page asked.want asked.count found o e in
+                  i.edges x (p.due.given_edges asked.hart i.was i.is_old x at)) p.due.given_edges;
+            };
             bells = p.bells;
-            inputs = record { logged = p.inputs.logged; due = p.inputs.due; waiting = p.inputs.waiting };
-            given =
-                set_each (λ h o. o.inputs ≡ (due_at r.due h).inputs) leases asked.hart _ row_there
-                (λ o e.
-                let i = more (open_at leases asked.hart) asked.page asked.want asked.count found o e in i.inputs ∙ p.given asked.hart i.was i.is_old) p.given;
-            given_edges =
-                set_each (λ h o. (x : Edge) → Contains (due_at r.due h).edges x → Contains o.edges x) leases asked.hart _ row_there
-                (λ o e x at.
-                let i = more (open_at leases asked.hart) asked.page asked.want asked.count found o e in
-                i.edges x (p.given_edges asked.hart i.was i.is_old x at)) p.given_edges;
+            inputs = p.inputs;
             heard = p.heard;
-            stubs =
-                λ other.
-                ap (λ h. put p.ledger.stubs h (Some (ledger.taking l.stub asked.page asked.want (present (system pages) l) (map edge_as found))) other) (sym a.hart) ∙
-                stubs_put p.ledger.stubs leases asked.hart _ _ row_there stub_next p.stubs other;
           })

@@ -100,14 +100,14 @@ module _ (r : RecordingView) (l : LeaseView) (s : IsSettling (IsRecorded r) l) w
   its = opened (open_at s.leases l.hart) s.machine l s.is_lent
 
   many : length s.machine.pages ≡ n
-  many = s.kept.pages_stay
+  many = s.kept.size.pages
 
   slots : length l.slots ≡ n
   slots = its.is_open.is_lent.as_many ∙ many
 
   stub : b.stubs l.hart ≡ Some settler.stub
   stub =
-      s.kept.stubs l.hart ∙
+      s.kept.led.stubs l.hart ∙
       (ap (option_map stub_as) its.is ∙
       (ap (λ taken. Some (stub_of taken (map edge_as its.lent.edges))) (sym its.is_open.is_lent.counts) ∙
       ap (λ edges. Some (stub_of l.taken (map edge_as edges))) (sym its.is_open.edges)))
@@ -116,13 +116,13 @@ module _ (r : RecordingView) (l : LeaseView) (s : IsSettling (IsRecorded r) l) w
   lease = (played_with l s.is_lease.played n slots (map edge_as l.edges)).lease
 
   ours : ledger.IsOurs b settler
-  ours = lent_ours s.machine its.lent.taken l s.is_lease its.is_open.is_lent b n (map edge_as l.edges) s.kept.at_machine stub
+  ours = lent_ours s.machine its.lent.taken l s.is_lease its.is_open.is_lent b n (map edge_as l.edges) s.kept.led.at_machine stub
 
   order_harts : HasItsRights (system n) (length s.start.harts) b
-  order_harts = keeps_rights (system n) (length s.start.harts) (view (hardware n) s.start) b s.kept.few s.kept.reached
+  order_harts = keeps_rights (system n) (length s.start.harts) (view (hardware n) s.start) b s.kept.size.few s.kept.led.reached
 
   order : HasItsOrder (system n) (length s.start.harts) (view (hardware n) s.start) b
-  order = keeps_order (system n) (length s.start.harts) (view (hardware n) s.start) b s.kept.few s.kept.reached
+  order = keeps_order (system n) (length s.start.harts) (view (hardware n) s.start) b s.kept.size.few s.kept.led.reached
 
   -- What adding its edges to the log asks for.
 
@@ -131,16 +131,16 @@ module _ (r : RecordingView) (l : LeaseView) (s : IsSettling (IsRecorded r) l) w
 
   may_add : (before after : List Edge) (e : Edge) → l.edges ≡ before ++ e ∷ after → MayAdd r.edges e
   may_add before after e is =
-      may_add_next (system n) (length s.start.harts) (view (hardware n) s.start) b settler (map edge_as before) (map edge_as after) e r.edges s.kept.few
-      s.kept.reached lease ours (ap (map edge_as) is ∙ map-append edge_as before (e ∷ after)) adding
+      may_add_next (system n) (length s.start.harts) (view (hardware n) s.start) b settler (map edge_as before) (map edge_as after) e r.edges s.kept.size.few
+      s.kept.led.reached lease ours (ap (map edge_as) is ∙ map-append edge_as before (e ∷ after)) adding
     where
       adding : IsAdding (system n) (length s.start.harts) (view (hardware n) s.start) b (map edge_as before) r.edges
       adding =
           record {
-            is_log = s.kept.log;
-            harts = s.kept.log_harts;
-            from_start = λ g lt. s.kept.log_start g;
-            among = λ x at. Contains-append_left b.edges (map edge_as before) x (s.kept.enough.among x at);
+            is_log = s.kept.log.log;
+            harts = s.kept.log.harts;
+            from_start = λ g lt. s.kept.log.from_start g;
+            among = λ x at. Contains-append_left b.edges (map edge_as before) x (s.kept.log.enough.among x at);
           }
 
   each : (before after : List Edge) → l.edges ≡ before ++ after → All (λ e. MayAdd r.edges e) after
@@ -173,7 +173,7 @@ module _ (r : RecordingView) (l : LeaseView) (s : IsSettling (IsRecorded r) l) w
   harts_many = length-set s.machine.harts l.hart l.present
 
   in_row : l.hart < length r.due
-  in_row = omega (arith, order_harts.leased l.hart settler.stub stub, s.kept.few, s.kept.dues)
+  in_row = omega (arith, order_harts.leased l.hart settler.stub stub, s.kept.size.few, s.kept.due.many)
 
   pub inputs_last : All (λ x. x.0 < l.base.count) (inputs_of r.inputs l.hart)
   inputs_last = last_logged r r s.start s.machine s.journal s.leases l s.is_lease lent_at now_at in_row (others_laid s.machine l) harts_many s.kept
@@ -190,13 +190,13 @@ module _ (r : RecordingView) (l : LeaseView) (s : IsSettling (IsRecorded r) l) w
     machine_is : after.machine ≡ view (hardware n) (laid s.machine l)
     machine_is =
         subst (λ m. (settled (system m) b settler (λ page. keep_as keep)).machine ≡ view (hardware m) (laid s.machine l)) many
-        (settled_is s.machine its.lent.taken l s.is_lease its.is_open.is_lent b s.kept.at_machine (map edge_as l.edges) (λ page. keep_as keep))
+        (settled_is s.machine its.lent.taken l s.is_lease its.is_open.is_lent b s.kept.led.at_machine (map edge_as l.edges) (λ page. keep_as keep))
 
     rights_are : (page : ℕ) → page < n → after.rights page ≡ right_at new.rights page
     rights_are page lt =
-        ap (λ right. kept (keep_as keep) right l.hart (present (system n) settler)) (s.kept.rights page lt) ∙
+        ap (λ right. kept (keep_as keep) right l.hart (present (system n) settler)) (s.kept.rights.each page lt) ∙
         (ap (kept (keep_as keep) (right_at r.rights page) l.hart) (present_played l s.is_lease.played n slots (map edge_as l.edges)) ∙
-        sym (is.rights page (omega (arith, lt, s.kept.many))))
+        sym (is.rights page (omega (arith, lt, s.kept.rights.many))))
 
     abbrev start_at : Machine (Option Hart) (Option (List ℕ))
     start_at = view (hardware n) s.start
@@ -205,7 +205,7 @@ module _ (r : RecordingView) (l : LeaseView) (s : IsSettling (IsRecorded r) l) w
     turns = turns_from l.inputs l.hart l.steps
 
     kept_ledger : IsKept (system n) start_at b
-    kept_ledger = keeps_ledger (system n) (length s.start.harts) start_at b s.kept.few s.kept.reached
+    kept_ledger = keeps_ledger (system n) (length s.start.harts) start_at b s.kept.size.few s.kept.led.reached
 
     laid_run : IsLaid (system n) b settler (λ page. keep_as keep)
     laid_run = lays_its_run (system n) b settler (λ page. keep_as keep) lease ours
@@ -217,55 +217,62 @@ module _ (r : RecordingView) (l : LeaseView) (s : IsSettling (IsRecorded r) l) w
         (subst (λ ts. KeepsBells s.start (run (system n) b.machine turns) ts after.edges new.due new.desk)
         (ap (λ m. steps (system n) start_at b.journal ++ steps (system n) m turns) kept_ledger.machine ∙ sym (steps_append (system n) start_at b.journal turns))
         (settled_bells s.start b.machine (steps (system n) start_at b.journal) b.edges r.due r.desk s.kept.heard l
-        (ap (λ (m : Machine (Option Hart) (Option (List ℕ))). m.harts l.hart) s.kept.at_machine ∙ on.state) laid_run.runs
+        (ap (λ (m : Machine (Option Hart) (Option (List ℕ))). m.harts l.hart) s.kept.led.at_machine ∙ on.state) laid_run.runs
         (ap (λ (m : Machine (Option Hart) (Option (List ℕ))). m.harts l.hart) (sym laid_run.machine ∙ machine_is) ∙
         get-set_here s.machine.harts l.hart l.present l.base on.state)
         (λ x i. subst (λ m. (system n).count x.found < counts (system n) m x.hart) (sym kept_ledger.machine) (step_below n start_at b.journal x kept_ledger.runs i))
-        s.is_lease.rings (its.is_open.inputs ∙ s.kept.given l.hart its.lent its.is)
-        (λ x i. subst (λ es. Contains es x) (sym its.is_open.edges) (s.kept.given_edges l.hart its.lent its.is x i)) in_row new.due is.due new.desk is.desk))
+        s.is_lease.rings (its.is_open.inputs ∙ s.kept.due.given l.hart its.lent its.is)
+        (λ x i. subst (λ es. Contains es x) (sym its.is_open.edges) (s.kept.due.given_edges l.hart its.lent its.is x i)) in_row new.due is.due new.desk is.desk))
 
     pub settled_recorded : IsRecorded new s.start (laid s.machine l) (added s.journal l.hart l.steps) (slice_set s.leases l.hart None)
     settled_recorded =
         record {
           ledger = after;
-          reached = Settled settler (λ page. keep_as keep) s.kept.reached lease ours;
-          few = s.kept.few;
-          harts_stay = length-set s.machine.harts l.hart l.present ∙ s.kept.harts_stay;
-          pages_stay = length-laid_pages s.machine.pages l.slots ∙ many;
-          at_machine = machine_is;
-          in_journal =
-              ap (λ turns. turns ++ turns_from l.inputs l.hart l.steps) s.kept.in_journal ∙
-              sym
-              (turns_go_on s.start s.machine s.journal l [] s.is_lease on s.counted (heard_by r) (heard_by new) (heard_there new is.inputs));
-          log = is.edges.log;
-          log_harts = ap length is.edges.start ∙ s.kept.log_harts;
-          log_start = λ g. ap (λ start. count_at start g) is.edges.start ∙ s.kept.log_start g;
-          enough = is.edges.enough b.edges s.kept.enough;
-          many = is.many ∙ s.kept.many;
-          rights = rights_are;
+          led = record {
+            reached = Settled settler (λ page. keep_as keep) s.kept.led.reached lease ours;
+            at_machine = machine_is;
+            in_journal =
+                ap (λ turns. turns ++ turns_from l.inputs l.hart l.steps) s.kept.led.in_journal ∙
+                sym
+                (turns_go_on s.start s.machine s.journal l [] s.is_lease on s.counted (heard_by r) (heard_by new) (heard_there new is.inputs));
+            stubs = stubs_without b.stubs s.leases s.kept.led.stubs l.hart (open_within s.leases l.hart its.lent its.is);
+          };
+          size = record {
+            few = s.kept.size.few;
+            harts = length-set s.machine.harts l.hart l.present ∙ s.kept.size.harts;
+            pages = length-laid_pages s.machine.pages l.slots ∙ many;
+          };
+          log = record {
+            log = is.edges.log;
+            harts = ap length is.edges.start ∙ s.kept.log.harts;
+            from_start = λ g. ap (λ start. count_at start g) is.edges.start ∙ s.kept.log.from_start g;
+            enough = is.edges.enough b.edges s.kept.log.enough;
+          };
+          rights = record { many = is.many ∙ s.kept.rights.many; each = rights_are };
           limits = ap length is.limits ∙ s.kept.limits;
           logged = still_logged r new s.start s.machine s.journal s.leases l s.is_lease lent_at now_at in_row (others_laid s.machine l) harts_many s.kept l.steps refl is.inputs;
-          dues = dues_stay r new s.start s.machine s.journal s.leases l s.is_lease lent_at now_at in_row (others_laid s.machine l) harts_many s.kept l.steps is.due;
-          due = still_due r new s.start s.machine s.journal s.leases l s.is_lease lent_at now_at in_row (others_laid s.machine l) harts_many s.kept l.steps refl is.due;
+          due = record {
+            many = dues_stay r new s.start s.machine s.journal s.leases l s.is_lease lent_at now_at in_row (others_laid s.machine l) harts_many s.kept l.steps is.due;
+            edges = still_due r new s.start s.machine s.journal s.leases l s.is_lease lent_at now_at in_row (others_laid s.machine l) harts_many s.kept l.steps refl is.due;
+            given =
+                λ other o e.
+                let ne = row-set_other s.leases l.hart other o e (open_within s.leases l.hart its.lent its.is) in
+                s.kept.due.given other o (row-set_some s.leases l.hart other o e) ∙
+                ap (λ (d : DueView). d.inputs)
+                (sym (others_due r new s.start s.machine s.journal s.leases l s.is_lease lent_at now_at in_row (others_laid s.machine l) harts_many s.kept l.steps is.due other ne));
+            given_edges =
+                λ other o e x i.
+                let ne = row-set_other s.leases l.hart other o e (open_within s.leases l.hart its.lent its.is) in
+                s.kept.due.given_edges other o (row-set_some s.leases l.hart other o e) x
+                (subst (λ (d : DueView). Contains d.edges x)
+                (others_due r new s.start s.machine s.journal s.leases l s.is_lease lent_at now_at in_row (others_laid s.machine l) harts_many s.kept l.steps is.due other ne) i);
+          };
           bells = still_rung r new s.start s.machine s.journal s.leases l s.is_lease lent_at now_at in_row (others_laid s.machine l) harts_many s.kept (get_within s.machine.harts l.hart l.base on.state) is.desk;
           inputs =
               still_inputs (length s.start.harts) r new l l.steps in_row
-              (subst (All (IsInputOf (length s.start.harts))) (sym (its.is_open.inputs ∙ s.kept.given l.hart its.lent its.is)) (s.kept.inputs.due l.hart)) is.inputs is.due is.desk
+              (subst (All (IsInputOf (length s.start.harts))) (sym (its.is_open.inputs ∙ s.kept.due.given l.hart its.lent its.is)) (s.kept.inputs.due l.hart)) is.inputs is.due is.desk
               s.kept.inputs;
-          given =
-              λ other o e.
-              let ne = row-set_other s.leases l.hart other o e (open_within s.leases l.hart its.lent its.is) in
-              s.kept.given other o (row-set_some s.leases l.hart other o e) ∙
-              ap (λ (d : DueView). d.inputs)
-              (sym (others_due r new s.start s.machine s.journal s.leases l s.is_lease lent_at now_at in_row (others_laid s.machine l) harts_many s.kept l.steps is.due other ne));
-          given_edges =
-              λ other o e x i.
-              let ne = row-set_other s.leases l.hart other o e (open_within s.leases l.hart its.lent its.is) in
-              s.kept.given_edges other o (row-set_some s.leases l.hart other o e) x
-              (subst (λ (d : DueView). Contains d.edges x)
-              (others_due r new s.start s.machine s.journal s.leases l s.is_lease lent_at now_at in_row (others_laid s.machine l) harts_many s.kept l.steps is.due other ne) i);
           heard = heard_after;
-          stubs = stubs_without b.stubs s.leases s.kept.stubs l.hart (open_within s.leases l.hart its.lent its.is);
         }
 
 -- what a lease tells is the same whatever its hart put out before

@@ -1,6 +1,6 @@
 -- Books that record.
 use Rattle.std.specs.Prelude.{◌≡◌, ◌≢◌, ◌<◌, ◌≤◌, ◌↔◌, ℕ, zero, suc, Bool, true, false, List, [], ◌++◌, ◌∷◌, map, drop, replicate, length, slice_set, All, AllPairs, Contains, is_some, slice_get, Option, Some, None, option_map, if◌then◌else◌}
-use Rattle.interleaving.specs.Machine.{steps}
+use Rattle.interleaving.specs.Machine.{Turn, steps}
 use Rattle.interleaving.specs.Log as theory
 use Rattle.interleaving.specs.Log.{Log, IsHonest}
 use Rattle.interleaving.specs.Cuts.{IsEnough}
@@ -185,40 +185,60 @@ pub record IsRung (machine : MachineState) (bell : WaitingBell) : Type 0 where
   pub settled : bell.after ≤ counts_of machine bell.source
 
 -- what is logged, due and waiting are inputs of a machine with so many harts
-pub record AreInputs (harts : ℕ) (r : RecordingView) : Type 0 where
-  pub logged : (hart : ℕ) → All (λ x. IsInputOf harts x.1) (inputs_of r.inputs hart)
-  pub due : (hart : ℕ) → All (IsInputOf harts) (due_at r.due hart).inputs
-  pub waiting : (hart : ℕ) → All (λ w. IsInputOf harts w.input) (others_of r.desk hart)
+pub record AreInputs (harts : ℕ) (log : List (List (ℕ × Input))) (dues : List DueView) (desk : List Queues) : Type 0 where
+  pub logged : (hart : ℕ) → All (λ x. IsInputOf harts x.1) (inputs_of log hart)
+  pub due : (hart : ℕ) → All (IsInputOf harts) (due_at dues hart).inputs
+  pub waiting : (hart : ℕ) → All (λ w. IsInputOf harts w.input) (others_of desk hart)
+
+-- the machine has as many harts and pages as the start, and not more harts than a book has rows
+pub record IsAsBig (start machine : MachineState) : Type 0 where
+  pub few : length start.harts ≤ 8
+  pub harts : length machine.harts ≡ length start.harts
+  pub pages : length machine.pages ≡ length start.pages
+
+-- calls have led from the start to the ledger, which has this machine, these turns and these open leases
+pub record IsLedTo (start machine : MachineState) (turns : List (Turn (List Input))) (leases : List (Option OpenView))
+    (ledger : Ledger (Option Hart) (Option (List ℕ)) (List Input)) : Type 0 where
+  pub reached : Reached (system (length start.pages)) (length start.harts) (view (hardware (length start.pages)) start) ledger
+  pub at_machine : ledger.machine ≡ view (hardware (length start.pages)) machine
+  pub in_journal : ledger.journal ≡ turns
+  pub stubs : (hart : ℕ) → ledger.stubs hart ≡ option_map stub_as (open_at leases hart)
+
+-- the log, which begins at the start's counts, has the edges that say all these
+pub record SaysAll (edges : Edges) (start : MachineState) (all : List theory.Edge) : Type 0 where
+  pub log : IsLog edges.start edges.rows
+  pub harts : length edges.start ≡ length start.harts
+  pub from_start : (hart : ℕ) → start_of edges hart ≡ counts_of start hart
+  pub enough : IsEnough (edges_of edges) all (start_of edges)
+
+-- each page has its right
+pub record AreRights (held : ℕ → Right) (pages : ℕ) (rights : List PageRight) : Type 0 where
+  pub many : length rights ≡ pages
+  pub each : (page : ℕ) → page < pages → held page ≡ right_at rights page
+
+-- each hart's edges that are due are of its settled count, and its open lease has what is due to it
+pub record AreDue (machine : MachineState) (leases : List (Option OpenView)) (due : List DueView) : Type 0 where
+  pub many : length due ≡ 8
+  pub edges : (hart : ℕ) → All (IsDueEdge machine hart) (due_at due hart).edges
+  pub given : (hart : ℕ) (lent : OpenView) → open_at leases hart ≡ Some lent → lent.inputs ≡ (due_at due hart).inputs
+  pub given_edges : (hart : ℕ) (lent : OpenView) → open_at leases hart ≡ Some lent → (e : Edge) → Contains (due_at due hart).edges e → Contains lent.edges e
 
 -- What a recording book keeps: it is a ledger of the theory, to which calls have led from the start.
 pub record IsRecorded (r : RecordingView) (start machine : MachineState) (journal : List Stretch) (leases : List (Option OpenView)) : Type 0 where
   pub ledger : Ledger (Option Hart) (Option (List ℕ)) (List Input)
-  pub reached : Reached (system (length start.pages)) (length start.harts) (view (hardware (length start.pages)) start) ledger
-  pub few : length start.harts ≤ 8
-  pub harts_stay : length machine.harts ≡ length start.harts
-  pub pages_stay : length machine.pages ≡ length start.pages
-  pub at_machine : ledger.machine ≡ view (hardware (length start.pages)) machine
-  pub in_journal : ledger.journal ≡ journal_turns (heard_by r) start journal
-  -- its log has the edges that say all that were found
-  pub log : IsLog r.edges.start r.edges.rows
-  pub log_harts : length r.edges.start ≡ length start.harts
-  pub log_start : (hart : ℕ) → start_of r.edges hart ≡ counts_of start hart
-  pub enough : IsEnough (edges_of r.edges) ledger.edges (start_of r.edges)
-  pub many : length r.rights ≡ length start.pages
-  pub rights : (page : ℕ) → page < length start.pages → ledger.rights page ≡ right_at r.rights page
+  pub led : IsLedTo start machine (journal_turns (heard_by r) start journal) leases ledger
+  pub size : IsAsBig start machine
+  pub log : SaysAll r.edges start ledger.edges
+  pub rights : AreRights ledger.rights (length start.pages) r.rights
   pub limits : length r.limits ≡ length start.harts
-  -- it has logged no input that a hart has yet to be given, and its open leases have what is due
+  -- it has logged no input that a hart has yet to be given
   pub logged : (hart : ℕ) → All (λ x. x.0 < counts_of machine hart) (inputs_of r.inputs hart)
-  pub dues : length r.due ≡ 8
-  pub due : (hart : ℕ) → All (IsDueEdge machine hart) (due_at r.due hart).edges
+  pub due : AreDue machine leases r.due
   pub bells : (hart : ℕ) → All (IsRung machine) (bells_of r.desk hart)
-  pub inputs : AreInputs (length start.harts) r
-  pub given : (hart : ℕ) (lent : OpenView) → open_at leases hart ≡ Some lent → lent.inputs ≡ (due_at r.due hart).inputs
-  pub given_edges : (hart : ℕ) (lent : OpenView) → open_at leases hart ≡ Some lent → (e : Edge) → Contains (due_at r.due hart).edges e → Contains lent.edges e
+  pub inputs : AreInputs (length start.harts) r.inputs r.due r.desk
   -- bells are heard in their turn
   pub heard :
       KeepsBells start ledger.machine (steps (system (length start.pages)) (view (hardware (length start.pages)) start) ledger.journal) ledger.edges r.due r.desk
-  pub stubs : (hart : ℕ) → ledger.stubs hart ≡ option_map stub_as (open_at leases hart)
 
 -- the log of a book: its edges and inputs, from the start's counts to the machine's
 abbrev pub log_of : Edges → Heard → MachineState → MachineState → Log (List Input)

@@ -138,7 +138,7 @@ fn right_kept(right: PageRight, hart: Hart, count: Count, keep: Keep) -> PageRig
 
 impl Recording {
     /// Nobody has used a page.
-    pub(crate) fn new(alloc: Global, start: &Machine, limits: Counts) -> Result<Recording, Memory>
+    pub fn new(alloc: Global, start: &Machine, limits: Counts) -> Result<Recording, Memory>
         ensures unused { IfOk result (λ r. IsUnused r start.now limits) }
         ensures rows { OnOk result ((hart : ℕ) (h : HartRecord) → slice_get start.now.harts hart ≡ Some h → length h.received.heard ≡ 8) }
     {
@@ -156,26 +156,21 @@ impl Recording {
     }
 
     /// The edges of the settled steps.
-    pub(crate) fn edges(&self) -> &EdgeLog
+    pub fn edges(&self) -> &EdgeLog
         ensures { result.now ≡ self.now.edges }
     {
         &self.edges
     }
 
     /// The inputs of the settled steps.
-    pub(crate) fn inputs(&self) -> &InputLog
+    pub fn inputs(&self) -> &InputLog
         ensures { result.now ≡ self.now.inputs }
     {
         &self.inputs
     }
 
     /// Puts an input behind the others that wait for the hart. It is given at no count before this one.
-    pub(crate) fn offer(
-        &mut self,
-        hart: Hart,
-        not_before: Count,
-        input: Input,
-    ) -> Result<(), Memory>
+    pub fn offer(&mut self, hart: Hart, not_before: Count, input: Input) -> Result<(), Memory>
         requires { is_bell input ≡ false }
         ensures ok { OnOk result (IsOffered self.old hart not_before input self.new) }
         ensures err { OnErr result (self.new ≡ self.old) }
@@ -285,7 +280,7 @@ impl Recording {
     }
 
     /// Each limit becomes the greater of the two.
-    pub(crate) fn raise(&mut self, limits: Counts)
+    pub fn raise(&mut self, limits: Counts)
         requires { length limits ≡ length self.old.limits }
         ensures { self.new ≡ record self.old { limits = greater self.old.limits limits } }
     {

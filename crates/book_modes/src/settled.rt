@@ -8,7 +8,7 @@ use ft_types::{Count, Counts, Hart};
 use guest_image::Machine;
 
 /// How many steps the hart has taken: none where the machine has no such hart.
-pub(crate) fn steps_taken(machine: &Machine, hart: Hart) -> Count
+pub fn steps_taken(machine: &Machine, hart: Hart) -> Count
     ensures { result ≡ counts_of machine.now hart }
 {
     if hart.number() < machine.harts() {
@@ -19,7 +19,7 @@ pub(crate) fn steps_taken(machine: &Machine, hart: Hart) -> Count
 }
 
 /// How many steps each hart has taken.
-pub(crate) fn settled_counts(machine: &Machine) -> Counts
+pub fn settled_counts(machine: &Machine) -> Counts
     ensures harts { length result ≡ length machine.now.harts }
     ensures value { (hart : ℕ) → hart < length result → slice_index result hart ≡ counts_of machine.now hart }
     ensures all { (hart : ℕ) → count_at result hart ≡ counts_of machine.now hart }

@@ -1,4 +1,4 @@
-//! A lease: one hart's state and some pages, on loan from a book.
+//! A lease: one hart's state and some pages, on loan.
 
 ghost use Rattle.std.specs.Cmp.Lexicographic.{pointwise};
 ghost use Rattle.std.specs.Prelude.{◌≡◌, ◌==◌, ◌&&◌, ◌≢◌, ◌<◌, ◌≤◌, ◌^◌, ◌⊎◌, ◌+◌, ◌-◌, ◌↔◌, ℕ, List, [], length, replicate, map, slice_set, slice_index_or, Option, Some, None, ◌∷◌, true, false, IfOk, IfSome, IfNone, OnOk, OnErr, IsTrue};
@@ -27,7 +27,8 @@ use std::marker::Model;
 /// The most steps of one lease.
 pub const LEASE_STEPS: u64 = 1024;
 
-/// One hart's state and some pages, on loan from a book. It has to be spent, by `Book::settle` or `Book::discard`.
+/// One hart's state and some pages, on loan. Whoever has it may give it pages, and has to spend or waste it: so a book hands
+/// its own out inside a type that the book alone takes apart.
 pub struct Lease {
     hart: Hart,
     /// The hart as it was lent, without its outputs.
@@ -99,12 +100,7 @@ fn same_inputs(inputs: &[Input], others: &[Input]) -> bool
 
 impl Lease {
     /// A lease of a hart in this state but for its outputs, without steps and pages, which may not take any yet.
-    pub(crate) fn fresh(
-        alloc: Global,
-        hart: Hart,
-        state: &HartState,
-        pages: u8,
-    ) -> Result<Lease, Memory>
+    pub fn fresh(alloc: Global, hart: Hart, state: &HartState, pages: u8) -> Result<Lease, Memory>
         requires pages { pages ≤ 64 }
         ensures { IfOk result (λ l. l ≡ fresh hart (without_outputs state.now) pages idle) }
     {
@@ -130,7 +126,7 @@ impl Lease {
     }
 
     /// Sends the lease out with this.
-    pub(crate) fn go_out(&mut self, lent: Lent)
+    pub fn go_out(&mut self, lent: Lent)
         requires idle { self.old ≡ fresh self.old.hart self.old.base (length self.old.slots) idle }
         requires stop { lent.stop < 2 ^ 48 }
         ensures { self.new ≡ record self.old { stop = lent.stop; inputs = lent.inputs; edges = lent.edges } }
@@ -144,7 +140,7 @@ impl Lease {
         self.edges = edges;
     }
 
-    /// The hart. Its steps are what every lease's are.
+    /// Whose steps it takes. They are what every lease's are.
     pub fn hart(&self) -> Hart
         ensures value { result ≡ self.now.hart }
         ensures kept { IsBareLease self.now }
@@ -160,7 +156,7 @@ impl Lease {
     }
 
     /// The hart's count when it was lent.
-    pub(crate) fn lent_at(&self) -> Count
+    pub fn lent_at(&self) -> Count
         ensures { result ≡ self.now.base.count }
     {
         self.base.count()
@@ -173,7 +169,7 @@ impl Lease {
         self.stop
     }
 
-    /// The inputs of its first step.
+    /// What its first step is given.
     pub fn inputs(&self) -> &[Input]
         ensures value { result.now ≡ self.now.inputs }
         ensures few { length result.now ≤ 8 }
@@ -189,7 +185,7 @@ impl Lease {
     }
 
     /// What it asks for, when it asks for a right on a page.
-    pub(crate) fn asks(&self, page: PageNo, want: Want) -> Asked
+    pub fn asks(&self, page: PageNo, want: Want) -> Asked
         ensures value { result ≡ asked_by self.now page want }
         ensures count { result.count < 2 ^ 48 }
         ensures kept { IsBareLease self.now }
@@ -203,20 +199,20 @@ impl Lease {
     }
 
     /// Puts these edges in place of those that wait.
-    pub(crate) fn wait_with(&mut self, edges: SmallVec<Edge, 8>)
+    pub fn wait_with(&mut self, edges: SmallVec<Edge, 8>)
         ensures { self.new ≡ record self.old { edges = edges.items } }
     {
         self.edges = edges;
     }
 
     /// The outputs of its steps.
-    pub(crate) fn outputs(&self) -> &[(Count, u32)]
+    pub fn outputs(&self) -> &[(Count, u32)]
         ensures { result.now ≡ self.now.present.outputs }
     {
         self.present.outputs()
     }
 
-    /// How many steps the lease has.
+    /// How many steps it has taken.
     #[inline(always)]
     pub fn steps(&self) -> u64
         ensures { result ≡ self.now.steps }
@@ -224,7 +220,7 @@ impl Lease {
         self.present.count() - self.base.count()
     }
 
-    /// The right that the lease has on a page.
+    /// The right that came with a page, where the page came.
     pub fn right(&self, page: PageNo) -> Option<Want>
         requires { page < length self.now.slots }
         ensures { result ≡ want_of (slot_at self.now.slots page) }
@@ -232,7 +228,7 @@ impl Lease {
         self.pages.right(page)
     }
 
-    /// Whether the lease takes no further step: after 1,024 steps, after a step that halts or rings, and at its stop.
+    /// Whether it takes no further step: it has 1,024, its last one halted or rang, or it is at its stop.
     #[inline(always)]
     pub fn full(&self) -> bool
         ensures { IsTrue result ↔ IsFull self.now }
@@ -242,7 +238,7 @@ impl Lease {
             || self.present.rings() != self.base.rings()
     }
 
-    /// One step, where the lease is not full.
+    /// One more step. There is room for it.
     #[inline(always)]
     pub fn tick(&mut self) -> Tick
         requires { ¬ (IsFull self.old) }
@@ -279,7 +275,7 @@ impl Lease {
     }
 
     /// Takes a page in to read.
-    pub(crate) fn take_to_read(&mut self, page: PageNo, here: Page)
+    pub fn take_to_read(&mut self, page: PageNo, here: Page)
         requires page { page < length self.old.slots }
         requires missing { slot_at self.old.slots page ≡ Slot.Missing }
         ensures { self.new ≡ with_page_to_read self.old page here }
@@ -289,7 +285,7 @@ impl Lease {
     }
 
     /// Takes a page in to write, given twice over.
-    pub(crate) fn take_to_write(&mut self, page: PageNo, base: Page, present: Page)
+    pub fn take_to_write(&mut self, page: PageNo, base: Page, present: Page)
         requires page { page < length self.old.slots }
         requires unwritten { is_writable (slot_at self.old.slots page) ≡ false }
         requires lent { (bytes : List ℕ) → base_at self.old page ≡ Some bytes → bytes ≡ base }
@@ -302,7 +298,7 @@ impl Lease {
     }
 
     /// Takes a page in to write that it has to read, given once more.
-    pub(crate) fn raise_to_write(&mut self, page: PageNo, present: Page)
+    pub fn raise_to_write(&mut self, page: PageNo, present: Page)
         requires page { page < length self.old.slots }
         requires readable { slot_at self.old.slots page ≡ Slot.Readable present }
         ensures { self.new ≡ with_page_to_write self.old page present present }
@@ -316,7 +312,7 @@ impl Lease {
 
     /// Whether the lease's hart and pages were lent by the machine, the pages at these counts.
     #[tactic(auto, using(crate::proofs::Bare::lent_whole, crate::proofs::Bare::lent_bare))]
-    pub(crate) fn is_lent(&self, machine: &Machine, taken: &[Option<Taken>; 64]) -> bool
+    pub fn is_lent(&self, machine: &Machine, taken: &[Option<Taken>; 64]) -> bool
         requires { self.now.hart < length machine.now.harts }
         ensures { IsTrue result ↔ IsLent machine.now taken.now (whole_in machine.now self.now) }
     {
@@ -327,14 +323,14 @@ impl Lease {
     }
 
     /// Whether these edges wait in it.
-    pub(crate) fn waits_with(&self, edges: &[Edge]) -> bool
+    pub fn waits_with(&self, edges: &[Edge]) -> bool
         ensures { IsTrue result ↔ (self.now.edges ≡ edges.now) }
     {
         same_edges(self.edges.as_slice(), edges)
     }
 
     /// Whether these are the inputs of its first step.
-    pub(crate) fn hears(&self, inputs: &[Input]) -> bool
+    pub fn hears(&self, inputs: &[Input]) -> bool
         ensures { IsTrue result ↔ (self.now.inputs ≡ inputs.now) }
     {
         same_inputs(self.inputs.as_slice(), inputs)
@@ -372,7 +368,7 @@ impl Lease {
     }
 
     /// The bell that waits for the hart that the lease rang.
-    pub(crate) fn bell(&self) -> WaitingBell
+    pub fn bell(&self) -> WaitingBell
         ensures { result ≡ rung_bell self.now }
     {
         WaitingBell {
@@ -382,7 +378,7 @@ impl Lease {
     }
 
     /// The hart that the lease rang, which it did at its last step. It rang one at most.
-    pub(crate) fn rung(&self) -> Option<Hart>
+    pub fn rung(&self) -> Option<Hart>
         ensures some { IfSome result (λ t. (t < 8) × (bells_rung self.now t ≡ rung_bell self.now ∷ []) × ((other : ℕ) → other ≢ t → bells_rung self.now other ≡ [])) }
         ensures none { IfNone result ((target : ℕ) → bells_rung self.now target ≡ []) }
     {
@@ -397,14 +393,14 @@ impl Lease {
     }
 
     /// Nothing of the lease is needed.
-    pub(crate) fn waste(self) {
+    pub fn waste(self) {
         let (present, slots, _) = self.spend();
         drop(present);
         drop(slots);
     }
 
     /// What the lease has now. The lease is gone.
-    pub(crate) fn spend(self) -> (HartState, Vec<Slot>, u64)
+    pub fn spend(self) -> (HartState, Vec<Slot>, u64)
         ensures hart { result.0 ≡ self.present }
         ensures slots { result.1.items ≡ self.slots }
         ensures steps { result.2 ≡ self.steps }

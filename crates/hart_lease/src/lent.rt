@@ -30,7 +30,7 @@ impl Model for Lent {
 
 impl Lent {
     /// So far, with these inputs and edges.
-    pub(crate) fn new(stop: Count, inputs: SmallVec<Input, 8>, edges: SmallVec<Edge, 8>) -> Lent
+    pub fn new(stop: Count, inputs: SmallVec<Input, 8>, edges: SmallVec<Edge, 8>) -> Lent
         requires inputs { length inputs.items ≤ 8 }
         requires edges { length edges.items ≤ 8 }
         ensures { result ≡ record { stop = stop; inputs = inputs.items; edges = edges.items } }

@@ -37,7 +37,7 @@ impl Model for OpenLease {
 
 impl OpenLease {
     /// A lease of no page.
-    pub(crate) fn new(alloc: Global, lent: &Lent, taken: TakenPages) -> OpenLease
+    pub fn new(alloc: Global, lent: &Lent, taken: TakenPages) -> OpenLease
         requires { taken ≡ replicate 64 None }
         ensures { result ≡ nothing_taken lent.now }
     {
@@ -52,21 +52,21 @@ impl OpenLease {
     }
 
     /// The count that it does not go past.
-    pub(crate) fn stop(&self) -> Count
+    pub fn stop(&self) -> Count
         ensures { result ≡ self.now.stop }
     {
         self.stop
     }
 
     /// The inputs of its first step.
-    pub(crate) fn inputs(&self) -> &[Input]
+    pub fn inputs(&self) -> &[Input]
         ensures { result.now ≡ self.now.inputs }
     {
         self.inputs.as_slice()
     }
 
     /// Since when it has each page.
-    pub(crate) fn taken(&self) -> &[Option<Taken>; 64]
+    pub fn taken(&self) -> &[Option<Taken>; 64]
         ensures value { result.now ≡ self.now.taken }
         ensures row { length result.now ≡ 64 }
     {
@@ -74,21 +74,21 @@ impl OpenLease {
     }
 
     /// The edges that wait in it.
-    pub(crate) fn edges(&self) -> &[Edge]
+    pub fn edges(&self) -> &[Edge]
         ensures { result.now ≡ self.now.edges }
     {
         self.edges.as_slice()
     }
 
     /// The right that it has on a page.
-    pub(crate) fn right(&self, page: PageNo) -> Option<Want>
+    pub fn right(&self, page: PageNo) -> Option<Want>
         ensures { result ≡ right_of (Some self.now) page }
     {
         taken::right_of(&self.taken.row()[page.index()])
     }
 
     /// Writes down that it was given a right, and which edges wait in it now.
-    pub(crate) fn take(&mut self, asked: &Asked, waiting: SmallVec<Edge, 8>)
+    pub fn take(&mut self, asked: &Asked, waiting: SmallVec<Edge, 8>)
         ensures { self.new ≡ record self.old { taken = slice_set self.old.taken asked.now.page (Some (taking (taken_at self.old.taken asked.now.page) asked.now.want asked.now.count)); edges = waiting.items } }
     {
         self.taken.take(asked.page, asked.want, asked.count);

@@ -56,7 +56,7 @@ fn same_row(row: &[Option<Taken>; 64], other: &[Option<Taken>; 64]) -> bool
 
 /// Since when a lease has each page. The row lies apart, so that a lease is small to move.
 #[derive(Drop)]
-pub(crate) struct TakenPages {
+pub struct TakenPages {
     row: Box<[Option<Taken>; 64]>,
 }
 
@@ -73,7 +73,7 @@ impl Model for TakenPages {
 
 impl TakenPages {
     /// No page.
-    pub(crate) fn none(alloc: Global) -> Result<TakenPages, Memory>
+    pub fn none(alloc: Global) -> Result<TakenPages, Memory>
         ensures { IfOk result (λ t. t ≡ replicate 64 None) }
     {
         let row = Box::new(alloc, [None; 64])?;

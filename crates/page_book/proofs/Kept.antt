@@ -16,7 +16,7 @@ use Rattle.edge_log.specs.declared.Edge.{Edge as edge_found}
 use Rattle.ft_types.specs.declared.names.Want.{Want}
 use Rattle.hart_lease.proofs.Laid.{length-laid_pages}
 use Rattle.hart_lease.proofs.Journals.{stands_ours, row-set, row-set_some, may_still_go, others_laid, of_stop, row-set_other, row_within, counts_go_on, run_goes_on, grown, schedule_goes_on}
-use Rattle.interleaving.specs.Machine.{after, steps}
+use Rattle.interleaving.specs.Machine.{after}
 use Rattle.interleaving.specs.Log as theory
 use Rattle.input_log.specs.declared.Input.{Input}
 use Rattle.input_log.specs.Inputs.{is_bell, IsInputOf}

@@ -20,11 +20,12 @@ ghost use Rattle.page_book.specs.Answers.{IfHeldBy, OnHeldBy, OnGiven};
 ghost use Rattle.rv32_hart.specs.Hart.{Hart as HartRecord, with_outputs_of, without_outputs};
 
 use crate::answers::{BookFault, Need};
+use crate::lease::Lease;
 use book_modes::{Keep, Leg, Mode, Recording, Replaying, settled_counts, steps_taken};
 use edge_log::{Edge, EdgeLog};
 use ft_types::{Count, Counts, Hart, HartSet, Memory, PageNo, Want};
 use guest_image::{Machine, Page};
-use hart_lease::{Asked, Lease, Lent, OpenLease, Slot, Stretch, TakenPages};
+use hart_lease::{Asked, Lent, OpenLease, Slot, Stretch, TakenPages};
 use input_log::{Input, InputLog};
 use smallvec::SmallVec;
 use std::alloc::Global;
@@ -141,7 +142,7 @@ fn with_edges(alloc: Global, waiting: &[Edge], found: &[Edge]) -> Result<SmallVe
     Ok(all)
 }
 
-fn give(lease: &mut Lease, page: PageNo, here: &Page, want: Want) -> Result<(), Memory>
+fn give(lease: &mut hart_lease::Lease, page: PageNo, here: &Page, want: Want) -> Result<(), Memory>
     requires page { page < length lease.old.slots }
     requires lent { (bytes : List ℕ) → base_at lease.old page ≡ Some bytes → bytes ≡ here.now }
     ensures hart { lease.new.hart ≡ lease.old.hart }
@@ -195,7 +196,7 @@ fn lay(machine: &mut Machine, slots: Vec<Slot>)
 }
 
 /// Puts the lease's hart back, which keeps the outputs that it has here, and its pages, and says how many steps it has.
-fn take_back(machine: &mut Machine, lease: Lease) -> u64
+fn take_back(machine: &mut Machine, lease: hart_lease::Lease) -> u64
     requires state { (h : HartRecord) × (slice_get machine.old.harts lease.hart ≡ Some h) × (without_outputs h ≡ without_outputs lease.base) }
     requires as_many { length lease.slots ≡ length machine.old.pages }
     ensures machine { (h : HartRecord) → slice_get machine.old.harts lease.hart ≡ Some h → machine.new ≡ laid machine.old (record lease { present = with_outputs_of h lease.present }) }
@@ -297,10 +298,10 @@ impl<M: Mode> Book<M> {
             return Err(BookFault::EdgeOpen);
         }
         let taken = TakenPages::none(alloc)?;
-        let mut lease = Lease::fresh(alloc, hart, state, self.machine.pages())?;
+        let mut lease = hart_lease::Lease::fresh(alloc, hart, state, self.machine.pages())?;
         let lent = self.lend_out(alloc, hart, count, taken);
         lease.go_out(lent);
-        Ok(lease)
+        Ok(Lease { own: lease })
     }
 
     /// What the hart, which is at this count, goes out with. It has an open lease then, of no page.
@@ -320,7 +321,7 @@ impl<M: Mode> Book<M> {
         lent
     }
 
-    fn is_ours(&self, lease: &Lease) -> bool
+    fn is_ours(&self, lease: &hart_lease::Lease) -> bool
         ensures { IsTrue result ↔ IsOurs self.now lease.now }
     {
         match &self.leases[lease.hart().index()] {
@@ -383,10 +384,10 @@ impl<M: Mode> Book<M> {
         ensures steps { lease.new.steps ≡ lease.old.steps }
         ensures stop { lease.new.stop ≡ lease.old.stop }
     {
-        if !self.is_ours(lease) {
+        if !self.is_ours(&lease.own) {
             return Err(BookFault::Foreign);
         }
-        let asked = lease.asks(page, want);
+        let asked = lease.own.asks(page, want);
         let harts = self.mode.holders(&self.leases, &asked);
         if !harts.is_empty() {
             return Ok(Need::HeldBy(harts));
@@ -394,10 +395,10 @@ impl<M: Mode> Book<M> {
         let alloc = *self.journal.allocator();
         let settled = self.counts();
         let found = self.mode.edges_owed(alloc, &settled, &asked);
-        let waiting = with_edges(alloc, lease.edges(), found.as_slice())?;
-        let known = with_edges(alloc, lease.edges(), found.as_slice())?;
-        give(lease, page, self.machine.page(page), want)?;
-        lease.wait_with(waiting);
+        let waiting = with_edges(alloc, lease.own.edges(), found.as_slice())?;
+        let known = with_edges(alloc, lease.own.edges(), found.as_slice())?;
+        give(&mut lease.own, page, self.machine.page(page), want)?;
+        lease.own.wait_with(waiting);
         self.hand_over(&settled, &asked, found.as_slice(), known);
         Ok(Need::Given)
     }
@@ -415,26 +416,27 @@ impl<M: Mode> Book<M> {
         ensures start { OnOk result (self.new.start ≡ self.old.start) }
         ensures mode { OnOk result (M.settles self.old.mode lease keep self.new.mode) }
     {
-        if !self.is_ours(&lease) {
-            return Err((lease, BookFault::Foreign));
+        let Lease { own } = lease;
+        if !self.is_ours(&own) {
+            return Err((Lease { own }, BookFault::Foreign));
         }
         if self.journal.reserve(1).is_err() {
-            return Err((lease, BookFault::Memory));
+            return Err((Lease { own }, BookFault::Memory));
         }
-        let hart = lease.hart();
+        let hart = own.hart();
         let before = self.machine.hart(hart).outputs().len();
-        match self.machine.add_outputs(hart, lease.outputs()) {
+        match self.machine.add_outputs(hart, own.outputs()) {
             Ok(()) => {}
-            Err(_) => return Err((lease, BookFault::Memory)),
+            Err(_) => return Err((Lease { own }, BookFault::Memory)),
         }
-        match self.mode.settle(&lease, keep) {
+        match self.mode.settle(&own, keep) {
             Ok(()) => {}
             Err(_) => {
                 self.machine.cut_outputs(hart, before);
-                return Err((lease, BookFault::Memory));
+                return Err((Lease { own }, BookFault::Memory));
             }
         }
-        let steps = take_back(&mut self.machine, lease);
+        let steps = take_back(&mut self.machine, own);
         add_stretch(&mut self.journal, hart, steps);
         self.leases[hart.index()] = None;
         Ok(())
@@ -448,9 +450,10 @@ impl<M: Mode> Book<M> {
         ensures foreign { IfErr result (λ f. (f ≡ BookFault.Foreign) × ¬ (IsOurs self.old lease)) }
         ensures kept { OnErr result (self.new ≡ self.old) }
     {
-        let ours = self.is_ours(&lease);
-        let hart = lease.hart();
-        lease.waste();
+        let Lease { own } = lease;
+        let ours = self.is_ours(&own);
+        let hart = own.hart();
+        own.waste();
         if !ours {
             return Err(BookFault::Foreign);
         }

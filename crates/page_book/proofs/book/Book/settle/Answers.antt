@@ -25,7 +25,7 @@ made_back m new back l i h more outs at all own is new_is cut =
 pub settle-requires : goal.settle-requires
 settle-requires g c =
     let i = c.self.inside in
-    let l = c.args.lease in
+    let l = c.lease.inside.own in
     let ours : IsLentBy (open_at i.leases l.hart) i.machine (whole_in i.machine l) = rw (← c.self.view_is) at (c.is_ours.ensures.0 (search rules)) in
     let settling : IsSettling (g.M.Mode.keeps i.mode) (whole_in i.machine l) =
     record {
@@ -43,7 +43,7 @@ settle-requires g c =
 pub invariant_of-self-in-Err-settle : goal.invariant_of-self-in-Err-settle
 invariant_of-self-in-Err-settle g c =
     let i = c.self.inside in
-    let back = made_back i.machine c.add_outputs.new.self c.cut_outputs.new.self c.args.lease c.hart-hart.result c.hart.result.now c.outputs.result.now
+    let back = made_back i.machine c.add_outputs.new.self c.cut_outputs.new.self c.lease.inside.own c.hart-hart.result c.hart.result.now c.outputs.result.now
     c.outputs-before.result.now c.hart-hart.ensures.value c.outputs.ensures c.outputs-before.ensures c.hart.ensures (c.in-Ok.ensures.added c.hart.result.now c.hart.ensures)
     c.cut_outputs.ensures in
     rw (back, c.in-Err-settle.ensures.err, c.reserve.ensures.items) c.self.invariant
@@ -51,7 +51,7 @@ invariant_of-self-in-Err-settle g c =
 pub returns-in-Err-settle-clause-kept : goal.returns-in-Err-settle-clause-kept
 returns-in-Err-settle-clause-kept g c =
     let i = c.self.inside in
-    let back = made_back i.machine c.add_outputs.new.self c.cut_outputs.new.self c.args.lease c.hart-hart.result c.hart.result.now c.outputs.result.now
+    let back = made_back i.machine c.add_outputs.new.self c.cut_outputs.new.self c.lease.inside.own c.hart-hart.result c.hart.result.now c.outputs.result.now
     c.outputs-before.result.now c.hart-hart.ensures.value c.outputs.ensures c.outputs-before.ensures c.hart.ensures (c.in-Ok.ensures.added c.hart.result.now c.hart.ensures)
     c.cut_outputs.ensures in
     rw (back, c.in-Err-settle.ensures.err, c.reserve.ensures.items) c.self.view_is
@@ -59,7 +59,7 @@ returns-in-Err-settle-clause-kept g c =
 pub take_back-steps-requires-clause-state : goal.take_back-steps-requires-clause-state
 take_back-steps-requires-clause-state g c =
     let m = c.self.inside.machine in
-    let l = c.args.lease in
+    let l = c.lease.inside.own in
     let h = c.hart.result.now in
     let ours : IsLentBy (open_at c.self.inside.leases l.hart) m (whole_in m l) = rw (← c.self.view_is) at (c.is_ours.ensures.0 (search rules)) in
     let there : slice_get m.harts l.hart ≡ Some h = rw (← c.hart-hart.ensures.value) c.hart.ensures in
@@ -73,18 +73,18 @@ take_back-steps-requires-clause-state g c =
 pub returns-clause-machine : goal.returns-clause-machine
 returns-clause-machine g c =
     let m = c.self.inside.machine in
-    let l = c.args.lease in
+    let l = c.lease.inside.own in
     let h = c.hart.result.now in
     let there : slice_get m.harts l.hart ≡ Some h = rw (← c.hart-hart.ensures.value) c.hart.ensures in
     let new = made_longer m c.add_outputs.new.self l c.hart-hart.result h c.outputs.result.now c.hart-hart.ensures.value c.outputs.ensures
     (c.in-Ok.ensures.added h c.hart.ensures) in
     let taken = c.take_back-steps.ensures.machine (longer h l.present.outputs) (rw new (longer_there m l.hart h l.present.outputs there)) in
-    rw (← c.self.view_is) (taken ∙ rw new (laid_longer m l h there))
+    rw (← c.self.view_is, ← c.lease.view_is) (taken ∙ rw new (laid_longer m l h there))
 
 pub invariant_of-self-2 : goal.invariant_of-self-2
 invariant_of-self-2 g c =
     let i = c.self.inside in
-    let l = c.args.lease in
+    let l = c.lease.inside.own in
     let h = c.hart.result.now in
     let earlier = outputs_of (slice_get i.machine.harts l.hart) in
     let w = whole_in i.machine l in

@@ -1,0 +1,102 @@
+//! A book's leases.
+
+ghost use Rattle.std.specs.Prelude.{◌≡◌, ◌<◌, ◌≤◌, ◌↔◌, ℕ, List, Option, length, IsTrue};
+ghost use Rattle.guest_image.specs.Machine.{MachineState};
+ghost use Rattle.hart_lease.specs.declared.taken.Taken.{Taken};
+ghost use Rattle.hart_lease.specs.Leases.{LeaseView, IsFull, Ticks, IsLent, whole};
+ghost use Rattle.hart_lease.specs.Runs.{IsBareLease};
+ghost use Rattle.hart_lease.specs.Slots.{slot_at, want_of};
+
+use edge_log::Edge;
+use ft_types::{Count, Hart, PageNo, Want};
+use input_log::Input;
+use rv32_hart::Tick;
+use std::marker::Model;
+
+/// One hart's state and some pages, on loan from a book. It has to be spent, by `Book::settle` or `Book::discard`. Only a
+/// book makes one, gives it pages and takes it apart: others read it, and take its steps.
+pub struct Lease {
+    pub(crate) own: hart_lease::Lease,
+}
+
+impl Model for Lease {
+    ghost use Rattle.hart_lease.specs.Leases.{LeaseView};
+
+    ghost Value = { LeaseView };
+
+    ghost view = { λ l. l.own };
+}
+
+impl Lease {
+    /// The hart. Its steps are what every lease's are.
+    pub fn hart(&self) -> Hart
+        ensures value { result ≡ self.now.hart }
+        ensures kept { IsBareLease self.now }
+    {
+        self.own.hart()
+    }
+
+    /// The hart's present count.
+    pub fn count(&self) -> Count
+        ensures { result ≡ self.now.present.count }
+    {
+        self.own.count()
+    }
+
+    /// The count that the lease does not go past.
+    pub fn stop(&self) -> Count
+        ensures { result ≡ self.now.stop }
+    {
+        self.own.stop()
+    }
+
+    /// The inputs of its first step.
+    pub fn inputs(&self) -> &[Input]
+        ensures value { result.now ≡ self.now.inputs }
+        ensures few { length result.now ≤ 8 }
+    {
+        self.own.inputs()
+    }
+
+    /// The edges that wait in the lease until it is settled.
+    pub fn edges(&self) -> &[Edge]
+        ensures { result.now ≡ self.now.edges }
+    {
+        self.own.edges()
+    }
+
+    /// How many steps the lease has.
+    #[inline(always)]
+    pub fn steps(&self) -> u64
+        ensures { result ≡ self.now.steps }
+    {
+        self.own.steps()
+    }
+
+    /// The right that the lease has on a page.
+    pub fn right(&self, page: PageNo) -> Option<Want>
+        requires { page < length self.now.slots }
+        ensures { result ≡ want_of (slot_at self.now.slots page) }
+    {
+        self.own.right(page)
+    }
+
+    /// Whether the lease takes no further step: after 1,024 steps, after a step that halts or rings, and at its stop.
+    #[inline(always)]
+    pub fn full(&self) -> bool
+        ensures { IsTrue result ↔ IsFull self.now }
+    {
+        self.own.full()
+    }
+
+    /// One step, where the lease is not full.
+    #[inline(always)]
+    pub fn tick(&mut self) -> Tick
+        requires { ¬ (IsFull self.old) }
+        ensures does { Ticks result self.old self.new }
+        // It is as much the book's own as before.
+        ensures lent { (machine : MachineState) (taken : List (Option Taken)) (earlier : List (ℕ × ℕ)) → IsLent machine taken (whole earlier self.old) → IsLent machine taken (whole earlier self.new) }
+    {
+        self.own.tick()
+    }
+}
