@@ -2,6 +2,7 @@
 use Rattle.std.proofs.Common.{◌≡◌, ℕ, zero, suc, ◌+◌, ◌-◌, ◌*◌, ◌/◌, ◌%◌, ◌^◌, ◌<◌, ◌≤◌, List, [], ◌∷◌, ◌++◌, length, get_or, set, take, drop, refl, ap, subst, sym, ◌∙◌, arith, add-one, inl, inr, length-append, length-set, append_assoc}
 use Rattle.std.specs.Prelude.{decimal}
 use Rattle.std.proofs.lemmas.Bool.{cases_lt}
+use Rattle.std.proofs.lemmas.Bool.Decides.{nat_tests}
 use Rattle.std.proofs.lemmas.Grind.{common_steps}
 use Rattle.std.proofs.Math.Nat.{pow-le-pow_right}
 use Rattle.std.proofs.lemmas.Fmt.{decimal_step, decimal_digit, decimal_by_steps, first_decimal, length-decimal-le, decimal_nonempty}
@@ -33,6 +34,34 @@ hex_at (suc k) n i h =
 pub word_length : (w : ℕ) → length (word w) ≡ 8
 unfolding word
 word_length w = hex_length 8 w
+
+last_same : (xs ys : List ℕ) (x y : ℕ) → length xs ≡ length ys → xs ++ x ∷ [] ≡ ys ++ y ∷ [] → (xs ≡ ys) × (x ≡ y)
+last_same [] [] x y l e = (refl, cc)
+last_same [] (b ∷ bs) x y l e = absurd (omega arith)
+last_same (a ∷ us) [] x y l e = absurd (omega arith)
+last_same (a ∷ us) (b ∷ bs) x y l e =
+    let heads : a ≡ b = cc in
+    let tails : us ++ x ∷ [] ≡ bs ++ y ∷ [] = cc in
+    let r = last_same us bs x y (omega arith) tails in
+    (rw (heads, r.0) refl, r.1)
+
+digit_same : (d e : ℕ) → d < 16 → e < 16 → hex_digit d ≡ hex_digit e → d ≡ e
+digit_same d e p q h = grind (arith, nat_tests)
+
+hex_same : (k m n : ℕ) → m < 16 ^ k → n < 16 ^ k → hex k m ≡ hex k n → m ≡ n
+unfolding hex
+hex_same zero m n p q e = omega arith
+hex_same (suc k) m n p q e =
+    let r = last_same (hex k (m / 16)) (hex k (n / 16)) (hex_digit (m % 16)) (hex_digit (n % 16))
+    (omega (arith, hex_length k (m / 16), hex_length k (n / 16))) e in
+    let low : m % 16 ≡ n % 16 = digit_same (m % 16) (n % 16) (omega arith) (omega arith) r.1 in
+    let high : m / 16 ≡ n / 16 = hex_same k (m / 16) (n / 16) (omega arith) (omega arith) r.0 in
+    omega arith
+
+-- two words of one spelling are one
+pub word_same : (w v : ℕ) → w < 2 ^ 32 → v < 2 ^ 32 → word w ≡ word v → w ≡ v
+unfolding word
+word_same w v p q e = hex_same 8 w v (omega arith) (omega arith) e
 
 pub word_at : (w i : ℕ) → i < 8 → (d : ℕ) × (d < 16) × (get_or (word w) i 0 ≡ hex_digit d)
 unfolding word

@@ -4,7 +4,8 @@ use Rattle.std.proofs.Common.{◌≡◌, ℕ, zero, suc, ◌+◌, ◌/◌, ◌%�
 use Rattle.std.specs.Prelude.{decimal, ◌⊎◌, IfOk, IfErr, MatchResult}
 use Rattle.std.proofs.lemmas.Grind.{common_steps, flat_map-append}
 use Rattle.std.proofs.lemmas.Fmt.{decimal_injective}
-use Rattle.ft_types.specs.Text.{hex, hex_digit, word}
+use Rattle.ft_types.specs.Text.{word}
+use Rattle.ft_types.proofs.Texts.{word_same}
 use Rattle.guest_image.specs.declared.fault.ImageFault.{ImageFault}
 use Rattle.guest_image.specs.declared.fault.ImageFault.TheVariants.{BadLine, TooLarge, NoHarts, Memory}
 use Rattle.guest_image.specs.Image.{ImageContents, Fits, image_text, setting, harts_name, pages_name, word_line, word_lines, AreWords, Sets, LacksWord, WordsThen, AfterHarts, AfterPages, IsWordFault, IsPagesFault, IsHartsFault, IsFault}
@@ -25,38 +26,6 @@ same_sets bytes name n m r s p a b =
     (decimal_injective n m (omega (arith, a.1)) (omega (arith, b.1)) (same_front name (decimal n) (decimal m) q.0), q.1)
 
 -- ---- words
-
-last_same : (xs ys : List ℕ) (x y : ℕ) → length xs ≡ length ys → xs ++ x ∷ [] ≡ ys ++ y ∷ [] → (xs ≡ ys) × (x ≡ y)
-last_same [] [] x y l e = (refl, cc)
-last_same [] (b ∷ bs) x y l e = absurd (omega arith)
-last_same (a ∷ us) [] x y l e = absurd (omega arith)
-last_same (a ∷ us) (b ∷ bs) x y l e =
-    let heads : a ≡ b = cc in
-    let tails : us ++ x ∷ [] ≡ bs ++ y ∷ [] = cc in
-    let r = last_same us bs x y (omega arith) tails in
-    (rw (heads, r.0) refl, r.1)
-
-digit_same : (d e : ℕ) → d < 16 → e < 16 → hex_digit d ≡ hex_digit e → d ≡ e
-digit_same d e p q h = grind (arith, nat_tests)
-
-hex_size : (k n : ℕ) → length (hex k n) ≡ k
-unfolding hex
-hex_size zero n = refl
-hex_size (suc k) n = omega (arith, length-append (hex k (n / 16)) (hex_digit (n % 16) ∷ []), hex_size k (n / 16))
-
-hex_same : (k m n : ℕ) → m < 16 ^ k → n < 16 ^ k → hex k m ≡ hex k n → m ≡ n
-unfolding hex
-hex_same zero m n p q e = omega arith
-hex_same (suc k) m n p q e =
-    let r = last_same (hex k (m / 16)) (hex k (n / 16)) (hex_digit (m % 16)) (hex_digit (n % 16))
-    (omega (arith, hex_size k (m / 16), hex_size k (n / 16))) e in
-    let low : m % 16 ≡ n % 16 = digit_same (m % 16) (n % 16) (omega arith) (omega arith) r.1 in
-    let high : m / 16 ≡ n / 16 = hex_same k (m / 16) (n / 16) (omega arith) (omega arith) r.0 in
-    omega arith
-
-word_same : (w v : ℕ) → w < 2 ^ 32 → v < 2 ^ 32 → word w ≡ word v → w ≡ v
-unfolding word
-word_same w v p q e = hex_same 8 w v (omega arith) (omega arith) e
 
 same_start : (w v : ℕ) (r s : List ℕ) → w < 2 ^ 32 → v < 2 ^ 32 → word_line w ++ r ≡ word_line v ++ s →
     (w ≡ v) × (r ≡ s)

@@ -91,7 +91,7 @@ counts_row_other : (now : ℕ → ℕ) (hart n other : ℕ) → (hart ≡ other 
 counts_row_other now hart zero other ne = refl
 counts_row_other now hart (suc n) other ne = counts_row_other (bump now hart) hart n other ne ∙ bump_other now hart other ne
 
-harts_of-append : (front rest : List Stretch) → harts_of (front ++ rest) ≡ harts_of front ++ harts_of rest
+pub harts_of-append : (front rest : List Stretch) → harts_of (front ++ rest) ≡ harts_of front ++ harts_of rest
 harts_of-append [] rest = refl
 harts_of-append (s ∷ front) rest =
     ap (λ l. replicate s.steps s.hart ++ l) (harts_of-append front rest) ∙ sym (append_assoc (replicate s.steps s.hart) (harts_of front) (harts_of rest))
@@ -109,7 +109,7 @@ harts_added journal hart steps = of (steps == 0) refl
 
 -- the turns of an order
 
-turns_of-append : (heard : Heard) (now : ℕ → ℕ) (front rest : List ℕ) →
+pub turns_of-append : (heard : Heard) (now : ℕ → ℕ) (front rest : List ℕ) →
     turns_of heard now (front ++ rest) ≡ turns_of heard now front ++ turns_of heard (counts_after now front) rest
 turns_of-append heard now [] rest = refl
 turns_of-append heard now (h ∷ front) rest = ap (λ ts. turn_on h (heard h (now h)) ∷ ts) (turns_of-append heard (bump now h) front rest)
@@ -124,7 +124,7 @@ grows now (h ∷ order) hart =
     ]
 
 -- inputs at counts that it does not reach do not matter
-turns_of-same : (old new : Heard) (now : ℕ → ℕ) (order : List ℕ) →
+pub turns_of-same : (old new : Heard) (now : ℕ → ℕ) (order : List ℕ) →
     ((hart n : ℕ) → n < counts_after now order hart → new hart n ≡ old hart n) → turns_of new now order ≡ turns_of old now order
 turns_of-same old new now [] same = refl
 turns_of-same old new now (h ∷ order) same =

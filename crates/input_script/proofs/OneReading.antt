@@ -4,8 +4,8 @@ use Rattle.std.proofs.Common.{◌≡◌, ℕ, zero, suc, ◌+◌, ◌/◌, ◌%�
 use Rattle.std.specs.Prelude.{decimal, codes, ◌⊎◌, IfOk, IfErr, MatchResult}
 use Rattle.std.proofs.lemmas.Grind.{common_steps, flat_map-append}
 use Rattle.std.proofs.lemmas.Fmt.{decimal_injective}
-use Rattle.ft_types.specs.Text.{hex, hex_digit, word}
-use Rattle.ft_types.proofs.Texts.{hex_length}
+use Rattle.ft_types.specs.Text.{word}
+use Rattle.ft_types.proofs.Texts.{word_same}
 use Rattle.input_log.specs.declared.Input.{Input}
 use Rattle.input_log.specs.declared.Input.TheVariants as input
 use Rattle.input_script.specs.declared.fault.ScriptFault.{ScriptFault}
@@ -32,33 +32,6 @@ lines_go_on harts bytes os rest o behind s p = (
 )
 
 -- ---- one line offers one thing
-
-last_same : (xs ys : List ℕ) (x y : ℕ) → length xs ≡ length ys → xs ++ x ∷ [] ≡ ys ++ y ∷ [] → (xs ≡ ys) × (x ≡ y)
-last_same [] [] x y l e = (refl, cc)
-last_same [] (b ∷ bs) x y l e = absurd (omega arith)
-last_same (a ∷ us) [] x y l e = absurd (omega arith)
-last_same (a ∷ us) (b ∷ bs) x y l e =
-    let heads : a ≡ b = cc in
-    let tails : us ++ x ∷ [] ≡ bs ++ y ∷ [] = cc in
-    let r = last_same us bs x y (omega arith) tails in
-    (rw (heads, r.0) refl, r.1)
-
-digit_same : (d e : ℕ) → d < 16 → e < 16 → hex_digit d ≡ hex_digit e → d ≡ e
-digit_same d e p q h = grind (arith, nat_tests)
-
-hex_same : (k m n : ℕ) → m < 16 ^ k → n < 16 ^ k → hex k m ≡ hex k n → m ≡ n
-unfolding hex
-hex_same zero m n p q e = omega arith
-hex_same (suc k) m n p q e =
-    let r = last_same (hex k (m / 16)) (hex k (n / 16)) (hex_digit (m % 16)) (hex_digit (n % 16))
-    (omega (arith, hex_length k (m / 16), hex_length k (n / 16))) e in
-    let low : m % 16 ≡ n % 16 = digit_same (m % 16) (n % 16) (omega arith) (omega arith) r.1 in
-    let high : m / 16 ≡ n / 16 = hex_same k (m / 16) (n / 16) (omega arith) (omega arith) r.0 in
-    omega arith
-
-word_same : (w v : ℕ) → w < 2 ^ 32 → v < 2 ^ 32 → word w ≡ word v → w ≡ v
-unfolding word
-word_same w v p q e = hex_same 8 w v (omega arith) (omega arith) e
 
 same_front : (a x y : List ℕ) → a ++ x ≡ a ++ y → x ≡ y
 same_front [] x y e = e

@@ -9,12 +9,12 @@ use Rattle.interleaving.specs.Stored.{Store, Hardware, written_in, stored_after,
 use Rattle.interleaving.proofs.Put.{same_or_not, put_same, put_other}
 use Rattle.interleaving.proofs.Replay.{confluence}
 
-get_set_same : {A : Type 0} (xs : List A) (i : ℕ) (x : A) → i < length xs → slice_get (slice_set xs i x) i ≡ Some x
+pub get_set_same : {A : Type 0} (xs : List A) (i : ℕ) (x : A) → i < length xs → slice_get (slice_set xs i x) i ≡ Some x
 get_set_same [] i x below = absurd (omega arith)
 get_set_same (y ∷ xs) zero x below = refl
 get_set_same (y ∷ xs) (suc i) x below = get_set_same xs i x (omega arith)
 
-get_set_other : {A : Type 0} (xs : List A) (i j : ℕ) (x : A) → i ≢ j → slice_get (slice_set xs i x) j ≡ slice_get xs j
+pub get_set_other : {A : Type 0} (xs : List A) (i j : ℕ) (x : A) → i ≢ j → slice_get (slice_set xs i x) j ≡ slice_get xs j
 get_set_other [] i j x ne = refl
 get_set_other (y ∷ xs) zero zero x ne = absurd (ne refl)
 get_set_other (y ∷ xs) zero (suc j) x ne = refl

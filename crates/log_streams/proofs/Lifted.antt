@@ -6,6 +6,7 @@ use Rattle.std.proofs.lemmas.List.{map-append, length-take-le, take-append-drop,
 use Rattle.std.proofs.lemmas.Bool.{cases_eq}
 use Rattle.std.proofs.lemmas.Option.{get_or_from_slice_get}
 use Rattle.std.proofs.Math.Seq.{drop-cons, take-suc}
+use Rattle.interleaving.proofs.Lists.{get_set_same, get_set_other}
 use Rattle.ft_types.specs.declared.guest.Guest.{Guest as GuestName}
 use Rattle.fragment_codec.specs.declared.frame.Frame.{Frame as LogFrame}
 use Rattle.fragment_codec.specs.declared.fault.FrameFault.{FrameFault}
@@ -172,18 +173,6 @@ joined_more guest streams stream old new frames own j says takes = record {
   say = say_more guest streams stream j.frames frames j.say (subst (λ (g : GuestName). Says g stream frames) own says);
   joined = come_more (nothing guest) old new j.frames frames j.joined takes.come;
 }
-
-get_set_same : {A : Type 0} (xs : List A) (i : ℕ) (x : A) → i < length xs → slice_get (slice_set xs i x) i ≡ Some x
-get_set_same [] i x below = absurd (omega arith)
-get_set_same (y ∷ xs) zero x below = refl
-get_set_same (y ∷ xs) (suc i) x below = get_set_same xs i x (omega arith)
-
-get_set_other : {A : Type 0} (xs : List A) (i j : ℕ) (x : A) → i ≢ j → slice_get (slice_set xs i x) j ≡ slice_get xs j
-get_set_other [] i j x ne = refl
-get_set_other (y ∷ xs) zero zero x ne = absurd (ne refl)
-get_set_other (y ∷ xs) zero (suc j) x ne = refl
-get_set_other (y ∷ xs) (suc i) zero x ne = refl
-get_set_other (y ∷ xs) (suc i) (suc j) x ne = get_set_other xs i j x (λ e. ne (ap suc e))
 
 count_set : {A : Type 0} (xs : List A) (i : ℕ) (x : A) → length (slice_set xs i x) ≡ length xs
 count_set [] i x = refl
