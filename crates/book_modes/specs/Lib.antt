@@ -4,3 +4,4 @@ pub mod Silences
 pub mod Hearings
 pub mod Recordings
 pub mod Obeying
+pub mod Words

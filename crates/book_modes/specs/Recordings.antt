@@ -1,5 +1,6 @@
 -- Books that record.
-use Rattle.std.specs.Prelude.{◌≡◌, ◌≢◌, ◌<◌, ◌≤◌, ◌↔◌, ℕ, zero, suc, Bool, true, false, List, [], ◌++◌, ◌∷◌, map, drop, replicate, length, slice_set, All, AllPairs, Contains, is_some, slice_get, Option, Some, None, option_map, if◌then◌else◌}
+use Rattle.std.specs.Prelude.{◌≡◌, ◌≢◌, ◌<◌, ◌≤◌, ◌↔◌, ℕ, zero, suc, Bool, true, false, List, [], ◌++◌, ◌∷◌, map, drop, replicate, length, slice_set, All}
+use Rattle.std.specs.Prelude.{AllPairs, Contains, is_some, slice_get, Option, Some, None, option_map, if◌then◌else◌}
 use Rattle.interleaving.specs.Machine.{Turn, steps}
 use Rattle.interleaving.specs.Log as theory
 use Rattle.interleaving.specs.Log.{Log, IsHonest}
@@ -238,7 +239,8 @@ pub record IsRecorded (r : RecordingView) (start machine : MachineState) (journa
   pub inputs : AreInputs (length start.harts) r.inputs r.due r.desk
   -- bells are heard in their turn
   pub heard :
-      KeepsBells start ledger.machine (steps (system (length start.pages)) (view (hardware (length start.pages)) start) ledger.journal) ledger.edges r.due r.desk
+      KeepsBells start ledger.machine (steps (system (length start.pages)) (view (hardware (length start.pages)) start) ledger.journal) ledger.edges r.due
+      r.desk
 
 -- the log of a book: its edges and inputs, from the start's counts to the machine's
 abbrev pub log_of : Edges → Heard → MachineState → MachineState → Log (List Input)

@@ -1,9 +1,8 @@
 //! What a hart's next step is given.
 
 ghost use Rattle.std.specs.Prelude.{◌≡◌, ◌≤◌, ◌<◌, ℕ, length};
-ghost use Rattle.smallvec.specs.SmallVec.{small_vec_len, HasRoomFor};
+ghost use Rattle.book_modes.specs.Words.{HasRoomFor, lent_with, small_vec_len};
 ghost use Rattle.book_modes.specs.Dues.{DueView, nothing_due, bell_edges, is_silent};
-ghost use Rattle.hart_lease.specs.OpenLeases.{lent_with};
 
 use edge_log::Edge;
 use ft_types::{Count, Hart};

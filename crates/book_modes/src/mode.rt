@@ -1,19 +1,16 @@
 //! What a book does with the log: a replaying one obeys it.
 
-ghost use Rattle.std.specs.Prelude.{◌≡◌, ◌<◌, ◌≤◌, ◌^◌, ◌↔◌, ℕ, All, Any, AllPairs, List, [], length, filter, slice_index, slice_get, Option, Some, ◌⊎◌, IsTrue, OnOk, OnErr, IfOk, IfSome};
-ghost use Rattle.ft_types.specs.Counts.{count_at};
+ghost use Rattle.std.specs.Prelude.{◌≡◌, ◌<◌, ◌≤◌, ◌^◌, ◌↔◌, ℕ, All, Any, AllPairs, List, [], length, filter, slice_index, slice_get, Option, Some, ◌⊎◌};
+ghost use Rattle.std.specs.Prelude.{IsTrue, OnOk, OnErr, IfOk, IfSome};
+ghost use Rattle.book_modes.specs.Words.{count_at, counts_of, edges_of, Heard, heard_in, IsHolder, IsMember, IsStop, LeaseView, LentView, MachineState};
+ghost use Rattle.book_modes.specs.Words.{MayGoTo, open_at, OpenView, stands_against, whole};
+ghost use Rattle.hart_lease.specs.OpenLeases.{right_of};
 ghost use Rattle.interleaving.specs.Log.{Edge as edge_of_theory, HasUnmet};
-ghost use Rattle.edge_log.specs.EdgeLog.{edges_of};
-ghost use Rattle.ft_types.specs.Sets.{IsMember};
 ghost use Rattle.smallvec.specs.SmallVec.{SmallVec as small_vec};
-ghost use Rattle.guest_image.specs.Machine.{MachineState};
 ghost use Rattle.book_modes.specs.declared.keep.Keep.{Keep as keep_told};
 ghost use Rattle.hart_lease.specs.declared.asked.Asked.{Asked as asked_for};
 ghost use Rattle.hart_lease.specs.declared.taken.Taken.{Taken as taken_since};
 ghost use Rattle.edge_log.specs.declared.Edge.{Edge as edge_found};
-ghost use Rattle.hart_lease.specs.OpenLeases.{OpenView, LentView, open_at, right_of, IsHolder, stands_against};
-ghost use Rattle.hart_lease.specs.Leases.{LeaseView, whole};
-ghost use Rattle.hart_lease.specs.Runs.{Heard, heard_in, counts_of, IsStop, MayGoTo};
 ghost use Rattle.book_modes.specs.Obeying.{GoesOut, EachHears};
 ghost use Rattle.book_modes.specs.Modes.{Fact, IsAsking, IsGiven, IsSettling, IsEnding, KeepsLending, KeepsGiving, KeepsSettling, SettlesHeard, KeepsEnding};
 
@@ -136,7 +133,8 @@ pub trait Mode: Drop {
         ensures stops { stops self.new ≡ stops self.old }
         ensures obeyed { obeyed self.new ≡ obeyed self.old }
         ensures heard { heard self.new ≡ heard self.old }
-        ensures kept { (found : List edge_found) → owes self.old (count_at settled.now) asked.now found → KeepsGiving (keeps self.old) (is_holder self.old) (keeps self.new) settled.now asked.now found };
+        ensures kept { (found : List edge_found) → owes self.old (count_at settled.now) asked.now found → KeepsGiving (keeps self.old) (is_holder self.old)
+            (keeps self.new) settled.now asked.now found };
 
     /// Takes in what a lease that comes back tells, and what its hart keeps of its rights.
     fn settle(&mut self, lease: &Lease, keep: Keep) -> Result<(), Memory>

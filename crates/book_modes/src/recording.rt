@@ -1,23 +1,18 @@
 //! Books that record: who has which right to each page, and the edges found.
 
-ghost use Rattle.std.specs.Prelude.{◌≡◌, ◌<◌, ◌≤◌, ◌^◌, ◌↔◌, ℕ, All, AllPairs, Contains, List, [], map, length, slice_index, slice_get, Some, IsTrue, IfOk, OnOk, OnErr, true, false, replicate};
-ghost use Rattle.ft_types.specs.Counts.{count_at, greater};
-ghost use Rattle.ft_types.specs.Sets.{IsMember};
-ghost use Rattle.edge_log.specs.EdgeLog.{edge_as};
+ghost use Rattle.std.specs.Prelude.{◌≡◌, ◌<◌, ◌≤◌, ◌^◌, ◌↔◌, ℕ, All, AllPairs, Contains, List, [], map, length, slice_index, slice_get, Some, IsTrue, IfOk};
+ghost use Rattle.std.specs.Prelude.{OnOk, OnErr, true, false, replicate};
+ghost use Rattle.book_modes.specs.Words.{count_at, counts_of, edge_as, give_up, given, greater, has_taken, holds, inputs_of, is_bell, IsFree, IsInputOf};
+ghost use Rattle.book_modes.specs.Words.{IsMember, IsOwed, kept, owns, Queues, unused, whole};
+ghost use Rattle.crew_pages.specs.Rights.{right_of};
 ghost use Rattle.edge_log.specs.declared.Edge.{Edge as edge_found};
-ghost use Rattle.crew_pages.specs.Rights.{right_of, unused, holds, owns, IsFree, given, give_up, IsOwed};
-ghost use Rattle.lease_ledger.specs.Calls.{kept};
 ghost use Rattle.input_log.specs.declared.Input.{Input as input_of_specs};
 ghost use Rattle.input_log.specs.declared.WaitingBell.{WaitingBell as bell_of_specs};
-ghost use Rattle.input_log.specs.Waiting.{Queues};
-ghost use Rattle.hart_lease.specs.Leases.{whole};
 ghost use Rattle.book_modes.specs.Modes.{IsSettling};
-ghost use Rattle.hart_lease.specs.OpenLeases.{has_taken};
-ghost use Rattle.input_log.specs.Inputs.{IsInputOf, is_bell, inputs_of};
 ghost use Rattle.book_modes.specs.Dues.{nothing_due, due_at, is_silent, stop_before};
 ghost use Rattle.rv32_hart.specs.Hart.{Hart as HartRecord};
-ghost use Rattle.hart_lease.specs.Runs.{counts_of};
-ghost use Rattle.book_modes.specs.Recordings.{RecordingView, IsUnused, IsRecorded, heard_by, IsFilled, GoesOut, IsOffered, LogsInputs, due_after, AreLogged, PutsBell, IsTaker, AreOwed, IsGiven, IsSettled, IsEnded, keep_as, right_at, right_met, yielded};
+ghost use Rattle.book_modes.specs.Recordings.{RecordingView, IsUnused, IsRecorded, heard_by, IsFilled, GoesOut, IsOffered, LogsInputs, due_after, AreLogged};
+ghost use Rattle.book_modes.specs.Recordings.{PutsBell, IsTaker, AreOwed, IsGiven, IsSettled, IsEnded, keep_as, right_at, right_met, yielded};
 
 use crate::due::Due;
 use crate::keep::Keep;
@@ -212,7 +207,8 @@ impl Recording {
 
     /// Strikes them out again.
     fn strike_inputs(&mut self, lease: &Lease)
-        ensures { (before : List (List (ℕ × input_of_specs))) → LogsInputs lease.now.steps before lease.now self.old.inputs → self.new ≡ record self.old { inputs = before } }
+        ensures { (before : List (List (ℕ × input_of_specs))) → LogsInputs lease.now.steps before lease.now self.old.inputs →
+            self.new ≡ record self.old { inputs = before } }
     {
         if lease.steps() > 0 {
             self.inputs.take_back(lease.hart(), lease.inputs().len());
@@ -242,7 +238,8 @@ impl Recording {
 
     /// Writes down the inputs and the edges of a lease that comes back: both or neither.
     fn log(&mut self, lease: &Lease) -> Result<(), Memory>
-        requires settles { (earlier : List (ℕ × ℕ)) × (r : RecordingView) × IsSettling (IsRecorded r) (whole earlier lease.now) × (self.old ≡ record r { desk = self.old.desk }) }
+        requires settles { (earlier : List (ℕ × ℕ)) × (r : RecordingView) × IsSettling (IsRecorded r) (whole earlier lease.now) ×
+            (self.old ≡ record r { desk = self.old.desk }) }
         ensures inputs { OnOk result (LogsInputs lease.now.steps self.old.inputs lease.now self.new.inputs) }
         ensures edges { OnOk result (AreLogged self.old.edges lease.now.edges self.new.edges) }
         ensures rest { self.new ≡ record self.old { inputs = self.new.inputs; edges = self.new.edges } }
@@ -262,7 +259,8 @@ impl Recording {
     fn keep_rights(&mut self, hart: Hart, count: Count, keep: Keep)
         ensures rest { self.new ≡ record self.old { rights = self.new.rights } }
         ensures many { length self.new.rights ≡ length self.old.rights }
-        ensures rights { (page : ℕ) → page < length self.old.rights → right_at self.new.rights page ≡ kept (keep_as keep) (right_at self.old.rights page) hart count }
+        ensures rights { (page : ℕ) → page < length self.old.rights → right_at self.new.rights page ≡ kept (keep_as keep) (right_at self.old.rights page) hart
+            count }
     {
         for page in 0..self.rights.len() {
             self.rights[page] = right_kept(self.rights[page], hart, count, keep);
@@ -313,7 +311,8 @@ impl Recording {
         requires count { asked.now.count < 2 ^ 48 }
         requires free { IsFree (right_met self.now (count_at settled.now) asked.now) asked.now.hart asked.now.want }
         ensures right { right_of result.0 ≡ given (right_met self.now (count_at settled.now) asked.now) asked.now.hart asked.now.want asked.now.count }
-        ensures edges { (e : edge_found) → Contains result.1.items e ↔ IsOwed (right_met self.now (count_at settled.now) asked.now) asked.now.hart asked.now.want asked.now.count (edge_as e) }
+        ensures edges { (e : edge_found) → Contains result.1.items e ↔ IsOwed (right_met self.now (count_at settled.now) asked.now) asked.now.hart
+            asked.now.want asked.now.count (edge_as e) }
         ensures rising { AllPairs (λ a b. a.other < b.other) result.1.items }
     {
         let mut counts = *settled;

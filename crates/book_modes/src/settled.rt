@@ -1,8 +1,7 @@
 //! How many steps the harts of a machine have taken.
 
 ghost use Rattle.std.specs.Prelude.{◌≡◌, ◌<◌, ◌≤◌, ◌^◌, ℕ, length, slice_index};
-ghost use Rattle.ft_types.specs.Counts.{count_at};
-ghost use Rattle.hart_lease.specs.Runs.{counts_of};
+ghost use Rattle.book_modes.specs.Words.{count_at, counts_of};
 
 use ft_types::{Count, Counts, Hart};
 use guest_image::Machine;

@@ -1,5 +1,6 @@
 -- Sound terms, and the line that leads to one.
-use Rattle.std.proofs.Common.{◌≡◌, ◌↔◌, ◌⊎◌, inl, inr, ℕ, zero, suc, ◌+◌, ◌-◌, ◌<◌, ◌≤◌, List, [], ◌∷◌, ◌++◌, All, Contains, length, get_or, refl, sym, ap, subst, ◌∙◌, arith, le_refl, Bool, true, false, cond, ◌==◌, le-ltb, Result, Ok, Err, IfOk, slice_get, unwrap_or, drop, replicate}
+use Rattle.std.proofs.Common.{◌≡◌, ◌↔◌, ◌⊎◌, inl, inr, ℕ, zero, suc, ◌+◌, ◌-◌, ◌<◌, ◌≤◌, List, [], ◌∷◌, ◌++◌, All, Contains, length, get_or, refl, sym, ap}
+use Rattle.std.proofs.Common.{subst, ◌∙◌, arith, le_refl, Bool, true, false, cond, ◌==◌, le-ltb, Result, Ok, Err, IfOk, slice_get, unwrap_or, drop, replicate}
 use Rattle.std.specs.List.Sorted.{IsStrictlySortedBy, IsNonDecreasing, IsBinarySearchResult}
 use Rattle.std.specs.Ordering.{nat_cmp}
 use Rattle.std.specs.declared.cmp.Ordering.TheVariants.{Less, Equal, Greater}
@@ -116,7 +117,11 @@ module _ (store : StoreView) (terms : List ℕ) (are : AreTerms store terms) whe
   module _ (sound : List ℕ) (index : ℕ) (less : index < length terms) (first : AreFirst store terms sound index) where
     pub comes_after : ComesAfter store sound (get_or terms index 0)
     comes_after t = (
-      (λ has. (All-contains (λ t. t < get_or terms index 0) sound t (first.below index (le_refl index) less) has, All-contains (Sound store) sound t first.among has)),
+      (λ has. (
+        All-contains (λ t. t < get_or terms index 0) sound t (first.below index (le_refl index) less) has,
+        All-contains (Sound store) sound t first.among
+            has,
+      )),
       (λ both.
           let (k, below, is) = place_of t both.1 in
           elim (cases_lt k index) [
@@ -149,7 +154,8 @@ module _ (store : StoreView) (terms : List ℕ) (are : AreTerms store terms) whe
         record {
           rising =
               IsNonDecreasingBy-push (λ x. x) sound term first.rising
-              (λ d some. let l : get_or sound (length sound - 1) d < get_or terms index 0 = first.below index (le_refl index) less (length sound - 1) d (omega arith) in omega arith);
+              (λ d some. let l : get_or sound (length sound - 1) d < get_or terms index 0 = first.below index (le_refl index) less (length sound - 1) d
+              (omega arith) in omega arith);
           among = All-push (Sound store) sound term first.among is;
           below =
               λ k le under.
@@ -161,7 +167,8 @@ module _ (store : StoreView) (terms : List ℕ) (are : AreTerms store terms) whe
                 | inl before ↦ Contains-append_left sound (term ∷ []) (get_or terms k 0) (first.has k before at)
                 | inr behind ↦
                     let same : index ≡ k = omega arith in
-                    subst (Contains (sound ++ term ∷ [])) (here_is ∙ ap (λ n. get_or terms n 0) same) (Contains-append_right sound (term ∷ []) term (here term []))
+                    subst (Contains (sound ++ term ∷ [])) (here_is ∙ ap (λ n. get_or terms n 0) same) (Contains-append_right sound (term ∷ []) term
+                    (here term []))
               ];
         }
 
@@ -176,7 +183,8 @@ module _ (store : StoreView) (terms : List ℕ) (are : AreTerms store terms) whe
       }
 
 -- the sound terms of a chain: whoever leads to a sound term is sound
-pub leads_sound : (store : StoreView) (term : ℕ) (rest : List ℕ) (top : ℕ) → 0 < term → IsStore store → LeadsTo store term rest top → Sound store top → Sound store term
+pub leads_sound : (store : StoreView) (term : ℕ) (rest : List ℕ) (top : ℕ) → 0 < term → IsStore store → LeadsTo store term rest top → Sound store top →
+    Sound store term
 leads_sound store term [] top some rules same sound = subst (Sound store) (sym same) sound
 leads_sound store term (next ∷ rest) top some rules (parent, on) sound =
     let above = term_above store next parent.opening rules parent.opens in
@@ -220,7 +228,8 @@ chain_is store (x ∷ rest) top (inl none) (parent, on) = absurd (none.1 x (Root
 
 -- ---- walks along a chain
 
-pub chain_up : (store : StoreView) (term : ℕ) (o : OpeningParts) → opening_at store term ≡ One o → {top : ℕ} → InChain store term top → InChain store o.parent top
+pub chain_up : (store : StoreView) (term : ℕ) (o : OpeningParts) → opening_at store term ≡ One o → {top : ℕ} → InChain store term top →
+    InChain store o.parent top
 chain_up store term o one (Self e) = Up o (ap (opening_at store) e ∙ one) (Self refl)
 chain_up store term o one (Up p two chain) = Up p two (chain_up store term o one chain)
 

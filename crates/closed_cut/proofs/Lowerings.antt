@@ -1,5 +1,6 @@
 -- Lowering counts by edges, until they are closed.
-use Rattle.std.proofs.Common.{◌≡◌, inl, inr, ℕ, ◌+◌, ◌-◌, ◌<◌, ◌≤◌, List, Contains, map, set, length, get_or, refl, sym, ap, subst, arith, le_refl, le_trans, ◌∙◌, length-set, get_or-set_same, get_or-set_other}
+use Rattle.std.proofs.Common.{◌≡◌, inl, inr, ℕ, ◌+◌, ◌-◌, ◌<◌, ◌≤◌, List, Contains, map, set, length, get_or, refl, sym, ap, subst, arith, le_refl, le_trans}
+use Rattle.std.proofs.Common.{◌∙◌, length-set, get_or-set_same, get_or-set_other}
 use Rattle.std.specs.List.{AllWithin}
 use Rattle.std.specs.List.Sorted.{IsPermutation, IsNonDecreasingBy}
 use Rattle.std.proofs.lemmas.Bool.{cases_lt, cases_eq}
@@ -27,8 +28,12 @@ lowered_on edges a b c ab bc =
     }
 
 pub contains_map : (edges : List Edge) (e : Edge) → Contains edges e → Contains (map edge_as edges) (edge_as e)
-contains_map edges e (k, below, is) =
-    (k, (let l : length (map edge_as edges) ≡ length edges = length-map edges edge_as in omega arith), get_or-map edge_as edges k e (edge_as e) below ∙ ap edge_as is)
+contains_map edges e (k, below, is) = (
+  k,
+  (let l : length (map edge_as edges) ≡ length edges = length-map edges edge_as in omega arith),
+  get_or-map edge_as edges k e (edge_as e) below ∙
+      ap edge_as is,
+)
 
 -- an edge of the theory's list, with its place
 pub record Found (edges : List Edge) (x : EdgeOfTheory) : Type 0 where
@@ -156,7 +161,8 @@ closed_after edges ends cut are limit stopped met x is_edge below =
       | inr behind ↦
           let stop : (get_or edges f.place f.edge).other ≡ f.edge.other → count_at cut (get_or edges f.place f.edge).hart ≤ (get_or edges f.place f.edge).at =
           stopped f.edge.other (omega (arith, own.other, limit)) f.place f.edge behind f.below in
-          let s : count_at cut f.edge.hart ≤ f.edge.at = subst (λ (e : Edge). count_at cut e.hart ≤ e.at) (sym f.here) (stop (sym (ap (λ (e : Edge). e.other) f.here))) in
+          let s : count_at cut f.edge.hart ≤ f.edge.at = subst (λ (e : Edge). count_at cut e.hart ≤ e.at) (sym f.here)
+          (stop (sym (ap (λ (e : Edge). e.other) f.here))) in
           let l : f.edge.at < count_at cut f.edge.hart = subst (λ (x : EdgeOfTheory). x.step < count_at cut x.hart) (sym f.is) below in
           absurd (omega arith)
     ])

@@ -1,5 +1,6 @@
 -- What the walks over all harts of a term gather, and the greatest closed cut that it gives.
-use Rattle.std.proofs.Common.{◌≡◌, inl, inr, ℕ, zero, suc, ◌+◌, ◌<◌, ◌≤◌, min, List, [], ◌∷◌, ◌++◌, Contains, map, set, length, get_or, Option, Some, None, MatchOption, ◌↔◌, refl, sym, ap, subst, ◌∙◌, arith, add-one, length-set, get_or-set_same, get_or-set_other}
+use Rattle.std.proofs.Common.{◌≡◌, inl, inr, ℕ, zero, suc, ◌+◌, ◌<◌, ◌≤◌, min, List, [], ◌∷◌, ◌++◌, Contains, map, set, length, get_or, Option, Some, None}
+use Rattle.std.proofs.Common.{MatchOption, ◌↔◌, refl, sym, ap, subst, ◌∙◌, arith, add-one, length-set, get_or-set_same, get_or-set_other}
 use Rattle.std.specs.List.{filter_map, AllByRecursion}
 use Rattle.std.proofs.lemmas.Bool.{cases_lt, cases_eq}
 use Rattle.std.proofs.lemmas.List.Elements.{Contains-append_cases, Contains-append_left, Contains-append_right, Contains-get_or}
@@ -103,7 +104,15 @@ of_all pieces places (suc n) e f =
     elim (cases_lt f.hart n) [
       | inl before ↦
           Contains-append_left (all_edges pieces places n) (hart_edges (pieces n) (places n)) e
-          (of_all pieces places n e (record { hart = f.hart; place = f.place; piece = f.piece; below = before; gone_over = f.gone_over; one = f.one; has = f.has }))
+          (of_all pieces places n e (record {
+            hart = f.hart;
+            place = f.place;
+            piece = f.piece;
+            below = before;
+            gone_over = f.gone_over;
+            one = f.one;
+            has = f.has;
+          }))
       | inr last ↦
           let k : f.hart ≡ n = omega arith in
           Contains-append_right (all_edges pieces places n) (hart_edges (pieces n) (places n)) e
@@ -212,7 +221,8 @@ above_base base (Some limit) within = within limit refl
 
 -- ---- what is reached
 
-record_of_edge : (P : Record → Type 0) (records : List Record) (e : Edge) → AllByRecursion P records → Contains (filter_map edge_in records) e → P (EdgeRecord e)
+record_of_edge : (P : Record → Type 0) (records : List Record) (e : Edge) → AllByRecursion P records → Contains (filter_map edge_in records) e →
+    P (EdgeRecord e)
 record_of_edge P [] e all (k, below, is) = absurd (omega arith)
 record_of_edge P (EdgeRecord edge ∷ records) e all has =
     elim (here_or_later edge (filter_map edge_in records) e has) [
@@ -275,7 +285,8 @@ module _ (store : StoreView) (rules : IsStore store) (term : ℕ) (base bound : 
       let e = found edges x has in
       let f = from_piece e.edge (e.place, e.below, sym e.here) in
       let o = own f.hart f.place f.piece e.edge f.one f.has in
-      let (y, goes, one) = cut_short (pieces f.hart) (count_at base f.hart) (gathered.places f.hart) f.place (count_at bound f.hart) (gathered.goes f.hart) f.gone_over in
+      let (y, goes, one) = cut_short (pieces f.hart) (count_at base f.hart) (gathered.places f.hart) f.place (count_at bound f.hart) (gathered.goes f.hart)
+      f.gone_over in
       let from : count_at base f.hart ≤ y.from = goes_above (pieces f.hart) (count_at base f.hart) (rises f.hart) f.place y.from goes in
       let same : y.from ≡ f.piece.from = ap (λ x. x.from) (one_same one f.one) in
       let late : f.piece.from ≤ e.edge.at = o.2 in
@@ -284,7 +295,8 @@ module _ (store : StoreView) (rules : IsStore store) (term : ℕ) (base bound : 
       absurd (omega arith)
 
   -- the theory's edges of a piece that was gone over are among those gathered
-  among : (h place : ℕ) (x : FragmentParts) (e : EdgeOfTheory) → place < gathered.places h → pieces h place ≡ One x → Contains (edges_of x) e → Contains (map edge_as edges) e
+  among : (h place : ℕ) (x : FragmentParts) (e : EdgeOfTheory) → place < gathered.places h → pieces h place ≡ One x → Contains (edges_of x) e →
+      Contains (map edge_as edges) e
   among h place x e less one has =
       let f = found (filter_map edge_in x.records) e has in
       let is_in : Contains (filter_map edge_in x.records) f.edge = (f.place, f.below, sym f.here) in
@@ -292,7 +304,15 @@ module _ (store : StoreView) (rules : IsStore store) (term : ℕ) (base bound : 
       subst (Contains (map edge_as edges)) f.is
       (contains_map edges f.edge
       (subst (λ l. Contains l f.edge) (sym gathered.edges_are)
-      (of_all pieces gathered.places (length base) f.edge (record { hart = h; place = place; piece = x; below = o.3; gone_over = less; one = one; has = is_in }))))
+      (of_all pieces gathered.places (length base) f.edge (record {
+        hart = h;
+        place = place;
+        piece = x;
+        below = o.3;
+        gone_over = less;
+        one = one;
+        has = is_in;
+      }))))
 
   -- and there are no others
   of_piece : (e : EdgeOfTheory) → Contains (map edge_as edges) e →

@@ -1,5 +1,6 @@
 -- Each history of a page is ordered.
-use Rattle.std.proofs.Common.{◌≡◌, ◌≢◌, ◌⊎◌, inl, inr, ℕ, zero, suc, ◌+◌, ◌<◌, ◌≤◌, Bool, true, false, List, [], ◌∷◌, ◌++◌, Contains, refl, sym, ap, subst, ◌∙◌, arith, le_trans, le_refl, le_of_eq, true≢false}
+use Rattle.std.proofs.Common.{◌≡◌, ◌≢◌, ◌⊎◌, inl, inr, ℕ, zero, suc, ◌+◌, ◌<◌, ◌≤◌, Bool, true, false, List, [], ◌∷◌, ◌++◌, Contains, refl, sym, ap, subst}
+use Rattle.std.proofs.Common.{◌∙◌, arith, le_trans, le_refl, le_of_eq, true≢false}
 use Rattle.std.proofs.lemmas.List.Elements.{Contains-append_cases, Contains-append_left, Contains-append_right}
 use Rattle.ft_types.specs.declared.names.Want.{Want}
 use Rattle.interleaving.specs.Lists.{EachPair}
@@ -8,7 +9,8 @@ use Rattle.interleaving.proofs.Each.{pairs_append, pairs_more}
 use Rattle.interleaving.proofs.Put.{bump_le, bump_same}
 use Rattle.crew_pages.specs.Rights.{holds, owns, IsFree, IsOwed}
 use Rattle.crew_pages.specs.Page.{at_of, IsAmong, IsRight}
-use Rattle.crew_pages.specs.Histories.{Deed, History, next, begin, asked, stepped, Reached, Begun, Asked, Elsewhere, Reads, Writes, GaveUp, Lowered, Conflict, KeepsOrder}
+use Rattle.crew_pages.specs.Histories.{Deed, History, next, begin, asked, stepped, Reached, Begun, Asked, Elsewhere, Reads, Writes, GaveUp, Lowered, Conflict}
+use Rattle.crew_pages.specs.Histories.{KeepsOrder}
 use Rattle.crew_pages.proofs.Page.{before_more, owns_holds, begins_ok, right_more, give_up_ok, lower_ok, given_ok, owes_settled, right_before}
 
 abbrev Wrote : List Deed → Place → Type 0

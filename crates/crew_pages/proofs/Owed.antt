@@ -1,5 +1,6 @@
 -- The edges that an asker owes, hart by hart.
-use Rattle.std.proofs.Common.{◌≡◌, ◌≢◌, ◌↔◌, inl, inr, ℕ, ◌+◌, ◌<◌, ◌≤◌, Bool, true, false, List, [], ◌∷◌, ◌++◌, length, get_or, Option, Some, None, All, AllPairs, Contains, not, ◌==◌, eq-eqb, ne_eqb, refl, sym, ap, subst, ◌∙◌, arith, true≢false}
+use Rattle.std.proofs.Common.{◌≡◌, ◌≢◌, ◌↔◌, inl, inr, ℕ, ◌+◌, ◌<◌, ◌≤◌, Bool, true, false, List, [], ◌∷◌, ◌++◌, length, get_or, Option, Some, None, All}
+use Rattle.std.proofs.Common.{AllPairs, Contains, not, ◌==◌, eq-eqb, ne_eqb, refl, sym, ap, subst, ◌∙◌, arith, true≢false}
 use Rattle.std.proofs.lemmas.Bool.{cases_lt, cases_eq}
 use Rattle.std.proofs.lemmas.List.Elements.{All-push, Contains-append_cases, Contains-append_left, Contains-append_right}
 use Rattle.std.proofs.lemmas.List.{length_push}
@@ -73,7 +74,8 @@ module _ (r : Right) (h : ℕ) (want : Want) (at : ℕ) (n : ℕ) (xs : List Edg
     one_rises below rising = all_pairs_push (λ a b. a.other < b.other) xs e rising (λ k d l. below k d l)
 
     pub one_below : All (λ x. x.other < n) xs → All (λ x. x.other < n + 1) (xs ++ e ∷ [])
-    one_below below = All-push (λ x. x.other < n + 1) xs e (λ k d l. let b : (get_or xs k d).other < n = below k d l in omega arith) (let l : n < n + 1 = omega arith in l)
+    one_below below = All-push (λ x. x.other < n + 1) xs e (λ k d l. let b : (get_or xs k d).other < n = below k d l in omega arith)
+        (let l : n < n + 1 = omega arith in l)
 
 -- what a loop over the first n harts has found so far
 pub record SoFar (r : Right) (h : ℕ) (want : Want) (at n : ℕ) (v : SmallVec Edge) : Type 0 where

@@ -1,5 +1,6 @@
 -- One page's right, and how it covers the settled steps that used the page.
-use Rattle.std.proofs.Common.{◌≡◌, ◌≢◌, ◌⊎◌, inl, inr, ℕ, ◌==◌, nat_lt, max, ◌<◌, ◌≤◌, Bool, true, false, if◌then◌else◌, List, Option, Some, None, Contains, refl, sym, ap, subst, ◌∙◌, arith, le_trans, eq-eqb, eqb-true, true≢false, le_refl}
+use Rattle.std.proofs.Common.{◌≡◌, ◌≢◌, ◌⊎◌, inl, inr, ℕ, ◌==◌, nat_lt, max, ◌<◌, ◌≤◌, Bool, true, false, if◌then◌else◌, List, Option, Some, None, Contains}
+use Rattle.std.proofs.Common.{refl, sym, ap, subst, ◌∙◌, arith, le_trans, eq-eqb, eqb-true, true≢false, le_refl}
 use Rattle.std.proofs.lemmas.Bool.{ltb-true, ltb-false, ne_eqb}
 use Rattle.ft_types.specs.declared.names.Want.{Want}
 use Rattle.ft_types.specs.declared.names.Want.TheVariants.{Read, Write}
@@ -7,7 +8,8 @@ use Rattle.interleaving.specs.Lists.{put}
 use Rattle.interleaving.specs.Log.{Edge, Place, Before, Own, Across, Through}
 use Rattle.interleaving.proofs.Put.{same_or_not, put_same, put_other}
 use Rattle.crew_pages.specs.declared.right.LastWriter.{LastWriter}
-use Rattle.crew_pages.specs.Rights.{Right, Shared, Exclusive, unused, nobody, holds, owns, IsFree, has_it, count_of, greater, after_count, IsOwed, given, give_up, lower}
+use Rattle.crew_pages.specs.Rights.{Right, Shared, Exclusive, unused, nobody, holds, owns, IsFree, has_it, count_of, greater, after_count, IsOwed, given}
+use Rattle.crew_pages.specs.Rights.{give_up, lower}
 use Rattle.crew_pages.specs.Page.{since_of, at_of, IsAmong, Knows, Upto, Covered, LeftBy, OwnerKnows, IsRight}
 
 pub before_more : (edges more : List Edge) → IsAmong edges more → {a b : Place} → Before edges a b → Before more a b
@@ -19,7 +21,8 @@ pub knows_more : (edges more : List Edge) → IsAmong edges more → (h n k g m 
 knows_more edges more some h n k g m le s =
     record { edge = s.edge; is_edge = some s.edge s.is_edge; hart = s.hart; step = le_trans s.step le; other = s.other; count = s.count }
 
-pub knows_before : (edges : List Edge) (h n g m k : ℕ) → Knows edges h n g m → k < m → {a : Place} → a.hart ≡ g → a.step ≡ k → {b : Place} → b.hart ≡ h → n ≤ b.step → Before edges a b
+pub knows_before : (edges : List Edge) (h n g m k : ℕ) → Knows edges h n g m → k < m → {a : Place} → a.hart ≡ g → a.step ≡ k → {b : Place} → b.hart ≡ h →
+    n ≤ b.step → Before edges a b
 knows_before edges h n g m k s less is_hart is_step hart le =
     let c : m ≤ s.edge.count = s.count in
     let d : s.edge.step ≤ n = s.step in
@@ -65,7 +68,8 @@ module _ (crew : ℕ) (edges : List Edge) (settled : ℕ → ℕ) (own : ℕ →
   -- more edges, higher counts, and more steps of harts that hold the right
   pub right_more : (more : List Edge) (settled₁ : ℕ → ℕ) (own₁ : ℕ → List Edge) (now₁ late₁ : ℕ → ℕ) (W₁ T₁ : Place → Type 0) (r : Right) →
       IsRight crew edges settled own now late W T r → IsAmong edges more → ((h : ℕ) → settled h ≤ settled₁ h) →
-      ((h : ℕ) → holds r h ≡ true → IsAmong (own h) (own₁ h)) → ((h : ℕ) → holds r h ≡ true → now h ≤ now₁ h) → ((h : ℕ) → holds r h ≡ true → late h ≤ late₁ h) →
+      ((h : ℕ) → holds r h ≡ true → IsAmong (own h) (own₁ h)) → ((h : ℕ) → holds r h ≡ true → now h ≤ now₁ h) → ((h : ℕ) → holds r h ≡ true →
+      late h ≤ late₁ h) →
       ((a : Place) → W₁ a → W a ⊎ ((owns r a.hart ≡ true) × (at_of r ≤ a.step))) → ((a : Place) → T₁ a → T a ⊎ (holds r a.hart ≡ true)) →
       IsRight crew more settled₁ own₁ now₁ late₁ W₁ T₁ r
   right_more more settled₁ own₁ now₁ late₁ W₁ T₁ r ok some le some_own le_now le_late new_w new_t =
@@ -91,7 +95,18 @@ module _ (crew : ℕ) (edges : List Edge) (settled : ℕ → ℕ) (own : ℕ →
       }
     where
       covered : (a : Place) → Covered edges (since_of r) a → Covered more (since_of r) a
-      covered a c = record { writer = c.writer; is = c.is; upto = elim c.upto [ inl x ↦ inl x | inr (k, less, b) ↦ inr (k, less, before_more edges more some b) ] }
+      covered a c = record {
+        writer = c.writer;
+        is = c.is;
+        upto = elim c.upto [
+          | inl x ↦ inl x
+          | inr (k, less, b) ↦ inr (
+            k,
+            less,
+            before_more edges more some b,
+          )
+        ];
+      }
 
   abbrev IsOk : Right → Type 0
   IsOk r = IsRight crew edges settled own now late W T r
@@ -163,7 +178,10 @@ module _ (crew : ℕ) (edges : List Edge) (settled : ℕ → ℕ) (own : ℕ →
                     ])
               ];
           holders = λ g is. subst (λ g. g < crew) (only g is) (ok.holders h (eq-eqb h h refl));
-          since = λ w is. let e : last ≡ w = cc in subst (λ w. (w.hart < crew) × (w.count ≤ settled w.hart)) e (ok.holders h (eq-eqb h h refl), le_refl (settled h));
+          since = λ w is. let e : last ≡ w = cc in subst (λ w. (w.hart < crew) × (w.count ≤ settled w.hart)) e (
+            ok.holders h (eq-eqb h h refl),
+            le_refl (settled h),
+          );
           left = λ g m is. absurd (cc);
           reader = λ g is w since ne. let e : last ≡ w = cc in absurd (ne (sym (ap (λ w. w.hart) e) ∙ only g is));
           owner = λ g is. absurd (true≢false (sym is));
@@ -251,7 +269,8 @@ module _ (crew : ℕ) (edges : List Edge) (settled : ℕ → ℕ) (own : ℕ →
             else Shared since (λ other. false) (put left h (Some (settled h))))
         go true e = used at since left ok (ltb-true at (settled h) e) (λ g. false) (λ g is. absurd (true≢false (sym is)))
         go false e =
-            idle at since left ok (ltb-false at (settled h) e) (λ g. false) (λ g is. absurd (true≢false (sym is))) (λ g is. absurd (true≢false (sym is))) (put left h (Some (settled h)))
+            idle at since left ok (ltb-false at (settled h) e) (λ g. false) (λ g is. absurd (true≢false (sym is))) (λ g is. absurd (true≢false (sym is)))
+            (put left h (Some (settled h)))
             (λ g m ne is. put_other left h g (Some (settled h)) ne ∙ is)
             (λ g m is.
             elim (same_or_not h g) [
@@ -304,7 +323,8 @@ greater_right (Some x) (Some y) m is = let e : y ≡ m = cc in (max x y, refl, o
 pub knows_less : (edges : List Edge) (h n g m k : ℕ) → m ≤ k → Knows edges h n g k → Knows edges h n g m
 knows_less edges h n g m k le s = record { edge = s.edge; is_edge = s.is_edge; hart = s.hart; step = s.step; other = s.other; count = le_trans le s.count }
 
-pub count_of_le : (since : Option LastWriter) (bound g m : ℕ) → ((w : LastWriter) → since ≡ Some w → w.hart ≡ g → w.count ≤ bound) → count_of since g ≡ Some m → m ≤ bound
+pub count_of_le : (since : Option LastWriter) (bound g m : ℕ) → ((w : LastWriter) → since ≡ Some w → w.hart ≡ g → w.count ≤ bound) → count_of since g ≡ Some m →
+    m ≤ bound
 count_of_le None bound g m le is = absurd (cc)
 count_of_le (Some w) bound g m le is = go (w.hart == g) refl is
   where
@@ -336,7 +356,14 @@ knows_by : (edges : List Edge) (r : Right) (h : ℕ) (want : Want) (n g m : ℕ)
 knows_by edges r h want n g m lacks is ne small owed =
     record {
       edge = record { hart = h; step = n; other = g; count = m };
-      is_edge = owed (record { hart = h; step = n; other = g; count = m }) (record { lacks = lacks; own = refl; at = refl; other = ne; is_hart = small; after = is });
+      is_edge = owed (record { hart = h; step = n; other = g; count = m }) (record {
+        lacks = lacks;
+        own = refl;
+        at = refl;
+        other = ne;
+        is_hart = small;
+        after = is;
+      });
       hart = refl;
       step = le_refl n;
       other = refl;
@@ -352,7 +379,8 @@ module _ (crew : ℕ) (edges : List Edge) (settled : ℕ → ℕ) (own : ℕ →
       (λ k e. count_of_le since (settled g) g k (λ w e same. subst (λ g. w.count ≤ settled g) same (ok.since w e).1) e) (λ k e. (ok.left g k e).1) is
   after_le (Exclusive owner at since left) ok want g m is = absurd (cc)
 
-  read_ok : (since : Option LastWriter) (readers : ℕ → Bool) (left : ℕ → Option ℕ) (h : ℕ) → IsRight crew edges settled own now late W T (Shared since readers left) →
+  read_ok : (since : Option LastWriter) (readers : ℕ → Bool) (left : ℕ → Option ℕ) (h : ℕ) → IsRight crew edges settled own now late W T
+      (Shared since readers left) →
       h < crew → ((w : LastWriter) → since ≡ Some w → w.hart ≢ h → Knows (own h) h (now h) w.hart w.count) →
       IsRight crew edges settled own now late W T (Shared since (put readers h true) left)
   read_ok since readers left h ok below knows =
@@ -377,7 +405,8 @@ module _ (crew : ℕ) (edges : List Edge) (settled : ℕ → ℕ) (own : ℕ →
       was : (g : ℕ) → put readers h true g ≡ true → (h ≡ g) ⊎ (readers g ≡ true)
       was g is = elim (same_or_not h g) [ inl same ↦ inl same | inr ne ↦ inr (sym (put_other readers h g true ne) ∙ is) ]
 
-  write_ok : (since : Option LastWriter) (readers : ℕ → Bool) (left : ℕ → Option ℕ) (h n : ℕ) → IsRight crew edges settled own now late W T (Shared since readers left) →
+  write_ok : (since : Option LastWriter) (readers : ℕ → Bool) (left : ℕ → Option ℕ) (h n : ℕ) → IsRight crew edges settled own now late W T
+      (Shared since readers left) →
       h < crew → n ≤ late h → ((g : ℕ) → readers g ≡ true → h ≡ g) →
       ((w : LastWriter) → since ≡ Some w → w.hart ≢ h → Knows (own h) h (now h) w.hart w.count) →
       ((w : LastWriter) → since ≡ Some w → w.hart ≢ h → Knows (own h) h n w.hart w.count) →

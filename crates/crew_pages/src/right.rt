@@ -1,10 +1,12 @@
 //! The right to a page.
 
-ghost use Rattle.std.specs.Prelude.{◌≡◌, ◌≢◌, ℕ, ◌+◌, ◌<◌, ◌≤◌, ◌↔◌, Bool, false, true, AllPairs, Contains, length, slice_index, Option, Some, None, slice_index_or, slice_set};
+ghost use Rattle.std.specs.Prelude.{◌≡◌, ◌≢◌, ℕ, ◌+◌, ◌<◌, ◌≤◌, ◌↔◌, Bool, false, true, AllPairs, Contains, length, slice_index, Option, Some, None};
+ghost use Rattle.std.specs.Prelude.{slice_index_or, slice_set};
 ghost use Rattle.ft_types.specs.Sets.{IsMember};
 ghost use Rattle.smallvec.specs.SmallVec.{small_vec_len};
 ghost use Rattle.edge_log.specs.EdgeLog.{edge_as};
-ghost use Rattle.crew_pages.specs.Rights.{right_of, unused, holds, owns, has_it, stands, IsFree, count_of, greater, after_count, IsOwed, given, give_up, lower, nobody, Shared};
+ghost use Rattle.crew_pages.specs.Rights.{right_of, unused, holds, owns, has_it, stands, IsFree, count_of, greater, after_count, IsOwed, given, give_up, lower};
+ghost use Rattle.crew_pages.specs.Rights.{nobody, Shared};
 ghost use Rattle.crew_pages.specs.Answers.{OnHeldBy, OnGiven, IfHeldBy, IfGiven};
 
 use edge_log::Edge;
@@ -240,7 +242,8 @@ impl PageRight {
         ensures unchanged { OnHeldBy result (self.new ≡ self.old) }
         ensures free { OnGiven result (IsFree (right_of self.old) hart want) }
         ensures given { OnGiven result (right_of self.new ≡ given (right_of self.old) hart want (slice_index counts.now hart)) }
-        ensures edges { IfGiven result (λ edges. (e : Edge) → Contains edges.items e ↔ IsOwed (right_of self.old) hart want (slice_index counts.now hart) (edge_as e)) }
+        ensures edges { IfGiven result (λ edges. (e : Edge) → Contains edges.items e ↔ IsOwed (right_of self.old) hart want (slice_index counts.now hart)
+            (edge_as e)) }
         ensures rising { IfGiven result (λ edges. AllPairs (λ a b. a.other < b.other) edges.items) }
         ensures inline { IfGiven result (λ edges. edges.capacity ≡ 8) }
     {

@@ -1,5 +1,7 @@
 -- The rows of a log, and what they say in the theory's words.
-use Rattle.std.proofs.Common.{◌≡◌, ◌≢◌, ◌⊎◌, ◌↔◌, ℕ, zero, suc, ◌<◌, ◌≤◌, List, [], ◌∷◌, ◌++◌, length, get_or, set, map, arith, refl, sym, ap, subst, ◌∙◌, inl, inr, le_trans, le_refl, le_of_eq, drop, add-one, All, Contains, Result, Ok, Err, IfOk, length-set, get_or-set_same, get_or-set_other}
+use Rattle.std.proofs.Common.{◌≡◌, ◌≢◌, ◌⊎◌, ◌↔◌, ℕ, zero, suc, ◌<◌, ◌≤◌, List, [], ◌∷◌, ◌++◌, length, get_or, set, map, arith, refl, sym, ap, subst, ◌∙◌, inl}
+use Rattle.std.proofs.Common.{inr, le_trans, le_refl, le_of_eq, drop, add-one, All, Contains, Result, Ok, Err, IfOk, length-set, get_or-set_same}
+use Rattle.std.proofs.Common.{get_or-set_other}
 use Rattle.std.specs.List.{flat_map, AllByRecursion}
 use Rattle.std.proofs.lemmas.Bool.{cases_lt, cases_eq}
 use Rattle.std.proofs.lemmas.List.{drop_more, length-map, map-set, set-get_or}
@@ -127,7 +129,8 @@ module _ (start : List ℕ) (rows : List (List Edge)) (log : IsLog start rows) w
               elim (cases_eq h e.hart) [
                 | inl same ↦
                     rw (same, its_row)
-                    (all_put (IsOfHart start e.hart) (get_or rows e.hart []) e row put (record { own = refl; other = other; from_start = from }) (log.own e.hart))
+                    (all_put (IsOfHart start e.hart) (get_or rows e.hart []) e row put (record { own = refl; other = other; from_start = from })
+                    (log.own e.hart))
                 | inr ne ↦ rw (others_row h ne) (log.own h)
               ];
           later =
@@ -143,11 +146,13 @@ module _ (start : List ℕ) (rows : List (List Edge)) (log : IsLog start rows) w
         let f = from_edges (set rows e.hart row) x h in
         elim (cases_eq f.hart e.hart) [
           | inl same ↦
-              elim (put_among (get_or rows e.hart []) e row put f.edge (subst (λ l. Contains l f.edge) (ap (λ n. get_or (set rows e.hart row) n []) same ∙ its_row) f.is_in)) [
+              elim (put_among (get_or rows e.hart []) e row put f.edge (subst (λ l. Contains l f.edge) (ap (λ n. get_or (set rows e.hart row) n []) same ∙
+              its_row) f.is_in)) [
                 | inl is ↦ inl (ap edge_as is ∙ f.is)
                 | inr old ↦ inr (subst (Contains (flat_map (map edge_as) rows)) f.is (to_edges rows e.hart f.edge old))
               ]
-          | inr ne ↦ inr (subst (Contains (flat_map (map edge_as) rows)) f.is (to_edges rows f.hart f.edge (subst (λ l. Contains l f.edge) (others_row f.hart ne) f.is_in)))
+          | inr ne ↦ inr (subst (Contains (flat_map (map edge_as) rows)) f.is (to_edges rows f.hart f.edge (subst (λ l. Contains l f.edge)
+              (others_row f.hart ne) f.is_in)))
         ]
 
     has_new : Contains (flat_map (map edge_as) (set rows e.hart row)) (edge_as e)
@@ -155,7 +160,8 @@ module _ (start : List ℕ) (rows : List (List Edge)) (log : IsLog start rows) w
 
     -- what an edge of the log was good for, one is still
     still : (SaysAsMuch (get_or rows e.hart []) e → ⊥) → (x : theory.Edge) → Contains (flat_map (map edge_as) rows) x →
-        (by : theory.Edge) × Contains (flat_map (map edge_as) (set rows e.hart row)) by × (by.hart ≡ x.hart) × (by.other ≡ x.other) × (by.step ≤ x.step) × (x.count ≤ by.count)
+        (by : theory.Edge) × Contains (flat_map (map edge_as) (set rows e.hart row)) by × (by.hart ≡ x.hart) × (by.other ≡ x.other) × (by.step ≤ x.step) ×
+        (x.count ≤ by.count)
     still none x h =
         let (f, is_in, is) = in_row x h in
         elim (cases_eq x.hart e.hart) [
@@ -219,7 +225,8 @@ module _ (start : List ℕ) (rows : List (List Edge)) (log : IsLog start rows) w
           start_closed = closed;
         }
       where
-        implied : (x : theory.Edge) → IsImplied (flat_map (map edge_as) rows) (count_at start) x → IsImplied (flat_map (map edge_as) (set rows e.hart row)) (count_at start) x
+        implied : (x : theory.Edge) → IsImplied (flat_map (map edge_as) rows) (count_at start) x → IsImplied (flat_map (map edge_as) (set rows e.hart row))
+            (count_at start) x
         implied x (inl le) = inl le
         implied x (inr (by, is_edge, hart, other, step, count)) =
             let (y, is_new, h, o, s, c) = still none by is_edge in
@@ -235,7 +242,8 @@ module _ (start : List ℕ) (rows : List (List Edge)) (log : IsLog start rows) w
             ]
 
 -- one more element at the front of what is left
-pub drop_one : (xs : List EdgesOfOne) (i : ℕ) (x d : EdgesOfOne) (rest : List EdgesOfOne) → i < length xs → x ≡ get_or xs i d → rest ≡ drop (suc i) xs → x ∷ rest ≡ drop i xs
+pub drop_one : (xs : List EdgesOfOne) (i : ℕ) (x d : EdgesOfOne) (rest : List EdgesOfOne) → i < length xs → x ≡ get_or xs i d → rest ≡ drop (suc i) xs →
+    x ∷ rest ≡ drop i xs
 drop_one xs i x d rest below is rest_is =
     let e : drop i xs ≡ get_or xs i d ∷ drop (suc i) xs = drop_more xs i d below ∙ ap (λ n. get_or xs i d ∷ drop n xs) (add-one i) in
     ap (λ x. x ∷ rest) is ∙ (ap (λ l. get_or xs i d ∷ l) rest_is ∙ sym e)

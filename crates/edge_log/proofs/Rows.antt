@@ -1,9 +1,12 @@
 -- Rows of edges in order.
-use Rattle.std.proofs.Common.{◌≡◌, ◌≢◌, ◌⊎◌, ℕ, zero, suc, ◌+◌, ◌-◌, ◌<◌, ◌≤◌, Bool, true, false, List, [], ◌∷◌, ◌++◌, length, get_or, set, take, drop, arith, refl, sym, ap, subst, ◌∙◌, inl, inr, le_trans, All, AllPairs, Contains, length-append, length-drop, length-take, take-append-drop, add-one, ◌==◌, eq-eqb, ne_eqb, le_refl, append-nil, length-set, get_or-set_same, get_or-set_other}
+use Rattle.std.proofs.Common.{◌≡◌, ◌≢◌, ◌⊎◌, ℕ, zero, suc, ◌+◌, ◌-◌, ◌<◌, ◌≤◌, Bool, true, false, List, [], ◌∷◌, ◌++◌, length, get_or, set, take, drop, arith}
+use Rattle.std.proofs.Common.{refl, sym, ap, subst, ◌∙◌, inl, inr, le_trans, All, AllPairs, Contains, length-append, length-drop, length-take}
+use Rattle.std.proofs.Common.{take-append-drop, add-one, ◌==◌, eq-eqb, ne_eqb, le_refl, append-nil, length-set, get_or-set_same, get_or-set_other}
 use Rattle.std.specs.List.{AllWithin, insert, filter}
 use Rattle.std.specs.List.Sorted.{IsNonDecreasingBy}
 use Rattle.std.proofs.lemmas.Bool.{cases_lt, cases_eq}
-use Rattle.std.proofs.lemmas.List.{get_or_read, get_or-take, get_or-drop, get_or_append_left, get_or-append_right, get_or-append-add, drop_more, set_split, get_or_default}
+use Rattle.std.proofs.lemmas.List.{get_or_read, get_or-take, get_or-drop, get_or_append_left, get_or-append_right, get_or-append-add, drop_more, set_split}
+use Rattle.std.proofs.lemmas.List.{get_or_default}
 use Rattle.std.proofs.lemmas.List.Elements.{All-head, All-tail, filter-append, Contains-append_cases, Contains-append_left, Contains-append_right, All-contains}
 use Rattle.edge_log.specs.declared.Edge.{Edge}
 use Rattle.edge_log.specs.Rows.{ComesBefore, CannotComeBefore, IsTwin, TwinStands, IsPut, SaysAsMuch, AsksFor, IsRow, Takes, Said, Put, TakesAll}
@@ -60,7 +63,8 @@ all_one : (P : Edge → Type 0) (x : Edge) → P x → All P (x ∷ [])
 all_one P x p zero d below = p
 all_one P x p (suc k) d below = absurd (omega arith)
 
-pub put_over : (xs : List Edge) (e : Edge) (i : ℕ) → AllPairs ComesBefore xs → AllWithin (λ y. ComesBefore y e) xs 0 i → TwinStands xs i e → IsPut xs e (set xs i e)
+pub put_over : (xs : List Edge) (e : Edge) (i : ℕ) → AllPairs ComesBefore xs → AllWithin (λ y. ComesBefore y e) xs 0 i → TwinStands xs i e →
+    IsPut xs e (set xs i e)
 put_over xs e i rising front stands =
     record {
       front = take i xs;
@@ -252,7 +256,8 @@ pub edges_at : (xs : List Edge) (n i j : ℕ) → i ≤ length xs → j ≤ leng
 edges_at xs n i j within_i within_j before from upto after =
     let none : filter (λ e. e.at == n) (take i xs) ≡ [] =
     filter_none (λ e. e.at == n) (take i xs)
-    (all_front (λ e. (e.at == n) ≡ false) xs i within_i (λ k d a b. ne_eqb (get_or xs k d).at n (let l : (get_or xs k d).at < n = before k d a b in omega arith))) in
+    (all_front (λ e. (e.at == n) ≡ false) xs i within_i (λ k d a b. ne_eqb (get_or xs k d).at n (let l : (get_or xs k d).at < n = before k d a b in
+    omega arith))) in
     let all : filter (λ e. e.at == n) (take j (drop i xs)) ≡ take j (drop i xs) =
     filter_all (λ e. e.at == n) (take j (drop i xs))
     (all_front (λ e. (e.at == n) ≡ true) (drop i xs) j within_j

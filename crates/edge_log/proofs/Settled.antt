@@ -1,5 +1,6 @@
 -- Edges that are added one after another to one row.
-use Rattle.std.proofs.Common.{◌≡◌, ◌≢◌, ℕ, ◌<◌, ◌≤◌, List, [], ◌∷◌, ◌++◌, length, get_or, set, map, refl, sym, ap, subst, ◌∙◌, inl, inr, le_refl, All, Contains, Result, Ok, Err, OnOk, OnErr, arith, append_assoc, append-nil, length-set, get_or-set_same, get_or-set_other}
+use Rattle.std.proofs.Common.{◌≡◌, ◌≢◌, ℕ, ◌<◌, ◌≤◌, List, [], ◌∷◌, ◌++◌, length, get_or, set, map, refl, sym, ap, subst, ◌∙◌, inl, inr, le_refl, All}
+use Rattle.std.proofs.Common.{Contains, Result, Ok, Err, OnOk, OnErr, arith, append_assoc, append-nil, length-set, get_or-set_same, get_or-set_other}
 use Rattle.std.specs.List.{flat_map}
 use Rattle.std.proofs.lemmas.Bool.{cases_lt}
 use Rattle.std.proofs.lemmas.List.{set-get_or, set-set, map-set, length-map}
@@ -74,7 +75,8 @@ module _ (start : List ℕ) where
       (settled rows log hart small edges (All-tail (IsOfHart start hart) e edges own) row (subst (λ l. TakesAll start l edges row) same rest))
   settled rows log hart small (e ∷ edges) own row (now, Put not put, rest) =
       let of = All-head (IsOfHart start hart) e edges own in
-      let first = entered rows log e now (subst (λ h. h < length rows) (sym of.own) small) of.other (subst (λ h. count_at start h ≤ e.at) (sym of.own) of.from_start)
+      let first = entered rows log e now (subst (λ h. h < length rows) (sym of.own) small) of.other (subst (λ h. count_at start h ≤ e.at)
+      (sym of.own) of.from_start)
       (λ said. not (subst (λ h. IsSaid start (get_or rows h []) e) of.own said)) (subst (λ h. IsPut (get_or rows h []) e now) (sym of.own) put) in
       settled_more rows (set rows e.hart now) (set rows hart row) e edges first.0 first.1
       (subst (IsSettled start (set rows e.hart now) edges) (ap (λ h. set (set rows h now) hart row) of.own ∙ set-set rows hart now row)
@@ -92,7 +94,11 @@ module _ (start : List ℕ) where
       entered rows log e now small other from not put = (
         Enters (λ implied. not (implying start rows log e implied)) (put_in_log rows e now small put),
         (λ all. enough_after start rows log e small now put other from (λ says. not (inr says)) all),
-        log_after start rows log e small now put other from (elim (cases_lt (count_at start e.other) e.after) [ inl less ↦ less | inr le ↦ absurd (not (inl le)) ]),
+        log_after start rows log e small now put other from (elim (cases_lt (count_at start e.other) e.after) [
+          | inl less ↦ less
+          | inr le ↦ absurd
+              (not (inl le))
+        ]),
       )
 
   -- an edge of the new log was in the old one, or was added
@@ -109,7 +115,8 @@ module _ (start : List ℕ) where
           }
 
 -- each edge that may be added is of its hart
-pub all_own : (log : Edges) (hart : ℕ) (edges : List Edge) → All (λ e. e.hart ≡ hart) edges → All (λ e. MayAdd log e) edges → All (IsOfHart log.start hart) edges
+pub all_own : (log : Edges) (hart : ℕ) (edges : List Edge) → All (λ e. e.hart ≡ hart) edges → All (λ e. MayAdd log e) edges →
+    All (IsOfHart log.start hart) edges
 all_own log hart edges own each k d below =
     let may = each k d below in
     record {

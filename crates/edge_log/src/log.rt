@@ -1,6 +1,7 @@
 //! The edges that a log keeps.
 
-ghost use Rattle.std.specs.Prelude.{◌≡◌, ℕ, ◌+◌, ◌<◌, ◌≤◌, ◌==◌, ◌↔◌, ◌≢◌, All, Any, AllPairs, Contains, List, [], ◌∷◌, ◌++◌, Ok, length, map, filter, IsTrue, OnOk, OnErr, IfOk, IfSome, IfNone};
+ghost use Rattle.std.specs.Prelude.{◌≡◌, ℕ, ◌+◌, ◌<◌, ◌≤◌, ◌==◌, ◌↔◌, ◌≢◌, All, Any, AllPairs, Contains, List, [], ◌∷◌, ◌++◌, Ok, length, map, filter, IsTrue};
+ghost use Rattle.std.specs.Prelude.{OnOk, OnErr, IfOk, IfSome, IfNone};
 ghost use Rattle.ft_types.specs.Counts.{count_at};
 ghost use Rattle.interleaving.specs.Log.{Edge as edge_of_theory};
 ghost use Rattle.interleaving.specs.Cuts.{IsImplied, IsEnough, IsSameOrder};
@@ -136,8 +137,10 @@ impl EdgeLog {
         ensures kept { (result ≡ Ok Added.New → ⊥) → self.new ≡ self.old }
         ensures latest { All (λ e. e.at ≤ edge.at) (row_of self.new edge.hart) }
         // What is kept says all that was added: the same order, closed cuts and schedules.
-        ensures enough { IfOk result (λ _. (all : List edge_of_theory) → IsEnough (edges_of self.old) all (start_of self.old) → IsEnough (edges_of self.new) (all ++ edge_as edge ∷ []) (start_of self.new)) }
-        ensures same_order { IfOk result (λ _. (all : List edge_of_theory) → IsEnough (edges_of self.old) all (start_of self.old) → IsSameOrder (edges_of self.new) (all ++ edge_as edge ∷ []) (start_of self.new)) }
+        ensures enough { IfOk result (λ _. (all : List edge_of_theory) → IsEnough (edges_of self.old) all (start_of self.old) → IsEnough (edges_of self.new)
+            (all ++ edge_as edge ∷ []) (start_of self.new)) }
+        ensures same_order { IfOk result (λ _. (all : List edge_of_theory) → IsEnough (edges_of self.old) all (start_of self.old) →
+            IsSameOrder (edges_of self.new) (all ++ edge_as edge ∷ []) (start_of self.new)) }
     {
         if edge.after <= self.start.get(edge.other) {
             return Ok(Added::Implied);
@@ -159,8 +162,10 @@ impl EdgeLog {
         ensures others_kept { (other : ℕ) → other ≢ hart → row_of self.new other ≡ row_of self.old other }
         ensures among { OnOk result ((e : edge_of_theory) → Contains (edges_of self.new) e → Contains (edges_of self.old ++ map edge_as edges.now) e) }
         // What is kept says all that was added: the same order, closed cuts and schedules.
-        ensures enough { OnOk result ((all : List edge_of_theory) → IsEnough (edges_of self.old) all (start_of self.old) → IsEnough (edges_of self.new) (all ++ map edge_as edges.now) (start_of self.new)) }
-        ensures same_order { OnOk result ((all : List edge_of_theory) → IsEnough (edges_of self.old) all (start_of self.old) → IsSameOrder (edges_of self.new) (all ++ map edge_as edges.now) (start_of self.new)) }
+        ensures enough { OnOk result ((all : List edge_of_theory) → IsEnough (edges_of self.old) all (start_of self.old) → IsEnough (edges_of self.new)
+            (all ++ map edge_as edges.now) (start_of self.new)) }
+        ensures same_order { OnOk result ((all : List edge_of_theory) → IsEnough (edges_of self.old) all (start_of self.old) → IsSameOrder (edges_of self.new)
+            (all ++ map edge_as edges.now) (start_of self.new)) }
     {
         let start = self.start;
         let row = &mut self.rows[hart.index()];

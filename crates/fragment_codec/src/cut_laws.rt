@@ -9,7 +9,8 @@ ghost use Rattle.fragment_codec.specs.Pieces.{HartLog, Mark, SealedView, is_betw
 /// A log has one right cut.
 pub fn one_cut()
     ensures hart { (log : HartLog) (old m n : Mark) (ps qs : List FragmentParts) → IsHartCut log old ps m → IsHartCut log old qs n → (ps ≡ qs) × (m ≡ n) }
-    ensures all { (logs : ℕ → HartLog) (harts : ℕ) (old m n : SealedView) (fs gs : List Frame) → IsCut logs harts old fs m → IsCut logs harts old gs n → fs ≡ gs }
+    ensures all { (logs : ℕ → HartLog) (harts : ℕ) (old m n : SealedView) (fs gs : List Frame) → IsCut logs harts old fs m → IsCut logs harts old gs n →
+        fs ≡ gs }
 {}
 
 /// A piece has all records of each of its counts.
@@ -20,8 +21,10 @@ pub fn whole_counts()
 
 /// Each count that is cut is in one piece, and all pieces together have each record of it, once and in order.
 pub fn one_piece()
-    ensures pieces { (log : HartLog) (old new : Mark) (pieces : List FragmentParts) → IsHartCut log old pieces new → (count : ℕ) → old.count ≤ count → count < new.count →
+    ensures pieces { (log : HartLog) (old new : Mark) (pieces : List FragmentParts) → IsHartCut log old pieces new → (count : ℕ) → old.count ≤ count →
+        count < new.count →
         count_by (λ piece. is_between piece.from piece.to count) pieces ≡ 1 }
-    ensures records { (log : HartLog) (old new : Mark) (pieces : List FragmentParts) → IsHartCut log old pieces new → (count : ℕ) → old.count ≤ count → count < new.count →
+    ensures records { (log : HartLog) (old new : Mark) (pieces : List FragmentParts) → IsHartCut log old pieces new → (count : ℕ) → old.count ≤ count →
+        count < new.count →
         filter (λ fact. count_of fact == count) (flat_map (λ piece. piece.records) pieces) ≡ records_at count log.facts }
 {}

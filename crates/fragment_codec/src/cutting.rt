@@ -57,8 +57,20 @@ fn piece_of(
     to: Count,
     records: &[Record],
 ) -> Result<Fragment, Memory>
-    requires { IsFragment (record { guest = origin.now.guest; key = record { term = origin.now.term; hart = origin.now.hart; place = place }; from = from; to = to; records = records.now }) }
-    ensures { IfOk result (λ f. f ≡ record { guest = origin.now.guest; key = record { term = origin.now.term; hart = origin.now.hart; place = place }; from = from; to = to; records = records.now }) }
+    requires { IsFragment (record {
+      guest = origin.now.guest;
+      key = record { term = origin.now.term; hart = origin.now.hart; place = place };
+      from = from;
+      to = to;
+      records = records.now;
+    }) }
+    ensures { IfOk result (λ f. f ≡ record {
+      guest = origin.now.guest;
+      key = record { term = origin.now.term; hart = origin.now.hart; place = place };
+      from = from;
+      to = to;
+      records = records.now;
+    }) }
 {
     let key = Key {
         term: origin.term,

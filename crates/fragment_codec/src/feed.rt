@@ -1,9 +1,11 @@
 //! Frames, from a stream in any pieces.
 
-ghost use Rattle.std.specs.Prelude.{◌≡◌, ◌≢◌, ◌↔◌, ◌⊎◌, ◌+◌, ◌-◌, ◌<◌, ◌≤◌, ◌++◌, ℕ, List, [], length, take, drop, slice_index, Option, Some, None, Ok, Err, IfOk, IfErr, OnOk, OnErr, IsTrue, IsOk, vec_capacity, min};
+ghost use Rattle.std.specs.Prelude.{◌≡◌, ◌≢◌, ◌↔◌, ◌⊎◌, ◌+◌, ◌-◌, ◌<◌, ◌≤◌, ◌++◌, ℕ, List, [], length, take, drop, slice_index, Option, Some, None, Ok, Err};
+ghost use Rattle.std.specs.Prelude.{IfOk, IfErr, OnOk, OnErr, IsTrue, IsOk, vec_capacity, min};
 ghost use Rattle.std.specs.List.{flat_map, AllByRecursion};
 ghost use Rattle.fragment_codec.specs.Reading.{Makes, frame_of};
-ghost use Rattle.fragment_codec.specs.Streams.{spelling, IsFrame, is_other, is_body_len, head_of, IsWhole, HasDigest, IsPartial, HasFault, Splits, Unread, Keeps, Follows};
+ghost use Rattle.fragment_codec.specs.Streams.{spelling, IsFrame, is_other, is_body_len, head_of, IsWhole, HasDigest, IsPartial, HasFault, Splits, Unread};
+ghost use Rattle.fragment_codec.specs.Streams.{Keeps, Follows};
 ghost use Rattle.fragment_codec.specs.Fronts.{IsFront, Advances};
 
 use crate::fault::FrameFault;

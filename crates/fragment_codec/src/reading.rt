@@ -3,7 +3,8 @@
 ghost use Rattle.std.specs.Prelude.{◌≡◌, ◌≤◌, List, length, Option, Some, None};
 ghost use Rattle.fragment_codec.specs.Rules.{OpeningParts, IsFragment, IsOpening};
 ghost use Rattle.std.specs.Int.{w16, w32, w64};
-ghost use Rattle.fragment_codec.specs.Reading.{Gives, Makes, number_at, byte_at, digest_at, input_of, edge_at, heard_at, record_at, many, place_at, rest_of, log_of, opening_of};
+ghost use Rattle.fragment_codec.specs.Reading.{Gives, Makes, number_at, byte_at, digest_at, input_of, edge_at, heard_at, record_at, many, place_at, rest_of};
+ghost use Rattle.fragment_codec.specs.Reading.{log_of, opening_of};
 
 use crate::frame::{Fragment, Opening};
 use crate::types::{Key, Record};

@@ -100,7 +100,8 @@ fn put_record(out: &mut Body, record: &Record)
 #[tactic(auto, unfolding(crate::specs::Spelling::number))]
 fn put_place(out: &mut Body, guest: &Guest, key: &Key)
     requires { length out.old.items + 42 ≤ 4668 }
-    ensures items { out.new.items ≡ out.old.items ++ (guest.now.digest ++ (guest.now.harts ∷ key.now.hart ∷ (number w32 key.now.term ++ number w32 key.now.place))) }
+    ensures items { out.new.items ≡ out.old.items ++ (guest.now.digest ++ (guest.now.harts ∷ key.now.hart ∷ (number w32 key.now.term ++
+        number w32 key.now.place))) }
     ensures len { length out.new.items ≡ length out.old.items + 42 }
 {
     put(out, &guest.digest);

@@ -1,5 +1,6 @@
 -- Steps of the digits.
-use Rattle.std.proofs.Common.{◌≡◌, ℕ, zero, suc, ◌+◌, ◌-◌, ◌*◌, ◌/◌, ◌%◌, ◌^◌, ◌<◌, ◌≤◌, List, [], ◌∷◌, ◌++◌, length, get_or, set, take, drop, refl, ap, subst, sym, ◌∙◌, arith, add-one, inl, inr, length-append, length-set, append_assoc}
+use Rattle.std.proofs.Common.{◌≡◌, ℕ, zero, suc, ◌+◌, ◌-◌, ◌*◌, ◌/◌, ◌%◌, ◌^◌, ◌<◌, ◌≤◌, List, [], ◌∷◌, ◌++◌, length, get_or, set, take, drop, refl, ap, subst}
+use Rattle.std.proofs.Common.{sym, ◌∙◌, arith, add-one, inl, inr, length-append, length-set, append_assoc}
 use Rattle.std.specs.Prelude.{decimal}
 use Rattle.std.proofs.lemmas.Bool.{cases_lt}
 use Rattle.std.proofs.lemmas.Bool.Decides.{nat_tests}
@@ -121,7 +122,8 @@ pub word_begins : (text : List ℕ) → WordSoFar text 0 0
 unfolding hex
 word_begins text = (omega arith, refl)
 
-pub word_goes_on : (text : List ℕ) (i v d : ℕ) → i < length text → d < 16 → get_or text i 0 ≡ hex_digit d → WordSoFar text i v → WordSoFar text (i + 1) (v * 16 + d)
+pub word_goes_on : (text : List ℕ) (i v d : ℕ) → i < length text → d < 16 → get_or text i 0 ≡ hex_digit d → WordSoFar text i v → WordSoFar text (i + 1)
+    (v * 16 + d)
 word_goes_on text i v d h small is p =
     let more : take (i + 1) text ≡ take i text ++ get_or text i 0 ∷ [] = grind (arith, common_steps) in
     (rw (add-one) (omega (arith, p.0)), rw more (rw (p.1, is, add-one) (sym (hex_step i v d small))))
@@ -150,14 +152,24 @@ NumberSoFar text i v = (v < 10 ^ i) × (0 < i → take i text ≡ decimal v) × 
 pub number_fits : (i v d : ℕ) → i < 15 → v < 10 ^ i → d < 10 → v * 10 + d < 10 ^ 15
 number_fits i v d h p small = omega (arith, pow10_le i h)
 
-number_first : (text : List ℕ) (v d : ℕ) → 0 < length text → d < 10 → get_or text 0 0 ≡ 48 + d → (1 < length text → get_or text 0 0 ≡ 48 → ⊥) → NumberSoFar text 0 v → NumberSoFar text 1 (v * 10 + d)
+number_first : (text : List ℕ) (v d : ℕ) → 0 < length text → d < 10 → get_or text 0 0 ≡ 48 + d → (1 < length text → get_or text 0 0 ≡ 48 → ⊥) →
+    NumberSoFar text 0 v → NumberSoFar text 1 (v * 10 + d)
 number_first text v d h small is apart p =
     let z : v ≡ 0 = omega (arith, p.0) in
     let e : v * 10 + d ≡ d = omega arith in
     let one : take 1 text ≡ get_or text 0 0 ∷ [] = grind (arith, common_steps) in
-    rw e (omega arith, λ _. rw (one, is) (sym (decimal_digit d small)), λ _ several. elim (cases_lt 0 d) [ inl lt ↦ lt | inr le ↦ absurd (apart several (omega arith)) ])
+    rw e (
+      omega arith,
+      λ _. rw (one, is) (sym (decimal_digit d small)),
+      λ _ several. elim (cases_lt 0 d) [
+        | inl lt ↦ lt
+        | inr le ↦ absurd
+            (apart several (omega arith))
+      ],
+    )
 
-number_next : (text : List ℕ) (i v d : ℕ) → suc i < length text → length text ≤ 15 → d < 10 → get_or text (suc i) 0 ≡ 48 + d → NumberSoFar text (suc i) v → NumberSoFar text (suc i + 1) (v * 10 + d)
+number_next : (text : List ℕ) (i v d : ℕ) → suc i < length text → length text ≤ 15 → d < 10 → get_or text (suc i) 0 ≡ 48 + d → NumberSoFar text (suc i) v →
+    NumberSoFar text (suc i + 1) (v * 10 + d)
 number_next text i v d h size small is p =
     let more : take (suc i + 1) text ≡ take (suc i) text ++ get_or text (suc i) 0 ∷ [] = grind (arith, common_steps) in
     let before : take (suc i) text ≡ decimal v = p.1 (omega arith) in
@@ -165,7 +177,8 @@ number_next text i v d h size small is p =
     let bound : v < 10 ^ 14 = omega (arith, p.0, pow10_le (suc i) (omega arith)) in
     (rw (add-one) (omega (arith, p.0)), λ _. rw more (rw (before, is) (sym (decimal_more v d positive small bound))), λ _ _. omega arith)
 
-pub number_goes_on : (text : List ℕ) (i v d : ℕ) → i < length text → length text ≤ 15 → d < 10 → get_or text i 0 ≡ 48 + d → (1 < length text → get_or text 0 0 ≡ 48 → ⊥) → NumberSoFar text i v → NumberSoFar text (i + 1) (v * 10 + d)
+pub number_goes_on : (text : List ℕ) (i v d : ℕ) → i < length text → length text ≤ 15 → d < 10 → get_or text i 0 ≡ 48 + d →
+    (1 < length text → get_or text 0 0 ≡ 48 → ⊥) → NumberSoFar text i v → NumberSoFar text (i + 1) (v * 10 + d)
 number_goes_on text zero v d h size small is apart p = number_first text v d h small is apart p
 number_goes_on text (suc i) v d h size small is apart p = number_next text i v d h size small is p
 
@@ -193,7 +206,8 @@ not_number_digit text i h none n p =
 
 -- ---- writing a word
 
-word_text_step : (j rest d : ℕ) (all ds : List ℕ) → j < length ds → d ≡ hex_digit (rest % 16) → all ≡ hex (suc j) rest ++ drop (suc j) ds → all ≡ hex j (rest / 16) ++ drop j (set ds j d)
+word_text_step : (j rest d : ℕ) (all ds : List ℕ) → j < length ds → d ≡ hex_digit (rest % 16) → all ≡ hex (suc j) rest ++ drop (suc j) ds →
+    all ≡ hex j (rest / 16) ++ drop j (set ds j d)
 unfolding hex
 word_text_step j rest d all ds h is p =
     let q : drop j (set ds j d) ≡ d ∷ drop (suc j) ds = grind (arith, common_steps, add-one) in
@@ -202,7 +216,8 @@ word_text_step j rest d all ds h is p =
 abbrev pub WordLeft : ℕ → ℕ → ℕ → List ℕ → Type 0
 WordLeft w place rest ds = (length ds ≡ 8) × (hex 8 w ≡ hex (8 - place) rest ++ drop (8 - place) ds)
 
-pub word_text_goes_on : (w place rest d : ℕ) (ds : List ℕ) → place < 8 → d ≡ hex_digit (rest % 16) → WordLeft w place rest ds → WordLeft w (place + 1) (rest / 16) (set ds (7 - place) d)
+pub word_text_goes_on : (w place rest d : ℕ) (ds : List ℕ) → place < 8 → d ≡ hex_digit (rest % 16) → WordLeft w place rest ds → WordLeft w (place + 1)
+    (rest / 16) (set ds (7 - place) d)
 word_text_goes_on w place rest d ds h is p =
     let e : 8 - place ≡ suc (7 - place) = omega arith in
     let f : 8 - (place + 1) ≡ 7 - place = omega arith in

@@ -1,5 +1,6 @@
 -- Two rows, place by place.
-use Rattle.std.proofs.Common.{◌≡◌, ℕ, zero, suc, ◌+◌, ◌-◌, ◌<◌, List, [], ◌∷◌, ◌++◌, length, take, drop, refl, ap, sym, ◌∙◌, arith, replicate, min, max, get_or, slice_set, length-set, subst}
+use Rattle.std.proofs.Common.{◌≡◌, ℕ, zero, suc, ◌+◌, ◌-◌, ◌<◌, List, [], ◌∷◌, ◌++◌, length, take, drop, refl, ap, sym, ◌∙◌, arith, replicate, min, max}
+use Rattle.std.proofs.Common.{get_or, slice_set, length-set, subst}
 use Rattle.std.specs.List.{AllByRecursion}
 use Rattle.std.proofs.lemmas.List.{take_more, take_more_set, drop-set-lt, drop-drop, drop-replicate}
 use Rattle.std.proofs.lemmas.Grind.{common_steps}

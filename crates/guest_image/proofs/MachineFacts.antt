@@ -1,5 +1,6 @@
 -- What every machine keeps.
-use Rattle.std.proofs.Common.{◌≡◌, ℕ, zero, suc, ◌+◌, ◌-◌, ◌*◌, ◌<◌, ◌≤◌, List, [], ◌∷◌, length, take, drop, map, replicate, slice_get, slice_set, slice_index_or, Some, refl, sym, ap, ◌∙◌, arith, length-append, length-set}
+use Rattle.std.proofs.Common.{◌≡◌, ℕ, zero, suc, ◌+◌, ◌-◌, ◌*◌, ◌<◌, ◌≤◌, List, [], ◌∷◌, length, take, drop, map, replicate, slice_get, slice_set}
+use Rattle.std.proofs.Common.{slice_index_or, Some, refl, sym, ap, ◌∙◌, arith, length-append, length-set}
 use Rattle.std.specs.List.{flat_map, range_with_len, AllByRecursion}
 use Rattle.std.proofs.lemmas.List.{length-replicate, set-set}
 use Rattle.std.proofs.lemmas.Grind.{common_steps}
@@ -92,7 +93,8 @@ pub place_of : (m : MachineState) (i : ℕ) (h : Hart) → IsMachine m → slice
 place_of m i h p e = let (number, all) = in_place (length m.harts) 0 i m.harts h p.places e in (number ∙ omega arith, all)
 
 -- with other outputs it stays there
-pub whole_with_outputs : (hs : List Hart) (ps : List (List ℕ)) (i : ℕ) (old new : Hart) → slice_get hs i ≡ Some old → new ≡ record old { outputs = new.outputs } →
+pub whole_with_outputs : (hs : List Hart) (ps : List (List ℕ)) (i : ℕ) (old new : Hart) → slice_get hs i ≡ Some old →
+    new ≡ record old { outputs = new.outputs } →
     IsMachine (record { harts = hs; pages = ps }) → IsMachine (record { harts = slice_set hs i new; pages = ps })
 whole_with_outputs hs ps i old new e rest p =
     let (number, all) = place_of (record { harts = hs; pages = ps }) i old p e in

@@ -1,6 +1,7 @@
 -- A file has one reading: the image that it spells, or one fault.
 use Rattle.std.proofs.lemmas.Bool.Decides.{nat_tests}
-use Rattle.std.proofs.Common.{◌≡◌, ℕ, zero, suc, ◌+◌, ◌/◌, ◌%◌, ◌^◌, ◌<◌, ◌≤◌, List, [], ◌∷◌, ◌++◌, length, Result, Ok, Err, refl, ap, subst, sym, ◌∙◌, arith, inl, inr, append_assoc, length-append}
+use Rattle.std.proofs.Common.{◌≡◌, ℕ, zero, suc, ◌+◌, ◌/◌, ◌%◌, ◌^◌, ◌<◌, ◌≤◌, List, [], ◌∷◌, ◌++◌, length, Result, Ok, Err, refl, ap, subst, sym, ◌∙◌, arith}
+use Rattle.std.proofs.Common.{inl, inr, append_assoc, length-append}
 use Rattle.std.specs.Prelude.{decimal, ◌⊎◌, IfOk, IfErr, MatchResult}
 use Rattle.std.proofs.lemmas.Grind.{common_steps, flat_map-append}
 use Rattle.std.proofs.lemmas.Fmt.{decimal_injective}
@@ -8,7 +9,8 @@ use Rattle.ft_types.specs.Text.{word}
 use Rattle.ft_types.proofs.Texts.{word_same}
 use Rattle.guest_image.specs.declared.fault.ImageFault.{ImageFault}
 use Rattle.guest_image.specs.declared.fault.ImageFault.TheVariants.{BadLine, TooLarge, NoHarts, Memory}
-use Rattle.guest_image.specs.Image.{ImageContents, Fits, image_text, setting, harts_name, pages_name, word_line, word_lines, AreWords, Sets, LacksWord, WordsThen, AfterHarts, AfterPages, IsWordFault, IsPagesFault, IsHartsFault, IsFault}
+use Rattle.guest_image.specs.Image.{ImageContents, Fits, image_text, setting, harts_name, pages_name, word_line, word_lines, AreWords, Sets, LacksWord}
+use Rattle.guest_image.specs.Image.{WordsThen, AfterHarts, AfterPages, IsWordFault, IsPagesFault, IsHartsFault, IsFault}
 use Rattle.guest_image.proofs.LineFacts.{NoBreak, line_unique, no_break-append, decimal_no_break, word_no_break, same_front, are_words-append}
 
 harts_plain : NoBreak harts_name

@@ -77,8 +77,10 @@ AfterPages bytes pages rest = (behind : List ℕ) × AfterHarts bytes behind × 
 
 -- the fault of the lines from line 3 on, the first one from the left
 abbrev pub IsWordFault : ℕ → List ℕ → ImageFault → Type 0
-IsWordFault pages bytes (BadLine k) = (words : List ℕ) × (rest : List ℕ) × WordsThen pages bytes words rest × (0 < length rest) × LacksWord rest × (k ≡ length words + 3)
-IsWordFault pages bytes TooLarge = (words : List ℕ) × (rest : List ℕ) × (w : ℕ) × (behind : List ℕ) × WordsThen pages bytes words rest × (length words ≡ pages * 1024) × StartsWithWord rest w behind
+IsWordFault pages bytes (BadLine k) = (words : List ℕ) × (rest : List ℕ) × WordsThen pages bytes words rest × (0 < length rest) × LacksWord rest ×
+    (k ≡ length words + 3)
+IsWordFault pages bytes TooLarge = (words : List ℕ) × (rest : List ℕ) × (w : ℕ) × (behind : List ℕ) × WordsThen pages bytes words rest ×
+    (length words ≡ pages * 1024) × StartsWithWord rest w behind
 IsWordFault pages bytes NoHarts = ⊥
 IsWordFault pages bytes Memory = Unit {0}
 

@@ -31,7 +31,8 @@ impl Model for Image {
 
     ghost view = { λ i. record { harts = i.harts; pages = i.pages; words = i.words.items } };
 
-    ghost invariant = { λ i. Fits (record { harts = i.harts; pages = i.pages; words = i.words.items }) × (i.digest ≡ sha256 (image_text (record { harts = i.harts; pages = i.pages; words = i.words.items }))) };
+    ghost invariant = { λ i. Fits (record { harts = i.harts; pages = i.pages; words = i.words.items }) ×
+        (i.digest ≡ sha256 (image_text (record { harts = i.harts; pages = i.pages; words = i.words.items }))) };
 }
 
 impl Image {
@@ -134,7 +135,8 @@ pub fn read_image(alloc: Global, bytes: &[u8]) -> Result<Image, ImageFault>
     // What is spelled so is read, unless memory runs out.
     ensures only { (i : ImageContents) → Fits i → bytes.now ≡ image_text i → MatchResult result (λ j. j ≡ i) (λ e. e ≡ ImageFault.Memory) }
     // A file with a fault has that fault, unless memory runs out.
-    ensures exact { (f : ImageFault) → (f ≡ ImageFault.Memory → ⊥) → IsFault bytes.now f → MatchResult result (λ j. ⊥) (λ e. (e ≡ ImageFault.Memory) ⊎ (e ≡ f)) }
+    ensures exact { (f : ImageFault) → (f ≡ ImageFault.Memory → ⊥) → IsFault bytes.now f → MatchResult result (λ j. ⊥) (λ e. (e ≡ ImageFault.Memory) ⊎
+        (e ≡ f)) }
 {
     read_parts(alloc, bytes)
 }

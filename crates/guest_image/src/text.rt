@@ -2,7 +2,8 @@
 
 ghost use Rattle.std.specs.Prelude.{◌≡◌, ℕ, ◌+◌, ◌*◌, ◌^◌, ◌<◌, ◌≤◌, ◌++◌, length, drop};
 ghost use Rattle.ft_types.specs.Devices.{Writes};
-ghost use Rattle.guest_image.specs.Text.{numbered, status, spaced, hart_line, csr_line, device_line, register_line, output_line, count_line, rung_name, heard_name, hart_lines, bell_lines, hart_tables, hart_text, ram_line};
+ghost use Rattle.guest_image.specs.Text.{numbered, status, spaced, hart_line, csr_line, device_line, register_line, output_line, count_line, rung_name};
+ghost use Rattle.guest_image.specs.Text.{heard_name, hart_lines, bell_lines, hart_tables, hart_text, ram_line};
 ghost use Rattle.guest_image.specs.Machine.{words_of};
 
 use ft_types::{Failed, LineBuffer, Sink};
@@ -153,7 +154,8 @@ fn write_counts<W: Sink>(name: &[u8], counts: &[u64], out: &mut W) -> Result<(),
 }
 
 fn write_hart_registers<W: Sink>(hart: &HartState, out: &mut W) -> Result<(), Failed>
-    ensures { Writes result (W.bytes out.old) (W.bytes out.new) (W.failures out.old) (W.failures out.new) (numbered register_line 1 (drop 1 hart.now.registers)) }
+    ensures { Writes result (W.bytes out.old) (W.bytes out.new) (W.failures out.old) (W.failures out.new)
+        (numbered register_line 1 (drop 1 hart.now.registers)) }
 {
     write_registers(1, hart.registers(), out)
 }
@@ -171,7 +173,8 @@ fn write_hart_rung<W: Sink>(hart: &HartState, out: &mut W) -> Result<(), Failed>
 }
 
 fn write_hart_heard<W: Sink>(hart: &HartState, out: &mut W) -> Result<(), Failed>
-    ensures { Writes result (W.bytes out.old) (W.bytes out.new) (W.failures out.old) (W.failures out.new) (numbered (count_line heard_name) 0 hart.now.received.heard) }
+    ensures { Writes result (W.bytes out.old) (W.bytes out.new) (W.failures out.old) (W.failures out.new)
+        (numbered (count_line heard_name) 0 hart.now.received.heard) }
 {
     write_counts(b"heard ", hart.heard(), out)
 }
@@ -215,7 +218,8 @@ pub(crate) fn write_hart<W: Sink>(hart: &HartState, out: &mut W) -> Result<(), F
 pub(crate) fn write_page<W: Sink>(number: u32, bytes: &[u8], out: &mut W) -> Result<(), Failed>
     requires number { number < 64 }
     requires size { length bytes.now ≤ 4096 }
-    ensures { Writes result (W.bytes out.old) (W.bytes out.new) (W.failures out.old) (W.failures out.new) (numbered ram_line (number * 1024) (words_of bytes.now)) }
+    ensures { Writes result (W.bytes out.old) (W.bytes out.new) (W.failures out.old) (W.failures out.new) (numbered ram_line (number * 1024)
+        (words_of bytes.now)) }
 {
     let mut rest = bytes;
     let mut place = number * 1024;

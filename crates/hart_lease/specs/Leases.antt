@@ -1,5 +1,6 @@
 -- Leases, as contracts see them.
-use Rattle.std.specs.Prelude.{◌≡◌, ◌≢◌, ◌≤◌, ◌<◌, ◌⊎◌, ◌+◌, ◌-◌, ℕ, List, [], ◌∷◌, length, replicate, slice_get, slice_set, slice_index, slice_index_or, true, Option, Some, None}
+use Rattle.std.specs.Prelude.{◌≡◌, ◌≢◌, ◌≤◌, ◌<◌, ◌⊎◌, ◌+◌, ◌-◌, ℕ, List, [], ◌∷◌, length, replicate, slice_get, slice_set, slice_index, slice_index_or, true}
+use Rattle.std.specs.Prelude.{Option, Some, None}
 use Rattle.ft_types.specs.declared.names.Want.{Want}
 use Rattle.ft_types.specs.declared.names.Want.TheVariants.{Read, Write}
 use Rattle.rv32_hart.specs.Hart.{Hart, with_earlier}

@@ -1,7 +1,8 @@
 //! A lease: one hart's state and some pages, on loan.
 
 ghost use Rattle.std.specs.Cmp.Lexicographic.{pointwise};
-ghost use Rattle.std.specs.Prelude.{◌≡◌, ◌==◌, ◌&&◌, ◌≢◌, ◌<◌, ◌≤◌, ◌^◌, ◌⊎◌, ◌+◌, ◌-◌, ◌↔◌, ℕ, List, [], length, replicate, map, slice_set, slice_index_or, Option, Some, None, ◌∷◌, true, false, IfOk, IfSome, IfNone, OnOk, OnErr, IsTrue};
+ghost use Rattle.std.specs.Prelude.{◌≡◌, ◌==◌, ◌&&◌, ◌≢◌, ◌<◌, ◌≤◌, ◌^◌, ◌⊎◌, ◌+◌, ◌-◌, ◌↔◌, ℕ, List, [], length, replicate, map, slice_set, slice_index_or};
+ghost use Rattle.std.specs.Prelude.{Option, Some, None, ◌∷◌, true, false, IfOk, IfSome, IfNone, OnOk, OnErr, IsTrue};
 ghost use Rattle.rv32_hart.specs.Hart.{without_outputs};
 ghost use Rattle.guest_image.specs.Machine.{MachineState};
 ghost use Rattle.hart_lease.specs.Slots.{slot_at, want_of, base_of, is_writable};
@@ -9,7 +10,8 @@ ghost use Rattle.hart_lease.specs.Runs.{IsBareLease};
 ghost use Rattle.hart_lease.specs.Asks.{asked_by};
 ghost use Rattle.hart_lease.specs.OpenLeases.{idle};
 ghost use Rattle.input_log.specs.Alike.{same_input};
-ghost use Rattle.hart_lease.specs.Leases.{LeaseView, fresh, rung_bell, bells_rung, IsFull, Ticks, IsLent, IsLentAt, base_at, whole, whole_in, with_page_to_read, with_page_to_write};
+ghost use Rattle.hart_lease.specs.Leases.{LeaseView, fresh, rung_bell, bells_rung, IsFull, Ticks, IsLent, IsLentAt, base_at, whole, whole_in};
+ghost use Rattle.hart_lease.specs.Leases.{with_page_to_read, with_page_to_write};
 
 use crate::asked::Asked;
 use crate::lease_pages::{LeasePages, Slot};
@@ -60,9 +62,31 @@ impl Model for Lease {
 
     ghost Value = { LeaseView };
 
-    ghost view = { λ l. record { hart = l.hart; base = l.base; present = l.present; inputs = l.inputs.items; bases = l.bases.items; slots = l.pages; taken = l.taken; edges = l.edges.items; steps = l.present.count - l.base.count; stop = l.stop } };
+    ghost view = { λ l. record {
+      hart = l.hart;
+      base = l.base;
+      present = l.present;
+      inputs = l.inputs.items;
+      bases = l.bases.items;
+      slots = l.pages;
+      taken = l.taken;
+      edges = l.edges.items;
+      steps = l.present.count - l.base.count;
+      stop = l.stop;
+    } };
 
-    ghost invariant = { λ l. IsBareLease (record { hart = l.hart; base = l.base; present = l.present; inputs = l.inputs.items; bases = l.bases.items; slots = l.pages; taken = l.taken; edges = l.edges.items; steps = l.present.count - l.base.count; stop = l.stop }) };
+    ghost invariant = { λ l. IsBareLease (record {
+      hart = l.hart;
+      base = l.base;
+      present = l.present;
+      inputs = l.inputs.items;
+      bases = l.bases.items;
+      slots = l.pages;
+      taken = l.taken;
+      edges = l.edges.items;
+      steps = l.present.count - l.base.count;
+      stop = l.stop;
+    }) };
 }
 
 fn no_pages(alloc: Global, pages: u8) -> Result<Vec<Option<Page>>, Memory>
@@ -244,7 +268,8 @@ impl Lease {
         requires { ¬ (IsFull self.old) }
         ensures does { Ticks result self.old self.new }
         // Whoever lent the lease still did.
-        ensures lent { (machine : MachineState) (taken : List (Option Taken)) (earlier : List (ℕ × ℕ)) → IsLent machine taken (whole earlier self.old) → IsLent machine taken (whole earlier self.new) }
+        ensures lent { (machine : MachineState) (taken : List (Option Taken)) (earlier : List (ℕ × ℕ)) → IsLent machine taken (whole earlier self.old) →
+            IsLent machine taken (whole earlier self.new) }
     {
         if self.steps() == 0 {
             return self.tick_on_inputs();
@@ -258,7 +283,8 @@ impl Lease {
         requires room { ¬ (IsFull self.old) }
         requires first { self.old.steps ≡ 0 }
         ensures does { Ticks result self.old self.new }
-        ensures lent { (machine : MachineState) (taken : List (Option Taken)) (earlier : List (ℕ × ℕ)) → IsLent machine taken (whole earlier self.old) → IsLent machine taken (whole earlier self.new) }
+        ensures lent { (machine : MachineState) (taken : List (Option Taken)) (earlier : List (ℕ × ℕ)) → IsLent machine taken (whole earlier self.old) →
+            IsLent machine taken (whole earlier self.new) }
     {
         self.first_tick()
     }
@@ -269,7 +295,8 @@ impl Lease {
         requires room { ¬ (IsFull self.old) }
         requires first { self.old.steps ≡ 0 }
         ensures does { Ticks result self.old self.new }
-        ensures lent { (machine : MachineState) (taken : List (Option Taken)) (earlier : List (ℕ × ℕ)) → IsLent machine taken (whole earlier self.old) → IsLent machine taken (whole earlier self.new) }
+        ensures lent { (machine : MachineState) (taken : List (Option Taken)) (earlier : List (ℕ × ℕ)) → IsLent machine taken (whole earlier self.old) →
+            IsLent machine taken (whole earlier self.new) }
     {
         tick(&mut self.present, self.inputs.as_slice(), &mut self.pages)
     }
@@ -379,7 +406,8 @@ impl Lease {
 
     /// The hart that the lease rang, which it did at its last step. It rang one at most.
     pub fn rung(&self) -> Option<Hart>
-        ensures some { IfSome result (λ t. (t < 8) × (bells_rung self.now t ≡ rung_bell self.now ∷ []) × ((other : ℕ) → other ≢ t → bells_rung self.now other ≡ [])) }
+        ensures some { IfSome result (λ t. (t < 8) × (bells_rung self.now t ≡ rung_bell self.now ∷ []) ×
+            ((other : ℕ) → other ≢ t → bells_rung self.now other ≡ [])) }
         ensures none { IfNone result ((target : ℕ) → bells_rung self.now target ≡ []) }
     {
         let now = self.present.rung();

@@ -89,7 +89,11 @@ impl OpenLease {
 
     /// Writes down that it was given a right, and which edges wait in it now.
     pub fn take(&mut self, asked: &Asked, waiting: SmallVec<Edge, 8>)
-        ensures { self.new ≡ record self.old { taken = slice_set self.old.taken asked.now.page (Some (taking (taken_at self.old.taken asked.now.page) asked.now.want asked.now.count)); edges = waiting.items } }
+        ensures { self.new ≡ record self.old {
+          taken = slice_set self.old.taken asked.now.page
+              (Some (taking (taken_at self.old.taken asked.now.page) asked.now.want asked.now.count));
+          edges = waiting.items;
+        } }
     {
         self.taken.take(asked.page, asked.want, asked.count);
         self.edges = waiting;

@@ -41,7 +41,10 @@ term_of parent book =
 -- the piece has exactly the book's records of the hart in its range
 pub record IsPieceOf (book : BookView RecordingView) (hart : ℕ) (piece : FragmentParts) : Type 0 where
   pub settled : piece.to ≤ counts_of book.machine hart
-  pub exact : told_by piece.records ≡ facts_between piece.from piece.to (record { edges = row_of book.mode.edges hart; inputs = inputs_of book.mode.inputs hart })
+  pub exact : told_by piece.records ≡ facts_between piece.from piece.to (record {
+    edges = row_of book.mode.edges hart;
+    inputs = inputs_of book.mode.inputs hart;
+  })
 
 -- each frame that is cut of a book is such a piece
 abbrev pub CutsArePieces : Type 0

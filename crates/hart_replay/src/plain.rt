@@ -40,7 +40,8 @@ pub fn replay_plain(alloc: Global, image: &Image, plan: &Plan) -> Result<Machine
     ensures other_guest { (result ≡ Err ReplayFault.OtherGuest) ↔ (plan.now.guest ≢ guest_of image.now) }
     ensures outcome { IfOk result (λ m. IsOutcome image.now plan.now.legs m) }
     ensures cyclic { IfErr result (λ fault. IfCyclic fault (λ counts. IsAtLeg image.now plan.now.legs (λ leg m. IsCyclicAt leg m counts))) }
-    ensures halted_inside { IfErr result (λ fault. IfHaltedInside fault (λ hart count. IsAtLeg image.now plan.now.legs (λ leg m. HaltsInsideAt leg m hart count))) }
+    ensures halted_inside { IfErr result (λ fault. IfHaltedInside fault (λ hart count. IsAtLeg image.now plan.now.legs
+        (λ leg m. HaltsInsideAt leg m hart count))) }
     // Of honest frames nothing is cyclic or halted inside, and the machine is the one that they tell of.
     ensures history { ReplaysHistory image.now plan.now.legs result }
 {

@@ -36,7 +36,8 @@ none_from row n m before later = none_at row m (λ k d below. let less = before 
 
 -- the inputs at n, where they were added behind a row that ends before n
 pub added_at : (row : List (ℕ × Input)) (n : ℕ) (added : List Input) → All (λ x. x.0 < n) row → inputs_at (row ++ map (λ i. (n, i)) added) n ≡ added
-added_at row n added before = at_append row (map (λ i. (n, i)) added) n ∙ (ap (λ l. l ++ inputs_at (map (λ i. (n, i)) added) n) (none_at row n before) ∙ at_same n added)
+added_at row n added before = at_append row (map (λ i. (n, i)) added) n ∙ (ap (λ l. l ++ inputs_at (map (λ i. (n, i)) added) n) (none_at row n before) ∙
+    at_same n added)
 
 -- and those at another count, which are as they were
 pub kept_at : (row : List (ℕ × Input)) (n m : ℕ) (added : List Input) → m ≢ n → inputs_at (row ++ map (λ i. (n, i)) added) m ≡ inputs_at row m

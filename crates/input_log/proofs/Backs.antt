@@ -1,5 +1,6 @@
 -- What was put behind the others of a hart, taken back.
-use Rattle.std.proofs.Common.{◌≡◌, ◌≢◌, ℕ, ◌-◌, ◌<◌, List, [], ◌∷◌, ◌++◌, get_or, length, take, set, length-set, get_or-set_same, get_or-set_other, arith, refl, sym, ap, ◌∙◌}
+use Rattle.std.proofs.Common.{◌≡◌, ◌≢◌, ℕ, ◌-◌, ◌<◌, List, [], ◌∷◌, ◌++◌, get_or, length, take, set, length-set, get_or-set_same, get_or-set_other, arith}
+use Rattle.std.proofs.Common.{refl, sym, ap, ◌∙◌}
 use Rattle.std.proofs.lemmas.List.{get_or_default}
 use Rattle.input_log.specs.declared.Input.{Input}
 use Rattle.input_log.specs.declared.WaitingBell.{WaitingBell}

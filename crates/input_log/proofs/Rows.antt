@@ -1,5 +1,7 @@
 -- Rows of counts, each with an input.
-use Rattle.std.proofs.Common.{◌≡◌, ℕ, ◌+◌, ◌-◌, ◌<◌, ◌≤◌, Bool, true, false, List, [], ◌∷◌, ◌++◌, length, get_or, take, drop, map, replicate, zero, suc, append_assoc, length-append, arith, refl, sym, ap, subst, ◌∙◌, inl, inr, le_trans, le_refl, All, length-drop, length-take, take-append-drop, ◌==◌, eq-eqb, ne_eqb, append-nil}
+use Rattle.std.proofs.Common.{◌≡◌, ℕ, ◌+◌, ◌-◌, ◌<◌, ◌≤◌, Bool, true, false, List, [], ◌∷◌, ◌++◌, length, get_or, take, drop, map, replicate, zero, suc}
+use Rattle.std.proofs.Common.{append_assoc, length-append, arith, refl, sym, ap, subst, ◌∙◌, inl, inr, le_trans, le_refl, All, length-drop, length-take}
+use Rattle.std.proofs.Common.{take-append-drop, ◌==◌, eq-eqb, ne_eqb, append-nil}
 use Rattle.std.specs.List.{AllWithin, Any, filter, zip}
 use Rattle.std.specs.List.Sorted.{IsNonDecreasing}
 use Rattle.std.proofs.lemmas.Bool.{cases_lt, cases_eq}
@@ -47,7 +49,8 @@ module _ {A : Type 0} where
         filter_all (λ x. number x == n) (take j (drop i xs))
         (all_front (λ x. (number x == n) ≡ true) (drop i xs) j within_j
         (λ k d a b. eq-eqb (number (get_or (drop i xs) k d)) n
-        (let l : number (get_or (drop i xs) k d) ≤ n = upto k d a b in let m : n ≤ number (get_or (drop i xs) k d) = later k d (omega arith) in omega arith))) in
+        (let l : number (get_or (drop i xs) k d) ≤ n = upto k d a b in let m : n ≤ number (get_or (drop i xs) k d) = later k d (omega arith) in omega arith)))
+        in
         let over : filter (λ x. number x == n) (drop j (drop i xs)) ≡ [] =
         filter_none (λ x. number x == n) (drop j (drop i xs))
         (all_back (λ x. (number x == n) ≡ false) (drop i xs) j within_j

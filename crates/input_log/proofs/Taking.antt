@@ -1,5 +1,6 @@
 -- What goes from the front of a queue.
-use Rattle.std.proofs.Common.{◌≡◌, ℕ, suc, ◌+◌, ◌-◌, ◌<◌, Bool, true, false, cond, List, [], ◌∷◌, ◌++◌, length, get_or, take, drop, map, leb, Option, None, Some, arith, refl, sym, ap, ◌∙◌, true≢false}
+use Rattle.std.proofs.Common.{◌≡◌, ℕ, suc, ◌+◌, ◌-◌, ◌<◌, Bool, true, false, cond, List, [], ◌∷◌, ◌++◌, length, get_or, take, drop, map, leb, Option, None}
+use Rattle.std.proofs.Common.{Some, arith, refl, sym, ap, ◌∙◌, true≢false}
 use Rattle.std.specs.List.{take_while}
 use Rattle.std.specs.Option.{option_to_list}
 use Rattle.std.proofs.Math.Seq.{take-nil, drop-nil}

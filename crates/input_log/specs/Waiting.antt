@@ -1,5 +1,6 @@
 -- Inputs that wait.
-use Rattle.std.specs.Prelude.{ℕ, ◌≡◌, ◌≢◌, ◌-◌, ◌++◌, false, List, [], ◌∷◌, Option, Some, None, map, take, drop, take_while, nat_le, length, slice_index_or, All}
+use Rattle.std.specs.Prelude.{ℕ, ◌≡◌, ◌≢◌, ◌-◌, ◌++◌, false, List, [], ◌∷◌, Option, Some, None, map, take, drop, take_while, nat_le, length, slice_index_or}
+use Rattle.std.specs.Prelude.{All}
 use Rattle.input_log.specs.declared.Input.{Input}
 use Rattle.input_log.specs.declared.Input.TheVariants.{Bell}
 use Rattle.input_log.specs.declared.WaitingBell.{WaitingBell}

@@ -1,6 +1,7 @@
 //! The inputs that were given, each at its count.
 
-ghost use Rattle.std.specs.Prelude.{◌≡◌, ◌≢◌, ℕ, ◌+◌, ◌-◌, ◌<◌, ◌≤◌, ◌↔◌, ◌++◌, List, ◌∷◌, [], All, Any, length, map, take, zip, IsTrue, OnOk, OnErr, IfOk, IfSome, IfNone};
+ghost use Rattle.std.specs.Prelude.{◌≡◌, ◌≢◌, ℕ, ◌+◌, ◌-◌, ◌<◌, ◌≤◌, ◌↔◌, ◌++◌, List, ◌∷◌, [], All, Any, length, map, take, zip, IsTrue, OnOk, OnErr, IfOk};
+ghost use Rattle.std.specs.Prelude.{IfSome, IfNone};
 ghost use Rattle.std.specs.List.Sorted.{IsNonDecreasing};
 ghost use Rattle.input_log.specs.Inputs.{inputs_of, inputs_at, MayFollow, AreAddedTo};
 
@@ -131,7 +132,8 @@ impl InputLog {
         ensures left { inputs_of self.new hart ≡ take (length (inputs_of self.old hart) - many) (inputs_of self.old hart) }
         ensures others_kept { (other : ℕ) → other ≢ hart → inputs_of self.new other ≡ inputs_of self.old other }
         // Whatever log so many were added to, this is that log again.
-        ensures back { (before : List (List (ℕ × Input))) → (added : List (ℕ × Input)) → length added ≡ many → AreAddedTo before hart added self.old → self.new ≡ before }
+        ensures back { (before : List (List (ℕ × Input))) → (added : List (ℕ × Input)) → length added ≡ many → AreAddedTo before hart added self.old →
+            self.new ≡ before }
     {
         let row = &mut self.rows[hart.index()];
         row.take_back(many);

@@ -1,6 +1,7 @@
 -- A script has one reading: what it offers, or one fault.
 use Rattle.std.proofs.lemmas.Bool.Decides.{nat_tests}
-use Rattle.std.proofs.Common.{◌≡◌, ℕ, zero, suc, ◌+◌, ◌/◌, ◌%◌, ◌^◌, ◌<◌, List, [], ◌∷◌, ◌++◌, length, get_or, Result, Ok, Err, refl, ap, sym, ◌∙◌, arith, inl, inr, append_assoc, length-append}
+use Rattle.std.proofs.Common.{◌≡◌, ℕ, zero, suc, ◌+◌, ◌/◌, ◌%◌, ◌^◌, ◌<◌, List, [], ◌∷◌, ◌++◌, length, get_or, Result, Ok, Err, refl, ap, sym, ◌∙◌, arith, inl}
+use Rattle.std.proofs.Common.{inr, append_assoc, length-append}
 use Rattle.std.specs.Prelude.{decimal, codes, ◌⊎◌, IfOk, IfErr, MatchResult}
 use Rattle.std.proofs.lemmas.Grind.{common_steps, flat_map-append}
 use Rattle.std.proofs.lemmas.Fmt.{decimal_injective}
@@ -11,7 +12,8 @@ use Rattle.input_log.specs.declared.Input.TheVariants as input
 use Rattle.input_script.specs.declared.fault.ScriptFault.{ScriptFault}
 use Rattle.input_script.specs.declared.fault.ScriptFault.TheVariants.{BadLine, Memory}
 use Rattle.input_script.specs.declared.script.Offered.{Offered}
-use Rattle.input_script.specs.Script.{IsWaited, MayBeOffered, AreOffered, input_text, offered_text, offered_line, script_text, BeginsWith, LacksLine, LinesThen, IsFault}
+use Rattle.input_script.specs.Script.{IsWaited, MayBeOffered, AreOffered, input_text, offered_text, offered_line, script_text, BeginsWith, LacksLine}
+use Rattle.input_script.specs.Script.{LinesThen, IsFault}
 use Rattle.input_script.proofs.Fields.{one_hart_field, one_count_field, hart_field, count_field, same_line, offered_no_break}
 
 -- ---- lines one after the other

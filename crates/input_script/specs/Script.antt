@@ -61,5 +61,6 @@ LinesThen harts bytes os rest = AreOffered harts os × (bytes ≡ script_text os
 
 -- the lines before line k are right, and line k is there and is not
 abbrev pub IsFault : ℕ → List ℕ → ScriptFault → Type 0
-IsFault harts bytes (BadLine k) = (os : List Offered) × (rest : List ℕ) × LinesThen harts bytes os rest × (0 < length rest) × LacksLine harts rest × (k ≡ length os + 1)
+IsFault harts bytes (BadLine k) = (os : List Offered) × (rest : List ℕ) × LinesThen harts bytes os rest × (0 < length rest) × LacksLine harts rest ×
+    (k ≡ length os + 1)
 IsFault harts bytes Memory = Unit {0}

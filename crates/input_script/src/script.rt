@@ -49,9 +49,11 @@ pub fn read_script(alloc: Global, bytes: &[u8], harts: u8) -> Result<Vec<Offered
     // The first line at fault decides.
     ensures fault { IfErr result (λ e. IsFault harts bytes.now e) }
     // What is spelled so is read, unless memory runs out.
-    ensures only { (offers : List offered_of_specs) → AreOffered harts offers → bytes.now ≡ script_text offers → MatchResult result (λ script. script.items ≡ offers) (λ e. e ≡ ScriptFault.Memory) }
+    ensures only { (offers : List offered_of_specs) → AreOffered harts offers → bytes.now ≡ script_text offers →
+        MatchResult result (λ script. script.items ≡ offers) (λ e. e ≡ ScriptFault.Memory) }
     // A script with a line at fault has that fault, unless memory runs out.
-    ensures exact { (line : ℕ) → IsFault harts bytes.now (ScriptFault.BadLine line) → MatchResult result (λ _. ⊥) (λ e. (e ≡ ScriptFault.Memory) ⊎ (e ≡ ScriptFault.BadLine line)) }
+    ensures exact { (line : ℕ) → IsFault harts bytes.now (ScriptFault.BadLine line) → MatchResult result (λ _. ⊥) (λ e. (e ≡ ScriptFault.Memory) ⊎
+        (e ≡ ScriptFault.BadLine line)) }
 {
     read_lines(alloc, bytes, harts)
 }

@@ -1,12 +1,13 @@
 -- The interleaving's machine at a cut, hart by hart and page by page.
-use Rattle.std.proofs.Common.{◌≡◌, ◌≢◌, ◌⊎◌, inl, inr, ℕ, ◌+◌, ◌≤◌, true, false, cond, List, [], ◌∷◌, ◌++◌, Option, Some, None, MatchOption, filter, refl, sym, ap, subst, ◌∙◌, arith, le_trans, lt-ltb, le-ltb, ◌<◌, true≢false}
+use Rattle.std.proofs.Common.{◌≡◌, ◌≢◌, ◌⊎◌, inl, inr, ℕ, ◌+◌, ◌≤◌, true, false, cond, List, [], ◌∷◌, ◌++◌, Option, Some, None, MatchOption, filter, refl, sym}
+use Rattle.std.proofs.Common.{ap, subst, ◌∙◌, arith, le_trans, lt-ltb, le-ltb, ◌<◌, true≢false}
 use Rattle.std.proofs.lemmas.Bool.{cases_Bool, cases_lt}
 use Rattle.interleaving.specs.Lists.{Each}
 use Rattle.interleaving.specs.Log.{bump}
 use Rattle.interleaving.specs.Machine.{Machine, System, Turn, Step, Write, Writes, written, after, after_all, counts, step_of, steps, inside, Runs, run}
 use Rattle.interleaving.specs.AsItWas.{HartAsItWas, HartWasThere, PageAsItWas, PageUnwritten, PageHasWriter}
 use Rattle.interleaving.proofs.Put.{same_or_not, put_same, put_other, written_other, bump_other, bump_le}
-use Rattle.interleaving.proofs.Pull.{counts_step}
+use Rattle.interleaving.proofs.NextStep.{counts_step}
 use Rattle.interleaving.proofs.Runs.{runs_front, counts_grow}
 
 -- a page that is written does not depend on what was there

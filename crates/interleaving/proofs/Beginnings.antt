@@ -7,7 +7,7 @@ use Rattle.interleaving.specs.Log.{Edge, Log, IsCut, IsClosed, IsMet, Begins, co
 use Rattle.interleaving.specs.Beginnings.{FrontBegins, Reached, EndsAreCuts, Extends, OwnOrder, order_at}
 use Rattle.interleaving.proofs.Put.{same_or_not, put_same, bump_same, bump_other, bump_le}
 use Rattle.interleaving.proofs.Order.{bump_closed}
-use Rattle.interleaving.proofs.Pull.{Rest, tail, counts_step}
+use Rattle.interleaving.proofs.NextStep.{Rest, tail, counts_step}
 use Rattle.interleaving.proofs.Runs.{counts_grow}
 use Rattle.interleaving.proofs.Replay.{Followed, followed, confluence, rest_of}
 

@@ -1,10 +1,12 @@
 -- Closed cuts: the greater of two, the greatest below a bound; edges that say nothing new.
-use Rattle.std.proofs.Common.{◌≡◌, ◌⊎◌, inl, inr, ℕ, zero, suc, ◌+◌, ◌<◌, ◌≤◌, true, false, cond, List, [], ◌∷◌, Contains, nat_lt, refl, sym, ap, subst, ◌∙◌, arith, le_trans, lt-ltb, le-ltb}
+use Rattle.std.proofs.Common.{◌≡◌, ◌⊎◌, inl, inr, ℕ, zero, suc, ◌+◌, ◌<◌, ◌≤◌, true, false, cond, List, [], ◌∷◌, Contains, nat_lt, refl, sym, ap, subst, ◌∙◌}
+use Rattle.std.proofs.Common.{arith, le_trans, lt-ltb, le-ltb}
 use Rattle.std.proofs.lemmas.Bool.{cases_lt}
 use Rattle.std.proofs.lemmas.List.Elements.{Contains-append_cases, Contains-append_left, Contains-append_right}
 use Rattle.interleaving.specs.Lists.{IsWithin}
 use Rattle.interleaving.specs.Log.{Edge, Place, Before, Own, Across, Through, IsClosed, IsMet, Begins, bump}
-use Rattle.interleaving.specs.Cuts.{StartIsClosed, GreaterIsClosed, IsGreatest, IsBroken, ClosedOrBroken, IsLowering, LoweringKeeps, lowered, IsEnough, ImpliedMayGo}
+use Rattle.interleaving.specs.Cuts.{StartIsClosed, GreaterIsClosed, IsGreatest, IsBroken, ClosedOrBroken, IsLowering, LoweringKeeps, lowered, IsEnough}
+use Rattle.interleaving.specs.Cuts.{ImpliedMayGo}
 use Rattle.interleaving.proofs.Put.{same_or_not, put_same, put_other, bump_le}
 use Rattle.interleaving.proofs.Order.{before_inside, bump_closed}
 

@@ -1,5 +1,6 @@
 -- Facts on given edges, decided by computing.
-use Rattle.std.proofs.Common.{◌≡◌, ◌≢◌, inl, inr, ℕ, ◌==◌, ◌&&◌, ◌<◌, ◌≤◌, Bool, true, false, cond, not, List, [], ◌∷◌, nat_lt, sym, ◌∙◌, refl, eq-eqb, lt-ltb, le-ltb, true≢false}
+use Rattle.std.proofs.Common.{◌≡◌, ◌≢◌, inl, inr, ℕ, ◌==◌, ◌&&◌, ◌<◌, ◌≤◌, Bool, true, false, cond, not, List, [], ◌∷◌, nat_lt, sym, ◌∙◌, refl, eq-eqb, lt-ltb}
+use Rattle.std.proofs.Common.{le-ltb, true≢false}
 use Rattle.std.proofs.lemmas.Bool.{cases_lt}
 use Rattle.interleaving.specs.Lists.{Each}
 use Rattle.interleaving.specs.Machine.{Step}

@@ -1,11 +1,13 @@
 -- Machines whose harts and pages stand in lists.
-use Rattle.std.proofs.Common.{◌≡◌, ◌≢◌, ◌⊎◌, inl, inr, ℕ, zero, suc, ◌<◌, true, false, List, [], ◌∷◌, Option, Some, None, MatchOption, option_map, slice_get, slice_set, length, refl, sym, ap, subst, ◌∙◌, arith, true≢false}
+use Rattle.std.proofs.Common.{◌≡◌, ◌≢◌, ◌⊎◌, inl, inr, ℕ, zero, suc, ◌<◌, true, false, List, [], ◌∷◌, Option, Some, None, MatchOption, option_map, slice_get}
+use Rattle.std.proofs.Common.{slice_set, length, refl, sym, ap, subst, ◌∙◌, arith, true≢false}
 use Rattle.std.proofs.lemmas.Bool.{cases_Bool}
 use Rattle.std.proofs.lemmas.Option.{slice_get_within}
 use Rattle.interleaving.specs.Lists.{put}
 use Rattle.interleaving.specs.Machine.{Turn, Step, Write, written, after, step_of, Runs, run, at}
 use Rattle.interleaving.specs.Log.{turns_of, IsReplayed}
-use Rattle.interleaving.specs.Stored.{Store, Hardware, written_in, stored_after, goes, run_from, halted_of, effect_of, system_of, view, RunsStored, StoredRuns, OneOutcome}
+use Rattle.interleaving.specs.Stored.{Store, Hardware, written_in, stored_after, goes, run_from, halted_of, effect_of, system_of, view, RunsStored, StoredRuns}
+use Rattle.interleaving.specs.Stored.{OneOutcome}
 use Rattle.interleaving.proofs.Put.{same_or_not, put_same, put_other}
 use Rattle.interleaving.proofs.Replay.{confluence}
 

@@ -3,7 +3,7 @@ use Rattle.std.proofs.Common.{◌≡◌, ◌≢◌, ◌⊎◌, inl, inr, ℕ, �
 use Rattle.interleaving.specs.Machine.{Step}
 use Rattle.interleaving.specs.Log.{Edge, Place, Before, Own, Across, Through, IsClosed, IsMet, EachMet, bump}
 use Rattle.interleaving.proofs.Put.{same_or_not, put_same, bump_other, bump_le, bump_swap}
-use Rattle.interleaving.proofs.Pulled.{Pulled, Here, There}
+use Rattle.interleaving.proofs.Removal.{Pulled, Here, There}
 
 -- what is before a step inside a closed cut is inside it
 pub before_inside : (edges : List Edge) (cut : ℕ → ℕ) → IsClosed edges cut → {a b : Place} → Before edges a b →

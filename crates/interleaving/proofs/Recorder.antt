@@ -1,5 +1,6 @@
 -- What a recorder writes of a run is an honest log.
-use Rattle.std.proofs.Common.{◌≡◌, ◌≢◌, ◌∙◌, ne_eqb, ◌⊎◌, inl, inr, ℕ, ◌+◌, ◌==◌, ◌&&◌, ◌<◌, ◌≤◌, Bool, true, false, cond, if◌then◌else◌, List, [], ◌∷◌, ◌++◌, Option, Some, None, MatchOption, Contains, refl, sym, ap, subst, arith, le_trans, append_assoc, eq-eqb, eqb-true, true≢false}
+use Rattle.std.proofs.Common.{◌≡◌, ◌≢◌, ◌∙◌, ne_eqb, ◌⊎◌, inl, inr, ℕ, ◌+◌, ◌==◌, ◌&&◌, ◌<◌, ◌≤◌, Bool, true, false, cond, if◌then◌else◌, List, [], ◌∷◌, ◌++◌}
+use Rattle.std.proofs.Common.{Option, Some, None, MatchOption, Contains, refl, sym, ap, subst, arith, le_trans, append_assoc, eq-eqb, eqb-true, true≢false}
 use Rattle.std.proofs.lemmas.Bool.{cases_Bool}
 use Rattle.std.proofs.lemmas.List.Elements.{Contains-append_cases, Contains-append_left, Contains-append_right}
 use Rattle.interleaving.specs.Lists.{Each, EachPair}
@@ -299,7 +300,8 @@ module _ {Hart Page Input : Type 0} (system : System Hart Page Input) where
         closed =
             λ e is_edge below.
             let a : counts system m e.hart ≤ e.step =
-            recorded_later (counts system m) [] (steps system m turns) e tt (in_turn system m turns runs) (subst (λ es. Contains es e) recording.edges is_edge) in
+            recorded_later (counts system m) [] (steps system m turns) e tt (in_turn system m turns runs) (subst (λ es. Contains es e) recording.edges is_edge)
+            in
             let b : log.start e.hart ≡ counts system m e.hart = recording.start e.hart in
             absurd (omega arith);
         met =

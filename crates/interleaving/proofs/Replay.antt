@@ -4,9 +4,9 @@ use Rattle.std.proofs.lemmas.Bool.{cases_lt}
 use Rattle.interleaving.specs.Machine.{Machine, System, Turn, after, after_all, counts, step_of, steps, inside, Runs, run, at}
 use Rattle.interleaving.specs.Log.{Log, IsClosed, IsMet, EachMet, IsHonest, IsCut, MayGo, Begins, counts_after, turns_of, GoesOn, Confluence, bump}
 use Rattle.interleaving.proofs.Put.{same_or_not, put_other, bump_other, bump_le}
-use Rattle.interleaving.proofs.Pulled.{Pulled, pulled_filter}
+use Rattle.interleaving.proofs.Removal.{Pulled, pulled_filter}
 use Rattle.interleaving.proofs.Stuck.{stuck_cannot_go_on}
-use Rattle.interleaving.proofs.Pull.{Rest, next, turn_of, tail, goes, advance, pull, counts_step}
+use Rattle.interleaving.proofs.NextStep.{Rest, next, turn_of, tail, goes, advance, pull, counts_step}
 
 module _ {Hart Page Input : Type 0} (system : System Hart Page Input) (log : Log Input) where
   -- after these harts have gone, something is left of the interleaving, and its machine at the cut is the same

@@ -4,7 +4,7 @@ use Rattle.interleaving.specs.Lists.{IsWithin, Each}
 use Rattle.interleaving.specs.Machine.{System, Machine, Turn, Step, after, counts, step_of, steps, Runs, run}
 use Rattle.interleaving.specs.Log.{bump, counts_after, turns_of}
 use Rattle.interleaving.proofs.Put.{bump_le}
-use Rattle.interleaving.proofs.Pull.{counts_step}
+use Rattle.interleaving.proofs.NextStep.{counts_step}
 use Rattle.interleaving.proofs.Each.{each_more}
 
 -- the harts of a beginning's turns are its order

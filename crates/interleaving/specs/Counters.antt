@@ -1,6 +1,7 @@
 -- A system small enough to follow by hand: its harts count their steps, store their counts on pages, and load what
 -- is there.
-use Rattle.std.specs.Prelude.{ℕ, ◌≡◌, ◌+◌, ◌-◌, ◌^◌, ◌==◌, Bool, true, false, List, [], ◌∷◌, Option, Some, None, Contains, MatchOption, map, option_map, unwrap_or, slice_get, refl}
+use Rattle.std.specs.Prelude.{ℕ, ◌≡◌, ◌+◌, ◌-◌, ◌^◌, ◌==◌, Bool, true, false, List, [], ◌∷◌, Option, Some, None, Contains, MatchOption, map, option_map}
+use Rattle.std.specs.Prelude.{unwrap_or, slice_get, refl}
 use Rattle.std.proofs.Common.{ap, subst, arith}
 use Rattle.interleaving.specs.Machine.{Write, Effect, Writes, Turn}
 use Rattle.interleaving.specs.Stored.{Hardware, Store, goes}

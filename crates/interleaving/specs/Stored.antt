@@ -1,5 +1,6 @@
 -- Machines whose harts and pages stand in lists.
-use Rattle.std.specs.Prelude.{ℕ, ◌≡◌, ◌+◌, Bool, true, false, List, [], ◌∷◌, Option, Some, None, Contains, option_map, if◌then◌else◌, slice_get, slice_set, MatchOption, refl}
+use Rattle.std.specs.Prelude.{ℕ, ◌≡◌, ◌+◌, Bool, true, false, List, [], ◌∷◌, Option, Some, None, Contains, option_map, if◌then◌else◌, slice_get, slice_set}
+use Rattle.std.specs.Prelude.{MatchOption, refl}
 use Rattle.std.proofs.Common.{ap, true≢false}
 use Rattle.interleaving.specs.Machine.{Write, Effect, Writes, System, Machine, Turn, Runs, run, at}
 use Rattle.interleaving.specs.Log.{Log, IsHonest, IsCut, IsSchedule, turns_of}

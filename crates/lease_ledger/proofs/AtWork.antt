@@ -1,6 +1,7 @@
 -- Two leases side by side, and a lease whose type forgot at which count it took a page and which settles a log that is not
 -- honest.
-use Rattle.std.proofs.Common.{◌≡◌, ◌≢◌, ◌⊎◌, inl, inr, ℕ, ◌==◌, ◌&&◌, not, is_some, ◌<◌, Bool, true, false, cond, if◌then◌else◌, [], ◌∷◌, Some, None, Contains, refl, sym, subst, ◌∙◌, arith, eqb-true, true≢false}
+use Rattle.std.proofs.Common.{◌≡◌, ◌≢◌, ◌⊎◌, inl, inr, ℕ, ◌==◌, ◌&&◌, not, is_some, ◌<◌, Bool, true, false, cond, if◌then◌else◌, [], ◌∷◌, Some, None, Contains}
+use Rattle.std.proofs.Common.{refl, sym, subst, ◌∙◌, arith, eqb-true, true≢false}
 use Rattle.std.proofs.lemmas.Bool.{and_parts, ne_eqb}
 use Rattle.ft_types.specs.declared.names.Want.TheVariants.{Read, Write}
 use Rattle.interleaving.specs.Log.{Edge, Log, Before, IsHonest}
@@ -14,7 +15,9 @@ use Rattle.crew_pages.specs.Rights.{Right, Shared, nobody, stands, count_of, IsO
 use Rattle.lease_ledger.specs.Ledger.{begin, IsLease, IsOurs}
 use Rattle.lease_ledger.specs.Calls.{has_taken, HeldBy, Given, All, Nothing, NotYet, Then, AreOwed, Reached, Begun, Opened, Needed, Settled}
 use Rattle.lease_ledger.specs.Laws.{lease_needed}
-use Rattle.lease_ledger.specs.Examples.{start, writing, writer, lent_to_write, wrote, beside, asker, refused, kept_on, first_edge, lent_on, loaded, SideBySide, stored, reading, reader, lent_to_read, went_on, loads_from_1, edge, lent_both, honest_reader, forged, last, ForgetsCounts}
+use Rattle.lease_ledger.specs.Examples.{start, writing, writer, lent_to_write, wrote, beside, asker, refused, kept_on, first_edge, lent_on, loaded, SideBySide}
+use Rattle.lease_ledger.specs.Examples.{stored, reading, reader, lent_to_read, went_on, loads_from_1, edge, lent_both, honest_reader, forged, last}
+use Rattle.lease_ledger.specs.Examples.{ForgetsCounts}
 use Rattle.lease_ledger.proofs.Invariant.{none_in}
 use Rattle.lease_ledger.proofs.GoesOn.{opens, ticks, needs}
 

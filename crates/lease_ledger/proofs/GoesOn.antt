@@ -1,5 +1,6 @@
 -- A lease goes on, and passes each comparison.
-use Rattle.std.proofs.Common.{◌≡◌, ◌≢◌, inl, inr, ℕ, is_some, ◌≤◌, Bool, true, false, if◌then◌else◌, List, [], ◌∷◌, Some, None, refl, sym, ap, subst, ◌∙◌, arith, le_trans}
+use Rattle.std.proofs.Common.{◌≡◌, ◌≢◌, inl, inr, ℕ, is_some, ◌≤◌, Bool, true, false, if◌then◌else◌, List, [], ◌∷◌, Some, None, refl, sym, ap, subst, ◌∙◌}
+use Rattle.std.proofs.Common.{arith, le_trans}
 use Rattle.ft_types.specs.declared.names.Want.{Want}
 use Rattle.interleaving.specs.Lists.{put, Each}
 use Rattle.interleaving.specs.Log.{Edge}

@@ -1,5 +1,6 @@
 -- What holds of a ledger after each call.
-use Rattle.std.proofs.Common.{◌≡◌, ◌≢◌, inl, inr, ℕ, is_some, unwrap_or, ◌<◌, ◌≤◌, true, if◌then◌else◌, List, [], ◌++◌, Option, Some, None, Contains, refl, sym, subst, arith, le_trans, le_refl, true≢false}
+use Rattle.std.proofs.Common.{◌≡◌, ◌≢◌, inl, inr, ℕ, is_some, unwrap_or, ◌<◌, ◌≤◌, true, if◌then◌else◌, List, [], ◌++◌, Option, Some, None, Contains, refl}
+use Rattle.std.proofs.Common.{sym, subst, arith, le_trans, le_refl, true≢false}
 use Rattle.std.proofs.lemmas.List.Elements.{Contains-append_cases, Contains-append_left, Contains-append_right}
 use Rattle.interleaving.specs.Lists.{put, EachPair}
 use Rattle.interleaving.specs.Machine.{System, Machine, Turn, Step, counts, steps, Runs, run}

@@ -1,5 +1,6 @@
 -- The laws of ledgers and leases.
-use Rattle.std.proofs.Common.{◌≡◌, inl, inr, ℕ, zero, suc, ◌<◌, ◌≤◌, true, false, List, [], ◌∷◌, ◌++◌, map, slice_index_or, Some, Contains, refl, sym, ap, subst, ◌∙◌, arith, append_assoc, true≢false}
+use Rattle.std.proofs.Common.{◌≡◌, inl, inr, ℕ, zero, suc, ◌<◌, ◌≤◌, true, false, List, [], ◌∷◌, ◌++◌, map, slice_index_or, Some, Contains, refl, sym, ap}
+use Rattle.std.proofs.Common.{subst, ◌∙◌, arith, append_assoc, true≢false}
 use Rattle.std.proofs.lemmas.List.Elements.{Contains-append_left, Contains-append_right, All-contains, All-contains_itself}
 use Rattle.std.specs.List.{flat_map}
 use Rattle.ft_types.specs.Counts.{count_at}
@@ -18,7 +19,8 @@ use Rattle.edge_log.specs.declared.Edge as declared
 use Rattle.crew_pages.specs.Rights.{Right, stands, holds, give_up}
 use Rattle.lease_ledger.specs.Ledger.{Ledger}
 use Rattle.lease_ledger.specs.Calls.{has_taken, All, settled, GivenUp, NotYet, Then, Settled}
-use Rattle.lease_ledger.specs.Laws.{InOrder, IsOf, log_of, IsInLog, HasItsOrder, KeepsLedger, HasHonestLog, AddsItsSteps, LaysItsRun, KeepsOrder, MayAddNext, KeepsRights, LeavesTheWay, HeldByTakers, RunsInLists, LeasesGoOn, NoneIsForeign, TicksGoOn, LendsMore}
+use Rattle.lease_ledger.specs.Laws.{InOrder, IsOf, log_of, IsInLog, HasItsOrder, KeepsLedger, HasHonestLog, AddsItsSteps, LaysItsRun, KeepsOrder, MayAddNext}
+use Rattle.lease_ledger.specs.Laws.{KeepsRights, LeavesTheWay, HeldByTakers, RunsInLists, LeasesGoOn, NoneIsForeign, TicksGoOn, LendsMore}
 use Rattle.lease_ledger.proofs.Stays.{gone, stands_holds, stood_against, still_against}
 use Rattle.lease_ledger.proofs.Invariant.{none_in, Ok}
 use Rattle.lease_ledger.proofs.Settling.{all_is}

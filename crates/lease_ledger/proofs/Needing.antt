@@ -1,5 +1,6 @@
 -- A lease asks for a page.
-use Rattle.std.proofs.Common.{◌≡◌, ◌≢◌, inl, inr, ℕ, is_some, unwrap_or, ◌≤◌, true, false, if◌then◌else◌, List, [], ◌++◌, Option, Some, None, Contains, refl, sym, ap, subst, ◌∙◌, arith, le_trans, le_refl, le_of_eq, true≢false}
+use Rattle.std.proofs.Common.{◌≡◌, ◌≢◌, inl, inr, ℕ, is_some, unwrap_or, ◌≤◌, true, false, if◌then◌else◌, List, [], ◌++◌, Option, Some, None, Contains, refl}
+use Rattle.std.proofs.Common.{sym, ap, subst, ◌∙◌, arith, le_trans, le_refl, le_of_eq, true≢false}
 use Rattle.std.proofs.lemmas.List.Elements.{Contains-append_cases, Contains-append_left, Contains-append_right}
 use Rattle.ft_types.specs.declared.names.Want.{Want}
 use Rattle.ft_types.specs.declared.names.Want.TheVariants.{Read, Write}
@@ -17,10 +18,12 @@ use Rattle.lease_ledger.specs.Ledger.{Stub, Lease, Ledger, noted, noted_to_write
 use Rattle.lease_ledger.specs.Calls.{has_taken, AreOwed, Answer, HeldBy, Given, IsAnswered, GivenUp, NotYet, Then, IsYielded, needed}
 use Rattle.lease_ledger.specs.Laws.{InOrder, IsWaiting}
 use Rattle.lease_ledger.proofs.Runs.{pairs_all}
-use Rattle.lease_ledger.proofs.Stays.{Stays, stays, stays_on, stays_give_up, stays_given, stands_holds, lacks_to_read, lacks_to_write, given_holds, given_owns, reading_owns_nothing, at_given}
+use Rattle.lease_ledger.proofs.Stays.{Stays, stays, stays_on, stays_give_up, stays_given, stands_holds, lacks_to_read, lacks_to_write, given_holds, given_owns}
+use Rattle.lease_ledger.proofs.Stays.{reading_owns_nothing, at_given}
 use Rattle.lease_ledger.proofs.Used.{numbered, within}
 use Rattle.lease_ledger.proofs.Noted.{noted_same, noted_keeps, noted_cases, noted_le, to_write_cases, to_write_le, pending_grows, stood_still}
-use Rattle.lease_ledger.proofs.Invariant.{StoodAt, AtFirst, ToRead, ToWrite, pending, own, read_from, write_from, now, late, is_some_of, some_of, among_nil, among_append, at_put, some_put, scene, RightAt, StubOk, Ok, stub_rights, stub_put}
+use Rattle.lease_ledger.proofs.Invariant.{StoodAt, AtFirst, ToRead, ToWrite, pending, own, read_from, write_from, now, late, is_some_of, some_of, among_nil}
+use Rattle.lease_ledger.proofs.Invariant.{among_append, at_put, some_put, scene, RightAt, StubOk, Ok, stub_rights, stub_put}
 
 module _ {Hart Page Input : Type 0} (system : System Hart Page Input) (crew : ℕ) (start : Machine Hart Page) (b : Ledger Hart Page Input)
     (ok : Ok system crew start b) where

@@ -7,7 +7,8 @@ use Rattle.interleaving.specs.Log.{Edge}
 use Rattle.interleaving.proofs.Put.{put_same, put_other}
 use Rattle.crew_pages.specs.Rights.{Right}
 use Rattle.lease_ledger.specs.Ledger.{Stub, Lease, Ledger, fresh_stub, taking, present, IsLease, IsOurs}
-use Rattle.lease_ledger.specs.Calls.{IsHeard, Answer, HeldBy, Given, Keep, IsYielded, IsAnswered, opened, needed, settled, dropped, Reached, Begun, Opened, Needed, Settled, Dropped}
+use Rattle.lease_ledger.specs.Calls.{IsHeard, Answer, HeldBy, Given, Keep, IsYielded, IsAnswered, opened, needed, settled, dropped, Reached, Begun, Opened}
+use Rattle.lease_ledger.specs.Calls.{Needed, Settled, Dropped}
 use Rattle.lease_ledger.specs.Laws.{MayTick, GoesOn, Played, Begins, Opens, Ticks, Asks, Settles, Drops, IsOut, lease_opened, lease_needed, lease_ticked}
 use Rattle.lease_ledger.proofs.Invariant.{at_put, some_put}
 use Rattle.lease_ledger.proofs.Reached.{reached_ok}

@@ -1,11 +1,12 @@
 -- Runs of one hart, runs on machines that agree on what they use, and edges that are met.
-use Rattle.std.proofs.Common.{◌≡◌, ◌≢◌, inl, inr, ℕ, ◌+◌, ◌<◌, ◌≤◌, Bool, true, false, List, [], ◌∷◌, ◌++◌, Option, Some, None, Contains, refl, sym, ap, subst, ◌∙◌, arith, le_trans, le_refl, true≢false}
+use Rattle.std.proofs.Common.{◌≡◌, ◌≢◌, inl, inr, ℕ, ◌+◌, ◌<◌, ◌≤◌, Bool, true, false, List, [], ◌∷◌, ◌++◌, Option, Some, None, Contains, refl, sym, ap, subst}
+use Rattle.std.proofs.Common.{◌∙◌, arith, le_trans, le_refl, true≢false}
 use Rattle.std.proofs.lemmas.List.Elements.{Contains-append_cases, Contains-append_right}
 use Rattle.interleaving.specs.Lists.{Each, EachPair}
 use Rattle.interleaving.specs.Machine.{Write, Writes, System, Machine, Turn, Step, written, after, counts, step_of, steps, Runs, run}
 use Rattle.interleaving.specs.Log.{Edge, EachMet, bump}
 use Rattle.interleaving.proofs.Put.{same_or_not, put_same, put_other, written_other, bump_same, bump_le}
-use Rattle.interleaving.proofs.Pull.{counts_step}
+use Rattle.interleaving.proofs.NextStep.{counts_step}
 use Rattle.interleaving.proofs.Cuts.{here_or_later, here}
 use Rattle.interleaving.proofs.Each.{each_from}
 use Rattle.interleaving.proofs.Runs.{counts_grow}

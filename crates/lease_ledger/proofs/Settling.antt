@@ -1,5 +1,6 @@
 -- A lease that passes the comparison is settled.
-use Rattle.std.proofs.Common.{◌≡◌, ◌≢◌, inl, inr, ℕ, is_some, unwrap_or, ◌<◌, ◌≤◌, Bool, true, false, if◌then◌else◌, List, [], ◌++◌, Option, Some, None, Contains, refl, sym, ap, subst, ◌∙◌, arith, le_trans, le_refl}
+use Rattle.std.proofs.Common.{◌≡◌, ◌≢◌, inl, inr, ℕ, is_some, unwrap_or, ◌<◌, ◌≤◌, Bool, true, false, if◌then◌else◌, List, [], ◌++◌, Option, Some, None}
+use Rattle.std.proofs.Common.{Contains, refl, sym, ap, subst, ◌∙◌, arith, le_trans, le_refl}
 use Rattle.std.proofs.lemmas.List.Elements.{Contains-append_cases, Contains-append_left}
 use Rattle.interleaving.specs.Lists.{put, EachPair}
 use Rattle.interleaving.specs.Machine.{Writes, System, Machine, Turn, Step, counts, steps, Runs, run}
@@ -18,7 +19,8 @@ use Rattle.lease_ledger.proofs.Runs.{pairs_all, steps_numbered, met_more, steps_
 use Rattle.lease_ledger.proofs.Alike.{its_runs, its_uses, present_is, laid_is}
 use Rattle.lease_ledger.proofs.Stays.{stays_kept}
 use Rattle.lease_ledger.proofs.Used.{IsPlaceOf, wrote_more, touched_more, in_wrote, in_touched, numbered, within}
-use Rattle.lease_ledger.proofs.Invariant.{StoodAt, AtFirst, ToRead, ToWrite, pending, own, read_from, write_from, now, late, or_le, among_nil, among_append, at_put, some_put, scene, RightAt, StubOk, LedgerOk, Ok, stub_rights}
+use Rattle.lease_ledger.proofs.Invariant.{StoodAt, AtFirst, ToRead, ToWrite, pending, own, read_from, write_from, now, late, or_le, among_nil, among_append}
+use Rattle.lease_ledger.proofs.Invariant.{at_put, some_put, scene, RightAt, StubOk, LedgerOk, Ok, stub_rights}
 
 or_bound : (o : Option ℕ) (n x : ℕ) → ((k : ℕ) → o ≡ Some k → k ≤ x) → n ≤ x → unwrap_or o n ≤ x
 or_bound None n x each le = le
@@ -334,6 +336,7 @@ module _ {Hart Page Input : Type 0} (system : System Hart Page Input) (crew : �
 
   pub settled_ok : (keep : ℕ → Keep) → Ok system crew start (settled system b l keep)
   settled_ok keep =
-      subst (λ n. LedgerOk system crew start n turns edges (λ page. kept (keep page) (b.rights page) l.hart (present system l)) closed) (sym (laid_is system b l lease ours))
+      subst (λ n. LedgerOk system crew start n turns edges (λ page. kept (keep page) (b.rights page) l.hart (present system l)) closed)
+      (sym (laid_is system b l lease ours))
       (subst (λ c. LedgerOk system crew start end turns edges (λ page. kept (keep page) (b.rights page) l.hart c) closed) (sym present_here)
       (settled_end keep))

@@ -1,5 +1,6 @@
 -- What a hart keeps of a right while others leave, are lowered or are given it, and who stands in whose way.
-use Rattle.std.proofs.Common.{◌≡◌, ◌≢◌, inl, inr, ℕ, ◌==◌, ◌≤◌, not, nat_lt, Bool, true, false, if◌then◌else◌, Some, refl, sym, ◌∙◌, le_trans, le_refl, eq-eqb, eqb-true, true≢false}
+use Rattle.std.proofs.Common.{◌≡◌, ◌≢◌, inl, inr, ℕ, ◌==◌, ◌≤◌, not, nat_lt, Bool, true, false, if◌then◌else◌, Some, refl, sym, ◌∙◌, le_trans, le_refl, eq-eqb}
+use Rattle.std.proofs.Common.{eqb-true, true≢false}
 use Rattle.std.proofs.lemmas.Bool.{and_parts, and_from, ne_eqb}
 use Rattle.ft_types.specs.declared.names.Want.{Want}
 use Rattle.ft_types.specs.declared.names.Want.TheVariants.{Read, Write}

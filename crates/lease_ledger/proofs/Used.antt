@@ -1,5 +1,6 @@
 -- The places of the steps that used a page.
-use Rattle.std.proofs.Common.{◌≡◌, ◌⊎◌, inl, inr, ℕ, ◌==◌, ◌<◌, Bool, true, false, cond, List, [], ◌∷◌, ◌++◌, map, filter, Option, Some, None, MatchOption, Contains, refl, sym, ap, subst, ◌∙◌, arith, eq-eqb, eqb-true, true≢false}
+use Rattle.std.proofs.Common.{◌≡◌, ◌⊎◌, inl, inr, ℕ, ◌==◌, ◌<◌, Bool, true, false, cond, List, [], ◌∷◌, ◌++◌, map, filter, Option, Some, None, MatchOption}
+use Rattle.std.proofs.Common.{Contains, refl, sym, ap, subst, ◌∙◌, arith, eq-eqb, eqb-true, true≢false}
 use Rattle.std.proofs.lemmas.List.Elements.{Contains-append_cases, Contains-append_right}
 use Rattle.interleaving.specs.Machine.{Write, Writes, System, Machine, Turn, Step, counts, steps, Runs, run}
 use Rattle.interleaving.specs.Log.{Place, place}

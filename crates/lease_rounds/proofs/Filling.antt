@@ -1,5 +1,6 @@
 -- A lease, step by step, and back in its book.
-use Rattle.std.proofs.Common.{◌≡◌, ◌≢◌, ℕ, zero, suc, ◌+◌, ◌<◌, ◌≤◌, ◌⊎◌, List, [], ◌∷◌, map, length, length-set, replicate, slice_get, slice_set, Option, None, Some, Result, Ok, Err, false, refl, sym, ap, subst, ◌∙◌, inl, inr, arith, lit<}
+use Rattle.std.proofs.Common.{◌≡◌, ◌≢◌, ℕ, zero, suc, ◌+◌, ◌<◌, ◌≤◌, ◌⊎◌, List, [], ◌∷◌, map, length, length-set, replicate, slice_get, slice_set, Option}
+use Rattle.std.proofs.Common.{None, Some, Result, Ok, Err, false, refl, sym, ap, subst, ◌∙◌, inl, inr, arith, lit<}
 use Rattle.std.specs.Result.{OnOk, is_err}
 use Rattle.rv32_hart.specs.declared.outcome.Tick.TheVariants.{Done, Miss}
 use Rattle.rv32_hart.specs.Hart.{Hart}
@@ -20,7 +21,8 @@ use Rattle.lease_rounds.specs.Leading.{IsIdle, IsAlone, Fills, NoneYet, Steps, T
 -- ---- a page that is given
 
 -- the other leases stay
-pub row_kept : (leases : List (Option OpenView)) (hart other : ℕ) (lent : Option OpenView) → other ≢ hart → open_at (slice_set leases hart lent) other ≡ open_at leases other
+pub row_kept : (leases : List (Option OpenView)) (hart other : ℕ) (lent : Option OpenView) → other ≢ hart → open_at (slice_set leases hart lent) other ≡ open_at
+    leases other
 row_kept [] hart other lent ne = refl
 row_kept (x ∷ leases) zero zero lent ne = absurd (ne refl)
 row_kept (x ∷ leases) zero (suc other) lent ne = refl
@@ -34,7 +36,8 @@ fewer_set [] page slot lt short = absurd (omega arith)
 fewer_set (s ∷ slots) zero slot lt short = omega (arith, short)
 fewer_set (s ∷ slots) (suc page) slot lt short = let rest = fewer_set slots page slot (omega arith) short in omega (arith, rest)
 
-fewer_beside : (held : Option Want) (want : Want) (l : LeaseView) (page : ℕ) (here : List ℕ) → want_of (slot_at l.slots page) ≡ held → page < length l.slots → (Covers held want → ⊥) →
+fewer_beside : (held : Option Want) (want : Want) (l : LeaseView) (page : ℕ) (here : List ℕ) → want_of (slot_at l.slots page) ≡ held → page < length l.slots →
+    (Covers held want → ⊥) →
     lacking (map want_of (with_page_beside held want l page here).slots) < lacking (map want_of l.slots)
 fewer_beside None Read l page here is lt lacks = fewer_set l.slots page (Readable here) lt (rw is (lit< tt))
 fewer_beside (Some held) Read l page here is lt lacks = absurd (lacks (covers_read held))
@@ -84,14 +87,16 @@ still_alone b c l k lent alone hart ours leases =
 -- ---- a step
 
 lent_on : (lent : Option OpenView) (m : MachineState) (earlier : List (ℕ × ℕ)) (k n : LeaseView) → n.stop ≡ k.stop → n.inputs ≡ k.inputs → n.edges ≡ k.edges →
-    ((machine : MachineState) (taken : List (Option Taken)) (earlier : List (ℕ × ℕ)) → IsLent machine taken (whole earlier k) → IsLent machine taken (whole earlier n)) → IsLentBy lent m (whole earlier k) → IsLentBy lent m (whole earlier n)
+    ((machine : MachineState) (taken : List (Option Taken)) (earlier : List (ℕ × ℕ)) → IsLent machine taken (whole earlier k) → IsLent machine taken
+    (whole earlier n)) → IsLentBy lent m (whole earlier k) → IsLentBy lent m (whole earlier n)
 lent_on None m earlier k n stop inputs edges still p = absurd p
 lent_on (Some lent) m earlier k n stop inputs edges still p =
     record { stop = stop ∙ p.stop; inputs = inputs ∙ p.inputs; edges = edges ∙ p.edges; is_lent = still m lent.taken earlier p.is_lent }
 
 -- a step leaves whose lease it is
 pub alone_ticked : {M : Type 0} (c : BookView M) (k n : LeaseView) →
-    ((machine : MachineState) (taken : List (Option Taken)) (earlier : List (ℕ × ℕ)) → IsLent machine taken (whole earlier k) → IsLent machine taken (whole earlier n)) →
+    ((machine : MachineState) (taken : List (Option Taken)) (earlier : List (ℕ × ℕ)) → IsLent machine taken (whole earlier k) → IsLent machine taken
+    (whole earlier n)) →
     IsAlone c k → Ticks Done k n → IsAlone c n
 alone_ticked c k n still alone t =
     let hart : n.hart ≡ k.hart = ap (λ (x : LeaseView). x.hart) t.0 in
@@ -99,7 +104,8 @@ alone_ticked c k n still alone t =
     let inputs : n.inputs ≡ k.inputs = ap (λ (x : LeaseView). x.inputs) t.0 in
     let edges : n.edges ≡ k.edges = ap (λ (x : LeaseView). x.edges) t.0 in
     record {
-      ours = subst (λ (h : ℕ). IsLentBy (open_at c.leases h) c.machine (whole (outputs_of (slice_get c.machine.harts h)) n)) (sym hart) (lent_on (open_at c.leases k.hart) c.machine (outputs_of (slice_get c.machine.harts k.hart)) k n stop inputs edges still alone.ours);
+      ours = subst (λ (h : ℕ). IsLentBy (open_at c.leases h) c.machine (whole (outputs_of (slice_get c.machine.harts h)) n)) (sym hart)
+          (lent_on (open_at c.leases k.hart) c.machine (outputs_of (slice_get c.machine.harts k.hart)) k n stop inputs edges still alone.ours);
       alone = λ h ne. alone.alone h (λ e. ne (e ∙ sym hart));
       rows = alone.rows;
     }
@@ -174,7 +180,8 @@ pub on_ok : {A E P Q : Type 0} (r : Result A E) → (P → Q) → OnOk r P → O
 on_ok (Ok x) f p = f p
 on_ok (Err x) f p = tt
 
-none_left : (leases : List (Option OpenView)) (hart other : ℕ) → (other ≢ hart → open_at leases other ≡ None) → open_at (slice_set leases hart None) other ≡ None
+none_left : (leases : List (Option OpenView)) (hart other : ℕ) → (other ≢ hart → open_at leases other ≡ None) → open_at (slice_set leases hart None) other ≡
+    None
 none_left [] hart other e = refl
 none_left (x ∷ leases) zero zero e = refl
 none_left (x ∷ leases) zero (suc other) e = e (λ f. cc)

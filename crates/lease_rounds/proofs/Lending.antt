@@ -1,5 +1,6 @@
 -- A hart that is lent, or refused.
-use Rattle.std.proofs.Common.{◌≡◌, ◌≢◌, ℕ, zero, suc, ◌<◌, ◌≤◌, ◌⊎◌, List, [], ◌∷◌, length, length-set, replicate, slice_get, slice_set, Option, None, Some, Bool, true, false, nat_le, if◌then◌else◌, refl, sym, ap, subst, ◌∙◌, inl, inr, arith}
+use Rattle.std.proofs.Common.{◌≡◌, ◌≢◌, ℕ, zero, suc, ◌<◌, ◌≤◌, ◌⊎◌, List, [], ◌∷◌, length, length-set, replicate, slice_get, slice_set, Option, None, Some}
+use Rattle.std.proofs.Common.{Bool, true, false, nat_le, if◌then◌else◌, refl, sym, ap, subst, ◌∙◌, inl, inr, arith}
 use Rattle.std.proofs.lemmas.Bool.Decides.{nat_tests}
 use Rattle.rv32_hart.specs.Hart.{Hart, without_outputs}
 use Rattle.ft_types.specs.Counts.{count_at}
@@ -52,7 +53,8 @@ lent_out g hart b l c within unrefused met lent mode book =
     record { state = h; there = there; unrefused = unrefused h there; met = met; lent = lent h there; mode = mode; book = book }
 
 -- a lease of the hart is the one lease of its book
-pub lease_alone : {M : Type 0} (g : Ghosts M) (hart : ℕ) (b : BookView M) (l : LeaseView) (c : BookView M) → IsIdle b → Lends g hart b l c → IsOurs c l → IsAlone c l
+pub lease_alone : {M : Type 0} (g : Ghosts M) (hart : ℕ) (b : BookView M) (l : LeaseView) (c : BookView M) → IsIdle b → Lends g hart b l c → IsOurs c l →
+    IsAlone c l
 lease_alone {M} g hart b l c idle lends ours =
     let own : l.hart ≡ hart = ap (λ (x : LeaseView). x.hart) lends.lent in
     record {
@@ -74,7 +76,8 @@ refused_stopped h limit f e = of h.halted refl e
     later true k g = grind (arith, nat_tests)
     later false k g = cc
 
-    of : (b : Bool) → h.halted ≡ b → (if b then Some Halted else (if nat_le limit h.count then Some AtLimit else None)) ≡ Some f → (h.halted ≡ true) ⊎ (limit ≤ h.count)
+    of : (b : Bool) → h.halted ≡ b → (if b then Some Halted else (if nat_le limit h.count then Some AtLimit else None)) ≡ Some f → (h.halted ≡ true) ⊎
+        (limit ≤ h.count)
     of true k g = inl k
     of false k g = inr (later (nat_le limit h.count) refl g)
 

@@ -1,3 +1,3 @@
 pub mod Filling
 pub mod Lending
-pub mod Going
+pub mod Rounds

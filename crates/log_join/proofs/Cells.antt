@@ -17,7 +17,8 @@ module _ {X : Type 0} {same : X → X → Bool} (told : (x y : X) → Decides (s
   turned x y =
       elim (same x y) as (λ b. same x y ≡ b → b ≡ same y x) [
         | true ↦ λ t. sym ((told y x).1 (sym (kept x y t)))
-        | false ↦ λ t. elim (same y x) as (λ b. same y x ≡ b → false ≡ b) [ true ↦ λ u. absurd (cc ((told x y).1 (sym (kept y x u)), t)) | false ↦ λ u. refl ] refl
+        | false ↦ λ t. elim (same y x) as (λ b. same y x ≡ b → false ≡ b) [ true ↦ λ u. absurd (cc ((told x y).1 (sym (kept y x u)), t)) | false ↦ λ u. refl ]
+            refl
       ] refl
 
   join_clash : (a : Cell X) → join_cell same a Clash ≡ Clash
@@ -30,8 +31,16 @@ module _ {X : Type 0} {same : X → X → Bool} (told : (x y : X) → Decides (s
       elim (same x y) as (λ b. same x y ≡ b → join_cell same (cond b (One x) Clash) (One z) ≡ join_cell same (One x) (join_cell same (One y) (One z))) [
         | true ↦ λ t. let e = kept x y t in
             subst (λ (w : X). cond (same x z) (One x) Clash ≡ join_cell same (One x) (cond (same w z) (One w) Clash)) e
-            (elim (same x z) as (λ b. cond b (One x) Clash ≡ join_cell same (One x) (cond b (One x) Clash)) [ true ↦ sym (ap (λ b. cond b (One x) Clash) (itself x)) | false ↦ refl ])
-        | false ↦ λ t. elim (same y z) as (λ b. Clash ≡ join_cell same (One x) (cond b (One y) Clash)) [ true ↦ sym (ap (λ b. cond b (One x) Clash) t) | false ↦ refl ]
+            (elim (same x z) as (λ b. cond b (One x) Clash ≡ join_cell same (One x) (cond b (One x) Clash)) [
+              | true ↦ sym (ap (λ b. cond b (One x) Clash)
+                  (itself x))
+              | false ↦ refl
+            ])
+        | false ↦ λ t. elim (same y z) as (λ b. Clash ≡ join_cell same (One x) (cond b (One y) Clash)) [
+          | true ↦ sym (ap (λ b. cond b (One x) Clash) t)
+          | false ↦
+              refl
+        ]
       ] refl
 
   associative : (a b c : Cell X) → join_cell same (join_cell same a b) c ≡ join_cell same a (join_cell same b c)
@@ -40,7 +49,11 @@ module _ {X : Type 0} {same : X → X → Bool} (told : (x y : X) → Decides (s
   associative (One x) Absent c = refl
   associative (One x) Clash c = refl
   associative (One x) (One y) (One z) = three x y z
-  associative (One x) (One y) Absent = elim (same x y) as (λ b. join_cell same (cond b (One x) Clash) Absent ≡ cond b (One x) Clash) [ true ↦ refl | false ↦ refl ]
+  associative (One x) (One y) Absent = elim (same x y) as (λ b. join_cell same (cond b (One x) Clash) Absent ≡ cond b (One x) Clash) [
+    | true ↦ refl
+    | false ↦
+        refl
+  ]
   associative (One x) (One y) Clash = join_clash _
 
   commutative : (a b : Cell X) → join_cell same a b ≡ join_cell same b a

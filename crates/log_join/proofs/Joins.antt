@@ -21,13 +21,15 @@ use Rattle.log_join.proofs.Cells.{cells_join}
 -- ---- keys in order
 
 pub keys_total : IsTotalOrder key_cmp
-keys_total = then_total (on_total (λ (k : Key). k.term) nat_cmp_total) (then_total (on_total (λ (k : Key). k.hart) nat_cmp_total) (on_total (λ (k : Key). k.place) nat_cmp_total))
+keys_total = then_total (on_total (λ (k : Key). k.term) nat_cmp_total) (then_total (on_total (λ (k : Key). k.hart) nat_cmp_total)
+    (on_total (λ (k : Key). k.place) nat_cmp_total))
 
 -- keys that compare alike are one
 pub keys_exact : (a b : Key) → key_cmp a b ≡ Equal → a ≡ b
 keys_exact a b h =
     ap (λ (p : ℕ × (ℕ × ℕ)). let k : Key = record { term = p.0; hart = p.1.0; place = p.1.1 } in k)
-    (exact_pairs nat_cmp (λ (x y : ℕ × ℕ). ordering_then (nat_cmp x.0 y.0) (nat_cmp x.1 y.1)) exact_unsigned (exact_pairs nat_cmp nat_cmp exact_unsigned exact_unsigned)
+    (exact_pairs nat_cmp (λ (x y : ℕ × ℕ). ordering_then (nat_cmp x.0 y.0) (nat_cmp x.1 y.1)) exact_unsigned
+    (exact_pairs nat_cmp nat_cmp exact_unsigned exact_unsigned)
     (a.term, (a.hart, a.place)) (b.term, (b.hart, b.place)) h)
 
 -- ---- stores that have the same cells are one
@@ -45,7 +47,8 @@ uncelled-cell (Some (Some x)) = refl
 one_cell : {X : Type 0} (c d : Option (Option X)) → cell_of c ≡ cell_of d → c ≡ d
 one_cell c d e = sym (uncelled-cell c) ∙ ap uncelled e ∙ uncelled-cell d
 
-pub one_store : (a b : StoreView) → a.guest ≡ b.guest → ((term : ℕ) → opening_at a term ≡ opening_at b term) → ((key : Key) → fragment_at a key ≡ fragment_at b key) → a ≡ b
+pub one_store : (a b : StoreView) → a.guest ≡ b.guest → ((term : ℕ) → opening_at a term ≡ opening_at b term) →
+    ((key : Key) → fragment_at a key ≡ fragment_at b key) → a ≡ b
 one_store a b g terms keys =
     let openings = map.same_map nat_cmp_total exact_unsigned a.openings b.openings (λ term. one_cell _ _ (terms term)) in
     let fragments = map.same_map keys_total keys_exact a.fragments b.fragments (λ key. one_cell _ _ (keys key)) in
@@ -60,11 +63,16 @@ merged same (Some None) v = None
 merged same (Some (Some x)) None = None
 merged same (Some (Some x)) (Some y) = cond (same x y) (Some x) None
 
-merged_cell : {X : Type 0} (same : X → X → Bool) (c : Option (Option X)) (v : Option X) → cell_of (Some (merged same c v)) ≡ join_cell same (cell_of c) (cell_of (Some v))
+merged_cell : {X : Type 0} (same : X → X → Bool) (c : Option (Option X)) (v : Option X) → cell_of (Some (merged same c v)) ≡ join_cell same (cell_of c)
+    (cell_of (Some v))
 merged_cell same None v = refl
 merged_cell same (Some None) v = refl
 merged_cell same (Some (Some x)) None = refl
-merged_cell same (Some (Some x)) (Some y) = elim (same x y) as (λ b. cell_of (Some (cond b (Some x) None)) ≡ cond b (One x) Clash) [ true ↦ refl | false ↦ refl ]
+merged_cell same (Some (Some x)) (Some y) = elim (same x y) as (λ b. cell_of (Some (cond b (Some x) None)) ≡ cond b (One x) Clash) [
+  | true ↦ refl
+  | false ↦
+      refl
+]
 
 pub join_absent : {X : Type 0} (same : X → X → Bool) (c : Cell X) → join_cell same c Absent ≡ c
 join_absent same Absent = refl
@@ -77,17 +85,21 @@ module _ {K X : Type 0} {R : K → K → Ordering} (o : IsTotalOrder R) (same : 
   joined_map a [] = a
   joined_map a (e ∷ es) = map.insert (joined_map a es) e.0 (merged same (map.get a e.0) e.1)
 
-  joined_map_at : (a : map.FinMap R (Option X)) (es : List (K × Option X)) (q : K) → cell_of (map.get (joined_map a es) q) ≡ join_cell same (cell_of (map.get a q)) (cell_of (map.find R q es))
+  joined_map_at : (a : map.FinMap R (Option X)) (es : List (K × Option X)) (q : K) → cell_of (map.get (joined_map a es) q) ≡ join_cell same
+      (cell_of (map.get a q)) (cell_of (map.find R q es))
   unfolding joined_map
   joined_map_at a [] q = sym (join_absent same (cell_of (map.get a q)))
   joined_map_at a (e ∷ es) q =
       ap cell_of (map.get-insert o (joined_map a es) e.0 (merged same (map.get a e.0) e.1) q)
-      ∙ elim (eq_by_cmp R q e.0) as (λ b. eq_by_cmp R q e.0 ≡ b → cell_of (cond b (Some (merged same (map.get a e.0) e.1)) (map.get (joined_map a es) q)) ≡ join_cell same (cell_of (map.get a q)) (cell_of (cond b (Some e.1) (map.find R q es)))) [
-        | true ↦ λ t. merged_cell same (map.get a e.0) e.1 ∙ ap (λ c. join_cell same (cell_of c) (cell_of (Some e.1))) (map.get_tied o a q e.0 ((Equal-is (R q e.0)).0 t))
+      ∙ elim (eq_by_cmp R q e.0) as (λ b. eq_by_cmp R q e.0 ≡ b → cell_of (cond b (Some (merged same (map.get a e.0) e.1)) (map.get (joined_map a es) q)) ≡
+      join_cell same (cell_of (map.get a q)) (cell_of (cond b (Some e.1) (map.find R q es)))) [
+        | true ↦ λ t. merged_cell same (map.get a e.0) e.1 ∙ ap (λ c. join_cell same (cell_of c) (cell_of (Some e.1)))
+            (map.get_tied o a q e.0 ((Equal-is (R q e.0)).0 t))
         | false ↦ λ t. joined_map_at a es q
       ] refl
 
-  pub join_at : (a b : map.FinMap R (Option X)) (q : K) → cell_of (map.get (joined_map a (map.entries b)) q) ≡ join_cell same (cell_of (map.get a q)) (cell_of (map.get b q))
+  pub join_at : (a b : map.FinMap R (Option X)) (q : K) → cell_of (map.get (joined_map a (map.entries b)) q) ≡ join_cell same (cell_of (map.get a q))
+      (cell_of (map.get b q))
   join_at a b q = joined_map_at a (map.entries b) q ∙ ap (λ c. join_cell same (cell_of (map.get a q)) (cell_of c)) (sym (map.get-entries b q))
 
 pub joined_is : (a b : StoreView) → (c : StoreView) × IsJoin a b c
@@ -96,8 +108,14 @@ joined_is a b =
       guest = a.guest;
       openings = joined_map nat_cmp_total same_opening a.openings (map.entries b.openings);
       fragments = joined_map keys_total same_fragment a.fragments (map.entries b.fragments);
-    } in
-    (c, record { guest = refl; openings = λ term. join_at nat_cmp_total same_opening a.openings b.openings term; fragments = λ key. join_at keys_total same_fragment a.fragments b.fragments key })
+    } in (
+      c,
+      record {
+        guest = refl;
+        openings = λ term. join_at nat_cmp_total same_opening a.openings b.openings term;
+        fragments = λ key. join_at keys_total same_fragment a.fragments b.fragments key;
+      },
+    )
 
 -- ---- the laws
 
@@ -111,9 +129,11 @@ module _ (os : CellsJoin same_opening) (fs : CellsJoin same_fragment) where
   pub associates : Associates
   associates a b c ab bc left right h k m n =
       one_store left right (k.guest ∙ h.guest ∙ sym n.guest)
-      (λ t. k.openings t ∙ ap (λ x. join_cell same_opening x (opening_at c t)) (h.openings t) ∙ os.associative (opening_at a t) (opening_at b t) (opening_at c t)
+      (λ t. k.openings t ∙ ap (λ x. join_cell same_opening x (opening_at c t)) (h.openings t) ∙ os.associative (opening_at a t) (opening_at b t)
+      (opening_at c t)
       ∙ sym (n.openings t ∙ ap (join_cell same_opening (opening_at a t)) (m.openings t)))
-      (λ q. k.fragments q ∙ ap (λ x. join_cell same_fragment x (fragment_at c q)) (h.fragments q) ∙ fs.associative (fragment_at a q) (fragment_at b q) (fragment_at c q)
+      (λ q. k.fragments q ∙ ap (λ x. join_cell same_fragment x (fragment_at c q)) (h.fragments q) ∙ fs.associative (fragment_at a q) (fragment_at b q)
+      (fragment_at c q)
       ∙ sym (n.fragments q ∙ ap (join_cell same_fragment (fragment_at a q)) (m.fragments q)))
 
   pub commutes : Commutes
@@ -130,4 +150,5 @@ pub unit_of_stores : HasUnit
 unit_of_stores a joined guest h =
     one_store joined a h.guest
     (λ t. h.openings t ∙ ap (λ c. join_cell same_opening (opening_at a t) (cell_of c)) (map.get-empty nat_cmp t) ∙ join_absent same_opening (opening_at a t))
-    (λ q. h.fragments q ∙ ap (λ c. join_cell same_fragment (fragment_at a q) (cell_of c)) (map.get-empty key_cmp q) ∙ join_absent same_fragment (fragment_at a q))
+    (λ q. h.fragments q ∙ ap (λ c. join_cell same_fragment (fragment_at a q) (cell_of c)) (map.get-empty key_cmp q) ∙ join_absent same_fragment
+    (fragment_at a q))

@@ -72,21 +72,29 @@ module _ {K : Type 0} {cmp : K → K → Ordering} (o : IsTotalOrder cmp) where
   among_keys [] q = refl
   among_keys {X} (e ∷ es) q =
       ap (λ b. b || is_among cmp (keys_of es) q) ((eq_by_cmp_equiv o).symm e.0 q)
-      ∙ elim (eq_by_cmp cmp q e.0) as (λ b. (b || is_among cmp (keys_of es) q) ≡ is_some (cond b (Some e.1) (lookup (is_at (cmp q)) es))) [ true ↦ refl | false ↦ among_keys es q ]
+      ∙ elim (eq_by_cmp cmp q e.0) as (λ b. (b || is_among cmp (keys_of es) q) ≡ is_some (cond b (Some e.1) (lookup (is_at (cmp q)) es))) [
+        | true ↦
+            refl
+        | false ↦ among_keys es q
+      ]
 
   -- one more key of a list
-  pub among_more : (ks : List K) (i : ℕ) (d q : K) → i < length ks → is_among cmp (take (i + 1) ks) q ≡ (is_among cmp (take i ks) q || eq_by_cmp cmp (get_or ks i d) q)
+  pub among_more : (ks : List K) (i : ℕ) (d q : K) → i < length ks → is_among cmp (take (i + 1) ks) q ≡ (is_among cmp (take i ks) q || eq_by_cmp cmp
+      (get_or ks i d) q)
   among_more ks i d q h = list_any_more (λ k. eq_by_cmp cmp k q) ks i d h
 
   -- the entry at the front is joined to what is here, and the rest will be
   pub marked_front : (k : K) (x : Content) (es : List (K × Content)) (q : K) (here : Option Content) → IsStrictlySortedBy cmp (keys_of ((k, x) ∷ es)) →
       marked (cond (eq_by_cmp cmp k q) (marked here (Some x)) here) (lookup (is_at (cmp q)) es) ≡ marked here (lookup (is_at (cmp q)) ((k, x) ∷ es))
   marked_front k x es q here rising =
-      elim (eq_by_cmp cmp k q) as (λ b. eq_by_cmp cmp k q ≡ b → marked (cond b (marked here (Some x)) here) (lookup (is_at (cmp q)) es) ≡ marked here (lookup (is_at (cmp q)) ((k, x) ∷ es))) [
+      elim (eq_by_cmp cmp k q) as (λ b. eq_by_cmp cmp k q ≡ b → marked (cond b (marked here (Some x)) here) (lookup (is_at (cmp q)) es) ≡ marked here
+      (lookup (is_at (cmp q)) ((k, x) ∷ es))) [
         | true ↦ λ t.
             let back : eq_by_cmp cmp q k ≡ true = (eq_by_cmp_equiv o).symm q k ∙ t in
-            let none : lookup (is_at (cmp q)) es ≡ None = lookup-none (is_at (cmp q)) es (none_past_head (eq_by_cmp_equiv o) q (k, x) es (IsDistinct-from_sorted cmp _ rising) back) in
-            ap (marked (marked here (Some x))) none ∙ marked_none (marked here (Some x)) ∙ sym (ap (λ b. marked here (cond b (Some x) (lookup (is_at (cmp q)) es))) back)
+            let none : lookup (is_at (cmp q)) es ≡ None = lookup-none (is_at (cmp q)) es (none_past_head (eq_by_cmp_equiv o) q (k, x) es
+            (IsDistinct-from_sorted cmp _ rising) back) in
+            ap (marked (marked here (Some x))) none ∙ marked_none (marked here (Some x)) ∙
+            sym (ap (λ b. marked here (cond b (Some x) (lookup (is_at (cmp q)) es))) back)
         | false ↦ λ t. sym (ap (λ b. marked here (cond b (Some x) (lookup (is_at (cmp q)) es))) ((eq_by_cmp_equiv o).symm q k ∙ t))
       ] refl
 

@@ -29,7 +29,8 @@ use Rattle.log_join.specs.Cells.{Cell, Absent, One, Clash, join_cell, cell_of}
 use Rattle.log_join.specs.Tests.{same_guest, same_opening, same_fragment}
 use Rattle.log_join.specs.Stores.{StoreView, key_cmp, opening_at, fragment_at, IsOpeningOf, IsFragmentOf, IsStore, IsJoin, IsLastTerm, nothing, alone}
 use Rattle.log_join.specs.Answers.{answer, answer_to, Puts, TellsOpening, TellsFragment}
-use Rattle.log_join.specs.Contents.{same_frame, taken, put_answer, met, shown, opening_part, fragment_part, key_of, place_of, place_cmp, TellsContent, FitsAt, Fits, view_of, IsKept, IsMet}
+use Rattle.log_join.specs.Contents.{same_frame, taken, put_answer, met, shown, opening_part, fragment_part, key_of, place_of, place_cmp, TellsContent, FitsAt}
+use Rattle.log_join.specs.Contents.{Fits, view_of, IsKept, IsMet}
 use Rattle.log_join.proofs.Told.{guests_told, openings_told, fragments_told}
 use Rattle.log_join.proofs.Maps.{tied_get}
 use Rattle.log_join.proofs.Joins.{keys_total, keys_exact, one_store, join_absent}
@@ -64,8 +65,10 @@ places_exact a b h = ap place_of (keys_exact (key_of a) (key_of b) h)
 
 pub is_store : (guest : Guest) (s : Shelves) → Fits guest s → IsStore (view_of guest s)
 is_store guest s fits = record {
-  openings = λ t o e. one_fits opening_part (IsOpeningOf guest t) (get nat_cmp s.openings t) o (fits.terms t) (sym (cell_shown nat_cmp_total (λ (z : ℕ). z) opening_part s.openings t) ∙ e);
-  fragments = λ k f e. one_fits fragment_part (IsFragmentOf guest k) (get place_cmp s.fragments (place_of k)) f (fits.places (place_of k)) (sym (cell_shown keys_total key_of fragment_part s.fragments (place_of k)) ∙ e);
+  openings = λ t o e. one_fits opening_part (IsOpeningOf guest t) (get nat_cmp s.openings t) o (fits.terms t)
+      (sym (cell_shown nat_cmp_total (λ (z : ℕ). z) opening_part s.openings t) ∙ e);
+  fragments = λ k f e. one_fits fragment_part (IsFragmentOf guest k) (get place_cmp s.fragments (place_of k)) f (fits.places (place_of k))
+      (sym (cell_shown keys_total key_of fragment_part s.fragments (place_of k)) ∙ e);
 }
 
 pub same_view : (guest : Guest) (s n : Shelves) → IsKept s n → view_of guest n ≡ view_of guest s
@@ -74,17 +77,22 @@ same_view guest s n kept =
     (λ t. same_shown nat_cmp_total (λ (z : ℕ). z) opening_part s.openings n.openings kept.terms t)
     (λ k. same_shown keys_total key_of fragment_part s.fragments n.fragments kept.places (place_of k))
 
-pub met_view : (guest : Guest) (s other n : Shelves) → Fits guest s → Fits guest other → IsMet s other n → IsJoin (view_of guest s) (view_of guest other) (view_of guest n)
+pub met_view : (guest : Guest) (s other n : Shelves) → Fits guest s → Fits guest other → IsMet s other n → IsJoin (view_of guest s) (view_of guest other)
+    (view_of guest n)
 met_view guest s other n fits others meets = record {
   guest = refl;
-  openings = λ t. met_shown nat_cmp_total (λ (z : ℕ). z) opening_part (IsOpeningOf guest) openings_agree s.openings other.openings n.openings fits.terms others.terms meets.terms t;
-  fragments = λ k. met_shown keys_total key_of fragment_part (λ (p : Place). IsFragmentOf guest (key_of p)) fragments_agree s.fragments other.fragments n.fragments fits.places others.places meets.places (place_of k);
+  openings = λ t. met_shown nat_cmp_total (λ (z : ℕ). z) opening_part (IsOpeningOf guest) openings_agree s.openings other.openings n.openings fits.terms
+      others.terms meets.terms t;
+  fragments = λ k. met_shown keys_total key_of fragment_part (λ (p : Place). IsFragmentOf guest (key_of p)) fragments_agree s.fragments other.fragments
+      n.fragments fits.places others.places meets.places (place_of k);
 }
 
 pub met_fits : (guest : Guest) (s other n : Shelves) → Fits guest s → Fits guest other → IsMet s other n → Fits guest n
 met_fits guest s other n fits others meets = record {
-  terms = λ t. subst (FitsAt opening_part (IsOpeningOf guest t)) (sym (meets.terms t)) (fits_met opening_part (IsOpeningOf guest t) (get nat_cmp s.openings t) (get nat_cmp other.openings t) (fits.terms t) (others.terms t));
-  places = λ p. subst (FitsAt fragment_part (IsFragmentOf guest (key_of p))) (sym (meets.places p)) (fits_met fragment_part (IsFragmentOf guest (key_of p)) (get place_cmp s.fragments p) (get place_cmp other.fragments p) (fits.places p) (others.places p));
+  terms = λ t. subst (FitsAt opening_part (IsOpeningOf guest t)) (sym (meets.terms t)) (fits_met opening_part (IsOpeningOf guest t) (get nat_cmp s.openings t)
+      (get nat_cmp other.openings t) (fits.terms t) (others.terms t));
+  places = λ p. subst (FitsAt fragment_part (IsFragmentOf guest (key_of p))) (sym (meets.places p)) (fits_met fragment_part (IsFragmentOf guest (key_of p))
+      (get place_cmp s.fragments p) (get place_cmp other.fragments p) (fits.places p) (others.places p));
 }
 
 -- ---- one frame
@@ -93,7 +101,11 @@ same_taken : (c : Option Content) (f : Frame) → put_answer c f ≡ Same → So
 same_taken None f e = absurd (cc e)
 same_taken (Some Clashed) f e = absurd (cc e)
 same_taken (Some (OneFrame g)) f e =
-    elim (same_frame g f) as (λ b. cond b Same Clashes ≡ Same → Some (cond b (OneFrame g) Clashed) ≡ Some (OneFrame g)) [ true ↦ λ _. refl | false ↦ λ h. absurd (cc h) ] e
+    elim (same_frame g f) as (λ b. cond b Same Clashes ≡ Same → Some (cond b (OneFrame g) Clashed) ≡ Some (OneFrame g)) [
+      | true ↦ λ _. refl
+      | false ↦ λ h. absurd
+          (cc h)
+    ] e
 
 never_other : (c : Option Content) (f : Frame) → put_answer c f ≢ OtherGuest
 never_other None f e = cc e
@@ -122,7 +134,8 @@ module _ {K : Type 0} {cmp : K → K → Ordering} (total : IsTotalOrder cmp) (m
   not_other p h e = never_other (get cmp m k) f (sym h.answers ∙ e)
 
 -- nothing else came
-nothing_else : {K X : Type 0} {R : K → K → Ordering} (same : X → X → Bool) (m : finite.FinMap R (Option X)) (q : K) → cell_of (finite.get m q) ≡ join_cell same (cell_of (finite.get m q)) (cell_of (finite.get (finite.empty {X = Option X} {R = R}) q))
+nothing_else : {K X : Type 0} {R : K → K → Ordering} (same : X → X → Bool) (m : finite.FinMap R (Option X)) (q : K) → cell_of (finite.get m q) ≡ join_cell same
+    (cell_of (finite.get m q)) (cell_of (finite.get (finite.empty {X = Option X} {R = R}) q))
 nothing_else {K} {X} {R} same m q = sym (ap (λ c. join_cell same (cell_of (finite.get m q)) (cell_of c)) (finite.get-empty R q) ∙ join_absent same _)
 
 is_of_guest : (a b : Guest) → a ≡ b → same_guest a b ≡ true
@@ -132,17 +145,22 @@ pub puts_opening : (guest : Guest) (s : Shelves) (n : BTreeMap ℕ Content) (o :
     IsTaken nat_cmp s.openings n o.term (Opening o) result → Puts (view_of guest s) (Opening o) result (view_of guest (record s { openings = n }))
 puts_opening guest s n o (Ok p) fits own h =
     let here = get nat_cmp s.openings o.term in
-    let there : cell_of (finite.get (shown nat_cmp (λ (z : ℕ). z) opening_part s.openings) o.term) ≡ cell opening_part here = cell_shown nat_cmp_total (λ (z : ℕ). z) opening_part s.openings o.term in
+    let there : cell_of (finite.get (shown nat_cmp (λ (z : ℕ). z) opening_part s.openings) o.term) ≡ cell opening_part here = cell_shown nat_cmp_total
+    (λ (z : ℕ). z) opening_part s.openings o.term in
     record {
       answer = h.answers ∙ answer_is opening_part (IsOpeningOf guest o.term) openings_agree here (Opening o) o (fits.terms o.term) refl
           ∙ sym (ap (λ c. answer same_opening c o) there)
           ∙ sym (ap (λ b. cond b (answer same_opening (opening_at (view_of guest s) o.term) o) OtherGuest) (is_of_guest o.guest guest own));
       joined = λ _. record {
         guest = refl;
-        openings = λ t. taken_shown nat_cmp_total (λ (z : ℕ). z) opening_part (IsOpeningOf guest) openings_agree s.openings n o.term (Opening o) o refl fits.terms h.takes nat_cmp_total t;
+        openings = λ t. taken_shown nat_cmp_total (λ (z : ℕ). z) opening_part (IsOpeningOf guest) openings_agree s.openings n o.term
+            (Opening o) o refl fits.terms h.takes nat_cmp_total t;
         fragments = λ k. nothing_else same_fragment (shown key_cmp key_of fragment_part s.fragments) k;
       };
-      same = λ e. same_view guest s (record s { openings = n }) (record { terms = same_keeps nat_cmp_total s.openings n o.term (Opening o) p h (cc e); places = λ _. refl });
+      same = λ e. same_view guest s (record s { openings = n }) (record {
+        terms = same_keeps nat_cmp_total s.openings n o.term (Opening o) p h (cc e);
+        places = λ _. refl;
+      });
       other_guest = λ e. absurd (not_other nat_cmp_total s.openings n o.term (Opening o) p h (cc e));
       memory = tt;
       err = tt;
@@ -159,11 +177,13 @@ puts_opening guest s n o (Err x) fits own h =
       err = same_view guest s (record s { openings = n }) (record { terms = h.keeps; places = λ _. refl });
     }
 
-pub puts_fragment : (guest : Guest) (s : Shelves) (n : BTreeMap Place Content) (f : FragmentParts) (result : Result Put Memory) → Fits guest s → f.guest ≡ guest →
+pub puts_fragment : (guest : Guest) (s : Shelves) (n : BTreeMap Place Content) (f : FragmentParts) (result : Result Put Memory) → Fits guest s →
+    f.guest ≡ guest →
     IsTaken place_cmp s.fragments n (place_of f.key) (Log f) result → Puts (view_of guest s) (Log f) result (view_of guest (record s { fragments = n }))
 puts_fragment guest s n f (Ok p) fits own h =
     let here = get place_cmp s.fragments (place_of f.key) in
-    let there : cell_of (finite.get (shown key_cmp key_of fragment_part s.fragments) f.key) ≡ cell fragment_part here = cell_shown keys_total key_of fragment_part s.fragments (place_of f.key) in
+    let there : cell_of (finite.get (shown key_cmp key_of fragment_part s.fragments) f.key) ≡ cell fragment_part here = cell_shown keys_total key_of
+    fragment_part s.fragments (place_of f.key) in
     record {
       answer = h.answers ∙ answer_is fragment_part (IsFragmentOf guest f.key) fragments_agree here (Log f) f (fits.places (place_of f.key)) refl
           ∙ sym (ap (λ c. answer same_fragment c f) there)
@@ -171,9 +191,14 @@ puts_fragment guest s n f (Ok p) fits own h =
       joined = λ _. record {
         guest = refl;
         openings = λ t. nothing_else same_opening (shown nat_cmp (λ (z : ℕ). z) opening_part s.openings) t;
-        fragments = λ k. taken_shown keys_total key_of fragment_part (λ (p : Place). IsFragmentOf guest (key_of p)) fragments_agree s.fragments n (place_of f.key) (Log f) f refl fits.places h.takes places_total (place_of k);
+        fragments = λ k. taken_shown keys_total key_of fragment_part (λ (p : Place). IsFragmentOf guest (key_of p)) fragments_agree s.fragments n
+            (place_of f.key) (Log f) f refl fits.places h.takes places_total (place_of k);
       };
-      same = λ e. same_view guest s (record s { fragments = n }) (record { terms = λ _. refl; places = same_keeps places_total s.fragments n (place_of f.key) (Log f) p h (cc e) });
+      same = λ e. same_view guest s (record s { fragments = n }) (record {
+        terms = λ _. refl;
+        places = same_keeps places_total s.fragments n (place_of f.key)
+            (Log f) p h (cc e);
+      });
       other_guest = λ e. absurd (not_other places_total s.fragments n (place_of f.key) (Log f) p h (cc e));
       memory = tt;
       err = tt;
@@ -191,7 +216,8 @@ puts_fragment guest s n f (Err x) fits own h =
     }
 
 -- what stands at keys still fits after a frame came
-pub opening_fits : (guest : Guest) (s : Shelves) (n : BTreeMap ℕ Content) (o : OpeningParts) (result : Result Put Memory) → Fits guest s → IsOpeningOf guest o.term o →
+pub opening_fits : (guest : Guest) (s : Shelves) (n : BTreeMap ℕ Content) (o : OpeningParts) (result : Result Put Memory) → Fits guest s →
+    IsOpeningOf guest o.term o →
     IsTaken nat_cmp s.openings n o.term (Opening o) result → Fits guest (record s { openings = n })
 opening_fits guest s n o (Ok p) fits own h = record {
   terms = taken_fits nat_cmp_total (λ (z : ℕ). z) opening_part (IsOpeningOf guest) s.openings n o.term (Opening o) o refl own exact_unsigned fits.terms h.takes;
@@ -202,11 +228,13 @@ opening_fits guest s n o (Err x) fits own h = record {
   places = fits.places;
 }
 
-pub fragment_fits : (guest : Guest) (s : Shelves) (n : BTreeMap Place Content) (f : FragmentParts) (result : Result Put Memory) → Fits guest s → IsFragmentOf guest f.key f →
+pub fragment_fits : (guest : Guest) (s : Shelves) (n : BTreeMap Place Content) (f : FragmentParts) (result : Result Put Memory) → Fits guest s →
+    IsFragmentOf guest f.key f →
     IsTaken place_cmp s.fragments n (place_of f.key) (Log f) result → Fits guest (record s { fragments = n })
 fragment_fits guest s n f (Ok p) fits own h = record {
   terms = fits.terms;
-  places = taken_fits keys_total key_of fragment_part (λ (p : Place). IsFragmentOf guest (key_of p)) s.fragments n (place_of f.key) (Log f) f refl own places_exact fits.places h.takes;
+  places = taken_fits keys_total key_of fragment_part (λ (p : Place). IsFragmentOf guest (key_of p)) s.fragments n (place_of f.key)
+      (Log f) f refl own places_exact fits.places h.takes;
 }
 fragment_fits guest s n f (Err x) fits own h = record {
   terms = fits.terms;
@@ -223,14 +251,16 @@ is_fragment : (f : Frame) (o : FragmentParts) → fragment_part f ≡ Some o →
 is_fragment (Log a) o e = cc
 is_fragment (Opening a) o e = absurd (cc e)
 
-pub tells_opening : (found : Found) (c : Option Content) (P : OpeningParts → Type 0) → TellsContent found c → FitsAt opening_part P c → TellsOpening found (cell opening_part c)
+pub tells_opening : (found : Found) (c : Option Content) (P : OpeningParts → Type 0) → TellsContent found c → FitsAt opening_part P c →
+    TellsOpening found (cell opening_part c)
 tells_opening FindsNone c P e h = ap (cell opening_part) e
 tells_opening FindsClash c P e h = ap (cell opening_part) e
 tells_opening (FindsOne r) c P e h =
     let own = subst (FitsAt opening_part P) e h in
     (own.0, is_opening r.now own.0 own.1, ap (cell opening_part) e ∙ ap (λ v. cell_of (Some v)) own.1)
 
-pub tells_fragment : (found : Found) (c : Option Content) (P : FragmentParts → Type 0) → TellsContent found c → FitsAt fragment_part P c → TellsFragment found (cell fragment_part c)
+pub tells_fragment : (found : Found) (c : Option Content) (P : FragmentParts → Type 0) → TellsContent found c → FitsAt fragment_part P c →
+    TellsFragment found (cell fragment_part c)
 tells_fragment FindsNone c P e h = ap (cell fragment_part) e
 tells_fragment FindsClash c P e h = ap (cell fragment_part) e
 tells_fragment (FindsOne r) c P e h =
@@ -261,7 +291,8 @@ one_of_two m n =
 
 pub last_is : (guest : Guest) (s : Shelves) (opened logged : ℕ) →
     ((t : ℕ) → IsSome (get nat_cmp s.openings t) → t ≤ opened) → (opened ≡ 0) ⊎ IsSome (get nat_cmp s.openings opened) →
-    ((p : Place) → IsSome (get place_cmp s.fragments p) → p.term ≤ logged) → (logged ≡ 0) ⊎ ((p : Place) × (p.term ≡ logged) × IsSome (get place_cmp s.fragments p)) →
+    ((p : Place) → IsSome (get place_cmp s.fragments p) → p.term ≤ logged) → (logged ≡ 0) ⊎ ((p : Place) × (p.term ≡ logged) ×
+    IsSome (get place_cmp s.fragments p)) →
     IsLastTerm (view_of guest s) (max opened logged)
 last_is guest s opened logged above own over held =
     let last = max opened logged in
@@ -270,7 +301,8 @@ last_is guest s opened logged above own over held =
     let view = view_of guest s in
     record {
       openings = λ t h. le_trans (above t (some_there opening_part (get nat_cmp s.openings t) (λ e. h (open_cell t ∙ e)))) (le-max_left opened logged);
-      fragments = λ k h. le_trans (over (place_of k) (some_there fragment_part (get place_cmp s.fragments (place_of k)) (λ e. h (log_cell (place_of k) ∙ e)))) (le-max_right opened logged);
+      fragments = λ k h. le_trans (over (place_of k) (some_there fragment_part (get place_cmp s.fragments (place_of k)) (λ e. h (log_cell (place_of k) ∙ e))))
+          (le-max_right opened logged);
       there = ⊎_elim
           (λ e. subst (λ (n : ℕ). (n ≡ 0) ⊎ ((opening_at view n ≢ Absent) ⊎ ((key : Key) × (key.term ≡ n) × (fragment_at view key ≢ Absent)))) (sym e)
           (⊎_elim inl (λ h. inr (inl (λ a. there_some opening_part (get nat_cmp s.openings opened) h (sym (open_cell opened) ∙ a)))) own))

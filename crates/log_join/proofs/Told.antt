@@ -30,7 +30,8 @@ edges_told : (a b : OwnedEdge) → Decides (same_edge a b) (a ≡ b)
 edges_told a b =
     Decides-like (same_edge a b) (λ p i. record { hart = p.0.0.0 i; at = p.0.0.1 i; other = p.0.1 i; after = p.1 i })
     (λ e. (((ap (λ (k : OwnedEdge). k.hart) e, ap (λ (k : OwnedEdge). k.at) e), ap (λ (k : OwnedEdge). k.other) e), ap (λ (k : OwnedEdge). k.after) e))
-    (Decides-and _ _ (Decides-and _ _ (Decides-and _ _ (Decides-eqb a.hart b.hart) (Decides-eqb a.at b.at)) (Decides-eqb a.other b.other)) (Decides-eqb a.after b.after))
+    (Decides-and _ _ (Decides-and _ _ (Decides-and _ _ (Decides-eqb a.hart b.hart) (Decides-eqb a.at b.at)) (Decides-eqb a.other b.other))
+    (Decides-eqb a.after b.after))
 
 records_told : (a b : Record) → Decides (same_record a b) (a ≡ b)
 records_told (EdgeRecord a) (EdgeRecord b) = Decides-like (same_edge a b) (λ e. ap EdgeRecord e) (λ e. cc e) (edges_told a b)
@@ -42,12 +43,23 @@ records_told (InputRecord m a) (InputRecord n b) =
 pub openings_told : (a b : OpeningParts) → Decides (same_opening a b) (a ≡ b)
 openings_told a b =
     Decides-like (same_opening a b) (λ p i. record { guest = p.0.0.0 i; term = p.0.0.1 i; parent = p.0.1 i; base = p.1 i })
-    (λ e. (((ap (λ (k : OpeningParts). k.guest) e, ap (λ (k : OpeningParts). k.term) e), ap (λ (k : OpeningParts). k.parent) e), ap (λ (k : OpeningParts). k.base) e))
-    (Decides-and _ _ (Decides-and _ _ (Decides-and _ _ (guests_told a.guest b.guest) (Decides-eqb a.term b.term)) (Decides-eqb a.parent b.parent)) (bytes_eq-Decides a.base b.base))
+    (λ e. (
+      ((ap (λ (k : OpeningParts). k.guest) e, ap (λ (k : OpeningParts). k.term) e), ap (λ (k : OpeningParts). k.parent) e),
+      ap (λ (k : OpeningParts). k.base) e,
+    ))
+    (Decides-and _ _ (Decides-and _ _ (Decides-and _ _ (guests_told a.guest b.guest) (Decides-eqb a.term b.term)) (Decides-eqb a.parent b.parent))
+    (bytes_eq-Decides a.base b.base))
 
 pub fragments_told : (a b : FragmentParts) → Decides (same_fragment a b) (a ≡ b)
 fragments_told a b =
     Decides-like (same_fragment a b) (λ p i. record { guest = p.0.0.0.0 i; key = p.0.0.0.1 i; from = p.0.0.1 i; to = p.0.1 i; records = p.1 i })
-    (λ e. ((((ap (λ (k : FragmentParts). k.guest) e, ap (λ (k : FragmentParts). k.key) e), ap (λ (k : FragmentParts). k.from) e), ap (λ (k : FragmentParts). k.to) e), ap (λ (k : FragmentParts). k.records) e))
-    (Decides-and _ _ (Decides-and _ _ (Decides-and _ _ (Decides-and _ _ (guests_told a.guest b.guest) (keys_told a.key b.key)) (Decides-eqb a.from b.from)) (Decides-eqb a.to b.to))
+    (λ e. (
+      (
+        ((ap (λ (k : FragmentParts). k.guest) e, ap (λ (k : FragmentParts). k.key) e), ap (λ (k : FragmentParts). k.from) e),
+        ap (λ (k : FragmentParts). k.to) e,
+      ),
+      ap (λ (k : FragmentParts). k.records) e,
+    ))
+    (Decides-and _ _ (Decides-and _ _ (Decides-and _ _ (Decides-and _ _ (guests_told a.guest b.guest) (keys_told a.key b.key)) (Decides-eqb a.from b.from))
+    (Decides-eqb a.to b.to))
     (slice_eq-Decides records_told a.records b.records _ refl))

@@ -15,7 +15,11 @@ abbrev pub coded_guest : Coded Guest
 coded_guest = code_by (List ℕ × ℕ) (coded× (coded_list coded_ℕ) coded_ℕ) (λ g. (g.digest, g.harts)) (λ p. record { digest = p.0; harts = p.1 }) (λ _. refl)
 
 abbrev pub coded_key : Coded Key
-coded_key = code_by (ℕ × (ℕ × ℕ)) (coded× coded_ℕ (coded× coded_ℕ coded_ℕ)) (λ k. (k.term, (k.hart, k.place))) (λ p. record { term = p.0; hart = p.1.0; place = p.1.1 }) (λ _. refl)
+coded_key = code_by (ℕ × (ℕ × ℕ)) (coded× coded_ℕ (coded× coded_ℕ coded_ℕ)) (λ k. (k.term, (k.hart, k.place))) (λ p. record {
+  term = p.0;
+  hart = p.1.0;
+  place = p.1.1;
+}) (λ _. refl)
 
 abbrev pub coded_edge : Coded OwnedEdge
 coded_edge =

@@ -124,7 +124,11 @@ pub record Fits (guest : Guest) (s : Shelves) : Type 0 where
   pub places : (place : Place) → FitsAt fragment_part (IsFragmentOf guest (key_of place)) (get place_cmp s.fragments place)
 
 abbrev pub view_of : Guest → Shelves → StoreView
-view_of guest s = record { guest = guest; openings = shown nat_cmp (λ term. term) opening_part s.openings; fragments = shown key_cmp key_of fragment_part s.fragments }
+view_of guest s = record {
+  guest = guest;
+  openings = shown nat_cmp (λ term. term) opening_part s.openings;
+  fragments = shown key_cmp key_of fragment_part s.fragments;
+}
 
 -- what was found tells what is there
 abbrev pub TellsContent : Found → Option Content → Type 0
@@ -139,8 +143,10 @@ pub record AreFree (s : Shelves) (terms : List ℕ) (places : List Place) : Type
 
 -- what stands there at these keys came here
 pub record AreCopied (old other : Shelves) (terms : List ℕ) (places : List Place) (new : Shelves) : Type 0 where
-  pub all_terms : (term : ℕ) → get nat_cmp new.openings term ≡ copied (is_among nat_cmp terms term) (get nat_cmp old.openings term) (get nat_cmp other.openings term)
-  pub all_places : (place : Place) → get place_cmp new.fragments place ≡ copied (is_among place_cmp places place) (get place_cmp old.fragments place) (get place_cmp other.fragments place)
+  pub all_terms : (term : ℕ) → get nat_cmp new.openings term ≡ copied (is_among nat_cmp terms term) (get nat_cmp old.openings term)
+      (get nat_cmp other.openings term)
+  pub all_places : (place : Place) → get place_cmp new.fragments place ≡ copied (is_among place_cmp places place) (get place_cmp old.fragments place)
+      (get place_cmp other.fragments place)
 
 -- nothing changed, at any key
 pub record IsKept (old new : Shelves) : Type 0 where

@@ -19,7 +19,8 @@ pub(crate) fn put_at<K: Ord + Drop>(
     frame: Frame,
 ) -> Result<Put, Memory>
     ensures answer { IfOk result (λ p. p ≡ put_answer (get K.cmp shelf.old key) frame) }
-    ensures taken { OnOk result ((q : K) → get K.cmp shelf.new q ≡ (if eq_by_cmp K.cmp key q then Some (taken (get K.cmp shelf.old key) frame) else get K.cmp shelf.old q)) }
+    ensures taken { OnOk result ((q : K) → get K.cmp shelf.new q ≡ (if eq_by_cmp K.cmp key q then Some (taken (get K.cmp shelf.old key) frame) else get K.cmp
+        shelf.old q)) }
     ensures err { OnErr result ((q : K) → get K.cmp shelf.new q ≡ get K.cmp shelf.old q) }
     ensures memory { OnErr result (get K.cmp shelf.old key ≡ None) }
 {

@@ -42,7 +42,8 @@ impl Shelves {
     ) -> Result<(), Memory>
         ensures ok { OnOk result (AreCopied self.old other.now terms.now places.now self.new) }
         ensures other_terms { (term : ℕ) → is_among nat_cmp terms.now term ≡ false → get nat_cmp self.new.openings term ≡ get nat_cmp self.old.openings term }
-        ensures other_places { (place : place_of_specs) → is_among place_cmp places.now place ≡ false → get place_cmp self.new.fragments place ≡ get place_cmp self.old.fragments place }
+        ensures other_places { (place : place_of_specs) → is_among place_cmp places.now place ≡ false → get place_cmp self.new.fragments place ≡ get place_cmp
+            self.old.fragments place }
     {
         copy_at(alloc, &mut self.openings, terms, &other.openings)?;
         copy_at(alloc, &mut self.fragments, places, &other.fragments)

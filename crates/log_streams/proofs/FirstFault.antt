@@ -5,8 +5,8 @@ use Rattle.ft_types.specs.declared.guest.Guest.{Guest as GuestName}
 use Rattle.fragment_codec.specs.declared.frame.Frame.{Frame as LogFrame}
 use Rattle.fragment_codec.specs.declared.fault.FrameFault.{FrameFault}
 use Rattle.fragment_codec.specs.Streams.{spelling, IsFrame, IsStuck, Follows}
-use Rattle.fragment_codec.proofs.Streams.{one_reading}
-use Rattle.fragment_codec.proofs.Readings.{not_stuck, one_feed}
+use Rattle.fragment_codec.proofs.streams.Pieces.{one_reading}
+use Rattle.fragment_codec.proofs.streams.Readings.{not_stuck, one_feed}
 use Rattle.log_join.specs.Stores.{StoreView}
 use Rattle.guest_image.specs.Image.{ImageContents, guest_of}
 use Rattle.hart_replay.specs.declared.fault.ReplayFault.{ReplayFault}
@@ -19,7 +19,8 @@ regroup : (f : LogFrame) (fs : List LogFrame) (r : List ℕ) → flat_map spelli
 regroup f fs r = append_assoc (spelling f) (flat_map spelling fs) r
 
 -- behind frames of the guest that no frame follows, no other frame stands
-no_other : (guest : GuestName) (fs before : List LogFrame) (frame : LogFrame) (r q : List ℕ) → AllByRecursion IsFrame fs → AllByRecursion IsFrame (before ++ frame ∷ []) →
+no_other : (guest : GuestName) (fs before : List LogFrame) (frame : LogFrame) (r q : List ℕ) → AllByRecursion IsFrame fs → AllByRecursion IsFrame (before ++
+    frame ∷ []) →
     AllByRecursion (IsOf guest) fs → (IsOf guest frame → ⊥) → IsStuck r → flat_map spelling fs ++ r ≡ flat_map spelling (before ++ frame ∷ []) ++ q → ⊥
 no_other guest [] [] frame r q a b own bad stuck e = not_stuck frame ([] ++ q) b.0 (subst IsStuck (e ∙ regroup frame [] q) stuck)
 no_other guest [] (y ∷ before) frame r q a b own bad stuck e =
@@ -28,20 +29,24 @@ no_other guest (x ∷ fs) [] frame r q a b own bad stuck e =
     let same = one_reading x frame (flat_map spelling fs ++ r) ([] ++ q) a.0 b.0 (sym (regroup x fs r) ∙ e ∙ regroup frame [] q) in
     bad (subst (IsOf guest) same.0 own.0)
 no_other guest (x ∷ fs) (y ∷ before) frame r q a b own bad stuck e =
-    let same = one_reading x y (flat_map spelling fs ++ r) (flat_map spelling (before ++ frame ∷ []) ++ q) a.0 b.0 (sym (regroup x fs r) ∙ e ∙ regroup y (before ++ frame ∷ []) q) in
+    let same = one_reading x y (flat_map spelling fs ++ r) (flat_map spelling (before ++ frame ∷ []) ++ q) a.0 b.0 (sym (regroup x fs r) ∙ e ∙
+    regroup y (before ++ frame ∷ []) q) in
     no_other guest fs before frame r q a.1 b.1 own.1 bad stuck same.1
 
 -- behind frames of the guest one other frame stands first
-one_other : (guest : GuestName) (before others : List LogFrame) (frame other : LogFrame) (r q : List ℕ) → AllByRecursion IsFrame (before ++ frame ∷ []) → AllByRecursion IsFrame (others ++ other ∷ []) →
+one_other : (guest : GuestName) (before others : List LogFrame) (frame other : LogFrame) (r q : List ℕ) → AllByRecursion IsFrame (before ++ frame ∷ []) →
+    AllByRecursion IsFrame (others ++ other ∷ []) →
     AllByRecursion (IsOf guest) before → AllByRecursion (IsOf guest) others → (IsOf guest frame → ⊥) → (IsOf guest other → ⊥) →
     flat_map spelling (before ++ frame ∷ []) ++ r ≡ flat_map spelling (others ++ other ∷ []) ++ q → frame ≡ other
 one_other guest [] [] frame other r q a b p o bad worse e =
     (one_reading frame other ([] ++ r) ([] ++ q) a.0 b.0 (sym (regroup frame [] r) ∙ e ∙ regroup other [] q)).0
 one_other guest [] (y ∷ others) frame other r q a b p o bad worse e =
-    let same = one_reading frame y ([] ++ r) (flat_map spelling (others ++ other ∷ []) ++ q) a.0 b.0 (sym (regroup frame [] r) ∙ e ∙ regroup y (others ++ other ∷ []) q) in
+    let same = one_reading frame y ([] ++ r) (flat_map spelling (others ++ other ∷ []) ++ q) a.0 b.0 (sym (regroup frame [] r) ∙ e ∙
+    regroup y (others ++ other ∷ []) q) in
     absurd (bad (subst (IsOf guest) (sym same.0) o.0))
 one_other guest (x ∷ before) [] frame other r q a b p o bad worse e =
-    let same = one_reading x other (flat_map spelling (before ++ frame ∷ []) ++ r) ([] ++ q) a.0 b.0 (sym (regroup x (before ++ frame ∷ []) r) ∙ e ∙ regroup other [] q) in
+    let same = one_reading x other (flat_map spelling (before ++ frame ∷ []) ++ r) ([] ++ q) a.0 b.0 (sym (regroup x (before ++ frame ∷ []) r) ∙ e ∙
+    regroup other [] q) in
     absurd (worse (subst (IsOf guest) same.0 p.0))
 one_other guest (x ∷ before) (y ∷ others) frame other r q a b p o bad worse e =
     let same = one_reading x y (flat_map spelling (before ++ frame ∷ []) ++ r) (flat_map spelling (others ++ other ∷ []) ++ q) a.0 b.0
@@ -74,7 +79,8 @@ module _ (guest : GuestName) (stream : List ℕ) where
   foreign h own = h.2 own
 
   -- a right stream has no fault
-  right_stream : (number : ℕ) (frames : List LogFrame) (f : StreamsFault) → Says guest stream frames → StandsInBytes f → IsFaultOfStream number guest stream f → ⊥
+  right_stream : (number : ℕ) (frames : List LogFrame) (f : StreamsFault) → Says guest stream frames → StandsInBytes f → IsFaultOfStream number guest stream f →
+      ⊥
   right_stream number frames (Frame i x) s in_bytes h = right_unbroken frames x s h.1
   right_stream number frames (Guest i) s in_bytes h = right_goes frames h.1.0 s h.1.1 (foreign h.1)
   right_stream number frames (Read i) s in_bytes h = in_bytes
@@ -86,7 +92,8 @@ module _ (guest : GuestName) (stream : List ℕ) where
   same_frame i j x y e f = ap (λ (k : ℕ). Frame k x) e ∙ ap (λ (z : FrameFault). Frame j z) f
 
   -- and a stream has one
-  one_fault : (number : ℕ) (f g : StreamsFault) → StandsInBytes f → StandsInBytes g → IsFaultOfStream number guest stream f → IsFaultOfStream number guest stream g → f ≡ g
+  one_fault : (number : ℕ) (f g : StreamsFault) → StandsInBytes f → StandsInBytes g → IsFaultOfStream number guest stream f →
+      IsFaultOfStream number guest stream g → f ≡ g
   one_fault number (Frame i x) (Frame j y) a b h k = same_frame i j x y (h.0 ∙ sym k.0) (one_break x y h.1 k.1)
   one_fault number (Frame i x) (Guest j) a b h k = absurd (broken_goes x k.1.0 h.1 k.1.1 (foreign k.1))
   one_fault number (Guest i) (Frame j y) a b h k = absurd (broken_goes y h.1.0 k.1 h.1.1 (foreign h.1))
@@ -107,7 +114,8 @@ module _ (guest : GuestName) (stream : List ℕ) where
 -- ---- several streams
 
 -- right streams have no fault
-right_streams : (number : ℕ) (guest : GuestName) (streams : List (List ℕ)) (frames : List LogFrame) (f : StreamsFault) → SayAll guest streams frames → StandsInBytes f →
+right_streams : (number : ℕ) (guest : GuestName) (streams : List (List ℕ)) (frames : List LogFrame) (f : StreamsFault) → SayAll guest streams frames →
+    StandsInBytes f →
     IsFirstFault number guest streams f → ⊥
 right_streams number guest [] frames f s in_bytes h = h
 right_streams number guest (stream ∷ streams) frames f s in_bytes h = elim h [
@@ -116,7 +124,8 @@ right_streams number guest (stream ∷ streams) frames f s in_bytes h = elim h [
 ]
 
 -- and streams have one first fault
-one_first : (number : ℕ) (guest : GuestName) (streams : List (List ℕ)) (f g : StreamsFault) → StandsInBytes f → StandsInBytes g → IsFirstFault number guest streams f →
+one_first : (number : ℕ) (guest : GuestName) (streams : List (List ℕ)) (f g : StreamsFault) → StandsInBytes f → StandsInBytes g →
+    IsFirstFault number guest streams f →
     IsFirstFault number guest streams g → f ≡ g
 one_first number guest [] f g a b h k = absurd h
 one_first number guest (stream ∷ streams) f g a b h k = elim h [
@@ -147,18 +156,19 @@ no_write number guest (stream ∷ streams) h = elim h [
 
 -- ---- what is answered
 
-module _ (image : ImageContents) (streams : List (List ℕ)) (f : StreamsFault) (in_bytes : StandsInBytes f) (first : IsFirstFault 0 (guest_of image) streams f) where
-  no_store : (store : StoreView) → AreJoined (guest_of image) streams store → ⊥
-  no_store store j = right_streams 0 (guest_of image) streams j.frames f j.say in_bytes first
+module _ (image : ImageContents) (streams : List (List ℕ)) (f : StreamsFault) (in_bytes : StandsInBytes f) (first : IsFirstFault 0 (guest_of image) streams f)
+  where
+    no_store : (store : StoreView) → AreJoined (guest_of image) streams store → ⊥
+    no_store store j = right_streams 0 (guest_of image) streams j.frames f j.say in_bytes first
 
-  pub fault_only : (e : StreamsFault) → IsFirstFault 0 (guest_of image) streams e → AnswersOnly (let r : Result (Unit {0}) StreamsFault = Err e in r) f
-  fault_only (Frame i x) k = one_first 0 (guest_of image) streams (Frame i x) f tt in_bytes k first
-  fault_only (Guest i) k = one_first 0 (guest_of image) streams (Guest i) f tt in_bytes k first
-  fault_only (Read i) k = tt
-  fault_only Memory k = tt
-  fault_only (Replay x) k = absurd (no_replay 0 (guest_of image) streams x k)
-  fault_only Write k = absurd (no_write 0 (guest_of image) streams k)
+    pub fault_only : (e : StreamsFault) → IsFirstFault 0 (guest_of image) streams e → AnswersOnly (let r : Result (Unit {0}) StreamsFault = Err e in r) f
+    fault_only (Frame i x) k = one_first 0 (guest_of image) streams (Frame i x) f tt in_bytes k first
+    fault_only (Guest i) k = one_first 0 (guest_of image) streams (Guest i) f tt in_bytes k first
+    fault_only (Read i) k = tt
+    fault_only Memory k = tt
+    fault_only (Replay x) k = absurd (no_replay 0 (guest_of image) streams x k)
+    fault_only Write k = absurd (no_write 0 (guest_of image) streams k)
 
-  -- where the streams are joined, none of them is at fault
-  pub joined_only : {A : Type 0} (r : Result A StreamsFault) (store : StoreView) → AreJoined (guest_of image) streams store → AnswersOnly r f
-  joined_only r store j = absurd (no_store store j)
+    -- where the streams are joined, none of them is at fault
+    pub joined_only : {A : Type 0} (r : Result A StreamsFault) (store : StoreView) → AreJoined (guest_of image) streams store → AnswersOnly r f
+    joined_only r store j = absurd (no_store store j)

@@ -1,5 +1,6 @@
 -- What was read of streams, and the whole streams.
-use Rattle.std.proofs.Common.{◌≡◌, ◌≢◌, ℕ, suc, zero, ◌+◌, ◌<◌, ◌≤◌, List, [], ◌∷◌, ◌++◌, length, map, take, drop, slice_get, slice_set, Option, Some, None, refl, sym, ap, subst, ◌∙◌, inl, inr, append_assoc, append-nil, add-one, arith}
+use Rattle.std.proofs.Common.{◌≡◌, ◌≢◌, ℕ, suc, zero, ◌+◌, ◌<◌, ◌≤◌, List, [], ◌∷◌, ◌++◌, length, map, take, drop, slice_get, slice_set, Option, Some, None}
+use Rattle.std.proofs.Common.{refl, sym, ap, subst, ◌∙◌, inl, inr, append_assoc, append-nil, add-one, arith}
 use Rattle.std.specs.List.{flat_map}
 use Rattle.std.specs.Io.KnownBytes.{Consumes, IsAtEnd}
 use Rattle.std.proofs.lemmas.List.{map-append, length-take-le, take-append-drop, length-map}
@@ -47,7 +48,8 @@ goes_longer guest stream more frame g = record {
 }
 
 -- the first fault of a beginning of a stream is the stream's
-fault_longer : (number : ℕ) (guest : GuestName) (stream more : List ℕ) (f : StreamsFault) → Lasts → IsFaultOfStream number guest stream f → IsFaultOfStream number guest (stream ++ more) f
+fault_longer : (number : ℕ) (guest : GuestName) (stream more : List ℕ) (f : StreamsFault) → Lasts → IsFaultOfStream number guest stream f →
+    IsFaultOfStream number guest (stream ++ more) f
 fault_longer number guest stream more (Frame i g) lasts h = (h.0, breaks_longer guest stream more g lasts h.1)
 fault_longer number guest stream more (Guest i) lasts h = (h.0, (h.1.0, goes_longer guest stream more h.1.0 h.1.1, h.1.2))
 fault_longer number guest stream more (Read i) lasts h = h
@@ -74,7 +76,8 @@ stream_to : (P Q : List ℕ → Type 0) (left : Option (List ℕ)) → ((stream 
 stream_to P Q None f h = (h.0, f h.0 h.1)
 stream_to P Q (Some stream) f h = f stream h
 
-pub streams_to : (P Q : List (List ℕ) → Type 0) (lefts : List (Option (List ℕ))) → ((streams : List (List ℕ)) → P streams → Q streams) → OfStreams lefts P → OfStreams lefts Q
+pub streams_to : (P Q : List (List ℕ) → Type 0) (lefts : List (Option (List ℕ))) → ((streams : List (List ℕ)) → P streams → Q streams) → OfStreams lefts P →
+    OfStreams lefts Q
 streams_to P Q [] f h = f [] h
 streams_to P Q (left ∷ lefts) f h =
     stream_to (λ stream. OfStreams lefts (λ streams. P (stream ∷ streams))) (λ stream. OfStreams lefts (λ streams. Q (stream ∷ streams))) left
@@ -88,7 +91,8 @@ some_stream P (Some stream) f = f stream
 pub some_streams : (P : List (List ℕ) → Type 0) (lefts : List (Option (List ℕ))) → ((streams : List (List ℕ)) → P streams) → OfStreams lefts P
 some_streams P [] f = f []
 some_streams P (left ∷ lefts) f =
-    some_stream (λ stream. OfStreams lefts (λ streams. P (stream ∷ streams))) left (λ stream. some_streams (λ streams. P (stream ∷ streams)) lefts (λ streams. f (stream ∷ streams)))
+    some_stream (λ stream. OfStreams lefts (λ streams. P (stream ∷ streams))) left (λ stream. some_streams (λ streams. P (stream ∷ streams)) lefts
+    (λ streams. f (stream ∷ streams)))
 
 -- what holds of none
 never_stream : (left : Option (List ℕ)) (P : List ℕ → Type 0) → ((stream : List ℕ) → P stream → ⊥) → OfStream left P → ⊥
@@ -102,19 +106,24 @@ never_streams P (left ∷ lefts) never h =
     (λ stream k. never_streams (λ streams. P (stream ∷ streams)) lefts (λ streams. never (stream ∷ streams)) k) h
 
 -- streams behind others
-streams_more : (P : List (List ℕ) → Type 0) (lefts others : List (Option (List ℕ))) → OfStreams lefts (λ front. OfStreams others (λ back. P (front ++ back))) → OfStreams (lefts ++ others) P
+streams_more : (P : List (List ℕ) → Type 0) (lefts others : List (Option (List ℕ))) → OfStreams lefts (λ front. OfStreams others (λ back. P (front ++ back))) →
+    OfStreams (lefts ++ others) P
 streams_more P [] others h = h
 streams_more P (left ∷ lefts) others h =
-    stream_to (λ stream. OfStreams lefts (λ front. OfStreams others (λ back. P (stream ∷ (front ++ back))))) (λ stream. OfStreams (lefts ++ others) (λ streams. P (stream ∷ streams))) left
+    stream_to (λ stream. OfStreams lefts (λ front. OfStreams others (λ back. P (stream ∷ (front ++ back))))) (λ stream. OfStreams (lefts ++ others)
+    (λ streams. P (stream ∷ streams))) left
     (λ stream k. streams_more (λ streams. P (stream ∷ streams)) lefts others k) h
 
 -- there are as many as readers
-streams_counted : (P : List (List ℕ) → Type 0) (lefts : List (Option (List ℕ))) → OfStreams lefts P → OfStreams lefts (λ streams. (length streams ≡ length lefts) × P streams)
+streams_counted : (P : List (List ℕ) → Type 0) (lefts : List (Option (List ℕ))) → OfStreams lefts P →
+    OfStreams lefts (λ streams. (length streams ≡ length lefts) × P streams)
 streams_counted P [] h = (refl, h)
 streams_counted P (left ∷ lefts) h =
-    stream_to (λ stream. OfStreams lefts (λ streams. P (stream ∷ streams))) (λ stream. OfStreams lefts (λ streams. (length (stream ∷ streams) ≡ length (left ∷ lefts)) × P (stream ∷ streams))) left
+    stream_to (λ stream. OfStreams lefts (λ streams. P (stream ∷ streams)))
+    (λ stream. OfStreams lefts (λ streams. (length (stream ∷ streams) ≡ length (left ∷ lefts)) × P (stream ∷ streams))) left
     (λ stream k.
-    streams_to (λ streams. (length streams ≡ length lefts) × P (stream ∷ streams)) (λ streams. (length (stream ∷ streams) ≡ length (left ∷ lefts)) × P (stream ∷ streams)) lefts
+    streams_to (λ streams. (length streams ≡ length lefts) × P (stream ∷ streams)) (λ streams. (length (stream ∷ streams) ≡ length (left ∷ lefts)) ×
+    P (stream ∷ streams)) lefts
     (λ streams p. (ap suc p.0, p.1)) (streams_counted (λ streams. P (stream ∷ streams)) lefts k)) h
 
 -- where the readers tell
@@ -124,7 +133,8 @@ streams_known P (stream ∷ streams) h = streams_known (λ others. P (stream ∷
 
 -- ---- one stream more
 
-say_more : (guest : GuestName) (streams : List (List ℕ)) (stream : List ℕ) (frames more : List LogFrame) → SayAll guest streams frames → Says guest stream more →
+say_more : (guest : GuestName) (streams : List (List ℕ)) (stream : List ℕ) (frames more : List LogFrame) → SayAll guest streams frames →
+    Says guest stream more →
     SayAll guest (streams ++ stream ∷ []) (frames ++ more)
 say_more guest [] stream frames more h s = (more, [], s, refl, ap (λ (x : List LogFrame). x ++ more) h ∙ sym (append-nil more))
 say_more guest (first ∷ streams) stream frames more h s = (
@@ -136,7 +146,8 @@ say_more guest (first ∷ streams) stream frames more h s = (
 )
 
 -- behind streams without a fault stands the first one
-first_behind : (number i : ℕ) (guest : GuestName) (streams : List (List ℕ)) (stream : List ℕ) (others : List (List ℕ)) (frames : List LogFrame) (f : StreamsFault) →
+first_behind : (number i : ℕ) (guest : GuestName) (streams : List (List ℕ)) (stream : List ℕ) (others : List (List ℕ)) (frames : List LogFrame)
+    (f : StreamsFault) →
     SayAll guest streams frames → i ≡ number + length streams → IsFaultOfStream i guest stream f → IsFirstFault number guest (streams ++ stream ∷ others) f
 first_behind number i guest [] stream others frames f h e fault =
     let same : i ≡ number = omega (arith, e) in inl (subst (λ (n : ℕ). IsFaultOfStream n guest stream f) same fault)
@@ -147,15 +158,17 @@ first_behind number i guest (first ∷ streams) stream others frames f h e fault
 -- ---- the readers
 
 -- the first readers were read to their ends, and their frames came to the store
-pub record IsRead {R : Type 0} (left : R → Option (List ℕ)) (failures : R → ℕ) (guest : GuestName) (olds nows : List R) (i : ℕ) (store : StoreView) : Type 0 where
-  pub joined : OfStreams (map left (take i olds)) (λ streams. AreJoined guest streams store)
-  pub own : store.guest ≡ guest
-  pub count : length nows ≡ length olds
-  pub same : (j : ℕ) → i ≤ j → slice_get nows j ≡ slice_get olds j
-  pub kept : (j : ℕ) (reader later : R) → slice_get olds j ≡ Some reader → slice_get nows j ≡ Some later → failures later ≡ failures reader
+pub record IsRead {R : Type 0} (left : R → Option (List ℕ)) (failures : R → ℕ) (guest : GuestName) (olds nows : List R) (i : ℕ) (store : StoreView) : Type 0
+  where
+    pub joined : OfStreams (map left (take i olds)) (λ streams. AreJoined guest streams store)
+    pub own : store.guest ≡ guest
+    pub count : length nows ≡ length olds
+    pub same : (j : ℕ) → i ≤ j → slice_get nows j ≡ slice_get olds j
+    pub kept : (j : ℕ) (reader later : R) → slice_get olds j ≡ Some reader → slice_get nows j ≡ Some later → failures later ≡ failures reader
 
 -- nothing was read
-pub none_read : {R : Type 0} (left : R → Option (List ℕ)) (failures : R → ℕ) (guest : GuestName) (readers : List R) (store : StoreView) → store ≡ nothing guest →
+pub none_read : {R : Type 0} (left : R → Option (List ℕ)) (failures : R → ℕ) (guest : GuestName) (readers : List R) (store : StoreView) →
+    store ≡ nothing guest →
     IsRead left failures guest readers readers 0 store
 none_read left failures guest readers store is = record {
   joined = record { frames = []; say = refl; joined = is };
@@ -166,7 +179,8 @@ none_read left failures guest readers store is = record {
 }
 
 -- what a stream's frames add to the store
-joined_more : (guest : GuestName) (streams : List (List ℕ)) (stream : List ℕ) (old new : StoreView) (frames : List LogFrame) → old.guest ≡ guest → AreJoined guest streams old →
+joined_more : (guest : GuestName) (streams : List (List ℕ)) (stream : List ℕ) (old new : StoreView) (frames : List LogFrame) → old.guest ≡ guest →
+    AreJoined guest streams old →
     Says old.guest stream frames → Takes old frames new → AreJoined guest (streams ++ stream ∷ []) new
 joined_more guest streams stream old new frames own j says takes = record {
   frames = j.frames ++ frames;
@@ -186,7 +200,8 @@ module _ {R : Type 0} (left : R → Option (List ℕ)) (failures : R → ℕ) (g
   split_here : slice_get olds i ≡ Some reader → i < length olds → map left olds ≡ map left (take i olds) ++ left reader ∷ map left (drop (suc i) olds)
   split_here is lt =
       let here : olds ≡ take i olds ++ reader ∷ drop (suc i) olds =
-      sym (take-append-drop i olds) ∙ ap (λ (r : List R). take i olds ++ r) (drop-cons olds i reader lt ∙ ap (λ (y : R). y ∷ drop (suc i) olds) (get_or_from_slice_get olds i reader reader is)) in
+      sym (take-append-drop i olds) ∙ ap (λ (r : List R). take i olds ++ r) (drop-cons olds i reader lt ∙ ap (λ (y : R). y ∷ drop (suc i) olds)
+      (get_or_from_slice_get olds i reader reader is)) in
       ap (map left) here ∙ map-append left (take i olds) (reader ∷ drop (suc i) olds)
 
   front_here : slice_get olds i ≡ Some reader → i < length olds → map left (take (i + 1) olds) ≡ map left (take i olds) ++ left reader ∷ []
@@ -196,7 +211,8 @@ module _ {R : Type 0} (left : R → Option (List ℕ)) (failures : R → ℕ) (g
       ap (map left) here ∙ map-append left (take i olds) (reader ∷ [])
 
   -- the reader was read to its end
-  pub read_more : (old new : StoreView) → i < length nows → slice_get nows i ≡ Some reader → IsRead left failures guest olds nows i old → Told old (left reader) (left later) new → failures later ≡ failures reader →
+  pub read_more : (old new : StoreView) → i < length nows → slice_get nows i ≡ Some reader → IsRead left failures guest olds nows i old → Told old (left reader)
+      (left later) new → failures later ≡ failures reader →
       IsRead left failures guest olds (slice_set nows i later) (i + 1) new
   read_more old new lt here r told kept =
       let is : slice_get olds i ≡ Some reader = sym (r.same i (omega arith)) ∙ here in
@@ -204,7 +220,8 @@ module _ {R : Type 0} (left : R → Option (List ℕ)) (failures : R → ℕ) (g
       record {
         joined = subst (λ lefts. OfStreams lefts (λ streams. AreJoined guest streams new)) (sym (front_here is within))
             (streams_more (λ streams. AreJoined guest streams new) (map left (take i olds)) (left reader ∷ [])
-            (streams_to (λ streams. AreJoined guest streams old) (λ front. OfStreams (left reader ∷ []) (λ back. AreJoined guest (front ++ back) new)) (map left (take i olds))
+            (streams_to (λ streams. AreJoined guest streams old) (λ front. OfStreams (left reader ∷ []) (λ back. AreJoined guest (front ++ back) new))
+            (map left (take i olds))
             (λ front j. of_whole (λ stream. AreJoined guest (front ++ stream ∷ []) new) (left reader) (left later) told.read told.consumed told.ended
             (joined_more guest front told.read old new told.frames r.own j told.says told.takes))
             r.joined));
@@ -224,7 +241,8 @@ module _ {R : Type 0} (left : R → Option (List ℕ)) (failures : R → ℕ) (g
   at_length front e = omega (arith, e)
 
   -- the reader was at fault
-  pub first_of_streams : (store : StoreView) (f : StreamsFault) → Lasts → i < length nows → slice_get nows i ≡ Some reader → IsRead left failures guest olds nows i store →
+  pub first_of_streams : (store : StoreView) (f : StreamsFault) → Lasts → i < length nows → slice_get nows i ≡ Some reader →
+      IsRead left failures guest olds nows i store →
       Refused i store.guest (left reader) (left later) f → OfStreams (map left olds) (λ streams. IsFirstFault 0 guest streams f)
   first_of_streams store f lasts lt here r refused =
       let is : slice_get olds i ≡ Some reader = sym (r.same i (omega arith)) ∙ here in
@@ -235,14 +253,16 @@ module _ {R : Type 0} (left : R → Option (List ℕ)) (failures : R → ℕ) (g
       (streams_more Behind (map left (take i olds)) (left reader ∷ map left (drop (suc i) olds))
       (streams_to (λ streams. (length streams ≡ length (map left (take i olds))) × AreJoined guest streams store)
       (λ front. OfStreams (left reader ∷ map left (drop (suc i) olds)) (λ back. Behind (front ++ back))) (map left (take i olds))
-      (λ front j. of_begun (λ stream. OfStreams (map left (drop (suc i) olds)) (λ others. Behind (front ++ stream ∷ others))) (left reader) (left later) refused.read refused.consumed
+      (λ front j. of_begun (λ stream. OfStreams (map left (drop (suc i) olds)) (λ others. Behind (front ++ stream ∷ others))) (left reader)
+      (left later) refused.read refused.consumed
       (λ more. some_streams (λ others. Behind (front ++ (refused.read ++ more) ∷ others)) (map left (drop (suc i) olds))
       (λ others. first_behind 0 i guest front (refused.read ++ more) others j.1.frames f j.1.say (at_length front (j.0 ∙ many))
       (fault_longer i guest refused.read more f lasts (subst (λ (g : GuestName). IsFaultOfStream i g refused.read f) r.own refused.fault)))))
       (streams_counted (λ streams. AreJoined guest streams store) (map left (take i olds)) r.joined)))
 
   -- those behind it are as they were
-  pub behind_same : (store : StoreView) (f : StreamsFault) (g : GuestName) → IsRead left failures guest olds nows i store → Refused i g (left reader) (left later) f →
+  pub behind_same : (store : StoreView) (f : StreamsFault) (g : GuestName) → IsRead left failures guest olds nows i store → Refused i g (left reader)
+      (left later) f →
       (j : ℕ) → IsBehind f j → slice_get (slice_set nows i later) j ≡ slice_get olds j
   behind_same store f g r refused j behind =
       let above : i < j = is_above f refused.fault j behind in
@@ -266,9 +286,11 @@ module _ {R : Type 0} (left : R → Option (List ℕ)) (failures : R → ℕ) (g
   others_fail Memory g read j a b h n e = e
 
   -- and the readers failed where the fault says so
-  pub one_failed : (store : StoreView) (f : StreamsFault) (g : GuestName) → i < length nows → slice_get nows i ≡ Some reader → IsRead left failures guest olds nows i store → Refused i g (left reader) (left later) f →
+  pub one_failed : (store : StoreView) (f : StreamsFault) (g : GuestName) → i < length nows → slice_get nows i ≡ Some reader →
+      IsRead left failures guest olds nows i store → Refused i g (left reader) (left later) f →
       Fails i (failures reader) (failures later) f →
-      (j : ℕ) (before after : R) → slice_get olds j ≡ Some before → slice_get (slice_set nows i later) j ≡ Some after → Fails j (failures before) (failures after) f
+      (j : ℕ) (before after : R) → slice_get olds j ≡ Some before → slice_get (slice_set nows i later) j ≡ Some after → Fails j (failures before)
+      (failures after) f
   one_failed store f g lt here r refused fails j before after a b =
       let is : slice_get olds i ≡ Some reader = sym (r.same i (omega arith)) ∙ here in
       elim (cases_eq i j) [
@@ -277,5 +299,6 @@ module _ {R : Type 0} (left : R → Option (List ℕ)) (failures : R → ℕ) (g
             let second : later ≡ after = same_place (slice_set nows i later) i j later after (get_set_same nows i later lt) e b in
             subst (λ (n : ℕ). Fails n (failures before) (failures after) f) e
             (subst (λ (x : R). Fails i (failures x) (failures after) f) first (subst (λ (x : R). Fails i (failures reader) (failures x) f) second fails))
-        | inr n ↦ others_fail f g refused.read j (failures before) (failures after) refused.fault n (r.kept j before after a (sym (get_set_other nows i j later n) ∙ b))
+        | inr n ↦ others_fail f g refused.read j (failures before) (failures after) refused.fault n
+            (r.kept j before after a (sym (get_set_other nows i j later n) ∙ b))
       ]

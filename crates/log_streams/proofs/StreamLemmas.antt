@@ -10,7 +10,7 @@ use Rattle.fragment_codec.specs.declared.frame.Frame.{Frame as LogFrame}
 use Rattle.fragment_codec.specs.declared.fault.FrameFault.{FrameFault}
 use Rattle.fragment_codec.specs.declared.fault.FrameFault.TheVariants.{Magic, Version, Kind, Length, Digest, Body, Memory as NoMemory}
 use Rattle.fragment_codec.specs.Streams.{spelling, IsFrame, Splits, Unread, Keeps, Follows}
-use Rattle.fragment_codec.proofs.Readings.{one_feed}
+use Rattle.fragment_codec.proofs.streams.Readings.{one_feed}
 use Rattle.log_join.specs.Stores.{StoreView, IsJoin, alone}
 use Rattle.log_join.specs.declared.answers.StoreFault.{StoreFault}
 use Rattle.log_join.specs.declared.answers.StoreFault.TheVariants.{OtherGuest, Memory as NoRoom}
@@ -31,16 +31,20 @@ if_err (Err e) f p = f e p
 
 -- ---- faults among frames
 
-regroup : (given before : List LogFrame) (frame : LogFrame) (after : List LogFrame) → given ++ (before ++ frame ∷ after) ≡ ((given ++ before) ++ frame ∷ []) ++ after
+regroup : (given before : List LogFrame) (frame : LogFrame) (after : List LogFrame) → given ++ (before ++ frame ∷ after) ≡ ((given ++ before) ++ frame ∷ []) ++
+    after
 regroup given before frame after = simp append_assoc
 
-respell : (text rest : List ℕ) (all front back : List LogFrame) → text ≡ flat_map spelling all ++ rest → all ≡ front ++ back → text ≡ flat_map spelling front ++ (flat_map spelling back ++ rest)
+respell : (text rest : List ℕ) (all front back : List LogFrame) → text ≡ flat_map spelling all ++ rest → all ≡ front ++ back → text ≡ flat_map spelling front ++
+    (flat_map spelling back ++ rest)
 respell text rest all front back e s =
-    e ∙ ap (λ (x : List LogFrame). flat_map spelling x ++ rest) s ∙ ap (λ (x : List ℕ). x ++ rest) (flat_map-append spelling front back) ∙ append_assoc (flat_map spelling front) (flat_map spelling back) rest
+    e ∙ ap (λ (x : List LogFrame). flat_map spelling x ++ rest) s ∙ ap (λ (x : List ℕ). x ++ rest) (flat_map-append spelling front back) ∙
+    append_assoc (flat_map spelling front) (flat_map spelling back) rest
 
 -- the frame that is at fault stands behind frames of the guest
 goes_on : (guest : GuestName) (text : List ℕ) (given frames before : List LogFrame) (frame : LogFrame) (after : List LogFrame) (rest : List ℕ) →
-    Splits text (given ++ frames) rest → frames ≡ before ++ frame ∷ after → AllByRecursion (IsOf guest) given → AllByRecursion (IsOf guest) before → GoesOnWith guest text frame
+    Splits text (given ++ frames) rest → frames ≡ before ++ frame ∷ after → AllByRecursion (IsOf guest) given → AllByRecursion (IsOf guest) before →
+    GoesOnWith guest text frame
 goes_on guest text given frames before frame after rest s e own more =
     let same : given ++ frames ≡ ((given ++ before) ++ frame ∷ []) ++ after = ap (λ (x : List LogFrame). given ++ x) e ∙ regroup given before frame after in
     record {
@@ -54,7 +58,8 @@ goes_on guest text given frames before frame after rest s e own more =
     }
 
 among_push : (number : ℕ) (guest : GuestName) (text : List ℕ) (given frames : List LogFrame) (feed : Unread) →
-    Follows text (given ++ frames) feed → AllByRecursion (IsOf guest) given → (f : StoreFault) → IsFaultAmong guest frames f → IsPushFault number guest text (fault_at number f)
+    Follows text (given ++ frames) feed → AllByRecursion (IsOf guest) given → (f : StoreFault) → IsFaultAmong guest frames f → IsPushFault number guest text
+    (fault_at number f)
 among_push number guest text given frames feed follows own OtherGuest h =
     (refl, (h.frame, goes_on guest text given frames h.before h.frame h.after follows.rest follows.splits h.parts own h.own, h.other))
 among_push number guest text given frames feed follows own NoRoom h = tt
@@ -88,14 +93,16 @@ pub takes_none : (first : StoreView) → Takes first [] first
 takes_none first = record { own = tt; come = refl }
 
 -- one frame more came
-pub takes_one : (first old new : StoreView) (given : List LogFrame) (frame : LogFrame) → Takes first given old → IsOf old.guest frame → IsJoin old (alone frame) new → Takes first (given ++ frame ∷ []) new
+pub takes_one : (first old new : StoreView) (given : List LogFrame) (frame : LogFrame) → Takes first given old → IsOf old.guest frame →
+    IsJoin old (alone frame) new → Takes first (given ++ frame ∷ []) new
 takes_one first old new given frame t own joined = record {
   own = all_append (IsOf first.guest) given (frame ∷ []) t.own (own ∙ same_guest_comes first old given t.come, tt);
   come = come_more first old new given (frame ∷ []) t.come (new, joined, refl);
 }
 
 -- a frame that is not taken behind those that were
-pub taken_among : (first : StoreView) (given : List LogFrame) (store : StoreView) (frames before : List LogFrame) (frame : LogFrame) (after : List LogFrame) (f : StoreFault) →
+pub taken_among : (first : StoreView) (given : List LogFrame) (store : StoreView) (frames before : List LogFrame) (frame : LogFrame) (after : List LogFrame)
+    (f : StoreFault) →
     frames ≡ before ++ frame ∷ after → Takes first (given ++ before) store → IsFaultOf store.guest frame f → IsFaultAmong first.guest frames f
 taken_among first given store frames before frame after f parts t fault =
     to_among first.guest frames before frame after f parts (all_back (IsOf first.guest) given before t.own)
@@ -116,12 +123,17 @@ feed_fault number guest text given feed f follows is own = (
 )
 
 pub feed_faults : (number : ℕ) (guest : GuestName) (text : List ℕ) (given : List LogFrame) (feed : Unread) (f : FrameFault) →
-    (f ≢ NoMemory → Follows text given feed) → (f ≢ NoMemory → feed.fault ≡ Some f) → AllByRecursion (IsOf guest) given → IsPushFault number guest text (fault_in number f)
-feed_faults number guest text given feed Magic a b own = (let ne : Magic ≢ NoMemory = λ e. cc in feed_fault number guest text given feed Magic (a ne) (b ne) own)
-feed_faults number guest text given feed Version a b own = (let ne : Version ≢ NoMemory = λ e. cc in feed_fault number guest text given feed Version (a ne) (b ne) own)
+    (f ≢ NoMemory → Follows text given feed) → (f ≢ NoMemory → feed.fault ≡ Some f) → AllByRecursion (IsOf guest) given → IsPushFault number guest text
+    (fault_in number f)
+feed_faults number guest text given feed Magic a b own = (let ne : Magic ≢ NoMemory = λ e. cc in feed_fault number guest text given feed Magic (a ne)
+    (b ne) own)
+feed_faults number guest text given feed Version a b own = (let ne : Version ≢ NoMemory = λ e. cc in feed_fault number guest text given feed Version (a ne)
+    (b ne) own)
 feed_faults number guest text given feed Kind a b own = (let ne : Kind ≢ NoMemory = λ e. cc in feed_fault number guest text given feed Kind (a ne) (b ne) own)
-feed_faults number guest text given feed Length a b own = (let ne : Length ≢ NoMemory = λ e. cc in feed_fault number guest text given feed Length (a ne) (b ne) own)
-feed_faults number guest text given feed Digest a b own = (let ne : Digest ≢ NoMemory = λ e. cc in feed_fault number guest text given feed Digest (a ne) (b ne) own)
+feed_faults number guest text given feed Length a b own = (let ne : Length ≢ NoMemory = λ e. cc in feed_fault number guest text given feed Length (a ne)
+    (b ne) own)
+feed_faults number guest text given feed Digest a b own = (let ne : Digest ≢ NoMemory = λ e. cc in feed_fault number guest text given feed Digest (a ne)
+    (b ne) own)
 feed_faults number guest text given feed Body a b own = (let ne : Body ≢ NoMemory = λ e. cc in feed_fault number guest text given feed Body (a ne) (b ne) own)
 feed_faults number guest text given feed NoMemory a b own = tt
 
@@ -144,7 +156,8 @@ push_ok items piece old new p q took follows = λ first read given f h. (items, 
 pub push_fault : (number : ℕ) (items : List LogFrame) (piece : List ℕ) (old new : Unread) (p : StoreView) (f : StoreFault) →
     ((first : StoreView) (given : List LogFrame) → Takes first given p → IsFaultAmong first.guest items f) →
     ((read : List ℕ) (given : List LogFrame) → Follows read given old → Follows (read ++ piece) (given ++ items) new) →
-    (first : StoreView) (read : List ℕ) (given : List LogFrame) → Follows read given old → Takes first given p → IsPushFault number first.guest (read ++ piece) (fault_at number f)
+    (first : StoreView) (read : List ℕ) (given : List LogFrame) → Follows read given old → Takes first given p → IsPushFault number first.guest (read ++ piece)
+    (fault_at number f)
 push_fault number items piece old new p f failed follows = λ first read given g h.
     among_push number first.guest (read ++ piece) given items new (follows read given g) h.own f (failed first given h)
 
@@ -212,7 +225,8 @@ Goes feed later p q got =
     (first : StoreView) (read : List ℕ) (given : List LogFrame) → Follows read given feed → Takes first given p →
     (frames : List LogFrame) × Follows (read ++ got) (given ++ frames) later × Takes first (given ++ frames) q
 
-pub push_refused : (number : ℕ) (first : StoreView) (old now next : Option (List ℕ)) (feed : Unread) (p : StoreView) (got whole : List ℕ) (f : StreamsFault) → got ≡ whole →
+pub push_refused : (number : ℕ) (first : StoreView) (old now next : Option (List ℕ)) (feed : Unread) (p : StoreView) (got whole : List ℕ) (f : StreamsFault) →
+    got ≡ whole →
     IsReading first old now feed p → Consumes now next whole → Pushes number feed p got f → Refused number first.guest old next f
 push_refused number first old now next feed p got whole f e r taken h =
     record {

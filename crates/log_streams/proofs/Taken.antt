@@ -41,6 +41,8 @@ taken_own s (Log f) p e n =
 -- and one that is not, is of another
 pub refused_other : (s : StoreView) (frame : Frame) (p : Put) → p ≡ answer_to s frame → p ≡ OtherGuest → IsOf s.guest frame → ⊥
 refused_other s (Opening o) p e k own =
-    failed (same_guest o.guest s.guest) (answer same_opening (opening_at s o.term) o) (never_other same_opening (opening_at s o.term) o) (sym e ∙ k) ((guests_told o.guest s.guest).1 own)
+    failed (same_guest o.guest s.guest) (answer same_opening (opening_at s o.term) o) (never_other same_opening (opening_at s o.term) o) (sym e ∙ k)
+    ((guests_told o.guest s.guest).1 own)
 refused_other s (Log f) p e k own =
-    failed (same_guest f.guest s.guest) (answer same_fragment (fragment_at s f.key) f) (never_other same_fragment (fragment_at s f.key) f) (sym e ∙ k) ((guests_told f.guest s.guest).1 own)
+    failed (same_guest f.guest s.guest) (answer same_fragment (fragment_at s f.key) f) (never_other same_fragment (fragment_at s f.key) f) (sym e ∙ k)
+    ((guests_told f.guest s.guest).1 own)

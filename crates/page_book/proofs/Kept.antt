@@ -1,5 +1,6 @@
 -- What a book keeps, when a lease goes out, is given a page, comes back or ends.
-use Rattle.std.proofs.Common.{◌≡◌, ℕ, ◌<◌, ◌≤◌, List, length, slice_set, Option, None, inl, inr, ap, sym, ◌∙◌, arith, Some, subst, length-set, refl, [], false, ◌∷◌, zero, suc, replicate}
+use Rattle.std.proofs.Common.{◌≡◌, ℕ, ◌<◌, ◌≤◌, List, length, slice_set, Option, None, inl, inr, ap, sym, ◌∙◌, arith, Some, subst, length-set, refl, [], false}
+use Rattle.std.proofs.Common.{◌∷◌, zero, suc, replicate}
 use Rattle.std.proofs.lemmas.Bool.{cases_eq}
 use Rattle.std.proofs.lemmas.List.{get_or-set_same, get_or-set_other, length-replicate}
 use Rattle.hart_lease.specs.OpenLeases.{OpenView, open_at, LentView, nothing_taken, given_more}
@@ -11,18 +12,19 @@ use Rattle.hart_lease.specs.declared.taken.Taken.{Taken}
 use Rattle.hart_lease.specs.Runs.{Heard, MayGoTo, counts_of, StandsIn, IsLease, added, HearsOn}
 use Rattle.page_book.specs.Books.{IsBook}
 use Rattle.hart_lease.specs.Leases.{IsLentBy, LeaseView, laid}
-use Rattle.hart_lease.proofs.Noted.{set_each, more}
+use Rattle.hart_lease.proofs.journals.OpenLeases.{set_each, more}
 use Rattle.edge_log.specs.declared.Edge.{Edge as edge_found}
 use Rattle.ft_types.specs.declared.names.Want.{Want}
-use Rattle.hart_lease.proofs.Laid.{length-laid_pages}
-use Rattle.hart_lease.proofs.Journals.{stands_ours, row-set, row-set_some, may_still_go, others_laid, of_stop, row-set_other, row_within, counts_go_on, run_goes_on, grown, schedule_goes_on}
+use Rattle.hart_lease.proofs.pages.Laid.{length-laid_pages}
+use Rattle.hart_lease.proofs.journals.GoingOn.{stands_ours, row-set, row-set_some, may_still_go, others_laid, of_stop, row-set_other, row_within, counts_go_on}
+use Rattle.hart_lease.proofs.journals.GoingOn.{run_goes_on, grown, schedule_goes_on}
 use Rattle.interleaving.specs.Machine.{after}
 use Rattle.interleaving.specs.Log as theory
 use Rattle.input_log.specs.declared.Input.{Input}
 use Rattle.input_log.specs.Inputs.{is_bell, IsInputOf}
 use Rattle.book_modes.specs.Recordings.{RecordingView, IsRecorded, IsOffered, heard_by}
-use Rattle.book_modes.proofs.Honest.{offered_kept}
-use Rattle.hart_lease.proofs.Slots.{none-replicate}
+use Rattle.book_modes.proofs.ledger.Honesty.{offered_kept}
+use Rattle.hart_lease.proofs.pages.Slots.{none-replicate}
 
 set_known : (leases : List (Option OpenView)) (hart : ℕ) (new : Option OpenView) (harts : ℕ) → hart < length leases → (harts ≤ hart → new ≡ None) →
     ((other : ℕ) → harts ≤ other → open_at leases other ≡ None) → (other : ℕ) → harts ≤ other → open_at (slice_set leases hart new) other ≡ None
@@ -38,7 +40,8 @@ pub lent_kept : (start m : MachineState) (journal : List Stretch) (leases : List
     IsBook start m journal leases stops edges heard before → new_stops ≡ stops → new_edges ≡ edges → new_heard ≡ heard → hart < length m.harts →
     hart < length leases → lent.stop ≤ count_at stops hart → MayGoTo edges (counts_of m) hart lent.stop → after →
     IsBook start m journal (slice_set leases hart (Some (nothing_taken lent))) new_stops new_edges new_heard after
-lent_kept start m journal leases stops new_stops edges new_edges heard new_heard before after hart out p same_stops same_edges same_heard there row le may kept =
+lent_kept start m journal leases stops new_stops edges new_edges heard new_heard before after hart out p same_stops same_edges same_heard there row le may
+    kept =
     rw (same_stops, same_edges, same_heard)
     (record {
       run = p.run;
@@ -67,7 +70,8 @@ pub given_kept : (start m : MachineState) (journal : List Stretch) (leases : Lis
     (heard new_heard : Heard) (before after : Type 0) (hart page : ℕ) (want : Want) (count : ℕ) (found : List edge_found) →
     IsBook start m journal leases stops edges heard before → new_stops ≡ stops → new_edges ≡ edges → new_heard ≡ heard → hart < length leases → after →
     IsBook start m journal (slice_set leases hart (given_more (open_at leases hart) page want count found)) new_stops new_edges new_heard after
-given_kept start m journal leases stops new_stops edges new_edges heard new_heard before after hart page want count found p same_stops same_edges same_heard row kept =
+given_kept start m journal leases stops new_stops edges new_edges heard new_heard before after hart page want count found p same_stops same_edges same_heard row
+    kept =
     rw (same_stops, same_edges, same_heard)
     (record {
       run = p.run;
@@ -184,7 +188,8 @@ greater_many (x ∷ a) [] same = absurd (omega (arith, same))
 greater_many (x ∷ a) (y ∷ b) same = ap suc (greater_many a b (omega (arith, same)))
 
 pub limits_kept : (start m : MachineState) (journal : List Stretch) (leases : List (Option OpenView)) (stops higher : List ℕ) (edges : List theory.Edge)
-    (heard : Heard) (before after : Type 0) → IsBook start m journal leases stops edges heard before → ((hart : ℕ) → count_at stops hart ≤ count_at higher hart) → after →
+    (heard : Heard) (before after : Type 0) → IsBook start m journal leases stops edges heard before →
+    ((hart : ℕ) → count_at stops hart ≤ count_at higher hart) → after →
     IsBook start m journal leases higher edges heard after
 limits_kept start m journal leases stops higher edges heard before after p le kept =
     record {

@@ -1,21 +1,13 @@
 //! The book.
 
-ghost use Rattle.std.specs.Prelude.{All, ◌≡◌, ◌≢◌, ◌<◌, ◌≤◌, ◌^◌, ◌⊎◌, ◌+◌, ◌↔◌, ◌++◌, ◌∷◌, ℕ, List, [], length, replicate, map, slice_set, slice_get, slice_index, slice_index_or, Some, None, Ok, Err, true, false, IfOk, IfErr, OnOk, OnErr, IsTrue};
+ghost use Rattle.std.specs.Prelude.{All, ◌≡◌, ◌≢◌, ◌<◌, ◌≤◌, ◌^◌, ◌⊎◌, ◌+◌, ◌↔◌, ◌++◌, ◌∷◌, ℕ, List, [], length, replicate, map, slice_set, slice_get};
+ghost use Rattle.std.specs.Prelude.{slice_index, slice_index_or, Some, None, Ok, Err, true, false, IfOk, IfErr, OnOk, OnErr, IsTrue};
 ghost use Rattle.std.specs.Vec.{vec_len, vec_capacity};
-ghost use Rattle.ft_types.specs.Counts.{count_at, greater};
-ghost use Rattle.ft_types.specs.Sets.{IsMember};
-ghost use Rattle.hart_lease.specs.Slots.{slot_at, want_of};
-ghost use Rattle.hart_lease.specs.Leases.{LeaseView, fresh, IsFull, base_at, laid, laid_pages, whole_in, with_slot, with_page, IsLentBy};
-ghost use Rattle.interleaving.specs.Log.{IsMet, HasUnmet};
-ghost use Rattle.hart_lease.specs.Runs.{LeadsTo, IsBareLease, BeginsSchedule, counts_of, added};
-ghost use Rattle.hart_lease.specs.OpenLeases.{OpenView, open_at, nothing_taken, given_more, lent_with};
+ghost use Rattle.page_book.specs.Words.{added, asked_by, base_at, BeginsSchedule, count_at, counts_of, fresh, given_more, greater, HasHonestLog, HasUnmet};
+ghost use Rattle.page_book.specs.Words.{heard_by, HearsBellsInTurn, inputs_of, is_bell, IsAsking, IsBareLease, IsBetween, IsFull, IsInputOf, IsLentBy};
+ghost use Rattle.page_book.specs.Words.{IsMember, IsMet, IsOffered, IsUnused, laid, laid_pages, LeadsTo, LeaseView, lent_with, nothing_taken, open_at};
+ghost use Rattle.page_book.specs.Words.{OpenView, RecordingView, row_of, slot_at, want_of, whole_in, with_page, with_slot};
 ghost use Rattle.page_book.specs.Books.{BookView, IsOurs, HasTaken, refusal};
-ghost use Rattle.edge_log.specs.EdgeLog.{row_of};
-ghost use Rattle.hart_lease.specs.Asks.{asked_by};
-ghost use Rattle.book_modes.specs.Modes.{IsAsking};
-ghost use Rattle.book_modes.specs.Hearings.{HearsBellsInTurn};
-ghost use Rattle.book_modes.specs.Recordings.{RecordingView, IsUnused, IsOffered, IsBetween, heard_by, HasHonestLog};
-ghost use Rattle.input_log.specs.Inputs.{IsInputOf, inputs_of, is_bell};
 ghost use Rattle.page_book.specs.Answers.{IfHeldBy, OnHeldBy, OnGiven};
 ghost use Rattle.rv32_hart.specs.Hart.{Hart as HartRecord, with_outputs_of, without_outputs};
 
@@ -49,7 +41,8 @@ impl<M: Mode> Model for Book<M> {
 
     ghost view = { λ b. record { start = b.start; machine = b.machine; journal = b.journal.items; leases = b.leases; mode = b.mode } };
 
-    ghost invariant = { λ b. IsBook b.start b.machine b.journal.items b.leases (M.stops b.mode) (M.obeyed b.mode) (M.heard b.mode) (M.keeps b.mode b.start b.machine b.journal.items b.leases) };
+    ghost invariant = { λ b. IsBook b.start b.machine b.journal.items b.leases (M.stops b.mode) (M.obeyed b.mode) (M.heard b.mode)
+        (M.keeps b.mode b.start b.machine b.journal.items b.leases) };
 }
 
 impl Book<Replaying> {
@@ -199,7 +192,8 @@ fn lay(machine: &mut Machine, slots: Vec<Slot>)
 fn take_back(machine: &mut Machine, lease: hart_lease::Lease) -> u64
     requires state { (h : HartRecord) × (slice_get machine.old.harts lease.hart ≡ Some h) × (without_outputs h ≡ without_outputs lease.base) }
     requires as_many { length lease.slots ≡ length machine.old.pages }
-    ensures machine { (h : HartRecord) → slice_get machine.old.harts lease.hart ≡ Some h → machine.new ≡ laid machine.old (record lease { present = with_outputs_of h lease.present }) }
+    ensures machine { (h : HartRecord) → slice_get machine.old.harts lease.hart ≡ Some h → machine.new ≡ laid machine.old
+        (record lease { present = with_outputs_of h lease.present }) }
     ensures steps { result ≡ lease.steps }
     ensures kept { IsBareLease lease }
 {
@@ -266,18 +260,24 @@ impl<M: Mode> Book<M> {
     /// Lends a hart, unless it has an open lease, is halted, is at its limit, or has to wait for another.
     pub fn lease(&mut self, alloc: Global, hart: Hart) -> Result<Lease, BookFault>
         requires { hart < length self.old.machine.harts }
-        ensures lent { IfOk result (λ l. (h : HartRecord) → slice_get self.old.machine.harts hart ≡ Some h → l ≡ fresh hart (without_outputs h) (length self.old.machine.pages) (lent_with l.stop l.inputs l.edges)) }
+        ensures lent { IfOk result (λ l. (h : HartRecord) → slice_get self.old.machine.harts hart ≡ Some h → l ≡ fresh hart (without_outputs h)
+            (length self.old.machine.pages) (lent_with l.stop l.inputs l.edges)) }
         // It goes out with what the mode lends it.
         ensures mode { IfOk result (λ l. M.lends self.old.mode hart (counts_of self.old.machine hart) (lent_with l.stop l.inputs l.edges) self.new.mode) }
         ensures unrefused { OnOk result ((h : HartRecord) → slice_get self.old.machine.harts hart ≡ Some h →
             refusal (open_at self.old.leases hart) h (count_at (M.stops self.old.mode) hart) ≡ None) }
         ensures met { OnOk result (IsMet (M.obeyed self.old.mode) (counts_of self.old.machine) hart) }
         ensures ours { IfOk result (λ l. IsOurs self.new l) }
-        ensures kept_open { IfOk result (λ l. self.new ≡ record self.old { leases = slice_set self.old.leases hart (Some (nothing_taken (lent_with l.stop l.inputs l.edges))); mode = self.new.mode }) }
+        ensures kept_open { IfOk result (λ l. self.new ≡ record self.old {
+          leases = slice_set self.old.leases hart
+              (Some (nothing_taken (lent_with l.stop l.inputs l.edges)));
+          mode = self.new.mode;
+        }) }
         ensures refused { IfErr result (λ f. f ≢ BookFault.EdgeOpen → f ≢ BookFault.Memory → (h : HartRecord) → slice_get self.old.machine.harts hart ≡ Some h →
             refusal (open_at self.old.leases hart) h (count_at (M.stops self.old.mode) hart) ≡ Some f) }
         // Only then is an edge asked for, and only where each is met, memory.
-        ensures later { IfErr result (λ f. (f ≡ BookFault.EdgeOpen) ⊎ (f ≡ BookFault.Memory) → (h : HartRecord) → slice_get self.old.machine.harts hart ≡ Some h →
+        ensures later { IfErr result (λ f. (f ≡ BookFault.EdgeOpen) ⊎ (f ≡ BookFault.Memory) → (h : HartRecord) → slice_get self.old.machine.harts hart ≡ Some
+            h →
             refusal (open_at self.old.leases hart) h (count_at (M.stops self.old.mode) hart) ≡ None) }
         ensures edge_open { IfErr result (λ f. f ≡ BookFault.EdgeOpen → HasUnmet (M.obeyed self.old.mode) (counts_of self.old.machine) hart) }
         ensures memory { IfErr result (λ f. f ≡ BookFault.Memory → IsMet (M.obeyed self.old.mode) (counts_of self.old.machine) hart) }
@@ -349,7 +349,11 @@ impl<M: Mode> Book<M> {
         requires settled { (hart : ℕ) → count_at settled.now hart ≡ counts_of self.old.machine hart }
         requires found { M.owes self.old.mode (count_at settled.now) asked.now found.now }
         requires waiting { (lent : OpenView) → open_at self.old.leases asked.now.hart ≡ Some lent → waiting.items ≡ lent.edges ++ found.now }
-        ensures book { self.new ≡ record self.old { leases = slice_set self.old.leases asked.now.hart (given_more (open_at self.old.leases asked.now.hart) asked.now.page asked.now.want asked.now.count found.now); mode = self.new.mode } }
+        ensures book { self.new ≡ record self.old {
+          leases = slice_set self.old.leases asked.now.hart (given_more (open_at self.old.leases asked.now.hart)
+              asked.now.page asked.now.want asked.now.count found.now);
+          mode = self.new.mode;
+        } }
         ensures given { M.gives self.old.mode (count_at settled.now) asked.now self.new.mode }
     {
         let alloc = *self.journal.allocator();
@@ -361,15 +365,21 @@ impl<M: Mode> Book<M> {
     pub fn need(&mut self, lease: &mut Lease, page: PageNo, want: Want) -> Result<Need, BookFault>
         requires { page < length self.old.machine.pages }
         ensures foreign { (result ≡ Err BookFault.Foreign) ↔ ¬ (IsOurs self.old lease.old) }
-        ensures memory { IfErr result (λ f. f ≢ BookFault.Foreign → (f ≡ BookFault.Memory) × ((g : ℕ) → M.is_holder self.old.mode self.old.leases (asked_by lease.old page want) g → ⊥)) }
-        ensures held { IfOk result (λ answer. IfHeldBy answer (λ harts. (g : ℕ) → IsMember harts g ↔ M.is_holder self.old.mode self.old.leases (asked_by lease.old page want) g)) }
-        ensures not_free { IfOk result (λ answer. OnHeldBy answer (((g : ℕ) → M.is_holder self.old.mode self.old.leases (asked_by lease.old page want) g → ⊥) → ⊥)) }
+        ensures memory { IfErr result (λ f. f ≢ BookFault.Foreign → (f ≡ BookFault.Memory) × ((g : ℕ) → M.is_holder self.old.mode self.old.leases
+            (asked_by lease.old page want) g → ⊥)) }
+        ensures held { IfOk result (λ answer. IfHeldBy answer (λ harts. (g : ℕ) → IsMember harts g ↔ M.is_holder self.old.mode self.old.leases
+            (asked_by lease.old page want) g)) }
+        ensures not_free { IfOk result (λ answer. OnHeldBy answer (((g : ℕ) → M.is_holder self.old.mode self.old.leases (asked_by lease.old page want) g → ⊥) →
+            ⊥)) }
         ensures free { IfOk result (λ answer. OnGiven answer ((g : ℕ) → M.is_holder self.old.mode self.old.leases (asked_by lease.old page want) g → ⊥)) }
         // The page comes as it stands in the machine, to read, or to read and to write.
-        ensures given { IfOk result (λ answer. OnGiven answer ((here : List ℕ) → slice_get self.old.machine.pages page ≡ Some here → lease.new ≡ record (with_page lease.old page want here) { edges = lease.new.edges })) }
+        ensures given { IfOk result (λ answer. OnGiven answer ((here : List ℕ) → slice_get self.old.machine.pages page ≡ Some here →
+            lease.new ≡ record (with_page lease.old page want here) { edges = lease.new.edges })) }
         // The edges that the hart's next step owes wait in the lease.
-        ensures taken { IfOk result (λ answer. OnGiven answer (HasTaken (M.owes self.old.mode (counts_of self.old.machine) (asked_by lease.old page want)) self.old.leases (asked_by lease.old page want) lease.old.edges lease.new.edges self.new.leases)) }
-        ensures mode { IfOk result (λ answer. OnGiven answer (M.gives self.old.mode (counts_of self.old.machine) (asked_by lease.old page want) self.new.mode)) }
+        ensures taken { IfOk result (λ answer. OnGiven answer (HasTaken (M.owes self.old.mode (counts_of self.old.machine) (asked_by lease.old page want))
+            self.old.leases (asked_by lease.old page want) lease.old.edges lease.new.edges self.new.leases)) }
+        ensures mode { IfOk result (λ answer. OnGiven answer (M.gives self.old.mode (counts_of self.old.machine) (asked_by lease.old page want)
+            self.new.mode)) }
         ensures ours { OnOk result (IsOurs self.new lease.new) }
         // Where it waits or is refused, neither has changed.
         ensures book_waits { IfOk result (λ answer. OnHeldBy answer (self.new ≡ self.old)) }

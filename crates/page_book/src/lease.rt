@@ -1,11 +1,7 @@
 //! A book's leases.
 
 ghost use Rattle.std.specs.Prelude.{◌≡◌, ◌<◌, ◌≤◌, ◌↔◌, ℕ, List, Option, length, IsTrue};
-ghost use Rattle.guest_image.specs.Machine.{MachineState};
-ghost use Rattle.hart_lease.specs.declared.taken.Taken.{Taken};
-ghost use Rattle.hart_lease.specs.Leases.{LeaseView, IsFull, Ticks, IsLent, whole};
-ghost use Rattle.hart_lease.specs.Runs.{IsBareLease};
-ghost use Rattle.hart_lease.specs.Slots.{slot_at, want_of};
+ghost use Rattle.page_book.specs.Words.{IsBareLease, IsFull, IsLent, LeaseView, MachineState, slot_at, Taken, Ticks, want_of, whole};
 
 use edge_log::Edge;
 use ft_types::{Count, Hart, PageNo, Want};
@@ -95,7 +91,8 @@ impl Lease {
         requires { ¬ (IsFull self.old) }
         ensures does { Ticks result self.old self.new }
         // It is as much the book's own as before.
-        ensures lent { (machine : MachineState) (taken : List (Option Taken)) (earlier : List (ℕ × ℕ)) → IsLent machine taken (whole earlier self.old) → IsLent machine taken (whole earlier self.new) }
+        ensures lent { (machine : MachineState) (taken : List (Option Taken)) (earlier : List (ℕ × ℕ)) → IsLent machine taken (whole earlier self.old) →
+            IsLent machine taken (whole earlier self.new) }
     {
         self.own.tick()
     }

@@ -1,5 +1,6 @@
 -- One lease of a book that records: what the book tells, and which rights are held.
-use Rattle.std.proofs.Common.{◌≡◌, ◌≢◌, ℕ, zero, suc, ◌<◌, ◌≤◌, ◌++◌, List, [], ◌∷◌, All, map, length, slice_get, true, false, Bool, Option, None, Some, refl, sym, ap, subst, ◌∙◌, inl, inr, arith, append-nil, eq-eqb}
+use Rattle.std.proofs.Common.{◌≡◌, ◌≢◌, ℕ, zero, suc, ◌<◌, ◌≤◌, ◌++◌, List, [], ◌∷◌, All, map, length, slice_get, true, false, Bool, Option, None, Some, refl}
+use Rattle.std.proofs.Common.{sym, ap, subst, ◌∙◌, inl, inr, arith, append-nil, eq-eqb}
 use Rattle.std.proofs.lemmas.Bool.{cases_eq, cases_lt}
 use Rattle.std.proofs.lemmas.Grind.{common_steps}
 use Rattle.std.proofs.lemmas.List.Elements.{All-nil, All-map}
@@ -25,9 +26,10 @@ use Rattle.hart_lease.specs.Runs.{added, counts_of, steps_taken}
 use Rattle.book_modes.specs.Dues.{stop_before}
 use Rattle.hart_lease.specs.Leases.{LeaseView}
 use Rattle.hart_lease.specs.OpenLeases.{OpenView, has_taken}
-use Rattle.book_modes.specs.Recordings.{RecordingView, GoesOut, IsFilled, IsTaker, AreOwed, IsGiven, IsSettled, IsEnded, IsRecorded, LogsInputs, heard_by, right_at, right_met, right_stored}
+use Rattle.book_modes.specs.Recordings.{RecordingView, GoesOut, IsFilled, IsTaker, AreOwed, IsGiven, IsSettled, IsEnded, IsRecorded, LogsInputs, heard_by}
+use Rattle.book_modes.specs.Recordings.{right_at, right_met, right_stored}
 use Rattle.lease_rounds.specs.Leading.{IsFreeAlone, Fills, NoneYet, Steps, Takes, GoesOn}
-use Rattle.lease_rounds.proofs.Going.{IsAhead, lease_filled, own, harts_stay}
+use Rattle.lease_rounds.proofs.Rounds.{IsAhead, lease_filled, own, harts_stay}
 use Rattle.primary_pool.specs.Running.{Continues, HearsMore, KeepHeld}
 
 -- recording, as a mode
@@ -66,7 +68,8 @@ stops_within limit count stop None lt is = (omega (arith, is), omega (arith, is)
 stops_within limit count stop (Some next) lt is = (omega (arith, is), omega (arith, is))
 
 pub ahead : IsAhead recording
-ahead r s hart count lent lt goes = stops_within (count_at r.limits hart) count lent.stop (next_going (bells_of s.desk hart) (others_of s.desk hart)) lt goes.stop
+ahead r s hart count lent lt goes = stops_within (count_at r.limits hart) count lent.stop (next_going (bells_of s.desk hart) (others_of s.desk hart)) lt
+    goes.stop
 
 filled_keeps : (b : Bool) (r : RecordingView) (hart count : ℕ) (new : RecordingView) → IsFilled b r hart count new →
     new ≡ record r { due = new.due; desk = new.desk }
@@ -86,7 +89,8 @@ held_on b c settled asked g = λ page held.
     elim (same_or_not asked.page page) [
       | inl same ↦
           (let now = has_given (right_met b.mode settled asked) asked.hart asked.want asked.count in
-          subst (λ (p : ℕ). (hart : ℕ) × (holds (right_at c.mode.rights p) hart ≡ true)) same (subst (λ (r : Right). (hart : ℕ) × (holds r hart ≡ true)) (sym g.page) now))
+          subst (λ (p : ℕ). (hart : ℕ) × (holds (right_at c.mode.rights p) hart ≡ true)) same (subst (λ (r : Right). (hart : ℕ) × (holds r hart ≡ true))
+          (sym g.page) now))
       | inr other ↦ subst (λ (r : Right). (hart : ℕ) × (holds r hart ≡ true)) (sym (g.others page other)) held
     ]
 
@@ -189,7 +193,8 @@ module _ (hart : ℕ) (b d : BookView RecordingView) (on : GoesOn recording told
         journal =
             let more = longer b.journal k.hart k.steps in
             let f = lease_filled recording told.All hart b d on in
-            let same : filled.journal ≡ b.journal = ap (λ (x : BookView RecordingView). x.journal) f.book ∙ ap (λ (x : BookView RecordingView). x.journal) on.lends.book in
+            let same : filled.journal ≡ b.journal = ap (λ (x : BookView RecordingView). x.journal) f.book ∙ ap (λ (x : BookView RecordingView). x.journal)
+            on.lends.book in
             (more.0, on.leads.back.journal ∙ ap (λ (j : List Stretch). added j k.hart k.steps) same ∙ more.1);
         inputs = λ other.
             subst (λ (m : RecordingView). HearsMore (inputs_of m.inputs other) (counts_of b.machine other) (inputs_of d.mode.inputs other)) mode_is

@@ -1,7 +1,8 @@
 //! Steps that load and store.
 ghost use Rattle.std.specs.Prelude.{◌≡◌, ℕ, ◌+◌, ◌-◌, ◌*◌, ◌/◌, ◌%◌, ◌^◌, ◌<◌, ◌≤◌, ◌==◌, true, length};
 ghost use Rattle.rv32_hart.specs.Ram.{page_of, may_read, may_write, put, with_page};
-ghost use Rattle.rv32_hart.specs.Access.{load_access, load_device, loaded, load_width, in_ram, page_at, offset_at, store_access, stored, store_width, device_step, amo_access};
+ghost use Rattle.rv32_hart.specs.Access.{load_access, load_device, loaded, load_width, in_ram, page_at, offset_at, store_access, stored, store_width};
+ghost use Rattle.rv32_hart.specs.Access.{device_step, amo_access};
 ghost use Rattle.rv32_hart.specs.Granted.{granted, Goes, GoesAlone};
 
 use super::hart_core::HartCore;
@@ -73,7 +74,8 @@ fn load_from_ram<P: Pages>(
     requires ram { in_ram (length (P.ram pages.now).contents) address ≡ true }
     requires limit { page_at address < 64 }
     requires aligned { address % load_width kind ≡ 0 }
-    ensures { Goes result core.old (P.ram pages.now) core.new (P.ram pages.now) (granted (load_access kind rd address (length (P.ram pages.now).contents) core.old) core.old (P.ram pages.now)) }
+    ensures { Goes result core.old (P.ram pages.now) core.new (P.ram pages.now)
+        (granted (load_access kind rd address (length (P.ram pages.now).contents) core.old) core.old (P.ram pages.now)) }
 {
     let page = page_number(address);
     if !pages.can_read(page) {
@@ -119,7 +121,8 @@ pub(crate) fn load<P: Pages>(
     pages: &P,
 ) -> Tick
     requires { core.old.count < 2 ^ 48 - 1 }
-    ensures { Goes result core.old (P.ram pages.now) core.new (P.ram pages.now) (granted (load_access kind rd address (length (P.ram pages.now).contents) core.old) core.old (P.ram pages.now)) }
+    ensures { Goes result core.old (P.ram pages.now) core.new (P.ram pages.now)
+        (granted (load_access kind rd address (length (P.ram pages.now).contents) core.old) core.old (P.ram pages.now)) }
 {
     if !is_aligned(kind, address) {
         core.enter(4);
@@ -159,7 +162,8 @@ fn store_to_ram<P: Pages>(
     requires ram { in_ram (length (P.ram pages.old).contents) address ≡ true }
     requires limit { page_at address < 64 }
     requires aligned { address % store_width kind ≡ 0 }
-    ensures { Goes result core.old (P.ram pages.old) core.new (P.ram pages.new) (granted (store_access kind address value (length (P.ram pages.old).contents) core.old) core.old (P.ram pages.old)) }
+    ensures { Goes result core.old (P.ram pages.old) core.new (P.ram pages.new) (granted (store_access kind address value (length (P.ram pages.old).contents)
+        core.old) core.old (P.ram pages.old)) }
 {
     let page = page_number(address);
     if !pages.can_write(page) {
@@ -221,7 +225,8 @@ pub(crate) fn store<P: Pages>(
     pages: &mut P,
 ) -> Tick
     requires { core.old.count < 2 ^ 48 - 1 }
-    ensures { Goes result core.old (P.ram pages.old) core.new (P.ram pages.new) (granted (store_access kind address value (length (P.ram pages.old).contents) core.old) core.old (P.ram pages.old)) }
+    ensures { Goes result core.old (P.ram pages.old) core.new (P.ram pages.new) (granted (store_access kind address value (length (P.ram pages.old).contents)
+        core.old) core.old (P.ram pages.old)) }
 {
     if !is_store_aligned(kind, address) {
         core.enter(6);
@@ -250,7 +255,8 @@ fn atomic_in_ram<P: Pages>(
     requires ram { in_ram (length (P.ram pages.old).contents) address ≡ true }
     requires limit { page_at address < 64 }
     requires aligned { address % 4 ≡ 0 }
-    ensures { Goes result core.old (P.ram pages.old) core.new (P.ram pages.new) (granted (amo_access op rd address value (length (P.ram pages.old).contents) core.old) core.old (P.ram pages.old)) }
+    ensures { Goes result core.old (P.ram pages.old) core.new (P.ram pages.new) (granted (amo_access op rd address value (length (P.ram pages.old).contents)
+        core.old) core.old (P.ram pages.old)) }
 {
     let page = page_number(address);
     if !pages.can_write(page) {
@@ -273,7 +279,8 @@ pub(crate) fn atomic<P: Pages>(
     pages: &mut P,
 ) -> Tick
     requires { core.old.count < 2 ^ 48 - 1 }
-    ensures { Goes result core.old (P.ram pages.old) core.new (P.ram pages.new) (granted (amo_access op rd address value (length (P.ram pages.old).contents) core.old) core.old (P.ram pages.old)) }
+    ensures { Goes result core.old (P.ram pages.old) core.new (P.ram pages.new) (granted (amo_access op rd address value (length (P.ram pages.old).contents)
+        core.old) core.old (P.ram pages.old)) }
 {
     if address & 3 != 0 {
         core.enter(6);

@@ -1,8 +1,11 @@
 // The instructions of the words.
 ghost use Rattle.std.specs.Prelude.{◌≡◌, ◌≢◌, ◌+◌, IfSome};
 ghost use Rattle.rv32_isa.specs.Fields.{opcode as opcode_of, funct3 as funct3_of};
-ghost use Rattle.rv32_isa.specs.Decode.{comparison_of, load_of, store_of, imm_op_of, shift_of, base_op_of, alternate_op_of, multiply_op_of, reg_op_of, amo_of, jalr_at, branch_at, load_at, store_at, op_imm_at, op_at, fence_at, whole_word_at, csr_reg_at, csr_imm_at, system_at, amo_at, decode_of};
-ghost use Rattle.rv32_isa.specs.Encode.{comparison_code, load_code, store_code, imm_op_code, shift_code, shift_funct7, reg_op_code, reg_op_funct7, csr_op_code, amo_code, encoding};
+ghost use Rattle.rv32_isa.specs.Decode.{comparison_of, load_of, store_of, imm_op_of, shift_of, base_op_of, alternate_op_of, multiply_op_of, reg_op_of, amo_of};
+ghost use Rattle.rv32_isa.specs.Decode.{jalr_at, branch_at, load_at, store_at, op_imm_at, op_at, fence_at, whole_word_at, csr_reg_at, csr_imm_at, system_at};
+ghost use Rattle.rv32_isa.specs.Decode.{amo_at, decode_of};
+ghost use Rattle.rv32_isa.specs.Encode.{comparison_code, load_code, store_code, imm_op_code, shift_code, shift_funct7, reg_op_code, reg_op_funct7, csr_op_code};
+ghost use Rattle.rv32_isa.specs.Encode.{amo_code, encoding};
 
 use super::fields::{
     acquire, csr_immediate, csr_number, funct3, funct5, funct7, immediate_b, immediate_i,

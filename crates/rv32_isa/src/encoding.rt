@@ -1,8 +1,11 @@
 // The words of the instructions.
 ghost use Rattle.std.specs.Prelude.{◌≡◌, ◌^◌, ◌<◌, ◌+◌, Some};
-ghost use Rattle.rv32_isa.specs.Fields.{opcode as opcode_of, rd as rd_of, rs1 as rs1_of, rs2 as rs2_of, funct3 as funct3_of, funct7 as funct7_of, imm_i, imm_s, imm_b, IsSignExtended, IsEven};
-ghost use Rattle.rv32_isa.specs.Decode.{comparison_of, load_of, store_of, imm_op_of, shift_of, reg_op_of, amo_of, branch_at, op_imm_at, op_at, system_at, amo_at, decode_of};
-ghost use Rattle.rv32_isa.specs.Encode.{comparison_code, load_code, store_code, imm_op_code, csr_op_code, shift_code, shift_funct7, reg_op_code, reg_op_funct7, amo_code, r_form, i_form, s_form, b_form, u_form, j_form, encoding};
+ghost use Rattle.rv32_isa.specs.Fields.{opcode as opcode_of, rd as rd_of, rs1 as rs1_of, rs2 as rs2_of, funct3 as funct3_of, funct7 as funct7_of, imm_i, imm_s};
+ghost use Rattle.rv32_isa.specs.Fields.{imm_b, IsSignExtended, IsEven};
+ghost use Rattle.rv32_isa.specs.Decode.{comparison_of, load_of, store_of, imm_op_of, shift_of, reg_op_of, amo_of, branch_at, op_imm_at, op_at, system_at};
+ghost use Rattle.rv32_isa.specs.Decode.{amo_at, decode_of};
+ghost use Rattle.rv32_isa.specs.Encode.{comparison_code, load_code, store_code, imm_op_code, csr_op_code, shift_code, shift_funct7, reg_op_code, reg_op_funct7};
+ghost use Rattle.rv32_isa.specs.Encode.{amo_code, r_form, i_form, s_form, b_form, u_form, j_form, encoding};
 
 use super::instruction::{Comparison, CsrOp, ImmOp, Instr, LoadKind, RegOp, ShiftOp, StoreKind};
 use super::operands::{BranchOffset, CsrNumber, Reg, ShiftAmount, Uimm5, UpperImm};

@@ -1,6 +1,8 @@
 // The fields of an instruction word.
 ghost use Rattle.std.specs.Prelude.{◌≡◌, ◌^◌, ◌<◌};
-ghost use Rattle.rv32_isa.specs.Fields.{opcode as opcode_of, rd as rd_of, funct3 as funct3_of, rs1 as rs1_of, rs2 as rs2_of, funct7 as funct7_of, funct5 as funct5_of, acquire as acquire_of, release as release_of, csr as csr_of, bits_b, bits_j, imm_i, imm_s, imm_b, imm_u, imm_j, IsEven};
+ghost use Rattle.rv32_isa.specs.Fields.{opcode as opcode_of, rd as rd_of, funct3 as funct3_of, rs1 as rs1_of, rs2 as rs2_of, funct7 as funct7_of};
+ghost use Rattle.rv32_isa.specs.Fields.{funct5 as funct5_of, acquire as acquire_of, release as release_of, csr as csr_of, bits_b, bits_j, imm_i, imm_s, imm_b};
+ghost use Rattle.rv32_isa.specs.Fields.{imm_u, imm_j, IsEven};
 
 use super::operands::{
     BranchOffset, CsrNumber, Imm12, JumpOffset, Reg, ShiftAmount, Uimm5, UpperImm,

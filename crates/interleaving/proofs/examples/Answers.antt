@@ -1,5 +1,5 @@
-use Rattle.interleaving.proofs.Honest.{ends_alike}
-use Rattle.interleaving.proofs.Dishonest.{parts_of_honesty, start_matters, hand_overs_lose_order}
+use Rattle.interleaving.proofs.HonestExample.{ends_alike}
+use Rattle.interleaving.proofs.BrokenExamples.{parts_of_honesty, start_matters, hand_overs_lose_order}
 use Rattle.interleaving.proofs.examples.Goals as goal
 
 pub returns-clause-ends_alike : goal.returns-clause-ends_alike

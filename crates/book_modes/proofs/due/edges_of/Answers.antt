@@ -2,7 +2,7 @@ use Rattle.std.proofs.Common.{◌≡◌, ◌≢◌, ◌+◌, ◌<◌, ◌++◌, 
 use Rattle.input_log.specs.declared.WaitingBell.{WaitingBell}
 use Rattle.edge_log.specs.declared.Edge.{Edge}
 use Rattle.book_modes.specs.Dues.{bell_edges}
-use Rattle.book_modes.proofs.BellEdges.{few_edges, one_more_bell, own_bell, other_bell}
+use Rattle.book_modes.proofs.bells.Edges.{few_edges, one_more_bell, own_bell, other_bell}
 use Rattle.book_modes.proofs.due.edges_of.Goals as goal
 use Rattle.book_modes.proofs.due.edges_of.Goals.{then-ne, else-ne}
 
@@ -23,7 +23,8 @@ loop-bell-preserved c =
     let more : bell_edges hart count (take (c.loop-bell.bell-index + 1) c.args.bells.now) ≡
     bell_edges hart count (take c.loop-bell.bell-index c.args.bells.now) ++ bell_edges hart count (bell ∷ []) =
     subst
-    (λ (b : WaitingBell). bell_edges hart count (take (c.loop-bell.bell-index + 1) c.args.bells.now) ≡ bell_edges hart count (take c.loop-bell.bell-index c.args.bells.now) ++ bell_edges hart count (b ∷ []))
+    (λ (b : WaitingBell). bell_edges hart count (take (c.loop-bell.bell-index + 1) c.args.bells.now) ≡ bell_edges hart count
+    (take c.loop-bell.bell-index c.args.bells.now) ++ bell_edges hart count (b ∷ []))
     (sym c.bell-item.is) (one_more_bell hart count c.args.bells.now c.loop-bell.bell-index bell below) in
     elim c.if-ne.branch [
       | then-ne w ↦
@@ -34,7 +35,8 @@ loop-bell-preserved c =
                 let ne : bell.source ≢ hart = search rules in
                 w.push_reserved.ensures.items ∙
                 (ap (λ (es : List Edge). es ++ record { hart = hart; at = count; other = bell.source; after = bell.after } ∷ []) i.so_far ∙
-                (ap (λ (es : List Edge). bell_edges hart count (take c.loop-bell.bell-index c.args.bells.now) ++ es) (sym (other_bell hart count bell ne)) ∙ sym more));
+                (ap (λ (es : List Edge). bell_edges hart count (take c.loop-bell.bell-index c.args.bells.now) ++ es) (sym (other_bell hart count bell ne)) ∙
+                sym more));
             inline = w.push_reserved.ensures.capacity ∙ i.inline;
           }
           )
@@ -46,7 +48,8 @@ loop-bell-preserved c =
                 let same : bell.source ≡ hart = search rules in
                 i.so_far ∙
                 (sym (append-nil (bell_edges hart count (take c.loop-bell.bell-index c.args.bells.now))) ∙
-                (ap (λ (es : List Edge). bell_edges hart count (take c.loop-bell.bell-index c.args.bells.now) ++ es) (sym (own_bell hart count bell same)) ∙ sym more));
+                (ap (λ (es : List Edge). bell_edges hart count (take c.loop-bell.bell-index c.args.bells.now) ++ es) (sym (own_bell hart count bell same)) ∙
+                sym more));
             inline = i.inline;
           }
           )

@@ -14,7 +14,8 @@ returns-then-is_ok c =
     let p = c.in-Some.before.now in
     let parent = c.parent-parent.ensures in
     let some : 0 < o.parent = omega arith in
-    let exact = sound_by_parent store c.args.sound.now o p c.opening_of.ensures.rules c.requires.opening some (rw parent at c.in-Some.ensures.one) c.requires.sound in
+    let exact = sound_by_parent store c.args.sound.now o p c.opening_of.ensures.rules c.requires.opening some (rw parent at c.in-Some.ensures.one)
+    c.requires.sound in
     let tells = search_tells c.args.sound.now c.parent-parent.result c.binary_search.result c.binary_search.ensures.position c.requires.rising in
     let has : Contains c.args.sound.now o.parent = rw parent at (tells.0 (sym c.is_ok.ensures.value ∙ c.if-is_ok.true)) in
     let within = rw (c.base.ensures.base, c.base-then-is_ok.ensures.base) at c.within.ensures in
@@ -27,7 +28,8 @@ returns-else-is_ok c =
     let p = c.in-Some.before.now in
     let parent = c.parent-parent.ensures in
     let some : 0 < o.parent = omega arith in
-    let exact = sound_by_parent store c.args.sound.now o p c.opening_of.ensures.rules c.requires.opening some (rw parent at c.in-Some.ensures.one) c.requires.sound in
+    let exact = sound_by_parent store c.args.sound.now o p c.opening_of.ensures.rules c.requires.opening some (rw parent at c.in-Some.ensures.one)
+    c.requires.sound in
     let tells = search_tells c.args.sound.now c.parent-parent.result c.binary_search.result c.binary_search.ensures.position c.requires.rising in (
       (λ t. absurd (true≢false (sym t ∙ c.if-is_ok.false))),
       (λ s. absurd (tells.1 (sym c.is_ok.ensures.value ∙ c.if-is_ok.false) (rw parent (exact.0 s).0))),

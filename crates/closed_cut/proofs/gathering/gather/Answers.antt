@@ -23,7 +23,8 @@ loop-place-preserved c =
       limit = rw c.to-end.ensures fits.rules.end;
       edges =
           gathered_on pieces c.loop-place.place piece c.args.edges.now.items c.loop-place.edges.items c.add_edges.new.edges.items one
-          c.loop-place.invariant.edges (c.in_ok-add_edges.ensures ∙ ap (λ (rs : List Record). c.loop-place.edges.items ++ filter_map edge_in rs) c.records.ensures.records);
+          c.loop-place.invariant.edges (c.in_ok-add_edges.ensures ∙ ap (λ (rs : List Record). c.loop-place.edges.items ++ filter_map edge_in rs)
+          c.records.ensures.records);
     }
 
 pub returns-in_default-clause-gathered : goal.returns-in_default-clause-gathered
@@ -46,9 +47,11 @@ returns-in_ok-add_edges-clause-gathered c =
       goes = rw c.to-end.ensures (goes_on pieces c.args.from c.loop-place.place c.loop-place.end piece c.loop-place.invariant.goes one same);
       stops =
           λ piece at from.
-          let less : c.loop-place.place + 1 < 2 ^ 32 = no_place c.args.store.now c.args.term c.args.hart (c.loop-place.place + 1) piece c.piece_from.ensures.rules at in
+          let less : c.loop-place.place + 1 < 2 ^ 32 = no_place c.args.store.now c.args.term c.args.hart (c.loop-place.place + 1) piece
+          c.piece_from.ensures.rules at in
           absurd (omega arith);
       edges =
           gathered_on pieces c.loop-place.place piece c.args.edges.now.items c.loop-place.edges.items c.add_edges.new.edges.items one
-          c.loop-place.invariant.edges (c.in_ok-add_edges.ensures ∙ ap (λ (rs : List Record). c.loop-place.edges.items ++ filter_map edge_in rs) c.records.ensures.records);
+          c.loop-place.invariant.edges (c.in_ok-add_edges.ensures ∙ ap (λ (rs : List Record). c.loop-place.edges.items ++ filter_map edge_in rs)
+          c.records.ensures.records);
     }

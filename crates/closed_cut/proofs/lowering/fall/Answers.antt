@@ -30,8 +30,10 @@ loop-place-preserved c =
           (record {
             within = omega arith;
             stopped =
-                stopped_step edges c.loop-place.cut c.loop-place.cut c.args.hart c.loop-place.place c.args.end edge (λ h. omega arith) (omega arith) (omega arith)
-                c.index-edges-place.is (λ same. absurd (eqb-false edge.other c.args.hart (sym c.eq.ensures ∙ w.if-eq.false) same)) c.loop-place.invariant.stopped;
+                stopped_step edges c.loop-place.cut c.loop-place.cut c.args.hart c.loop-place.place c.args.end edge (λ h. omega arith) (omega arith)
+                (omega arith)
+                c.index-edges-place.is (λ same. absurd (eqb-false edge.other c.args.hart (sym c.eq.ensures ∙ w.if-eq.false) same))
+                c.loop-place.invariant.stopped;
             lowered = c.loop-place.invariant.lowered;
             unmoved = λ e. absurd (omega arith);
           })

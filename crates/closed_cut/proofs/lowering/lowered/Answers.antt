@@ -33,8 +33,10 @@ loop-hart-smaller c =
     let back = sym c.index-index.ensures.value in
     let some : 0 < get_or ends at 0 = subst (λ n. 0 < get_or ends n 0) back c.in-Some.ensures.some in
     let less : c.fall.result < get_or ends at 0 =
-    c.fall.ensures.falls some (subst (λ n. HoldsAt (λ e. count_at c.loop-hart.cut c.in-Some.hart < e.after) c.args.edges.now (get_or ends n 0 - 1)) back c.in-Some.ensures.unmet) in
-    let sums : sum_by (λ n. n) (set ends at c.fall.result) + get_or ends at 0 ≡ sum_by (λ n. n) ends + c.fall.result = sum_by-set (λ n. n) ends at c.fall.result 0 there in
+    c.fall.ensures.falls some (subst (λ n. HoldsAt (λ e. count_at c.loop-hart.cut c.in-Some.hart < e.after) c.args.edges.now (get_or ends n 0 - 1)) back
+    c.in-Some.ensures.unmet) in
+    let sums : sum_by (λ n. n) (set ends at c.fall.result) + get_or ends at 0 ≡ sum_by (λ n. n) ends + c.fall.result = sum_by-set (λ n. n) ends at c.fall.result
+    0 there in
     omega arith
 
 pub returns-clause-greatest : goal.returns-clause-greatest

@@ -10,7 +10,8 @@ use Rattle.closed_cut.proofs.walk.position.Goals as goal
 pub returns-in_default-clause-position : goal.returns-in_default-clause-position
 returns-in_default-clause-position c =
     NoTop
-    (no_chain c.args.store.now c.in_ok-terms.terms.items c.guest.ensures.rules c.in_ok-terms.ensures (rw c.as_slice.ensures.value at c.in_default.ensures.cases))
+    (no_chain c.args.store.now c.in_ok-terms.terms.items c.guest.ensures.rules c.in_ok-terms.ensures
+    (rw c.as_slice.ensures.value at c.in_default.ensures.cases))
     refl (λ h. rw c.zero.ensures (zero_row c.min.result h)) refl
 
 -- the chain, as it is walked

@@ -11,9 +11,11 @@ pub reached-requires-clause-limit : goal.reached-requires-clause-limit
 reached-requires-clause-limit c x is h =
     let now = c.loop-term.now.now in
     let next = c.in-Some.next.now in
-    let n = next_of c.args.store.now now next c.args.rest.now c.loop-term.term-index c.args.top c.requires.rules (omega arith) c.loop-term.invariant.leads c.in-Some.ensures.one in
+    let n = next_of c.args.store.now now next c.args.rest.now c.loop-term.term-index c.args.top c.requires.rules (omega arith) c.loop-term.invariant.leads
+    c.in-Some.ensures.one in
     let within : count_at now.base h ≤ count_at next.base h =
-    next_within c.args.store.now now.term next.term now next (drop (c.loop-term.term-index + 1) c.args.rest.now) c.args.top c.requires.rules c.loop-term.invariant.opens n.opens n.parent
+    next_within c.args.store.now now.term next.term now next (drop (c.loop-term.term-index + 1) c.args.rest.now) c.args.top c.requires.rules
+    c.loop-term.invariant.opens n.opens n.parent
     n.leads c.requires.sound h in
     let same : c.base.result ≡ x = cc in
     rw (← same, c.base.ensures.base) within
@@ -22,7 +24,8 @@ pub reached-requires-clause-limit_harts : goal.reached-requires-clause-limit_har
 reached-requires-clause-limit_harts c x is =
     let now = c.loop-term.now.now in
     let next = c.in-Some.next.now in
-    let n = next_of c.args.store.now now next c.args.rest.now c.loop-term.term-index c.args.top c.requires.rules (omega arith) c.loop-term.invariant.leads c.in-Some.ensures.one in
+    let n = next_of c.args.store.now now next c.args.rest.now c.loop-term.term-index c.args.top c.requires.rules (omega arith) c.loop-term.invariant.leads
+    c.in-Some.ensures.one in
     let same : c.base.result ≡ x = cc in
     rw (← same, c.base.ensures.base)
     (base_many c.args.store.now next c.requires.rules n.opens ∙ sym (base_many c.args.store.now now c.requires.rules c.loop-term.invariant.opens))
@@ -36,19 +39,22 @@ returns-then-not-within-clause-stops c =
     let store = c.args.store.now in
     let now = c.loop-term.now.now in
     let next = c.in-Some.next.now in
-    let n = next_of store now next c.args.rest.now c.loop-term.term-index c.args.top c.requires.rules (omega arith) c.loop-term.invariant.leads c.in-Some.ensures.one in
+    let n = next_of store now next c.args.rest.now c.loop-term.term-index c.args.top c.requires.rules (omega arith) c.loop-term.invariant.leads
+    c.in-Some.ensures.one in
     rw c.term.ensures
     (c.loop-term.invariant.on now.term (count_at c.in_ok-counts.counts)
     (Short now next next.term c.loop-term.invariant.opens n.opens n.parent
     (leads_in_chain store next.term (drop (c.loop-term.term-index + 1) c.args.rest.now) c.args.top n.leads) refl
-    (rw c.base.ensures.base at c.in_ok-counts.ensures.reached) (λ same. true≢false (sym (c.within.ensures.1 (λ h. rw c.base-in-loop-term.ensures.base (le_of_eq (sym (same h))))) ∙ c.if-not-within.true))))
+    (rw c.base.ensures.base at c.in_ok-counts.ensures.reached) (λ same. true≢false
+    (sym (c.within.ensures.1 (λ h. rw c.base-in-loop-term.ensures.base (le_of_eq (sym (same h))))) ∙ c.if-not-within.true))))
 
 pub loop-term-preserved : goal.loop-term-preserved
 loop-term-preserved c =
     let store = c.args.store.now in
     let now = c.loop-term.now.now in
     let next = c.in-Some.next.now in
-    let n = next_of store now next c.args.rest.now c.loop-term.term-index c.args.top c.requires.rules (omega arith) c.loop-term.invariant.leads c.in-Some.ensures.one in
+    let n = next_of store now next c.args.rest.now c.loop-term.term-index c.args.top c.requires.rules (omega arith) c.loop-term.invariant.leads
+    c.in-Some.ensures.one in
     let reached : IsReached store now.term (base_of now) (Some (base_of next)) (count_at c.in_ok-counts.counts) =
     rw c.base.ensures.base at c.in_ok-counts.ensures.reached in
     let within : IsWithin next.base c.in_ok-counts.counts = rw c.base-in-loop-term.ensures.base at (c.within.ensures.0 c.if-not-within.false) in
@@ -61,7 +67,8 @@ loop-term-preserved c =
           (On now next next.term (count_at c.in_ok-counts.counts) c.loop-term.invariant.opens n.opens n.parent
           (leads_in_chain store next.term (drop (c.loop-term.term-index + 1) c.args.rest.now) c.args.top n.leads)
           reached
-          (λ h. let le : count_at c.in_ok-counts.counts h ≤ count_at next.base h = reached.fits.before_next h in let ge : count_at next.base h ≤ count_at c.in_ok-counts.counts h = within h in omega arith) stops);
+          (λ h. let le : count_at c.in_ok-counts.counts h ≤ count_at next.base h = reached.fits.before_next h in let ge : count_at next.base h ≤ count_at
+          c.in_ok-counts.counts h = within h in omega arith) stops);
     }
 
 pub returns-clause-harts : goal.returns-clause-harts
@@ -81,7 +88,8 @@ pub within-requires : goal.within-requires
 within-requires c =
     let now = c.loop-term.now.now in
     let next = c.in-Some.next.now in
-    let n = next_of c.args.store.now now next c.args.rest.now c.loop-term.term-index c.args.top c.requires.rules (omega arith) c.loop-term.invariant.leads c.in-Some.ensures.one in
+    let n = next_of c.args.store.now now next c.args.rest.now c.loop-term.term-index c.args.top c.requires.rules (omega arith) c.loop-term.invariant.leads
+    c.in-Some.ensures.one in
     rw c.base-in-loop-term.ensures.base
     (base_many c.args.store.now next c.requires.rules n.opens ∙
     (sym (base_many c.args.store.now now c.requires.rules c.loop-term.invariant.opens) ∙ sym c.in_ok-counts.ensures.harts))

@@ -1,4 +1,4 @@
-use Rattle.fragment_codec.proofs.CutLaws.{one_hart_cut, one_whole_cut}
+use Rattle.fragment_codec.proofs.cuts.Laws.{one_hart_cut, one_whole_cut}
 use Rattle.fragment_codec.proofs.cut_laws.one_cut.Goals as goal
 
 pub returns-clause-hart : goal.returns-clause-hart

@@ -1,4 +1,4 @@
-use Rattle.fragment_codec.proofs.CutLaws.{one_has, count_once}
+use Rattle.fragment_codec.proofs.cuts.Laws.{one_has, count_once}
 use Rattle.fragment_codec.proofs.cut_laws.one_piece.Goals as goal
 
 pub returns-clause-pieces : goal.returns-clause-pieces

@@ -2,7 +2,7 @@ use Rattle.std.proofs.Common.{◌+◌, ◌<◌, ◌^◌, [], ◌∷◌, ◌++◌
 use Rattle.std.proofs.lemmas.Bool.{cases_lt, false≢true}
 use Rattle.fragment_codec.specs.declared.frame.Frame.TheVariants.{Log}
 use Rattle.fragment_codec.specs.Pieces.{mark_of}
-use Rattle.fragment_codec.proofs.Chunks.{so_far_none, order_left, end_inside, rules_of_part, so_far_more, so_far_all}
+use Rattle.fragment_codec.proofs.cuts.Chunks.{so_far_none, order_left, end_inside, rules_of_part, so_far_more, so_far_all}
 use Rattle.fragment_codec.proofs.cutting.cut_hart.Goals as goal
 
 pub loop-from-init : goal.loop-from-init
@@ -36,11 +36,23 @@ loop-from-preserved c =
     let below = c.in-Some.ensures.exact.0 refl in
     let place = c.in-Some.ensures.place in
     let there : c.args.origin.now.hart < length c.loop-from.sealed.places =
-    (let own = c.requires.may.own in let few = c.requires.may.guest.limit in omega (arith, c.advance.ensures.eight, ap length c.advance.ensures.places, length-set c.loop-from.sealed.places c.args.origin.now.hart (slice_index c.loop-from.sealed.places c.args.origin.now.hart + 1))) in
-    so_far_more c.requires.may c.loop-from.invariant c.loop-from-test.true c.end_of_piece-to.ensures c.split_below.ensures.below c.advance.new.self c.push.new.self.items
+    (let own = c.requires.may.own in let few = c.requires.may.guest.limit in omega (
+      arith,
+      c.advance.ensures.eight,
+      ap length c.advance.ensures.places,
+      length-set c.loop-from.sealed.places c.args.origin.now.hart (slice_index c.loop-from.sealed.places c.args.origin.now.hart + 1),
+    )) in
+    so_far_more c.requires.may c.loop-from.invariant c.loop-from-test.true c.end_of_piece-to.ensures c.split_below.ensures.below c.advance.new.self
+    c.push.new.self.items
     c.split_below.result.1.now c.in-Some.place place (omega arith)
     (c.in_ok-push.ensures.items ∙ ap (λ f. c.loop-from.frames.items ++ Log f ∷ []) c.in_ok-piece.ensures)
-    (record { places = c.advance.ensures.places; reached = c.advance.ensures.reached; there = there; known = (let same = c.loop-from.invariant.same_harts in omega (arith, c.requires.there)) })
+    (record {
+      places = c.advance.ensures.places;
+      reached = c.advance.ensures.reached;
+      there = there;
+      known = (let same = c.loop-from.invariant.same_harts in
+          omega (arith, c.requires.there));
+    })
     c.split_below.ensures.behind
 
 pub returns-after-loop-from : goal.returns-after-loop-from

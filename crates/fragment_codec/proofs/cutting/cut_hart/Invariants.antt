@@ -1,5 +1,5 @@
 use Rattle.std.proofs.Common.{◌-◌}
-use Rattle.fragment_codec.proofs.Chunks.{SoFar}
+use Rattle.fragment_codec.proofs.cuts.Chunks.{SoFar}
 use Rattle.fragment_codec.proofs.cutting.cut_hart.Given as goal
 
 abbrev pub invariant-loop-from : goal.invariant-loop-from

@@ -3,7 +3,7 @@ use Rattle.std.proofs.lemmas.List.{get_or_past}
 use Rattle.fragment_codec.specs.declared.cutting.Origin.{Origin}
 use Rattle.fragment_codec.specs.Pieces.{hart_log, told_by}
 use Rattle.fragment_codec.specs.Cutting.{log_of_records, StandBetween}
-use Rattle.fragment_codec.proofs.Harts.{HartsCut, hart_cut, log_is, all_cut}
+use Rattle.fragment_codec.proofs.cuts.Harts.{HartsCut, hart_cut, log_is, all_cut}
 use Rattle.fragment_codec.proofs.cutting.cut_logs.Goals as goal
 
 pub cut_hart-requires-clause-may : goal.cut_hart-requires-clause-may
@@ -17,7 +17,8 @@ cut_hart-requires-clause-may c =
       end = c.get.ensures.limit;
       within = omega (arith, kept, c.requires.within c.new-hart.result, c.get.ensures.value);
       logged = rw c.deref.ensures.value (c.in_ok-records.ensures.logged c.args.guest.now.harts c.requires.edges c.requires.inputs);
-      there = rw c.deref.ensures.value (subst (λ n. StandBetween n c.get.result c.in_ok-records.records.items) c.reached-from.ensures.value c.in_ok-records.ensures.there);
+      there = rw c.deref.ensures.value (subst (λ n. StandBetween n c.get.result c.in_ok-records.records.items) c.reached-from.ensures.value
+          c.in_ok-records.ensures.there);
     }
 
 pub loop-number-preserved : goal.loop-number-preserved
@@ -26,7 +27,8 @@ loop-number-preserved c =
     let origin : Origin = record { guest = c.args.guest.now; term = c.args.term; hart = c.new-hart.result; settled = c.get.result } in
     hart_cut logs c.loop-number.number c.args.sealed.now c.loop-number.frames.items c.loop-number.next c.cut_hart.new.frames.items c.cut_hart.new.sealed
     (log_of_records origin c.deref.result.now) c.loop-number.invariant
-    (log_is c.args.guest.now c.args.term c.args.edges.now c.args.inputs.now c.args.settled.now c.loop-number.next c.loop-number.number c.new-hart.result c.reached-from.result c.get.result
+    (log_is c.args.guest.now c.args.term c.args.edges.now c.args.inputs.now c.args.settled.now c.loop-number.next c.loop-number.number c.new-hart.result
+    c.reached-from.result c.get.result
     c.deref.result.now c.new-hart.ensures c.reached-from.ensures.value c.get.ensures.value (ap told_by c.deref.ensures.value ∙ c.in_ok-records.ensures.told))
     c.new-hart.ensures c.in_ok-cut_hart.ensures
 

@@ -1,5 +1,5 @@
 use Rattle.fragment_codec.specs.Pieces.{hart_log}
-use Rattle.fragment_codec.proofs.Harts.{HartsCut}
+use Rattle.fragment_codec.proofs.cuts.Harts.{HartsCut}
 use Rattle.fragment_codec.proofs.cutting.cut_logs.Given as goal
 
 abbrev pub invariant-loop-number : goal.invariant-loop-number

@@ -2,8 +2,8 @@ use Rattle.std.proofs.Common.{ltb, leb, rules, ◌∙◌}
 use Rattle.std.proofs.lemmas.Bool.{ltb-true, ltb-false, lt-leb, le-leb}
 use Rattle.std.proofs.lemmas.List.Sorted.{IsPartitionPoint-from_clause, IsPartitionedBy-ltb}
 use Rattle.fragment_codec.specs.Rules.{count_of}
-use Rattle.fragment_codec.proofs.Filters.{filter_front, filter_back}
-use Rattle.fragment_codec.proofs.Logged.{rising}
+use Rattle.fragment_codec.proofs.cuts.Filters.{filter_front, filter_back}
+use Rattle.fragment_codec.proofs.cuts.Records.{rising}
 use Rattle.fragment_codec.proofs.cutting.split_below.Goals as goal
 
 pub returns-clause-below : goal.returns-clause-below

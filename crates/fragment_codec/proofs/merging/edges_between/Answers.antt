@@ -3,7 +3,7 @@ use Rattle.std.specs.List.Sorted.{IsNonDecreasingBy}
 use Rattle.std.proofs.lemmas.Bool.{ltb-true, ltb-false, lt-leb, le-leb}
 use Rattle.std.proofs.lemmas.List.Sorted.{IsPartitionPoint-from_clause, IsPartitionedBy-ltb, IsNonDecreasingBy-drop}
 use Rattle.edge_log.specs.declared.Edge.{Edge}
-use Rattle.fragment_codec.proofs.Filters.{filter_front, filter_back, filter-filter}
+use Rattle.fragment_codec.proofs.cuts.Filters.{filter_front, filter_back, filter-filter}
 use Rattle.fragment_codec.proofs.merging.edges_between.Goals as goal
 
 pub returns : goal.returns
@@ -14,7 +14,8 @@ returns c =
     IsPartitionPoint-from_clause (λ (e : Edge). ltb e.at c.args.from) all c.partition_point.result c.partition_point.ensures.partitioned
     (IsPartitionedBy-ltb (λ (e : Edge). e.at) all c.args.from c.requires) (λ a r f k. search rules) in
     let rising : IsNonDecreasingBy (λ (e : Edge). e.at) rest =
-    subst (IsNonDecreasingBy (λ (e : Edge). e.at)) (sym c.split_at.ensures.back) (IsNonDecreasingBy-drop (λ (e : Edge). e.at) c.partition_point.result all c.requires) in
+    subst (IsNonDecreasingBy (λ (e : Edge). e.at)) (sym c.split_at.ensures.back) (IsNonDecreasingBy-drop (λ (e : Edge). e.at) c.partition_point.result all
+    c.requires) in
     let q =
     IsPartitionPoint-from_clause (λ (e : Edge). ltb e.at c.args.to) rest c.partition_point-2.result c.partition_point-2.ensures.partitioned
     (IsPartitionedBy-ltb (λ (e : Edge). e.at) rest c.args.to rising) (λ a r f k. search rules) in

@@ -1,5 +1,5 @@
 use Rattle.std.proofs.Common.{arith, length, ap, ◌∙◌}
-use Rattle.fragment_codec.proofs.Waiting.{merges_nothing, turn_at_edge, turn_at_input, less_edges, less_inputs, merging_ends}
+use Rattle.fragment_codec.proofs.cuts.Merging.{merges_nothing, turn_at_edge, turn_at_input, less_edges, less_inputs, merging_ends}
 use Rattle.fragment_codec.proofs.merging.merged.Goals as goal
 use Rattle.fragment_codec.proofs.merging.merged.Goals.{in-Edge, in-Input}
 

@@ -1,5 +1,5 @@
 use Rattle.std.proofs.Common.{◌+◌, length}
-use Rattle.fragment_codec.proofs.Waiting.{Merging}
+use Rattle.fragment_codec.proofs.cuts.Merging.{Merging}
 use Rattle.fragment_codec.proofs.merging.merged.Given as goal
 
 abbrev pub invariant-loop-first : goal.invariant-loop-first

@@ -7,7 +7,7 @@ use Rattle.edge_log.specs.EdgeLog.{row_of}
 use Rattle.edge_log.specs.Rows.{ComesBefore}
 use Rattle.input_log.specs.Inputs.{inputs_of}
 use Rattle.fragment_codec.specs.Pieces.{is_between}
-use Rattle.fragment_codec.proofs.Between.{told_parts, there_between, logged_between}
+use Rattle.fragment_codec.proofs.cuts.Between.{told_parts, there_between, logged_between}
 use Rattle.fragment_codec.proofs.merging.records_between.Goals as goal
 
 both : {T E : Type 0} {P Q R : T → Type 0} (r : Result T E) → ((x : T) → P x → Q x → R x) → IfOk r P → IfOk r Q → IfOk r R

@@ -1,7 +1,7 @@
 use Rattle.std.proofs.Common.{sym, subst}
 use Rattle.fragment_codec.specs.Rules.{OpeningParts, IsOpening}
-use Rattle.fragment_codec.proofs.Fields.{some_is}
-use Rattle.fragment_codec.proofs.Rules.{opening_counts}
+use Rattle.fragment_codec.proofs.bytes.Fields.{some_is}
+use Rattle.fragment_codec.proofs.records.Rules.{opening_counts}
 use Rattle.fragment_codec.proofs.reading.make_opening.Goals as goal
 
 pub returns-in-None : goal.returns-in-None

@@ -3,5 +3,7 @@ use Rattle.ft_types.proofs.Zips.{zips_more}
 use Rattle.ft_types.proofs.counts.greatest.Goals as goal
 
 pub loop-i-preserved : goal.loop-i-preserved
-loop-i-preserved c =
-    (rw c.max.ensures (zips_more max c.args.row c.args.other c.loop-i.greatest c.loop-i.i (search rules) (search rules) (search rules) c.loop-i.invariant.0), search rules)
+loop-i-preserved c = (
+  rw c.max.ensures (zips_more max c.args.row c.args.other c.loop-i.greatest c.loop-i.i (search rules) (search rules) (search rules) c.loop-i.invariant.0),
+  search rules,
+)

@@ -16,14 +16,23 @@ pub returns-in-None-clause-none : goal.returns-in-None-clause-none
 returns-in-None-clause-none c = not_number_digit c.args.text.now c.loop-byte.byte-index c.loop-byte-test.true c.in-None.ensures.none
 
 pub overflow_mul-value : goal.overflow_mul-value
-overflow_mul-value c = omega (arith, number_fits c.loop-byte.byte-index c.loop-byte.value c.in-Some.digit (omega arith) c.loop-byte.invariant.0 c.in-Some.ensures.found.0)
+overflow_mul-value c = omega (
+  arith,
+  number_fits c.loop-byte.byte-index c.loop-byte.value c.in-Some.digit (omega arith) c.loop-byte.invariant.0
+      c.in-Some.ensures.found.0,
+)
 
 pub overflow_add-value : goal.overflow_add-value
-overflow_add-value c = omega (arith, number_fits c.loop-byte.byte-index c.loop-byte.value c.in-Some.digit (omega arith) c.loop-byte.invariant.0 c.in-Some.ensures.found.0)
+overflow_add-value c = omega (
+  arith,
+  number_fits c.loop-byte.byte-index c.loop-byte.value c.in-Some.digit (omega arith) c.loop-byte.invariant.0
+      c.in-Some.ensures.found.0,
+)
 
 pub loop-byte-preserved : goal.loop-byte-preserved
 loop-byte-preserved c =
-    number_goes_on c.args.text.now c.loop-byte.byte-index c.loop-byte.value c.in-Some.digit c.loop-byte-test.true (omega arith) c.in-Some.ensures.found.0 c.in-Some.ensures.found.1
+    number_goes_on c.args.text.now c.loop-byte.byte-index c.loop-byte.value c.in-Some.digit c.loop-byte-test.true (omega arith) c.in-Some.ensures.found.0
+    c.in-Some.ensures.found.1
     (λ several zero. elim c.if-text-gt1.branch [ then-text-gt1+else-text-eq48 w ↦ w.if-text-eq48.false zero | else-text-gt1 w ↦ omega arith ])
     c.loop-byte.invariant
 

@@ -12,7 +12,8 @@ pub returns-in-None-clause-none : goal.returns-in-None-clause-none
 returns-in-None-clause-none c = not_word_digit c.args.text.now c.loop-byte.byte-index (omega arith) c.in-None.ensures.none
 
 pub loop-byte-preserved : goal.loop-byte-preserved
-loop-byte-preserved c = word_goes_on c.args.text.now c.loop-byte.byte-index c.loop-byte.value c.in-Some.digit (omega arith) c.in-Some.ensures.found.0 c.in-Some.ensures.found.1 c.loop-byte.invariant
+loop-byte-preserved c = word_goes_on c.args.text.now c.loop-byte.byte-index c.loop-byte.value c.in-Some.digit (omega arith) c.in-Some.ensures.found.0
+    c.in-Some.ensures.found.1 c.loop-byte.invariant
 
 pub returns-clause-found : goal.returns-clause-found
 returns-clause-found c = word_is_read c.args.text.now c.loop-byte.value c.loop-byte.byte-index c.if-text-ne8.false (omega arith) c.loop-byte.invariant

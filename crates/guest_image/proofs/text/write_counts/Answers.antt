@@ -12,7 +12,8 @@ returns-in_err-write_count g c =
     (numbered (count_line c.args.name.now) c.loop-i.i (drop c.loop-i.i c.args.counts.now))
     ((count_line c.args.name.now) c.loop-i.i (get_or c.args.counts.now c.loop-i.i 0))
     (numbered (count_line c.args.name.now) (c.loop-i.i + 1) (drop (c.loop-i.i + 1) c.args.counts.now)) p.1
-    (numbered_at (count_line c.args.name.now) c.loop-i.i (c.loop-i.i + 1) c.loop-i.i c.args.counts.now 0 (omega arith) c.loop-i-test.true) c.loop-i.invariant c.in_err-write_count.ensures
+    (numbered_at (count_line c.args.name.now) c.loop-i.i (c.loop-i.i + 1) c.loop-i.i c.args.counts.now 0 (omega arith) c.loop-i-test.true) c.loop-i.invariant
+    c.in_err-write_count.ensures
 
 pub loop-i-preserved : goal.loop-i-preserved
 loop-i-preserved g c = goes_on g.W.Sink.bytes g.W.Sink.failures c.args.out.now c.loop-i.out c.write_count.new.out
@@ -20,4 +21,5 @@ loop-i-preserved g c = goes_on g.W.Sink.bytes g.W.Sink.failures c.args.out.now c
     (numbered (count_line c.args.name.now) c.loop-i.i (drop c.loop-i.i c.args.counts.now))
     ((count_line c.args.name.now) c.loop-i.i (get_or c.args.counts.now c.loop-i.i 0))
     (numbered (count_line c.args.name.now) (c.loop-i.i + 1) (drop (c.loop-i.i + 1) c.args.counts.now))
-    (numbered_at (count_line c.args.name.now) c.loop-i.i (c.loop-i.i + 1) c.loop-i.i c.args.counts.now 0 (omega arith) c.loop-i-test.true) c.loop-i.invariant c.in_ok-write_count.ensures
+    (numbered_at (count_line c.args.name.now) c.loop-i.i (c.loop-i.i + 1) c.loop-i.i c.args.counts.now 0 (omega arith) c.loop-i-test.true) c.loop-i.invariant
+    c.in_ok-write_count.ensures

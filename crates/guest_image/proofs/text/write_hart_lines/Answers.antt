@@ -20,7 +20,8 @@ returns-in_err-write_csr_line g c =
     then_writes g.W.Sink.bytes g.W.Sink.failures c.from_residual-in_err-write_csr_line.result c.args.out.now
     c.write_hart_line.new.out c.write_csr_line.new.out (hart_line c.args.hart.now)
     (csr_line c.args.hart.now ++ (device_line c.args.hart.now)) c.in_ok-write_hart_line.ensures
-    (then_stops g.W.Sink.bytes g.W.Sink.failures c.from_residual-in_err-write_csr_line.result p.0 c.write_hart_line.new.out c.write_csr_line.new.out (csr_line c.args.hart.now) (device_line c.args.hart.now) p.1 c.in_err-write_csr_line.ensures)
+    (then_stops g.W.Sink.bytes g.W.Sink.failures c.from_residual-in_err-write_csr_line.result p.0 c.write_hart_line.new.out c.write_csr_line.new.out
+    (csr_line c.args.hart.now) (device_line c.args.hart.now) p.1 c.in_err-write_csr_line.ensures)
 
 pub returns : goal.returns
 unfolding hart_lines
@@ -28,5 +29,6 @@ returns g c =
     then_writes g.W.Sink.bytes g.W.Sink.failures c.write_device_line.result c.args.out.now c.write_hart_line.new.out
     c.write_device_line.new.out (hart_line c.args.hart.now)
     (csr_line c.args.hart.now ++ (device_line c.args.hart.now)) c.in_ok-write_hart_line.ensures
-    (then_writes g.W.Sink.bytes g.W.Sink.failures c.write_device_line.result c.write_hart_line.new.out c.write_csr_line.new.out c.write_device_line.new.out (csr_line c.args.hart.now) (device_line c.args.hart.now) c.in_ok-write_csr_line.ensures
+    (then_writes g.W.Sink.bytes g.W.Sink.failures c.write_device_line.result c.write_hart_line.new.out c.write_csr_line.new.out c.write_device_line.new.out
+    (csr_line c.args.hart.now) (device_line c.args.hart.now) c.in_ok-write_csr_line.ensures
     (c.write_device_line.ensures))

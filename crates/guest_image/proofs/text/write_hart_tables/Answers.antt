@@ -23,7 +23,8 @@ returns-in_err-write_hart_outputs g c =
     (numbered register_line 1 (drop 1 c.args.hart.now.registers))
     (numbered output_line 0 c.args.hart.now.outputs ++ (bell_lines c.args.hart.now))
     c.in_ok-write_hart_registers.ensures
-    (then_stops g.W.Sink.bytes g.W.Sink.failures c.from_residual-in_err-write_hart_outputs.result p.0 c.write_hart_registers.new.out c.write_hart_outputs.new.out (numbered output_line 0 c.args.hart.now.outputs) (bell_lines c.args.hart.now) p.1 c.in_err-write_hart_outputs.ensures)
+    (then_stops g.W.Sink.bytes g.W.Sink.failures c.from_residual-in_err-write_hart_outputs.result p.0 c.write_hart_registers.new.out
+    c.write_hart_outputs.new.out (numbered output_line 0 c.args.hart.now.outputs) (bell_lines c.args.hart.now) p.1 c.in_err-write_hart_outputs.ensures)
 
 pub returns : goal.returns
 unfolding hart_tables
@@ -33,5 +34,6 @@ returns g c =
     (numbered register_line 1 (drop 1 c.args.hart.now.registers))
     (numbered output_line 0 c.args.hart.now.outputs ++ (bell_lines c.args.hart.now))
     c.in_ok-write_hart_registers.ensures
-    (then_writes g.W.Sink.bytes g.W.Sink.failures c.write_bell_lines.result c.write_hart_registers.new.out c.write_hart_outputs.new.out c.write_bell_lines.new.out (numbered output_line 0 c.args.hart.now.outputs) (bell_lines c.args.hart.now) c.in_ok-write_hart_outputs.ensures
+    (then_writes g.W.Sink.bytes g.W.Sink.failures c.write_bell_lines.result c.write_hart_registers.new.out c.write_hart_outputs.new.out
+    c.write_bell_lines.new.out (numbered output_line 0 c.args.hart.now.outputs) (bell_lines c.args.hart.now) c.in_ok-write_hart_outputs.ensures
     (c.write_bell_lines.ensures))

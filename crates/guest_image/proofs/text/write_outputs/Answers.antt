@@ -12,11 +12,13 @@ returns-in_err-write_output g c =
     (numbered output_line c.loop-i.i (drop c.loop-i.i c.args.outputs.now))
     (output_line c.loop-i.i (get_or c.args.outputs.now c.loop-i.i (0, 0)))
     (numbered output_line (c.loop-i.i + 1) (drop (c.loop-i.i + 1) c.args.outputs.now)) p.1
-    (numbered_at output_line c.loop-i.i (c.loop-i.i + 1) c.loop-i.i c.args.outputs.now (0, 0) (omega arith) c.loop-i-test.true) c.loop-i.invariant c.in_err-write_output.ensures
+    (numbered_at output_line c.loop-i.i (c.loop-i.i + 1) c.loop-i.i c.args.outputs.now (0, 0) (omega arith) c.loop-i-test.true) c.loop-i.invariant
+    c.in_err-write_output.ensures
 
 pub loop-i-preserved : goal.loop-i-preserved
 loop-i-preserved g c = goes_on g.W.Sink.bytes g.W.Sink.failures c.args.out.now c.loop-i.out c.write_output.new.out
     (numbered output_line 0 c.args.outputs.now) (numbered output_line c.loop-i.i (drop c.loop-i.i c.args.outputs.now))
     (output_line c.loop-i.i (get_or c.args.outputs.now c.loop-i.i (0, 0)))
     (numbered output_line (c.loop-i.i + 1) (drop (c.loop-i.i + 1) c.args.outputs.now))
-    (numbered_at output_line c.loop-i.i (c.loop-i.i + 1) c.loop-i.i c.args.outputs.now (0, 0) (omega arith) c.loop-i-test.true) c.loop-i.invariant c.in_ok-write_output.ensures
+    (numbered_at output_line c.loop-i.i (c.loop-i.i + 1) c.loop-i.i c.args.outputs.now (0, 0) (omega arith) c.loop-i-test.true) c.loop-i.invariant
+    c.in_ok-write_output.ensures

@@ -12,7 +12,9 @@ returns-in_err-write_ram_word g c =
     c.write_ram_word.new.out (numbered ram_line (c.args.number * 1024) (words_of c.args.bytes.now))
     (numbered ram_line c.loop-rest.place (words_of c.loop-rest.rest.now))
     (ram_line c.loop-rest.place c.from_le_bytes-value.result)
-    (numbered ram_line (c.loop-rest.place + 1) (words_of (take (length c.loop-rest.rest.now - 4) (drop 4 c.loop-rest.rest.now)))) p.1 (page_at c.loop-rest.place c.from_le_bytes-value.result c.loop-rest.rest.now c.loop-rest-test.true c.from_le_bytes-value.ensures) c.loop-rest.invariant.1 c.in_err-write_ram_word.ensures
+    (numbered ram_line (c.loop-rest.place + 1) (words_of (take (length c.loop-rest.rest.now - 4) (drop 4 c.loop-rest.rest.now)))) p.1
+    (page_at c.loop-rest.place c.from_le_bytes-value.result c.loop-rest.rest.now c.loop-rest-test.true c.from_le_bytes-value.ensures)
+    c.loop-rest.invariant.1 c.in_err-write_ram_word.ensures
 
 pub loop-rest-preserved : goal.loop-rest-preserved
 loop-rest-preserved g c = (
@@ -21,5 +23,7 @@ loop-rest-preserved g c = (
       (numbered ram_line (c.args.number * 1024) (words_of c.args.bytes.now))
       (numbered ram_line c.loop-rest.place (words_of c.loop-rest.rest.now))
       (ram_line c.loop-rest.place c.from_le_bytes-value.result)
-      (numbered ram_line (c.loop-rest.place + 1) (words_of (take (length c.loop-rest.rest.now - 4) (drop 4 c.loop-rest.rest.now)))) (page_at c.loop-rest.place c.from_le_bytes-value.result c.loop-rest.rest.now c.loop-rest-test.true c.from_le_bytes-value.ensures) c.loop-rest.invariant.1 c.in_ok-write_ram_word.ensures,
+      (numbered ram_line (c.loop-rest.place + 1) (words_of (take (length c.loop-rest.rest.now - 4) (drop 4 c.loop-rest.rest.now))))
+      (page_at c.loop-rest.place c.from_le_bytes-value.result c.loop-rest.rest.now c.loop-rest-test.true c.from_le_bytes-value.ensures)
+      c.loop-rest.invariant.1 c.in_ok-write_ram_word.ensures,
 )

@@ -12,7 +12,8 @@ returns-in_err-write_register g c =
     (numbered register_line (c.args.first + c.loop-i.i) (drop c.loop-i.i c.args.values.now))
     (register_line (c.args.first + c.loop-i.i) (get_or c.args.values.now c.loop-i.i 0))
     (numbered register_line (c.args.first + (c.loop-i.i + 1)) (drop (c.loop-i.i + 1) c.args.values.now)) p.1
-    (numbered_at register_line (c.args.first + c.loop-i.i) (c.args.first + (c.loop-i.i + 1)) c.loop-i.i c.args.values.now 0 (omega arith) c.loop-i-test.true) c.loop-i.invariant c.in_err-write_register.ensures
+    (numbered_at register_line (c.args.first + c.loop-i.i) (c.args.first + (c.loop-i.i + 1)) c.loop-i.i c.args.values.now 0 (omega arith) c.loop-i-test.true)
+    c.loop-i.invariant c.in_err-write_register.ensures
 
 pub loop-i-preserved : goal.loop-i-preserved
 loop-i-preserved g c = goes_on g.W.Sink.bytes g.W.Sink.failures c.args.out.now c.loop-i.out c.write_register.new.out
@@ -20,4 +21,5 @@ loop-i-preserved g c = goes_on g.W.Sink.bytes g.W.Sink.failures c.args.out.now c
     (numbered register_line (c.args.first + c.loop-i.i) (drop c.loop-i.i c.args.values.now))
     (register_line (c.args.first + c.loop-i.i) (get_or c.args.values.now c.loop-i.i 0))
     (numbered register_line (c.args.first + (c.loop-i.i + 1)) (drop (c.loop-i.i + 1) c.args.values.now))
-    (numbered_at register_line (c.args.first + c.loop-i.i) (c.args.first + (c.loop-i.i + 1)) c.loop-i.i c.args.values.now 0 (omega arith) c.loop-i-test.true) c.loop-i.invariant c.in_ok-write_register.ensures
+    (numbered_at register_line (c.args.first + c.loop-i.i) (c.args.first + (c.loop-i.i + 1)) c.loop-i.i c.args.values.now 0 (omega arith) c.loop-i-test.true)
+    c.loop-i.invariant c.in_ok-write_register.ensures

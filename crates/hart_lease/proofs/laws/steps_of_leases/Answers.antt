@@ -1,4 +1,4 @@
-use Rattle.hart_lease.proofs.Lacking.{step_counts, step_keeps_rights, lacks_on_a_page}
+use Rattle.hart_lease.proofs.steps.LackedRights.{step_counts, step_keeps_rights, lacks_on_a_page}
 use Rattle.hart_lease.proofs.laws.steps_of_leases.Goals as goal
 
 pub returns-clause-counts : goal.returns-clause-counts

@@ -1,5 +1,5 @@
 use Rattle.std.proofs.lemmas.Slice.Eq.{slice_eq-Decides}
-use Rattle.hart_lease.proofs.Alike.{option_decides, taken_decides}
+use Rattle.hart_lease.proofs.pages.Equal.{option_decides, taken_decides}
 use Rattle.hart_lease.proofs.taken.same_row.Goals as goal
 
 pub returns : goal.returns

@@ -5,7 +5,7 @@ use Rattle.fragment_codec.specs.declared.types.Record.TheVariants.{Edge as EdgeR
 use Rattle.fragment_codec.specs.Rules.{count_of, IsRecordOf}
 use Rattle.hart_replay.specs.Facts.{edges_among}
 use Rattle.hart_replay.specs.Taking.{EdgesEndBy}
-use Rattle.hart_replay.proofs.Records.{later, ahead_at, below_none, no_edge, record_at, skips_edge, takes_edge, ends_by, read_at}
+use Rattle.hart_replay.proofs.gathering.Records.{later, ahead_at, below_none, no_edge, record_at, skips_edge, takes_edge, ends_by, read_at}
 use Rattle.hart_replay.proofs.facts.add_edges.Goals as goal
 use Rattle.hart_replay.proofs.facts.add_edges.Goals.{in-Edge+then-edge-end+in_ok-add, in-Edge+else-edge-end, in_default}
 
@@ -15,7 +15,8 @@ add-requires c =
     let e = c.in-Edge.edge in
     let i = c.loop-record.record-index in
     let less : i < length f.records = subst (λ (l : List Record). i < length l) c.records-record-items.ensures.records c.loop-record-test.true in
-    let is = read_at f.records c.records-record-items.result.now i c.record-item.result (EdgeRecord e) c.records-record-items.ensures.records c.record-item.is c.in-Edge.is in
+    let is = read_at f.records c.records-record-items.result.now i c.record-item.result (EdgeRecord e) c.records-record-items.ensures.records c.record-item.is
+    c.in-Edge.is in
     let rules = c.records-record-items.ensures.rules in
     let fact : IsRecordOf f.guest.harts f.key.hart f.from f.to (EdgeRecord e) = record_at f i (EdgeRecord e) rules less is in
     let harts : length c.loop-record.edges.start ≡ f.guest.harts = rw c.loop-record.invariant.taken.start c.requires.harts in
@@ -37,7 +38,8 @@ loop-record-preserved c =
     let less : i < length f.records = subst (λ (l : List Record). i < length l) c.records-record-items.ensures.records c.loop-record-test.true in
     let rules = c.records-record-items.ensures.rules in
     let item = c.record-item.result in
-    let read = λ (s : Record) (named : item ≡ s). read_at f.records c.records-record-items.result.now i item s c.records-record-items.ensures.records c.record-item.is named in
+    let read = λ (s : Record) (named : item ≡ s). read_at f.records c.records-record-items.result.now i item s c.records-record-items.ensures.records
+    c.record-item.is named in
     let hart = f.key.hart in
     let old = c.args.edges.now in
     elim c.match-record.branch [

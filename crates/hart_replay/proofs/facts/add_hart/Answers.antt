@@ -5,7 +5,7 @@ use Rattle.closed_cut.specs.Position.{pieces_of}
 use Rattle.closed_cut.proofs.Walking.{goes_on, no_place}
 use Rattle.hart_replay.specs.Facts.{below, edges_among, inputs_among}
 use Rattle.hart_replay.specs.Taking.{TakesEdges, TakesInputs}
-use Rattle.hart_replay.proofs.Pieces.{hart_is, harts_are, no_lower, edges_on, inputs_on}
+use Rattle.hart_replay.proofs.gathering.Pieces.{hart_is, harts_are, no_lower, edges_on, inputs_on}
 use Rattle.hart_replay.proofs.facts.add_hart.Goals as goal
 
 pub add_edges-requires-clause-harts : goal.add_edges-requires-clause-harts
@@ -25,7 +25,12 @@ add_edges-requires-clause-start c =
     let piece = c.in-Some.piece.now in
     let one : pieces_of store was.term c.args.hart c.loop-place.place ≡ One piece =
     subst (λ t. pieces_of store t c.args.hart c.loop-place.place ≡ One piece) c.loop-place.invariant.term c.in-Some.ensures.one in
-    rw (c.loop-place.invariant.edges.start, c.requires.start, hart_is store c.requires.rules was.term c.args.hart c.loop-place.place piece one, c.in-Some.ensures.from)
+    rw (
+      c.loop-place.invariant.edges.start,
+      c.requires.start,
+      hart_is store c.requires.rules was.term c.args.hart c.loop-place.place piece one,
+      c.in-Some.ensures.from,
+    )
     (no_lower store c.requires.rules was.term c.args.hart (count_at was.base c.args.hart) c.loop-place.place c.loop-place.at c.loop-place.invariant.goes)
 
 pub add_edges-requires-clause-last : goal.add_edges-requires-clause-last
@@ -73,7 +78,8 @@ loop-place-preserved c =
       edges_end = rw (← same, c.to-at.ensures) c.in_ok-add_edges.ensures.last;
       inputs =
           inputs_on pieces place piece one end hart was.inputs c.loop-place.leg.inputs c.add_inputs.new.inputs c.loop-place.invariant.inputs
-          (subst (λ h. TakesInputs h c.loop-place.leg.inputs (inputs_among (below end piece.records)) c.add_inputs.new.inputs) same c.in_ok-add_inputs.ensures.taken);
+          (subst (λ h. TakesInputs h c.loop-place.leg.inputs (inputs_among (below end piece.records)) c.add_inputs.new.inputs) same
+          c.in_ok-add_inputs.ensures.taken);
       inputs_end = rw (← same, c.to-at.ensures) c.in_ok-add_inputs.ensures.last;
     }
 
@@ -99,9 +105,11 @@ returns-in_ok-add_inputs-clause-taken c =
       edges =
           rw (← c.count_of-end.ensures)
           (edges_on pieces place piece one end hart was.edges c.loop-place.leg.edges c.add_edges.new.edges c.loop-place.invariant.edges
-          (subst (λ h. TakesEdges h c.loop-place.leg.edges (edges_among (below end piece.records)) c.add_edges.new.edges) same c.in_ok-add_edges.ensures.taken));
+          (subst (λ h. TakesEdges h c.loop-place.leg.edges (edges_among (below end piece.records)) c.add_edges.new.edges) same
+          c.in_ok-add_edges.ensures.taken));
       inputs =
           rw (← c.count_of-end.ensures)
           (inputs_on pieces place piece one end hart was.inputs c.loop-place.leg.inputs c.add_inputs.new.inputs c.loop-place.invariant.inputs
-          (subst (λ h. TakesInputs h c.loop-place.leg.inputs (inputs_among (below end piece.records)) c.add_inputs.new.inputs) same c.in_ok-add_inputs.ensures.taken));
+          (subst (λ h. TakesInputs h c.loop-place.leg.inputs (inputs_among (below end piece.records)) c.add_inputs.new.inputs) same
+          c.in_ok-add_inputs.ensures.taken));
     }

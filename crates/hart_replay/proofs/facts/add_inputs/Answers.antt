@@ -5,8 +5,8 @@ use Rattle.fragment_codec.specs.declared.types.Record.TheVariants.{Edge as EdgeR
 use Rattle.fragment_codec.specs.Rules.{count_of, IsRecordOf}
 use Rattle.input_log.specs.Inputs.{inputs_of}
 use Rattle.hart_replay.specs.Facts.{inputs_among}
-use Rattle.hart_replay.proofs.Records.{later, ahead_at, below_none, no_input, record_at, read_at}
-use Rattle.hart_replay.proofs.Heard.{InputsEndBy, may_follow, skips_input, takes_input, all_with}
+use Rattle.hart_replay.proofs.gathering.Records.{later, ahead_at, below_none, no_input, record_at, read_at}
+use Rattle.hart_replay.proofs.gathering.Inputs.{InputsEndBy, may_follow, skips_input, takes_input, all_with}
 use Rattle.hart_replay.proofs.facts.add_inputs.Goals as goal
 use Rattle.hart_replay.proofs.facts.add_inputs.Goals.{in-Input+then-at-end+in_ok-add, in-Input+else-at-end, in_default}
 
@@ -17,14 +17,16 @@ add-requires c =
     let i = c.loop-record.record-index in
     let less : i < length f.records = subst (λ (l : List Record). i < length l) c.records-record-items.ensures.records c.loop-record-test.true in
     let fact = InputRecord at c.in-Input.input in
-    let is = read_at f.records c.records-record-items.result.now i c.record-item.result fact c.records-record-items.ensures.records c.record-item.is c.in-Input.is in
+    let is = read_at f.records c.records-record-items.result.now i c.record-item.result fact c.records-record-items.ensures.records c.record-item.is
+    c.in-Input.is in
     let rules = c.records-record-items.ensures.rules in
     let own : IsRecordOf f.guest.harts f.key.hart f.from f.to fact = record_at f i fact rules less is in
     let hart = f.key.hart in
     let by = (ahead_at (λ r. InputsEndBy c.loop-record.inputs hart (count_of r)) f.records i fact less is c.loop-record.invariant.ahead).0 in
     rw c.key-hart.ensures
     (may_follow f c.args.end i at c.in-Input.input rules less is hart c.args.inputs.now c.loop-record.inputs
-    (All-weaker (λ x. x.0 < f.from) (λ x. x.0 < at) (λ x l. omega (arith, l, own.1)) (inputs_of c.args.inputs.now hart) c.requires.last) by c.loop-record.invariant.taken)
+    (All-weaker (λ x. x.0 < f.from) (λ x. x.0 < at) (λ x l. omega (arith, l, own.1)) (inputs_of c.args.inputs.now hart) c.requires.last)
+    by c.loop-record.invariant.taken)
 
 pub loop-record-preserved : goal.loop-record-preserved
 loop-record-preserved c =
@@ -33,7 +35,8 @@ loop-record-preserved c =
     let less : i < length f.records = subst (λ (l : List Record). i < length l) c.records-record-items.ensures.records c.loop-record-test.true in
     let rules = c.records-record-items.ensures.rules in
     let item = c.record-item.result in
-    let read = λ (s : Record) (named : item ≡ s). read_at f.records c.records-record-items.result.now i item s c.records-record-items.ensures.records c.record-item.is named in
+    let read = λ (s : Record) (named : item ≡ s). read_at f.records c.records-record-items.result.now i item s c.records-record-items.ensures.records
+    c.record-item.is named in
     let hart = f.key.hart in
     let old = c.args.inputs.now in
     let now = c.loop-record.inputs in

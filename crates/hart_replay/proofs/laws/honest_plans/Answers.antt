@@ -1,6 +1,6 @@
 use Rattle.std.proofs.Common.{get_or}
-use Rattle.hart_replay.proofs.Led.{follows}
-use Rattle.hart_replay.proofs.Onward.{finds_start, leads_to_position}
+use Rattle.hart_replay.proofs.honesty.Legs.{follows}
+use Rattle.hart_replay.proofs.honesty.Plans.{finds_start, leads_to_position}
 use Rattle.hart_replay.proofs.laws.honest_plans.Goals as goal
 
 pub returns-clause-follow : goal.returns-clause-follow

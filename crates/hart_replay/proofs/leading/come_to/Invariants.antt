@@ -1,4 +1,4 @@
-use Rattle.hart_replay.proofs.Ended.{Looked}
+use Rattle.hart_replay.proofs.rounds.Ends.{Looked}
 use Rattle.hart_replay.proofs.leading.come_to.Given as goal
 
 abbrev pub invariant-loop-number : goal.invariant-loop-number

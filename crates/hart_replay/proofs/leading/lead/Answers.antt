@@ -1,5 +1,5 @@
 use Rattle.hart_replay.specs.Leading.{leg_of}
-use Rattle.hart_replay.proofs.Going.{free_alone, leads_on, leads_nearer, has_stopped}
+use Rattle.hart_replay.proofs.rounds.Leases.{free_alone, leads_on, leads_nearer, has_stopped}
 use Rattle.hart_replay.proofs.leading.lead.Goals as goal
 
 pub go_round-requires-clause-free : goal.go_round-requires-clause-free
@@ -17,4 +17,5 @@ loop-book-smaller c =
 
 pub returns-then-not-branch : goal.returns-then-not-branch
 returns-then-not-branch c =
-    has_stopped c.args.start c.args.leg.now c.loop-book.book c.go_round.new.book c.in_ok-go_round.field-0 c.loop-book.invariant c.in_ok-go_round.ensures.rounds c.if-not-branch.true
+    has_stopped c.args.start c.args.leg.now c.loop-book.book c.go_round.new.book c.in_ok-go_round.field-0 c.loop-book.invariant c.in_ok-go_round.ensures.rounds
+    c.if-not-branch.true

@@ -1,7 +1,7 @@
 use Rattle.std.proofs.Common.{ap}
 use Rattle.book_modes.specs.declared.mode.Leg.{Leg}
 use Rattle.hart_lease.specs.Runs.{heard_in}
-use Rattle.hart_replay.proofs.Ended.{outcome_of, fault_of}
+use Rattle.hart_replay.proofs.rounds.Ends.{outcome_of, fault_of}
 use Rattle.hart_replay.proofs.leading.replay_leg.Goals as goal
 
 pub returns-clause-ok : goal.returns-clause-ok

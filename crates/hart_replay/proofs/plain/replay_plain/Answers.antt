@@ -1,4 +1,4 @@
-use Rattle.hart_replay.proofs.Confluent.{replays_history}
+use Rattle.hart_replay.proofs.honesty.Replays.{replays_history}
 use Rattle.hart_replay.proofs.plain.replay_plain.Goals as goal
 
 pub returns-clause-history : goal.returns-clause-history

@@ -1,7 +1,7 @@
 use Rattle.std.proofs.Common.{◌≡◌, length, refl, subst, ap, arith, ◌∙◌}
 use Rattle.closed_cut.proofs.Reach.{base_many}
 use Rattle.hart_replay.specs.Taking.{TakesHart}
-use Rattle.hart_replay.proofs.Legs.{taken_none, taken_more, has_edges, has_inputs}
+use Rattle.hart_replay.proofs.walking.Harts.{taken_none, taken_more, has_edges, has_inputs}
 use Rattle.hart_replay.proofs.planning.leg_to.Goals as goal
 
 pub loop-number-init : goal.loop-number-init

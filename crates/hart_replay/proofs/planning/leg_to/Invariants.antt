@@ -1,5 +1,5 @@
 use Rattle.std.proofs.Common.{◌≡◌}
-use Rattle.hart_replay.proofs.Legs.{AreTaken}
+use Rattle.hart_replay.proofs.walking.Harts.{AreTaken}
 use Rattle.hart_replay.proofs.planning.leg_to.Given as goal
 
 abbrev pub invariant-loop-number : goal.invariant-loop-number

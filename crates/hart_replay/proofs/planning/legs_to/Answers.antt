@@ -3,7 +3,7 @@ use Rattle.std.proofs.lemmas.List.{reverse-append}
 use Rattle.log_join.specs.Cells.{One}
 use Rattle.log_join.specs.Stores.{opening_at}
 use Rattle.closed_cut.proofs.Chains.{term_above}
-use Rattle.hart_replay.proofs.Made.{made_none, made_more}
+use Rattle.hart_replay.proofs.walking.Made.{made_none, made_more}
 use Rattle.hart_replay.proofs.planning.legs_to.Goals as goal
 
 pub loop-opening-init : goal.loop-opening-init
@@ -12,7 +12,8 @@ loop-opening-init c = rw c.new-legs.ensures.items (made_none c.args.store.now c.
 pub leg_to-requires-clause-opening : goal.leg_to-requires-clause-opening
 leg_to-requires-clause-opening c =
     let o = c.in-Some.opening.now in
-    subst (λ t. opening_at c.args.store.now t ≡ One o) (sym (c.in-Some.ensures.rules.openings c.loop-opening.term o c.in-Some.ensures.one).same_term) c.in-Some.ensures.one
+    subst (λ t. opening_at c.args.store.now t ≡ One o) (sym (c.in-Some.ensures.rules.openings c.loop-opening.term o c.in-Some.ensures.one).same_term)
+    c.in-Some.ensures.one
 
 pub loop-opening-preserved : goal.loop-opening-preserved
 loop-opening-preserved c =

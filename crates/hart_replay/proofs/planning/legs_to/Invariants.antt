@@ -1,5 +1,5 @@
 use Rattle.std.proofs.Common.{reverse}
-use Rattle.hart_replay.proofs.Made.{AreMade}
+use Rattle.hart_replay.proofs.walking.Made.{AreMade}
 use Rattle.hart_replay.proofs.planning.legs_to.Given as goal
 
 abbrev pub invariant-loop-opening : goal.invariant-loop-opening

@@ -1,4 +1,4 @@
-use Rattle.hart_replay.proofs.Walks.{front_of_chain}
+use Rattle.hart_replay.proofs.walking.Walk.{front_of_chain}
 use Rattle.hart_replay.specs.Plans.{terms_of}
 use Rattle.hart_replay.proofs.planning.plan.Goals as goal
 

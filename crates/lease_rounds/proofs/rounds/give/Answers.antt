@@ -34,7 +34,8 @@ returns-in-Ok-Given-clause-alone g c =
     let taken = rw c.in-Ok-Given.field-0-is at c.in-Ok-Given.ensures.taken in
     let b = c.args.book.now in
     let l = c.args.lease.now in
-    still_alone b c.need.new.self l c.need.new.lease (given_more (open_at b.leases l.hart) c.args.page c.args.want l.present.count taken.found) c.requires.alone c.need.ensures.hart c.in-Ok-Given.ensures.ours taken.noted
+    still_alone b c.need.new.self l c.need.new.lease (given_more (open_at b.leases l.hart) c.args.page c.args.want l.present.count taken.found) c.requires.alone
+    c.need.ensures.hart c.in-Ok-Given.ensures.ours taken.noted
 
 pub returns-in-Ok-Given-clause-fewer : goal.returns-in-Ok-Given-clause-fewer
 returns-in-Ok-Given-clause-fewer g c =

@@ -11,7 +11,8 @@ returns-in_err-copy_one-clause-others g c = λ q h.
     let cmp = g.K.Ord.cmp in
     c.in_err-copy_one.ensures.err q
     ∙ c.loop-key.invariant q
-    ∙ ap (λ b. copied b (get cmp c.args.shelf.now q) (get cmp c.args.theirs.now q)) (none_of_part (λ k. eq_by_cmp cmp k q) c.args.keys.now c.loop-key.key-index h)
+    ∙ ap (λ b. copied b (get cmp c.args.shelf.now q) (get cmp c.args.theirs.now q)) (none_of_part (λ k. eq_by_cmp cmp k q) c.args.keys.now c.loop-key.key-index
+    h)
 
 pub loop-key-preserved : goal.loop-key-preserved
 loop-key-preserved g c = λ q.

@@ -8,4 +8,5 @@ use Rattle.log_join.proofs.shelf.missing_keys.Given as goal
 abbrev pub invariant-loop-key : goal.invariant-loop-key
 invariant-loop-key g l =
     let cmp = g.K.Ord.cmp in
-    (q : _) → (is_among cmp l.missing.items q || (is_among cmp l.key-iterator q && not (is_some (get cmp l.mine q)))) ≡ (is_among cmp (keys l.theirs) q && not (is_some (get cmp l.mine q)))
+    (q : _) → (is_among cmp l.missing.items q || (is_among cmp l.key-iterator q && not (is_some (get cmp l.mine q)))) ≡ (is_among cmp (keys l.theirs) q && not
+    (is_some (get cmp l.mine q)))

@@ -13,7 +13,8 @@ loop-frame-preserved c =
     let steps : into_iter_items at.frame-iterator ≡ frame ∷ into_iter_items c.next.new.self = c.in-Some.ensures.steps.0 in (
       λ first given t.
           subst (λ (xs : List Frame). Takes first xs c.put_frame.new.store) (append_assoc given at.yielded (frame ∷ []))
-          (takes_one first at.store c.put_frame.new.store (given ++ at.yielded) frame (at.invariant.0 first given t) c.in_ok-put_frame.ensures.own c.in_ok-put_frame.ensures.joined),
+          (takes_one first at.store c.put_frame.new.store (given ++ at.yielded) frame (at.invariant.0 first given t) c.in_ok-put_frame.ensures.own
+          c.in_ok-put_frame.ensures.joined),
       append_assoc at.yielded (frame ∷ []) _ ∙ rw (← steps) at.invariant.1,
     )
 

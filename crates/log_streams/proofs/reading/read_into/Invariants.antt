@@ -4,4 +4,5 @@ use Rattle.log_streams.proofs.reading.read_into.Given as goal
 
 abbrev pub invariant-loop-read : goal.invariant-loop-read
 invariant-loop-read g l =
-    IsReading l.fn.store (g.R.Source.left l.fn.reader) (g.R.Source.left l.reader) l.feed l.store × (g.R.Source.failures l.reader ≡ g.R.Source.failures l.fn.reader)
+    IsReading l.fn.store (g.R.Source.left l.fn.reader) (g.R.Source.left l.reader) l.feed l.store ×
+    (g.R.Source.failures l.reader ≡ g.R.Source.failures l.fn.reader)

@@ -1,7 +1,7 @@
 use Rattle.std.proofs.Common.{◌<◌, length, arith}
 use Rattle.std.proofs.lemmas.Option.{slice_get-get_or}
 use Rattle.std.proofs.lemmas.Result.{err_from_is_err_and}
-use Rattle.fragment_codec.proofs.Faults.{fault_more}
+use Rattle.fragment_codec.proofs.streams.Faults.{fault_more}
 use Rattle.log_streams.proofs.Lifted.{read_more, first_of_streams, behind_same, one_failed}
 use Rattle.log_streams.proofs.reading.read_store.Goals as goal
 
@@ -12,14 +12,16 @@ returns-in_err-read_into-clause-fault g c =
     let count = at.invariant.count in
     let lt : at.stream < length at.readers = omega (arith, count, test) in
     let p = err_from_is_err_and c.from_residual.result c.from_residual.ensures.1 in
-    rw (p.1, p.2) (first_of_streams g.R.Source.left g.R.Source.failures c.args.guest.now c.args.readers.now at.readers at.stream _ c.read_into.new.reader at.store c.in_err-read_into.field-0.0 fault_more lt
+    rw (p.1, p.2) (first_of_streams g.R.Source.left g.R.Source.failures c.args.guest.now c.args.readers.now at.readers at.stream _ c.read_into.new.reader
+    at.store c.in_err-read_into.field-0.0 fault_more lt
     (slice_get-get_or at.readers at.stream c.index-readers-stream.result lt) at.invariant c.in_err-read_into.ensures.fault)
 
 pub returns-in_err-read_into-clause-behind : goal.returns-in_err-read_into-clause-behind
 returns-in_err-read_into-clause-behind g c =
     let at = c.loop-stream in
     let p = err_from_is_err_and c.from_residual.result c.from_residual.ensures.1 in
-    rw (p.1, p.2) (behind_same g.R.Source.left g.R.Source.failures c.args.guest.now c.args.readers.now at.readers at.stream _ c.read_into.new.reader at.store c.in_err-read_into.field-0.0 at.store.guest at.invariant c.in_err-read_into.ensures.fault)
+    rw (p.1, p.2) (behind_same g.R.Source.left g.R.Source.failures c.args.guest.now c.args.readers.now at.readers at.stream _ c.read_into.new.reader at.store
+    c.in_err-read_into.field-0.0 at.store.guest at.invariant c.in_err-read_into.ensures.fault)
 
 pub returns-in_err-read_into-clause-failed : goal.returns-in_err-read_into-clause-failed
 returns-in_err-read_into-clause-failed g c =
@@ -28,7 +30,8 @@ returns-in_err-read_into-clause-failed g c =
     let count = at.invariant.count in
     let lt : at.stream < length at.readers = omega (arith, count, test) in
     let p = err_from_is_err_and c.from_residual.result c.from_residual.ensures.1 in
-    rw (p.1, p.2) (one_failed g.R.Source.left g.R.Source.failures c.args.guest.now c.args.readers.now at.readers at.stream _ c.read_into.new.reader at.store c.in_err-read_into.field-0.0 at.store.guest lt
+    rw (p.1, p.2) (one_failed g.R.Source.left g.R.Source.failures c.args.guest.now c.args.readers.now at.readers at.stream _ c.read_into.new.reader at.store
+    c.in_err-read_into.field-0.0 at.store.guest lt
     (slice_get-get_or at.readers at.stream c.index-readers-stream.result lt) at.invariant c.in_err-read_into.ensures.fault c.in_err-read_into.ensures.failures)
 
 pub loop-stream-preserved : goal.loop-stream-preserved
@@ -37,5 +40,6 @@ loop-stream-preserved g c =
     let test = c.loop-stream-test.true in
     let count = at.invariant.count in
     let lt : at.stream < length at.readers = omega (arith, count, test) in
-    read_more g.R.Source.left g.R.Source.failures c.args.guest.now c.args.readers.now at.readers at.stream _ c.read_into.new.reader at.store c.read_into.new.store lt
+    read_more g.R.Source.left g.R.Source.failures c.args.guest.now c.args.readers.now at.readers at.stream _ c.read_into.new.reader at.store
+    c.read_into.new.store lt
     (slice_get-get_or at.readers at.stream c.index-readers-stream.result lt) at.invariant c.in_ok-read_into.ensures.ok c.in_ok-read_into.ensures.kept

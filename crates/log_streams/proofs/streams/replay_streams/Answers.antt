@@ -7,26 +7,31 @@ use Rattle.log_streams.proofs.streams.replay_streams.Goals as goal
 pub returns-in_err-store-clause-fault : goal.returns-in_err-store-clause-fault
 returns-in_err-store-clause-fault g c =
     let p = err_from_is_err_and c.from_residual.result c.from_residual.ensures.1 in
-    rw (p.1, p.2) (read_cause c.args.image.now c.guest.result (map g.R.Source.left c.args.readers.now) c.in_err-store.field-0.0 c.guest.ensures c.in_err-store.ensures.fault)
+    rw (p.1, p.2) (read_cause c.args.image.now c.guest.result (map g.R.Source.left c.args.readers.now) c.in_err-store.field-0.0 c.guest.ensures
+    c.in_err-store.ensures.fault)
 
 pub returns-in_err-store-clause-exact : goal.returns-in_err-store-clause-exact
 returns-in_err-store-clause-exact g c =
     let p = err_from_is_err_and c.from_residual.result c.from_residual.ensures.1 in
     rw (p.1, p.2) (λ streams f is in_bytes first.
-    read_answer c.args.image.now c.guest.result (map g.R.Source.left c.args.readers.now) c.in_err-store.field-0.0 streams f c.guest.ensures is c.in_err-store.ensures.fault in_bytes first)
+    read_answer c.args.image.now c.guest.result (map g.R.Source.left c.args.readers.now) c.in_err-store.field-0.0 streams f c.guest.ensures is
+    c.in_err-store.ensures.fault in_bytes first)
 
 pub returns-clause-written : goal.returns-clause-written
 returns-clause-written g c =
-    joined_written c.args.image.now c.guest.result (map g.R.Source.left c.args.readers.now) c.in_ok-store.store c.write_replayed.result _ _ _ _ c.guest.ensures c.in_ok-store.ensures.ok c.write_replayed.ensures.written
+    joined_written c.args.image.now c.guest.result (map g.R.Source.left c.args.readers.now) c.in_ok-store.store c.write_replayed.result _ _ _ _ c.guest.ensures
+    c.in_ok-store.ensures.ok c.write_replayed.ensures.written
 
 pub returns-clause-fault : goal.returns-clause-fault
 returns-clause-fault g c =
     IfErr-weaker c.write_replayed.result (IsCauseIn c.args.image.now c.in_ok-store.store) _
-    (λ f cause. joined_cause c.args.image.now c.guest.result (map g.R.Source.left c.args.readers.now) c.in_ok-store.store f c.guest.ensures c.in_ok-store.ensures.ok cause) c.write_replayed.ensures.fault
+    (λ f cause. joined_cause c.args.image.now c.guest.result (map g.R.Source.left c.args.readers.now) c.in_ok-store.store f c.guest.ensures
+    c.in_ok-store.ensures.ok cause) c.write_replayed.ensures.fault
 
 pub returns-clause-exact : goal.returns-clause-exact
 returns-clause-exact g c = λ streams f is in_bytes first.
-    joined_answer c.args.image.now c.guest.result (map g.R.Source.left c.args.readers.now) c.in_ok-store.store c.write_replayed.result streams f c.guest.ensures is c.in_ok-store.ensures.ok in_bytes first
+    joined_answer c.args.image.now c.guest.result (map g.R.Source.left c.args.readers.now) c.in_ok-store.store c.write_replayed.result streams f c.guest.ensures
+    is c.in_ok-store.ensures.ok in_bytes first
 
 pub write_replayed-requires : goal.write_replayed-requires
 write_replayed-requires g c = c.in_ok-store.ensures.guest ∙ c.guest.ensures
@@ -34,4 +39,5 @@ write_replayed-requires g c = c.in_ok-store.ensures.guest ∙ c.guest.ensures
 pub returns-in_err-store-clause-written : goal.returns-in_err-store-clause-written
 returns-in_err-store-clause-written g c =
     let p = err_from_is_err_and c.from_residual.result c.from_residual.ensures.1 in
-    rw (p.1, p.2) (read_unwritten c.args.image.now c.guest.result (map g.R.Source.left c.args.readers.now) c.in_err-store.field-0.0 _ _ c.in_err-store.ensures.fault)
+    rw (p.1, p.2) (read_unwritten c.args.image.now c.guest.result (map g.R.Source.left c.args.readers.now) c.in_err-store.field-0.0 _ _
+    c.in_err-store.ensures.fault)

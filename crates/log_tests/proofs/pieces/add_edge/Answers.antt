@@ -18,7 +18,8 @@ added : (harts : ℕ) (old new : Edges) (e : Edge) (r : Result Added Memory) →
     ((r ≡ Ok New → ⊥) → new ≡ old) → AreEdgesOf harts new
 added harts old new e (Ok New) all one put others kept hart =
     elim (cases_eq hart e.hart) [
-      | inl same ↦ subst (λ h. All (λ f. IsFactOf harts h (EdgeRecord f)) (row_of new h)) (sym same) (all_put (λ f. IsFactOf harts e.hart (EdgeRecord f)) (row_of old e.hart) e (row_of new e.hart) (put refl) one (all e.hart))
+      | inl same ↦ subst (λ h. All (λ f. IsFactOf harts h (EdgeRecord f)) (row_of new h)) (sym same) (all_put (λ f. IsFactOf harts e.hart (EdgeRecord f))
+          (row_of old e.hart) e (row_of new e.hart) (put refl) one (all e.hart))
       | inr apart ↦ subst (All (λ f. IsFactOf harts hart (EdgeRecord f))) (sym (others hart apart)) (all hart)
     ]
 added harts old new e (Ok Implied) all one put others kept hart = (subst (AreEdgesOf harts) (sym (kept (λ is. absurd cc))) all) hart

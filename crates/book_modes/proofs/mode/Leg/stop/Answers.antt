@@ -1,4 +1,4 @@
-use Rattle.book_modes.proofs.Obeyed.{stop_is}
+use Rattle.book_modes.proofs.obeying.Edges.{stop_is}
 use Rattle.book_modes.proofs.mode.Leg.stop.Goals as goal
 
 pub returns-clause-value : goal.returns-clause-value

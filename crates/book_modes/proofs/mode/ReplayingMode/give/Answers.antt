@@ -1,4 +1,4 @@
-use Rattle.book_modes.proofs.Hearing.{given_hears, asker_row}
+use Rattle.book_modes.proofs.obeying.Inputs.{given_hears, asker_row}
 use Rattle.book_modes.proofs.mode.ReplayingMode.give.Goals as goal
 
 pub returns-clause-kept : goal.returns-clause-kept

@@ -1,6 +1,6 @@
 use Rattle.std.proofs.Common.{rules, ◌≡◌}
 use Rattle.hart_lease.specs.Runs.{counts_of}
-use Rattle.book_modes.proofs.Obeyed.{unmet_at, at_unmet}
+use Rattle.book_modes.proofs.obeying.Edges.{unmet_at, at_unmet}
 use Rattle.book_modes.proofs.mode.ReplayingMode.is_open.Goals as goal
 
 pub returns : goal.returns

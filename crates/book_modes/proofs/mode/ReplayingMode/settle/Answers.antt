@@ -1,4 +1,4 @@
-use Rattle.book_modes.proofs.Hearing.{settled_hears, hears_on}
+use Rattle.book_modes.proofs.obeying.Inputs.{settled_hears, hears_on}
 use Rattle.hart_lease.specs.Leases.{whole}
 use Rattle.book_modes.proofs.mode.ReplayingMode.settle.Goals as goal
 

@@ -2,7 +2,7 @@ use Rattle.std.proofs.Common.{◌<◌, length, refl, sym, ap, ◌∙◌, rules, 
 use Rattle.crew_pages.specs.Rights.{Right, right_of}
 use Rattle.lease_ledger.specs.Calls.{kept}
 use Rattle.book_modes.specs.Recordings.{keep_as}
-use Rattle.book_modes.proofs.Changed.{right_there, changed_none, changed_more}
+use Rattle.book_modes.proofs.ledger.ChangedRights.{right_there, changed_none, changed_more}
 use Rattle.book_modes.proofs.recording.Recording.keep_rights.Goals as goal
 
 pub loop-page-init : goal.loop-page-init

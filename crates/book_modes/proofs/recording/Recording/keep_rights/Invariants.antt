@@ -1,7 +1,7 @@
 use Rattle.std.proofs.Common.{◌≡◌}
 use Rattle.lease_ledger.specs.Calls.{kept}
 use Rattle.book_modes.specs.Recordings.{keep_as}
-use Rattle.book_modes.proofs.Changed.{AreChanged}
+use Rattle.book_modes.proofs.ledger.ChangedRights.{AreChanged}
 use Rattle.book_modes.proofs.recording.Recording.keep_rights.Given as goal
 
 abbrev pub invariant-loop-page : goal.invariant-loop-page

@@ -4,16 +4,18 @@ use Rattle.input_log.specs.Inputs.{inputs_of}
 use Rattle.edge_log.specs.EdgeLog.{Edges}
 use Rattle.hart_lease.specs.Leases.{whole}
 use Rattle.book_modes.specs.Recordings.{RecordingView, AreLogged}
-use Rattle.book_modes.proofs.Settlings.{edges_own, edges_each, edges_rising, inputs_last}
+use Rattle.book_modes.proofs.ledger.Settling.{edges_own, edges_each, edges_rising, inputs_last}
 use Rattle.book_modes.proofs.recording.Recording.log.Goals as goal
 
 pub add_all-requires-clause-own : goal.add_all-requires-clause-own
-add_all-requires-clause-own c = rw (c.edges.ensures, c.hart.ensures.value) (edges_own c.requires.settles.1 (whole c.requires.settles.0 c.args.lease.now) c.requires.settles.2)
+add_all-requires-clause-own c = rw (c.edges.ensures, c.hart.ensures.value) (edges_own c.requires.settles.1 (whole c.requires.settles.0 c.args.lease.now)
+    c.requires.settles.2)
 
 pub add_all-requires-clause-each : goal.add_all-requires-clause-each
 add_all-requires-clause-each c =
     let same : c.requires.settles.1.edges ≡ c.self.inside.edges =
-    ap (λ (v : RecordingView). v.edges) (sym (c.self.view_is ∙ (c.log_inputs.ensures.rest ∙ ap (λ (v : RecordingView). let w : RecordingView = record v { inputs = c.log_inputs.new.self.inputs } in w) c.requires.settles.3))) in
+    ap (λ (v : RecordingView). v.edges) (sym (c.self.view_is ∙ (c.log_inputs.ensures.rest ∙
+    ap (λ (v : RecordingView). let w : RecordingView = record v { inputs = c.log_inputs.new.self.inputs } in w) c.requires.settles.3))) in
     rw c.edges.ensures (rw same at (edges_each c.requires.settles.1 (whole c.requires.settles.0 c.args.lease.now) c.requires.settles.2))
 
 pub add_all-requires-clause-rising : goal.add_all-requires-clause-rising

@@ -1,6 +1,6 @@
 use Rattle.std.proofs.Common.{rules, ◌≢◌}
 use Rattle.std.proofs.lemmas.Result.{IfOk-weaker}
-use Rattle.book_modes.proofs.Dues.{room_there, logs_some}
+use Rattle.book_modes.proofs.ledger.Dues.{room_there, logs_some}
 use Rattle.book_modes.proofs.recording.Recording.log_inputs.Goals as goal
 
 pub add_all-requires-clause-room : goal.add_all-requires-clause-room

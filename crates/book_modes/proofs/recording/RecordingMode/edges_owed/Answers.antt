@@ -1,4 +1,4 @@
-use Rattle.book_modes.proofs.Ledgers.{nobody_there}
+use Rattle.book_modes.proofs.ledger.Lending.{nobody_there}
 use Rattle.ft_types.specs.Counts.{count_at}
 use Rattle.book_modes.proofs.recording.RecordingMode.edges_owed.Goals as goal
 

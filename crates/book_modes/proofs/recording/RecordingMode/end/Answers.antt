@@ -3,8 +3,8 @@ use Rattle.crew_pages.specs.Rights.{Right, right_of, holds, give_up}
 use Rattle.hart_lease.specs.Taken.{taken_at}
 use Rattle.hart_lease.specs.Runs.{heard_in}
 use Rattle.book_modes.specs.Recordings.{RecordingView, IsEnded, heard_by, right_at}
-use Rattle.book_modes.proofs.Changed.{right_there, changed_none, changed_more, changed_same}
-use Rattle.book_modes.proofs.Endings.{given_back_all, holds_it, ended_recorded}
+use Rattle.book_modes.proofs.ledger.ChangedRights.{right_there, changed_none, changed_more, changed_same}
+use Rattle.book_modes.proofs.ledger.Ending.{given_back_all, holds_it, ended_recorded}
 use Rattle.book_modes.proofs.recording.RecordingMode.end.Goals as goal
 use Rattle.book_modes.proofs.recording.RecordingMode.end.Goals.{then-is_some, else-is_some}
 
@@ -52,7 +52,14 @@ loop-page-preserved c =
           )
       | else-is_some w ↦
           let not : is_some (taken_at c.args.taken.now c.loop-page.page) ≡ false = sym w.if-is_some.ensures in
-          rw w.self-inside-is (record { limits = now.limits; edges = now.edges; inputs = now.inputs; due = now.due; desk = now.desk; rights = changed_same _ _ _ _ now.rights (rw not refl) })
+          rw w.self-inside-is (record {
+            limits = now.limits;
+            edges = now.edges;
+            inputs = now.inputs;
+            due = now.due;
+            desk = now.desk;
+            rights = changed_same _ _ _ _ now.rights (rw not refl);
+          })
     ]
 
 -- what the book's mode has become

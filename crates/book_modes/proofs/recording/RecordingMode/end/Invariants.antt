@@ -1,6 +1,6 @@
 use Rattle.std.proofs.Common.{◌≡◌}
-use Rattle.book_modes.proofs.Changed.{AreChanged}
-use Rattle.book_modes.proofs.Endings.{given_back}
+use Rattle.book_modes.proofs.ledger.ChangedRights.{AreChanged}
+use Rattle.book_modes.proofs.ledger.Ending.{given_back}
 use Rattle.book_modes.proofs.recording.RecordingMode.end.Given as goal
 
 abbrev pub invariant-loop-page : goal.invariant-loop-page

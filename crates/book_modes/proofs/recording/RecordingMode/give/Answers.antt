@@ -1,7 +1,7 @@
 use Rattle.std.proofs.Common.{◌<◌, ◌∙◌, refl, length, length-set}
 use Rattle.ft_types.specs.Counts.{count_at}
-use Rattle.book_modes.proofs.Ledgers.{nobody_there, right_stored_there, giving_kept}
-use Rattle.book_modes.proofs.Yields.{right_set, right_stays}
+use Rattle.book_modes.proofs.ledger.Lending.{nobody_there, right_stored_there, giving_kept}
+use Rattle.book_modes.proofs.ledger.Yielding.{right_set, right_stays}
 use Rattle.book_modes.proofs.recording.RecordingMode.give.Goals as goal
 
 pub answer-right-requires-clause-free : goal.answer-right-requires-clause-free
@@ -20,7 +20,8 @@ returns-clause-given c =
     (record {
       rest = refl;
       many = length-set i.rights.items c.index.result c.answer-right.result.0;
-      page = rw (c.index.ensures.value) (right_set i.rights.items asked.page c.answer-right.result.0 row ∙ rw (← c.self.view_is) at c.answer-right.ensures.right);
+      page = rw (c.index.ensures.value) (right_set i.rights.items asked.page c.answer-right.result.0 row ∙
+          rw (← c.self.view_is) at c.answer-right.ensures.right);
       others = rw (c.index.ensures.value) (λ page ne. right_stays i.rights.items asked.page c.answer-right.result.0 page ne);
     })
 

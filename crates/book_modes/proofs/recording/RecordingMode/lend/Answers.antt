@@ -5,7 +5,7 @@ use Rattle.ft_types.specs.Counts.{count_at}
 use Rattle.input_log.specs.Waiting.{bells_of, others_of, next_going}
 use Rattle.book_modes.specs.Dues.{DueView, nothing_due, due_at, stop_before}
 use Rattle.book_modes.specs.Recordings.{RecordingView}
-use Rattle.book_modes.proofs.Ledgers.{lending_kept, lent_is_due}
+use Rattle.book_modes.proofs.ledger.Lending.{lending_kept, lent_is_due}
 use Rattle.book_modes.proofs.recording.RecordingMode.lend.Goals as goal
 
 pub returns-clause-lent : goal.returns-clause-lent
@@ -13,12 +13,14 @@ returns-clause-lent c =
     let row : c.args.hart < length c.self.inside.due = search rules in
     let there : slice_index_or c.self.inside.due c.index.result c.index-self-index.result ≡ due_at c.fill_due.new.self.due c.args.hart =
     ap (λ k. slice_index_or c.self.inside.due k c.index-self-index.result) c.index.ensures.value ∙
-    (get_or_default c.self.inside.due c.args.hart c.index-self-index.result nothing_due row ∙ ap (λ (v : RecordingView). due_at v.due c.args.hart) c.self.view_is) in
+    (get_or_default c.self.inside.due c.args.hart c.index-self-index.result nothing_due row ∙ ap (λ (v : RecordingView). due_at v.due c.args.hart)
+    c.self.view_is) in
     lent_is_due c.args.self.now c.fill_due.new.self c.args.hart c.args.count c.lent.result c.stop_before-stop.result c.fill_due.ensures.filled
     (c.lent.ensures ∙ ap (λ (d : DueView). lent_with c.stop_before-stop.result d.inputs d.edges) there)
     (c.stop_before-stop.ensures ∙
     λ i.
-    stop_before ((c.count_of-limit.ensures.value ∙ ap (λ (v : RecordingView). count_at v.limits c.args.hart) (c.self.view_is ∙ c.fill_due.ensures.rest)) i) c.args.count
+    stop_before ((c.count_of-limit.ensures.value ∙ ap (λ (v : RecordingView). count_at v.limits c.args.hart) (c.self.view_is ∙ c.fill_due.ensures.rest)) i)
+    c.args.count
     ((c.next.ensures ∙ ap (λ (v : RecordingView). next_going (bells_of v.desk c.args.hart) (others_of v.desk c.args.hart)) c.self.view_is) i))
 
 pub returns-clause-kept : goal.returns-clause-kept

@@ -1,7 +1,7 @@
 use Rattle.std.proofs.Common.{rules}
 use Rattle.hart_lease.specs.Leases.{whole}
 use Rattle.book_modes.specs.Recordings.{IsSettled, LogsInputs}
-use Rattle.book_modes.proofs.Settlings.{heard_there, logs_of_whole, settled_of_whole, settled_recorded}
+use Rattle.book_modes.proofs.ledger.Settling.{heard_there, logs_of_whole, settled_of_whole, settled_recorded}
 use Rattle.book_modes.proofs.recording.RecordingMode.settle.Goals as goal
 
 pub returns-clause-heard : goal.returns-clause-heard
@@ -14,4 +14,5 @@ pub returns-clause-kept : goal.returns-clause-kept
 returns-clause-kept c earlier =
     let l = c.args.lease.now in
     let is : IsSettled c.args.self.now l c.args.keep c.keep_rights.new.self = search rules in
-    λ s. settled_recorded c.args.self.now (whole earlier l) s c.args.keep c.keep_rights.new.self (settled_of_whole earlier c.args.self.now l c.args.keep c.keep_rights.new.self is)
+    λ s. settled_recorded c.args.self.now (whole earlier l) s c.args.keep c.keep_rights.new.self (settled_of_whole earlier c.args.self.now l c.args.keep
+    c.keep_rights.new.self is)

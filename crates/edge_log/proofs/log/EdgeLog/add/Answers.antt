@@ -16,21 +16,25 @@ returns-then-edge-get-clause-enough c =
     (λ (v : Edges). (all : List edge_of_theory) → IsEnough (edges_of v) all (start_of v) → IsEnough (edges_of v) (all ++ edge_as c.args.edge ∷ []) (start_of v))
     c.self.view_is
     (λ all enough.
-    enough_implied c.self.inside.start (map (λ r. r.edges) c.self.inside.rows) c.self.invariant c.args.edge all (inl (rw c.get.ensures.value at c.if-edge-get.true)) enough)
+    enough_implied c.self.inside.start (map (λ r. r.edges) c.self.inside.rows) c.self.invariant c.args.edge all
+    (inl (rw c.get.ensures.value at c.if-edge-get.true)) enough)
 
 pub returns-then-edge-get-clause-same_order : goal.returns-then-edge-get-clause-same_order
 returns-then-edge-get-clause-same_order c =
     subst
-    (λ (v : Edges). (all : List edge_of_theory) → IsEnough (edges_of v) all (start_of v) → IsSameOrder (edges_of v) (all ++ edge_as c.args.edge ∷ []) (start_of v))
+    (λ (v : Edges). (all : List edge_of_theory) → IsEnough (edges_of v) all (start_of v) → IsSameOrder (edges_of v) (all ++ edge_as c.args.edge ∷ [])
+    (start_of v))
     c.self.view_is
     (λ all enough.
     same_order _ _ _
-    (enough_implied c.self.inside.start (map (λ r. r.edges) c.self.inside.rows) c.self.invariant c.args.edge all (inl (rw c.get.ensures.value at c.if-edge-get.true)) enough))
+    (enough_implied c.self.inside.start (map (λ r. r.edges) c.self.inside.rows) c.self.invariant c.args.edge all
+    (inl (rw c.get.ensures.value at c.if-edge-get.true)) enough))
 
 pub add-requires-clause-last : goal.add-requires-clause-last
 add-requires-clause-last c =
     subst (λ l. All (λ y. y.at ≤ c.args.edge.at) l)
-    (old_is c.self.inside.start c.self.inside.rows c.self.invariant c.args.edge c.index.result c.index.ensures.value c.index.ensures.below c.index-self-index.result c.index-self-index.result)
+    (old_is c.self.inside.start c.self.inside.rows c.self.invariant c.args.edge c.index.result c.index.ensures.value c.index.ensures.below
+    c.index-self-index.result c.index-self-index.result)
     (subst (λ (v : Edges). All (λ y. y.at ≤ c.args.edge.at) (row_of v c.args.edge.hart)) (sym c.self.view_is) c.requires.last)
 
 pub invariant_of-self : goal.invariant_of-self
@@ -64,7 +68,8 @@ returns-clause-put c is =
 
 pub returns-clause-others_kept : goal.returns-clause-others_kept
 returns-clause-others_kept c h ne =
-    others_are c.self.inside.start c.self.inside.rows c.self.invariant c.args.edge c.index.result c.index.ensures.value c.index.ensures.below c.index-self-index.result
+    others_are c.self.inside.start c.self.inside.rows c.self.invariant c.args.edge c.index.result c.index.ensures.value c.index.ensures.below
+    c.index-self-index.result
     c.add.new.self h ne ∙
     ap (λ (v : Edges). row_of v h) c.self.view_is
 

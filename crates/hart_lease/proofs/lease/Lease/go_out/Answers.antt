@@ -1,5 +1,5 @@
 use Rattle.std.proofs.Common.{◌∙◌, sym, subst, length}
-use Rattle.hart_lease.proofs.Given.{bare_fresh_kept}
+use Rattle.hart_lease.proofs.pages.Given.{bare_fresh_kept}
 use Rattle.hart_lease.specs.Leases.{LeaseView}
 use Rattle.hart_lease.specs.Runs.{IsBareLease}
 use Rattle.hart_lease.proofs.lease.Lease.go_out.Goals as goal

@@ -4,4 +4,5 @@ use Rattle.hart_lease.proofs.lease.Lease.hears.Goals as goal
 
 pub returns : goal.returns
 returns c =
-    rw (← c.self.view_is, ← c.as_slice.ensures) (slice_eq-Decides inputs_told c.as_slice.result.now c.args.inputs.now c.same_inputs.result c.same_inputs.ensures)
+    rw (← c.self.view_is, ← c.as_slice.ensures) (slice_eq-Decides inputs_told c.as_slice.result.now c.args.inputs.now c.same_inputs.result
+    c.same_inputs.ensures)

@@ -4,11 +4,12 @@ use Rattle.hart_lease.specs.declared.lease_pages.Slot.TheVariants.{Readable}
 use Rattle.hart_lease.specs.Slots.{slot_at, is_writable, base_of}
 use Rattle.hart_lease.specs.Leases.{LeaseView, with_page_to_write}
 use Rattle.hart_lease.specs.Runs.{IsBareLease}
-use Rattle.hart_lease.proofs.Given.{bare_write_kept}
+use Rattle.hart_lease.proofs.pages.Given.{bare_write_kept}
 use Rattle.hart_lease.proofs.lease.Lease.raise_to_write.Goals as goal
 
 -- a lease whose page to read, which was this, is now to write
-raised : (l : LeaseView) (page : ℕ) (base present : List ℕ) → IsBareLease l → page < length l.slots → page < length l.taken → slot_at l.slots page ≡ Readable present →
+raised : (l : LeaseView) (page : ℕ) (base present : List ℕ) → IsBareLease l → page < length l.slots → page < length l.taken →
+    slot_at l.slots page ≡ Readable present →
     Readable base ≡ slot_at l.slots page → (base ≡ present) × IsBareLease (with_page_to_write l page present present)
 raised l page base present p lt row is was =
     let same : Readable base ≡ Readable present = was ∙ is in (
@@ -22,7 +23,18 @@ invariant_of-self c =
     let i = c.self.inside in
     let view = c.self.view_is in
     let l : LeaseView =
-    record { hart = i.hart; base = i.base; present = i.present; inputs = i.inputs.items; bases = i.bases.items; slots = i.pages; taken = i.taken; edges = i.edges.items; steps = i.present.count - i.base.count; stop = i.stop } in
+    record {
+      hart = i.hart;
+      base = i.base;
+      present = i.present;
+      inputs = i.inputs.items;
+      bases = i.bases.items;
+      slots = i.pages;
+      taken = i.taken;
+      edges = i.edges.items;
+      steps = i.present.count - i.base.count;
+      stop = i.stop;
+    } in
     let lt : c.args.page < length i.pages = omega (arith, ap (λ (l : LeaseView). length l.slots) view, c.requires.page) in
     let (same, kept) = raised l c.args.page c.in-Readable.base c.args.present c.self.invariant lt c.take.ensures.row
     (ap (λ (l : LeaseView). slot_at l.slots c.args.page) view ∙ c.requires.readable) (sym c.in-Readable.is ∙ c.put.ensures.old) in
@@ -33,7 +45,18 @@ invariant_of-self-in-Readable-2 c =
     let i = c.self.inside in
     let view = c.self.view_is in
     let l : LeaseView =
-    record { hart = i.hart; base = i.base; present = i.present; inputs = i.inputs.items; bases = i.bases.items; slots = i.pages; taken = i.taken; edges = i.edges.items; steps = i.present.count - i.base.count; stop = i.stop } in
+    record {
+      hart = i.hart;
+      base = i.base;
+      present = i.present;
+      inputs = i.inputs.items;
+      bases = i.bases.items;
+      slots = i.pages;
+      taken = i.taken;
+      edges = i.edges.items;
+      steps = i.present.count - i.base.count;
+      stop = i.stop;
+    } in
     let lt : c.args.page < length i.pages = omega (arith, ap (λ (l : LeaseView). length l.slots) view, c.requires.page) in
     let (same, kept) = raised l c.args.page c.in-Readable.base c.args.present c.self.invariant lt c.take.ensures.row
     (ap (λ (l : LeaseView). slot_at l.slots c.args.page) view ∙ c.requires.readable) (sym c.in-Readable.is ∙ c.put.ensures.old) in

@@ -1,7 +1,7 @@
 use Rattle.std.proofs.Common.{◌-◌, ◌∙◌, ◌<◌, ap, length, arith}
 use Rattle.hart_lease.specs.Slots.{slot_at}
 use Rattle.hart_lease.specs.Leases.{LeaseView}
-use Rattle.hart_lease.proofs.Given.{bare_read_kept}
+use Rattle.hart_lease.proofs.pages.Given.{bare_read_kept}
 use Rattle.hart_lease.proofs.lease.Lease.take_to_read.Goals as goal
 
 pub invariant_of-self : goal.invariant_of-self
@@ -11,5 +11,16 @@ invariant_of-self c =
     let lt : c.args.page < length i.pages = omega (arith, ap (λ (l : LeaseView). length l.slots) view, c.requires.page) in
     let row : c.args.page < length i.taken = c.take.ensures.row in
     rw (c.put.ensures.new, c.take.ensures.value, c.count.ensures.value)
-    (bare_read_kept (record { hart = i.hart; base = i.base; present = i.present; inputs = i.inputs.items; bases = i.bases.items; slots = i.pages; taken = i.taken; edges = i.edges.items; steps = i.present.count - i.base.count; stop = i.stop })
+    (bare_read_kept (record {
+      hart = i.hart;
+      base = i.base;
+      present = i.present;
+      inputs = i.inputs.items;
+      bases = i.bases.items;
+      slots = i.pages;
+      taken = i.taken;
+      edges = i.edges.items;
+      steps = i.present.count - i.base.count;
+      stop = i.stop;
+    })
     c.args.page c.args.here lt row (ap (λ (l : LeaseView). slot_at l.slots c.args.page) view ∙ c.requires.missing) c.self.invariant)

@@ -15,5 +15,6 @@ loop-content-init c =
     let m = c.args.self.now.fragments in (
       ap (λ xs. xs ++ listed key_of c.into_iter-content-iterator.result) c.new-keys.ensures.items ∙ ap (listed key_of) gives.0,
       subst (λ (es : List (Place × Content)). AllByRecursion (λ e. FitsAt fragment_part (λ f. f.key ≡ key_of e.0) (Some e.1)) es) (sym gives.0)
-          (entries_fit place_cmp fragment_part (λ p f. f.key ≡ key_of p) m c.requires m.entries (recursion_from_All (λ e. get place_cmp m e.0 ≡ Some e.1) m.entries gives.6)),
+          (entries_fit place_cmp fragment_part (λ p f. f.key ≡ key_of p) m c.requires m.entries (recursion_from_All (λ e. get place_cmp m e.0 ≡ Some e.1)
+          m.entries gives.6)),
     )

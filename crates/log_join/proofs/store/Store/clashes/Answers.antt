@@ -14,7 +14,9 @@ returns c =
     let guest = c.self.inside.guest in
     let s = c.self.inside.shelves in
     let openings = c.count_clashes.ensures.count
-    ∙ clashes_shown nat_cmp_total exact_unsigned (λ (z : ℕ). z) nat_cmp_total opening_part (IsOpeningOf guest) s.openings c.count_clashes.ensures.ordered c.self.invariant.terms in
+    ∙ clashes_shown nat_cmp_total exact_unsigned (λ (z : ℕ). z) nat_cmp_total opening_part (IsOpeningOf guest) s.openings c.count_clashes.ensures.ordered
+    c.self.invariant.terms in
     let fragments = c.count_clashes-2.ensures.count
-    ∙ clashes_shown keys_total keys_exact key_of places_total fragment_part (λ (p : Place). IsFragmentOf guest (key_of p)) s.fragments c.count_clashes-2.ensures.ordered c.self.invariant.places in
+    ∙ clashes_shown keys_total keys_exact key_of places_total fragment_part (λ (p : Place). IsFragmentOf guest (key_of p)) s.fragments
+    c.count_clashes-2.ensures.ordered c.self.invariant.places in
     (λ i. openings i + fragments i) ∙ ap clashes_of c.self.view_is

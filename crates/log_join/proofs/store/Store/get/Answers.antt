@@ -19,7 +19,8 @@ returns-clause-found c =
     let here = get place_cmp c.self.inside.shelves.fragments place in
     subst (λ (x : Cell FragmentParts). TellsFragment c.found.result x)
     (sym (cell_shown keys_total key_of fragment_part c.self.inside.shelves.fragments place) ∙ ap (λ v. fragment_at v c.args.key) c.self.view_is)
-    (tells_fragment c.found.result here (IsFragmentOf c.self.inside.guest c.args.key) (subst (λ (x : Option Content). TellsContent c.found.result x) (c.get.ensures.value ∙ ap (λ p. get place_cmp c.self.inside.shelves.fragments p) c.from.ensures) c.found.ensures) (c.self.invariant.places place))
+    (tells_fragment c.found.result here (IsFragmentOf c.self.inside.guest c.args.key) (subst (λ (x : Option Content). TellsContent c.found.result x)
+    (c.get.ensures.value ∙ ap (λ p. get place_cmp c.self.inside.shelves.fragments p) c.from.ensures) c.found.ensures) (c.self.invariant.places place))
 
 pub returns-clause-rules : goal.returns-clause-rules
 returns-clause-rules c = subst IsStore c.self.view_is (is_store c.self.inside.guest c.self.inside.shelves c.self.invariant)

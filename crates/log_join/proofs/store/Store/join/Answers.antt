@@ -7,7 +7,8 @@ use Rattle.log_join.proofs.Stores.{same_view, met_view, met_fits, though_err}
 use Rattle.log_join.proofs.store.Store.join.Goals as goal
 
 pub returns-in_err-join-clause-err : goal.returns-in_err-join-clause-err
-returns-in_err-join-clause-err c = though_err c.from_residual.result _ (same_view c.self.inside.guest c.self.inside.shelves c.join.new.self c.in_err-join.ensures.err ∙ c.self.view_is)
+returns-in_err-join-clause-err c = though_err c.from_residual.result _ (same_view c.self.inside.guest c.self.inside.shelves c.join.new.self
+    c.in_err-join.ensures.err ∙ c.self.view_is)
 
 pub returns-clause-joined : goal.returns-clause-joined
 returns-clause-joined c =

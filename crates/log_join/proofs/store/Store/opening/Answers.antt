@@ -18,7 +18,8 @@ returns-clause-found c =
     let here = get nat_cmp c.self.inside.shelves.openings c.args.term in
     subst (λ (x : Cell OpeningParts). TellsOpening c.found.result x)
     (sym (cell_shown nat_cmp_total (λ (z : ℕ). z) opening_part c.self.inside.shelves.openings c.args.term) ∙ ap (λ v. opening_at v c.args.term) c.self.view_is)
-    (tells_opening c.found.result here (IsOpeningOf c.self.inside.guest c.args.term) (subst (λ (x : Option Content). TellsContent c.found.result x) c.get.ensures.value c.found.ensures) (c.self.invariant.terms c.args.term))
+    (tells_opening c.found.result here (IsOpeningOf c.self.inside.guest c.args.term) (subst (λ (x : Option Content). TellsContent c.found.result x)
+    c.get.ensures.value c.found.ensures) (c.self.invariant.terms c.args.term))
 
 pub returns-clause-rules : goal.returns-clause-rules
 returns-clause-rules c = subst IsStore c.self.view_is (is_store c.self.inside.guest c.self.inside.shelves c.self.invariant)

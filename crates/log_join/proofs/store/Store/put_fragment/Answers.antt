@@ -9,9 +9,11 @@ use Rattle.log_join.proofs.Stores.{IsTaken, puts_fragment, fragment_fits}
 use Rattle.log_join.proofs.store.Store.put_fragment.Goals as goal
 
 -- what `put_at` did, at the fragment's own key
-taken_at : (c : goal.After-put_at) → IsTaken place_cmp c.self.inside.shelves.fragments c.put_at.new.shelf (place_of c.args.fragment.key) (Log c.args.fragment) c.put_at.result
+taken_at : (c : goal.After-put_at) → IsTaken place_cmp c.self.inside.shelves.fragments c.put_at.new.shelf (place_of c.args.fragment.key) (Log c.args.fragment)
+    c.put_at.result
 taken_at c =
-    subst (λ (p : Place). IsTaken place_cmp c.self.inside.shelves.fragments c.put_at.new.shelf p (Log c.args.fragment) c.put_at.result) (c.from-place.ensures ∙ ap place_of c.key.ensures)
+    subst (λ (p : Place). IsTaken place_cmp c.self.inside.shelves.fragments c.put_at.new.shelf p (Log c.args.fragment) c.put_at.result) (c.from-place.ensures ∙
+    ap place_of c.key.ensures)
     (record { answers = c.put_at.ensures.answer; takes = c.put_at.ensures.taken; keeps = c.put_at.ensures.err; lacks = c.put_at.ensures.memory })
 
 pub invariant_of-self : goal.invariant_of-self

@@ -14,6 +14,8 @@ returns c =
     let guest = c.self.inside.guest in
     let are : AreTerms (view_of guest s) (listed (λ (z : ℕ). z) s.openings.entries) = record {
       rising = listed_rising nat_cmp (λ (z : ℕ). z) s.openings.entries c.terms.ensures.ordered;
-      exact = λ t. listed_exact nat_cmp_total (λ (z : ℕ). z) nat_cmp_total opening_part (IsOpeningOf guest t) exact_unsigned s.openings t c.terms.ensures.ordered (c.self.invariant.terms t);
+      exact = λ t. listed_exact nat_cmp_total (λ (z : ℕ). z) nat_cmp_total opening_part (IsOpeningOf guest t) exact_unsigned s.openings t
+          c.terms.ensures.ordered (c.self.invariant.terms t);
     } in
-    IfOk-weaker c.terms.result _ _ (λ ts e. subst (λ (xs : List ℕ). AreTerms c.args.self.now xs) (sym e) (subst (λ (v : StoreView). AreTerms v (listed (λ (z : ℕ). z) s.openings.entries)) c.self.view_is are)) c.terms.ensures.listed
+    IfOk-weaker c.terms.result _ _ (λ ts e. subst (λ (xs : List ℕ). AreTerms c.args.self.now xs) (sym e)
+    (subst (λ (v : StoreView). AreTerms v (listed (λ (z : ℕ). z) s.openings.entries)) c.self.view_is are)) c.terms.ensures.listed

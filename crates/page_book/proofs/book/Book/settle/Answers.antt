@@ -4,9 +4,9 @@ use Rattle.guest_image.specs.Machine.{MachineState, with_hart}
 use Rattle.hart_lease.specs.Leases.{LeaseView, outputs_of, whole_in, laid, IsLentBy}
 use Rattle.hart_lease.specs.OpenLeases.{open_at}
 use Rattle.book_modes.specs.Modes.{IsSettling, KeepsSettling, SettlesHeard}
-use Rattle.hart_lease.proofs.Bare.{longer, longer_there, cut_back, laid_longer, base_bare}
+use Rattle.hart_lease.proofs.steps.EarlierOutputs.{longer, longer_there, cut_back, laid_longer, base_bare}
 use Rattle.page_book.proofs.Kept.{settled_kept}
-use Rattle.hart_lease.proofs.Journals.{stands_ours}
+use Rattle.hart_lease.proofs.journals.GoingOn.{stands_ours}
 use Rattle.page_book.proofs.book.Book.settle.Goals as goal
 
 -- where its hart stands, the machine has its outputs with the lease's behind them
@@ -15,7 +15,8 @@ made_longer : (m new : MachineState) (l : LeaseView) (i : ℕ) (h : Hart) (more 
 made_longer m new l i h more at outs is = rw (← at, ← outs) is
 
 -- so it is as it was, once they are cut off again
-made_back : (m new back : MachineState) (l : LeaseView) (i : ℕ) (h : Hart) (more outs : List (ℕ × ℕ)) → i ≡ l.hart → more ≡ l.present.outputs → outs ≡ h.outputs →
+made_back : (m new back : MachineState) (l : LeaseView) (i : ℕ) (h : Hart) (more outs : List (ℕ × ℕ)) → i ≡ l.hart → more ≡ l.present.outputs →
+    outs ≡ h.outputs →
     slice_get m.harts i ≡ Some h → new ≡ with_hart m i (longer h more) →
     ((k : Hart) → slice_get new.harts i ≡ Some k → back ≡ with_hart new i (record k { outputs = take (length outs) k.outputs })) → back ≡ m
 made_back m new back l i h more outs at all own is new_is cut =
@@ -44,7 +45,8 @@ pub invariant_of-self-in-Err-settle : goal.invariant_of-self-in-Err-settle
 invariant_of-self-in-Err-settle g c =
     let i = c.self.inside in
     let back = made_back i.machine c.add_outputs.new.self c.cut_outputs.new.self c.lease.inside.own c.hart-hart.result c.hart.result.now c.outputs.result.now
-    c.outputs-before.result.now c.hart-hart.ensures.value c.outputs.ensures c.outputs-before.ensures c.hart.ensures (c.in-Ok.ensures.added c.hart.result.now c.hart.ensures)
+    c.outputs-before.result.now c.hart-hart.ensures.value c.outputs.ensures c.outputs-before.ensures c.hart.ensures
+    (c.in-Ok.ensures.added c.hart.result.now c.hart.ensures)
     c.cut_outputs.ensures in
     rw (back, c.in-Err-settle.ensures.err, c.reserve.ensures.items) c.self.invariant
 
@@ -52,7 +54,8 @@ pub returns-in-Err-settle-clause-kept : goal.returns-in-Err-settle-clause-kept
 returns-in-Err-settle-clause-kept g c =
     let i = c.self.inside in
     let back = made_back i.machine c.add_outputs.new.self c.cut_outputs.new.self c.lease.inside.own c.hart-hart.result c.hart.result.now c.outputs.result.now
-    c.outputs-before.result.now c.hart-hart.ensures.value c.outputs.ensures c.outputs-before.ensures c.hart.ensures (c.in-Ok.ensures.added c.hart.result.now c.hart.ensures)
+    c.outputs-before.result.now c.hart-hart.ensures.value c.outputs.ensures c.outputs-before.ensures c.hart.ensures
+    (c.in-Ok.ensures.added c.hart.result.now c.hart.ensures)
     c.cut_outputs.ensures in
     rw (back, c.in-Err-settle.ensures.err, c.reserve.ensures.items) c.self.view_is
 
@@ -107,6 +110,15 @@ invariant_of-self-2 g c =
     } in
     let kept : KeepsSettling (g.M.Mode.keeps i.mode) (g.M.Mode.keeps c.settle.new.self) w = c.in-Ok-settle.ensures.kept earlier in
     let hears : SettlesHeard (g.M.Mode.keeps i.mode) (g.M.Mode.heard i.mode) (g.M.Mode.heard c.settle.new.self) w = c.in-Ok-settle.ensures.heard earlier in
-    rw (laid_is, c.add_stretch.ensures, c.reserve.ensures.items, c.take_back-steps.ensures.steps, c.index.ensures.value, c.hart-hart.ensures.value, c.settle.ensures.stops, c.settle.ensures.obeyed)
+    rw (
+      laid_is,
+      c.add_stretch.ensures,
+      c.reserve.ensures.items,
+      c.take_back-steps.ensures.steps,
+      c.index.ensures.value,
+      c.hart-hart.ensures.value,
+      c.settle.ensures.stops,
+      c.settle.ensures.obeyed,
+    )
     (settled_kept i.start i.machine i.journal.items i.leases (g.M.Mode.stops i.mode) (g.M.Mode.obeyed i.mode) (g.M.Mode.heard i.mode)
     (g.M.Mode.heard c.settle.new.self) _ _ w c.self.invariant (c.hart-hart.ensures.kept.with_any earlier) ours (hears.hears settling) (kept settling))

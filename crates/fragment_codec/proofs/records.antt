@@ -1,0 +1,3 @@
+-- The rules of records.
+pub mod Slots
+pub mod Rules

@@ -1,0 +1,63 @@
+-- What the walk through the records of a fragment keeps, and what reading a frame again needs of the rules.
+use Rattle.std.proofs.Common.{◌≡◌, ◌+◌, ◌<◌, ◌≤◌, ◌^◌, ℕ, suc, Bool, true, false, List, ◌∷◌, Some, None, length, drop, get_or, refl, sym, ap, ◌∙◌, add-one}
+use Rattle.std.proofs.Common.{drop-cons, arith}
+use Rattle.std.specs.List.{AllByRecursion}
+use Rattle.std.proofs.lemmas.List.{drop_all}
+use Rattle.ft_types.specs.Counts.{IsCount}
+use Rattle.input_log.specs.declared.Input.{Input as HartInput}
+use Rattle.input_log.specs.Inputs.{IsInputOf}
+use Rattle.input_log.specs.declared.Input.TheVariants.{Timer, Word, Bell}
+use Rattle.fragment_codec.specs.declared.types.Record.{Record}
+use Rattle.fragment_codec.specs.declared.types.Record.TheVariants.{Edge as EdgeRecord, Input as InputRecord}
+use Rattle.fragment_codec.specs.Rules.{FragmentParts, OpeningParts, IsFragment, IsOpening, IsRecordOf, count_of}
+use Rattle.fragment_codec.specs.Slots.{slot_after, are_right}
+use Rattle.fragment_codec.proofs.records.Slots.{all_map}
+
+pub are_right-step : (harts hart to at slot : ℕ) (rs : List Record) (i : ℕ) (r : Record) (n : ℕ) (total : Bool) → i < length rs
+    → r ≡ get_or rs i r → slot_after harts hart to at slot r ≡ Some n → are_right harts hart to at slot (drop i rs) ≡ total
+    → are_right harts hart to (count_of r) n (drop (i + 1) rs) ≡ total
+unfolding are_right
+are_right-step harts hart to at slot rs i r n total lt is e so_far =
+    let one : are_right harts hart to at slot (r ∷ drop (suc i) rs) ≡ are_right harts hart to (count_of r) n (drop (suc i) rs) = rw e refl in
+    rw add-one (sym one ∙ ap (λ (x : Record). are_right harts hart to at slot (x ∷ drop (suc i) rs)) is ∙ ap (are_right harts hart to at slot)
+    (sym (drop-cons rs i r lt)) ∙ so_far)
+
+pub are_right-none : (harts hart to at slot : ℕ) (rs : List Record) (i : ℕ) (r : Record) → i < length rs
+    → r ≡ get_or rs i r → slot_after harts hart to at slot r ≡ None → are_right harts hart to at slot (drop i rs) ≡ false
+unfolding are_right
+are_right-none harts hart to at slot rs i r lt is e =
+    let one : are_right harts hart to at slot (r ∷ drop (suc i) rs) ≡ false = rw e refl in
+    ap (are_right harts hart to at slot) (drop-cons rs i r lt) ∙ ap (λ (x : Record). are_right harts hart to at slot (x ∷ drop (suc i) rs)) (sym is) ∙ one
+
+pub are_right-all : (harts hart to at slot : ℕ) (rs : List Record) (i : ℕ) → length rs ≤ i → are_right harts hart to at slot (drop i rs) ≡ true
+unfolding are_right
+are_right-all harts hart to at slot rs i le = rw (drop_all i rs le) refl
+
+-- ---- what the fields have room for
+
+abbrev pub FitsInput : HartInput → Type 0
+FitsInput Timer = Unit {0}
+FitsInput (Word w) = w < 2 ^ 32
+FitsInput (Bell source) = source < 8
+
+abbrev pub FitsRecord : ℕ → Record → Type 0
+FitsRecord hart (EdgeRecord edge) = (edge.hart ≡ hart) × (edge.at < 2 ^ 64) × (edge.other < 8) × (edge.after < 2 ^ 64)
+FitsRecord hart (InputRecord at input) = (at < 2 ^ 64) × FitsInput input
+
+input_fits : (harts : ℕ) (i : HartInput) → harts ≤ 8 → IsInputOf harts i → FitsInput i
+input_fits harts Timer le h = tt
+input_fits harts (Word w) le h = h
+input_fits harts (Bell source) le h = omega (arith, h)
+
+record_fits : (harts hart from to : ℕ) → harts ≤ 8 → to < 2 ^ 48 → (r : Record) → IsRecordOf harts hart from to r → FitsRecord hart r
+record_fits harts hart from to le small (EdgeRecord e) h = (h.0.0, omega (arith, h.2), omega (arith, h.0.1), omega (arith, h.0.4))
+record_fits harts hart from to le small (InputRecord c i) h = (omega (arith, h.2), input_fits harts i le h.0)
+
+pub records_fit : (f : FragmentParts) → IsFragment f → AllByRecursion (FitsRecord f.key.hart) f.records
+records_fit f h = all_map _ (FitsRecord f.key.hart) (record_fits f.guest.harts f.key.hart f.from f.to h.guest.limit h.end) f.records h.records.each
+
+pub counts_fit : (o : OpeningParts) → IsOpening o → AllByRecursion (λ n. n < 2 ^ 64) o.base
+counts_fit o h = all_map IsCount (λ n. n < 2 ^ 64) (λ n lt. omega (arith, lt)) o.base h.counts
+
+pub opening_counts : (o : OpeningParts) → IsOpening o → (length o.base ≤ 8) × AllByRecursion IsCount o.base
+opening_counts o h = (omega (arith, h.base, h.guest.limit), h.counts)

@@ -1,0 +1,5 @@
+-- Streams of frames.
+pub mod Advances
+pub mod Pieces
+pub mod Readings
+pub mod Faults

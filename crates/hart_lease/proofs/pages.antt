@@ -1,0 +1,7 @@
+-- The pages of leases.
+pub mod Laid
+pub mod Slots
+pub mod Given
+pub mod Counts
+pub mod Equal
+pub mod Places

@@ -1,0 +1,6 @@
+-- What a leg gathers of a store.
+pub mod Records
+pub mod Inputs
+pub mod Pieces
+pub mod Ends
+pub mod Facts

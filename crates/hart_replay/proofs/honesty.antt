@@ -1,0 +1,6 @@
+-- Plans and replays of honest frames.
+pub mod Legs
+pub mod Plans
+pub mod Replays
+pub mod Schedules
+pub mod Primaries

@@ -1,0 +1,4 @@
+-- A leg that is replayed round by round.
+pub mod Leases
+pub mod Sizes
+pub mod Ends
