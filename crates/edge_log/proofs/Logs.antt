@@ -1,10 +1,10 @@
 -- The rows of a log, and what they say in the theory's words.
 use Rattle.std.proofs.Common.{◌≡◌, ◌≢◌, ◌⊎◌, ◌↔◌, ℕ, zero, suc, ◌<◌, ◌≤◌, List, [], ◌∷◌, ◌++◌, length, get_or, set, map, arith, refl, sym, ap, subst, ◌∙◌, inl}
-use Rattle.std.proofs.Common.{inr, le_trans, le_refl, le_of_eq, drop, add-one, All, Contains, Result, Ok, Err, IfOk, length-set, get_or-set_same}
+use Rattle.std.proofs.Common.{inr, le_trans, le_refl, le_of_eq, All, Contains, Result, Ok, Err, IfOk, length-set, get_or-set_same}
 use Rattle.std.proofs.Common.{get_or-set_other}
 use Rattle.std.specs.List.{flat_map, AllByRecursion}
 use Rattle.std.proofs.lemmas.Bool.{cases_lt, cases_eq}
-use Rattle.std.proofs.lemmas.List.{drop_more, length-map, map-set, set-get_or}
+use Rattle.std.proofs.lemmas.List.{length-map, map-set, set-get_or}
 use Rattle.std.proofs.lemmas.List.Elements.{Contains-append_cases, Contains-append_left, Contains-append_right, All-contains}
 use Rattle.ft_types.specs.Counts.{count_at}
 use Rattle.interleaving.specs.Log as theory
@@ -241,13 +241,6 @@ module _ (start : List ℕ) (rows : List (List Edge)) (log : IsLog start rows) w
                   absurd (omega arith)
             ]
 
--- one more element at the front of what is left
-pub drop_one : (xs : List EdgesOfOne) (i : ℕ) (x d : EdgesOfOne) (rest : List EdgesOfOne) → i < length xs → x ≡ get_or xs i d → rest ≡ drop (suc i) xs →
-    x ∷ rest ≡ drop i xs
-drop_one xs i x d rest below is rest_is =
-    let e : drop i xs ≡ get_or xs i d ∷ drop (suc i) xs = drop_more xs i d below ∙ ap (λ n. get_or xs i d ∷ drop n xs) (add-one i) in
-    ap (λ x. x ∷ rest) is ∙ (ap (λ l. get_or xs i d ∷ l) rest_is ∙ sym e)
-
 not_said : (result : Result Added Memory) (e : Edge) (row : List Edge) → ((result ≡ Ok Implied) ↔ SaysAsMuch row e) → result ≡ Ok New → SaysAsMuch row e → ⊥
 not_said result e row implied is says = let f = implied.1 says in cc
 
@@ -360,3 +353,8 @@ pub no_edges : (rows : List EdgesOfOne) → AllByRecursion (λ r. r.edges ≡ []
 no_edges [] none h = refl
 no_edges (r ∷ rows) none zero = none.0
 no_edges (r ∷ rows) none (suc h) = no_edges rows none.1 h
+
+-- nor have they any together
+pub none_at_all : (rows : List EdgesOfOne) → AllByRecursion (λ r. r.edges ≡ []) rows → flat_map (map edge_as) (map (λ r. r.edges) rows) ≡ []
+none_at_all [] none = refl
+none_at_all (r ∷ rows) none = rw none.0 (none_at_all rows none.1)

@@ -12,6 +12,7 @@ use crate::row::Row;
 use crate::{Added, Edge};
 use ft_types::{Count, Counts, Hart, Memory};
 use std::alloc::Global;
+use std::array;
 use std::marker::Model;
 use std::option::Option;
 use std::result::Result;
@@ -45,16 +46,7 @@ impl EdgeLog {
     {
         EdgeLog {
             start,
-            rows: [
-                Row::new(alloc),
-                Row::new(alloc),
-                Row::new(alloc),
-                Row::new(alloc),
-                Row::new(alloc),
-                Row::new(alloc),
-                Row::new(alloc),
-                Row::new(alloc),
-            ],
+            rows: array::from_fn(|_| Row::new(alloc)),
         }
     }
 
@@ -64,16 +56,7 @@ impl EdgeLog {
     {
         Ok(EdgeLog {
             start: self.start,
-            rows: [
-                self.rows[0].copy()?,
-                self.rows[1].copy()?,
-                self.rows[2].copy()?,
-                self.rows[3].copy()?,
-                self.rows[4].copy()?,
-                self.rows[5].copy()?,
-                self.rows[6].copy()?,
-                self.rows[7].copy()?,
-            ],
+            rows: self.rows.each_ref().try_map(|row| row.copy())?,
         })
     }
 

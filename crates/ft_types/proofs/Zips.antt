@@ -1,11 +1,24 @@
 -- Two rows, place by place.
 use Rattle.std.proofs.Common.{◌≡◌, ℕ, zero, suc, ◌+◌, ◌-◌, ◌<◌, List, [], ◌∷◌, ◌++◌, length, take, drop, refl, ap, sym, ◌∙◌, arith, replicate, min, max}
-use Rattle.std.proofs.Common.{get_or, slice_set, length-set, subst}
-use Rattle.std.specs.List.{AllByRecursion}
+use Rattle.std.proofs.Common.{get_or, slice_set, length-set, slice_index_or, subst, map}
+use Rattle.std.specs.List.{AllByRecursion, AllZip}
 use Rattle.std.proofs.lemmas.List.{take_more, take_more_set, drop-set-lt, drop-drop, drop-replicate}
 use Rattle.std.proofs.lemmas.Grind.{common_steps}
 use Rattle.ft_types.specs.Rows.{IsRow, length_of_view}
 use Rattle.ft_types.specs.Counts.{zipped, IsCount}
+
+-- a list whose elements are each what another list's element is made into is that list, each made so
+pub all_made : {A B : Type 0} (make : A → B) (R : A → B → Type 0) → ((x : A) (y : B) → R x y → y ≡ make x) → (xs : List A) (ys : List B) → AllZip R xs ys →
+    ys ≡ map make xs
+all_made make R is [] [] zip = refl
+all_made make R is [] (y ∷ ys) zip = absurd zip
+all_made make R is (x ∷ xs) [] zip = absurd zip
+all_made make R is (x ∷ xs) (y ∷ ys) zip = rw (is x y zip.0, all_made make R is xs ys zip.1) refl
+
+-- what holds at each place holds of each element
+pub each_at : {A : Type 0} (P : A → Type 0) (xs : List A) → ((i : ℕ) (d : A) → i < length xs → P (slice_index_or xs i d)) → AllByRecursion P xs
+each_at P [] at = tt
+each_at P (x ∷ xs) at = (at 0 x (omega arith), each_at P xs (λ i d lt. at (suc i) d (omega (arith, lt))))
 
 pub length-zipped : (f : ℕ → ℕ → ℕ) (xs ys : List ℕ) → length xs ≡ length ys → length (zipped f xs ys) ≡ length xs
 length-zipped f [] ys e = refl

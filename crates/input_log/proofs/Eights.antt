@@ -1,18 +1,12 @@
 -- Tables with a value for each hart.
-use Rattle.std.proofs.Common.{◌≡◌, ◌≢◌, ℕ, zero, suc, ◌-◌, ◌<◌, List, [], ◌∷◌, ◌++◌, get_or, length, take, drop, add-one, length-append, arith, inl, inr, refl}
-use Rattle.std.proofs.Common.{sym, ap, ◌∙◌}
+use Rattle.std.proofs.Common.{◌≡◌, ◌≢◌, ℕ, zero, suc, ◌-◌, List, [], ◌∷◌, ◌++◌, get_or, length, take, length-append, arith, inl, inr, refl}
+use Rattle.std.proofs.Common.{sym, ◌∙◌}
 use Rattle.std.specs.List.{AllByRecursion}
 use Rattle.std.proofs.Math.Seq.{take-append_seam}
 use Rattle.std.proofs.lemmas.Bool.{cases_eq}
-use Rattle.std.proofs.lemmas.List.{drop_more, ext_get_or}
+use Rattle.std.proofs.lemmas.List.{ext_get_or}
 
 module _ {A : Type 0} where
-  -- one more value at the front of what is left
-  pub drop_one : (xs : List A) (i : ℕ) (x d : A) (rest : List A) → i < length xs → x ≡ get_or xs i d → rest ≡ drop (suc i) xs → x ∷ rest ≡ drop i xs
-  drop_one xs i x d rest below is rest_is =
-      let e : drop i xs ≡ get_or xs i d ∷ drop (suc i) xs = drop_more xs i d below ∙ ap (λ n. get_or xs i d ∷ drop n xs) (add-one i) in
-      ap (λ x. x ∷ rest) is ∙ (ap (λ l. get_or xs i d ∷ l) rest_is ∙ sym e)
-
   -- where all are the same, each is
   pub all_same : (xs : List A) (d : A) → AllByRecursion (λ x. x ≡ d) xs → (h : ℕ) → get_or xs h d ≡ d
   all_same [] d same h = refl

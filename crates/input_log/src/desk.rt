@@ -10,6 +10,7 @@ use crate::{Input, WaitingBell};
 use ft_types::{Count, Hart, Memory};
 use smallvec::SmallVec;
 use std::alloc::Global;
+use std::array;
 use std::marker::Model;
 use std::option::Option;
 use std::result::Result;
@@ -40,16 +41,7 @@ impl Desk {
         ensures others { (hart : ℕ) → others_of result hart ≡ [] }
     {
         Desk {
-            queues: [
-                Queue::new(alloc),
-                Queue::new(alloc),
-                Queue::new(alloc),
-                Queue::new(alloc),
-                Queue::new(alloc),
-                Queue::new(alloc),
-                Queue::new(alloc),
-                Queue::new(alloc),
-            ],
+            queues: array::from_fn(|_| Queue::new(alloc)),
         }
     }
 
@@ -58,16 +50,7 @@ impl Desk {
         ensures { IfOk result (λ desk. desk ≡ self.now) }
     {
         Ok(Desk {
-            queues: [
-                self.queues[0].copy()?,
-                self.queues[1].copy()?,
-                self.queues[2].copy()?,
-                self.queues[3].copy()?,
-                self.queues[4].copy()?,
-                self.queues[5].copy()?,
-                self.queues[6].copy()?,
-                self.queues[7].copy()?,
-            ],
+            queues: self.queues.each_ref().try_map(|queue| queue.copy())?,
         })
     }
 

@@ -9,6 +9,7 @@ use crate::Input;
 use crate::row::Row;
 use ft_types::{Count, Hart, Memory};
 use std::alloc::Global;
+use std::array;
 use std::marker::Model;
 use std::option::Option;
 use std::result::Result;
@@ -38,16 +39,7 @@ impl InputLog {
         ensures { (hart : ℕ) → inputs_of result hart ≡ [] }
     {
         InputLog {
-            rows: [
-                Row::new(alloc),
-                Row::new(alloc),
-                Row::new(alloc),
-                Row::new(alloc),
-                Row::new(alloc),
-                Row::new(alloc),
-                Row::new(alloc),
-                Row::new(alloc),
-            ],
+            rows: array::from_fn(|_| Row::new(alloc)),
         }
     }
 
@@ -56,16 +48,7 @@ impl InputLog {
         ensures { IfOk result (λ log. log ≡ self.now) }
     {
         Ok(InputLog {
-            rows: [
-                self.rows[0].copy()?,
-                self.rows[1].copy()?,
-                self.rows[2].copy()?,
-                self.rows[3].copy()?,
-                self.rows[4].copy()?,
-                self.rows[5].copy()?,
-                self.rows[6].copy()?,
-                self.rows[7].copy()?,
-            ],
+            rows: self.rows.each_ref().try_map(|row| row.copy())?,
         })
     }
 

@@ -1,14 +1,13 @@
 //! Guests and calls that fall by chance: what a primary recorded is cut into pieces, shuffled over streams and replayed.
 
+use fixtures::{Crew, Dice};
 use fragment_codec::{Frame, Opening, Sealed, cut_pieces, write_frame};
 use ft_types::{Count, Counts, Hart, MemorySink, MemorySource};
 use guest_image::{Image, Machine, read_image};
 use input_log::Input;
 use log_streams::replay_streams;
-use page_book::{Book, Keep, Lease, Need, Recording};
-use rv32_hart::Tick;
+use page_book::{Book, Keep, Recording};
 use std::alloc::Global;
-use std::mem;
 use std::test::Fail;
 
 /// Before the loop: lui x1, 80001; lui x4, f0000; csrrs x5, mhartid, x0; andi x5, x5, -2.
@@ -32,21 +31,6 @@ static WORDS: [&[u8]; 10] = [
     b"00522823\n",
 ];
 
-/// Numbers that look as if they fell by chance, the same ones for the same seed.
-#[derive(Drop)]
-struct Dice {
-    state: u64,
-}
-
-impl Dice {
-    fn roll(&mut self) -> u8 {
-        self.state ^= self.state << 13;
-        self.state ^= self.state >> 7;
-        self.state ^= self.state << 17;
-        self.state.to_le_bytes()[4]
-    }
-}
-
 /// A guest whose harts go round twelve words that fall by chance.
 fn guest(alloc: Global, harts: u8, dice: &mut Dice) -> Result<Image, Fail> {
     let mut text = b"harts ".to_vec(alloc)?;
@@ -60,130 +44,62 @@ fn guest(alloc: Global, harts: u8, dice: &mut Dice) -> Result<Image, Fail> {
     Ok(read_image(alloc, &text).map_err(|_| "image")?)
 }
 
-/// A recording book, with a place for each hart's open lease.
-struct Primary {
-    book: Book<Recording>,
-    leases: [Option<Lease>; 8],
+/// Leases over a recording book of the image, each hart with this limit.
+fn primary_of(alloc: Global, image: &Image, limit: Count) -> Result<Crew<Recording>, Fail> {
+    let start = Machine::boot(alloc, image)?;
+    let limits = Counts::from_slice(&[limit; 8][..usize::from(image.harts())]);
+    let limits = limits.ok_or("limits")?;
+    if start.harts() != limits.harts() {
+        return Err("limits".into());
+    }
+    Ok(Crew::new(Book::<Recording>::begin(alloc, start, limits)?))
 }
 
-impl Primary {
-    fn new(alloc: Global, image: &Image, limit: Count) -> Result<Primary, Fail> {
-        let start = Machine::boot(alloc, image)?;
-        let limits = Counts::from_slice(&[limit; 8][..usize::from(image.harts())]);
-        let limits = limits.ok_or("limits")?;
-        if start.harts() != limits.harts() {
-            return Err("limits".into());
-        }
-        Ok(Primary {
-            book: Book::<Recording>::begin(alloc, start, limits)?,
-            leases: [None, None, None, None, None, None, None, None],
-        })
-    }
-
-    /// Lends the hart, where it may be lent.
-    fn lend(&mut self, alloc: Global, hart: Hart) {
-        if hart.number() >= self.book.machine().harts() {
-            return;
-        }
-        if let Ok(lease) = self.book.lease(alloc, hart) {
-            let before = mem::replace(&mut self.leases[hart.index()], Some(lease));
-            give_back(&mut self.book, before);
-        }
-    }
-
-    /// So many turns of the hart's lease: a step, or a page that it lacks.
-    fn go(&mut self, hart: Hart, turns: u8) {
-        let Some(lease) = &mut self.leases[hart.index()] else {
-            return;
-        };
-        for _turn in 0..turns {
-            if lease.full() {
-                return;
-            }
-            if let Tick::Miss(page, want) = lease.tick() {
-                let there = page.number() < self.book.machine().pages();
-                if !there || self.book.need(lease, page, want) != Ok(Need::Given) {
-                    return;
-                }
-            }
-        }
-    }
-
-    fn settle(&mut self, hart: Hart, keep: Keep) {
-        if let Some(lease) = self.leases[hart.index()].take() {
-            if let Err((lease, _)) = self.book.settle(lease, keep) {
-                let _gone = self.book.discard(lease);
-            }
-        }
-    }
-
-    fn offer(&mut self, hart: Hart, not_before: Count, input: Input) {
-        if hart.number() < self.book.machine().harts() && !input.is_bell() {
-            let _offered = self.book.offer(hart, not_before, input);
-        }
-    }
-
-    /// One call that falls by chance.
-    fn act(&mut self, alloc: Global, dice: &mut Dice) {
-        let hart = Hart::new(dice.roll() % self.book.machine().harts());
-        match dice.roll() % 12 {
-            0 => self.settle(hart, Keep::All),
-            1 => self.settle(hart, Keep::Readable),
-            2 => self.settle(hart, Keep::Nothing),
-            3 => {
-                let ended = self.leases[hart.index()].take();
-                give_back(&mut self.book, ended);
-            }
-            4 => self.offer(hart, u64::from(dice.roll()), Input::Timer),
-            5 => self.offer(hart, 0, Input::Word(u32::from(dice.roll()))),
-            _ => {
-                self.lend(alloc, hart);
-                self.go(hart, dice.roll() % 32);
-            }
-        }
-    }
-
-    fn act_often(&mut self, alloc: Global, dice: &mut Dice) {
-        for _call in 0..300 {
-            self.act(alloc, dice);
-        }
-    }
-
-    /// What the log says behind what is sealed, after many calls more.
-    fn go_on(
-        &mut self,
-        alloc: Global,
-        image: &Image,
-        dice: &mut Dice,
-        sealed: &mut Sealed,
-    ) -> Result<Vec<Frame>, Fail> {
-        self.act_often(alloc, dice);
-        cut(alloc, image, &self.book, sealed)
-    }
-
-    /// The book, once each open lease has gone back without its steps.
-    fn end(self) -> Book<Recording> {
-        let Primary {
-            mut book,
-            leases: [first, second, third, fourth, fifth, sixth, seventh, eighth],
-        } = self;
-        give_back(&mut book, first);
-        give_back(&mut book, second);
-        give_back(&mut book, third);
-        give_back(&mut book, fourth);
-        give_back(&mut book, fifth);
-        give_back(&mut book, sixth);
-        give_back(&mut book, seventh);
-        give_back(&mut book, eighth);
-        book
+fn offer(book: &mut Book<Recording>, hart: Hart, not_before: Count, input: Input) {
+    if hart.number() < book.machine().harts() && !input.is_bell() {
+        let _offered = book.offer(hart, not_before, input);
     }
 }
 
-/// Ends an open lease without its steps.
-fn give_back(book: &mut Book<Recording>, lease: Option<Lease>) {
-    if let Some(lease) = lease {
-        let _gone = book.discard(lease);
+fn settle(crew: &mut Crew<Recording>, hart: Hart, keep: Keep) {
+    let _settled = crew.settle(hart, keep);
+}
+
+/// One call that falls by chance.
+fn act(crew: &mut Crew<Recording>, alloc: Global, dice: &mut Dice) {
+    let hart = Hart::new(dice.roll() % crew.book.machine().harts());
+    match dice.roll() % 12 {
+        0 => settle(crew, hart, Keep::All),
+        1 => settle(crew, hart, Keep::Readable),
+        2 => settle(crew, hart, Keep::Nothing),
+        3 => {
+            let _gone = crew.discard(hart);
+        }
+        4 => offer(&mut crew.book, hart, u64::from(dice.roll()), Input::Timer),
+        5 => offer(&mut crew.book, hart, 0, Input::Word(u32::from(dice.roll()))),
+        _ => {
+            let _lent = crew.lend(alloc, hart);
+            let _steps = crew.go(hart, u32::from(dice.roll() % 32));
+        }
     }
+}
+
+fn act_often(crew: &mut Crew<Recording>, alloc: Global, dice: &mut Dice) {
+    for _call in 0..300 {
+        act(crew, alloc, dice);
+    }
+}
+
+/// What the log says behind what is sealed, after many calls more.
+fn go_on(
+    crew: &mut Crew<Recording>,
+    alloc: Global,
+    image: &Image,
+    dice: &mut Dice,
+    sealed: &mut Sealed,
+) -> Result<Vec<Frame>, Fail> {
+    act_often(crew, alloc, dice);
+    cut(alloc, image, &crew.book, sealed)
 }
 
 /// What the book's log says from the sealed counts on.
@@ -212,9 +128,9 @@ fn log_of(
     dice: &mut Dice,
 ) -> Result<(Vec<Frame>, Book<Recording>), Fail> {
     let mut sealed = Sealed::new(Counts::zero(image.harts()));
-    let mut primary = Primary::new(alloc, image, 5000)?;
-    let early = primary.go_on(alloc, image, dice, &mut sealed);
-    primary.act_often(alloc, dice);
+    let mut primary = primary_of(alloc, image, 5000)?;
+    let early = go_on(&mut primary, alloc, image, dice, &mut sealed);
+    act_often(&mut primary, alloc, dice);
     let book = primary.end();
     let frames = with_rest(alloc, image, &book, &mut sealed, early?)?;
     Ok((frames, book))
@@ -330,7 +246,7 @@ fn are_replayed(alloc: Global, image: &Image, readers: &mut [MemorySource], text
 
 /// Whether a guest of so many harts that was recorded so is replayed to the recorded machine, from so many streams.
 fn is_replayed(alloc: Global, harts: u8, streams: u8, seed: u64) -> Result<bool, Fail> {
-    let mut dice = Dice { state: seed };
+    let mut dice = Dice::new(seed);
     let image = guest(alloc, harts, &mut dice)?;
     let (frames, text) = recorded(alloc, &image, &mut dice)?;
     let mut readers = shuffled(alloc, &frames, streams, &mut dice)?;

@@ -1,17 +1,15 @@
-use Rattle.std.proofs.Common.{[], ◌∷◌}
-use Rattle.edge_log.proofs.Logs.{no_edges}
+use Rattle.std.proofs.Common.{rules, ◌≡◌, [], arith}
+use Rattle.std.specs.List.{AllByRecursion}
+use Rattle.ft_types.proofs.Zips.{each_at}
+use Rattle.edge_log.proofs.Logs.{no_edges, none_at_all}
 use Rattle.edge_log.proofs.log.EdgeLog.new.Goals as goal
 
+each_empty : (c : goal.After-from_fn) → AllByRecursion (λ r. r.edges ≡ []) c.from_fn.result
+each_empty c =
+    each_at _ _ (λ i d lt. let s = c.from_fn.ensures.items.at i d (omega (arith, lt, c.from_fn.ensures.items.long)) in let k = s.2 in search rules)
+
+pub returns-clause-edges : goal.returns-clause-edges
+returns-clause-edges c = none_at_all c.from_fn.result (each_empty c)
+
 pub returns-clause-rows : goal.returns-clause-rows
-returns-clause-rows c =
-    no_edges
-    (c.new.result ∷ (c.new-2.result ∷ (c.new-3.result ∷ (c.new-4.result ∷ (c.new-5.result ∷ (c.new-6.result ∷ (c.new-7.result ∷ (c.new-8.result ∷ [])))))))) (
-      c.new.ensures.edges,
-      (
-        c.new-2.ensures.edges,
-        (
-          c.new-3.ensures.edges,
-          (c.new-4.ensures.edges, (c.new-5.ensures.edges, (c.new-6.ensures.edges, (c.new-7.ensures.edges, (c.new-8.ensures.edges, tt))))),
-        ),
-      ),
-    )
+returns-clause-rows c = no_edges c.from_fn.result (each_empty c)
