@@ -4,3 +4,4 @@ pub mod Runs
 pub mod Counts
 pub mod Ledger
 pub mod OpenLeases
+pub mod Sizes

@@ -1,4 +1,3 @@
 -- A leg that is replayed round by round.
 pub mod Leases
-pub mod Sizes
 pub mod Ends

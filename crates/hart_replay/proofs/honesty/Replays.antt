@@ -24,7 +24,7 @@ use Rattle.hart_replay.specs.Replays.{leg_turns, LegsLead, IsOutcome, GetsStuck,
 use Rattle.hart_replay.specs.Leading.{IsLegsFault}
 use Rattle.hart_replay.proofs.honesty.Legs.{follows}
 use Rattle.hart_replay.proofs.honesty.Plans.{finds_start, leads_to_position}
-use Rattle.hart_replay.proofs.rounds.Sizes.{is_run, as_large}
+use Rattle.hart_lease.proofs.journals.Sizes.{is_run, as_large}
 use Rattle.hart_replay.proofs.walking.Outcomes.{left_as_large}
 
 many_pages : (n : ℕ) (words : List ℕ) → length (pages_with n words) ≡ n

@@ -17,7 +17,28 @@ use Rattle.hart_replay.specs.declared.fault.ReplayFault.TheVariants.{Cyclic, Hal
 use Rattle.hart_replay.specs.Plans.{IsLeg, log_of}
 use Rattle.hart_replay.specs.Replays.{leg_turns, LegLeads, is_halted, GetsStuck}
 use Rattle.hart_replay.specs.Leading.{IsBelow, HasStopped, ComesTo, ComesShort, IsLegFault}
-use Rattle.hart_replay.proofs.rounds.Sizes.{counts_ran, begun_within}
+use Rattle.hart_lease.proofs.journals.Sizes.{counts_ran}
+
+-- a beginning goes no further than the cut
+begun_within : (edges : List Edge) (cut now : ℕ → ℕ) (order : List ℕ) → Begins edges cut now order → ((hart : ℕ) → now hart ≤ cut hart) →
+    (hart : ℕ) → counts_after now order hart ≤ cut hart
+begun_within edges cut now [] begins fits = fits
+begun_within edges cut now (next ∷ order) begins fits =
+    begun_within edges cut (bump now next) order begins.1 within
+  where
+    within : (hart : ℕ) → bump now next hart ≤ cut hart
+    within hart =
+        elim (same_or_not next hart) [
+          | inl same ↦
+              let f : bump now next hart ≡ now next + 1 = put_same now next hart (now next + 1) same in
+              let g : cut next ≡ cut hart = ap cut same in
+              let lt : now next < cut next = begins.0.0 in
+              omega arith
+          | inr ne ↦
+              let f : bump now next hart ≡ now hart = bump_other now next hart ne in
+              let g : now hart ≤ cut hart = fits hart in
+              omega arith
+        ]
 
 -- ---- looking for a hart that has not come to its end
 

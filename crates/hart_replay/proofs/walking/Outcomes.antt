@@ -16,7 +16,7 @@ use Rattle.hart_replay.specs.declared.fault.ReplayFault.TheVariants.{Cyclic, Hal
 use Rattle.hart_replay.specs.Plans.{IsLeg, IsPlan, GoOn, log_of}
 use Rattle.hart_replay.specs.Replays.{leg_turns, LegLeads, LegsLead, IsOutcome}
 use Rattle.hart_replay.specs.Leading.{IsLegFault, IsLegsFault, IsSoFar}
-use Rattle.hart_replay.proofs.rounds.Sizes.{IsAsLarge, as_large, counts_ran}
+use Rattle.hart_lease.proofs.journals.Sizes.{IsAsLarge, as_large, counts_ran}
 
 -- ---- boot
 
