@@ -1,11 +1,12 @@
 -- Where a book of a leg ends: at the leg's ends, or stuck.
 use Rattle.std.proofs.lemmas.Result.{IfOk-weaker, IfErr-weaker}
 use Rattle.input_log.specs.declared.Input.{Input}
-use Rattle.std.proofs.Common.{◌≡◌, ℕ, IfOk, IfErr, Result, ◌+◌, ◌<◌, ◌≤◌, ◌⊎◌, List, length, Bool, true, false, Some, sym, ap, subst, ◌∙◌, inl, inr, arith}
+use Rattle.std.proofs.Common.{◌≡◌, ℕ, IfOk, IfErr, Result, ◌+◌, ◌<◌, ◌≤◌, ◌⊎◌, List, [], ◌∷◌, length, Bool, true, false, Some, sym, ap, subst, ◌∙◌, inl, inr, arith}
 use Rattle.std.proofs.Math.Path.{fun_ext}
 use Rattle.std.proofs.lemmas.Bool.{cases_lt}
 use Rattle.ft_types.specs.Counts.{count_at}
-use Rattle.interleaving.specs.Log.{Begins, HasUnmet, counts_after, turns_of}
+use Rattle.interleaving.specs.Log.{Edge, Begins, HasUnmet, bump, counts_after, turns_of}
+use Rattle.interleaving.proofs.Put.{same_or_not, put_same, bump_other}
 use Rattle.edge_log.specs.EdgeLog.{edges_of}
 use Rattle.guest_image.specs.Machine.{MachineState}
 use Rattle.book_modes.specs.declared.mode.Leg.{Leg}
