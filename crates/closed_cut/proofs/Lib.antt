@@ -2,3 +2,4 @@ pub mod Lowerings
 pub mod Walking
 pub mod Chains
 pub mod Reach
+pub mod Unique

@@ -2,3 +2,4 @@ pub mod Chain
 pub mod Position
 pub mod Lowering
 pub mod Walks
+pub mod Unique

@@ -4,10 +4,12 @@
 mod ancestry;
 mod answer;
 mod gathering;
+mod laws;
 mod lowering;
 mod walk;
 
 pub use ancestry::{chain, opening_of};
 pub use answer::Position;
 pub use gathering::piece_from;
+pub use laws::one_position;
 pub use walk::position;

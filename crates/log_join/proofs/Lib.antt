@@ -6,3 +6,4 @@ pub mod Shown
 pub mod Present
 pub mod Stores
 pub mod Listed
+pub mod Gathered

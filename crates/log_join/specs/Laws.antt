@@ -1,9 +1,11 @@
 -- The laws of joins, over all stores.
-use Rattle.std.specs.Prelude.{◌≡◌, Bool, ◌↔◌, IsTrue}
+use Rattle.std.specs.Prelude.{◌≡◌, Bool, ◌↔◌, IsTrue, List}
 use Rattle.ft_types.specs.declared.guest.Guest.{Guest}
+use Rattle.fragment_codec.specs.declared.frame.Frame.{Frame}
 use Rattle.fragment_codec.specs.Rules.{FragmentParts, OpeningParts}
 use Rattle.log_join.specs.Cells.{Cell, Absent, join_cell}
 use Rattle.log_join.specs.Stores.{StoreView, IsJoin, nothing as nothing_came}
+use Rattle.log_join.specs.Coming.{IsJoinOf, Gathers, SameFrames}
 
 -- ---- cells
 
@@ -40,3 +42,14 @@ Idempotent = (a joined : StoreView) → IsJoin a a joined → joined ≡ a
 
 abbrev pub HasUnit : Type 0
 HasUnit = (a joined : StoreView) (guest : Guest) → IsJoin a (nothing_came guest) joined → joined ≡ a
+
+-- ---- order and repetition
+
+-- whoever took the same frames, alone or in stores, in whatever order and however often, holds one store
+abbrev pub OrderMakesNoDifference : Type 0
+OrderMakesNoDifference = (guest : Guest) (first second : List Frame) (a b : StoreView) → Gathers guest first a → Gathers guest second b →
+    SameFrames first second → a ≡ b
+
+-- frames that came one after the other were gathered
+abbrev pub ComeGathers : Type 0
+ComeGathers = (guest : Guest) (frames : List Frame) (store : StoreView) → IsJoinOf guest frames store → Gathers guest frames store

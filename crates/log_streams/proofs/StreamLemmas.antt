@@ -16,7 +16,8 @@ use Rattle.log_join.specs.declared.answers.StoreFault.{StoreFault}
 use Rattle.log_join.specs.declared.answers.StoreFault.TheVariants.{OtherGuest, Memory as NoRoom}
 use Rattle.log_streams.specs.declared.faults.StreamsFault.{StreamsFault}
 use Rattle.log_streams.specs.declared.faults.StreamsFault.TheVariants.{Read, Frame, Guest, Replay, Write, Memory}
-use Rattle.log_streams.specs.Streams.{IsOf, Says, GoesOnWith, Come}
+use Rattle.log_streams.specs.Streams.{IsOf, Says, GoesOnWith}
+use Rattle.log_join.specs.Coming.{Come}
 use Rattle.log_streams.specs.Faults.{IsFaultOfStream, Fails}
 use Rattle.log_streams.specs.Reading.{Takes, IsFaultOf, IsFaultAmong, fault_at, fault_in, IsPushFault, Told, Refused}
 use Rattle.log_streams.proofs.Lists.{all_append, all_front, all_back}

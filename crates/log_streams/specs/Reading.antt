@@ -11,7 +11,8 @@ use Rattle.log_join.specs.declared.answers.StoreFault.{StoreFault}
 use Rattle.log_join.specs.declared.answers.StoreFault.TheVariants.{OtherGuest, Memory as NoRoom}
 use Rattle.log_streams.specs.declared.faults.StreamsFault.{StreamsFault}
 use Rattle.log_streams.specs.declared.faults.StreamsFault.TheVariants.{Frame, Guest, Memory}
-use Rattle.log_streams.specs.Streams.{IsOf, Says, Breaks, HasForeign, Come}
+use Rattle.log_streams.specs.Streams.{IsOf, Says, Breaks, HasForeign}
+use Rattle.log_join.specs.Coming.{Come}
 use Rattle.log_streams.specs.Faults.{IsFaultOfStream}
 
 -- these frames of its guest came to the first store

@@ -5,7 +5,8 @@ use Rattle.ft_types.specs.declared.guest.Guest.{Guest}
 use Rattle.fragment_codec.specs.declared.fault.FrameFault.{FrameFault}
 use Rattle.fragment_codec.specs.declared.frame.Frame.{Frame}
 use Rattle.fragment_codec.specs.Streams.{IsPartial, HasFault, Splits}
-use Rattle.log_join.specs.Stores.{StoreView, IsJoin, nothing, alone, guest_of}
+use Rattle.log_join.specs.Stores.{StoreView, guest_of}
+use Rattle.log_join.specs.Coming.{IsJoinOf}
 
 -- ---- a stream
 
@@ -58,15 +59,6 @@ OfStreams [] P = P []
 OfStreams (left ∷ others) P = OfStream left (λ stream. OfStreams others (λ streams. P (stream ∷ streams)))
 
 -- ---- the store of frames
-
--- the frames came to the store, one after the other
-abbrev pub Come : StoreView → List Frame → StoreView → Type 0
-Come old [] new = new ≡ old
-Come old (frame ∷ frames) new = (next : StoreView) × IsJoin old (alone frame) next × Come next frames new
-
--- the join of these frames of the guest
-abbrev pub IsJoinOf : Guest → List Frame → StoreView → Type 0
-IsJoinOf guest frames store = Come (nothing guest) frames store
 
 -- the store is the join of the streams' frames
 pub record AreJoined (guest : Guest) (streams : List (List ℕ)) (store : StoreView) : Type 0 where

@@ -1,0 +1,26 @@
+-- What came to a store: frames that were put, and stores that were joined.
+use Rattle.std.specs.Prelude.{◌≡◌, List, [], ◌∷◌, ◌++◌, ◌↔◌, Contains}
+use Rattle.ft_types.specs.declared.guest.Guest.{Guest}
+use Rattle.fragment_codec.specs.declared.frame.Frame.{Frame}
+use Rattle.log_join.specs.Stores.{StoreView, IsJoin, nothing, alone}
+
+-- the frames came to the store, one after the other
+abbrev pub Come : StoreView → List Frame → StoreView → Type 0
+Come old [] new = new ≡ old
+Come old (frame ∷ frames) new = (next : StoreView) × IsJoin old (alone frame) next × Come next frames new
+
+-- the join of these frames of the guest
+abbrev pub IsJoinOf : Guest → List Frame → StoreView → Type 0
+IsJoinOf guest frames store = Come (nothing guest) frames store
+
+-- these frames, and no others, were put into the store, or into stores that were joined to it, and so on
+pub data Gathers (guest : Guest) (frames : List Frame) (store : StoreView) : Type 0 where
+  Nothing : frames ≡ [] → store ≡ nothing guest → Gathers guest frames store
+  Put : (earlier : List Frame) (frame : Frame) (old : StoreView) → Gathers guest earlier old → IsJoin old (alone frame) store →
+      frames ≡ earlier ++ frame ∷ [] → Gathers guest frames store
+  Join : (first second : List Frame) (a b : StoreView) → Gathers guest first a → Gathers guest second b → IsJoin a b store →
+      frames ≡ first ++ second → Gathers guest frames store
+
+-- each frame of one is a frame of the other
+abbrev pub SameFrames : List Frame → List Frame → Type 0
+SameFrames first second = (frame : Frame) → Contains first frame ↔ Contains second frame
