@@ -50,7 +50,7 @@ ComesTo m ends n = (n ≡ m) × ((hart : ℕ) → hart < length m.harts → coun
 -- which hart has not come to its end, and why
 abbrev pub ComesShort : MachineState → List ℕ → ReplayFault → Type 0
 ComesShort m ends (Cyclic counts) =
-    ((hart : ℕ) → count_at counts hart ≡ counts_of m hart) × ((hart : ℕ) × IsBelow m ends hart) ×
+    (length counts ≡ length m.harts) × ((hart : ℕ) → count_at counts hart ≡ counts_of m hart) × ((hart : ℕ) × IsBelow m ends hart) ×
     ((hart : ℕ) → hart < length m.harts → IsBelow m ends hart → is_halted m hart ≡ false)
 ComesShort m ends (HaltedInside hart count) =
     (count ≡ counts_of m hart) × IsBelow m ends hart × (is_halted m hart ≡ true) ×

@@ -52,8 +52,9 @@ pub record GetsStuck (leg : PlannedLeg) (m : MachineState) (order : List ℕ) (n
   pub stuck : IsStuck (system_of (hardware (length n.pages))) (log_of leg).edges (count_at leg.ends) (counts_after (log_of leg).start order)
       (view (hardware (length n.pages)) n)
 
--- they are stuck at these counts, and none of those below their end is halted
+-- they are stuck at these counts, one for each hart, and none of those below their end is halted
 pub record IsCyclicAt (leg : PlannedLeg) (m : MachineState) (counts : List ℕ) : Type 0 where
+  pub harts : length counts ≡ length m.harts
   pub order : List ℕ
   pub machine : MachineState
   pub stuck : GetsStuck leg m order machine

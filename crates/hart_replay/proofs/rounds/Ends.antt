@@ -1,7 +1,8 @@
 -- Where a book of a leg ends: at the leg's ends, or stuck.
 use Rattle.std.proofs.lemmas.Result.{IfOk-weaker, IfErr-weaker}
 use Rattle.input_log.specs.declared.Input.{Input}
-use Rattle.std.proofs.Common.{◌≡◌, ℕ, IfOk, IfErr, Result, ◌+◌, ◌<◌, ◌≤◌, ◌⊎◌, List, [], ◌∷◌, length, Bool, true, false, Some, sym, ap, subst, ◌∙◌, inl, inr, arith}
+use Rattle.std.proofs.Common.{◌≡◌, ℕ, IfOk, IfErr, Result, ◌+◌, ◌<◌, ◌≤◌, ◌⊎◌, List, [], ◌∷◌, length, Bool, true, false, Some, sym, ap, subst, ◌∙◌, inl, inr}
+use Rattle.std.proofs.Common.{arith}
 use Rattle.std.proofs.Math.Path.{fun_ext}
 use Rattle.std.proofs.lemmas.Bool.{cases_lt}
 use Rattle.ft_types.specs.Counts.{count_at}
@@ -91,10 +92,11 @@ pub looked_halted : (waits : Bool) (n count : ℕ) (m : MachineState) (ends : Li
 looked_halted waits n count m ends p is below halted = (is, below, halted, λ hart lt less. awake waits n m ends p hart lt less)
 
 -- none is left
-pub looked_all : (n : ℕ) (m : MachineState) (ends counts : List ℕ) → n ≡ length m.harts → ((hart : ℕ) → count_at counts hart ≡ counts_of m hart) →
+pub looked_all : (n : ℕ) (m : MachineState) (ends counts : List ℕ) → n ≡ length m.harts → length counts ≡ length m.harts →
+    ((hart : ℕ) → count_at counts hart ≡ counts_of m hart) →
     Looked true n m ends →
     ComesShort m ends (Cyclic counts)
-looked_all n m ends counts all are p = (are, p.0, λ hart lt less. p.1 hart (omega (arith, lt, all)) less)
+looked_all n m ends counts all harts are p = (harts, are, p.0, λ hart lt less. p.1 hart (omega (arith, lt, all)) less)
 
 -- ---- from the book to the leg
 
@@ -171,8 +173,9 @@ module _ (start : MachineState) (leg : PlannedLeg) (is_leg : IsLeg (length start
 
   -- some are not
   pub falls_short : (fault : ReplayFault) → ComesShort b.machine leg.ends fault → IsLegFault leg start fault
-  falls_short (Cyclic counts) (are, (hart, below), runs) =
+  falls_short (Cyclic counts) (harts, are, (hart, below), runs) =
       record {
+        harts = harts ∙ stopped.leading.harts;
         order = order;
         machine = b.machine;
         stuck = gets_stuck hart below;
