@@ -16,7 +16,7 @@ use Rattle.log_join.specs.Stores.{StoreView, nothing}
 use Rattle.log_streams.specs.declared.faults.StreamsFault.{StreamsFault}
 use Rattle.log_streams.specs.declared.faults.StreamsFault.TheVariants.{Read, Frame, Guest, Replay, Write, Memory}
 use Rattle.log_streams.specs.Streams.{Says, SayAll, Breaks, GoesOnWith, OfStream, OfStreams, AreJoined}
-use Rattle.log_streams.specs.Faults.{IsFaultOfStream, IsFirstFault, IsBehind, Fails}
+use Rattle.log_streams.specs.Faults.{IsFaultOfStream, IsFirstFault, IsBehind, Fails, GaveRight}
 use Rattle.log_streams.specs.Reading.{Takes, Told, Refused}
 use Rattle.log_streams.proofs.StreamLemmas.{come_more, same_guest_comes}
 
@@ -302,3 +302,17 @@ module _ {R : Type 0} (left : R → Option (List ℕ)) (failures : R → ℕ) (g
         | inr n ↦ others_fail f g refused.read j (failures before) (failures after) refused.fault n
             (r.kept j before after a (sym (get_set_other nows i j later n) ∙ b))
       ]
+
+  -- and the one that failed had given no fault
+  pub one_right : (store : StoreView) (f : StreamsFault) → i < length nows → slice_get nows i ≡ Some reader → IsRead left failures guest olds nows i store →
+      Refused i store.guest (left reader) (left later) f → (f ≡ Read i → GaveRight store.guest (left reader) (left later)) →
+      (j : ℕ) (before after : R) → f ≡ Read j → slice_get olds j ≡ Some before → slice_get (slice_set nows i later) j ≡ Some after →
+      GaveRight guest (left before) (left after)
+  one_right store f lt here r refused right j before after is_read a b =
+      let same : j ≡ i = subst (λ (x : StreamsFault). IsFaultOfStream i store.guest refused.read x) is_read refused.fault in
+      let is : slice_get olds i ≡ Some reader = sym (r.same i (omega arith)) ∙ here in
+      let first : reader ≡ before = same_place olds i j reader before is (sym same) a in
+      let second : later ≡ after = same_place (slice_set nows i later) i j later after (get_set_same nows i later lt) (sym same) b in
+      subst (λ (x : R). GaveRight guest (left x) (left after)) first
+      (subst (λ (y : R). GaveRight guest (left reader) (left y)) second
+      (subst (λ (g : GuestName). GaveRight g (left reader) (left later)) r.own (right (is_read ∙ ap (λ n. Read n) same))))

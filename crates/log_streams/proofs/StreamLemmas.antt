@@ -19,6 +19,8 @@ use Rattle.log_streams.specs.declared.faults.StreamsFault.TheVariants.{Read, Fra
 use Rattle.log_streams.specs.Streams.{IsOf, Says, GoesOnWith}
 use Rattle.log_join.specs.Coming.{Come}
 use Rattle.log_streams.specs.Faults.{IsFaultOfStream, Fails}
+use Rattle.log_streams.specs.Faults.{GaveRight}
+use Rattle.fragment_codec.proofs.bytes.Heads.{partial_nothing}
 use Rattle.log_streams.specs.Reading.{Takes, IsFaultOf, IsFaultAmong, fault_at, fault_in, IsPushFault, Told, Refused}
 use Rattle.log_streams.proofs.Lists.{all_append, all_front, all_back}
 
@@ -220,11 +222,37 @@ abbrev pub Pushes : ℕ → Unread → StoreView → List ℕ → StreamsFault �
 Pushes number feed p got f =
     (first : StoreView) (read : List ℕ) (given : List LogFrame) → Follows read given feed → Takes first given p → IsPushFault number first.guest (read ++ got) f
 
--- a push that went well
+-- a push that went well, behind which stands no fault
 abbrev pub Goes : Unread → Unread → StoreView → StoreView → List ℕ → Type 0
 Goes feed later p q got =
     (first : StoreView) (read : List ℕ) (given : List LogFrame) → Follows read given feed → Takes first given p →
+    (frames : List LogFrame) × Follows (read ++ got) (given ++ frames) later × Takes first (given ++ frames) q × Says first.guest (read ++ got) (given ++ frames)
+
+-- a push that may have left a fault behind its last frame
+abbrev pub GoesAsFar : Unread → Unread → StoreView → StoreView → List ℕ → Type 0
+GoesAsFar feed later p q got =
+    (first : StoreView) (read : List ℕ) (given : List LogFrame) → Follows read given feed → Takes first given p →
     (frames : List LogFrame) × Follows (read ++ got) (given ++ frames) later × Takes first (given ++ frames) q
+
+-- the empty piece that is pushed behind it brings out no fault
+pub goes_right : (feed middle later : Unread) (o p q : StoreView) (got : List ℕ) → GoesAsFar feed middle o p got → middle.fault ≡ None →
+    GoesAsFar middle later p q [] → Goes feed later o q got
+goes_right feed middle later o p q got one none two first read given follows takes =
+    let t = one first read given follows takes in
+    let u = two first (read ++ got) (given ++ t.0) t.1 t.2 in
+    let says = ended first (read ++ got) (given ++ t.0) ((given ++ t.0) ++ u.0) middle later q t.1 none u.1 u.2 in (
+      t.0 ++ u.0,
+      rw (← append_assoc given t.0 u.0, ← append-nil (read ++ got)) u.1,
+      rw (← append_assoc given t.0 u.0) u.2,
+      rw (← append_assoc given t.0 u.0, ← append-nil (read ++ got)) says,
+    )
+
+-- what it brings out stood behind the piece
+pub empty_fault : (number : ℕ) (feed middle : Unread) (o p : StoreView) (got : List ℕ) (f : StreamsFault) → GoesAsFar feed middle o p got →
+    Pushes number middle p [] f → Pushes number feed o got f
+empty_fault number feed middle o p got f one two first read given follows takes =
+    let t = one first read given follows takes in
+    subst (λ (x : List ℕ). IsPushFault number first.guest x f) (append-nil (read ++ got)) (two first (read ++ got) (given ++ t.0) t.1 t.2)
 
 pub push_refused : (number : ℕ) (first : StoreView) (old now next : Option (List ℕ)) (feed : Unread) (p : StoreView) (got whole : List ℕ) (f : StreamsFault) →
     got ≡ whole →
@@ -252,17 +280,46 @@ reading_more first old now next feed later p q got whole e r taken h =
       takes = t.2;
     }
 
-pub told : (first : StoreView) (old now next : Option (List ℕ)) (feed later : Unread) (p q : StoreView) (got whole : List ℕ) → got ≡ whole → whole ≡ [] →
-    IsReading first old now feed p → Consumes now next whole → IsAtEnd next → feed.fault ≡ None → Goes feed later p q got → Told first old next q
-told first old now next feed later p q got whole e nothing r taken end none h =
+pub told : (first : StoreView) (old now next : Option (List ℕ)) (feed later : Unread) (p q : StoreView) (got whole : List ℕ) → got ≡ whole →
+    IsReading first old now feed p → Consumes now next whole → IsAtEnd next → Goes feed later p q got → Told first old next q
+told first old now next feed later p q got whole e r taken end h =
     let t = h first r.read r.given r.follows r.takes in
-    let empty : got ≡ [] = e ∙ nothing in
-    let follows : Follows (r.read ++ []) (r.given ++ t.0) later = subst (λ (x : List ℕ). Follows (r.read ++ x) (r.given ++ t.0) later) empty t.1 in
     record {
-      read = r.read ++ [];
+      read = r.read ++ got;
       frames = r.given ++ t.0;
-      consumed = consumes_more old now next r.read [] r.consumed (subst (λ (x : List ℕ). Consumes now next x) nothing taken);
+      consumed = consumes_more old now next r.read got r.consumed (subst (λ (x : List ℕ). Consumes now next x) (sym e) taken);
       ended = end;
-      says = ended first r.read r.given (r.given ++ t.0) feed later q r.follows none follows t.2;
+      says = t.3;
       takes = t.2;
     }
+
+-- ---- what was given so far
+
+pub nothing_wrong : (guest : GuestName) (left : Option (List ℕ)) → GaveRight guest left left
+nothing_wrong guest left =
+    record {
+      read = [];
+      consumed = consumes_nothing left;
+      frames = [];
+      says = record { rest = []; splits = record { whole = refl; each = tt }; partial = partial_nothing; own = tt };
+    }
+
+pub still_right : (first : StoreView) (old now next : Option (List ℕ)) (feed later : Unread) (p q : StoreView) (got whole : List ℕ) → got ≡ whole →
+    IsReading first old now feed p → Consumes now next whole → Goes feed later p q got → GaveRight first.guest old next
+still_right first old now next feed later p q got whole e r taken h =
+    let t = h first r.read r.given r.follows r.takes in
+    record {
+      read = r.read ++ got;
+      consumed = consumes_more old now next r.read got r.consumed (subst (λ (x : List ℕ). Consumes now next x) (sym e) taken);
+      frames = r.given ++ t.0;
+      says = t.3;
+    }
+
+-- a push does not say that a reader failed
+pub not_read : (number i : ℕ) (guest : GuestName) (text : List ℕ) (f : StreamsFault) → IsPushFault number guest text f → f ≡ Read i → ⊥
+not_read number i guest text (Frame j g) h e = cc
+not_read number i guest text (Guest j) h e = cc
+not_read number i guest text Memory h e = cc
+not_read number i guest text (Read j) h e = h
+not_read number i guest text (Replay r) h e = cc
+not_read number i guest text Write h e = cc

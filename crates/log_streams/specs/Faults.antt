@@ -1,5 +1,6 @@
 -- Which fault streams have.
-use Rattle.std.specs.Prelude.{◌≡◌, ◌≢◌, ◌<◌, ◌+◌, ℕ, List, [], ◌∷◌, ◌⊎◌, Result, Ok, Err}
+use Rattle.std.specs.Prelude.{◌≡◌, ◌≢◌, ◌<◌, ◌+◌, ℕ, List, [], ◌∷◌, ◌⊎◌, Option, Result, Ok, Err}
+use Rattle.std.specs.Io.KnownBytes.{Consumes}
 use Rattle.ft_types.specs.declared.guest.Guest.{Guest as GuestName}
 use Rattle.ft_types.specs.Devices.{IsOneMore}
 use Rattle.fragment_codec.specs.declared.frame.Frame.{Frame as LogFrame}
@@ -46,3 +47,10 @@ IsBehind _ number = ⊥
 abbrev pub Fails : ℕ → ℕ → ℕ → StreamsFault → Type 0
 Fails number f g (Read i) = ((i ≡ number) × IsOneMore f g) ⊎ ((i ≢ number) × (g ≡ f))
 Fails number f g _ = g ≡ f
+
+-- what the reader gave, whose bytes are these before and after, is frames of the guest, and behind them stands no whole frame and no fault
+pub record GaveRight (guest : GuestName) (old new : Option (List ℕ)) : Type 0 where
+  pub read : List ℕ
+  pub consumed : Consumes old new read
+  pub frames : List LogFrame
+  pub says : Says guest read frames

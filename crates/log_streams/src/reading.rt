@@ -1,11 +1,11 @@
 //! From streams of frames to the store of their frames.
 
-ghost use Rattle.std.specs.Prelude.{◌≡◌, ◌≤◌, ◌++◌, ℕ, List, length, map, take, None, Some, IfOk, IfErr, OnOk, slice_get};
+ghost use Rattle.std.specs.Prelude.{◌≡◌, ◌≤◌, ◌++◌, ℕ, List, length, map, take, None, Some, Err, IfOk, IfErr, OnOk, slice_get};
 ghost use Rattle.fragment_codec.specs.declared.frame.Frame.{Frame as LogFrame};
 ghost use Rattle.fragment_codec.specs.Streams.{Follows};
 ghost use Rattle.log_join.specs.Stores.{StoreView, IsJoin, alone};
-ghost use Rattle.log_streams.specs.Streams.{IsOf, OfStreams, AreJoined};
-ghost use Rattle.log_streams.specs.Faults.{IsFirstFault, Fails, IsBehind};
+ghost use Rattle.log_streams.specs.Streams.{IsOf, Says, OfStreams, AreJoined};
+ghost use Rattle.log_streams.specs.Faults.{IsFirstFault, Fails, IsBehind, GaveRight};
 ghost use Rattle.log_streams.specs.Reading.{Takes, IsFaultOf, IsFaultAmong, fault_at, fault_in, IsPushFault, Told, Refused};
 
 use crate::faults::StreamsFault;
@@ -83,6 +83,24 @@ fn push(
     }
 }
 
+/// Takes the next piece of a stream, and looks for a fault behind its last frame, which an empty piece brings out.
+fn take_piece(
+    alloc: Global,
+    stream: usize,
+    feed: &mut Feed,
+    piece: &[u8],
+    store: &mut Store,
+) -> Result<(), StreamsFault>
+    ensures ok { OnOk result ((first : StoreView) (read : List ℕ) (given : List LogFrame) → Follows read given feed.old → Takes first given store.old →
+        (frames : List LogFrame) × Follows (read ++ piece.now) (given ++ frames) feed.new × Takes first (given ++ frames) store.new ×
+        Says first.guest (read ++ piece.now) (given ++ frames)) }
+    ensures fault { IfErr result (λ f. (first : StoreView) (read : List ℕ) (given : List LogFrame) → Follows read given feed.old → Takes first given store.old →
+        IsPushFault stream first.guest (read ++ piece.now) f) }
+{
+    push(alloc, stream, feed, piece, store)?;
+    push(alloc, stream, feed, &[], store)
+}
+
 /// What a read has put to the front of a piece.
 fn front_of(piece: &[u8], count: usize) -> &[u8]
     requires { count ≤ length piece.now }
@@ -100,6 +118,8 @@ fn read_into<R: Source>(
 ) -> Result<(), StreamsFault>
     ensures ok { OnOk result (Told store.old (R.left reader.old) (R.left reader.new) store.new) }
     ensures fault { IfErr result (λ f. Refused stream store.old.guest (R.left reader.old) (R.left reader.new) f) }
+    // A reader that failed had given no fault before.
+    ensures right { result ≡ Err (StreamsFault.Read stream) → GaveRight store.old.guest (R.left reader.old) (R.left reader.new) }
     ensures failures { IfErr result (λ f. Fails stream (R.failures reader.old) (R.failures reader.new) f) }
     ensures kept { OnOk result (R.failures reader.new ≡ R.failures reader.old) }
 {
@@ -109,9 +129,8 @@ fn read_into<R: Source>(
         let Ok(count) = reader.read(&mut piece) else {
             return Err(StreamsFault::Read(stream));
         };
-        // The empty piece at the end brings out a fault behind the last frame.
         let front = front_of(&piece, count);
-        push(alloc, stream, &mut feed, front, store)?;
+        take_piece(alloc, stream, &mut feed, front, store)?;
         if count == 0 {
             return Ok(());
         }
@@ -136,6 +155,9 @@ pub fn read_store<R: Source>(
     // A reader failed in this call exactly where the fault says so.
     ensures failed { IfErr result (λ f. (i : ℕ) (reader later : R) → slice_get readers.old i ≡ Some reader → slice_get readers.new i ≡ Some later →
         Fails i (R.failures reader) (R.failures later) f) }
+    // It had given no fault before.
+    ensures right { (i : ℕ) (reader later : R) → result ≡ Err (StreamsFault.Read i) → slice_get readers.old i ≡ Some reader →
+        slice_get readers.new i ≡ Some later → GaveRight guest.now (R.left reader) (R.left later) }
     ensures kept { IfOk result (λ _. (i : ℕ) (reader later : R) → slice_get readers.old i ≡ Some reader → slice_get readers.new i ≡ Some later →
         R.failures later ≡ R.failures reader) }
 {

@@ -1,11 +1,11 @@
 //! From streams of frames to the text of the machine.
 
-ghost use Rattle.std.specs.Prelude.{◌≡◌, ℕ, List, map, slice_get, Some, IfOk, IfErr, OnOk};
+ghost use Rattle.std.specs.Prelude.{◌≡◌, ℕ, List, map, slice_get, Some, Err, IfOk, IfErr, OnOk};
 ghost use Rattle.log_join.specs.Stores.{StoreView};
 ghost use Rattle.guest_image.specs.Image.{guest_of};
 ghost use Rattle.log_streams.specs.declared.faults.StreamsFault.{StreamsFault as StreamsFaultName};
 ghost use Rattle.log_streams.specs.Streams.{OfStreams};
-ghost use Rattle.log_streams.specs.Faults.{IsFirstFault, StandsInBytes, AnswersOnly, Fails, IsBehind};
+ghost use Rattle.log_streams.specs.Faults.{IsFirstFault, StandsInBytes, AnswersOnly, Fails, IsBehind, GaveRight};
 ghost use Rattle.log_streams.specs.Outcome.{IsOutcome, IsOutcomeOf, WritesTextOf, IsCause, IsReplayFault, IsCauseIn};
 
 use crate::faults::StreamsFault;
@@ -74,6 +74,9 @@ pub fn replay_streams<R: Source, W: Sink>(
     // A reader failed in this call exactly where the fault says so.
     ensures failed { IfErr result (λ f. (i : ℕ) (reader later : R) → slice_get readers.old i ≡ Some reader → slice_get readers.new i ≡ Some later →
         Fails i (R.failures reader) (R.failures later) f) }
+    // It had given no fault before: of a fault in the bytes and a reader that fails, the first is the answer.
+    ensures right { (i : ℕ) (reader later : R) → result ≡ Err (StreamsFault.Read i) → slice_get readers.old i ≡ Some reader →
+        slice_get readers.new i ≡ Some later → GaveRight (guest_of image.now) (R.left reader) (R.left later) }
     ensures kept { OnOk result ((i : ℕ) (reader later : R) → slice_get readers.old i ≡ Some reader → slice_get readers.new i ≡ Some later →
         R.failures later ≡ R.failures reader) }
 {
