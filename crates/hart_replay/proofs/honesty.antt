@@ -4,3 +4,4 @@ pub mod Plans
 pub mod Replays
 pub mod Schedules
 pub mod Primaries
+pub mod Stores

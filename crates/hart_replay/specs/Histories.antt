@@ -6,6 +6,8 @@ use Rattle.interleaving.specs.Log.{Edge, Log, IsHonest, IsCut}
 use Rattle.input_log.specs.declared.Input.{Input}
 use Rattle.input_log.specs.Inputs.{inputs_at}
 use Rattle.fragment_codec.specs.declared.types.Key.{Key}
+use Rattle.fragment_codec.specs.declared.frame.Frame.{Frame}
+use Rattle.fragment_codec.specs.declared.frame.Frame.TheVariants.{Log as LogFrame, Opening}
 use Rattle.fragment_codec.specs.Rules.{FragmentParts, OpeningParts}
 use Rattle.log_join.specs.Cells.{One}
 use Rattle.log_join.specs.Stores.{StoreView, opening_at, fragment_at}
@@ -43,6 +45,14 @@ module _ {Hart Page : Type 0} (system : System Hart Page (List Input)) (boot : M
     pub is_term : IsTerm term
     pub parent : o.parent ≡ term.parent
     pub base : (hart : ℕ) → count_at o.base hart ≡ term.log.start hart
+
+  -- the frame tells truly of its term
+  abbrev pub IsHonestFrame : Frame → Type 0
+  IsHonestFrame (LogFrame piece) = TellsOf (history piece.key.term).log piece.key.hart piece
+  IsHonestFrame (Opening o) = Opens (history o.term) o
+
+  abbrev pub AreHonest : List Frame → Type 0
+  AreHonest frames = (frame : Frame) → Contains frames frame → IsHonestFrame frame
 
   -- what came is of the history
   pub record IsHonestStore (store : StoreView) : Type 0 where

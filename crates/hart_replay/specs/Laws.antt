@@ -11,7 +11,10 @@ use Rattle.closed_cut.specs.declared.answer.Position.{Position}
 use Rattle.hart_replay.specs.declared.plans.PlannedLeg.{PlannedLeg}
 use Rattle.hart_replay.specs.Facts.{EndsInside, HasEdges, HasInputs}
 use Rattle.hart_replay.specs.Plans.{terms_of, BeginsAtBase, EndAt, log_of}
-use Rattle.hart_replay.specs.Histories.{TermHistory, machine_at, IsHonestStore}
+use Rattle.ft_types.specs.declared.guest.Guest.{Guest}
+use Rattle.fragment_codec.specs.declared.frame.Frame.{Frame}
+use Rattle.log_join.specs.Coming.{Gathers}
+use Rattle.hart_replay.specs.Histories.{TermHistory, machine_at, AreHonest, IsHonestStore}
 
 -- what a plan of the store has, up to the position
 pub record ArePlanned (store : StoreView) (position : Position) (legs : List PlannedLeg) : Type 0 where
@@ -63,3 +66,9 @@ module _ {Hart Page : Type 0} (system : System Hart Page (List Input)) where
       (boot : Machine Hart Page) (history : ℕ → TermHistory Hart Page) (store : StoreView) (position : Position) (legs : List PlannedLeg) →
       IsStore store → IsHonestStore system boot history store → ArePlanned store position legs →
       LeadToOne boot legs (machine_at system boot history position.term (count_at position.counts))
+
+  -- honest frames come together as a store of honest frames
+  abbrev pub HonestFramesGather : Type 0
+  HonestFramesGather =
+      (boot : Machine Hart Page) (history : ℕ → TermHistory Hart Page) (guest : Guest) (frames : List Frame) (store : StoreView) →
+      Gathers guest frames store → AreHonest system boot history frames → IsHonestStore system boot history store

@@ -3,7 +3,7 @@
 ghost use Rattle.std.specs.Prelude.{List};
 ghost use Rattle.interleaving.specs.Machine.{System};
 ghost use Rattle.input_log.specs.declared.Input.{Input as input_of_specs};
-ghost use Rattle.hart_replay.specs.Laws.{LegsFollow, LegsFindStart, PlansLeadToPosition};
+ghost use Rattle.hart_replay.specs.Laws.{LegsFollow, LegsFindStart, PlansLeadToPosition, HonestFramesGather};
 ghost use Rattle.hart_replay.specs.Primaries.{CutsArePieces, PiecesTell, OpeningsOpen, PrimariesAreHonest};
 
 /// In a plan of a store of honest frames each leg follows its term, from the machine with which the term began. Whatever
@@ -22,4 +22,9 @@ pub fn honest_primaries()
     ensures tell { PiecesTell }
     ensures openings { OpeningsOpen }
     ensures stores { PrimariesAreHonest }
+{}
+
+/// Honest frames of one history come together as a store of honest frames, in whatever order and however often.
+pub fn honest_stores<H, P>()
+    ensures { (system : System H P (List input_of_specs)) → HonestFramesGather system }
 {}

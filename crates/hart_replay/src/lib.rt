@@ -10,7 +10,7 @@ mod planning;
 mod plans;
 
 pub use fault::ReplayFault;
-pub use laws::{honest_plans, honest_primaries};
+pub use laws::{honest_plans, honest_primaries, honest_stores};
 pub use plain::replay_plain;
 pub use planning::plan;
 pub use plans::{Plan, PlannedLeg};

@@ -1,18 +1,24 @@
 -- Stores that frames came to, in whatever order and however often.
-use Rattle.std.proofs.Common.{◌≡◌, refl, sym, ap, subst, ◌∙◌, ℕ, zero, suc, List, [], ◌∷◌, ◌++◌, map, Bool, Contains, arith, append_assoc, append-nil}
+use Rattle.std.proofs.Common.{◌≡◌, refl, sym, ap, subst, ◌∙◌, ℕ, zero, suc, List, [], ◌∷◌, ◌++◌, map, Bool, true, false, cond, Contains, inl, inr, ◌⊎◌, arith, append_assoc, append-nil}
 use Rattle.std.proofs.lemmas.List.{map-append}
-use Rattle.std.specs.Ordering.{nat_cmp}
+use Rattle.std.specs.Ordering.{nat_cmp, eq_by_cmp}
+use Rattle.std.specs.declared.cmp.Ordering.{Ordering}
+use Rattle.std.specs.declared.cmp.Ordering.TheVariants.{Equal}
+use Rattle.std.specs.Cmp.{IsTotalOrder, nat_cmp_total, Equal-is}
+use Rattle.std.proofs.lemmas.Map.Lookups.{exact_unsigned}
+use Rattle.std.specs.Prelude.{Some, if◌then◌else◌}
 use Rattle.std.specs.FinMap as finite
 use Rattle.ft_types.specs.declared.guest.Guest.{Guest}
 use Rattle.fragment_codec.specs.declared.types.Key.{Key}
 use Rattle.fragment_codec.specs.declared.frame.Frame.{Frame}
+use Rattle.fragment_codec.specs.declared.frame.Frame.TheVariants.{Log, Opening}
 use Rattle.fragment_codec.specs.Rules.{FragmentParts, OpeningParts}
-use Rattle.log_join.specs.Cells.{Cell, Absent, join_cell, cell_of}
+use Rattle.log_join.specs.Cells.{Cell, Absent, One, Clash, join_cell, cell_of}
 use Rattle.log_join.specs.Tests.{same_opening, same_fragment}
 use Rattle.log_join.specs.Stores.{StoreView, key_cmp, opening_at, fragment_at, IsJoin, nothing, alone}
-use Rattle.log_join.specs.Laws.{CellsJoin, OrderMakesNoDifference, ComeGathers}
+use Rattle.log_join.specs.Laws.{CellsJoin, OrderMakesNoDifference, ComeGathers, OnlyGathered, GatheredIsStore}
 use Rattle.log_join.specs.Coming.{Come, Gathers, Nothing, Put, Join, SameFrames}
-use Rattle.log_join.proofs.Joins.{one_store}
+use Rattle.log_join.proofs.Joins.{one_store, keys_total, keys_exact}
 
 -- ---- cells of one key, joined
 
@@ -87,6 +93,65 @@ module _ {X : Type 0} (same : X → X → Bool) (laws : CellsJoin same) where
       ∙ same_all (λ f. at (alone f)) first second frames
       ∙ sym (gathered_cell guest at empty joins second b two)
 
+  -- one content of a join is one of its parts
+  one_part : (a b : Cell X) (x : X) → join_cell same a b ≡ One x → (a ≡ One x) ⊎ (b ≡ One x)
+  one_part Absent b x e = inr e
+  one_part (One y) Absent x e = inl e
+  one_part (One y) (One z) x e = of (same y z) e
+    where
+      of : (t : Bool) → (if t then One y else Clash) ≡ One x → (One y ≡ One x) ⊎ (One z ≡ One x)
+      of true f = inl f
+      of false f = cc
+  one_part (One y) Clash x e = cc
+  one_part Clash b x e = cc
+
+  brought : (bring : Frame → Cell X) (frames : List Frame) (x : X) → all_of (map bring frames) ≡ One x →
+      (frame : Frame) × Contains frames frame × (bring frame ≡ One x)
+  brought bring [] x e = cc
+  brought bring (frame ∷ frames) x e =
+      elim (one_part (bring frame) (all_of (map bring frames)) x e) [
+        | inl here ↦ (frame, (0, omega arith, refl), here)
+        | inr there ↦
+            let b = brought bring frames x there in
+            (b.0, (suc b.1.0, omega (arith, b.1.1), b.1.2), b.2)
+      ]
+
+  -- one content of a store was brought by a frame
+  pub one_brought : (guest : Guest) (at : StoreView → Cell X) → at (nothing guest) ≡ Absent →
+      ((a b c : StoreView) → IsJoin a b c → at c ≡ join_cell same (at a) (at b)) → (frames : List Frame) (store : StoreView) → Gathers guest frames store →
+      (x : X) → at store ≡ One x → (frame : Frame) × Contains frames frame × (at (alone frame) ≡ One x)
+  one_brought guest at empty joins frames store gathers x one =
+      brought (λ f. at (alone f)) frames x (sym (gathered_cell guest at empty joins frames store gathers) ∙ one)
+
+-- ---- the store of one frame
+
+same_one : {X : Type 0} (a b : X) → One a ≡ One b → a ≡ b
+same_one a b e = cc
+
+alone_at : {K X : Type 0} {R : K → K → Ordering} (o : IsTotalOrder R) (exact : (a b : K) → R a b ≡ Equal → a ≡ b) (k q : K) (v x : X) →
+    cell_of (finite.get (finite.insert (finite.empty {R = R}) k (Some v)) q) ≡ One x → (v ≡ x) × (q ≡ k)
+alone_at {R = R} o exact k q v x e =
+    of (eq_by_cmp R q k) refl (ap cell_of (sym (finite.get-insert o finite.empty k (Some v) q)) ∙ e)
+  where
+    of : (b : Bool) → eq_by_cmp R q k ≡ b → cell_of (cond b (Some (Some v)) (finite.get finite.empty q)) ≡ One x → (v ≡ x) × (q ≡ k)
+    of true t f = (same_one v x f, exact q k ((Equal-is (R q k)).0 t))
+    of false t f = absurd (let g : cell_of (finite.get finite.empty q) ≡ Absent = ap cell_of (finite.get-empty R q) in cc)
+
+nothing_at : {K X : Type 0} {R : K → K → Ordering} (q : K) (x : X) → cell_of (finite.get (finite.empty {R = R}) q) ≡ One x → ⊥
+nothing_at {R = R} q x e = let g : cell_of (finite.get finite.empty q) ≡ Absent = ap cell_of (finite.get-empty R q) in cc
+
+alone_opening : (frame : Frame) (term : ℕ) (o : OpeningParts) → opening_at (alone frame) term ≡ One o → (frame ≡ Opening o) × (o.term ≡ term)
+alone_opening (Opening p) term o e =
+    let h = alone_at nat_cmp_total exact_unsigned p.term term p o e in
+    (ap (λ (x : OpeningParts). Opening x) h.0, ap (λ (x : OpeningParts). x.term) (sym h.0) ∙ sym h.1)
+alone_opening (Log f) term o e = absurd (nothing_at term o e)
+
+alone_fragment : (frame : Frame) (key : Key) (f : FragmentParts) → fragment_at (alone frame) key ≡ One f → (frame ≡ Log f) × (f.key ≡ key)
+alone_fragment (Log g) key f e =
+    let h = alone_at keys_total keys_exact g.key key g f e in
+    (ap (λ (x : FragmentParts). Log x) h.0, ap (λ (x : FragmentParts). x.key) (sym h.0) ∙ sym h.1)
+alone_fragment (Opening p) key f e = absurd (nothing_at key f e)
+
 -- ---- stores
 
 of_guest : (guest : Guest) (frames : List Frame) (store : StoreView) → Gathers guest frames store → store.guest ≡ guest
@@ -111,3 +176,33 @@ gathers_more guest earlier (frame ∷ frames) old new before (next, joined, rest
 
 pub come_gathers : ComeGathers
 come_gathers guest frames store come = gathers_more guest [] frames (nothing guest) store (Nothing refl refl) come
+
+-- ---- what stands in a store
+
+pub only_gathered_in : CellsJoin same_opening → CellsJoin same_fragment → OnlyGathered
+only_gathered_in os fs guest frames store gathers =
+    record {
+      openings = λ term o one.
+          let b = one_brought same_opening os guest (λ s. opening_at s term) (ap cell_of (finite.get-empty nat_cmp term)) (λ x y z j. j.openings term) frames
+          store gathers o one in
+          let h = alone_opening b.0 term o b.2 in
+          (subst (λ (x : Frame). Contains frames x) h.0 b.1, h.1);
+      fragments = λ key f one.
+          let b = one_brought same_fragment fs guest (λ s. fragment_at s key) (ap cell_of (finite.get-empty key_cmp key)) (λ x y z j. j.fragments key) frames
+          store gathers f one in
+          let h = alone_fragment b.0 key f b.2 in
+          (subst (λ (x : Frame). Contains frames x) h.0 b.1, h.1);
+    }
+
+pub gathered_rules : CellsJoin same_opening → CellsJoin same_fragment → GatheredIsStore
+gathered_rules os fs guest frames store gathers right own =
+    let only = only_gathered_in os fs guest frames store gathers in
+    let same = of_guest guest frames store gathers in
+    record {
+      openings = λ term o one.
+          let h = only.openings term o one in
+          record { rules = right (Opening o) h.0; same_guest = own (Opening o) h.0 ∙ sym same; same_term = h.1 };
+      fragments = λ key f one.
+          let h = only.fragments key f one in
+          record { rules = right (Log f) h.0; same_guest = own (Log f) h.0 ∙ sym same; same_key = h.1 };
+    }

@@ -1,8 +1,12 @@
 -- What came to a store: frames that were put, and stores that were joined.
-use Rattle.std.specs.Prelude.{◌≡◌, List, [], ◌∷◌, ◌++◌, ◌↔◌, Contains}
+use Rattle.std.specs.Prelude.{ℕ, ◌≡◌, List, [], ◌∷◌, ◌++◌, ◌↔◌, Contains}
 use Rattle.ft_types.specs.declared.guest.Guest.{Guest}
 use Rattle.fragment_codec.specs.declared.frame.Frame.{Frame}
-use Rattle.log_join.specs.Stores.{StoreView, IsJoin, nothing, alone}
+use Rattle.fragment_codec.specs.declared.frame.Frame.TheVariants.{Log, Opening}
+use Rattle.fragment_codec.specs.declared.types.Key.{Key}
+use Rattle.fragment_codec.specs.Rules.{FragmentParts, OpeningParts}
+use Rattle.log_join.specs.Cells.{One}
+use Rattle.log_join.specs.Stores.{StoreView, opening_at, fragment_at, IsJoin, nothing, alone}
 
 -- the frames came to the store, one after the other
 abbrev pub Come : StoreView → List Frame → StoreView → Type 0
@@ -24,3 +28,8 @@ pub data Gathers (guest : Guest) (frames : List Frame) (store : StoreView) : Typ
 -- each frame of one is a frame of the other
 abbrev pub SameFrames : List Frame → List Frame → Type 0
 SameFrames first second = (frame : Frame) → Contains first frame ↔ Contains second frame
+
+-- each content of the store is that of one of these frames, at its key
+pub record HasOnly (frames : List Frame) (store : StoreView) : Type 0 where
+  pub openings : (term : ℕ) (o : OpeningParts) → opening_at store term ≡ One o → Contains frames (Opening o) × (o.term ≡ term)
+  pub fragments : (key : Key) (f : FragmentParts) → fragment_at store key ≡ One f → Contains frames (Log f) × (f.key ≡ key)

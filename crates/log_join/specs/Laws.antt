@@ -1,11 +1,12 @@
 -- The laws of joins, over all stores.
-use Rattle.std.specs.Prelude.{◌≡◌, Bool, ◌↔◌, IsTrue, List}
+use Rattle.std.specs.Prelude.{◌≡◌, Bool, ◌↔◌, IsTrue, List, Contains}
 use Rattle.ft_types.specs.declared.guest.Guest.{Guest}
 use Rattle.fragment_codec.specs.declared.frame.Frame.{Frame}
 use Rattle.fragment_codec.specs.Rules.{FragmentParts, OpeningParts}
 use Rattle.log_join.specs.Cells.{Cell, Absent, join_cell}
-use Rattle.log_join.specs.Stores.{StoreView, IsJoin, nothing as nothing_came}
-use Rattle.log_join.specs.Coming.{IsJoinOf, Gathers, SameFrames}
+use Rattle.log_join.specs.Stores.{StoreView, IsStore, IsJoin, nothing as nothing_came, guest_of}
+use Rattle.fragment_codec.specs.Streams.{IsFrame}
+use Rattle.log_join.specs.Coming.{IsJoinOf, Gathers, SameFrames, HasOnly}
 
 -- ---- cells
 
@@ -53,3 +54,12 @@ OrderMakesNoDifference = (guest : Guest) (first second : List Frame) (a b : Stor
 -- frames that came one after the other were gathered
 abbrev pub ComeGathers : Type 0
 ComeGathers = (guest : Guest) (frames : List Frame) (store : StoreView) → IsJoinOf guest frames store → Gathers guest frames store
+
+-- what stands in a store was gathered
+abbrev pub OnlyGathered : Type 0
+OnlyGathered = (guest : Guest) (frames : List Frame) (store : StoreView) → Gathers guest frames store → HasOnly frames store
+
+-- a store that gathered right frames of its guest keeps what every store keeps
+abbrev pub GatheredIsStore : Type 0
+GatheredIsStore = (guest : Guest) (frames : List Frame) (store : StoreView) → Gathers guest frames store →
+    ((frame : Frame) → Contains frames frame → IsFrame frame) → ((frame : Frame) → Contains frames frame → guest_of frame ≡ guest) → IsStore store

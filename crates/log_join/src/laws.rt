@@ -3,7 +3,7 @@
 ghost use Rattle.fragment_codec.specs.Rules.{FragmentParts, OpeningParts};
 ghost use Rattle.log_join.specs.Tests.{same_opening, same_fragment};
 ghost use Rattle.log_join.specs.Stores.{StoreView};
-ghost use Rattle.log_join.specs.Laws.{Tells, CellsJoin, OneJoin, Associates, Commutes, Idempotent, HasUnit, OrderMakesNoDifference, ComeGathers};
+ghost use Rattle.log_join.specs.Laws.{Tells, CellsJoin, OneJoin, Associates, Commutes, Idempotent, HasUnit, OrderMakesNoDifference, ComeGathers, OnlyGathered, GatheredIsStore};
 
 /// Contents are told apart exactly, and cells join in whatever order and however often.
 pub fn joins_of_cells()
@@ -22,8 +22,10 @@ pub fn joins_of_stores()
     ensures unit { HasUnit }
 {}
 
-/// Whoever took or joined the same frames, in whatever order and however often, holds one store.
+/// Whoever took or joined the same frames, in whatever order and however often, holds one store, and it has nothing else.
 pub fn order_and_repetition()
     ensures one { OrderMakesNoDifference }
     ensures in_turn { ComeGathers }
+    ensures only { OnlyGathered }
+    ensures rules { GatheredIsStore }
 {}

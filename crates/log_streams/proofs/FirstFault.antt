@@ -114,7 +114,7 @@ module _ (guest : GuestName) (stream : List ℕ) where
 -- ---- several streams
 
 -- right streams have no fault
-right_streams : (number : ℕ) (guest : GuestName) (streams : List (List ℕ)) (frames : List LogFrame) (f : StreamsFault) → SayAll guest streams frames →
+pub right_streams : (number : ℕ) (guest : GuestName) (streams : List (List ℕ)) (frames : List LogFrame) (f : StreamsFault) → SayAll guest streams frames →
     StandsInBytes f →
     IsFirstFault number guest streams f → ⊥
 right_streams number guest [] frames f s in_bytes h = h

@@ -5,3 +5,4 @@ pub mod Lifted
 pub mod FirstFault
 pub mod Outcomes
 pub mod Openings
+pub mod Truthful

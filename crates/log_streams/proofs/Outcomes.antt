@@ -1,5 +1,5 @@
 -- From the store of the streams' frames to what a replay of the streams gives.
-use Rattle.std.proofs.Common.{◌≡◌, ◌≢◌, ℕ, List, map, Option, Some, Result, Ok, Err, refl, subst}
+use Rattle.std.proofs.Common.{◌≡◌, ◌≢◌, ℕ, List, map, Option, Some, Result, Ok, Err, IfErr, refl, subst}
 use Rattle.ft_types.specs.declared.guest.Guest.{Guest as GuestName}
 use Rattle.log_join.specs.Stores.{StoreView}
 use Rattle.guest_image.specs.Image.{ImageContents, guest_of}
@@ -25,7 +25,7 @@ replay_cause image store legs (HaltedInside hart count) p ne cyclic halted = (le
 replay_cause image store legs OtherGuest p ne cyclic halted = absurd (ne refl)
 replay_cause image store legs NoMemory p ne cyclic halted = tt
 
-writes_other : {A : Type 0} (P Q : MachineState → Type 0) (r : Result A StreamsFault) (old new : Option (List ℕ)) (f g : ℕ) → ((m : MachineState) → P m → Q m) →
+pub writes_other : {A : Type 0} (P Q : MachineState → Type 0) (r : Result A StreamsFault) (old new : Option (List ℕ)) (f g : ℕ) → ((m : MachineState) → P m → Q m) →
     WritesTextOf P r old new f g → WritesTextOf Q r old new f g
 writes_other P Q (Ok x) old new f g to w = (w.0, to w.0 w.1, w.2)
 writes_other P Q (Err Write) old new f g to w = (w.0, to w.0 w.1, w.2)
@@ -113,3 +113,8 @@ read_unwritten image guest lefts (Replay x) old f h = some_streams (λ streams. 
     f) lefts (λ streams. (refl, refl))
 read_unwritten image guest lefts Write old f h = absurd (never_streams (λ streams. IsFirstFault 0 guest streams Write) lefts
     (λ streams k. no_write 0 guest streams k) h)
+
+-- once the store is known, no reader fails
+pub no_reader : {A : Type 0} (image : ImageContents) (store : StoreView) (r : Result A StreamsFault) (i : ℕ) → IfErr r (λ f. IsCauseIn image store f) →
+    r ≡ Err (Read i) → ⊥
+no_reader image store r i cause is = subst (λ x. IfErr x (λ f. IsCauseIn image store f)) is cause

@@ -3,3 +3,4 @@ pub mod Faults
 pub mod Reading
 pub mod Outcome
 pub mod Primary
+pub mod Honest

@@ -6,6 +6,7 @@ ghost use Rattle.guest_image.specs.Image.{guest_of};
 ghost use Rattle.log_streams.specs.declared.faults.StreamsFault.{StreamsFault as StreamsFaultName};
 ghost use Rattle.log_streams.specs.Streams.{OfStreams};
 ghost use Rattle.log_streams.specs.Faults.{IsFirstFault, StandsInBytes, AnswersOnly, Fails, IsBehind, GaveRight};
+ghost use Rattle.log_streams.specs.Honest.{History, TellTruly, IsOfHistory, IsOfDevices};
 ghost use Rattle.log_streams.specs.Outcome.{IsOutcome, IsOutcomeOf, WritesTextOf, IsCause, IsReplayFault, IsCauseIn};
 
 use crate::faults::StreamsFault;
@@ -63,6 +64,13 @@ pub fn replay_streams<R: Source, W: Sink>(
 
     // A fault is the first one of the streams, or where the plan of their frames has no end.
     ensures fault { IfErr result (λ f. OfStreams (map R.left readers.old) (λ streams. IsCause image.now streams f)) }
+
+    // Of streams of honest frames of one history of the image it is the text of the history's machine at the position of
+    // their join, and only memory, a reader or the writer may fail.
+    ensures history { (history : History) → OfStreams (map R.left readers.old) (λ streams. TellTruly image.now history streams →
+        WritesTextOf (IsOfHistory image.now history streams) result (W.bytes out.old) (W.bytes out.new) (W.failures out.old) (W.failures out.new)) }
+    ensures only_devices { IfErr result (λ f. (history : History) → OfStreams (map R.left readers.old) (λ streams. TellTruly image.now history streams →
+        IsOfDevices f)) }
 
     // Where the streams have a fault in their bytes, the first one is the answer, unless a reader or memory failed before.
     ensures exact { (streams : List (List ℕ)) (f : StreamsFaultName) → map R.left readers.old ≡ map Some streams → StandsInBytes f →

@@ -1,7 +1,12 @@
-use Rattle.std.proofs.Common.{map, ◌∙◌}
+use Rattle.std.proofs.Common.{◌≡◌, map, ◌∙◌, List, ℕ, subst}
 use Rattle.std.proofs.lemmas.Result.{err_from_is_err_and, IfErr-weaker}
 use Rattle.log_streams.specs.Outcome.{IsCauseIn}
-use Rattle.log_streams.proofs.Outcomes.{joined_written, joined_cause, read_cause, joined_answer, read_answer, read_unwritten}
+use Rattle.log_streams.proofs.Outcomes.{joined_written, joined_cause, read_cause, joined_answer, read_answer, read_unwritten, no_reader}
+use Rattle.ft_types.specs.declared.guest.Guest.{Guest as GuestName}
+use Rattle.log_streams.specs.declared.faults.StreamsFault.TheVariants.{Read}
+use Rattle.log_streams.specs.Faults.{GaveRight}
+use Rattle.log_streams.proofs.Lifted.{streams_to}
+use Rattle.log_streams.proofs.Truthful.{writes_history, devices_only}
 use Rattle.log_streams.proofs.streams.replay_streams.Goals as goal
 
 pub returns-in_err-store-clause-fault : goal.returns-in_err-store-clause-fault
@@ -41,3 +46,43 @@ returns-in_err-store-clause-written g c =
     let p = err_from_is_err_and c.from_residual.result c.from_residual.ensures.1 in
     rw (p.1, p.2) (read_unwritten c.args.image.now c.guest.result (map g.R.Source.left c.args.readers.now) c.in_err-store.field-0.0 _ _
     c.in_err-store.ensures.fault)
+
+pub returns-in_err-store-clause-history : goal.returns-in_err-store-clause-history
+returns-in_err-store-clause-history g c =
+    let p = err_from_is_err_and c.from_residual.result c.from_residual.ensures.1 in
+    rw (p.1, p.2) (λ history. streams_to _ _ (map g.R.Source.left c.args.readers.now)
+    (λ streams w truly. writes_history c.args.image.now history streams _ _ _ _ _ w truly)
+    (read_unwritten c.args.image.now c.guest.result (map g.R.Source.left c.args.readers.now) c.in_err-store.field-0.0 _ _ c.guest.ensures
+    c.in_err-store.ensures.fault))
+
+pub returns-in_err-store-clause-only_devices : goal.returns-in_err-store-clause-only_devices
+returns-in_err-store-clause-only_devices g c =
+    let p = err_from_is_err_and c.from_residual.result c.from_residual.ensures.1 in
+    rw (p.1, p.2) (λ history. streams_to _ _ (map g.R.Source.left c.args.readers.now)
+    (λ streams cause truly. devices_only c.args.image.now history streams c.in_err-store.field-0.0 cause truly)
+    (read_cause c.args.image.now c.guest.result (map g.R.Source.left c.args.readers.now) c.in_err-store.field-0.0 c.guest.ensures c.in_err-store.ensures.fault))
+
+pub returns-clause-history : goal.returns-clause-history
+returns-clause-history g c = λ history. streams_to _ _ (map g.R.Source.left c.args.readers.now)
+    (λ streams w truly. writes_history c.args.image.now history streams c.write_replayed.result _ _ _ _ w truly)
+    (joined_written c.args.image.now c.guest.result (map g.R.Source.left c.args.readers.now) c.in_ok-store.store c.write_replayed.result _ _ _ _ c.guest.ensures
+    c.in_ok-store.ensures.ok c.write_replayed.ensures.written)
+
+pub returns-clause-only_devices : goal.returns-clause-only_devices
+returns-clause-only_devices g c =
+    IfErr-weaker c.write_replayed.result (IsCauseIn c.args.image.now c.in_ok-store.store) _
+    (λ f cause history. streams_to _ _ (map g.R.Source.left c.args.readers.now)
+    (λ streams k truly. devices_only c.args.image.now history streams f k truly)
+    (joined_cause c.args.image.now c.guest.result (map g.R.Source.left c.args.readers.now) c.in_ok-store.store f c.guest.ensures
+    c.in_ok-store.ensures.ok cause)) c.write_replayed.ensures.fault
+
+pub returns-in_err-store-clause-right : goal.returns-in_err-store-clause-right
+returns-in_err-store-clause-right g c =
+    let p = err_from_is_err_and c.from_residual.result c.from_residual.ensures.1 in
+    rw (p.1, p.2) (λ i reader later is before after.
+    subst (λ (x : GuestName). GaveRight x (g.R.Source.left reader) (g.R.Source.left later)) c.guest.ensures
+    (c.in_err-store.ensures.right i reader later (cc) before after))
+
+pub returns-clause-right : goal.returns-clause-right
+returns-clause-right g c = λ i reader later is before after.
+    absurd (no_reader c.args.image.now c.in_ok-store.store c.write_replayed.result i c.write_replayed.ensures.fault is)
