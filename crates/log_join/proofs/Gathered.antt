@@ -22,8 +22,11 @@ use Rattle.log_join.proofs.Joins.{one_store, keys_total, keys_exact}
 
 -- ---- cells of one key, joined
 
+absent_not_one : {X : Type 0} (x : X) → Absent ≡ One x → ⊥
+absent_not_one x e = cc
+
 module _ {X : Type 0} (same : X → X → Bool) (laws : CellsJoin same) where
-  pub all_of : List (Cell X) → Cell X
+  abbrev pub all_of : List (Cell X) → Cell X
   all_of [] = Absent
   all_of (c ∷ cs) = join_cell same c (all_of cs)
 
@@ -107,7 +110,7 @@ module _ {X : Type 0} (same : X → X → Bool) (laws : CellsJoin same) where
 
   brought : (bring : Frame → Cell X) (frames : List Frame) (x : X) → all_of (map bring frames) ≡ One x →
       (frame : Frame) × Contains frames frame × (bring frame ≡ One x)
-  brought bring [] x e = cc
+  brought bring [] x e = absurd (absent_not_one x e)
   brought bring (frame ∷ frames) x e =
       elim (one_part (bring frame) (all_of (map bring frames)) x e) [
         | inl here ↦ (frame, (0, omega arith, refl), here)
@@ -128,29 +131,28 @@ module _ {X : Type 0} (same : X → X → Bool) (laws : CellsJoin same) where
 same_one : {X : Type 0} (a b : X) → One a ≡ One b → a ≡ b
 same_one a b e = cc
 
-alone_at : {K X : Type 0} {R : K → K → Ordering} (o : IsTotalOrder R) (exact : (a b : K) → R a b ≡ Equal → a ≡ b) (k q : K) (v x : X) →
-    cell_of (finite.get (finite.insert (finite.empty {R = R}) k (Some v)) q) ≡ One x → (v ≡ x) × (q ≡ k)
-alone_at {R = R} o exact k q v x e =
-    of (eq_by_cmp R q k) refl (ap cell_of (sym (finite.get-insert o finite.empty k (Some v) q)) ∙ e)
-  where
-    of : (b : Bool) → eq_by_cmp R q k ≡ b → cell_of (cond b (Some (Some v)) (finite.get finite.empty q)) ≡ One x → (v ≡ x) × (q ≡ k)
-    of true t f = (same_one v x f, exact q k ((Equal-is (R q k)).0 t))
-    of false t f = absurd (let g : cell_of (finite.get finite.empty q) ≡ Absent = ap cell_of (finite.get-empty R q) in cc)
+nothing_at : {K X : Type 0} (R : K → K → Ordering) (q : K) (x : X) → cell_of {X = X} (finite.get (finite.empty {R = R}) q) ≡ One x → ⊥
+nothing_at R q x e = absent_not_one x (ap cell_of (sym (finite.get-empty R q)) ∙ e)
 
-nothing_at : {K X : Type 0} {R : K → K → Ordering} (q : K) (x : X) → cell_of (finite.get (finite.empty {R = R}) q) ≡ One x → ⊥
-nothing_at {R = R} q x e = let g : cell_of (finite.get finite.empty q) ≡ Absent = ap cell_of (finite.get-empty R q) in cc
+module _ {K X : Type 0} (R : K → K → Ordering) (o : IsTotalOrder R) (exact : (a b : K) → R a b ≡ Equal → a ≡ b) (k q : K) (v x : X) where
+  alone_by : (b : Bool) → eq_by_cmp R q k ≡ b → cell_of {X = X} (cond b (Some (Some v)) (finite.get (finite.empty {R = R}) q)) ≡ One x → (v ≡ x) × (q ≡ k)
+  alone_by true t f = (same_one v x f, exact q k ((Equal-is (R q k)).0 t))
+  alone_by false t f = absurd (nothing_at R q x f)
+
+  alone_at : cell_of {X = X} (finite.get (finite.insert (finite.empty {R = R}) k (Some v)) q) ≡ One x → (v ≡ x) × (q ≡ k)
+  alone_at e = alone_by (eq_by_cmp R q k) refl (ap cell_of (sym (finite.get-insert o finite.empty k (Some v) q)) ∙ e)
 
 alone_opening : (frame : Frame) (term : ℕ) (o : OpeningParts) → opening_at (alone frame) term ≡ One o → (frame ≡ Opening o) × (o.term ≡ term)
 alone_opening (Opening p) term o e =
-    let h = alone_at nat_cmp_total exact_unsigned p.term term p o e in
+    let h = alone_at nat_cmp nat_cmp_total exact_unsigned p.term term p o e in
     (ap (λ (x : OpeningParts). Opening x) h.0, ap (λ (x : OpeningParts). x.term) (sym h.0) ∙ sym h.1)
-alone_opening (Log f) term o e = absurd (nothing_at term o e)
+alone_opening (Log f) term o e = absurd (nothing_at nat_cmp term o e)
 
 alone_fragment : (frame : Frame) (key : Key) (f : FragmentParts) → fragment_at (alone frame) key ≡ One f → (frame ≡ Log f) × (f.key ≡ key)
 alone_fragment (Log g) key f e =
-    let h = alone_at keys_total keys_exact g.key key g f e in
+    let h = alone_at key_cmp keys_total keys_exact g.key key g f e in
     (ap (λ (x : FragmentParts). Log x) h.0, ap (λ (x : FragmentParts). x.key) (sym h.0) ∙ sym h.1)
-alone_fragment (Opening p) key f e = absurd (nothing_at key f e)
+alone_fragment (Opening p) key f e = absurd (nothing_at key_cmp key f e)
 
 -- ---- stores
 

@@ -239,7 +239,9 @@ const FOREIGN_FIRST: &[Part] = &[OPENED, Piece(1, 0, 0, 4), Foreign, Bytes(b"XF"
 
 const FOREIGN_LAST: &[Part] = &[OPENED, Piece(1, 0, 0, 4), Bytes(b"XF"), Foreign];
 
-static TWO_FAULTS: [Case; 2] = [
+const WRONG_BEHIND_A_FRAME: &[Part] = &[OPENED, Piece(1, 0, 0, 4), Bytes(b"XF")];
+
+static TWO_FAULTS: [Case; 3] = [
     Case(
         REPLAY_A,
         &[IMAGE, File("log", FOREIGN_FIRST, Whole)],
@@ -248,6 +250,12 @@ static TWO_FAULTS: [Case; 2] = [
     Case(
         REPLAY_A,
         &[IMAGE, File("log", FOREIGN_LAST, Whole)],
+        Fault(b"fault stream 0 frame 1\n"),
+    ),
+    // The reader fails once it has given all of it.
+    Case(
+        REPLAY_A,
+        &[IMAGE, File("log", WRONG_BEHIND_A_FRAME, Failing(191))],
         Fault(b"fault stream 0 frame 1\n"),
     ),
 ];
