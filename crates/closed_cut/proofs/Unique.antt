@@ -1,12 +1,11 @@
 -- A store has one position.
-use Rattle.std.proofs.Common.{◌≡◌, inl, inr, ℕ, zero, suc, ◌<◌, ◌≤◌, List, Option, Some, None, refl, sym, ap, subst, ◌∙◌, arith}
+use Rattle.std.proofs.Common.{◌≡◌, inl, inr, ℕ, zero, suc, ◌<◌, ◌≤◌, Option, Some, None, refl, sym, ap, subst, ◌∙◌, arith}
 use Rattle.std.proofs.lemmas.Bool.{cases_lt}
 use Rattle.ft_types.specs.Counts.{count_at}
 use Rattle.fragment_codec.specs.Rules.{FragmentParts, OpeningParts}
 use Rattle.log_join.specs.Cells.{Cell, One}
 use Rattle.log_join.specs.Stores.{StoreView, IsStore, opening_at}
-use Rattle.closed_cut.specs.Chain.{Sound, IsTop}
-use Rattle.closed_cut.specs.Position.{pieces_of, Goes, Avail, Fits, IsReached, base_of, InChain, Self, Up, Stops, Last, Short, On, Walked, IsPosition, NoTop}
+use Rattle.closed_cut.specs.Position.{pieces_of, Goes, Avail, Fits, IsReached, base_of, InChain, Self, Up, Stops, Last, Short, On, IsPosition, NoTop}
 use Rattle.closed_cut.specs.Position.{Top}
 use Rattle.closed_cut.specs.declared.answer.Position.{Position}
 use Rattle.closed_cut.specs.Unique.{IsSamePosition, OnePosition, OrderKeepsThePosition}

@@ -1,9 +1,8 @@
 -- The laws of cells, for any test that decides whether contents are equal.
 use Rattle.std.proofs.Common.{◌≡◌, refl, sym, ap, subst, ◌∙◌, Bool, true, false, cond}
-use Rattle.std.specs.Prelude.{◌↔◌, IsTrue}
 use Rattle.std.specs.Bool.{Decides}
 use Rattle.log_join.specs.Cells.{Cell, Absent, One, Clash, join_cell}
-use Rattle.log_join.specs.Laws.{IsSemilattice, CellsJoin}
+use Rattle.log_join.specs.Laws.{CellsJoin}
 
 module _ {X : Type 0} {same : X → X → Bool} (told : (x y : X) → Decides (same x y) (x ≡ y)) where
   -- equal contents stay

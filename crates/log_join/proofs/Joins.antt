@@ -1,22 +1,18 @@
 -- The laws of stores, from those of cells.
-use Rattle.std.proofs.Common.{◌≡◌, refl, sym, ap, subst, ◌∙◌, Bool, true, false, cond, ℕ, List, [], ◌∷◌}
-use Rattle.std.specs.Prelude.{Option, Some, None, nat_eq}
-use Rattle.std.specs.Bool.{Decides}
-use Rattle.std.specs.Ordering.{nat_cmp, eq_by_cmp, is_eq, ordering_then}
+use Rattle.std.proofs.Common.{◌≡◌, refl, sym, ap, ◌∙◌, Bool, true, false, cond, ℕ, List, [], ◌∷◌}
+use Rattle.std.specs.Prelude.{Option, Some, None}
+use Rattle.std.specs.Ordering.{nat_cmp, eq_by_cmp, ordering_then}
 use Rattle.std.specs.declared.cmp.Ordering.{Ordering}
 use Rattle.std.specs.declared.cmp.Ordering.TheVariants.{Equal}
 use Rattle.std.specs.Cmp.{IsTotalOrder, nat_cmp_total, Equal-is}
 use Rattle.std.specs.FinMap as map
 use Rattle.std.proofs.lemmas.Cmp.{on_total, then_total}
-use Rattle.std.proofs.lemmas.Map.Lookups.{CmpEqualImpliesEq, exact_pairs, exact_unsigned}
-use Rattle.ft_types.specs.declared.guest.Guest.{Guest}
+use Rattle.std.proofs.lemmas.Map.Lookups.{exact_pairs, exact_unsigned}
 use Rattle.fragment_codec.specs.declared.types.Key.{Key}
-use Rattle.fragment_codec.specs.Rules.{FragmentParts, OpeningParts}
 use Rattle.log_join.specs.Cells.{Cell, Absent, One, Clash, join_cell, cell_of}
 use Rattle.log_join.specs.Tests.{same_opening, same_fragment}
-use Rattle.log_join.specs.Stores.{StoreView, key_cmp, opening_at, fragment_at, IsJoin, nothing}
+use Rattle.log_join.specs.Stores.{StoreView, key_cmp, opening_at, fragment_at, IsJoin}
 use Rattle.log_join.specs.Laws.{CellsJoin, OneJoin, Associates, Commutes, Idempotent, HasUnit}
-use Rattle.log_join.proofs.Cells.{cells_join}
 
 -- ---- keys in order
 

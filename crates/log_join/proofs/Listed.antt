@@ -1,13 +1,11 @@
 -- Lists and numbers of what a map of contents has.
-use Rattle.std.proofs.Common.{◌≡◌, refl, sym, ap, subst, ◌∙◌, Bool, true, false, cond, not, ◌&&◌, List, [], ◌∷◌, map, ℕ, suc, ◌+◌, ◌<◌, ◌≤◌, length, arith}
-use Rattle.std.proofs.Common.{inl, inr}
-use Rattle.std.specs.Prelude.{◌||◌, ◌↔◌, ◌≢◌, ◌⊎◌, is_some, Option, Some, None, IsSome, Contains, count_by}
+use Rattle.std.proofs.Common.{◌≡◌, refl, sym, ap, subst, ◌∙◌, Bool, true, false, cond, List, [], ◌∷◌, map, ℕ, suc, ◌+◌, ◌<◌, length, arith}
+use Rattle.std.specs.Prelude.{◌||◌, ◌↔◌, Option, Some, None, IsSome, Contains, count_by}
 use Rattle.std.specs.declared.cmp.Ordering.{Ordering}
 use Rattle.std.specs.declared.cmp.Ordering.TheVariants.{Less, Equal, Greater}
 use Rattle.std.specs.List.{list_any, AllByRecursion}
 use Rattle.std.specs.List.Sorted.{IsStrictlySortedBy}
-use Rattle.std.specs.Option.{option_map}
-use Rattle.std.specs.Ordering.{nat_cmp, eq_by_cmp, is_eq, is_lt, ordering_then}
+use Rattle.std.specs.Ordering.{eq_by_cmp, is_lt, ordering_then}
 use Rattle.std.specs.Cmp.{IsTotalOrder, eq_by_cmp_equiv, Equal-is}
 use Rattle.std.specs.Map.{keys_of, values_of, lookup}
 use Rattle.std.specs.BTreeMap.{BTreeMap, get, is_at, btree_map_len, IsOrdered}
@@ -20,7 +18,7 @@ use Rattle.std.proofs.lemmas.List.Recursion.{is_count_by}
 use Rattle.fragment_codec.specs.declared.frame.Frame.{Frame}
 use Rattle.log_join.specs.declared.content.Content.{Content}
 use Rattle.log_join.specs.declared.content.Content.TheVariants.{One as OneFrame, Clash as Clashed}
-use Rattle.log_join.specs.Cells.{Cell, Absent, One, Clash, cell_of}
+use Rattle.log_join.specs.Cells.{One, cell_of}
 use Rattle.log_join.specs.Stores.{is_clash}
 use Rattle.log_join.specs.Contents.{clashes, content_of, shown, is_one, listed, FitsAt}
 use Rattle.log_join.proofs.Shown.{cell, cell_shown}

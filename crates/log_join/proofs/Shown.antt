@@ -1,6 +1,6 @@
 -- How maps of contents are seen, key by key.
-use Rattle.std.proofs.Common.{◌≡◌, refl, sym, ap, subst, ◌∙◌, Bool, true, false, cond, not, ◌&&◌, List, [], ◌∷◌, map}
-use Rattle.std.specs.Prelude.{is_some, Option, Some, None}
+use Rattle.std.proofs.Common.{◌≡◌, refl, sym, ap, subst, ◌∙◌, Bool, true, false, cond, List, [], ◌∷◌, map}
+use Rattle.std.specs.Prelude.{Option, Some, None}
 use Rattle.std.specs.Bool.{Decides}
 use Rattle.std.specs.declared.cmp.Ordering.{Ordering}
 use Rattle.std.specs.declared.cmp.Ordering.TheVariants.{Equal}
@@ -9,16 +9,15 @@ use Rattle.std.specs.Option.{option_map}
 use Rattle.std.specs.Ordering.{eq_by_cmp, is_eq}
 use Rattle.std.specs.Cmp.{IsTotalOrder, eq_by_cmp_equiv, Equal-is}
 use Rattle.std.specs.Map.{lookup}
-use Rattle.std.specs.BTreeMap.{BTreeMap, get, is_at}
+use Rattle.std.specs.BTreeMap.{BTreeMap, get}
 use Rattle.std.specs.FinMap as finite
 use Rattle.fragment_codec.specs.declared.frame.Frame.{Frame}
-use Rattle.log_join.specs.declared.answers.Put.{Put}
-use Rattle.log_join.specs.declared.answers.Put.TheVariants.{New, Same, Clash as Clashes}
+use Rattle.log_join.specs.declared.answers.Put.TheVariants.{Same, Clash as Clashes}
 use Rattle.log_join.specs.declared.content.Content.{Content}
 use Rattle.log_join.specs.declared.content.Content.TheVariants.{One as OneFrame, Clash as Clashed}
-use Rattle.log_join.specs.Cells.{Cell, Absent, One, Clash, join_cell, cell_of}
+use Rattle.log_join.specs.Cells.{Cell, One, Clash, join_cell, cell_of}
 use Rattle.log_join.specs.Answers.{answer}
-use Rattle.log_join.specs.Contents.{same_frame, holds, joined, marked, copied, met, taken, put_answer, content_of, shown, FitsAt}
+use Rattle.log_join.specs.Contents.{same_frame, joined, met, taken, put_answer, content_of, shown, FitsAt}
 use Rattle.log_join.proofs.Maps.{tied_get}
 use Rattle.log_join.proofs.Joins.{join_absent}
 

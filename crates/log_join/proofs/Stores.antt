@@ -1,6 +1,6 @@
 -- What a store shows, from what its two maps have at each key.
 use Rattle.std.proofs.Common.{◌≡◌, refl, sym, ap, subst, ◌∙◌, Bool, true, false, cond, ℕ, ◌≤◌, ◌<◌, arith, inl, inr, ⊎_elim}
-use Rattle.std.specs.Prelude.{◌≢◌, ◌⊎◌, max, IsSome, Option, Some, None, Result, Ok, Err, IfOk, OnOk, OnErr, IsOk}
+use Rattle.std.specs.Prelude.{◌≢◌, ◌⊎◌, max, IsSome, Option, Some, None, Result, Ok, Err, IfOk, OnOk, OnErr}
 use Rattle.std.specs.declared.cmp.Ordering.{Ordering}
 use Rattle.std.specs.declared.cmp.Ordering.TheVariants.{Equal}
 use Rattle.std.specs.Ordering.{nat_cmp, eq_by_cmp}
@@ -16,20 +16,20 @@ use Rattle.ft_types.specs.declared.errors.Memory.{Memory}
 use Rattle.fragment_codec.specs.declared.types.Key.{Key}
 use Rattle.fragment_codec.specs.declared.frame.Frame.{Frame}
 use Rattle.fragment_codec.specs.declared.frame.Frame.TheVariants.{Log, Opening}
-use Rattle.fragment_codec.specs.Rules.{FragmentParts, OpeningParts, IsFragment, IsOpening}
+use Rattle.fragment_codec.specs.Rules.{FragmentParts, OpeningParts}
 use Rattle.log_join.specs.declared.answers.Put.{Put}
-use Rattle.log_join.specs.declared.answers.Put.TheVariants.{New, Same, Clash as Clashes, OtherGuest}
+use Rattle.log_join.specs.declared.answers.Put.TheVariants.{Same, Clash as Clashes, OtherGuest}
 use Rattle.log_join.specs.declared.answers.Found.{Found}
 use Rattle.log_join.specs.declared.answers.Found.TheVariants.{Absent as FindsNone, One as FindsOne, Clash as FindsClash}
 use Rattle.log_join.specs.declared.content.Content.{Content}
 use Rattle.log_join.specs.declared.content.Content.TheVariants.{One as OneFrame, Clash as Clashed}
 use Rattle.log_join.specs.declared.place.Place.{Place}
 use Rattle.log_join.specs.declared.shelves.Shelves.{Shelves}
-use Rattle.log_join.specs.Cells.{Cell, Absent, One, Clash, join_cell, cell_of}
+use Rattle.log_join.specs.Cells.{Absent, join_cell, cell_of}
 use Rattle.log_join.specs.Tests.{same_guest, same_opening, same_fragment}
-use Rattle.log_join.specs.Stores.{StoreView, key_cmp, opening_at, fragment_at, IsOpeningOf, IsFragmentOf, IsStore, IsJoin, IsLastTerm, nothing, alone}
-use Rattle.log_join.specs.Answers.{answer, answer_to, Puts, TellsOpening, TellsFragment}
-use Rattle.log_join.specs.Contents.{same_frame, taken, put_answer, met, shown, opening_part, fragment_part, key_of, place_of, place_cmp, TellsContent, FitsAt}
+use Rattle.log_join.specs.Stores.{StoreView, key_cmp, opening_at, fragment_at, IsOpeningOf, IsFragmentOf, IsStore, IsJoin, IsLastTerm, nothing}
+use Rattle.log_join.specs.Answers.{answer, Puts, TellsOpening, TellsFragment}
+use Rattle.log_join.specs.Contents.{same_frame, taken, put_answer, shown, opening_part, fragment_part, key_of, place_of, place_cmp, TellsContent, FitsAt}
 use Rattle.log_join.specs.Contents.{Fits, view_of, IsKept, IsMet}
 use Rattle.log_join.proofs.Told.{guests_told, openings_told, fragments_told}
 use Rattle.log_join.proofs.Maps.{tied_get}

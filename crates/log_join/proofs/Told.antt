@@ -1,8 +1,7 @@
 -- The tests tell openings and fragments apart exactly.
-use Rattle.std.proofs.Common.{◌≡◌, refl, sym, ap, subst, ◌∙◌, Bool, true, false, ℕ}
-use Rattle.std.specs.Prelude.{nat_eq, ◌==◌, ◌&&◌}
+use Rattle.std.proofs.Common.{◌≡◌, refl, ap}
+use Rattle.std.specs.Prelude.{◌==◌, ◌&&◌}
 use Rattle.std.specs.Bool.{Decides}
-use Rattle.std.specs.Cmp.Lexicographic.{pointwise}
 use Rattle.std.proofs.lemmas.Bool.Decides.{Decides-and, Decides-eqb, Decides-like}
 use Rattle.std.proofs.lemmas.Slice.Eq.{slice_eq-Decides, bytes_eq-Decides}
 use Rattle.ft_types.specs.declared.guest.Guest.{Guest}

@@ -1,5 +1,5 @@
 -- What a store has at a key, and the join of two.
-use Rattle.std.specs.Prelude.{◌≡◌, Bool, Option, Some, None, if◌then◌else◌}
+use Rattle.std.specs.Prelude.{Bool, Option, Some, None, if◌then◌else◌}
 
 -- nothing, one content, or several that differ
 pub data Cell (X : Type 0) : Type 0 where

@@ -2,7 +2,6 @@
 use Rattle.std.specs.Prelude.{◌≡◌, Bool, ◌↔◌, IsTrue, List, Contains}
 use Rattle.ft_types.specs.declared.guest.Guest.{Guest}
 use Rattle.fragment_codec.specs.declared.frame.Frame.{Frame}
-use Rattle.fragment_codec.specs.Rules.{FragmentParts, OpeningParts}
 use Rattle.log_join.specs.Cells.{Cell, Absent, join_cell}
 use Rattle.log_join.specs.Stores.{StoreView, IsStore, IsJoin, nothing as nothing_came, guest_of}
 use Rattle.fragment_codec.specs.Streams.{IsFrame}

@@ -1,5 +1,5 @@
 -- Stores of frames, as contracts see them.
-use Rattle.std.specs.Prelude.{◌≡◌, ◌≢◌, ◌≤◌, ◌<◌, ◌+◌, ◌⊎◌, ◌↔◌, ℕ, Bool, true, false, List, length, count_by, Contains, Option, Some, None, refl}
+use Rattle.std.specs.Prelude.{◌≡◌, ◌≢◌, ◌≤◌, ◌+◌, ◌⊎◌, ◌↔◌, ℕ, Bool, true, false, List, count_by, Contains, Option, Some, None, refl}
 use Rattle.std.specs.Ordering.{nat_cmp, ordering_then}
 use Rattle.std.specs.declared.cmp.Ordering.{Ordering}
 use Rattle.std.specs.List.Sorted.{IsStrictlySortedBy}
@@ -10,7 +10,7 @@ use Rattle.fragment_codec.specs.declared.types.Key.{Key}
 use Rattle.fragment_codec.specs.declared.frame.Frame.{Frame}
 use Rattle.fragment_codec.specs.declared.frame.Frame.TheVariants.{Log, Opening}
 use Rattle.fragment_codec.specs.Rules.{FragmentParts, OpeningParts, IsFragment, IsOpening}
-use Rattle.log_join.specs.Cells.{Cell, Absent, One, Clash, join_cell, cell_of}
+use Rattle.log_join.specs.Cells.{Cell, Absent, One, join_cell, cell_of}
 use Rattle.log_join.specs.Tests.{same_opening, same_fragment}
 use Rattle.log_join.specs.Codes.{coded_guest, coded_key, coded_opening, coded_fragment}
 

@@ -1,5 +1,5 @@
 -- When the contents of two frames are equal.
-use Rattle.std.specs.Prelude.{Bool, true, false, ◌&&◌, ◌==◌, nat_eq}
+use Rattle.std.specs.Prelude.{Bool, false, ◌&&◌, ◌==◌, nat_eq}
 use Rattle.std.specs.Cmp.Lexicographic.{pointwise}
 use Rattle.ft_types.specs.declared.guest.Guest.{Guest}
 use Rattle.input_log.specs.Alike.{same_input}

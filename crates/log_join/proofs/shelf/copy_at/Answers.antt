@@ -1,4 +1,4 @@
-use Rattle.std.proofs.Common.{◌≡◌, ◌∙◌, ap, refl, sym, get_or, take, ◌+◌}
+use Rattle.std.proofs.Common.{◌≡◌, ◌∙◌, ap, sym, take, ◌+◌}
 use Rattle.std.specs.Prelude.{◌||◌}
 use Rattle.std.specs.BTreeMap.{get}
 use Rattle.log_join.specs.Contents.{copied, is_among}

@@ -1,4 +1,3 @@
-use Rattle.std.proofs.Common.{◌≡◌}
 use Rattle.std.specs.Ordering.{nat_cmp}
 use Rattle.log_join.specs.declared.shelves.Shelves.{Shelves}
 use Rattle.log_join.specs.Contents.{is_among, place_cmp, IsKept}

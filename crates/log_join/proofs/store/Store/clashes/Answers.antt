@@ -1,4 +1,4 @@
-use Rattle.std.proofs.Common.{◌≡◌, ◌∙◌, ap, ℕ, ◌+◌}
+use Rattle.std.proofs.Common.{◌∙◌, ap, ℕ, ◌+◌}
 use Rattle.std.specs.Cmp.{nat_cmp_total}
 use Rattle.std.proofs.lemmas.Map.Lookups.{exact_unsigned}
 use Rattle.log_join.specs.declared.place.Place.{Place}

@@ -1,4 +1,4 @@
-use Rattle.std.proofs.Common.{◌≡◌, ap, subst}
+use Rattle.std.proofs.Common.{ap, subst}
 use Rattle.log_join.specs.Stores.{StoreView, IsJoin}
 use Rattle.log_join.proofs.Stores.{from_nothing}
 use Rattle.log_join.proofs.store.Store.copy.Goals as goal

@@ -3,7 +3,7 @@ use Rattle.log_join.specs.Stores.{StoreView, IsJoin}
 use Rattle.ft_types.specs.declared.guest.Guest.{Guest}
 use Rattle.log_join.specs.Contents.{Fits, view_of}
 use Rattle.log_join.proofs.Told.{guests_told}
-use Rattle.log_join.proofs.Stores.{same_view, met_view, met_fits, though_err}
+use Rattle.log_join.proofs.Stores.{same_view, met_view, though_err}
 use Rattle.log_join.proofs.store.Store.join.Goals as goal
 
 pub returns-in_err-join-clause-err : goal.returns-in_err-join-clause-err

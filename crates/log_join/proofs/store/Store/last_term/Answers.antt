@@ -1,4 +1,4 @@
-use Rattle.std.proofs.Common.{◌≡◌, sym, subst, ℕ}
+use Rattle.std.proofs.Common.{sym, subst, ℕ}
 use Rattle.log_join.specs.Stores.{StoreView, IsLastTerm}
 use Rattle.log_join.specs.Contents.{view_of}
 use Rattle.log_join.proofs.Stores.{last_is}
