@@ -1,17 +1,13 @@
 -- Stores that honest frames came to.
-use Rattle.std.proofs.Common.{◌≡◌, ℕ, List, Contains, subst}
-use Rattle.interleaving.specs.Machine.{Machine, System}
+use Rattle.std.proofs.Common.{ℕ, List, subst}
+use Rattle.interleaving.specs.Machine.{System}
 use Rattle.input_log.specs.declared.Input.{Input}
-use Rattle.ft_types.specs.declared.guest.Guest.{Guest}
 use Rattle.fragment_codec.specs.declared.types.Key.{Key}
-use Rattle.fragment_codec.specs.declared.frame.Frame.{Frame}
 use Rattle.fragment_codec.specs.declared.frame.Frame.TheVariants.{Log, Opening}
-use Rattle.log_join.specs.Stores.{StoreView}
-use Rattle.log_join.specs.Coming.{Gathers}
 use Rattle.log_join.proofs.Told.{openings_told, fragments_told}
 use Rattle.log_join.proofs.Cells.{cells_join}
 use Rattle.log_join.proofs.Gathered.{only_gathered_in}
-use Rattle.hart_replay.specs.Histories.{TermHistory, TellsOf, Opens}
+use Rattle.hart_replay.specs.Histories.{TellsOf, Opens}
 use Rattle.hart_replay.specs.Laws.{HonestFramesGather}
 
 module _ {Hart Page : Type 0} (system : System Hart Page (List Input)) where
