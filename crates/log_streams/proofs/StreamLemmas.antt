@@ -234,6 +234,13 @@ GoesAsFar feed later p q got =
     (first : StoreView) (read : List ℕ) (given : List LogFrame) → Follows read given feed → Takes first given p →
     (frames : List LogFrame) × Follows (read ++ got) (given ++ frames) later × Takes first (given ++ frames) q
 
+-- a fact of a text with nothing behind it, and of frames in three parts
+regrouped : (P : List ℕ → List LogFrame → Type 0) (text : List ℕ) (given more last : List LogFrame) → P (text ++ []) ((given ++ more) ++ last) →
+    P text (given ++ (more ++ last))
+regrouped P text given more last p =
+    subst (λ (x : List ℕ). P x (given ++ (more ++ last))) (append-nil text)
+    (subst (λ (fs : List LogFrame). P (text ++ []) fs) (append_assoc given more last) p)
+
 -- the empty piece that is pushed behind it brings out no fault
 pub goes_right : (feed middle later : Unread) (o p q : StoreView) (got : List ℕ) → GoesAsFar feed middle o p got → middle.fault ≡ None →
     GoesAsFar middle later p q [] → Goes feed later o q got
@@ -242,9 +249,9 @@ goes_right feed middle later o p q got one none two first read given follows tak
     let u = two first (read ++ got) (given ++ t.0) t.1 t.2 in
     let says = ended first (read ++ got) (given ++ t.0) ((given ++ t.0) ++ u.0) middle later q t.1 none u.1 u.2 in (
       t.0 ++ u.0,
-      rw (← append_assoc given t.0 u.0, ← append-nil (read ++ got)) u.1,
-      rw (← append_assoc given t.0 u.0) u.2,
-      rw (← append_assoc given t.0 u.0, ← append-nil (read ++ got)) says,
+      regrouped (λ x fs. Follows x fs later) (read ++ got) given t.0 u.0 u.1,
+      subst (λ (fs : List LogFrame). Takes first fs q) (append_assoc given t.0 u.0) u.2,
+      regrouped (λ x fs. Says first.guest x fs) (read ++ got) given t.0 u.0 says,
     )
 
 -- what it brings out stood behind the piece

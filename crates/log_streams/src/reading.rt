@@ -4,7 +4,7 @@ ghost use Rattle.std.specs.Prelude.{◌≡◌, ◌≤◌, ◌++◌, ℕ, List, l
 ghost use Rattle.fragment_codec.specs.declared.frame.Frame.{Frame as LogFrame};
 ghost use Rattle.fragment_codec.specs.Streams.{Follows};
 ghost use Rattle.log_join.specs.Stores.{StoreView, IsJoin, alone};
-ghost use Rattle.log_streams.specs.Streams.{IsOf, Says, OfStreams, AreJoined};
+ghost use Rattle.log_streams.specs.Streams.{IsOf, OfStreams, AreJoined};
 ghost use Rattle.log_streams.specs.Faults.{IsFirstFault, Fails, IsBehind, GaveRight};
 ghost use Rattle.log_streams.specs.Reading.{Takes, IsFaultOf, IsFaultAmong, fault_at, fault_in, IsPushFault, Told, Refused};
 
@@ -83,24 +83,6 @@ fn push(
     }
 }
 
-/// Takes the next piece of a stream, and looks for a fault behind its last frame, which an empty piece brings out.
-fn take_piece(
-    alloc: Global,
-    stream: usize,
-    feed: &mut Feed,
-    piece: &[u8],
-    store: &mut Store,
-) -> Result<(), StreamsFault>
-    ensures ok { OnOk result ((first : StoreView) (read : List ℕ) (given : List LogFrame) → Follows read given feed.old → Takes first given store.old →
-        (frames : List LogFrame) × Follows (read ++ piece.now) (given ++ frames) feed.new × Takes first (given ++ frames) store.new ×
-        Says first.guest (read ++ piece.now) (given ++ frames)) }
-    ensures fault { IfErr result (λ f. (first : StoreView) (read : List ℕ) (given : List LogFrame) → Follows read given feed.old → Takes first given store.old →
-        IsPushFault stream first.guest (read ++ piece.now) f) }
-{
-    push(alloc, stream, feed, piece, store)?;
-    push(alloc, stream, feed, &[], store)
-}
-
 /// What a read has put to the front of a piece.
 fn front_of(piece: &[u8], count: usize) -> &[u8]
     requires { count ≤ length piece.now }
@@ -130,7 +112,9 @@ fn read_into<R: Source>(
             return Err(StreamsFault::Read(stream));
         };
         let front = front_of(&piece, count);
-        take_piece(alloc, stream, &mut feed, front, store)?;
+        push(alloc, stream, &mut feed, front, store)?;
+        // The empty piece brings out a fault behind the last frame, before the reader may fail.
+        push(alloc, stream, &mut feed, &[], store)?;
         if count == 0 {
             return Ok(());
         }
