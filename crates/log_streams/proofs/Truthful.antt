@@ -1,5 +1,5 @@
 -- Streams of honest frames.
-use Rattle.std.proofs.Common.{◌≡◌, ◌≢◌, ◌⊎◌, ℕ, zero, suc, List, [], ◌∷◌, ◌++◌, Option, inl, inr, Result, Ok, Err, refl, sym, subst, Contains}
+use Rattle.std.proofs.Common.{◌≡◌, ◌⊎◌, ℕ, zero, suc, List, [], ◌∷◌, Option, inl, inr, Result, Ok, Err, subst, Contains, arith}
 use Rattle.std.specs.List.{AllByRecursion}
 use Rattle.std.proofs.lemmas.List.Elements.{Contains-append_cases}
 use Rattle.ft_types.specs.declared.guest.Guest.{Guest as GuestName}
@@ -20,11 +20,12 @@ use Rattle.hart_replay.proofs.honesty.Replays.{replays_history}
 use Rattle.hart_replay.proofs.honesty.Stores.{honest_gather}
 use Rattle.log_streams.specs.declared.faults.StreamsFault.{StreamsFault}
 use Rattle.log_streams.specs.declared.faults.StreamsFault.TheVariants.{Read, Frame, Guest, Replay, Write, Memory}
-use Rattle.log_streams.specs.Streams.{IsOf, Says, SayAll, AreJoined}
+use Rattle.log_streams.specs.Streams.{IsOf, SayAll, OfStreams, AreJoined}
 use Rattle.log_streams.specs.Faults.{IsFirstFault}
 use Rattle.log_streams.specs.Outcome.{IsOutcomeOf, IsOutcome, HasNoOutcome, IsCause, WritesTextOf}
 use Rattle.log_streams.specs.Honest.{History, TellTruly, IsOfHistory, IsOfDevices}
-use Rattle.log_streams.proofs.Outcomes.{writes_other}
+use Rattle.log_streams.proofs.Outcomes.{writes_other, read_unwritten}
+use Rattle.log_streams.proofs.Lifted.{streams_to}
 use Rattle.log_streams.proofs.FirstFault.{right_streams}
 
 -- ---- the frames of right streams
@@ -101,3 +102,14 @@ module _ (image : ImageContents) (history : History) (streams : List (List ℕ))
   devices_only (Replay fault) cause truly = never image history streams truly cause.0 cause.1 fault cause.2
   devices_only (Frame i fault) cause truly = right_streams 0 (guest_of image) streams truly.frames (Frame i fault) truly.say tt cause
   devices_only (Guest i) cause truly = right_streams 0 (guest_of image) streams truly.frames (Guest i) truly.say tt cause
+
+-- a fault of reading, with which nothing is written
+pub unwritten_history : (image : ImageContents) (history : History) (guest : GuestName) (lefts : List (Option (List ℕ))) (e : StreamsFault)
+    (old : Option (List ℕ)) (f : ℕ) → OfStreams lefts (λ streams. IsFirstFault 0 guest streams e) →
+    OfStreams lefts (λ streams. TellTruly image history streams → WritesTextOf (IsOfHistory image history streams)
+    (let r : Result (Unit {0}) StreamsFault = Err e in r) old old f f)
+unwritten_history image history guest lefts e old f h =
+    let r : Result (Unit {0}) StreamsFault = Err e in
+    streams_to (λ streams. WritesTextOf (IsOutcome image streams) r old old f f)
+    (λ streams. TellTruly image history streams → WritesTextOf (IsOfHistory image history streams) r old old f f) lefts
+    (λ streams w truly. writes_history image history streams r old old f f w truly) (read_unwritten image guest lefts e old f h)

@@ -1,5 +1,5 @@
 -- What streams of honest frames give.
-use Rattle.std.specs.Prelude.{◌≡◌, ℕ, List, Option, Result, Ok, Err}
+use Rattle.std.specs.Prelude.{◌≡◌, ℕ, List, Option}
 use Rattle.ft_types.specs.Counts.{count_at}
 use Rattle.interleaving.specs.Stored.{system_of, view}
 use Rattle.fragment_codec.specs.declared.frame.Frame.{Frame as LogFrame}

@@ -1,5 +1,5 @@
 use Rattle.log_streams.specs.declared.faults.StreamsFault.TheVariants.{Read}
-use Rattle.std.proofs.Common.{◌≡◌, refl, [], ap, take, rules, ◌<◌, length, ℕ, ◌∙◌}
+use Rattle.std.proofs.Common.{◌≡◌, refl, [], take, rules, ◌<◌, length, ◌∙◌}
 use Rattle.std.proofs.lemmas.Result.{err_from_is_err_and}
 use Rattle.log_streams.proofs.StreamLemmas.{consumes_nothing, push_refused, push_failures, reading_more, told, takes_none, nothing_wrong, still_right, not_read, goes_right, empty_fault}
 use Rattle.log_streams.proofs.reading.read_into.Goals as goal

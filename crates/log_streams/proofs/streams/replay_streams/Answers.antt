@@ -1,12 +1,11 @@
-use Rattle.std.proofs.Common.{◌≡◌, map, ◌∙◌, List, ℕ, subst}
+use Rattle.std.proofs.Common.{map, ◌∙◌, subst}
 use Rattle.std.proofs.lemmas.Result.{err_from_is_err_and, IfErr-weaker}
 use Rattle.log_streams.specs.Outcome.{IsCauseIn}
 use Rattle.log_streams.proofs.Outcomes.{joined_written, joined_cause, read_cause, joined_answer, read_answer, read_unwritten, no_reader}
 use Rattle.ft_types.specs.declared.guest.Guest.{Guest as GuestName}
-use Rattle.log_streams.specs.declared.faults.StreamsFault.TheVariants.{Read}
 use Rattle.log_streams.specs.Faults.{GaveRight}
 use Rattle.log_streams.proofs.Lifted.{streams_to}
-use Rattle.log_streams.proofs.Truthful.{writes_history, devices_only}
+use Rattle.log_streams.proofs.Truthful.{writes_history, devices_only, unwritten_history}
 use Rattle.log_streams.proofs.streams.replay_streams.Goals as goal
 
 pub returns-in_err-store-clause-fault : goal.returns-in_err-store-clause-fault
@@ -50,10 +49,8 @@ returns-in_err-store-clause-written g c =
 pub returns-in_err-store-clause-history : goal.returns-in_err-store-clause-history
 returns-in_err-store-clause-history g c =
     let p = err_from_is_err_and c.from_residual.result c.from_residual.ensures.1 in
-    rw (p.1, p.2) (λ history. streams_to _ _ (map g.R.Source.left c.args.readers.now)
-    (λ streams w truly. writes_history c.args.image.now history streams _ _ _ _ _ w truly)
-    (read_unwritten c.args.image.now c.guest.result (map g.R.Source.left c.args.readers.now) c.in_err-store.field-0.0 _ _ c.guest.ensures
-    c.in_err-store.ensures.fault))
+    rw (p.1, p.2) (λ history. unwritten_history c.args.image.now history c.guest.result (map g.R.Source.left c.args.readers.now) c.in_err-store.field-0.0
+    _ _ c.in_err-store.ensures.fault)
 
 pub returns-in_err-store-clause-only_devices : goal.returns-in_err-store-clause-only_devices
 returns-in_err-store-clause-only_devices g c =
