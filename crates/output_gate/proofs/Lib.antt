@@ -1,0 +1,7 @@
+pub mod Alls
+pub mod Fronts
+pub mod Gates
+pub mod Insides
+pub mod Members
+pub mod NotedRows
+pub mod Orders

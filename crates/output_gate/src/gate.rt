@@ -1,0 +1,203 @@
+//! The gate.
+
+ghost use Rattle.std.specs.Prelude.{◌≡◌, ◌≢◌, ◌↔◌, ◌⊎◌, ℕ, ◌+◌, ◌<◌, ◌≤◌, ◌++◌, ◌∷◌, [], max, take, drop, count_by, length, slice_index, slice_index_or, IfOk};
+ghost use Rattle.std.specs.Prelude.{OnOk, OnErr};
+ghost use Rattle.std.specs.List.{AllByRecursion};
+ghost use Rattle.ft_types.specs.Sets.{IsMember};
+ghost use Rattle.output_gate.specs.Gates.{LineView, noted_at, line_of, gone_of, waiting_of, offered_of, holder_count, after_release, held_outputs};
+ghost use Rattle.output_gate.specs.Gates.{waiting_count};
+ghost use Rattle.output_gate.specs.Orders.{AreInLine, RiseByHart, AreEarlier, IsLineOf};
+ghost use Rattle.output_gate.specs.Lines.{IsFront};
+
+use crate::line::Line;
+use crate::notes::keepers_counted;
+use crate::output::Output;
+use ft_types::{Count, Hart, Keeper, KeeperSet, Memory, Term};
+use std::alloc::Global;
+use std::marker::Model;
+use std::result::Result;
+
+/// Holds outputs back until enough keepers hold their steps.
+///
+/// Contracts see the counts that were noted of each keeper, and the outputs of each hart: those that went out, and those
+/// that wait.
+#[derive(Drop)]
+pub struct Gate {
+    term: Term,
+    keepers: u8,
+    need: u8,
+    noted: [[Count; 8]; 5],
+    lines: [Line; 8],
+}
+
+impl Model for Gate {
+    ghost use Rattle.output_gate.specs.Gates.{GateView};
+    ghost use Rattle.output_gate.specs.Lines.{IsGate};
+
+    ghost Value = { GateView };
+
+    ghost view = { λ g. record { term = g.term; keepers = g.keepers; need = g.need; noted = g.noted; lines = g.lines } };
+
+    ghost invariant = { λ g. IsGate g.keepers g.need g.noted g.lines };
+}
+
+/// How many outputs wait.
+fn kept_in(lines: &[Line; 8]) -> usize
+    ensures { result ≡ waiting_count lines.now }
+{
+    let mut kept = 0usize;
+    for hart in 0..8usize {
+        kept += lines[hart].kept();
+    }
+    kept
+}
+
+/// Adds the outputs that are held, by hart, then number, and says how many they are of each hart.
+fn give_all(
+    need: u8,
+    noted: &[[Count; 8]; 5],
+    lines: &[Line; 8],
+    given: &mut Vec<Output>,
+) -> Result<[usize; 8], Memory>
+    requires { (hart : ℕ) (other : LineView) → hart < 8 → AreInLine (slice_index_or lines.now hart other).waiting }
+    ensures given { OnOk result (given.new.items ≡ given.old.items ++ held_outputs need noted.now lines.now) }
+    ensures front { IfOk result (λ held. (hart : ℕ) (other : LineView) → hart < 8 →
+        IsFront need noted.now (slice_index held hart) (slice_index_or lines.now hart other).waiting) }
+{
+    let mut held = [0usize; 8];
+    for hart in 0..8usize {
+        held[hart] = lines[hart].give(need, noted, given)?;
+    }
+    Ok(held)
+}
+
+/// The first outputs of each hart wait no more: they went out.
+fn advance_all(lines: &mut [Line; 8], held: [usize; 8])
+    requires { (hart : ℕ) (other : LineView) → hart < 8 → slice_index held hart ≤ length (slice_index_or lines.old hart other).waiting }
+    ensures harts { length lines.new ≡ 8 }
+    ensures each { (hart : ℕ) (other : LineView) → hart < 8 → slice_index_or lines.new hart other
+        ≡ record {
+          gone = (slice_index_or lines.old hart other).gone ++ take (slice_index held hart) (slice_index_or lines.old hart other).waiting;
+          waiting = drop (slice_index held hart) (slice_index_or lines.old hart other).waiting;
+        } }
+{
+    for hart in 0..8usize {
+        lines[hart].advance(held[hart]);
+    }
+}
+
+/// Puts an output behind the others of its hart.
+fn offer_in(lines: &mut [Line; 8], output: Output) -> Result<(), Memory>
+    ensures hart { output.hart < 8 }
+    ensures harts { length lines.new ≡ 8 }
+    ensures line { OnOk result ((other : LineView) → slice_index_or lines.new output.hart other
+        ≡ record { gone = (slice_index_or lines.old output.hart other).gone; waiting = (slice_index_or lines.old output.hart other).waiting ++ output ∷ [] }) }
+    ensures others { (hart : ℕ) (other : LineView) → hart ≢ output.hart → slice_index_or lines.new hart other ≡ slice_index_or lines.old hart other }
+    ensures err { OnErr result (lines.new ≡ lines.old) }
+{
+    lines[output.hart.index()].push(output)
+}
+
+impl Gate {
+    /// A gate of a term with so many keepers, of which so many must hold an output. Nothing is noted and nothing waits.
+    pub fn new(alloc: Global, term: Term, keepers: u8, need: u8) -> Gate
+        requires { (0 < need) × (need ≤ keepers) × (keepers ≤ 5) }
+        ensures parts { (result.term ≡ term) × (result.keepers ≡ keepers) × (result.need ≡ need) }
+        ensures noted { (keeper hart : ℕ) → noted_at result keeper hart ≡ 0 }
+        ensures lines { (hart : ℕ) → line_of result hart ≡ record { gone = []; waiting = [] } }
+    {
+        Gate {
+            term,
+            keepers,
+            need,
+            noted: [[0; 8]; 5],
+            lines: [
+                Line::new(alloc),
+                Line::new(alloc),
+                Line::new(alloc),
+                Line::new(alloc),
+                Line::new(alloc),
+                Line::new(alloc),
+                Line::new(alloc),
+                Line::new(alloc),
+            ],
+        }
+    }
+
+    /// Takes a hart's next output, which isn't of an earlier step than those before it.
+    pub fn offer(&mut self, output: Output) -> Result<(), Memory>
+        requires number { output.number ≡ length (offered_of self.old output.hart) }
+        requires steps { AllByRecursion (λ o. o.step ≤ output.step) (offered_of self.old output.hart) }
+        ensures line { OnOk result (line_of self.new output.hart
+            ≡ record { gone = gone_of self.old output.hart; waiting = waiting_of self.old output.hart ++ output ∷ [] }) }
+        ensures others { (hart : ℕ) → hart ≢ output.hart → line_of self.new hart ≡ line_of self.old hart }
+        ensures rest { self.new ≡ record self.old { lines = self.new.lines } }
+        ensures err { OnErr result (self.new ≡ self.old) }
+    {
+        offer_in(&mut self.lines, output)
+    }
+
+    /// Notes a count, where it is greater than what is noted.
+    pub fn note(&mut self, keeper: Keeper, hart: Hart, count: Count)
+        requires { keeper < self.old.keepers }
+        ensures greatest { noted_at self.new keeper hart ≡ max (noted_at self.old keeper hart) count }
+        ensures others { (k h : ℕ) → (k ≢ keeper) ⊎ (h ≢ hart) → noted_at self.new k h ≡ noted_at self.old k h }
+        ensures rest { self.new ≡ record self.old { noted = self.new.noted } }
+    {
+        let row = keeper.index();
+        let column = hart.index();
+        self.noted[row][column] = self.noted[row][column].max(count);
+    }
+
+    /// The number of outputs that were offered and not released.
+    pub fn kept(&self) -> usize
+        ensures { result ≡ waiting_count self.now.lines }
+    {
+        kept_in(&self.lines)
+    }
+
+    /// The keepers noted above this step of the hart.
+    pub fn counted(&self, hart: Hart, step: Count) -> KeeperSet
+        ensures keepers { (keeper : ℕ) → IsMember result keeper ↔ (step < noted_at self.now keeper hart) }
+        ensures number { count_by (λ member. member) result ≡ holder_count self.now.noted hart step }
+    {
+        keepers_counted(&self.noted, hart, step)
+    }
+
+    /// Each hart's outputs are in line: those that went out, and behind them those that wait.
+    pub(crate) fn tell_lines(&self)
+        ensures harts { length self.now.lines ≡ 8 }
+        ensures each { (hart : ℕ) → hart < 8 → IsLineOf hart (line_of self.now hart) }
+    {
+        let _lines = &self.lines;
+    }
+
+    /// Releases the outputs that enough keepers hold.
+    fn release_held(&mut self, alloc: Global) -> Result<Vec<Output>, Memory>
+        ensures given { IfOk result (λ given. given.items ≡ held_outputs self.old.need self.old.noted self.old.lines) }
+        ensures rising { IfOk result (λ given. RiseByHart given.items) }
+        ensures lines { OnOk result ((hart : ℕ) → hart < 8 → line_of self.new hart ≡ after_release self.old.need self.old.noted (line_of self.old hart)) }
+        ensures offered { OnOk result ((hart : ℕ) → hart < 8 → offered_of self.new hart ≡ offered_of self.old hart) }
+        ensures rest { self.new ≡ record self.old { lines = self.new.lines } }
+        ensures err { OnErr result (self.new ≡ self.old) }
+    {
+        let mut given = Vec::new(alloc);
+        let held = give_all(self.need, &self.noted, &self.lines, &mut given)?;
+        advance_all(&mut self.lines, held);
+        Ok(given)
+    }
+
+    /// Releases the outputs that enough keepers hold, by hart, then number.
+    pub fn release(&mut self, alloc: Global) -> Result<Vec<Output>, Memory>
+        ensures given { IfOk result (λ given. given.items ≡ held_outputs self.old.need self.old.noted self.old.lines) }
+        ensures rising { IfOk result (λ given. RiseByHart given.items) }
+        ensures lines { OnOk result ((hart : ℕ) → hart < 8 → line_of self.new hart ≡ after_release self.old.need self.old.noted (line_of self.old hart)) }
+        ensures offered { OnOk result ((hart : ℕ) → hart < 8 → offered_of self.new hart ≡ offered_of self.old hart) }
+        // What still waits has a later step than what is given of its hart.
+        ensures earlier { IfOk result (λ given. AreEarlier given.items self.new) }
+        ensures rest { self.new ≡ record self.old { lines = self.new.lines } }
+        ensures err { OnErr result (self.new ≡ self.old) }
+    {
+        self.release_held(alloc)
+    }
+}

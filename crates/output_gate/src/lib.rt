@@ -1,0 +1,13 @@
+//! Outputs go out only once enough keepers acknowledged a position that holds their step.
+#![tactic(auto)]
+
+mod gate;
+mod laws;
+mod line;
+mod look;
+mod notes;
+mod output;
+
+pub use gate::Gate;
+pub use laws::outputs_go_in_order;
+pub use output::Output;

@@ -1,0 +1,37 @@
+//! What was noted of the keepers.
+
+ghost use Rattle.std.specs.Prelude.{◌≡◌, ◌↔◌, ℕ, ◌<◌, ◌≤◌, [], slice_index_or};
+ghost use Rattle.ft_types.specs.Counts.{count_at};
+ghost use Rattle.ft_types.specs.Sets.{IsMember};
+ghost use Rattle.output_gate.specs.Gates.{holder_count};
+
+use ft_types::{Count, Hart, KeeperSet};
+
+/// How many keepers are noted above this step of the hart.
+pub(crate) fn keepers_above(noted: &[[Count; 8]; 5], hart: Hart, step: Count) -> usize
+    ensures value { result ≡ holder_count noted.now hart step }
+    ensures limit { result ≤ 5 }
+{
+    let column = hart.index();
+    let mut keepers = 0usize;
+    for keeper in 0..5usize {
+        if noted[keeper][column] > step {
+            keepers += 1;
+        }
+    }
+    keepers
+}
+
+/// The keepers that are noted above this step of the hart.
+pub(crate) fn keepers_counted(noted: &[[Count; 8]; 5], hart: Hart, step: Count) -> KeeperSet
+    ensures { (keeper : ℕ) → IsMember result keeper ↔ (step < count_at (slice_index_or noted.now keeper []) hart) }
+{
+    let column = hart.index();
+    let mut set = KeeperSet::new();
+    for keeper in 0..5u8 {
+        if noted[keeper as usize][column] > step {
+            set = set.with(keeper);
+        }
+    }
+    set
+}
