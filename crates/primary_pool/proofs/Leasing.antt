@@ -29,7 +29,7 @@ use Rattle.hart_lease.specs.OpenLeases.{OpenView, has_taken}
 use Rattle.book_modes.specs.Recordings.{RecordingView, GoesOut, IsFilled, IsTaker, AreOwed, IsGiven, IsSettled, IsEnded, IsRecorded, LogsInputs, heard_by}
 use Rattle.book_modes.specs.Recordings.{right_at, right_met, right_stored}
 use Rattle.lease_rounds.specs.Leading.{IsFreeAlone, Fills, NoneYet, Steps, Takes, GoesOn}
-use Rattle.lease_rounds.proofs.Rounds.{IsAhead, lease_filled, own, harts_stay}
+use Rattle.lease_rounds.proofs.GoingOn.{IsAhead, lease_filled, own, harts_stay}
 use Rattle.primary_pool.specs.Running.{Continues, HearsMore, KeepHeld}
 
 -- recording, as a mode

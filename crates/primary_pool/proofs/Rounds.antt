@@ -15,7 +15,7 @@ use Rattle.hart_lease.specs.Runs.{counts_of, steps_taken}
 use Rattle.page_book.specs.Books.{BookView}
 use Rattle.book_modes.specs.Recordings.{RecordingView}
 use Rattle.lease_rounds.specs.Leading.{IsHeld, GoesOn, Rounds}
-use Rattle.lease_rounds.proofs.Rounds.{HasGoneOn, AsFar, has_gone_on, has_fewer, round_far, steps_left}
+use Rattle.lease_rounds.proofs.GoingOn.{HasGoneOn, AsFar, has_gone_on, has_fewer, round_far, steps_left}
 use Rattle.primary_pool.specs.Running.{IsIdle, AreThrough, IsThrough, Continues, GoWithin, HearsMore, KeepHeld}
 use Rattle.primary_pool.specs.Leading.{HasRun, IsSoFar}
 use Rattle.primary_pool.proofs.Leasing.{recording, ahead, limits, continues, keep_held}

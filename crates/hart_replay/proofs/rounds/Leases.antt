@@ -15,7 +15,7 @@ use Rattle.hart_lease.specs.Runs.{counts_of, steps_taken, heard_in}
 use Rattle.lease_rounds.specs.Leading as rounds
 use Rattle.lease_rounds.specs.Leading.{IsIdle, IsFreeAlone, Fills, NoneYet, Steps, Takes, GoesOn, Rounds}
 use Rattle.lease_rounds.proofs.Lending.{hart_at}
-use Rattle.lease_rounds.proofs.Rounds.{IsAhead, HasGoneOn, AsFar, has_gone_on, has_fewer, round_far, steps_left}
+use Rattle.lease_rounds.proofs.GoingOn.{IsAhead, HasGoneOn, AsFar, has_gone_on, has_fewer, round_far, steps_left}
 use Rattle.hart_replay.specs.declared.plans.PlannedLeg.{PlannedLeg}
 use Rattle.hart_replay.specs.Leading.{IsHeld, IsLeading, leg_of, HasStopped}
 
