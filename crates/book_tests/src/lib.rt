@@ -14,4 +14,6 @@ mod puts_out;
 #[cfg(test)]
 mod records;
 #[cfg(test)]
+mod runs;
+#[cfg(test)]
 mod starts;

@@ -1,6 +1,6 @@
 -- Leases, as contracts see them.
-use Rattle.std.specs.Prelude.{◌≡◌, ◌≢◌, ◌≤◌, ◌<◌, ◌⊎◌, ◌+◌, ◌-◌, ℕ, List, [], ◌∷◌, length, replicate, slice_get, slice_set, slice_index, slice_index_or, true}
-use Rattle.std.specs.Prelude.{Option, Some, None}
+use Rattle.std.specs.Prelude.{◌≡◌, ◌≢◌, ◌≤◌, ◌<◌, ◌⊎◌, ◌+◌, ◌-◌, ℕ, zero, suc, List, [], ◌∷◌, length, replicate, slice_get, slice_set, slice_index}
+use Rattle.std.specs.Prelude.{slice_index_or, true, Option, Some, None}
 use Rattle.ft_types.specs.declared.names.Want.{Want}
 use Rattle.ft_types.specs.declared.names.Want.TheVariants.{Read, Write}
 use Rattle.rv32_hart.specs.Hart.{Hart, with_earlier}
@@ -147,6 +147,16 @@ with_slot pages page (Writable new) = slice_set pages page new
 -- the machine with the lease's hart and pages
 abbrev pub laid : MachineState → LeaseView → MachineState
 laid m l = record { harts = slice_set m.harts l.hart l.present; pages = laid_pages m.pages l.slots }
+
+-- n steps, each of a lease that was not full
+abbrev pub StepsOn : ℕ → LeaseView → LeaseView → Type 0
+StepsOn zero l new = new ≡ l
+StepsOn (suc n) l new = (mid : LeaseView) × StepsOn n l mid × (IsFull mid → ⊥) × Ticks Done mid new
+
+-- steps until the lease is full, or until one that is not done
+abbrev pub Runs : Tick → LeaseView → LeaseView → Type 0
+Runs Done l new = (n : ℕ) × StepsOn n l new × IsFull new
+Runs answer l new = (n : ℕ) × StepsOn n l new × (IsFull new → ⊥) × Ticks answer new new
 
 -- the lease is this open one, which has the hart and the pages of this machine
 pub record IsOpen (machine : MachineState) (lent : OpenView) (l : LeaseView) : Type 0 where

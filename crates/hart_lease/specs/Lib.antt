@@ -1,4 +1,5 @@
 pub mod Slots
+pub mod Codes
 pub mod Taken
 pub mod OpenLeases
 pub mod Leases

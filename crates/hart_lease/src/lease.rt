@@ -10,7 +10,7 @@ ghost use Rattle.hart_lease.specs.Runs.{IsBareLease};
 ghost use Rattle.hart_lease.specs.Asks.{asked_by};
 ghost use Rattle.hart_lease.specs.OpenLeases.{idle};
 ghost use Rattle.input_log.specs.Alike.{same_input};
-ghost use Rattle.hart_lease.specs.Leases.{LeaseView, fresh, rung_bell, bells_rung, IsFull, Ticks, IsLent, IsLentAt, base_at, whole, whole_in};
+ghost use Rattle.hart_lease.specs.Leases.{LeaseView, fresh, rung_bell, bells_rung, IsFull, Ticks, StepsOn, Runs, IsLent, IsLentAt, base_at, whole, whole_in};
 ghost use Rattle.hart_lease.specs.Leases.{with_page_to_read, with_page_to_write};
 
 use crate::asked::Asked;
@@ -21,7 +21,7 @@ use edge_log::Edge;
 use ft_types::{Count, HART_LIMIT, Hart, Memory, PageNo, Want};
 use guest_image::{Machine, Page};
 use input_log::{Input, WaitingBell};
-use rv32_hart::{Decoder, HartState, Tick, tick, tick_running};
+use rv32_hart::{Decoder, HartState, Tick, run_quietly, tick, tick_running};
 use smallvec::SmallVec;
 use std::alloc::Global;
 use std::marker::Model;
@@ -275,6 +275,48 @@ impl Lease {
             return self.tick_on_inputs();
         }
         tick_running(&mut self.present, &mut *self.decoder, &mut self.pages)
+    }
+
+    /// Steps until the lease is full, or until one that is not done. There is room for one.
+    #[inline(never)]
+    pub fn run(&mut self) -> Tick
+        requires { ¬ (IsFull self.old) }
+        ensures does { Runs result self.old self.new }
+        // Whoever lent the lease still did.
+        ensures lent { (machine : MachineState) (taken : List (Option Taken)) (earlier : List (ℕ × ℕ)) → IsLent machine taken (whole earlier self.old) →
+            IsLent machine taken (whole earlier self.new) }
+    {
+        if self.steps() == 0 {
+            match self.first_tick() {
+                Tick::Done => {}
+                other => return other,
+            }
+        }
+        while !self.full() {
+            self.go_quietly();
+            if self.full() {
+                return Tick::Done;
+            }
+            match self.tick() {
+                Tick::Done => {}
+                other => return other,
+            }
+        }
+        Tick::Done
+    }
+
+    /// Steps that have a quick form, as many as come one after the other.
+    #[inline(always)]
+    fn go_quietly(&mut self)
+        requires room { ¬ (IsFull self.old) }
+        requires later { self.old.steps ≢ 0 }
+        ensures steps { (n : ℕ) × StepsOn n self.old self.new }
+        ensures further { self.old.steps ≤ self.new.steps }
+        ensures lent { (machine : MachineState) (taken : List (Option Taken)) (earlier : List (ℕ × ℕ)) → IsLent machine taken (whole earlier self.old) →
+            IsLent machine taken (whole earlier self.new) }
+    {
+        let limit = self.last.saturating_sub(self.present.count());
+        let _steps = run_quietly(&mut self.present, &mut self.pages, limit);
     }
 
     /// The first step. Inlined, so that the place of its answer is made ready at the first step alone.

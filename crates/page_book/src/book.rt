@@ -12,6 +12,7 @@ ghost use Rattle.page_book.specs.Answers.{IfHeldBy, OnHeldBy, OnGiven};
 ghost use Rattle.rv32_hart.specs.Hart.{Hart as HartRecord, with_outputs_of, without_outputs};
 
 use crate::answers::{BookFault, Need};
+use crate::laying::{add_stretch, take_back};
 use crate::lease::Lease;
 use book_modes::{Keep, Leg, Mode, Recording, Replaying, settled_counts, steps_taken};
 use edge_log::{Edge, EdgeLog};
@@ -161,58 +162,6 @@ fn give(lease: &mut hart_lease::Lease, page: PageNo, here: &Page, want: Want) ->
         _ => {}
     }
     Ok(())
-}
-
-/// Writes what a slot has into the machine, where it was written.
-fn lay_slot(machine: &mut Machine, page: PageNo, slot: Slot)
-    requires { page < length machine.old.pages }
-    ensures { machine.new ≡ record machine.old { pages = with_slot machine.old.pages page slot } }
-{
-    match slot {
-        Slot::Writable(new) => machine.put_page(page, new),
-        Slot::Missing => {}
-        Slot::Readable(same) => drop(same),
-    }
-}
-
-/// Writes the pages that were written into the machine.
-fn lay(machine: &mut Machine, slots: Vec<Slot>)
-    requires same { length slots.items ≡ length machine.old.pages }
-    requires limit { length slots.items ≤ 64 }
-    ensures { machine.new ≡ record machine.old { pages = laid_pages machine.old.pages slots.items } }
-{
-    let mut number = 0u8;
-    for slot in slots {
-        lay_slot(machine, PageNo::new(number), slot);
-        number += 1;
-    }
-}
-
-/// Puts the lease's hart back, which keeps the outputs that it has here, and its pages, and says how many steps it has.
-fn take_back(machine: &mut Machine, lease: hart_lease::Lease) -> u64
-    requires state { (h : HartRecord) × (slice_get machine.old.harts lease.hart ≡ Some h) × (without_outputs h ≡ without_outputs lease.base) }
-    requires as_many { length lease.slots ≡ length machine.old.pages }
-    ensures machine { (h : HartRecord) → slice_get machine.old.harts lease.hart ≡ Some h → machine.new ≡ laid machine.old
-        (record lease { present = with_outputs_of h lease.present }) }
-    ensures steps { result ≡ lease.steps }
-    ensures kept { IsBareLease lease }
-{
-    let _pages = machine.pages();
-    let hart = lease.hart();
-    let (present, slots, steps) = lease.spend();
-    machine.put_hart_but_outputs(hart, present);
-    lay(machine, slots);
-    steps
-}
-
-/// Adds a stretch to a journal that has room for it. One without steps adds nothing.
-fn add_stretch(journal: &mut Vec<Stretch>, hart: Hart, steps: u64)
-    requires { vec_len journal.old < vec_capacity journal.old }
-    ensures { journal.new.items ≡ added journal.old.items hart steps }
-{
-    if steps > 0 {
-        journal.push(Stretch { hart, steps }).unwrap();
-    }
 }
 
 /// Writes down that an open lease was given the right that it asked for, and found edges: these wait in it now.
@@ -397,6 +346,47 @@ impl<M: Mode> Book<M> {
         if !self.is_ours(&lease.own) {
             return Err(BookFault::Foreign);
         }
+        self.need_own(lease, page, want)
+    }
+
+    /// The same, of a lease that is known to be this book's.
+    pub fn need_own(
+        &mut self,
+        lease: &mut Lease,
+        page: PageNo,
+        want: Want,
+    ) -> Result<Need, BookFault>
+        requires ours { IsOurs self.old lease.old }
+        requires page { page < length self.old.machine.pages }
+        ensures memory { IfErr result (λ f. (f ≡ BookFault.Memory) × ((g : ℕ) → M.is_holder self.old.mode self.old.leases (asked_by lease.old page want) g →
+            ⊥)) }
+        ensures held { IfOk result (λ answer. IfHeldBy answer (λ harts. (g : ℕ) → IsMember harts g ↔ M.is_holder self.old.mode self.old.leases
+            (asked_by lease.old page want) g)) }
+        ensures not_free { IfOk result (λ answer. OnHeldBy answer (((g : ℕ) → M.is_holder self.old.mode self.old.leases (asked_by lease.old page want) g → ⊥) →
+            ⊥)) }
+        ensures free { IfOk result (λ answer. OnGiven answer ((g : ℕ) → M.is_holder self.old.mode self.old.leases (asked_by lease.old page want) g → ⊥)) }
+        // The page comes as it stands in the machine, to read, or to read and to write.
+        ensures given { IfOk result (λ answer. OnGiven answer ((here : List ℕ) → slice_get self.old.machine.pages page ≡ Some here →
+            lease.new ≡ record (with_page lease.old page want here) { edges = lease.new.edges })) }
+        // The edges that the hart's next step owes wait in the lease.
+        ensures taken { IfOk result (λ answer. OnGiven answer (HasTaken (M.owes self.old.mode (counts_of self.old.machine) (asked_by lease.old page want))
+            self.old.leases (asked_by lease.old page want) lease.old.edges lease.new.edges self.new.leases)) }
+        ensures mode { IfOk result (λ answer. OnGiven answer (M.gives self.old.mode (counts_of self.old.machine) (asked_by lease.old page want)
+            self.new.mode)) }
+        ensures ours { OnOk result (IsOurs self.new lease.new) }
+        // Where it waits or is refused, neither has changed.
+        ensures book_waits { IfOk result (λ answer. OnHeldBy answer (self.new ≡ self.old)) }
+        ensures lease_waits { IfOk result (λ answer. OnHeldBy answer (lease.new ≡ lease.old)) }
+        ensures book_kept { OnErr result (self.new ≡ self.old) }
+        ensures lease_kept { OnErr result (lease.new ≡ lease.old) }
+        // The book's machine and journal and the lease's hart and steps stay as they were.
+        ensures book { self.new ≡ record self.old { leases = self.new.leases; mode = self.new.mode } }
+        ensures hart { lease.new.hart ≡ lease.old.hart }
+        ensures base { lease.new.base ≡ lease.old.base }
+        ensures present { lease.new.present ≡ lease.old.present }
+        ensures steps { lease.new.steps ≡ lease.old.steps }
+        ensures stop { lease.new.stop ≡ lease.old.stop }
+    {
         let asked = lease.own.asks(page, want);
         let harts = self.mode.holders(&self.leases, &asked);
         if !harts.is_empty() {
@@ -426,10 +416,25 @@ impl<M: Mode> Book<M> {
         ensures start { OnOk result (self.new.start ≡ self.old.start) }
         ensures mode { OnOk result (M.settles self.old.mode lease keep self.new.mode) }
     {
-        let Lease { own } = lease;
-        if !self.is_ours(&own) {
-            return Err((Lease { own }, BookFault::Foreign));
+        if self.is_ours(&lease.own) {
+            return self.settle_own(lease, keep);
         }
+        Err((lease, BookFault::Foreign))
+    }
+
+    /// The same, of a lease that is known to be this book's.
+    pub fn settle_own(&mut self, lease: Lease, keep: Keep) -> Result<(), (Lease, BookFault)>
+        requires { IsOurs self.old lease }
+        ensures back { IfErr result (λ e. e.0 ≡ lease) }
+        ensures memory { IfErr result (λ e. e.1 ≡ BookFault.Memory) }
+        ensures kept { OnErr result (self.new ≡ self.old) }
+        ensures machine { OnOk result (self.new.machine ≡ laid self.old.machine (whole_in self.old.machine lease)) }
+        ensures journal { OnOk result (self.new.journal ≡ added self.old.journal lease.hart lease.steps) }
+        ensures leases { OnOk result (self.new.leases ≡ slice_set self.old.leases lease.hart None) }
+        ensures start { OnOk result (self.new.start ≡ self.old.start) }
+        ensures mode { OnOk result (M.settles self.old.mode lease keep self.new.mode) }
+    {
+        let Lease { own } = lease;
         if self.journal.reserve(1).is_err() {
             return Err((Lease { own }, BookFault::Memory));
         }

@@ -1,7 +1,7 @@
 //! A book's leases.
 
 ghost use Rattle.std.specs.Prelude.{◌≡◌, ◌<◌, ◌≤◌, ◌↔◌, ℕ, List, Option, length, IsTrue};
-ghost use Rattle.page_book.specs.Words.{IsBareLease, IsFull, IsLent, LeaseView, MachineState, slot_at, Taken, Ticks, want_of, whole};
+ghost use Rattle.page_book.specs.Words.{IsBareLease, IsFull, IsLent, LeaseView, MachineState, Runs, slot_at, Taken, Ticks, want_of, whole};
 
 use edge_log::Edge;
 use ft_types::{Count, Hart, PageNo, Want};
@@ -95,5 +95,17 @@ impl Lease {
             IsLent machine taken (whole earlier self.new) }
     {
         self.own.tick()
+    }
+
+    /// Steps until the lease is full, or until one that is not done. There is room for one.
+    #[inline(always)]
+    pub fn run(&mut self) -> Tick
+        requires { ¬ (IsFull self.old) }
+        ensures does { Runs result self.old self.new }
+        // It is as much the book's own as before.
+        ensures lent { (machine : MachineState) (taken : List (Option Taken)) (earlier : List (ℕ × ℕ)) → IsLent machine taken (whole earlier self.old) →
+            IsLent machine taken (whole earlier self.new) }
+    {
+        self.own.run()
     }
 }

@@ -11,3 +11,6 @@ pub mod Outputs
 pub mod CountedSteps
 pub mod Local
 pub mod Hardware
+pub mod QuickForms
+pub mod QuickSteps
+pub mod QuietSteps

@@ -2,19 +2,26 @@
 #![tactic(auto)]
 
 mod arithmetic;
+mod code;
 mod decoder;
 mod hart_core;
 mod memory_steps;
 mod outcome;
 mod pages;
+mod place;
+mod quick_form;
+mod quick_step;
+mod quiet_run;
 mod registers;
 mod state;
 mod step;
 mod steps;
 
+pub use code::{Code, CodedPages};
 pub use decoder::{Anew, Decode, Decoder};
 pub use outcome::Tick;
 pub use pages::Pages;
+pub use quiet_run::run_quietly;
 pub use registers::{Csrs, Received};
 pub use state::HartState;
 pub use step::{tick, tick_running, tick_with};

@@ -14,7 +14,7 @@ use rv32_isa::{LoadKind, Reg, StoreKind};
 use zaamo::{AmoOp, amo};
 
 #[inline(always)]
-fn load_value<P: Pages>(kind: LoadKind, page: PageNo, offset: u32, pages: &P) -> u32
+pub(crate) fn load_value<P: Pages>(kind: LoadKind, page: PageNo, offset: u32, pages: &P) -> u32
     requires page { page < length (P.ram pages.now).contents }
     requires right { may_read (P.ram pages.now) page ≡ true }
     requires offset { offset < 4096 }
@@ -102,7 +102,7 @@ fn load_from_device(core: &mut HartCore, kind: LoadKind, rd: Reg, address: u32)
 }
 
 #[inline(always)]
-fn is_aligned(kind: LoadKind, address: u32) -> bool
+pub(crate) fn is_aligned(kind: LoadKind, address: u32) -> bool
     ensures { result ≡ (address % load_width kind == 0) }
 {
     match kind {
@@ -136,7 +136,13 @@ pub(crate) fn load<P: Pages>(
 }
 
 #[inline(always)]
-fn store_value<P: Pages>(kind: StoreKind, page: PageNo, offset: u32, value: u32, pages: &mut P)
+pub(crate) fn store_value<P: Pages>(
+    kind: StoreKind,
+    page: PageNo,
+    offset: u32,
+    value: u32,
+    pages: &mut P,
+)
     requires page { page < length (P.ram pages.old).contents }
     requires right { may_write (P.ram pages.old) page ≡ true }
     requires offset { offset < 4096 }
@@ -175,7 +181,7 @@ fn store_to_ram<P: Pages>(
 }
 
 #[inline(always)]
-fn is_store_aligned(kind: StoreKind, address: u32) -> bool
+pub(crate) fn is_store_aligned(kind: StoreKind, address: u32) -> bool
     ensures { result ≡ (address % store_width kind == 0) }
 {
     match kind {

@@ -1,7 +1,8 @@
-use Rattle.std.proofs.Common.{rules, ◌≡◌, ◌∙◌, sym, slice_get, false, true≢false}
-use Rattle.hart_lease.specs.Leases.{whole_in, outputs_of}
+use Rattle.std.proofs.Common.{rules, ◌≡◌, ◌∙◌, subst, sym, slice_get, false, true≢false}
+use Rattle.hart_lease.specs.Leases.{LeaseView, whole_in, outputs_of}
+use Rattle.page_book.specs.Books.{IsOurs}
 use Rattle.page_book.proofs.Ours.{need_ours}
-use Rattle.page_book.proofs.book.Book.need.Goals as goal
+use Rattle.page_book.proofs.book.Book.need_own.Goals as goal
 
 pub returns-clause-ours : goal.returns-clause-ours
 returns-clause-ours g c =
@@ -25,7 +26,7 @@ hand_over-requires-clause-asks g c =
       journal = b.journal;
       asker = whole_in b.machine l;
       is_lease = c.asks-asked.ensures.kept.with_any (outputs_of (slice_get b.machine.harts l.hart));
-      is_lent = c.is_ours.ensures.0 (search rules);
+      is_lent = subst (λ (v : LeaseView). IsOurs b v) (sym c.lease.view_is) c.requires.ours;
       hart = search rules;
       count = search rules;
       page = search rules;

@@ -1,4 +1,4 @@
-use Rattle.std.proofs.Common.{rules, ◌≡◌, ◌∙◌, take, slice_get, length, ℕ, List, Some}
+use Rattle.std.proofs.Common.{◌≡◌, ◌∙◌, take, slice_get, length, ℕ, List, Some}
 use Rattle.rv32_hart.specs.Hart.{Hart}
 use Rattle.guest_image.specs.Machine.{MachineState, with_hart}
 use Rattle.hart_lease.specs.Leases.{LeaseView, outputs_of, whole_in, laid, IsLentBy}
@@ -7,7 +7,7 @@ use Rattle.book_modes.specs.Modes.{IsSettling, KeepsSettling, SettlesHeard}
 use Rattle.hart_lease.proofs.steps.EarlierOutputs.{longer, longer_there, cut_back, laid_longer, base_bare}
 use Rattle.page_book.proofs.Kept.{settled_kept}
 use Rattle.hart_lease.proofs.journals.GoingOn.{stands_ours}
-use Rattle.page_book.proofs.book.Book.settle.Goals as goal
+use Rattle.page_book.proofs.book.Book.settle_own.Goals as goal
 
 -- where its hart stands, the machine has its outputs with the lease's behind them
 made_longer : (m new : MachineState) (l : LeaseView) (i : ℕ) (h : Hart) (more : List (ℕ × ℕ)) → i ≡ l.hart → more ≡ l.present.outputs →
@@ -27,7 +27,7 @@ pub settle-requires : goal.settle-requires
 settle-requires g c =
     let i = c.self.inside in
     let l = c.lease.inside.own in
-    let ours : IsLentBy (open_at i.leases l.hart) i.machine (whole_in i.machine l) = rw (← c.self.view_is) at (c.is_ours.ensures.0 (search rules)) in
+    let ours : IsLentBy (open_at i.leases l.hart) i.machine (whole_in i.machine l) = rw (← c.self.view_is, ← c.lease.view_is) at c.requires in
     let settling : IsSettling (g.M.Mode.keeps i.mode) (whole_in i.machine l) =
     record {
       start = i.start;
@@ -64,7 +64,7 @@ take_back-steps-requires-clause-state g c =
     let m = c.self.inside.machine in
     let l = c.lease.inside.own in
     let h = c.hart.result.now in
-    let ours : IsLentBy (open_at c.self.inside.leases l.hart) m (whole_in m l) = rw (← c.self.view_is) at (c.is_ours.ensures.0 (search rules)) in
+    let ours : IsLentBy (open_at c.self.inside.leases l.hart) m (whole_in m l) = rw (← c.self.view_is, ← c.lease.view_is) at c.requires in
     let there : slice_get m.harts l.hart ≡ Some h = rw (← c.hart-hart.ensures.value) c.hart.ensures in
     let new = made_longer m c.add_outputs.new.self l c.hart-hart.result h c.outputs.result.now c.hart-hart.ensures.value c.outputs.ensures
     (c.in-Ok.ensures.added h c.hart.ensures) in (
@@ -91,7 +91,7 @@ invariant_of-self-2 g c =
     let h = c.hart.result.now in
     let earlier = outputs_of (slice_get i.machine.harts l.hart) in
     let w = whole_in i.machine l in
-    let ours : IsLentBy (open_at i.leases l.hart) i.machine w = rw (← c.self.view_is) at (c.is_ours.ensures.0 (search rules)) in
+    let ours : IsLentBy (open_at i.leases l.hart) i.machine w = rw (← c.self.view_is, ← c.lease.view_is) at c.requires in
     let there : slice_get i.machine.harts l.hart ≡ Some h = rw (← c.hart-hart.ensures.value) c.hart.ensures in
     let new = made_longer i.machine c.add_outputs.new.self l c.hart-hart.result h c.outputs.result.now c.hart-hart.ensures.value c.outputs.ensures
     (c.in-Ok.ensures.added h c.hart.ensures) in

@@ -1,0 +1,129 @@
+//! Leases that run beside leases that tick, on words that fall by chance.
+
+use crate::starts::{recording, same_machine, stands_at};
+use fixtures::{Crew, Dice, hart};
+use ft_types::{Count, Memory};
+use page_book::{Book, Keep, Need, Recording};
+use rv32_hart::Tick;
+use std::alloc::Global;
+use std::test::Fail;
+
+/// How a lease takes its steps.
+#[derive(Clone, Copy, PartialEq, Eq)]
+enum Way {
+    /// One after the other.
+    Ticks,
+    /// Many at once.
+    Runs,
+}
+
+/// One hart with two pages and a page that is not there. Its traps lead back to the first word; x1 is the first page's
+/// address, x2 the second one's, x3 that of the devices.
+static HEAD: &[u8] = b"harts 1\npages 2\n800002b7\n30529073\n800000b7\n80001137\nf00001b7\n";
+
+/// The opcodes of loads, stores, operations, branches and jumps, of atomic operations and CSRs, and one that is none.
+static OPCODES: [u32; 16] = [
+    0x03, 0x03, 0x03, 0x23, 0x23, 0x23, 0x13, 0x13, 0x33, 0x33, 0x63, 0x17, 0x67, 0x2f, 0x73, 0x0b,
+];
+
+/// A word of an instruction by chance, more often than not one that is there, whose address is in one of x0 to x3.
+fn word(dice: &mut Dice) -> u32 {
+    let opcode = OPCODES[usize::from(dice.roll() % 16)];
+    let random = u32::from_le_bytes([dice.roll(), dice.roll(), dice.roll(), dice.roll()]);
+    let kept = if opcode == 0x33 {
+        0x03ff_7f80
+    } else {
+        0x7fff_7f80
+    };
+    (random & kept & 0xfff0_7f80) | u32::from(dice.roll() % 4) << 15 | opcode
+}
+
+/// The line of a word.
+fn push_line(text: &mut Vec<u8>, word: u32) -> Result<(), Memory> {
+    for place in 0..8u32 {
+        let digit = (word >> (28 - 4 * place)) as u8 & 0xf;
+        text.push(if digit < 10 {
+            b'0' + digit
+        } else {
+            b'a' + (digit - 10)
+        })?;
+    }
+    text.push(b'\n')?;
+    Ok(())
+}
+
+fn guest_text(alloc: Global, seed: u64) -> Result<Vec<u8>, Memory> {
+    let mut dice = Dice::new(seed);
+    let mut text = Vec::new(alloc);
+    text.extend_from_slice(HEAD)?;
+    for _word in 0..60 {
+        push_line(&mut text, word(&mut dice))?;
+    }
+    Ok(text)
+}
+
+/// The file of a guest whose words fall by chance.
+fn guest(alloc: Global, seed: u64) -> Result<Vec<u8>, Fail> {
+    match guest_text(alloc, seed) {
+        Ok(text) => Ok(text),
+        Err(_) => Ok(guest_text(alloc, seed).map_err(|_| "memory")?),
+    }
+}
+
+/// Steps of the hart's open lease, until it is full or lacks a page.
+fn run(crew: &mut Crew<Recording>) -> Tick {
+    match &mut crew.leases[0] {
+        None => Tick::Halted,
+        Some(lease) if lease.full() => Tick::Halted,
+        Some(lease) => lease.run(),
+    }
+}
+
+/// Takes the steps of the hart's open lease, and asks for the pages that they lack.
+fn go(crew: &mut Crew<Recording>, way: Way) {
+    if way == Way::Ticks {
+        let _steps = crew.go(hart(0), 4096);
+        return;
+    }
+    for _page in 0..100 {
+        match run(crew) {
+            Tick::Miss(page, want) => {
+                if crew.ask(hart(0), page, want) != Ok(Need::Given) {
+                    return;
+                }
+            }
+            Tick::Memory => {}
+            Tick::Done | Tick::Halted => return,
+        }
+    }
+}
+
+/// The book of a guest, led this way up to a limit.
+fn led(alloc: Global, file: &[u8], limit: Count, way: Way) -> Result<Book<Recording>, Fail> {
+    let mut crew = recording(alloc, file, &[limit])?;
+    for _lease in 0..20 {
+        if crew.lend(alloc, hart(0)).is_err() {
+            break;
+        }
+        go(&mut crew, way);
+        let _settled = crew.settle(hart(0), Keep::All);
+    }
+    Ok(crew.end())
+}
+
+// Both ways lead to the same machine, in as many leases, also where the words store among themselves, trap and put out.
+#[test]
+fn a_run_is_its_ticks(rt: HostRuntime) -> Result<(), Fail> {
+    for seed in 1..60u64 {
+        let limit = 40 * seed + 1;
+        let file = guest(rt.alloc(), seed * 0x9e37_79b9)?;
+        let ticked = led(rt.alloc(), &file, limit, Way::Ticks)?;
+        let ran = led(rt.alloc(), &file, limit, Way::Runs)?;
+        assert!(rt; same_machine(&ticked, &ran), "{seed}");
+        assert!(rt;
+            stands_at(&ran, ticked.counts().as_slice(), ticked.journal().len()),
+            "{seed}"
+        );
+    }
+    Ok(())
+}

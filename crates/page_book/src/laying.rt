@@ -1,0 +1,62 @@
+//! What a lease that comes back leaves in the machine and in the journal.
+
+ghost use Rattle.std.specs.Prelude.{◌≡◌, ◌≤◌, ◌<◌, length, slice_get, Some};
+ghost use Rattle.std.specs.Vec.{vec_len, vec_capacity};
+ghost use Rattle.page_book.specs.Words.{added, IsBareLease, laid, laid_pages, with_slot};
+ghost use Rattle.rv32_hart.specs.Hart.{Hart as HartRecord, with_outputs_of, without_outputs};
+
+use ft_types::{Hart, PageNo};
+use guest_image::Machine;
+use hart_lease::{Slot, Stretch};
+
+/// Writes what a slot has into the machine, where it was written.
+fn lay_slot(machine: &mut Machine, page: PageNo, slot: Slot)
+    requires { page < length machine.old.pages }
+    ensures { machine.new ≡ record machine.old { pages = with_slot machine.old.pages page slot } }
+{
+    match slot {
+        Slot::Writable(new) => machine.put_page(page, new),
+        Slot::Missing => {}
+        Slot::Readable(same) => drop(same),
+    }
+}
+
+/// Writes the pages that were written into the machine.
+fn lay(machine: &mut Machine, slots: Vec<Slot>)
+    requires same { length slots.items ≡ length machine.old.pages }
+    requires limit { length slots.items ≤ 64 }
+    ensures { machine.new ≡ record machine.old { pages = laid_pages machine.old.pages slots.items } }
+{
+    let mut number = 0u8;
+    for slot in slots {
+        lay_slot(machine, PageNo::new(number), slot);
+        number += 1;
+    }
+}
+
+/// Puts the lease's hart back, which keeps the outputs that it has here, and its pages, and says how many steps it has.
+pub(crate) fn take_back(machine: &mut Machine, lease: hart_lease::Lease) -> u64
+    requires state { (h : HartRecord) × (slice_get machine.old.harts lease.hart ≡ Some h) × (without_outputs h ≡ without_outputs lease.base) }
+    requires as_many { length lease.slots ≡ length machine.old.pages }
+    ensures machine { (h : HartRecord) → slice_get machine.old.harts lease.hart ≡ Some h → machine.new ≡ laid machine.old
+        (record lease { present = with_outputs_of h lease.present }) }
+    ensures steps { result ≡ lease.steps }
+    ensures kept { IsBareLease lease }
+{
+    let _pages = machine.pages();
+    let hart = lease.hart();
+    let (present, slots, steps) = lease.spend();
+    machine.put_hart_but_outputs(hart, present);
+    lay(machine, slots);
+    steps
+}
+
+/// Adds a stretch to a journal that has room for it. One without steps adds nothing.
+pub(crate) fn add_stretch(journal: &mut Vec<Stretch>, hart: Hart, steps: u64)
+    requires { vec_len journal.old < vec_capacity journal.old }
+    ensures { journal.new.items ≡ added journal.old.items hart steps }
+{
+    if steps > 0 {
+        journal.push(Stretch { hart, steps }).unwrap();
+    }
+}
