@@ -37,7 +37,7 @@ fn is_right_len(kind: u8, len: u32) -> bool
     }
 }
 
-#[tactic(auto, using(crate::proofs::Numbers::little_32), unfolding(crate::specs::Streams::head_of))]
+#[tactic(auto, using(crate::proofs::bytes::Numbers::little_32), unfolding(crate::specs::Streams::head_of))]
 fn head(bytes: &[u8]) -> Result<Option<usize>, FrameFault>
     ensures { result ≡ head_of bytes.now }
 {

@@ -54,7 +54,7 @@ fn u8_at(bytes: &[u8]) -> Result<(u8, &[u8]), BodyError>
     }
 }
 
-#[tactic(auto, using(crate::proofs::Numbers::little_16), unfolding(crate::specs::Reading::number_at))]
+#[tactic(auto, using(crate::proofs::bytes::Numbers::little_16), unfolding(crate::specs::Reading::number_at))]
 fn u16_at(bytes: &[u8]) -> Result<(u16, &[u8]), BodyError>
     ensures { Gives (λ x. (x.0, x.1.now)) result (number_at w16 bytes.now) }
 {
@@ -65,7 +65,7 @@ fn u16_at(bytes: &[u8]) -> Result<(u16, &[u8]), BodyError>
     Ok((LittleEndian::read_u16(front), rest))
 }
 
-#[tactic(auto, using(crate::proofs::Numbers::little_32), unfolding(crate::specs::Reading::number_at))]
+#[tactic(auto, using(crate::proofs::bytes::Numbers::little_32), unfolding(crate::specs::Reading::number_at))]
 fn u32_at(bytes: &[u8]) -> Result<(u32, &[u8]), BodyError>
     ensures { Gives (λ x. (x.0, x.1.now)) result (number_at w32 bytes.now) }
 {
@@ -76,7 +76,7 @@ fn u32_at(bytes: &[u8]) -> Result<(u32, &[u8]), BodyError>
     Ok((LittleEndian::read_u32(front), rest))
 }
 
-#[tactic(auto, using(crate::proofs::Numbers::little_64), unfolding(crate::specs::Reading::number_at))]
+#[tactic(auto, using(crate::proofs::bytes::Numbers::little_64), unfolding(crate::specs::Reading::number_at))]
 fn u64_at(bytes: &[u8]) -> Result<(u64, &[u8]), BodyError>
     ensures { Gives (λ x. (x.0, x.1.now)) result (number_at w64 bytes.now) }
 {

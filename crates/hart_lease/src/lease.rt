@@ -338,7 +338,7 @@ impl Lease {
     }
 
     /// Whether the lease's hart and pages were lent by the machine, the pages at these counts.
-    #[tactic(auto, using(crate::proofs::Bare::lent_whole, crate::proofs::Bare::lent_bare))]
+    #[tactic(auto, using(crate::proofs::steps::EarlierOutputs::lent_whole, crate::proofs::steps::EarlierOutputs::lent_bare))]
     pub fn is_lent(&self, machine: &Machine, taken: &[Option<Taken>; 64]) -> bool
         requires { self.now.hart < length machine.now.harts }
         ensures { IsTrue result ↔ IsLent machine.now taken.now (whole_in machine.now self.now) }

@@ -1,3 +1,3 @@
 pub mod Filling
 pub mod Lending
-pub mod Rounds
+pub mod GoingOn

@@ -1,5 +1,5 @@
 -- From lease to lease, and from round to round, of a book that obeys a leg.
-use Rattle.std.proofs.Common.{◌≡◌, ℕ, ◌+◌, ◌<◌, ◌≤◌, [], length, length-set, Option, Bool, true, false, refl, sym, ap, subst, ◌∙◌, inl, inr, arith}
+use Rattle.std.proofs.Common.{◌≡◌, ℕ, ◌<◌, [], length, length-set, Option, Bool, true, false, refl, sym, ap, subst, ◌∙◌, inl, inr, arith}
 use Rattle.rv32_hart.specs.Hardware.{hardware}
 use Rattle.guest_image.specs.Machine.{MachineState}
 use Rattle.interleaving.specs.Stored.{halted_of}
@@ -15,7 +15,7 @@ use Rattle.hart_lease.specs.Runs.{counts_of, steps_taken, heard_in}
 use Rattle.lease_rounds.specs.Leading as rounds
 use Rattle.lease_rounds.specs.Leading.{IsIdle, IsFreeAlone, Fills, NoneYet, Steps, Takes, GoesOn, Rounds}
 use Rattle.lease_rounds.proofs.Lending.{hart_at}
-use Rattle.lease_rounds.proofs.Rounds.{IsAhead, HasGoneOn, AsFar, has_gone_on, has_fewer, round_far, steps_left}
+use Rattle.lease_rounds.proofs.GoingOn.{IsAhead, HasGoneOn, AsFar, has_gone_on, has_fewer, round_far, steps_left}
 use Rattle.hart_replay.specs.declared.plans.PlannedLeg.{PlannedLeg}
 use Rattle.hart_replay.specs.Leading.{IsHeld, IsLeading, leg_of, HasStopped}
 

@@ -1,6 +1,6 @@
 use Rattle.std.proofs.Common.{◌∙◌, ℕ, refl, subst}
 use Rattle.lease_rounds.specs.Leading.{Goes, NoHart}
-use Rattle.lease_rounds.proofs.Rounds.{round_goes, round_stands}
+use Rattle.lease_rounds.proofs.GoingOn.{round_goes, round_stands}
 use Rattle.lease_rounds.proofs.rounds.go_round.Goals.{then-branch, else-branch}
 use Rattle.lease_rounds.proofs.rounds.go_round.Goals as goal
 
