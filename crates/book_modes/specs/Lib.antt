@@ -4,4 +4,5 @@ pub mod Silences
 pub mod Hearings
 pub mod Recordings
 pub mod Obeying
+pub mod Yielding
 pub mod Words

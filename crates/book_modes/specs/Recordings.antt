@@ -1,6 +1,6 @@
 -- Books that record.
-use Rattle.std.specs.Prelude.{◌≡◌, ◌≢◌, ◌<◌, ◌≤◌, ◌↔◌, ℕ, zero, suc, Bool, true, false, List, [], ◌++◌, ◌∷◌, map, drop, replicate, length, slice_set, All}
-use Rattle.std.specs.Prelude.{AllPairs, Contains, is_some, slice_get, Option, Some, None, option_map, if◌then◌else◌}
+use Rattle.std.specs.Prelude.{◌≡◌, ◌≢◌, ◌<◌, ◌≤◌, ◌↔◌, ◌+◌, ◌&&◌, not, ℕ, zero, suc, Bool, true, false, List, [], ◌++◌, ◌∷◌, map, drop, replicate, length}
+use Rattle.std.specs.Prelude.{slice_set, All, AllPairs, Contains, is_some, slice_get, Option, Some, None, option_map, if◌then◌else◌}
 use Rattle.interleaving.specs.Machine.{Turn, steps}
 use Rattle.interleaving.specs.Log as theory
 use Rattle.interleaving.specs.Log.{Log, IsHonest}
@@ -14,7 +14,7 @@ use Rattle.input_log.specs.Waiting.{Queues, bells_of, others_of, others_staying,
 use Rattle.edge_log.specs.declared.Edge.{Edge}
 use Rattle.edge_log.specs.EdgeLog.{Edges, IsLog, edge_as, edges_of, start_of, AreAdded}
 use Rattle.crew_pages.specs.declared.right.PageRight.{PageRight}
-use Rattle.crew_pages.specs.Rights.{Right, right_of, unused, stands, given, give_up, IsOwed}
+use Rattle.crew_pages.specs.Rights.{Right, Shared, Exclusive, right_of, unused, stands, given, give_up, IsOwed}
 use Rattle.lease_ledger.specs.Ledger.{Ledger, Stub}
 use Rattle.lease_ledger.specs.Calls as calls
 use Rattle.lease_ledger.specs.Calls.{Reached, kept}
@@ -56,18 +56,18 @@ abbrev pub IsTaker : RecordingView → List (Option OpenView) → Asked → ℕ 
 IsTaker r leases asked other =
     (stands (right_at r.rights asked.page) asked.hart asked.want other ≡ true) × (has_taken (open_at leases other) asked.page ≡ true)
 
--- a hart whose right stands in the asker's way gives it up at its settled count
-abbrev pub yields : Asked → (ℕ → ℕ) → ℕ → Right → Right
-yields asked settled other right = if stands right asked.hart asked.want other then give_up right other (settled other) else right
+-- a right that each hart in the asker's way has given up at its settled count
+abbrev pub right_yielded : Asked → (ℕ → ℕ) → Right → Right
+right_yielded asked settled (Shared since readers left) =
+    let in_way : ℕ → Bool = stands (Shared since readers left) asked.hart asked.want in
+    Shared since (λ other. readers other && not (in_way other)) (λ other. if in_way other then Some (settled other) else left other)
+right_yielded asked settled (Exclusive owner at since left) =
+    let right : Right = Exclusive owner at since left in
+    if stands right asked.hart asked.want owner then give_up right owner (settled owner) else right
 
--- the first n harts do
-abbrev pub yielded : Asked → (ℕ → ℕ) → ℕ → Right → Right
-yielded asked settled zero right = right
-yielded asked settled (suc n) right = yields asked settled n (yielded asked settled n right)
-
--- what the asker meets: the page's right, which all eight harts have yielded
+-- what the asker meets: the page's right, which whoever was in its way has yielded
 unfoldable pub right_met : RecordingView → (ℕ → ℕ) → Asked → Right
-right_met r settled asked = yielded asked settled 8 (right_at r.rights asked.page)
+right_met r settled asked = right_yielded asked settled (right_at r.rights asked.page)
 
 -- the asker owes these edges, by rising other hart
 pub record AreOwed (r : RecordingView) (settled : ℕ → ℕ) (asked : Asked) (found : List Edge) : Type 0 where
@@ -114,11 +114,18 @@ pub record HasRung (before : List Queues) (l : LeaseView) (after : List Queues) 
   pub bells : (target : ℕ) → bells_of after target ≡ bells_of before target ++ bells_rung l target
   pub others : (target : ℕ) → others_of after target ≡ others_of before target
 
+-- an edge of this hart, of no step before this count
+pub record IsFrom (hart count : ℕ) (e : Edge) : Type 0 where
+  pub own : e.hart ≡ hart
+  pub from : count ≤ e.at
+
 -- a lease has come back: its edges and inputs are in the log, the bell that it rang waits, and its hart keeps what it is told
 -- of each page that it holds
 pub record IsSettled (r : RecordingView) (l : LeaseView) (keep : Keep) (new : RecordingView) : Type 0 where
   pub limits : new.limits ≡ r.limits
   pub edges : AreLogged r.edges l.edges new.edges
+  pub unsettled : All (IsFrom l.hart l.base.count) l.edges
+  pub counts : l.present.count ≡ l.base.count + l.steps
   pub inputs : LogsInputs l.steps r.inputs l new.inputs
   pub due : new.due ≡ due_after l.steps r.due l.hart
   pub desk : HasRung r.desk l new.desk
@@ -144,6 +151,7 @@ heard_by r = heard_in r.inputs
 
 -- the hart has taken what the desk has for its count
 pub record TakesFromDesk (r : RecordingView) (hart count : ℕ) (new : RecordingView) : Type 0 where
+  pub row : hart < length r.due
   pub rest : new ≡ record r { due = new.due; desk = new.desk }
   pub due : new.due ≡ slice_set r.due hart (due_from hart count (bells_of r.desk hart) (others_of r.desk hart))
   pub bells : bells_of new.desk hart ≡ drop 8 (bells_of r.desk hart)
@@ -232,8 +240,9 @@ pub record IsRecorded (r : RecordingView) (start machine : MachineState) (journa
   pub log : SaysAll r.edges start ledger.edges
   pub rights : AreRights ledger.rights (length start.pages) r.rights
   pub limits : length r.limits ≡ length start.harts
-  -- it has logged no input that a hart has yet to be given
+  -- it has logged no input that a hart has yet to be given, and none from before the start
   pub logged : (hart : ℕ) → All (λ x. x.0 < counts_of machine hart) (inputs_of r.inputs hart)
+  pub begun : (hart : ℕ) → All (λ x. counts_of start hart ≤ x.0) (inputs_of r.inputs hart)
   pub due : AreDue machine leases r.due
   pub bells : (hart : ℕ) → All (IsRung machine) (bells_of r.desk hart)
   pub inputs : AreInputs (length start.harts) r.inputs r.due r.desk

@@ -1,7 +1,7 @@
 //! Books that record: who has which right to each page, and the edges found.
 
-ghost use Rattle.std.specs.Prelude.{◌≡◌, ◌<◌, ◌≤◌, ◌^◌, ◌↔◌, ℕ, All, AllPairs, Contains, List, [], map, length, slice_index, slice_get, Some, IsTrue, IfOk};
-ghost use Rattle.std.specs.Prelude.{OnOk, OnErr, true, false, replicate};
+ghost use Rattle.std.specs.Prelude.{◌≡◌, ◌<◌, ◌≤◌, ◌^◌, ◌↔◌, ◌+◌, ℕ, All, AllPairs, Contains, List, [], map, length, slice_index, slice_get, Some, IsTrue};
+ghost use Rattle.std.specs.Prelude.{IfOk, OnOk, OnErr, true, false, replicate};
 ghost use Rattle.book_modes.specs.Words.{count_at, counts_of, edge_as, give_up, given, greater, has_taken, holds, inputs_of, is_bell, IsFree, IsInputOf};
 ghost use Rattle.book_modes.specs.Words.{IsMember, IsOwed, kept, owns, Queues, unused, whole};
 ghost use Rattle.crew_pages.specs.Rights.{right_of};
@@ -12,7 +12,8 @@ ghost use Rattle.book_modes.specs.Modes.{IsSettling};
 ghost use Rattle.book_modes.specs.Dues.{nothing_due, due_at, is_silent, stop_before};
 ghost use Rattle.rv32_hart.specs.Hart.{Hart as HartRecord};
 ghost use Rattle.book_modes.specs.Recordings.{RecordingView, IsUnused, IsRecorded, heard_by, IsFilled, GoesOut, IsOffered, LogsInputs, due_after, AreLogged};
-ghost use Rattle.book_modes.specs.Recordings.{PutsBell, IsTaker, AreOwed, IsGiven, IsSettled, IsEnded, keep_as, right_at, right_met, yielded};
+ghost use Rattle.book_modes.specs.Recordings.{PutsBell, IsFrom, IsTaker, AreOwed, IsGiven, IsSettled, IsEnded, keep_as, right_at, right_met};
+ghost use Rattle.book_modes.specs.Yielding.{yielded};
 
 use crate::due::Due;
 use crate::keep::Keep;
@@ -242,6 +243,8 @@ impl Recording {
             (self.old ≡ record r { desk = self.old.desk }) }
         ensures inputs { OnOk result (LogsInputs lease.now.steps self.old.inputs lease.now self.new.inputs) }
         ensures edges { OnOk result (AreLogged self.old.edges lease.now.edges self.new.edges) }
+        ensures unsettled { OnOk result (All (IsFrom lease.now.hart lease.now.base.count) lease.now.edges) }
+        ensures counts { OnOk result (lease.now.present.count ≡ lease.now.base.count + lease.now.steps) }
         ensures rest { self.new ≡ record self.old { inputs = self.new.inputs; edges = self.new.edges } }
         ensures err { OnErr result (self.new ≡ self.old) }
     {
@@ -309,6 +312,7 @@ impl Recording {
         requires page { asked.now.page < length self.now.rights }
         requires hart { asked.now.hart < length settled.now }
         requires count { asked.now.count < 2 ^ 48 }
+        requires few { (other : ℕ) → holds (right_at self.now.rights asked.now.page) other ≡ true → other < 8 }
         requires free { IsFree (right_met self.now (count_at settled.now) asked.now) asked.now.hart asked.now.want }
         ensures right { right_of result.0 ≡ given (right_met self.now (count_at settled.now) asked.now) asked.now.hart asked.now.want asked.now.count }
         ensures edges { (e : edge_found) → Contains result.1.items e ↔ IsOwed (right_met self.now (count_at settled.now) asked.now) asked.now.hart

@@ -3,3 +3,4 @@ pub mod Rows
 pub mod Devices
 pub mod Sets
 pub mod Text
+pub mod MemoryDevices

@@ -12,6 +12,7 @@ use Rattle.rv32_hart.specs.Hardware.{hardware}
 use Rattle.guest_image.specs.Image.{ImageContents}
 use Rattle.guest_image.specs.Machine.{boot_machine}
 use Rattle.page_book.specs.Books.{BookView}
+use Rattle.page_book.specs.Tellings.{TellsOn}
 use Rattle.book_modes.specs.Recordings.{RecordingView, heard_by, log_of, HasHonestLog}
 use Rattle.hart_lease.specs.Runs.{counts_of, journal_turns}
 use Rattle.fragment_codec.specs.declared.types.Key.{Key}
@@ -51,6 +52,11 @@ abbrev pub CutsArePieces : Type 0
 CutsArePieces =
     (guest : Guest) (term : ℕ) (book : BookView RecordingView) (old new : SealedView) (frames : List Frame) (piece : FragmentParts) →
     AreCut (book_log guest term book) guest.harts old frames new → Contains frames (Log piece) → IsPieceOf book piece.key.hart piece
+
+-- which it is still of each book that goes on from there
+abbrev pub PiecesLast : Type 0
+PiecesLast =
+    (b c : BookView RecordingView) (hart : ℕ) (piece : FragmentParts) → TellsOn b c → IsPieceOf b hart piece → IsPieceOf c hart piece
 
 -- and tells truly of the book's term
 abbrev pub PiecesTell : Type 0

@@ -11,7 +11,7 @@ use Rattle.interleaving.proofs.NextStep.{Rest, tail, counts_step}
 use Rattle.interleaving.proofs.Runs.{counts_grow}
 use Rattle.interleaving.proofs.Replay.{Followed, followed, confluence, rest_of}
 
-counts_after_le : (now : ℕ → ℕ) (order : List ℕ) (hart : ℕ) → now hart ≤ counts_after now order hart
+pub counts_after_le : (now : ℕ → ℕ) (order : List ℕ) (hart : ℕ) → now hart ≤ counts_after now order hart
 counts_after_le now [] hart = omega arith
 counts_after_le now (next ∷ order) hart = le_trans (bump_le now next hart) (counts_after_le (bump now next) order hart)
 

@@ -49,6 +49,13 @@ fewer_beside None Write l page here is lt lacks = fewer_set l.slots page (Writab
 fewer_beside (Some Read) Write l page here is lt lacks = fewer_set l.slots page (Writable here) lt (rw is (lit< tt))
 fewer_beside (Some Write) Write l page here is lt lacks = absurd (lacks tt)
 
+inputs_beside : (held : Option Want) (want : Want) (l : LeaseView) (page : ℕ) (here : List ℕ) → (with_page_beside held want l page here).inputs ≡ l.inputs
+inputs_beside None Read l page here = refl
+inputs_beside (Some held) Read l page here = refl
+inputs_beside None Write l page here = refl
+inputs_beside (Some Read) Write l page here = refl
+inputs_beside (Some Write) Write l page here = refl
+
 page_at : (pages : List (List ℕ)) (page : ℕ) → page < length pages → (here : List ℕ) × (slice_get pages page ≡ Some here)
 page_at [] page lt = absurd (omega arith)
 page_at (p ∷ pages) zero lt = (p, refl)
@@ -70,6 +77,13 @@ module _ {M : Type 0} (b : BookView M) (l : LeaseView) (alone : IsAlone b l) (pa
       let here = page_at b.machine.pages page need_within in
       subst (λ (x : LeaseView). lacking (map want_of x.slots) < lacking (map want_of l.slots)) (sym (given here.0 here.1))
       (fewer_beside (want_of (slot_at l.slots page)) want l page here.0 refl on_page lacks)
+
+  -- its first step's inputs stay
+  pub inputs_stay : (k : LeaseView) (want : Want) →
+      ((here : List ℕ) → slice_get b.machine.pages page ≡ Some here → k ≡ record (with_page l page want here) { edges = k.edges }) → k.inputs ≡ l.inputs
+  inputs_stay k want given =
+      let here = page_at b.machine.pages page need_within in
+      ap (λ (x : LeaseView). x.inputs) (given here.0 here.1) ∙ inputs_beside (want_of (slot_at l.slots page)) want l page here.0
 
 -- the lease stays the book's only one
 pub still_alone : {M : Type 0} (b c : BookView M) (l k : LeaseView) (lent : Option OpenView) → IsAlone b l → k.hart ≡ l.hart → IsOurs c k →
@@ -128,6 +142,7 @@ pub record HasFilled {M : Type 0} (b : BookView M) (l : LeaseView) (c : BookView
   pub book : c ≡ record b { leases = c.leases; mode = c.mode }
   pub hart : k.hart ≡ l.hart
   pub base : k.base ≡ l.base
+  pub inputs : k.inputs ≡ l.inputs
   pub stop : k.stop ≡ l.stop
   pub gone : HasGone l k
 
@@ -150,13 +165,14 @@ gone_as l k m gone present steps stop =
 
 module _ {M : Type 0} (g : Ghosts M) (b : BookView M) (l : LeaseView) where
   pub has_filled : StepCounts → (c : BookView M) (k : LeaseView) → Fills g b l c k → HasFilled b l c k
-  has_filled counts c k NoneYet = record { book = refl; hart = refl; base = refl; stop = refl; gone = inl (refl, refl) }
+  has_filled counts c k NoneYet = record { book = refl; hart = refl; base = refl; inputs = refl; stop = refl; gone = inl (refl, refl) }
   has_filled counts c k (Steps {c = now} {k = before} n fills room t) =
       let f = has_filled counts now before fills in
       record {
         book = f.book;
         hart = ap (λ (x : LeaseView). x.hart) t.0 ∙ f.hart;
         base = ap (λ (x : LeaseView). x.base) t.0 ∙ f.base;
+        inputs = ap (λ (x : LeaseView). x.inputs) t.0 ∙ f.inputs;
         stop = ap (λ (x : LeaseView). x.stop) t.0 ∙ f.stop;
         gone = counts_on l before k f.gone (ap (λ (x : LeaseView). x.stop) t.0) (counts before k t) (below_stop before room);
       }
@@ -166,6 +182,7 @@ module _ {M : Type 0} (g : Ghosts M) (b : BookView M) (l : LeaseView) where
         book = given.book ∙ ap (λ (x : BookView M). let y : BookView M = record x { leases = c.leases; mode = c.mode } in y) f.book;
         hart = given.hart ∙ f.hart;
         base = given.base ∙ f.base;
+        inputs = given.inputs ∙ f.inputs;
         stop = given.stop ∙ f.stop;
         gone = gone_as l held k f.gone given.present given.steps given.stop;
       }

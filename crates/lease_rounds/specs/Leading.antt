@@ -64,6 +64,7 @@ module _ {M : Type 0} (g : Ghosts M) where
     pub hart : k.hart ≡ l.hart
     pub base : k.base ≡ l.base
     pub present : k.present ≡ l.present
+    pub inputs : k.inputs ≡ l.inputs
     pub steps : k.steps ≡ l.steps
     pub stop : k.stop ≡ l.stop
 

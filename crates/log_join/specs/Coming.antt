@@ -20,9 +20,11 @@ IsJoinOf guest frames store = Come (nothing guest) frames store
 -- these frames, and no others, were put into the store, or into stores that were joined to it, and so on
 pub data Gathers (guest : Guest) : List Frame → StoreView → Type 0 where
   Nothing : {frames : List Frame} {store : StoreView} → frames ≡ [] → store ≡ nothing guest → Gathers guest frames store
-  Put : {frames : List Frame} {store : StoreView} (earlier : List Frame) (frame : Frame) (old : StoreView) → Gathers guest earlier old → IsJoin old (alone frame) store →
+  Put : {frames : List Frame} {store : StoreView} (earlier : List Frame) (frame : Frame) (old : StoreView) → Gathers guest earlier old →
+      IsJoin old (alone frame) store →
       frames ≡ earlier ++ frame ∷ [] → Gathers guest frames store
-  Join : {frames : List Frame} {store : StoreView} (first second : List Frame) (a b : StoreView) → Gathers guest first a → Gathers guest second b → IsJoin a b store →
+  Join : {frames : List Frame} {store : StoreView} (first second : List Frame) (a b : StoreView) → Gathers guest first a → Gathers guest second b →
+      IsJoin a b store →
       frames ≡ first ++ second → Gathers guest frames store
 
 -- each frame of one is a frame of the other

@@ -3,7 +3,8 @@
 ghost use Rattle.fragment_codec.specs.Rules.{FragmentParts, OpeningParts};
 ghost use Rattle.log_join.specs.Tests.{same_opening, same_fragment};
 ghost use Rattle.log_join.specs.Stores.{StoreView};
-ghost use Rattle.log_join.specs.Laws.{Tells, CellsJoin, OneJoin, Associates, Commutes, Idempotent, HasUnit, OrderMakesNoDifference, ComeGathers, OnlyGathered, GatheredIsStore};
+ghost use Rattle.log_join.specs.Laws.{Tells, CellsJoin, OneJoin, Associates, Commutes, Idempotent, HasUnit, OrderMakesNoDifference, ComeGathers, OnlyGathered};
+ghost use Rattle.log_join.specs.Laws.{GatheredIsStore};
 
 /// Contents are told apart exactly, and cells join in whatever order and however often.
 pub fn joins_of_cells()

@@ -25,7 +25,8 @@ replay_cause image store legs (HaltedInside hart count) p ne cyclic halted = (le
 replay_cause image store legs OtherGuest p ne cyclic halted = absurd (ne refl)
 replay_cause image store legs NoMemory p ne cyclic halted = tt
 
-pub writes_other : {A : Type 0} (P Q : MachineState → Type 0) (r : Result A StreamsFault) (old new : Option (List ℕ)) (f g : ℕ) → ((m : MachineState) → P m → Q m) →
+pub writes_other : {A : Type 0} (P Q : MachineState → Type 0) (r : Result A StreamsFault) (old new : Option (List ℕ)) (f g : ℕ) →
+    ((m : MachineState) → P m → Q m) →
     WritesTextOf P r old new f g → WritesTextOf Q r old new f g
 writes_other P Q (Ok x) old new f g to w = (w.0, to w.0 w.1, w.2)
 writes_other P Q (Err Write) old new f g to w = (w.0, to w.0 w.1, w.2)

@@ -226,7 +226,8 @@ Pushes number feed p got f =
 abbrev pub Goes : Unread → Unread → StoreView → StoreView → List ℕ → Type 0
 Goes feed later p q got =
     (first : StoreView) (read : List ℕ) (given : List LogFrame) → Follows read given feed → Takes first given p →
-    (frames : List LogFrame) × Follows (read ++ got) (given ++ frames) later × Takes first (given ++ frames) q × Says first.guest (read ++ got) (given ++ frames)
+    (frames : List LogFrame) × Follows (read ++ got) (given ++ frames) later × Takes first (given ++ frames) q × Says first.guest (read ++ got) (given ++
+    frames)
 
 -- a push that may have left a fault behind its last frame
 abbrev pub GoesAsFar : Unread → Unread → StoreView → StoreView → List ℕ → Type 0

@@ -97,6 +97,8 @@ impl Book<Recording> {
     pub fn inputs(&self) -> &InputLog
         ensures value { result.now ≡ self.now.mode.inputs }
         ensures each { (hart : ℕ) → All (λ x. IsInputOf (length self.now.machine.harts) x.1) (inputs_of result.now hart) }
+        // Each was given at a settled step.
+        ensures within { (hart : ℕ) → All (λ x. (counts_of self.now.start hart ≤ x.0) × (x.0 < counts_of self.now.machine hart)) (inputs_of result.now hart) }
     {
         self.mode.inputs()
     }

@@ -1,52 +1,34 @@
 -- One lease of a book that records: what the book tells, and which rights are held.
-use Rattle.std.proofs.Common.{◌≡◌, ◌≢◌, ℕ, zero, suc, ◌<◌, ◌≤◌, ◌++◌, List, [], ◌∷◌, All, map, length, slice_get, true, false, Bool, Option, None, Some, refl}
-use Rattle.std.proofs.Common.{sym, ap, subst, ◌∙◌, inl, inr, arith, append-nil, eq-eqb}
-use Rattle.std.proofs.lemmas.Bool.{cases_eq, cases_lt}
+use Rattle.std.proofs.Common.{◌≡◌, ◌≢◌, ℕ, zero, suc, ◌<◌, ◌≤◌, ◌++◌, List, [], ◌∷◌, length, slice_get, true, false, Bool, Option, None, Some, refl, sym, ap}
+use Rattle.std.proofs.Common.{subst, ◌∙◌, inl, inr, arith, append-nil, eq-eqb}
+use Rattle.std.proofs.lemmas.Bool.{cases_lt}
 use Rattle.std.proofs.lemmas.Grind.{common_steps}
-use Rattle.std.proofs.lemmas.List.Elements.{All-nil, All-map}
 use Rattle.interleaving.proofs.Put.{same_or_not, put_same}
 use Rattle.edge_log.specs.EdgeLog.{AreAdded}
 use Rattle.ft_types.specs.Counts.{count_at}
 use Rattle.ft_types.specs.declared.names.Want.{Want}
 use Rattle.ft_types.specs.declared.names.Want.TheVariants.{Read, Write}
-use Rattle.input_log.specs.declared.Input.{Input}
 use Rattle.input_log.specs.Inputs.{inputs_of}
 use Rattle.input_log.specs.Waiting.{bells_of, others_of, next_going}
 use Rattle.crew_pages.specs.declared.right.PageRight.{PageRight}
 use Rattle.crew_pages.specs.Rights as crew
 use Rattle.crew_pages.specs.Rights.{Right, Shared, Exclusive, holds}
-use Rattle.guest_image.specs.Machine.{MachineState}
 use Rattle.rv32_hart.specs.Hart.{Hart}
 use Rattle.book_modes.specs.declared.keep.Keep.TheVariants as told
 use Rattle.hart_lease.specs.declared.asked.Asked.{Asked}
-use Rattle.book_modes.specs.declared.mode.Mode.{Ghosts}
 use Rattle.hart_lease.specs.declared.stretch.Stretch.{Stretch}
 use Rattle.page_book.specs.Books.{BookView}
 use Rattle.hart_lease.specs.Runs.{added, counts_of, steps_taken}
-use Rattle.book_modes.specs.Dues.{stop_before}
+use Rattle.book_modes.specs.Dues.{due_at, is_silent, stop_before}
 use Rattle.hart_lease.specs.Leases.{LeaseView}
 use Rattle.hart_lease.specs.OpenLeases.{OpenView, has_taken}
-use Rattle.book_modes.specs.Recordings.{RecordingView, GoesOut, IsFilled, IsTaker, AreOwed, IsGiven, IsSettled, IsEnded, IsRecorded, LogsInputs, heard_by}
-use Rattle.book_modes.specs.Recordings.{right_at, right_met, right_stored}
+use Rattle.book_modes.specs.Recordings.{RecordingView, IsFilled, IsTaker, IsGiven, right_at, right_met, right_stored}
 use Rattle.lease_rounds.specs.Leading.{IsFreeAlone, Fills, NoneYet, Steps, Takes, GoesOn}
 use Rattle.lease_rounds.proofs.GoingOn.{IsAhead, lease_filled, own, harts_stay}
-use Rattle.primary_pool.specs.Running.{Continues, HearsMore, KeepHeld}
-
--- recording, as a mode
-abbrev pub recording : Ghosts RecordingView
-recording =
-    record {
-      stops = λ r. r.limits;
-      obeyed = λ r. [];
-      heard = heard_by;
-      keeps = λ r start machine journal leases. IsRecorded r start machine journal leases;
-      lends = GoesOut;
-      is_holder = λ r leases asked other. IsTaker r leases asked other;
-      owes = λ r settled asked found. AreOwed r settled asked found;
-      gives = λ r settled asked new. IsGiven r settled asked new;
-      settles = λ r lease keep new. IsSettled r lease keep new;
-      ends = λ r hart count taken new. IsEnded r hart count taken new;
-    }
+use Rattle.page_book.specs.Tellings.{HearsMore}
+use Rattle.page_book.proofs.Tellings.{hears_on, found_later}
+use Rattle.primary_pool.specs.Running.{recording, Continues, KeepsOffered, KeepHeld}
+use Rattle.primary_pool.proofs.Offered.{same_offered, filled_offered, settled_offered}
 
 -- ---- a hart that is lent
 
@@ -117,23 +99,6 @@ longer : (journal : List Stretch) (hart steps : ℕ) → (more : List Stretch) �
 longer journal hart zero = ([], sym (append-nil journal))
 longer journal hart (suc steps) = (record { hart = hart; steps = suc steps } ∷ [], grind (arith, common_steps))
 
-hears_nothing : (row : List (ℕ × Input)) (count : ℕ) (now : List (ℕ × Input)) → now ≡ row → HearsMore row count now
-hears_nothing row count now e = ([], e ∙ sym (append-nil row), All-nil (λ x. count ≤ x.0))
-
-all_at : (count at : ℕ) (inputs : List Input) → count ≤ at → All (λ x. count ≤ x.0) (map (λ (i : Input). let x : ℕ × Input = (at, i) in x) inputs)
-all_at count at inputs le = All-map (λ (x : ℕ × Input). count ≤ x.0) (λ (i : Input). let x : ℕ × Input = (at, i) in x) inputs (λ k d lt. le)
-
-hears_on : (b : MachineState) (l : LeaseView) (steps : ℕ) (before after : List (List (ℕ × Input))) → counts_of b l.hart ≡ l.base.count →
-    LogsInputs steps before l after → (hart : ℕ) → HearsMore (inputs_of before hart) (counts_of b hart) (inputs_of after hart)
-hears_on b l zero before after lent logs hart =
-    hears_nothing (inputs_of before hart) (counts_of b hart) (inputs_of after hart) (ap (λ (x : List (List (ℕ × Input))). inputs_of x hart) logs)
-hears_on b l (suc steps) before after lent logs hart = elim (cases_eq hart l.hart) [
-  | inl own_hart ↦
-      subst (λ (h : ℕ). HearsMore (inputs_of before h) (counts_of b h) (inputs_of after h)) (sym own_hart)
-      (map (λ i. (l.base.count, i)) l.inputs, logs.row, all_at (counts_of b l.hart) l.base.count l.inputs (omega (arith, lent)))
-  | inr other ↦ hears_nothing (inputs_of before hart) (counts_of b hart) (inputs_of after hart) (logs.others hart other)
-]
-
 -- ---- rights
 
 beyond : (rights : List PageRight) (page : ℕ) → length rights ≤ page → slice_get rights page ≡ None
@@ -176,6 +141,22 @@ module _ (hart : ℕ) (b d : BookView RecordingView) (on : GoesOn recording told
   pub limits : d.mode.limits ≡ b.mode.limits
   limits = on.leads.back.mode.limits ∙ ap (λ (m : RecordingView). m.limits) mode_is
 
+  -- its inputs were those due to its hart
+  is_due : on.leads.lease.inputs ≡ (due_at on.leads.filled.mode.due on.leads.lease.hart).inputs
+  is_due =
+      let f = lease_filled recording told.All hart b d on in
+      f.inputs
+      ∙ on.lends.mode.inputs
+      ∙ ap (λ (h : ℕ). (due_at on.opened.mode.due h).inputs) (sym (f.hart ∙ own recording told.All hart b d on))
+      ∙ ap (λ (m : RecordingView). (due_at m.due k.hart).inputs) (sym rest.mode)
+
+  pub offered : KeepsOffered b d
+  offered other =
+      settled_offered filled.mode k d.mode on.leads.back.mode.desk is_due k.steps on.leads.back.mode.inputs on.leads.back.mode.due other
+      ∙ same_offered on.opened.mode filled.mode other (ap (λ (m : RecordingView). inputs_of m.inputs other) rest.mode)
+      (ap (λ (m : RecordingView). (due_at m.due other).inputs) rest.mode) (ap (λ (m : RecordingView). others_of m.desk other) rest.mode)
+      ∙ filled_offered b.mode hart (counts_of b.machine hart) on.opened.mode (is_silent (due_at b.mode.due hart).inputs) refl on.lends.mode.filled other
+
   pub keep_held : KeepHeld b d
   keep_held page held =
       let settled = on.leads.back.mode in
@@ -199,5 +180,9 @@ module _ (hart : ℕ) (b d : BookView RecordingView) (on : GoesOn recording told
         inputs = λ other.
             subst (λ (m : RecordingView). HearsMore (inputs_of m.inputs other) (counts_of b.machine other) (inputs_of d.mode.inputs other)) mode_is
             (hears_on b.machine k k.steps filled.mode.inputs d.mode.inputs counted on.leads.back.mode.inputs other);
-        edges = (k.edges, subst (λ (m : RecordingView). AreAdded m.edges k.edges d.mode.edges) mode_is on.leads.back.mode.edges.added);
+        edges = (
+          k.edges,
+          subst (λ (m : RecordingView). AreAdded m.edges k.edges d.mode.edges) mode_is on.leads.back.mode.edges.added,
+          found_later (counts_of b.machine) k counted on.leads.back.mode.unsettled,
+        );
       }

@@ -1,14 +1,10 @@
 -- From lease to lease, and from round to round.
 use Rattle.std.proofs.Common.{◌≡◌, ℕ, zero, suc, ◌<◌, ◌≤◌, ◌++◌, max, List, [], ◌∷◌, length, slice_get, slice_set, Some, Bool, true, false, refl, sym, ap}
-use Rattle.std.proofs.Common.{subst, ◌∙◌, inl, inr, arith, le_trans, append_assoc, append-nil}
+use Rattle.std.proofs.Common.{subst, ◌∙◌, inl, inr, arith, append_assoc, append-nil}
 use Rattle.std.proofs.lemmas.Grind.{common_steps}
-use Rattle.std.proofs.lemmas.List.Elements.{All-append, All-nil, All-weaker}
 use Rattle.rv32_hart.specs.Hart.{Hart}
 use Rattle.ft_types.specs.Counts.{count_at}
-use Rattle.input_log.specs.declared.Input.{Input}
 use Rattle.input_log.specs.Inputs.{inputs_of}
-use Rattle.edge_log.specs.declared.Edge.{Edge}
-use Rattle.edge_log.specs.EdgeLog.{Edges, AreAdded}
 use Rattle.book_modes.specs.declared.keep.Keep.TheVariants as told
 use Rattle.hart_lease.specs.declared.stretch.Stretch.{Stretch}
 use Rattle.hart_lease.specs.Runs.{counts_of, steps_taken}
@@ -16,30 +12,20 @@ use Rattle.page_book.specs.Books.{BookView}
 use Rattle.book_modes.specs.Recordings.{RecordingView}
 use Rattle.lease_rounds.specs.Leading.{IsHeld, GoesOn, Rounds}
 use Rattle.lease_rounds.proofs.GoingOn.{HasGoneOn, AsFar, has_gone_on, has_fewer, round_far, steps_left}
-use Rattle.primary_pool.specs.Running.{IsIdle, AreThrough, IsThrough, Continues, GoWithin, HearsMore, KeepHeld}
+use Rattle.page_book.proofs.Tellings.{hears_nothing, hears_more, adds_nothing, adds_on}
+use Rattle.primary_pool.specs.Running.{IsIdle, AreThrough, IsThrough, Continues, GoWithin, recording, NoRound, OneMore, KeepsOffered, KeepHeld}
 use Rattle.primary_pool.specs.Leading.{HasRun, IsSoFar}
-use Rattle.primary_pool.proofs.Leasing.{recording, ahead, limits, continues, keep_held}
+use Rattle.primary_pool.proofs.Leasing.{ahead, limits, continues, offered, keep_held}
 
 -- ---- a book goes on
-
-added_on : (a b c : Edges) (found rest : List Edge) → AreAdded a found b → AreAdded b rest c → AreAdded a (found ++ rest) c
-added_on a b c [] rest same on = subst (λ (x : Edges). AreAdded x rest c) same on
-added_on a b c (e ∷ found) rest (now, one, more) on = (now, one, added_on now b c found rest more on)
-
-hears_more : (a : List (ℕ × Input)) (m : ℕ) (b : List (ℕ × Input)) (n : ℕ) (c : List (ℕ × Input)) → m ≤ n → HearsMore a m b → HearsMore b n c → HearsMore a m c
-hears_more a m b n c le p q = (
-  p.0 ++ q.0,
-  q.1 ∙ ap (λ (row : List (ℕ × Input)). row ++ q.0) p.1 ∙ append_assoc a p.0 q.0,
-  All-append (λ x. m ≤ x.0) p.0 q.0 p.2 (All-weaker (λ x. n ≤ x.0) (λ x. m ≤ x.0) (λ x at. le_trans le at) q.0 q.2),
-)
 
 continues_none : (b : BookView RecordingView) → Continues b b
 continues_none b = record {
   start = refl;
   harts = refl;
   journal = ([], sym (append-nil b.journal));
-  inputs = λ hart. ([], sym (append-nil (inputs_of b.mode.inputs hart)), All-nil (λ x. counts_of b.machine hart ≤ x.0));
-  edges = ([], refl);
+  inputs = λ hart. hears_nothing (inputs_of b.mode.inputs hart) (counts_of b.machine hart) (inputs_of b.mode.inputs hart) refl;
+  edges = adds_nothing b.mode.edges (counts_of b.machine) b.mode.edges refl;
 }
 
 continues_on : (b c d : BookView RecordingView) → GoWithin b c → Continues b c → Continues c d → Continues b d
@@ -55,8 +41,7 @@ continues_on b c d counts p q =
           hears_more (inputs_of b.mode.inputs hart) (counts_of b.machine hart) (inputs_of c.mode.inputs hart) (counts_of c.machine hart)
           (inputs_of d.mode.inputs hart) (counts hart).0 (p.inputs hart) (q.inputs hart);
       edges =
-          let (first, is_first) = p.edges in
-          let (second, is_second) = q.edges in (first ++ second, added_on b.mode.edges c.mode.edges d.mode.edges first second is_first is_second);
+          adds_on b.mode.edges (counts_of b.machine) c.mode.edges (counts_of c.machine) d.mode.edges (λ hart. (counts hart).0) p.edges q.edges;
     }
 
 within_none : (b : BookView RecordingView) → GoWithin b b
@@ -93,6 +78,7 @@ pub record IsFurther (b c : BookView RecordingView) : Type 0 where
   pub continues : Continues b c
   pub counts : GoWithin b c
   pub fewer : steps_left b.mode.limits c.machine.harts < steps_left b.mode.limits b.machine.harts
+  pub offered : KeepsOffered b c
   pub held : KeepHeld b c
 
 further : (hart : ℕ) (b d : BookView RecordingView) → IsIdle b → GoesOn recording told.All hart b d → IsFurther b d
@@ -109,6 +95,7 @@ further hart b d idle on =
           (set_counts b.machine.harts hart gone.before gone.after (count_at b.mode.limits other) other gone.there gone.further
           (λ e. subst (λ (n : ℕ). gone.after.count ≤ count_at b.mode.limits n) (sym e) gone.within));
       fewer = has_fewer recording hart b d gone;
+      offered = offered hart b d on;
       held = keep_held hart b d on;
     }
 
@@ -119,6 +106,7 @@ further_on b c d p q =
       limits = q.limits ∙ p.limits;
       continues = continues_on b c d p.counts p.continues q.continues;
       counts = within_on b c d p.limits p.counts q.counts;
+      offered = λ hart. q.offered hart ∙ p.offered hart;
       held = λ page held. q.held page (p.held page held);
       fewer =
           let first = p.fewer in
@@ -139,15 +127,27 @@ through b hart held h there = elim (held h there) [
 ]
 
 pub begins : (b : BookView RecordingView) → IsIdle b → HasRun b → IsSoFar b b
-begins b idle ran = record { ran = ran; idle = idle; limits = refl; continues = continues_none b; counts = within_none b; held = λ page held. held }
+begins b idle ran =
+    record {
+      ran = ran;
+      idle = idle;
+      limits = refl;
+      continues = continues_none b;
+      rounds = NoRound;
+      offered = λ hart. refl;
+      counts = within_none b;
+      held = λ page held. held;
+    }
 
-pub leads_on : (a b c : BookView RecordingView) → IsSoFar a b → IsFurther b c → IsSoFar a c
-leads_on a b c p q =
+leads_on : (a b c : BookView RecordingView) → IsSoFar a b → IsFurther b c → Rounds recording told.All b true (length b.machine.harts) c → IsSoFar a c
+leads_on a b c p q round =
     record {
       ran = p.ran;
       idle = q.idle;
       limits = q.limits ∙ p.limits;
       continues = continues_on a b c p.counts p.continues q.continues;
+      rounds = OneMore c p.rounds round;
+      offered = λ hart. q.offered hart ∙ p.offered hart;
       counts = within_on a b c p.limits p.counts q.counts;
       held = λ page held. q.held page (p.held page held);
     }
@@ -162,8 +162,11 @@ module _ (a b c : BookView RecordingView) (so_far : IsSoFar a b) (went : Bool) (
   far = round_far recording told.All IsFurther further further_on b so_far.idle went (length b.machine.harts) c rounds
 
   -- a round in which a hart went
-  pub round_more : went ≡ true → IsFurther b c
+  round_more : went ≡ true → IsFurther b c
   round_more is = subst (λ (w : Bool). AsFar recording told.All IsFurther further further_on b w (length b.machine.harts) c) is far
+
+  pub round_on : went ≡ true → IsSoFar a c
+  round_on is = leads_on a b c so_far (round_more is) (subst (λ (w : Bool). Rounds recording told.All b w (length b.machine.harts) c) is rounds)
 
   pub round_nearer : went ≡ true → steps_left c.mode.limits c.machine.harts < steps_left b.mode.limits b.machine.harts
   round_nearer is =

@@ -1,7 +1,8 @@
 //! A primary on one thread: its harts go on in turn, one lease at a time.
 
 ghost use Rattle.std.specs.Prelude.{◌≡◌, IfOk};
-ghost use Rattle.primary_pool.specs.Running.{IsIdle, AreThrough, Continues, RunsOn, GoWithin, KeepHeld};
+ghost use Rattle.page_book.specs.Tellings.{TellsOn};
+ghost use Rattle.primary_pool.specs.Running.{IsIdle, AreThrough, Continues, RunsOn, GoWithin, GoesRound, KeepsOffered, KeepHeld};
 ghost use Rattle.primary_pool.specs.Leading.{HasRun};
 
 use crate::fault::PoolFault;
@@ -24,7 +25,10 @@ pub fn run_plain(alloc: Global, book: Book<Recording>) -> Result<Book<Recording>
     ensures done { IfOk result (λ b. AreThrough b) }
     ensures idle { IfOk result (λ b. IsIdle b) }
     ensures continues { IfOk result (λ b. Continues book b) }
+    ensures tells { IfOk result (λ b. TellsOn book b) }
     ensures runs { IfOk result (λ b. RunsOn book b) }
+    ensures rounds { IfOk result (λ b. GoesRound book b) }
+    ensures offered { IfOk result (λ b. KeepsOffered book b) }
     ensures limits { IfOk result (λ b. b.mode.limits ≡ book.mode.limits) }
     ensures counts { IfOk result (λ b. GoWithin book b) }
     ensures held { IfOk result (λ b. KeepHeld book b) }

@@ -60,7 +60,7 @@ bell_edges_due m hart count at (b ∷ bells) rung = of (b.source == hart) refl (
         (record { own = refl; at = at; other = its.source; another = eqb-false b.source hart is; settled = its.settled }) rest
 
 -- nothing is given
-of_silence : (inputs : List Input) → is_silent inputs ≡ true → inputs ≡ []
+pub of_silence : (inputs : List Input) → is_silent inputs ≡ true → inputs ≡ []
 of_silence [] e = refl
 of_silence (i ∷ inputs) e = cc
 
@@ -78,6 +78,7 @@ module _ (r new : RecordingView) (hart count : ℕ) (start m : MachineState) (jo
         rights = p.rights;
         limits = p.limits;
         logged = p.logged;
+        begun = p.begun;
         due = record {
           many = ap length t.due ∙ (length-set r.due hart _ ∙ p.due.many);
           edges =
@@ -227,6 +228,20 @@ module _ (r new : RecordingView) (start m : MachineState) (journal : List Stretc
         | inr ne ↦
             subst (All (λ x. x.0 < counts_of (laid m l) hart)) (sym (logs.others hart (λ e. ne (sym e))))
             (λ k d below. let lt = p.logged hart k d below in let more = grown hart in omega (arith, lt, more))
+      ]
+
+  -- none is from before the start
+  pub still_begun : counts_of start l.hart ≤ counts_of m l.hart → (steps : ℕ) → LogsInputs steps r.inputs l new.inputs → (hart : ℕ) →
+      All (λ x. counts_of start hart ≤ x.0) (inputs_of new.inputs hart)
+  still_begun since zero logs hart = subst (λ log. All (λ x. counts_of start hart ≤ x.0) (inputs_of log hart)) (sym logs) (p.begun hart)
+  still_begun since (suc steps) logs hart =
+      elim (same_or_not l.hart hart) [
+        | inl same ↦
+            subst (λ h. All (λ x. counts_of start h ≤ x.0) (inputs_of new.inputs h)) same
+            (subst (All (λ x. counts_of start l.hart ≤ x.0)) (sym logs.row)
+            (All-append (λ x. counts_of start l.hart ≤ x.0) (inputs_of r.inputs l.hart) (map (λ i. (l.base.count, i)) l.inputs) (p.begun l.hart)
+            (All-map (λ x. counts_of start l.hart ≤ x.0) (λ i. (l.base.count, i)) l.inputs (λ k d below. omega (arith, since, lent_at)))))
+        | inr ne ↦ subst (All (λ x. counts_of start hart ≤ x.0)) (sym (logs.others hart (λ e. ne (sym e)))) (p.begun hart)
       ]
 
   -- an edge that was due still is, where its hart has taken no step

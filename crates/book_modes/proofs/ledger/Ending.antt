@@ -106,6 +106,7 @@ module _ (r : RecordingView) (hart count : ℕ) (taken : List (Option Taken))
           rights = record { many = is.many ∙ e.kept.rights.many; each = rights_are };
           limits = e.kept.limits;
           logged = e.kept.logged;
+          begun = e.kept.begun;
           due = record {
             many = e.kept.due.many;
             edges = e.kept.due.edges;

@@ -25,7 +25,7 @@ use Rattle.hart_lease.specs.Recorded.{system}
 use Rattle.hart_lease.specs.Runs.{counts_of, harts_of}
 use Rattle.book_modes.specs.Dues.{DueView, nothing_due, due_at}
 use Rattle.book_modes.proofs.bells.Unheard.{unheard_rung}
-use Rattle.input_log.specs.Inputs.{is_bell, IsInputOf}
+use Rattle.input_log.specs.Inputs.{is_bell, IsInputOf, inputs_of}
 use Rattle.input_log.specs.Waiting.{bells_of, others_of}
 use Rattle.std.proofs.lemmas.List.Elements.{All-append, All-cons, Contains-get_or}
 use Rattle.std.proofs.lemmas.List.{length-replicate}
@@ -108,6 +108,12 @@ heard_in_turn r start machine journal leases p =
     is_kept = keeps_ledger (system pages) (length start.harts) (view (hardware pages) start) p.ledger p.size.few p.led.reached
 
 -- an edge of the log is between two harts, and what it names has been settled
+-- each input that is logged is of a count from the start on, and below the settled one
+pub logged_within : (r : RecordingView) (start machine : MachineState) (journal : List Stretch) (leases : List (Option OpenView)) →
+    IsRecorded r start machine journal leases → (hart : ℕ) →
+    All (λ x. (counts_of start hart ≤ x.0) × (x.0 < counts_of machine hart)) (inputs_of r.inputs hart)
+logged_within r start machine journal leases p hart k d below = (p.begun hart k d below, p.logged hart k d below)
+
 pub between : (r : RecordingView) (start machine : MachineState) (journal : List Stretch) (leases : List (Option OpenView)) →
     IsRecorded r start machine journal leases → (hart : ℕ) → All (IsBetween machine hart) (row_of r.edges hart)
 between r start machine journal leases p hart k d below =
@@ -166,6 +172,7 @@ begun_kept r start limits many u rows =
       rights = record { many = u.many; each = λ page lt. sym (u.rights page lt) };
       limits = ap length u.limits_are ∙ many;
       logged = λ hart. subst (All (λ x. x.0 < counts_of start hart)) (sym (u.inputs hart)) (λ k d below. absurd (omega arith));
+      begun = λ hart. subst (All (λ x. counts_of start hart ≤ x.0)) (sym (u.inputs hart)) (λ k d below. absurd (omega arith));
       due = record {
         many = ap length u.due ∙ length-replicate {A = DueView} 8 nothing_due;
         edges =
@@ -205,6 +212,7 @@ raised_kept r limits start machine journal leases as_many p =
       rights = p.rights;
       limits = as_many ∙ p.limits;
       logged = p.logged;
+      begun = p.begun;
       due = p.due;
       bells = p.bells;
       inputs = p.inputs;
@@ -225,6 +233,7 @@ offered_kept r new hart not_before input start machine journal leases o told pla
       rights = p.rights;
       limits = p.limits;
       logged = p.logged;
+      begun = p.begun;
       due = p.due;
       bells =
           λ other.

@@ -30,8 +30,7 @@ use Rattle.hart_lease.specs.Recorded.{system, stub_of, as_lease}
 use Rattle.hart_lease.specs.Runs.{counts_of}
 use Rattle.hart_lease.specs.Leases.{IsLentBy, IsOpen}
 use Rattle.book_modes.specs.Modes.{IsAsking, KeepsLending}
-use Rattle.book_modes.specs.Recordings.{RecordingView, right_at, IsTaker, yielded, right_met, AreOwed, IsGiven, IsRecorded, IsDueEdge, IsFilled, GoesOut}
-use Rattle.book_modes.specs.Recordings.{stub_as}
+use Rattle.book_modes.specs.Recordings.{RecordingView, right_at, IsTaker, right_met, AreOwed, IsGiven, IsRecorded, IsDueEdge, IsFilled, GoesOut, stub_as}
 use Rattle.book_modes.specs.Dues.{due_at, is_silent, stop_before}
 use Rattle.input_log.specs.Waiting.{bells_of, others_of, next_going}
 use Rattle.ft_types.specs.Counts.{count_at}
@@ -43,7 +42,9 @@ use Rattle.book_modes.proofs.ledger.Dues.{filled_kept}
 use Rattle.hart_lease.proofs.pages.Counts.{stub_fresh, stub_taking}
 use Rattle.hart_lease.proofs.steps.Present.{played_with, present_played}
 use Rattle.hart_lease.proofs.journals.Ledger.{lent_ours}
-use Rattle.book_modes.proofs.ledger.Yielding.{still, nobody_stands, met_is}
+use Rattle.book_modes.specs.Yielding.{yielded}
+use Rattle.book_modes.proofs.ledger.Yielding.{still, nobody_stands}
+use Rattle.book_modes.proofs.Yielded.{met_is}
 
 -- the stubs, with one put anew
 stubs_put : (stubs : ℕ → Option Stub) (leases : List (Option OpenView)) (hart : ℕ) (stub : Option Stub) (lent : Option OpenView) → hart < length leases →
@@ -83,6 +84,7 @@ lent_due r hart lent start m journal leases is_hart row closed inputs edges p =
       rights = p.rights;
       limits = p.limits;
       logged = p.logged;
+      begun = p.begun;
       due = record {
         many = p.due.many;
         edges = p.due.edges;
@@ -199,7 +201,7 @@ module _ (r : RecordingView) (machine : MachineState) (leases : List (Option Ope
   -- nobody is in its way once all have yielded
   pub nobody_there : (settled : ℕ → ℕ) → IsFree (right_met r settled asked) asked.hart asked.want
   nobody_there settled =
-      subst (λ s. IsFree s asked.hart asked.want) (sym (met_is r settled asked)) (nobody_stands asked settled (right_at r.rights asked.page) few_hold)
+      subst (λ s. IsFree s asked.hart asked.want) (sym (met_is r settled asked few_hold)) (nobody_stands asked settled (right_at r.rights asked.page) few_hold)
 
   module _ (settled : ℕ → ℕ) (settled_is : (hart : ℕ) → settled hart ≡ counts_of machine hart)
       (free : (other : ℕ) → IsTaker r leases asked other → ⊥) where
@@ -234,7 +236,7 @@ module _ (r : RecordingView) (machine : MachineState) (leases : List (Option Ope
 
     yields : IsYielded (system pages) p.ledger asked.hart asked.page asked.want (right_met r settled asked)
     yields = record {
-      given_up = subst (GivenUp (system pages) p.ledger asked.hart asked.page asked.want) (sym (met_is r settled asked)) (gives_up 8);
+      given_up = subst (GivenUp (system pages) p.ledger asked.hart asked.page asked.want) (sym (met_is r settled asked few_hold)) (gives_up 8);
       taken = λ other e. absurd (true≢false (sym e ∙ nobody_there settled other));
     }
 
@@ -338,6 +340,7 @@ module _ (r : RecordingView) (machine : MachineState) (leases : List (Option Ope
             rights = record { many = g.many ∙ p.rights.many; each = λ page lt. right_put new g page lt (same_or_not asked.page page) };
             limits = p.limits;
             logged = p.logged;
+            begun = p.begun;
             due = record {
               many = p.due.many;
               edges = p.due.edges;

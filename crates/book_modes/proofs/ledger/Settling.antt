@@ -10,6 +10,7 @@ use Rattle.interleaving.proofs.Runs.{steps_append}
 use Rattle.interleaving.specs.Stored.{view}
 use Rattle.interleaving.proofs.Put.{same_or_not, put_same, put_other}
 use Rattle.interleaving.proofs.Each.{each_at}
+use Rattle.interleaving.proofs.Beginnings.{counts_after_le}
 use Rattle.input_log.specs.declared.Input.{Input}
 use Rattle.edge_log.specs.declared.Edge.{Edge}
 use Rattle.edge_log.specs.EdgeLog.{edge_as, MayAdd}
@@ -24,12 +25,12 @@ use Rattle.rv32_hart.specs.Hardware.{hardware}
 use Rattle.guest_image.specs.Machine.{MachineState}
 use Rattle.book_modes.specs.declared.keep.Keep.{Keep}
 use Rattle.hart_lease.specs.Turns.{turns_from}
-use Rattle.hart_lease.specs.Runs.{StandsIn, counts_of, steps_taken, added, HearsOn}
+use Rattle.hart_lease.specs.Runs.{StandsIn, counts_of, harts_of, steps_taken, added, HearsOn}
 use Rattle.hart_lease.specs.Leases.{LeaseView, laid, whole, IsOpen, IsLentBy}
 use Rattle.hart_lease.specs.OpenLeases.{OpenView, open_at}
 use Rattle.hart_lease.specs.Recorded.{stub_of, as_lease, system}
 use Rattle.book_modes.specs.Modes.{IsSettling}
-use Rattle.book_modes.specs.Recordings.{RecordingView, IsRecorded, IsSettled, LogsInputs, heard_by, keep_as, right_at, stub_as}
+use Rattle.book_modes.specs.Recordings.{RecordingView, IsRecorded, IsFrom, IsSettled, LogsInputs, heard_by, keep_as, right_at, stub_as}
 use Rattle.book_modes.specs.Hearings.{KeepsBells}
 use Rattle.book_modes.proofs.bells.InTurn.{settled_bells}
 use Rattle.book_modes.proofs.bells.Steps.{step_below}
@@ -38,7 +39,7 @@ use Rattle.input_log.specs.Inputs.{IsInputOf, inputs_of}
 use Rattle.book_modes.specs.Dues.{DueView}
 use Rattle.hart_lease.proofs.journals.GoingOn.{turns_go_on, stands_ours, row-set_some, row-set_other, others_laid, get-set_here}
 use Rattle.hart_lease.proofs.pages.Places.{get_within}
-use Rattle.book_modes.proofs.ledger.Dues.{last_logged, heard_on, still_logged, still_due, still_rung, dues_stay, others_due, still_inputs}
+use Rattle.book_modes.proofs.ledger.Dues.{last_logged, heard_on, still_logged, still_begun, still_due, still_rung, dues_stay, others_due, still_inputs}
 use Rattle.hart_lease.proofs.steps.Present.{played_with, present_played}
 use Rattle.hart_lease.proofs.pages.Laid.{length-laid_pages}
 use Rattle.hart_lease.proofs.pages.Slots.{length-map, index-map}
@@ -168,8 +169,23 @@ module _ (r : RecordingView) (l : LeaseView) (s : IsSettling (IsRecorded r) l) w
   lent_at : counts_of s.machine l.hart ≡ l.base.count
   lent_at = ap steps_taken on.state
 
+  -- its edges are of no step that its hart had settled
+  unsettled : All (λ e. counts_of s.machine l.hart ≤ e.at) l.edges
+  unsettled k d below =
+      subst (λ (m : Machine (Option Hart) (Option (List ℕ))). counts (system n) m l.hart ≤ (get_or l.edges k d).at) s.kept.led.at_machine
+      (order.waiting l.hart settler.stub (edge_as (get_or l.edges k d)) stub (has_edge l.edges k d below)).unsettled
+
+  pub edges_from : All (IsFrom l.hart l.base.count) l.edges
+  edges_from k d below = record { own = own k d below; from = subst (λ (n : ℕ). n ≤ (get_or l.edges k d).at) lent_at (unsettled k d below) }
+
   now_at : counts_of (laid s.machine l) l.hart ≡ l.present.count
   now_at = ap steps_taken (get-set_here s.machine.harts l.hart l.present l.base on.state)
+
+  -- it went on from the start
+  since : counts_of s.start l.hart ≤ counts_of s.machine l.hart
+  since =
+      let far = counts_after_le (counts_of s.start) (harts_of s.journal) l.hart in
+      omega (arith, far, s.counted l.hart)
 
   harts_many : length (laid s.machine l).harts ≡ length s.machine.harts
   harts_many = length-set s.machine.harts l.hart l.present
@@ -257,6 +273,8 @@ module _ (r : RecordingView) (l : LeaseView) (s : IsSettling (IsRecorded r) l) w
           limits = ap length is.limits ∙ s.kept.limits;
           logged = still_logged r new s.start s.machine s.journal s.leases l s.is_lease lent_at now_at in_row (others_laid s.machine l) harts_many s.kept
               l.steps refl is.inputs;
+          begun = still_begun r new s.start s.machine s.journal s.leases l s.is_lease lent_at now_at in_row (others_laid s.machine l) harts_many s.kept since
+              l.steps is.inputs;
           due = record {
             many = dues_stay r new s.start s.machine s.journal s.leases l s.is_lease lent_at now_at in_row (others_laid s.machine l) harts_many s.kept l.steps
                 is.due;
@@ -299,6 +317,8 @@ pub settled_of_whole : (earlier : List (ℕ × ℕ)) (r : RecordingView) (l : Le
 settled_of_whole earlier r l keep new is = record {
   limits = is.limits;
   edges = is.edges;
+  unsettled = is.unsettled;
+  counts = is.counts;
   inputs = logs_of_whole earlier l.steps r.inputs l new.inputs is.inputs;
   due = is.due;
   desk = record { bells = is.desk.bells; others = is.desk.others };

@@ -10,7 +10,9 @@ use Rattle.lease_ledger.proofs.Stays.{stands_holds}
 use Rattle.hart_lease.specs.declared.asked.Asked.{Asked}
 use Rattle.crew_pages.specs.declared.right.PageRight.{PageRight}
 use Rattle.crew_pages.specs.Rights.{right_of}
-use Rattle.book_modes.specs.Recordings.{RecordingView, right_at, yielded, right_met}
+use Rattle.book_modes.specs.Yielding.{yielded}
+use Rattle.book_modes.specs.Recordings.{RecordingView, right_at, right_met}
+use Rattle.book_modes.proofs.Yielded.{met_is}
 
 next : (n other : ℕ) → n ≤ other → n ≢ other → suc n ≤ other
 next n other le ne =
@@ -58,10 +60,6 @@ module _ (asked : Asked) (settled : ℕ → ℕ) (right : Right) where
           let old = still 8 other e in
           let lt = few other (stands_holds right asked.hart asked.want other old.stood) in
           absurd (omega (arith, old.later, lt))
-
-pub met_is : (r : RecordingView) (settled : ℕ → ℕ) (asked : Asked) → right_met r settled asked ≡ yielded asked settled 8 (right_at r.rights asked.page)
-unfolding right_met
-met_is r settled asked = refl
 
 -- a right in its place
 pub right_there : (rights : List PageRight) (page : ℕ) (d : PageRight) → page < length rights → right_at rights page ≡ right_of (slice_index_or rights page d)
@@ -122,7 +120,7 @@ right_read rights inside page index x same at lt e =
 -- what the asker meets, from a right that was read at an index
 pub met_read : (r : RecordingView) (settled : ℕ → ℕ) (asked : Asked) (inside : RecordingView) (index : ℕ) (x y : PageRight) → inside ≡ r →
     index ≡ asked.page → asked.page < length r.rights → x ≡ slice_index_or inside.rights index x → right_of y ≡ yielded asked settled 8 (right_of x) →
-    right_of y ≡ right_met r settled asked
-met_read r settled asked inside index x y same at lt read is =
+    ((other : ℕ) → holds (right_at r.rights asked.page) other ≡ true → other < 8) → right_of y ≡ right_met r settled asked
+met_read r settled asked inside index x y same at lt read is few =
     is ∙ (ap (yielded asked settled 8) (right_read r.rights inside.rights asked.page index x (ap (λ (v : RecordingView). v.rights) same) at lt read) ∙
-    sym (met_is r settled asked))
+    sym (met_is r settled asked few))

@@ -1,4 +1,4 @@
-use Rattle.lease_rounds.proofs.Filling.{fewer, need_within, still_alone}
+use Rattle.lease_rounds.proofs.Filling.{fewer, inputs_stay, need_within, still_alone}
 use Rattle.hart_lease.specs.Asks.{asked_by}
 use Rattle.hart_lease.specs.OpenLeases.{open_at, given_more}
 use Rattle.lease_rounds.proofs.rounds.give.Goals as goal
@@ -25,6 +25,9 @@ returns-in-Ok-Given-clause-gives g c =
       hart = c.need.ensures.hart;
       base = c.need.ensures.base;
       present = c.need.ensures.present;
+      inputs =
+          inputs_stay c.args.book.now c.args.lease.now c.requires.alone c.args.page c.requires.page c.need.new.lease c.args.want
+          (rw c.in-Ok-Given.field-0-is at c.in-Ok-Given.ensures.given);
       steps = c.need.ensures.steps;
       stop = c.need.ensures.stop;
     }

@@ -1,7 +1,8 @@
 use Rattle.log_streams.specs.declared.faults.StreamsFault.TheVariants.{Read}
 use Rattle.std.proofs.Common.{◌≡◌, refl, [], take, rules, ◌<◌, length, ◌∙◌}
 use Rattle.std.proofs.lemmas.Result.{err_from_is_err_and}
-use Rattle.log_streams.proofs.StreamLemmas.{consumes_nothing, push_refused, push_failures, reading_more, told, takes_none, nothing_wrong, still_right, not_read, goes_right, empty_fault}
+use Rattle.log_streams.proofs.StreamLemmas.{consumes_nothing, push_refused, push_failures, reading_more, told, takes_none, nothing_wrong, still_right}
+use Rattle.log_streams.proofs.StreamLemmas.{not_read, goes_right, empty_fault}
 use Rattle.log_streams.proofs.reading.read_into.Goals as goal
 
 pub returns-in_err-feed-clause-fault : goal.returns-in_err-feed-clause-fault
@@ -58,7 +59,8 @@ returns-in_err-push-2-clause-failures g c =
     rw (p.1, p.2) (push_failures c.args.stream c.args.store.now (g.R.Source.left c.args.reader.now) (g.R.Source.left c.loop-read.reader) c.loop-read.feed
     c.loop-read.store
     c.front_of-front.result.now c.in_err-push-2.field-0.0 (g.R.Source.failures c.args.reader.now) (g.R.Source.failures c.read.new.self) c.loop-read.invariant.0
-    (c.in-Ok.ensures.taken.1 ∙ c.loop-read.invariant.2) (empty_fault c.args.stream c.loop-read.feed c.push.new.feed c.loop-read.store c.push.new.store c.front_of-front.result.now
+    (c.in-Ok.ensures.taken.1 ∙ c.loop-read.invariant.2) (empty_fault c.args.stream c.loop-read.feed c.push.new.feed c.loop-read.store c.push.new.store
+    c.front_of-front.result.now
     c.in_err-push-2.field-0.0 c.in_ok-push.ensures.ok c.in_err-push-2.ensures.fault))
 
 pub returns-in_err-push-clause-right : goal.returns-in_err-push-clause-right
@@ -80,7 +82,8 @@ returns-in_err-push-2-clause-right g c =
 
 pub returns-then-count-eq0-clause-ok : goal.returns-then-count-eq0-clause-ok
 returns-then-count-eq0-clause-ok g c =
-    let on = goes_right c.loop-read.feed c.push.new.feed c.push-in-loop-read.new.feed c.loop-read.store c.push.new.store c.push-in-loop-read.new.store c.front_of-front.result.now
+    let on = goes_right c.loop-read.feed c.push.new.feed c.push-in-loop-read.new.feed c.loop-read.store c.push.new.store c.push-in-loop-read.new.store
+    c.front_of-front.result.now
     c.in_ok-push.ensures.ok c.in_ok-push-2.ensures.sound c.in_ok-push-2.ensures.ok in
     let some : 0 < length c.read.new.piece = search rules in
     told c.args.store.now (g.R.Source.left c.args.reader.now) (g.R.Source.left c.loop-read.reader) (g.R.Source.left c.read.new.self) c.loop-read.feed
@@ -90,7 +93,8 @@ returns-then-count-eq0-clause-ok g c =
 
 pub loop-read-preserved : goal.loop-read-preserved
 loop-read-preserved g c =
-    let on = goes_right c.loop-read.feed c.push.new.feed c.push-in-loop-read.new.feed c.loop-read.store c.push.new.store c.push-in-loop-read.new.store c.front_of-front.result.now
+    let on = goes_right c.loop-read.feed c.push.new.feed c.push-in-loop-read.new.feed c.loop-read.store c.push.new.store c.push-in-loop-read.new.store
+    c.front_of-front.result.now
     c.in_ok-push.ensures.ok c.in_ok-push-2.ensures.sound c.in_ok-push-2.ensures.ok in (
       reading_more c.args.store.now (g.R.Source.left c.args.reader.now) (g.R.Source.left c.loop-read.reader) (g.R.Source.left c.read.new.self) c.loop-read.feed
           c.push-in-loop-read.new.feed c.loop-read.store c.push-in-loop-read.new.store

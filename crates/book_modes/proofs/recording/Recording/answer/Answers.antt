@@ -10,7 +10,7 @@ unreachable-requires c =
     let asked = c.args.asked.now in
     let met =
     met_read c.args.self.now (count_at c.args.settled.now) asked _ c.index.result c.index-2.result.now c.right_yielded-right.result c.self.view_is
-    c.index.ensures.value c.requires.page c.index-2.ensures c.right_yielded-right.ensures in
+    c.index.ensures.value c.requires.page c.index-2.ensures c.right_yielded-right.ensures c.requires.few in
     c.in-HeldBy.ensures.not_free (subst (λ r. IsFree r asked.hart asked.want) (sym met) c.requires.free)
 
 pub returns-clause-right : goal.returns-clause-right
@@ -18,7 +18,7 @@ returns-clause-right c =
     let asked = c.args.asked.now in
     let met =
     met_read c.args.self.now (count_at c.args.settled.now) asked _ c.index.result c.index-2.result.now c.right_yielded-right.result c.self.view_is
-    c.index.ensures.value c.requires.page c.index-2.ensures c.right_yielded-right.ensures in
+    c.index.ensures.value c.requires.page c.index-2.ensures c.right_yielded-right.ensures c.requires.few in
     let at : slice_index c.set.new.self asked.hart ≡ asked.count = search rules in
     c.in-Given.ensures.given ∙ (λ i. given (met i) asked.hart asked.want (at i))
 
@@ -27,7 +27,7 @@ returns-clause-edges c e =
     let asked = c.args.asked.now in
     let met =
     met_read c.args.self.now (count_at c.args.settled.now) asked _ c.index.result c.index-2.result.now c.right_yielded-right.result c.self.view_is
-    c.index.ensures.value c.requires.page c.index-2.ensures c.right_yielded-right.ensures in
+    c.index.ensures.value c.requires.page c.index-2.ensures c.right_yielded-right.ensures c.requires.few in
     let at : slice_index c.set.new.self asked.hart ≡ asked.count = search rules in
     subst (λ (x : Right × ℕ). Contains c.in-Given.edges.items e ↔ IsOwed x.0 asked.hart asked.want x.1 (edge_as e)) (λ i. (met i, at i))
     (c.in-Given.ensures.edges e)

@@ -4,7 +4,7 @@ use Rattle.input_log.specs.Inputs.{inputs_of}
 use Rattle.edge_log.specs.EdgeLog.{Edges}
 use Rattle.hart_lease.specs.Leases.{whole}
 use Rattle.book_modes.specs.Recordings.{RecordingView, AreLogged}
-use Rattle.book_modes.proofs.ledger.Settling.{edges_own, edges_each, edges_rising, inputs_last}
+use Rattle.book_modes.proofs.ledger.Settling.{edges_own, edges_each, edges_from, edges_rising, inputs_last}
 use Rattle.book_modes.proofs.recording.Recording.log.Goals as goal
 
 pub add_all-requires-clause-own : goal.add_all-requires-clause-own
@@ -27,6 +27,12 @@ returns-in-Ok-clause-edges c =
     subst (λ (old : Edges). AreLogged old c.args.lease.now.edges c.add_all.new.self) same
     (rw (← c.edges.ensures)
     (record { added = c.in-Ok.ensures.added; log = c.in-Ok.ensures.rules; start = c.in-Ok.ensures.start; enough = c.in-Ok.ensures.enough }))
+
+pub returns-in-Ok-clause-unsettled : goal.returns-in-Ok-clause-unsettled
+returns-in-Ok-clause-unsettled c = edges_from c.requires.settles.1 (whole c.requires.settles.0 c.args.lease.now) c.requires.settles.2
+
+pub returns-in-Ok-clause-counts : goal.returns-in-Ok-clause-counts
+returns-in-Ok-clause-counts c = c.requires.settles.2.is_lease.count
 
 pub log_inputs-requires : goal.log_inputs-requires
 log_inputs-requires c =

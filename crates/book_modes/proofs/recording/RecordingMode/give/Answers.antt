@@ -1,8 +1,13 @@
 use Rattle.std.proofs.Common.{◌<◌, ◌∙◌, refl, length, length-set}
 use Rattle.ft_types.specs.Counts.{count_at}
-use Rattle.book_modes.proofs.ledger.Lending.{nobody_there, right_stored_there, giving_kept}
+use Rattle.book_modes.proofs.ledger.Lending.{few_hold, nobody_there, right_stored_there, giving_kept}
 use Rattle.book_modes.proofs.ledger.Yielding.{right_set, right_stays}
 use Rattle.book_modes.proofs.recording.RecordingMode.give.Goals as goal
+
+pub answer-right-requires-clause-few : goal.answer-right-requires-clause-few
+answer-right-requires-clause-few c =
+    let g = c.requires in
+    few_hold c.args.self.now g.machine g.leases c.args.asked.now g.asks
 
 pub answer-right-requires-clause-free : goal.answer-right-requires-clause-free
 answer-right-requires-clause-free c =

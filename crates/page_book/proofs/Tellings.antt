@@ -1,0 +1,115 @@
+-- What a recording book tells on.
+use Rattle.std.proofs.Common.{◌≡◌, ◌≤◌, ◌++◌, ℕ, zero, suc, List, [], ◌∷◌, All, Option, None, Some, map, sym, ap, subst, ◌∙◌, inl, inr, arith, le_trans}
+use Rattle.std.proofs.Common.{le_of_eq, append_assoc, append-nil}
+use Rattle.std.proofs.lemmas.Bool.{cases_eq}
+use Rattle.std.proofs.lemmas.List.Elements.{All-append, All-map, All-nil, All-weaker}
+use Rattle.edge_log.specs.declared.Edge.{Edge}
+use Rattle.edge_log.specs.EdgeLog.{Edges, AreAdded}
+use Rattle.input_log.specs.declared.Input.{Input}
+use Rattle.input_log.specs.Inputs.{inputs_of}
+use Rattle.guest_image.specs.Machine.{MachineState}
+use Rattle.hart_lease.specs.Leases.{LeaseView, laid, whole_in, IsLentBy}
+use Rattle.hart_lease.specs.OpenLeases.{OpenView, open_at}
+use Rattle.hart_lease.specs.Runs.{StandsIn, counts_of, steps_taken}
+use Rattle.hart_lease.proofs.journals.GoingOn.{get-set_here, others_laid, stands_ours}
+use Rattle.book_modes.specs.Recordings.{LogsInputs, IsFrom}
+use Rattle.page_book.specs.Tellings.{HearsMore, AddsLater, TellsTheSame, TellsFurther, SettledTellsOn}
+
+-- ---- inputs
+
+pub hears_nothing : (row : List (ℕ × Input)) (count : ℕ) (now : List (ℕ × Input)) → now ≡ row → HearsMore row count now
+hears_nothing row count now e = ([], e ∙ sym (append-nil row), All-nil (λ x. count ≤ x.0))
+
+pub hears_more : (a : List (ℕ × Input)) (m : ℕ) (b : List (ℕ × Input)) (n : ℕ) (c : List (ℕ × Input)) → m ≤ n → HearsMore a m b → HearsMore b n c →
+    HearsMore a m c
+hears_more a m b n c le p q = (
+  p.0 ++ q.0,
+  q.1 ∙ ap (λ (row : List (ℕ × Input)). row ++ q.0) p.1 ∙ append_assoc a p.0 q.0,
+  All-append (λ x. m ≤ x.0) p.0 q.0 p.2 (All-weaker (λ x. n ≤ x.0) (λ x. m ≤ x.0) (λ x at. le_trans le at) q.0 q.2),
+)
+
+all_at : (count at : ℕ) (inputs : List Input) → count ≤ at → All (λ x. count ≤ x.0) (map (λ (i : Input). let x : ℕ × Input = (at, i) in x) inputs)
+all_at count at inputs le = All-map (λ (x : ℕ × Input). count ≤ x.0) (λ (i : Input). let x : ℕ × Input = (at, i) in x) inputs (λ k d lt. le)
+
+-- a lease that comes back has been given its inputs where it was lent
+pub hears_on : (b : MachineState) (l : LeaseView) (steps : ℕ) (before after : List (List (ℕ × Input))) → counts_of b l.hart ≡ l.base.count →
+    LogsInputs steps before l after → (hart : ℕ) → HearsMore (inputs_of before hart) (counts_of b hart) (inputs_of after hart)
+hears_on b l zero before after lent logs hart =
+    hears_nothing (inputs_of before hart) (counts_of b hart) (inputs_of after hart) (ap (λ (x : List (List (ℕ × Input))). inputs_of x hart) logs)
+hears_on b l (suc steps) before after lent logs hart = elim (cases_eq hart l.hart) [
+  | inl own ↦
+      subst (λ (h : ℕ). HearsMore (inputs_of before h) (counts_of b h) (inputs_of after h)) (sym own)
+      (map (λ i. (l.base.count, i)) l.inputs, logs.row, all_at (counts_of b l.hart) l.base.count l.inputs (omega (arith, lent)))
+  | inr other ↦ hears_nothing (inputs_of before hart) (counts_of b hart) (inputs_of after hart) (logs.others hart other)
+]
+
+-- ---- edges
+
+added_on : (a b c : Edges) (found rest : List Edge) → AreAdded a found b → AreAdded b rest c → AreAdded a (found ++ rest) c
+added_on a b c [] rest same on = subst (λ (x : Edges). AreAdded x rest c) same on
+added_on a b c (e ∷ found) rest (now, one, more) on = (now, one, added_on now b c found rest more on)
+
+pub adds_nothing : (a : Edges) (m : ℕ → ℕ) (b : Edges) → b ≡ a → AddsLater a m b
+adds_nothing a m b same = ([], same, All-nil (λ e. m e.hart ≤ e.at))
+
+pub adds_on : (a : Edges) (m : ℕ → ℕ) (b : Edges) (n : ℕ → ℕ) (c : Edges) → ((hart : ℕ) → m hart ≤ n hart) → AddsLater a m b → AddsLater b n c → AddsLater a m c
+adds_on a m b n c le p q = (
+  p.0 ++ q.0,
+  added_on a b c p.0 q.0 p.1 q.1,
+  All-append (λ e. m e.hart ≤ e.at) p.0 q.0 p.2 (All-weaker (λ e. n e.hart ≤ e.at) (λ e. m e.hart ≤ e.at) (λ e at. le_trans (le e.hart) at) q.0 q.2),
+)
+
+-- a lease that comes back has found its edges where it was lent, or later
+pub found_later : (settled : ℕ → ℕ) (l : LeaseView) → settled l.hart ≡ l.base.count → All (IsFrom l.hart l.base.count) l.edges →
+    All (λ e. settled e.hart ≤ e.at) l.edges
+found_later settled l lent from =
+    All-weaker (IsFrom l.hart l.base.count) (λ e. settled e.hart ≤ e.at)
+    (λ e its. subst (λ (n : ℕ). n ≤ e.at) (sym (ap settled its.own ∙ lent)) its.from) l.edges from
+
+-- ---- books
+
+lent_at : (lent : Option OpenView) (m : MachineState) (l : LeaseView) → IsLentBy lent m l → counts_of m l.hart ≡ l.base.count
+lent_at None m l p = absurd p
+lent_at (Some lent) m l p = ap steps_taken p.is_lent.state
+
+pub tells_the_same : TellsTheSame
+tells_the_same b c machine inputs edges =
+    record {
+      counts = λ hart. le_of_eq (ap (λ (m : MachineState). counts_of m hart) (sym machine));
+      inputs = λ hart.
+          hears_nothing (inputs_of b.mode.inputs hart) (counts_of b.machine hart) (inputs_of c.mode.inputs hart)
+          (ap (λ (x : List (List (ℕ × Input))). inputs_of x hart) inputs);
+      edges = adds_nothing b.mode.edges (counts_of b.machine) c.mode.edges edges;
+    }
+
+pub tells_further : TellsFurther
+tells_further b c d p q =
+    record {
+      counts = λ hart. le_trans (p.counts hart) (q.counts hart);
+      inputs = λ hart.
+          hears_more (inputs_of b.mode.inputs hart) (counts_of b.machine hart) (inputs_of c.mode.inputs hart) (counts_of c.machine hart)
+          (inputs_of d.mode.inputs hart) (p.counts hart) (p.inputs hart) (q.inputs hart);
+      edges = adds_on b.mode.edges (counts_of b.machine) c.mode.edges (counts_of c.machine) d.mode.edges p.counts p.edges q.edges;
+    }
+
+-- no count falls where a lease is laid
+laid_counts : (m : MachineState) (l : LeaseView) → StandsIn m l → l.base.count ≤ l.present.count → (hart : ℕ) → counts_of m hart ≤ counts_of (laid m l) hart
+laid_counts m l on le hart = elim (cases_eq l.hart hart) [
+  | inl own ↦
+      (let before : counts_of m l.hart ≡ l.base.count = ap steps_taken on.state in
+      let after : counts_of (laid m l) l.hart ≡ l.present.count = ap steps_taken (get-set_here m.harts l.hart l.present l.base on.state) in
+      subst (λ (h : ℕ). counts_of m h ≤ counts_of (laid m l) h) own (omega (arith, before, after, le)))
+  | inr other ↦ le_of_eq (sym (others_laid m l hart other))
+]
+
+pub settled_tells_on : SettledTellsOn
+settled_tells_on b c l keep ours machine is =
+    let lent : counts_of b.machine l.hart ≡ l.base.count = lent_at (open_at b.leases l.hart) b.machine (whole_in b.machine l) ours in
+    record {
+      counts = λ hart.
+          subst (λ (m : MachineState). counts_of b.machine hart ≤ counts_of m hart) (sym machine)
+          (laid_counts b.machine (whole_in b.machine l) (stands_ours (open_at b.leases l.hart) b.machine (whole_in b.machine l) ours) (omega (arith, is.counts))
+          hart);
+      inputs = hears_on b.machine l l.steps b.mode.inputs c.mode.inputs lent is.inputs;
+      edges = (l.edges, is.edges.added, found_later (counts_of b.machine) l lent is.unsettled);
+    }
