@@ -1,4 +1,3 @@
 pub mod bells
 pub mod ledger
 pub mod obeying
-pub mod Yielded

@@ -7,3 +7,4 @@ pub mod ChangedRights
 pub mod Yielding
 pub mod Dues
 pub mod NewDue
+pub mod MetRights

@@ -2,4 +2,3 @@ pub mod gathering
 pub mod walking
 pub mod honesty
 pub mod rounds
-pub mod Lasting

@@ -5,3 +5,4 @@ pub mod Replays
 pub mod Schedules
 pub mod Primaries
 pub mod Stores
+pub mod Lasting

@@ -44,7 +44,7 @@ use Rattle.hart_lease.proofs.steps.Present.{played_with, present_played}
 use Rattle.hart_lease.proofs.journals.Ledger.{lent_ours}
 use Rattle.book_modes.specs.Yielding.{yielded}
 use Rattle.book_modes.proofs.ledger.Yielding.{still, nobody_stands}
-use Rattle.book_modes.proofs.Yielded.{met_is}
+use Rattle.book_modes.proofs.ledger.MetRights.{met_is}
 
 -- the stubs, with one put anew
 stubs_put : (stubs : ℕ → Option Stub) (leases : List (Option OpenView)) (hart : ℕ) (stub : Option Stub) (lent : Option OpenView) → hart < length leases →

@@ -12,7 +12,7 @@ use Rattle.crew_pages.specs.declared.right.PageRight.{PageRight}
 use Rattle.crew_pages.specs.Rights.{right_of}
 use Rattle.book_modes.specs.Yielding.{yielded}
 use Rattle.book_modes.specs.Recordings.{RecordingView, right_at, right_met}
-use Rattle.book_modes.proofs.Yielded.{met_is}
+use Rattle.book_modes.proofs.ledger.MetRights.{met_is}
 
 next : (n other : ℕ) → n ≤ other → n ≢ other → suc n ≤ other
 next n other le ne =

@@ -1,4 +1,4 @@
-use Rattle.hart_replay.proofs.Lasting.{pieces_last}
+use Rattle.hart_replay.proofs.honesty.Lasting.{pieces_last}
 use Rattle.hart_replay.proofs.honesty.Primaries.{cuts_are_pieces, pieces_tell, openings_open, primaries_are_honest}
 use Rattle.hart_replay.proofs.laws.honest_primaries.Goals as goal
 
