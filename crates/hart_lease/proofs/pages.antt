@@ -5,3 +5,4 @@ pub mod Given
 pub mod Counts
 pub mod Equal
 pub mod Places
+pub mod Codes

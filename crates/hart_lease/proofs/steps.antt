@@ -6,3 +6,4 @@ pub mod Seen
 pub mod LackedRights
 pub mod Rung
 pub mod EarlierOutputs
+pub mod Running

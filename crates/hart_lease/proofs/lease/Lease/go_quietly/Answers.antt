@@ -2,7 +2,7 @@ use Rattle.std.proofs.Common.{◌-◌, ◌≤◌, arith}
 use Rattle.rv32_hart.specs.QuietSteps.{QuietSteps}
 use Rattle.hart_lease.specs.Slots.{ram_of}
 use Rattle.hart_lease.specs.Leases.{LeaseView}
-use Rattle.hart_lease.proofs.Running.{went_on}
+use Rattle.hart_lease.proofs.steps.Running.{went_on}
 use Rattle.hart_lease.proofs.lease.Lease.go_quietly.Goals as goal
 
 pub invariant_of-self : goal.invariant_of-self

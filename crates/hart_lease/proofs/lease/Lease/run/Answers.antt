@@ -1,6 +1,6 @@
 use Rattle.std.proofs.Common.{◌≡◌, ◌+◌, refl, sym, true≢false, arith}
 use Rattle.hart_lease.specs.Leases.{IsFull}
-use Rattle.hart_lease.proofs.Running.{joined, one_more, stopped, steps_one}
+use Rattle.hart_lease.proofs.steps.Running.{joined, one_more, stopped, steps_one}
 use Rattle.hart_lease.proofs.lease.Lease.run.Goals as goal
 
 pub returns-in_default : goal.returns-in_default
