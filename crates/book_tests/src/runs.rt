@@ -41,7 +41,7 @@ fn word(dice: &mut Dice) -> u32 {
 /// The line of a word.
 fn push_line(text: &mut Vec<u8>, word: u32) -> Result<(), Memory> {
     for place in 0..8u32 {
-        let digit = (word >> (28 - 4 * place)) as u8 & 0xf;
+        let digit = (word >> (28 - 4 * place) & 0xf) as u8;
         text.push(if digit < 10 {
             b'0' + digit
         } else {
