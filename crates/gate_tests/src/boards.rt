@@ -22,10 +22,13 @@ fn sees_what_was_published(rt: HostRuntime) -> Result<(), Fail> {
         board.publish(&mut seat, &position(2, 6, 9)),
         Err(AckFault::OtherTerm)
     );
-    assert_eq!(rt; board.see(&mut gate, keeper, left), 5);
-    assert_eq!(rt; board.see(&mut gate, keeper, right), 7);
-    assert_eq!(rt; board.see(&mut gate, Keeper::new(1), left), 0);
-    assert_eq!(rt; board.beside(&mut gate, &mut seat, left), 5);
+    let seen = [
+        board.see(&mut gate, keeper, left),
+        board.see(&mut gate, keeper, right),
+        board.see(&mut gate, Keeper::new(1), left),
+        board.beside(&mut gate, &mut seat, left),
+    ];
+    assert_eq!(rt; seen, [5, 7, 0, 5]);
     assert_eq!(rt; board.publish(&mut other, &position(1, 5, 0)), Ok(()));
     assert_eq!(rt; board.see_beside(&mut gate, &mut other, right), 0);
     Ok(())

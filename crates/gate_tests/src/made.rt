@@ -2,6 +2,7 @@
 
 ghost use Rattle.std.specs.Prelude.{◌≡◌, ◌<◌, length, IfOk};
 ghost use Rattle.ack_core.specs.Seats.{term_of, harts_of, keepers_of, IsKeeperOf, IsGateOf};
+ghost use Rattle.gate_tests.specs.Made.{AreKeepersOf};
 
 use ack_core::{Board, GateSeat, KeeperSeat};
 use closed_cut::Position;
@@ -10,6 +11,18 @@ use output_gate::Output;
 use std::alloc::Global;
 use std::result::Result;
 
+/// The last of the seats.
+fn last_seat(board: &Board, seats: &mut Vec<KeeperSeat>) -> Result<KeeperSeat, Memory>
+    requires { AreKeepersOf board.now seats.old.items }
+    ensures seat { IfOk result (λ seat. IsKeeperOf board.now seat) }
+    ensures rest { AreKeepersOf board.now seats.new.items }
+{
+    match seats.pop() {
+        Some(seat) => Ok(seat),
+        None => Err(Memory),
+    }
+}
+
 fn new_board(alloc: Global) -> Result<(Board, KeeperSeat, KeeperSeat, GateSeat), Memory>
     ensures board { IfOk result (λ r. (term_of r.0 ≡ 1) × (harts_of r.0 ≡ 2) × (keepers_of r.0 ≡ 2)) }
     ensures first { IfOk result (λ r. IsKeeperOf r.0 r.1) }
@@ -17,12 +30,8 @@ fn new_board(alloc: Global) -> Result<(Board, KeeperSeat, KeeperSeat, GateSeat),
     ensures gate { IfOk result (λ r. IsGateOf r.0 r.3) }
 {
     let (board, mut seats, gate) = Board::new(alloc, 1, 2, 2)?;
-    let Some(second) = seats.pop() else {
-        return Err(Memory);
-    };
-    let Some(first) = seats.pop() else {
-        return Err(Memory);
-    };
+    let second = last_seat(&board, &mut seats)?;
+    let first = last_seat(&board, &mut seats)?;
     Ok((board, first, second, gate))
 }
 
