@@ -1,8 +1,8 @@
 -- A lease, step by step, and back in its book.
-use Rattle.std.proofs.Common.{◌≡◌, ◌≢◌, ℕ, zero, suc, ◌+◌, ◌<◌, ◌≤◌, ◌⊎◌, List, [], ◌∷◌, map, length, length-set, replicate, slice_get, slice_set, Option}
+use Rattle.std.proofs.Common.{◌≡◌, ◌≢◌, ℕ, zero, suc, ◌+◌, ◌-◌, ◌<◌, ◌≤◌, ◌⊎◌, List, [], ◌∷◌, map, length, length-set, replicate, slice_get, slice_set, Option}
 use Rattle.std.proofs.Common.{None, Some, Result, Ok, Err, false, refl, sym, ap, subst, ◌∙◌, inl, inr, arith, lit<}
 use Rattle.std.specs.Result.{OnOk, is_err}
-use Rattle.rv32_hart.specs.declared.outcome.Tick.TheVariants.{Done, Miss}
+use Rattle.rv32_hart.specs.declared.outcome.Tick.TheVariants.{Miss}
 use Rattle.rv32_hart.specs.Hart.{Hart}
 use Rattle.ft_types.specs.declared.names.Want.{Want}
 use Rattle.ft_types.specs.declared.names.Want.TheVariants.{Read, Write}
@@ -12,10 +12,10 @@ use Rattle.hart_lease.specs.declared.lease_pages.Slot.TheVariants.{Readable, Wri
 use Rattle.book_modes.specs.declared.mode.Mode.{Ghosts}
 use Rattle.hart_lease.specs.declared.taken.Taken.{Taken}
 use Rattle.hart_lease.specs.Slots.{slot_at, want_of}
-use Rattle.hart_lease.specs.Leases.{LeaseView, Ticks, IsFull, inputs_next, IsLent, outputs_of, whole, whole_in, with_page, with_page_beside, IsLentBy}
+use Rattle.hart_lease.specs.Leases.{LeaseView, Ticks, StepsOn, IsFull, inputs_next, IsLent, outputs_of, whole, whole_in, with_page, with_page_beside, IsLentBy}
 use Rattle.page_book.specs.Books.{BookView, IsOurs}
 use Rattle.hart_lease.specs.OpenLeases.{OpenView, open_at}
-use Rattle.hart_lease.specs.Laws.{StepCounts, LacksOnAPage, Covers}
+use Rattle.hart_lease.specs.Laws.{StepCounts, StepKeepsRights, LacksOnAPage, Covers}
 use Rattle.lease_rounds.specs.Leading.{IsIdle, IsAlone, Fills, NoneYet, Steps, Takes, lacking, rights_short}
 
 -- ---- a page that is given
@@ -107,22 +107,51 @@ lent_on None m earlier k n stop inputs edges still p = absurd p
 lent_on (Some lent) m earlier k n stop inputs edges still p =
     record { stop = stop ∙ p.stop; inputs = inputs ∙ p.inputs; edges = edges ∙ p.edges; is_lent = still m lent.taken earlier p.is_lent }
 
--- a step leaves whose lease it is
-pub alone_ticked : {M : Type 0} (c : BookView M) (k n : LeaseView) →
+-- what steps leave of a lease as it is, and that its hart goes on
+pub record Keeps (k n : LeaseView) : Type 0 where
+  pub hart : n.hart ≡ k.hart
+  pub stop : n.stop ≡ k.stop
+  pub inputs : n.inputs ≡ k.inputs
+  pub edges : n.edges ≡ k.edges
+  pub rights : map want_of n.slots ≡ map want_of k.slots
+  pub onward : k.present.count ≤ n.present.count
+
+pub keeps : (j : ℕ) (k n : LeaseView) → StepCounts → StepKeepsRights → StepsOn j k n → Keeps k n
+keeps zero k n counts rights s =
+    subst (λ (x : LeaseView). Keeps k x) (sym s) (record { hart = refl; stop = refl; inputs = refl; edges = refl; rights = refl; onward = omega arith })
+keeps (suc j) k n counts rights s =
+    let so = keeps j k s.0 counts rights s.1 in
+    let t = s.3 in
+    let one = counts s.0 n t in
+    record {
+      hart = ap (λ (x : LeaseView). x.hart) t.0 ∙ so.hart;
+      stop = ap (λ (x : LeaseView). x.stop) t.0 ∙ so.stop;
+      inputs = ap (λ (x : LeaseView). x.inputs) t.0 ∙ so.inputs;
+      edges = ap (λ (x : LeaseView). x.edges) t.0 ∙ so.edges;
+      rights = rights s.0 n t ∙ so.rights;
+      onward = omega (arith, one, so.onward);
+    }
+
+-- steps leave whose lease it is
+pub alone_kept : {M : Type 0} (c : BookView M) (k n : LeaseView) →
     ((machine : MachineState) (taken : List (Option Taken)) (earlier : List (ℕ × ℕ)) → IsLent machine taken (whole earlier k) → IsLent machine taken
     (whole earlier n)) →
-    IsAlone c k → Ticks Done k n → IsAlone c n
-alone_ticked c k n still alone t =
-    let hart : n.hart ≡ k.hart = ap (λ (x : LeaseView). x.hart) t.0 in
-    let stop : n.stop ≡ k.stop = ap (λ (x : LeaseView). x.stop) t.0 in
-    let inputs : n.inputs ≡ k.inputs = ap (λ (x : LeaseView). x.inputs) t.0 in
-    let edges : n.edges ≡ k.edges = ap (λ (x : LeaseView). x.edges) t.0 in
+    IsAlone c k → Keeps k n → IsAlone c n
+alone_kept c k n still alone t =
     record {
-      ours = subst (λ (h : ℕ). IsLentBy (open_at c.leases h) c.machine (whole (outputs_of (slice_get c.machine.harts h)) n)) (sym hart)
-          (lent_on (open_at c.leases k.hart) c.machine (outputs_of (slice_get c.machine.harts k.hart)) k n stop inputs edges still alone.ours);
-      alone = λ h ne. alone.alone h (λ e. ne (e ∙ sym hart));
+      ours = subst (λ (h : ℕ). IsLentBy (open_at c.leases h) c.machine (whole (outputs_of (slice_get c.machine.harts h)) n)) (sym t.hart)
+          (lent_on (open_at c.leases k.hart) c.machine (outputs_of (slice_get c.machine.harts k.hart)) k n t.stop t.inputs t.edges still alone.ours);
+      alone = λ h ne. alone.alone h (λ e. ne (e ∙ sym t.hart));
       rows = alone.rows;
     }
+
+-- after steps and a page there is less to go
+pub smaller : (k n m : LeaseView) → Keeps k n → m.present ≡ n.present → m.stop ≡ n.stop → lacking (map want_of m.slots) < lacking (map want_of n.slots) →
+    (m.stop - m.present.count) + lacking (map want_of m.slots) < (k.stop - k.present.count) + lacking (map want_of k.slots)
+smaller k n m t present stop fewer =
+    let count : m.present.count ≡ n.present.count = ap (λ (h : Hart). h.count) present in
+    let same : lacking (map want_of n.slots) ≡ lacking (map want_of k.slots) = ap lacking t.rights in
+    omega (arith, t.onward, count, same, fewer, stop, t.stop)
 
 -- the page that a step lacks
 pub lacks_there : (k n : LeaseView) (page : ℕ) (want : Want) → LacksOnAPage → Ticks (Miss page want) k n →
@@ -164,6 +193,11 @@ gone_as l k m gone present steps stop =
     ]
 
 module _ {M : Type 0} (g : Ghosts M) (b : BookView M) (l : LeaseView) where
+  -- some steps more
+  pub fills_run : (j : ℕ) (c : BookView M) (k n : LeaseView) → Fills g b l c k → StepsOn j k n → Fills g b l c n
+  fills_run zero c k n fills s = subst (λ (x : LeaseView). Fills g b l c x) (sym s) fills
+  fills_run (suc j) c k n fills s = Steps n (fills_run j c k s.0 fills s.1) s.2 s.3
+
   pub has_filled : StepCounts → (c : BookView M) (k : LeaseView) → Fills g b l c k → HasFilled b l c k
   has_filled counts c k NoneYet = record { book = refl; hart = refl; base = refl; inputs = refl; stop = refl; gone = inl (refl, refl) }
   has_filled counts c k (Steps {c = now} {k = before} n fills room t) =

@@ -28,11 +28,10 @@ fn give<M: Mode>(
     ensures alone { OnOk result (IsAlone book.new lease.new) }
     ensures fewer { OnOk result (lacking (map want_of lease.new.slots) < lacking (map want_of lease.old.slots)) }
 {
-    match book.need(lease, page, want) {
+    match book.need_own(lease, page, want) {
         Ok(Need::Given) => Ok(()),
         Ok(Need::HeldBy(_)) => unreachable!(),
-        Err(BookFault::Memory) => Err(Memory),
-        Err(_) => unreachable!(),
+        Err(_) => Err(Memory),
     }
 }
 
@@ -46,8 +45,8 @@ pub fn fill<M: Mode>(book: &mut Book<M>, lease: &mut Lease) -> Result<(), Memory
 {
     steps_of_leases();
     while !lease.full() {
-        match lease.tick() {
-            Tick::Done => {}
+        match lease.run() {
+            Tick::Done => return Ok(()),
             Tick::Miss(page, want) => give(book, lease, page, want)?,
             Tick::Memory => return Err(Memory),
             Tick::Halted => unreachable!(),
@@ -61,15 +60,11 @@ fn bring_back<M: Mode>(book: &mut Book<M>, lease: Lease, keep: Keep) -> Result<(
     requires { IsOurs book.old lease }
     ensures { OnOk result (ComesBack M.Mode keep book.old lease book.new) }
 {
-    match book.settle(lease, keep) {
+    match book.settle_own(lease, keep) {
         Ok(()) => Ok(()),
-        Err((lease, BookFault::Memory)) => {
-            let _ended = book.discard(lease);
-            Err(Memory)
-        }
         Err((lease, _)) => {
             let _ended = book.discard(lease);
-            unreachable!()
+            Err(Memory)
         }
     }
 }

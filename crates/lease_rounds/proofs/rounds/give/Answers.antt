@@ -3,8 +3,8 @@ use Rattle.hart_lease.specs.Asks.{asked_by}
 use Rattle.hart_lease.specs.OpenLeases.{open_at, given_more}
 use Rattle.lease_rounds.proofs.rounds.give.Goals as goal
 
-pub need-requires : goal.need-requires
-need-requires g c = need_within c.args.book.now c.args.lease.now c.requires.alone c.args.page c.requires.page
+pub need_own-requires-clause-page : goal.need_own-requires-clause-page
+need_own-requires-clause-page g c = need_within c.args.book.now c.args.lease.now c.requires.alone c.args.page c.requires.page
 
 pub unreachable-requires : goal.unreachable-requires
 unreachable-requires g c =
@@ -18,18 +18,18 @@ returns-in-Ok-Given-clause-gives g c =
       want = c.args.want;
       on_page = c.requires.page;
       lacks = c.requires.lacks;
-      book = c.need.ensures.book;
+      book = c.need_own.ensures.book;
       mode = rw c.in-Ok-Given.field-0-is at c.in-Ok-Given.ensures.mode;
       taken = rw c.in-Ok-Given.field-0-is at c.in-Ok-Given.ensures.taken;
       given = rw c.in-Ok-Given.field-0-is at c.in-Ok-Given.ensures.given;
-      hart = c.need.ensures.hart;
-      base = c.need.ensures.base;
-      present = c.need.ensures.present;
+      hart = c.need_own.ensures.hart;
+      base = c.need_own.ensures.base;
+      present = c.need_own.ensures.present;
       inputs =
-          inputs_stay c.args.book.now c.args.lease.now c.requires.alone c.args.page c.requires.page c.need.new.lease c.args.want
+          inputs_stay c.args.book.now c.args.lease.now c.requires.alone c.args.page c.requires.page c.need_own.new.lease c.args.want
           (rw c.in-Ok-Given.field-0-is at c.in-Ok-Given.ensures.given);
-      steps = c.need.ensures.steps;
-      stop = c.need.ensures.stop;
+      steps = c.need_own.ensures.steps;
+      stop = c.need_own.ensures.stop;
     }
 
 pub returns-in-Ok-Given-clause-alone : goal.returns-in-Ok-Given-clause-alone
@@ -37,10 +37,10 @@ returns-in-Ok-Given-clause-alone g c =
     let taken = rw c.in-Ok-Given.field-0-is at c.in-Ok-Given.ensures.taken in
     let b = c.args.book.now in
     let l = c.args.lease.now in
-    still_alone b c.need.new.self l c.need.new.lease (given_more (open_at b.leases l.hart) c.args.page c.args.want l.present.count taken.found) c.requires.alone
-    c.need.ensures.hart c.in-Ok-Given.ensures.ours taken.noted
+    still_alone b c.need_own.new.self l c.need_own.new.lease (given_more (open_at b.leases l.hart) c.args.page c.args.want l.present.count taken.found)
+    c.requires.alone c.need_own.ensures.hart c.in-Ok-Given.ensures.ours taken.noted
 
 pub returns-in-Ok-Given-clause-fewer : goal.returns-in-Ok-Given-clause-fewer
 returns-in-Ok-Given-clause-fewer g c =
-    fewer c.args.book.now c.args.lease.now c.requires.alone c.args.page c.requires.page c.need.new.lease c.args.want c.requires.lacks
+    fewer c.args.book.now c.args.lease.now c.requires.alone c.args.page c.requires.page c.need_own.new.lease c.args.want c.requires.lacks
     (rw c.in-Ok-Given.field-0-is at c.in-Ok-Given.ensures.given)
