@@ -47,8 +47,8 @@ IsGateOf b g = (g.seat.table_id ≡ b.table.shared.table_id) × (g.harts ≡ b.h
 
 -- a seat of the same keeper at the same board, which published the same
 abbrev pub IsSameKeeper : KeeperSeat → KeeperSeat → Type 0
-IsSameKeeper s t = (t.seat.table_id ≡ s.seat.table_id) × (t.harts ≡ s.harts) × (t.keepers ≡ s.keepers) × (t.keeper ≡ s.keeper) ×
-    ((h : ℕ) → published t h ≡ published s h)
+IsSameKeeper s t = (t.seat.table_id ≡ s.seat.table_id) × (t.harts ≡ s.harts) × (t.keepers ≡ s.keepers) × (t.keeper ≡ s.keeper)
+    × ((h : ℕ) → published t h ≡ published s h)
 
 -- a gate's seat at the same board; what it has seen may differ
 abbrev pub IsSameGate : GateSeat → GateSeat → Type 0
@@ -61,8 +61,8 @@ Refuses b s p Lower = (p.term ≡ b.term) × ((h : ℕ) × (h < b.harts) × (sli
 
 -- the position is of the board's term, no count is below what the seat s published last, and t published what s did and then this count, for each hart
 abbrev pub Publishes : Board → KeeperSeat → Position → KeeperSeat → Type 0
-Publishes b s p t = (p.term ≡ b.term) × ((h : ℕ) → h < b.harts → (last_count (published s h) ≤ slice_index p.counts h) × (published t h ≡ published s h ++
-    slice_index p.counts h ∷ []))
+Publishes b s p t = (p.term ≡ b.term)
+    × ((h : ℕ) → h < b.harts → (last_count (published s h) ≤ slice_index p.counts h) × (published t h ≡ published s h ++ slice_index p.counts h ∷ []))
 
 -- keeper k's seat at the board, which has published nothing
 abbrev pub IsDealt : Board → KeeperSeat → ℕ → Type 0

@@ -77,14 +77,14 @@ impl Board {
     /// Raises the keeper's words, from the first of them, to the counts: each count is added to the list of its word.
     fn raise(&self, seat: &mut Seat<(), View>, first: usize, counts: &[Count])
         requires seat { (seat.old.table_id ≡ self.now.table.shared.table_id) × (length seat.old.me.0.known ≡ keepers_of self.now * harts_of self.now) }
-        requires own { (seat.old.me.0.from ≡ first) × (seat.old.me.0.upto ≡ first + harts_of self.now) ×
-            (first + harts_of self.now ≤ keepers_of self.now * harts_of self.now) }
+        requires own { (seat.old.me.0.from ≡ first) × (seat.old.me.0.upto ≡ first + harts_of self.now)
+            × (first + harts_of self.now ≤ keepers_of self.now * harts_of self.now) }
         requires row { length counts.now ≡ harts_of self.now }
         requires high { (h : ℕ) → h < harts_of self.now → last_count (known_at seat.old.me.0 (first + h)) ≤ slice_index counts.now h }
-        ensures same { (seat.new.table_id ≡ seat.old.table_id) × (length seat.new.me.0.known ≡ length seat.old.me.0.known) ×
-            (seat.new.me.0.from ≡ seat.old.me.0.from) × (seat.new.me.0.upto ≡ seat.old.me.0.upto) }
-        ensures added { (h : ℕ) → h < harts_of self.now → known_at seat.new.me.0 (first + h) ≡ known_at seat.old.me.0 (first + h) ++
-            slice_index counts.now h ∷ [] }
+        ensures same { (seat.new.table_id ≡ seat.old.table_id) × (length seat.new.me.0.known ≡ length seat.old.me.0.known)
+            × (seat.new.me.0.from ≡ seat.old.me.0.from) × (seat.new.me.0.upto ≡ seat.old.me.0.upto) }
+        ensures added { (h : ℕ) → h < harts_of self.now →
+            known_at seat.new.me.0 (first + h) ≡ known_at seat.old.me.0 (first + h) ++ slice_index counts.now h ∷ [] }
     {
         for hart in 0..self.harts as usize {
             self.table

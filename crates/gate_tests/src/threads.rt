@@ -156,10 +156,10 @@ fn publish_and_look<R: Threads + Sync>(
             ensures { IsKeeperOf board.entry.now result }
         { acknowledge(board, keeper) },
         move ||
-            requires { (term_of board.now ≡ gate.term) × (keepers_of board.now ≡ gate.keepers) × IsGateOf board.now seat ×
-                ((keeper hart : ℕ) → noted_at gate keeper hart ≡ 0) }
-            ensures { (term_of board.entry.now ≡ result.0.term) × (keepers_of board.entry.now ≡ result.0.keepers) × IsGateOf board.entry.now result.1 ×
-                IsSeen board.entry.now result.0 result.1 }
+            requires { (term_of board.now ≡ gate.term) × (keepers_of board.now ≡ gate.keepers)
+                × IsGateOf board.now seat × ((keeper hart : ℕ) → noted_at gate keeper hart ≡ 0) }
+            ensures { (term_of board.entry.now ≡ result.0.term) × (keepers_of board.entry.now ≡ result.0.keepers)
+                × IsGateOf board.entry.now result.1 × IsSeen board.entry.now result.0 result.1 }
         { look_on(alloc, board, gate, seat) },
     );
     let last = gate.look(alloc, board, &mut seat)?;

@@ -41,10 +41,10 @@ impl Gate {
         requires keepers { keepers_of board.now ≡ self.old.keepers }
         requires seen { IsSeen board.now self.old seat.old }
         ensures fits { IsGateOf board.now seat.new }
-        ensures noted { (keeper hart : ℕ) → keeper < keepers_of board.now → hart < harts_of board.now → noted_at self.new keeper hart ≡ seen seat.new keeper
-            hart }
-        ensures begins { (keeper hart : ℕ) → keeper < keepers_of board.now → hart < harts_of board.now → StartsWith (heard seat.new keeper hart)
-            (heard seat.old keeper hart) }
+        ensures noted { (keeper hart : ℕ) → keeper < keepers_of board.now → hart < harts_of board.now →
+            noted_at self.new keeper hart ≡ seen seat.new keeper hart }
+        ensures begins { (keeper hart : ℕ) → keeper < keepers_of board.now → hart < harts_of board.now →
+            StartsWith (heard seat.new keeper hart) (heard seat.old keeper hart) }
         ensures seen { IsSeen board.now self.new seat.new }
         ensures rest { self.new ≡ record self.old { noted = self.new.noted } }
     {
@@ -64,8 +64,8 @@ impl Gate {
         requires seat { IsGateOf board.now seat.old }
         requires seen { IsSeen board.now self.old seat.old }
         ensures seat { IsGateOf board.now seat.new }
-        ensures noted { (keeper hart : ℕ) → keeper < keepers_of board.now → hart < harts_of board.now → noted_at self.new keeper hart ≡ seen seat.new keeper
-            hart }
+        ensures noted { (keeper hart : ℕ) → keeper < keepers_of board.now → hart < harts_of board.now →
+            noted_at self.new keeper hart ≡ seen seat.new keeper hart }
         ensures heard { (keeper hart : ℕ) → keeper < keepers_of board.now → hart < harts_of board.now →
             StartsWith (heard seat.new keeper hart) (heard seat.old keeper hart) }
         ensures seen { IsSeen board.now self.new seat.new }
