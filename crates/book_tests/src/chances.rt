@@ -12,8 +12,9 @@ use std::test::Fail;
 
 /// Six times over each hart adds to a word of one of two pages, or loads it: which one, and what it adds, is made of what it
 /// loaded before. One of these words lies in the code's page. Then it halts.
-static MIXES: &[u8] =
-    b"800010b7\n80008093\n00600113\nf14021f3\n00118193\n0011f293\n00c29293\n001282b3\n0021f313\n00030663\n0032a3af\n0080006f\n0002a383\n00319413\n008181b3\n007181b3\n00518193\nfff10113\nfc0116e3\nf0000237\n00022a23\n";
+static MIXES: &[u8] = b"800010b7\n80008093\n00600113\nf14021f3\n00118193\n0011f293\n\
+00c29293\n001282b3\n0021f313\n00030663\n0032a3af\n0080006f\n0002a383\n00319413\n008181b3\n\
+007181b3\n00518193\nfff10113\nfc0116e3\nf0000237\n00022a23\n";
 
 fn mixing_text(alloc: Global, harts: u8) -> Result<Vec<u8>, Memory> {
     let head: &[u8] = match harts {
