@@ -1,21 +1,22 @@
 -- Bells that are heard in their turn.
 use Rattle.std.specs.Prelude.{◌≡◌, ◌<◌, ◌≤◌, ◌+◌, ◌==◌, ◌⊎◌, ◌++◌, ℕ, List, [], ◌∷◌, length, filter, count_by, slice_get, Option, Some, Contains}
-use Rattle.interleaving.specs.Machine.{Machine, Step, counts, steps}
-use Rattle.interleaving.specs.Log.{Edge, Before, place}
+use Rattle.interleaving.specs.Machine.{Machine, Turn, Step, counts, steps}
+use Rattle.interleaving.specs.Log.{Edge, Log, IsHonest, Before, place}
 use Rattle.interleaving.specs.Stored.{view}
 use Rattle.input_log.specs.declared.Input.{Input}
 use Rattle.input_log.specs.declared.WaitingBell.{WaitingBell}
 use Rattle.input_log.specs.Waiting.{Queues, bells_of, others_of, AreOthers}
-use Rattle.edge_log.specs.EdgeLog.{Edges, edges_of}
 use Rattle.rv32_hart.specs.Hart.{Hart}
 use Rattle.rv32_hart.specs.Hardware.{hardware}
 use Rattle.rv32_hart.specs.Bells.{is_bell_from}
 use Rattle.guest_image.specs.Machine.{MachineState}
-use Rattle.hart_lease.specs.declared.stretch.Stretch.{Stretch}
 use Rattle.hart_lease.specs.Recorded.{system}
-use Rattle.hart_lease.specs.Runs.{Heard, journal_turns}
 use Rattle.book_modes.specs.Silences.{rung_by, heard_by}
 use Rattle.book_modes.specs.Dues.{DueView, due_at, bell_edges}
+
+-- a machine, as the theory sees it
+abbrev pub HartMachine : Type 0
+HartMachine = Machine (Option Hart) (Option (List ℕ))
 
 -- a step that a hart took
 abbrev pub HartStep : Type 0
@@ -34,24 +35,24 @@ pub record Hears (t : HartStep) (source target k : ℕ) : Type 0 where
   pub below : k < heard_by t.found source + count_by (is_bell_from source) t.input
 
 -- two harts of the machine, where at the start the target had heard no more bells of the source than that had rung
-pub record IsPair (start : MachineState) (source target : ℕ) : Type 0 where
-  pub is_source : source < length start.harts
-  pub is_target : target < length start.harts
-  pub heard : heard_by (slice_get start.harts target) source ≤ rung_by (slice_get start.harts source) target
+pub record IsPair (start : HartMachine) (source target : ℕ) : Type 0 where
+  pub is_source : (h : Hart) × (start.harts source ≡ Some h)
+  pub is_target : (h : Hart) × (start.harts target ≡ Some h)
+  pub heard : heard_by (start.harts target) source ≤ rung_by (start.harts source) target
 
--- a bell that a target hears at one of these steps, and that the start had not rung, was rung at one of them that comes before by the edges
-abbrev pub HearsInTurn : List Edge → MachineState → List HartStep → Type 0
-HearsInTurn edges start past =
-    (source target k : ℕ) (t : HartStep) → IsPair start source target → rung_by (slice_get start.harts source) target ≤ k →
+-- a bell that a target hears at one of these steps of a machine with so many pages, and that the start had not rung, was rung
+-- at one of them that comes before by the edges
+abbrev pub HearsInTurn : ℕ → List Edge → HartMachine → List HartStep → Type 0
+HearsInTurn pages edges start past =
+    (source target k : ℕ) (t : HartStep) → IsPair start source target → rung_by (start.harts source) target ≤ k →
     Contains past t → Hears t source target k →
-    (s : HartStep) × Contains past s × Rings s source target k ×
-    Before edges (place (system (length start.pages)) s) (place (system (length start.pages)) t)
+    (s : HartStep) × Contains past s × Rings s source target k × Before edges (place (system pages) s) (place (system pages) t)
 
--- so it is at the steps of a journal, by the log's edges
-abbrev pub HearsBellsInTurn : Edges → Heard → MachineState → List Stretch → Type 0
-HearsBellsInTurn edges heard start journal =
-    HearsInTurn (edges_of edges) start
-    (steps (system (length start.pages)) (view (hardware (length start.pages)) start) (journal_turns heard start journal))
+-- The log tells truly of a run from the start: its edges order each two steps that conflict, it has the run's inputs, and each
+-- bell is heard in its turn.
+pub record IsTrueLog (pages : ℕ) (log : Log (List Input)) (start : HartMachine) (turns : List (Turn (List Input))) : Type 0 where
+  pub honest : IsHonest (system pages) log start turns
+  pub bells : HearsInTurn pages log.edges start (steps (system pages) start turns)
 
 -- What a recording book keeps of bells.
 
@@ -85,9 +86,9 @@ pub record KeepsBells (start : MachineState) (now : Machine (Option Hart) (Optio
   pub told : (hart source : ℕ) → count_by (is_bell_from source) (due_at due hart).inputs ≡ length (bells_from source (due_bells hart))
   pub owed : (hart : ℕ) → (due_at due hart).edges ≡ bell_edges hart (counts (system (length start.pages)) now hart) (due_bells hart)
   -- they and those of the desk are the next that it hears
-  pub next : (source target : ℕ) → IsPair start source target →
+  pub next : (source target : ℕ) → IsPair (view (hardware (length start.pages)) start) source target →
       AreNext (WasRung start past source target) (heard_by (now.harts target) source) (rung_by (now.harts source) target)
       (bells_from source (due_bells target ++ bells_of desk target))
   pub others : (hart : ℕ) → AreOthers (others_of desk hart)
   -- and those that were heard were heard in their turn
-  pub in_turn : HearsInTurn edges start past
+  pub in_turn : HearsInTurn (length start.pages) edges (view (hardware (length start.pages)) start) past

@@ -3,16 +3,16 @@ use Rattle.std.specs.Prelude.{◌≡◌, ◌≢◌, ◌<◌, ◌≤◌, ◌↔�
 use Rattle.std.specs.Prelude.{slice_set, All, AllPairs, Contains, is_some, slice_get, Option, Some, None, option_map, if◌then◌else◌}
 use Rattle.interleaving.specs.Machine.{Turn, steps}
 use Rattle.interleaving.specs.Log as theory
-use Rattle.interleaving.specs.Log.{Log, IsHonest}
+use Rattle.interleaving.specs.Log.{Log}
 use Rattle.interleaving.specs.Cuts.{IsEnough}
 use Rattle.interleaving.specs.Stored.{view}
 use Rattle.ft_types.specs.Counts.{count_at}
 use Rattle.input_log.specs.declared.Input.{Input}
 use Rattle.input_log.specs.declared.WaitingBell.{WaitingBell}
-use Rattle.input_log.specs.Inputs.{IsInputOf, inputs_of, AreAddedTo}
+use Rattle.input_log.specs.Inputs.{IsInputOf, but_bells, inputs_of, AreAddedTo, HearsMore}
 use Rattle.input_log.specs.Waiting.{Queues, bells_of, others_of, others_staying, room_beside, next_going, IsBellAddedTo}
 use Rattle.edge_log.specs.declared.Edge.{Edge}
-use Rattle.edge_log.specs.EdgeLog.{Edges, IsLog, edge_as, edges_of, start_of, AreAdded}
+use Rattle.edge_log.specs.EdgeLog.{Edges, IsLog, edge_as, edges_of, start_of, AreAdded, AddsLater}
 use Rattle.crew_pages.specs.declared.right.PageRight.{PageRight}
 use Rattle.crew_pages.specs.Rights.{Right, Shared, Exclusive, right_of, unused, stands, given, give_up, IsOwed}
 use Rattle.lease_ledger.specs.Ledger.{Ledger, Stub}
@@ -32,7 +32,7 @@ use Rattle.hart_lease.specs.Leases.{LeaseView, bells_rung}
 use Rattle.hart_lease.specs.Recorded.{system, stub_of}
 use Rattle.hart_lease.specs.Runs.{Heard, heard_in, counts_of, journal_turns}
 use Rattle.book_modes.specs.Silences.{unheard_bells}
-use Rattle.book_modes.specs.Hearings.{KeepsBells}
+use Rattle.book_modes.specs.Hearings.{IsTrueLog, KeepsBells}
 use Rattle.book_modes.specs.Dues.{DueView, nothing_due, due_at, due_from, is_silent, stop_before}
 
 pub record RecordingView : Type 0 where
@@ -90,6 +90,7 @@ keep_as told.Nothing = calls.Nothing
 -- the edges have been added to the log, which still says all that were found
 pub record AreLogged (old : Edges) (found : List Edge) (new : Edges) : Type 0 where
   pub added : AreAdded old found new
+  pub was : IsLog old.start old.rows
   pub log : IsLog new.start new.rows
   pub start : new.start ≡ old.start
   pub enough : (all : List theory.Edge) → IsEnough (edges_of old) all (start_of old) → IsEnough (edges_of new) (all ++ map edge_as found) (start_of new)
@@ -180,6 +181,28 @@ pub record GoesOut (r : RecordingView) (hart count : ℕ) (lent : LentView) (new
   -- what is given later waits for a later lease
   pub stop : lent.stop ≡ stop_before (count_at r.limits hart) count (next_going (bells_of new.desk hart) (others_of new.desk hart))
 
+-- the inputs but for bells that were offered to a hart: those that it was given, those that are due to it and those that wait
+abbrev pub inputs_offered : RecordingView → ℕ → List Input
+inputs_offered r hart =
+    but_bells (map (λ x. x.1) (inputs_of r.inputs hart) ++ ((due_at r.due hart).inputs ++ map (λ w. w.input) (others_of r.desk hart)))
+
+-- it has a row for each hart of these
+pub record HasRows (r : RecordingView) : Type 0 where
+  pub inputs : length r.inputs ≡ 8
+  pub due : length r.due ≡ 8
+  pub desk : length r.desk ≡ 8
+
+-- The hart, which had settled this count, was given more from there on alone, and of what was offered to it none is lost, made or
+-- put before another.
+pub record KeepsInputs (r : RecordingView) (hart count : ℕ) (new : RecordingView) : Type 0 where
+  pub given : HearsMore (inputs_of r.inputs hart) count (inputs_of new.inputs hart)
+  pub offered : inputs_offered new hart ≡ inputs_offered r hart
+
+-- The log says of the steps before these counts what it said, and what was offered is kept.
+pub record GoesOn (r : RecordingView) (settled : ℕ → ℕ) (new : RecordingView) : Type 0 where
+  pub edges : AddsLater r.edges settled new.edges
+  pub inputs : (hart : ℕ) → KeepsInputs r hart (settled hart) new
+
 -- an edge that the hart's next step owes for a bell
 pub record IsDueEdge (machine : MachineState) (hart : ℕ) (e : Edge) : Type 0 where
   pub own : e.hart ≡ hart
@@ -259,8 +282,7 @@ log_of edges heard start machine =
 -- the log tells truly of the journal's steps
 abbrev pub HasHonestLog : Edges → Heard → MachineState → List Stretch → MachineState → Type 0
 HasHonestLog edges heard start journal machine =
-    IsHonest (system (length start.pages)) (log_of edges heard start machine) (view (hardware (length start.pages)) start)
-    (journal_turns heard start journal)
+    IsTrueLog (length start.pages) (log_of edges heard start machine) (view (hardware (length start.pages)) start) (journal_turns heard start journal)
 
 -- an edge of a hart is between it and another of the machine's, and names a step that it has reached, and steps that the other has settled
 pub record IsBetween (machine : MachineState) (hart : ℕ) (e : Edge) : Type 0 where

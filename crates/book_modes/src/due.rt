@@ -78,6 +78,22 @@ impl Due {
         Due { inputs, edges }
     }
 
+    /// The same.
+    pub(crate) fn copy(&self, alloc: Global) -> Due
+        ensures { result ≡ self.now }
+    {
+        let inputs = SmallVec::from_slice(alloc, self.inputs.as_slice()).unwrap();
+        let edges = SmallVec::from_slice(alloc, self.edges.as_slice()).unwrap();
+        Due { inputs, edges }
+    }
+
+    /// The inputs.
+    pub(crate) fn inputs(&self) -> &[Input]
+        ensures { result.now ≡ self.now.inputs }
+    {
+        self.inputs.as_slice()
+    }
+
     /// Whether it is given no inputs.
     pub(crate) fn is_silent(&self) -> bool
         ensures { result ≡ is_silent self.now.inputs }
@@ -89,8 +105,7 @@ impl Due {
     pub(crate) fn lent(&self, alloc: Global, stop: Count) -> Lent
         ensures { result ≡ lent_with stop self.now.inputs self.now.edges }
     {
-        let inputs = SmallVec::from_slice(alloc, self.inputs.as_slice()).unwrap();
-        let edges = SmallVec::from_slice(alloc, self.edges.as_slice()).unwrap();
+        let Due { inputs, edges } = self.copy(alloc);
         Lent::new(stop, inputs, edges)
     }
 }

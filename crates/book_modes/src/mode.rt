@@ -49,6 +49,26 @@ fn lesser(count: Count, other: Option<Count>) -> Count
 }
 
 impl Leg {
+    /// An equal leg.
+    pub fn copy(&self) -> Result<Leg, Memory>
+        ensures { IfOk result (λ leg. leg ≡ self.now) }
+    {
+        Ok(Leg {
+            ends: self.ends,
+            edges: self.edges.copy()?,
+            inputs: self.inputs.copy()?,
+        })
+    }
+
+    /// Whether the legs are equal.
+    pub fn same(&self, other: &Leg) -> bool
+        ensures { IsTrue result ↔ (self.now ≡ other.now) }
+    {
+        same_counts(self.ends.as_slice(), other.ends.as_slice())
+            && self.edges.same(&other.edges)
+            && self.inputs.same(&other.inputs)
+    }
+
     /// The count that a lease of the hart goes to, which is at this count.
     pub fn stop(&self, hart: Hart, count: Count) -> Count
         requires { count < count_at self.now.ends hart }
@@ -60,6 +80,12 @@ impl Leg {
         let next_input = self.inputs.next(hart, count + 1);
         lesser(lesser(end, next_edge), next_input)
     }
+}
+
+fn same_counts(counts: &[Count], others: &[Count]) -> bool
+    ensures { IsTrue result ↔ (counts.now ≡ others.now) }
+{
+    counts == others
 }
 
 /// A book's mode, with what only that mode has.
@@ -93,6 +119,17 @@ pub trait Mode: Drop {
 
     /// What a lease of a hart with a settled count makes of it, which took these pages, and ends without its steps.
     ghost ends: { Self → ℕ → ℕ → List (Option taken_since) → Self → Type 0 };
+
+    /// The mode of a book that goes on from one of another mode, where the harts had settled these counts.
+    ghost goes_on: { Self → (ℕ → ℕ) → Self → Type 0 };
+
+    /// An equal mode.
+    fn copy(&self) -> Result<Self, Memory>
+        ensures { IfOk result (λ mode. mode ≡ self.now) };
+
+    /// Whether it goes on so from the other.
+    fn goes_on_from(&self, settled: &Counts, before: &Self) -> bool
+        ensures { IsTrue result ↔ goes_on before.now (count_at settled.now) self.now };
 
     /// The count that the hart does not go past.
     fn limit(&self, hart: Hart) -> Count
@@ -240,6 +277,17 @@ impl Mode for Replaying {
     ghost settles = { λ r lease keep new. new ≡ r };
 
     ghost ends = { λ r hart count taken new. new ≡ r };
+
+    ghost goes_on = { λ r settled new. new ≡ r };
+
+    fn copy(&self) -> Result<Replaying, Memory> {
+        let leg = self.leg.copy()?;
+        Ok(Replaying { leg })
+    }
+
+    fn goes_on_from(&self, _settled: &Counts, before: &Replaying) -> bool {
+        self.leg.same(&before.leg)
+    }
 
     fn limit(&self, hart: Hart) -> Count {
         count_of(self.leg.ends, hart)

@@ -2,7 +2,7 @@
 
 ghost use Rattle.std.specs.Prelude.{◌≡◌, ◌<◌, ◌≤◌, ◌^◌, ◌↔◌, ◌+◌, ℕ, All, AllPairs, Contains, List, [], map, length, slice_index, slice_get, Some, IsTrue};
 ghost use Rattle.std.specs.Prelude.{IfOk, OnOk, OnErr, true, false, replicate};
-ghost use Rattle.book_modes.specs.Words.{count_at, counts_of, edge_as, give_up, given, greater, has_taken, holds, inputs_of, is_bell, IsFree, IsInputOf};
+ghost use Rattle.book_modes.specs.Words.{count_at, counts_of, edge_as, but_bells, give_up, given, greater, has_taken, holds, inputs_of, is_bell, IsFree, IsInputOf};
 ghost use Rattle.book_modes.specs.Words.{IsMember, IsOwed, kept, owns, Queues, unused, whole};
 ghost use Rattle.crew_pages.specs.Rights.{right_of};
 ghost use Rattle.edge_log.specs.declared.Edge.{Edge as edge_found};
@@ -13,6 +13,7 @@ ghost use Rattle.book_modes.specs.Dues.{nothing_due, due_at, is_silent, stop_bef
 ghost use Rattle.rv32_hart.specs.Hart.{Hart as HartRecord};
 ghost use Rattle.book_modes.specs.Recordings.{RecordingView, IsUnused, IsRecorded, heard_by, IsFilled, GoesOut, IsOffered, LogsInputs, due_after, AreLogged};
 ghost use Rattle.book_modes.specs.Recordings.{PutsBell, IsFrom, IsTaker, AreOwed, IsGiven, IsSettled, IsEnded, keep_as, right_at, right_met};
+ghost use Rattle.book_modes.specs.Recordings.{GoesOn, HasRows, inputs_offered, KeepsInputs};
 ghost use Rattle.book_modes.specs.Yielding.{yielded};
 
 use crate::due::Due;
@@ -25,7 +26,7 @@ use edge_log::{Edge, EdgeLog};
 use ft_types::{Count, Counts, HART_LIMIT, Hart, HartSet, Memory, PageNo};
 use guest_image::Machine;
 use hart_lease::{Asked, Lease, Lent, OpenLease, Taken};
-use input_log::{Desk, Input, InputLog, WaitingBell};
+use input_log::{Desk, Input, InputLog, Offered, WaitingBell};
 use smallvec::SmallVec;
 use std::alloc::Global;
 use std::marker::Model;
@@ -73,6 +74,27 @@ fn nothing_due(alloc: Global) -> [Due; 8]
         Due::nothing(alloc),
         Due::nothing(alloc),
         Due::nothing(alloc),
+    ]
+}
+
+fn rights_copied(rights: &Vec<PageRight>) -> Result<Vec<PageRight>, Memory>
+    ensures { IfOk result (λ copied. copied.items ≡ rights.now.items) }
+{
+    Ok(rights.clone()?)
+}
+
+fn dues_copied(alloc: Global, due: &[Due; 8]) -> [Due; 8]
+    ensures { result ≡ due.now }
+{
+    [
+        due[0].copy(alloc),
+        due[1].copy(alloc),
+        due[2].copy(alloc),
+        due[3].copy(alloc),
+        due[4].copy(alloc),
+        due[5].copy(alloc),
+        due[6].copy(alloc),
+        due[7].copy(alloc),
     ]
 }
 
@@ -177,6 +199,30 @@ impl Recording {
             Input::Timer | Input::Word(_) => self.desk.put(hart, not_before, input),
             Input::Bell(_) => unreachable!(),
         }
+    }
+
+    /// What was offered to the hart.
+    fn offered(&self, hart: Hart) -> Offered<'_>
+        ensures rows { HasRows self.now }
+        ensures value { but_bells result ≡ inputs_offered self.now hart }
+    {
+        let due = self.due[hart.index()].inputs();
+        Offered::new(&self.inputs, due, &self.desk, hart)
+    }
+
+    /// It has a row for each hart.
+    fn has_rows(&self)
+        ensures { HasRows self.now }
+    {
+        let _offered = self.offered(Hart::new(0));
+    }
+
+    /// Whether the hart, which had settled this count, was given more from there on alone, and what was offered to it is kept.
+    fn keeps_inputs(&self, hart: Hart, count: Count, before: &Recording) -> bool
+        ensures { IsTrue result ↔ KeepsInputs before.now hart count self.now }
+    {
+        self.inputs.hears_more(hart, count, &before.inputs)
+            && self.offered(hart).same_but_bells(before.offered(hart))
     }
 
     /// Sees to it that the hart, which is at this count, has due what its next step is given: what a lease that ended without
@@ -288,6 +334,21 @@ impl Recording {
         self.limits = self.limits.max(limits);
     }
 
+    /// The limits become these.
+    pub fn limit_at(&mut self, limits: Counts)
+        requires { length limits ≡ length self.old.limits }
+        ensures { self.new ≡ record self.old { limits = limits } }
+    {
+        self.limits = limits;
+    }
+
+    /// The counts that the harts do not go past.
+    pub fn limits(&self) -> Counts
+        ensures { result ≡ self.now.limits }
+    {
+        self.limits
+    }
+
     /// Whether the hart's right stands in the asker's way, and its open lease has taken the page.
     fn is_taker(&self, leases: &[Option<OpenLease>; 8], asked: &Asked, other: Hart) -> bool
         requires { asked.now.page < length self.now.rights }
@@ -349,6 +410,35 @@ impl Mode for Recording {
     ghost settles = { λ r lease keep new. IsSettled r lease keep new };
 
     ghost ends = { λ r hart count taken new. IsEnded r hart count taken new };
+
+    ghost goes_on = { λ r settled new. GoesOn r settled new };
+
+    fn copy(&self) -> Result<Recording, Memory> {
+        let alloc = *self.rights.allocator();
+        Ok(Recording {
+            limits: self.limits,
+            rights: rights_copied(&self.rights)?,
+            edges: self.edges.copy()?,
+            inputs: self.inputs.copy()?,
+            due: dues_copied(alloc, &self.due),
+            desk: self.desk.copy()?,
+        })
+    }
+
+    fn goes_on_from(&self, settled: &Counts, before: &Recording) -> bool {
+        if !self.edges.adds_later(settled, &before.edges) {
+            return false;
+        }
+        self.has_rows();
+        before.has_rows();
+        for number in 0..HART_LIMIT {
+            let hart = Hart::new(number);
+            if !self.keeps_inputs(hart, count_of(*settled, hart), before) {
+                return false;
+            }
+        }
+        true
+    }
 
     fn limit(&self, hart: Hart) -> Count {
         count_of(self.limits, hart)

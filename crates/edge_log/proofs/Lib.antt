@@ -1,3 +1,4 @@
 pub mod Rows
 pub mod Logs
 pub mod Settled
+pub mod Equal

@@ -1,15 +1,15 @@
 -- Rows of edges in order.
 use Rattle.std.proofs.Common.{◌≡◌, ◌≢◌, ◌⊎◌, ℕ, zero, suc, ◌+◌, ◌-◌, ◌<◌, ◌≤◌, Bool, true, false, List, [], ◌∷◌, ◌++◌, length, get_or, set, take, drop, arith}
-use Rattle.std.proofs.Common.{refl, sym, ap, subst, ◌∙◌, inl, inr, le_trans, All, AllPairs, Contains, length-append, length-drop, length-take}
+use Rattle.std.proofs.Common.{refl, sym, ap, subst, ◌∙◌, inl, inr, le_trans, All, AllPairs, Any, Contains, nat_lt, length-append, length-drop, length-take}
 use Rattle.std.proofs.Common.{take-append-drop, add-one, ◌==◌, eq-eqb, ne_eqb, le_refl, append-nil, length-set, get_or-set_same, get_or-set_other}
 use Rattle.std.specs.List.{AllWithin, insert, filter}
 use Rattle.std.specs.List.Sorted.{IsNonDecreasingBy}
-use Rattle.std.proofs.lemmas.Bool.{cases_lt, cases_eq}
+use Rattle.std.proofs.lemmas.Bool.{cases_lt, cases_eq, lt-ltb, le-ltb}
 use Rattle.std.proofs.lemmas.List.{get_or_read, get_or-take, get_or-drop, get_or_append_left, get_or-append_right, get_or-append-add, drop_more, set_split}
 use Rattle.std.proofs.lemmas.List.{get_or_default}
 use Rattle.std.proofs.lemmas.List.Elements.{All-head, All-tail, filter-append, Contains-append_cases, Contains-append_left, Contains-append_right, All-contains}
 use Rattle.edge_log.specs.declared.Edge.{Edge}
-use Rattle.edge_log.specs.Rows.{ComesBefore, CannotComeBefore, IsTwin, TwinStands, IsPut, SaysAsMuch, AsksFor, IsRow, Takes, Said, Put, TakesAll}
+use Rattle.edge_log.specs.Rows.{ComesBefore, CannotComeBefore, IsTwin, TwinStands, IsPut, AsksAsMuch, SayOn, SaysAsMuch, AsksFor, IsRow, Takes, Said, Put, TakesAll}
 
 pub before_trans : (a b c : Edge) → ComesBefore a b → ComesBefore b c → ComesBefore a c
 before_trans a b c p q =
@@ -277,6 +277,54 @@ edges_at xs n i j within_i within_j before from upto after =
   where
     later : (k : ℕ) (d : Edge) → k < length (drop i xs) → n ≤ (get_or (drop i xs) k d).at
     later k d below = rw (get_or-drop i xs k d) (from (i + k) d (omega arith) (omega (arith, length-drop i xs)))
+
+-- those of the steps before one count
+pub edges_below : (xs : List Edge) (n i : ℕ) → i ≤ length xs → AllWithin (λ e. e.at < n) xs 0 i → AllWithin (λ e. n ≤ e.at) xs i (length xs) →
+    filter (λ e. nat_lt e.at n) xs ≡ take i xs
+edges_below xs n i within before from =
+    let all = filter_all (λ e. nat_lt e.at n) (take i xs)
+    (all_front (λ e. nat_lt e.at n ≡ true) xs i within (λ k d a b. lt-ltb (get_or xs k d).at n (before k d a b))) in
+    let none = filter_none (λ e. nat_lt e.at n) (drop i xs)
+    (all_back (λ e. nat_lt e.at n ≡ false) xs i within (λ k d a b. le-ltb (get_or xs k d).at n (from k d a b))) in
+    ap (filter (λ e. nat_lt e.at n)) (sym (take-append-drop i xs))
+    ∙ filter-append (λ e. nat_lt e.at n) (take i xs) (drop i xs)
+    ∙ ap (λ l. l ++ filter (λ e. nat_lt e.at n) (drop i xs)) all
+    ∙ ap (λ l. take i xs ++ l) none
+    ∙ append-nil (take i xs)
+
+-- Rows whose edges of the steps before one count end at i and at j.
+module _ (old new : List Edge) (n i j : ℕ) (is_in : i ≤ length new) (was_in : j ≤ length old) (before : AllWithin (λ e. e.at < n) new 0 i)
+    (from : AllWithin (λ e. n ≤ e.at) new i (length new)) (was_before : AllWithin (λ e. e.at < n) old 0 j)
+    (was_from : AllWithin (λ e. n ≤ e.at) old j (length old)) where
+  pub parts_say : take i new ≡ take j old → All (λ e. Any (λ by. AsksAsMuch by e) new) (drop j old) → SayOn old n new
+  parts_say same rest =
+      record {
+        below = edges_below new n i is_in before from ∙ same ∙ sym (edges_below old n j was_in was_before was_from);
+        said = λ k d small. elim (cases_lt k j) [
+          | inl less ↦
+              let as_long : i ≡ j = omega (arith, ap length same, length-take i new, length-take j old) in
+              let less_new : k < i = omega arith in
+              let is : get_or old k d ≡ get_or new k d =
+              sym (get_or-take j old k d less) ∙ ap (λ (l : List Edge). get_or l k d) (sym same) ∙ get_or-take i new k d less_new in (
+                k,
+                get_or new k d,
+                omega arith,
+                get_or_default new k (get_or new k d) d (omega arith),
+                rw is (record { other = refl; at = le_refl (get_or new k d).at; after = le_refl (get_or new k d).after }),
+              )
+          | inr more ↦
+              let at : get_or (drop j old) (k - j) d ≡ get_or old k d =
+              get_or-drop j old (k - j) d ∙ ap (λ m. get_or old m d) (let e : j + (k - j) ≡ k = omega arith in e) in
+              subst (λ (e : Edge). Any (λ by. AsksAsMuch by e) new) at (rest (k - j) d (omega (arith, length-drop j old)))
+        ];
+      }
+
+  pub say_parts : SayOn old n new → (take i new ≡ take j old) × All (λ e. Any (λ by. AsksAsMuch by e) new) (drop j old)
+  say_parts says = (
+    sym (edges_below new n i is_in before from) ∙ says.below ∙ edges_below old n j was_in was_before was_from,
+    λ k d small.
+        subst (λ (e : Edge). Any (λ by. AsksAsMuch by e) new) (sym (get_or-drop j old k d)) (says.said (j + k) d (omega (arith, length-drop j old))),
+  )
 
 -- at one count the other harts rise
 pub others_rise : (xs : List Edge) (n i j : ℕ) → AllPairs ComesBefore xs → i ≤ length xs → j ≤ length (drop i xs) →

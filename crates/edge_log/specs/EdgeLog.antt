@@ -5,7 +5,7 @@ use Rattle.ft_types.specs.Counts.{count_at}
 use Rattle.interleaving.specs.Log as theory
 use Rattle.interleaving.specs.Cuts.{IsImplied}
 use Rattle.edge_log.specs.declared.Edge.{Edge}
-use Rattle.edge_log.specs.Rows.{IsPut}
+use Rattle.edge_log.specs.Rows.{IsPut, SayOn}
 
 -- the counts that it begins at, and each hart's edges, by rising step and other hart
 pub record Edges : Type 0 where
@@ -66,3 +66,8 @@ pub record IsLog (start : List ℕ) (rows : List (List Edge)) : Type 0 where
   pub eight : length rows ≡ 8
   pub own : (hart : ℕ) → All (IsOfHart start hart) (slice_index_or rows hart [])
   pub later : (hart : ℕ) → All (IsLater start) (slice_index_or rows hart [])
+
+-- The second log says of the steps before these counts what the first says, and no more; and all that the first says is said.
+pub record AddsLater (before : Edges) (settled : ℕ → ℕ) (after : Edges) : Type 0 where
+  pub start : after.start ≡ before.start
+  pub rows : (hart : ℕ) → SayOn (row_of before hart) (settled hart) (row_of after hart)

@@ -1,5 +1,5 @@
 -- The edges of one hart, in their order.
-use Rattle.std.specs.Prelude.{ℕ, ◌≡◌, ◌<◌, ◌≤◌, ◌⊎◌, List, [], ◌∷◌, ◌++◌, length, slice_index, All, AllPairs, Contains}
+use Rattle.std.specs.Prelude.{ℕ, ◌≡◌, ◌<◌, ◌≤◌, ◌⊎◌, List, [], ◌∷◌, ◌++◌, length, slice_index, All, AllPairs, Any, Contains, filter, nat_lt}
 use Rattle.std.specs.List.{HoldsAt}
 use Rattle.ft_types.specs.Counts.{count_at}
 use Rattle.edge_log.specs.declared.Edge.{Edge}
@@ -43,6 +43,11 @@ pub record AsksAsMuch (by edge : Edge) : Type 0 where
 -- one of the edges asks for as much
 abbrev pub SaysAsMuch : List Edge → Edge → Type 0
 SaysAsMuch edges edge = (by : Edge) × Contains edges by × AsksAsMuch by edge
+
+-- Of the steps before the count the edges say what they said, and no more; and all that was said is said.
+pub record SayOn (old : List Edge) (count : ℕ) (new : List Edge) : Type 0 where
+  pub below : filter (λ e. nat_lt e.at count) new ≡ filter (λ e. nat_lt e.at count) old
+  pub said : All (λ e. Any (λ by. AsksAsMuch by e) new) old
 
 -- the start says as much, or one of the edges
 abbrev pub IsSaid : List ℕ → List Edge → Edge → Type 0

@@ -1,12 +1,12 @@
 //! The edges that a log keeps.
 
-ghost use Rattle.std.specs.Prelude.{◌≡◌, ℕ, ◌+◌, ◌<◌, ◌≤◌, ◌==◌, ◌↔◌, ◌≢◌, All, Any, AllPairs, Contains, List, [], ◌∷◌, ◌++◌, Ok, length, map, filter, IsTrue};
+ghost use Rattle.std.specs.Prelude.{◌≡◌, ℕ, ◌+◌, ◌<◌, ◌≤◌, ◌==◌, ◌↔◌, ◌≢◌, All, Any, AllPairs, Contains, List, [], ◌∷◌, ◌++◌, Ok, length, map, filter, IsTrue, slice_index_or};
 ghost use Rattle.std.specs.Prelude.{OnOk, OnErr, IfOk, IfSome, IfNone};
 ghost use Rattle.ft_types.specs.Counts.{count_at};
 ghost use Rattle.interleaving.specs.Log.{Edge as edge_of_theory};
 ghost use Rattle.interleaving.specs.Cuts.{IsImplied, IsEnough, IsSameOrder};
-ghost use Rattle.edge_log.specs.Rows.{ComesBefore, IsPut};
-ghost use Rattle.edge_log.specs.EdgeLog.{row_of, edge_as, edges_of, start_of, MayAdd, AreAdded, IsOfHart, IsLog};
+ghost use Rattle.edge_log.specs.Rows.{ComesBefore, IsPut, SayOn};
+ghost use Rattle.edge_log.specs.EdgeLog.{row_of, edge_as, edges_of, start_of, MayAdd, AddsLater, AreAdded, IsOfHart, IsLog};
 
 use crate::row::Row;
 use crate::{Added, Edge};
@@ -37,6 +37,46 @@ impl Model for EdgeLog {
     ghost invariant = { λ l. IsLog l.start (map (λ r. r.edges) l.rows) };
 }
 
+fn same_counts(counts: &[Count], others: &[Count]) -> bool
+    ensures { IsTrue result ↔ (counts.now ≡ others.now) }
+{
+    counts == others
+}
+
+fn same_rows(rows: &[Row; 8], others: &[Row; 8]) -> bool
+    ensures { IsTrue result ↔ (map (λ r. r.edges) rows.now ≡ map (λ r. r.edges) others.now) }
+{
+    for hart in 0..8usize {
+        if !rows[hart].has_edges_of(&others[hart]) {
+            return false;
+        }
+    }
+    true
+}
+
+/// The count of a hart in a row: 0 where the row has no such hart.
+fn count_of(counts: &Counts, hart: u8) -> Count
+    ensures { result ≡ count_at counts.now hart }
+{
+    if hart < counts.harts() {
+        counts.get(Hart::new(hart))
+    } else {
+        0
+    }
+}
+
+fn rows_say_on(rows: &[Row; 8], settled: &Counts, before: &[Row; 8]) -> bool
+    ensures { IsTrue result ↔ ((hart : ℕ) → SayOn (slice_index_or (map (λ r. r.edges) before.now) hart []) (count_at settled.now hart) (slice_index_or
+        (map (λ r. r.edges) rows.now) hart [])) }
+{
+    for hart in 0..8u8 {
+        if !rows[hart as usize].says_on(count_of(settled, hart), &before[hart as usize]) {
+            return false;
+        }
+    }
+    true
+}
+
 impl EdgeLog {
     /// A log without edges, from these counts on.
     pub fn new(alloc: Global, start: Counts) -> EdgeLog
@@ -58,6 +98,22 @@ impl EdgeLog {
             start: self.start,
             rows: self.rows.each_ref().try_map(|row| row.copy())?,
         })
+    }
+
+    /// Whether the logs are equal.
+    pub fn same(&self, other: &EdgeLog) -> bool
+        ensures { IsTrue result ↔ (self.now ≡ other.now) }
+    {
+        same_counts(self.start.as_slice(), other.start.as_slice())
+            && same_rows(&self.rows, &other.rows)
+    }
+
+    /// Whether it goes on from the other log, when the harts had settled these counts: from there on it may say more.
+    pub fn adds_later(&self, settled: &Counts, before: &EdgeLog) -> bool
+        ensures { IsTrue result ↔ AddsLater before.now (count_at settled.now) self.now }
+    {
+        same_counts(self.start.as_slice(), before.start.as_slice())
+            && rows_say_on(&self.rows, settled, &before.rows)
     }
 
     /// The counts that the log begins at.
@@ -139,6 +195,7 @@ impl EdgeLog {
         requires rising { AllPairs (λ a b. a.at ≤ b.at) edges.now }
         ensures start { self.new.start ≡ self.old.start }
         ensures err { OnErr result (self.new ≡ self.old) }
+        ensures rules_before { IsLog self.old.start self.old.rows }
         ensures rules { IsLog self.new.start self.new.rows }
         // What adding them one after another leaves.
         ensures added { OnOk result (AreAdded self.old edges.now self.new) }

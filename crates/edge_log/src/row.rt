@@ -1,10 +1,11 @@
 //! The edges of one hart.
 
 ghost use Rattle.std.specs.Prelude.{◌≡◌, ℕ, ◌+◌, ◌<◌, ◌≤◌, ◌==◌, ◌↔◌, All, Any, AllPairs, Ok, [], replicate, length, filter, slice_index, vec_len};
-ghost use Rattle.std.specs.Prelude.{vec_capacity, IsTrue, OnOk, OnErr, IfOk, IfSome, IfNone};
+ghost use Rattle.std.specs.Prelude.{vec_capacity, IsTrue, OnOk, OnErr, IfOk, IfSome, IfNone, ◌&&◌};
+ghost use Rattle.std.specs.Cmp.Lexicographic.{pointwise};
 ghost use Rattle.std.specs.List.{AllWithin};
 ghost use Rattle.std.specs.List.Sorted.{IsNonDecreasingBy};
-ghost use Rattle.edge_log.specs.Rows.{ComesBefore, IsPut, SaysAsMuch, CannotComeBefore, TwinStands, IsRow, Takes, TakesAll};
+ghost use Rattle.edge_log.specs.Rows.{ComesBefore, AsksAsMuch, SayOn, IsPut, SaysAsMuch, CannotComeBefore, TwinStands, IsRow, Takes, TakesAll};
 
 use crate::{Added, Edge};
 use ft_types::{Count, Counts, Memory};
@@ -156,6 +157,47 @@ fn first_after(edges: &[Edge], count: Count) -> usize
     edges.partition_point(|e| e.at <= count)
 }
 
+fn same_edges(edges: &[Edge], others: &[Edge]) -> bool
+    ensures { result ≡ pointwise (λ a b. a.hart == b.hart && a.at == b.at && a.other == b.other && a.after == b.after) edges.now others.now }
+{
+    edges == others
+}
+
+/// Whether one of the edges asks for as much.
+fn says_as_much(edges: &[Edge], edge: &Edge) -> bool
+    ensures { IsTrue result ↔ Any (λ by. AsksAsMuch by edge.now) edges.now }
+{
+    for by in edges {
+        if by.other == edge.other && by.at <= edge.at && edge.after <= by.after {
+            return true;
+        }
+    }
+    false
+}
+
+/// Whether one of the edges asks for as much as each of these.
+fn says_all(edges: &[Edge], said: &[Edge]) -> bool
+    ensures { IsTrue result ↔ All (λ e. Any (λ by. AsksAsMuch by e) edges.now) said.now }
+{
+    for edge in said {
+        if !says_as_much(edges, edge) {
+            return false;
+        }
+    }
+    true
+}
+
+/// Whether the edges say on from these, which were there when the hart was at this count.
+fn says_on(edges: &[Edge], count: Count, before: &[Edge]) -> bool
+    requires rising { IsNonDecreasingBy (λ e. e.at) edges.now }
+    requires rising_before { IsNonDecreasingBy (λ e. e.at) before.now }
+    ensures { IsTrue result ↔ SayOn before.now count edges.now }
+{
+    let kept = first_from(before, count);
+    same_edges(&edges[..first_from(edges, count)], &before[..kept])
+        && says_all(edges, &before[kept..])
+}
+
 impl Row {
     /// A row without edges.
     pub(crate) fn new(alloc: Global) -> Row
@@ -175,6 +217,20 @@ impl Row {
             edges: self.edges.clone()?,
             reached: self.reached,
         })
+    }
+
+    /// Whether both rows have the same edges.
+    pub(crate) fn has_edges_of(&self, other: &Row) -> bool
+        ensures { IsTrue result ↔ (self.now.edges ≡ other.now.edges) }
+    {
+        same_edges(self.edges.as_slice(), other.edges.as_slice())
+    }
+
+    /// Whether it says on from the other, from this count on.
+    pub(crate) fn says_on(&self, count: Count, before: &Row) -> bool
+        ensures { IsTrue result ↔ SayOn before.now.edges count self.now.edges }
+    {
+        says_on(self.edges.as_slice(), count, before.edges.as_slice())
     }
 
     /// All edges.

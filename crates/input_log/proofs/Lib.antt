@@ -4,3 +4,4 @@ mod Eights
 mod Rows
 mod Taking
 pub mod Told
+mod More

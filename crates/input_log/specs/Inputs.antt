@@ -1,5 +1,5 @@
 -- Inputs at counts.
-use Rattle.std.specs.Prelude.{ℕ, ◌≡◌, ◌≢◌, ◌<◌, ◌≤◌, ◌==◌, ◌++◌, ◌^◌, Bool, true, false, List, [], map, filter, zip, length, slice_index_or, All}
+use Rattle.std.specs.Prelude.{ℕ, ◌≡◌, ◌≢◌, ◌<◌, ◌≤◌, ◌==◌, ◌++◌, ◌^◌, Bool, true, false, not, List, [], map, filter, zip, length, slice_index_or, All}
 use Rattle.std.specs.List.Sorted.{IsNonDecreasing}
 use Rattle.input_log.specs.declared.Input.{Input}
 use Rattle.input_log.specs.declared.Input.TheVariants as input
@@ -9,6 +9,10 @@ abbrev pub is_bell : Input → Bool
 is_bell input.Timer = false
 is_bell (input.Word w) = false
 is_bell (input.Bell source) = true
+
+-- those that are no bells
+abbrev pub but_bells : List Input → List Input
+but_bells inputs = filter (λ i. not (is_bell i)) inputs
 
 -- of a machine with so many harts: a word has 32 bits, and a bell was rung by one of them
 abbrev pub IsInputOf : ℕ → Input → Type 0
@@ -40,3 +44,7 @@ pub record AreAddedTo (before : List (List (ℕ × Input))) (hart : ℕ) (added 
   pub harts : length before ≡ 8
   pub row : inputs_of log hart ≡ inputs_of before hart ++ added
   pub others : (other : ℕ) → other ≢ hart → inputs_of log other ≡ inputs_of before other
+
+-- what a hart was given before stays, and the rest was given at its settled count or later
+abbrev pub HearsMore : List (ℕ × Input) → ℕ → List (ℕ × Input) → Type 0
+HearsMore before count after = (more : List (ℕ × Input)) × (after ≡ before ++ more) × All (λ x. count ≤ x.0) more

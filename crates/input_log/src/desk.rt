@@ -6,11 +6,12 @@ ghost use Rattle.input_log.specs.Inputs.{is_bell};
 ghost use Rattle.input_log.specs.Waiting.{Queues, bells_of, others_of, bells_going, room_beside, others_staying, going, next_going, IsBellAddedTo};
 
 use crate::queue::Queue;
-use crate::{Input, WaitingBell};
+use crate::{Input, WaitingBell, WaitingInput};
 use ft_types::{Count, Hart, Memory};
 use smallvec::SmallVec;
 use std::alloc::Global;
 use std::array;
+use std::collections::VecDeque;
 use std::marker::Model;
 use std::option::Option;
 use std::result::Result;
@@ -52,6 +53,14 @@ impl Desk {
         Ok(Desk {
             queues: self.queues.each_ref().try_map(|queue| queue.copy())?,
         })
+    }
+
+    /// The inputs but bells that wait for the hart.
+    pub(crate) fn others(&self, hart: Hart) -> &VecDeque<WaitingInput>
+        ensures value { result.now.items ≡ others_of self.now hart }
+        ensures rows { length self.now ≡ 8 }
+    {
+        self.queues[hart.index()].others()
     }
 
     /// Puts a bell for the hart at the back: this source rang, and its count was `after` once it had.

@@ -6,12 +6,14 @@ ghost use Rattle.input_log.specs.Inputs.{is_bell};
 
 mod desk;
 mod log;
+mod offered;
 mod queue;
 mod row;
 
 pub use desk::Desk;
 use ft_types::{Count, Hart};
 pub use log::InputLog;
+pub use offered::Offered;
 
 /// What a hart is given at a step, before it takes it.
 #[derive(Clone, Copy, Debug, PartialEq, Eq)]

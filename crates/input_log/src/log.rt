@@ -3,7 +3,7 @@
 ghost use Rattle.std.specs.Prelude.{◌≡◌, ◌≢◌, ℕ, ◌+◌, ◌-◌, ◌<◌, ◌≤◌, ◌↔◌, ◌++◌, List, ◌∷◌, [], All, Any, length, map, take, zip, IsTrue, OnOk, OnErr, IfOk};
 ghost use Rattle.std.specs.Prelude.{IfSome, IfNone};
 ghost use Rattle.std.specs.List.Sorted.{IsNonDecreasing};
-ghost use Rattle.input_log.specs.Inputs.{inputs_of, inputs_at, MayFollow, AreAddedTo};
+ghost use Rattle.input_log.specs.Inputs.{inputs_of, inputs_at, HearsMore, MayFollow, AreAddedTo};
 
 use crate::Input;
 use crate::row::Row;
@@ -52,12 +52,32 @@ impl InputLog {
         })
     }
 
+    /// Whether the logs are equal.
+    pub fn same(&self, other: &InputLog) -> bool
+        ensures { IsTrue result ↔ (self.now ≡ other.now) }
+    {
+        for hart in 0..8usize {
+            if !self.rows[hart].same(&other.rows[hart]) {
+                return false;
+            }
+        }
+        true
+    }
+
+    /// Whether the hart was given what the other log has of it, and more at this count and later ones alone.
+    pub fn hears_more(&self, hart: Hart, count: Count, before: &InputLog) -> bool
+        ensures { IsTrue result ↔ HearsMore (inputs_of before.now hart) count (inputs_of self.now hart) }
+    {
+        self.rows[hart.index()].hears_more(count, &before.rows[hart.index()])
+    }
+
     /// All counts of a hart's inputs, and the input at each.
     pub fn of_hart(&self, hart: Hart) -> (&[Count], &[Input])
         ensures value { zip result.0.now result.1.now ≡ inputs_of self.now hart }
         ensures paired { length result.1.now ≡ length result.0.now }
         ensures rising { IsNonDecreasing result.0.now }
         ensures few { (n : ℕ) → length (inputs_at (inputs_of self.now hart) n) ≤ 8 }
+        ensures rows { length self.now ≡ 8 }
     {
         self.rows[hart.index()].columns()
     }

@@ -121,6 +121,13 @@ impl Queue {
         Ok(Queue { bells, others })
     }
 
+    /// The others.
+    pub(crate) fn others(&self) -> &VecDeque<WaitingInput>
+        ensures { result.now.items ≡ self.now.others }
+    {
+        &self.others
+    }
+
     /// Puts a bell at the back.
     pub(crate) fn put_bell(&mut self, bell: WaitingBell) -> Result<(), Memory>
         ensures ok { OnOk result (self.new ≡ record self.old { bells = self.old.bells ++ bell ∷ [] }) }

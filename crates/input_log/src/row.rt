@@ -2,9 +2,11 @@
 
 ghost use Rattle.std.specs.Prelude.{◌≡◌, ℕ, ◌+◌, ◌-◌, ◌<◌, ◌≤◌, ◌↔◌, ◌++◌, ◌∷◌, [], All, Any, length, map, replicate, take, zip, IsTrue, OnOk, OnErr, IfOk};
 ghost use Rattle.std.specs.Prelude.{IfSome, IfNone};
+ghost use Rattle.std.specs.Cmp.Lexicographic.{pointwise};
 ghost use Rattle.std.specs.List.{AllWithin};
 ghost use Rattle.std.specs.List.Sorted.{IsNonDecreasing};
-ghost use Rattle.input_log.specs.Inputs.{inputs_at, MayFollow};
+ghost use Rattle.input_log.specs.Alike.{same_input};
+ghost use Rattle.input_log.specs.Inputs.{inputs_at, HearsMore, MayFollow};
 
 use crate::Input;
 use ft_types::{Count, Memory};
@@ -113,6 +115,30 @@ fn inputs_copied(inputs: &Vec<Input>) -> Result<Vec<Input>, Memory>
     Ok(inputs.clone()?)
 }
 
+fn same_counts(counts: &[Count], others: &[Count]) -> bool
+    ensures { IsTrue result ↔ (counts.now ≡ others.now) }
+{
+    counts == others
+}
+
+fn same_inputs(inputs: &[Input], others: &[Input]) -> bool
+    ensures { result ≡ pointwise same_input inputs.now others.now }
+{
+    inputs == others
+}
+
+/// Whether each count is this one or a later one.
+fn all_from(counts: &[Count], count: Count) -> bool
+    ensures { IsTrue result ↔ All (λ n. count ≤ n) counts.now }
+{
+    for n in counts {
+        if *n < count {
+            return false;
+        }
+    }
+    true
+}
+
 impl Row {
     /// A row without inputs.
     pub(crate) fn new(alloc: Global) -> Row
@@ -131,6 +157,30 @@ impl Row {
         let counts = counts_copied(&self.counts)?;
         let inputs = inputs_copied(&self.inputs)?;
         Ok(Row { counts, inputs })
+    }
+
+    /// Whether the rows are equal.
+    pub(crate) fn same(&self, other: &Row) -> bool
+        ensures { IsTrue result ↔ (self.now ≡ other.now) }
+    {
+        same_counts(self.counts.as_slice(), other.counts.as_slice())
+            && same_inputs(self.inputs.as_slice(), other.inputs.as_slice())
+    }
+
+    /// Whether it has the other's inputs, and more of this count and later ones alone.
+    pub(crate) fn hears_more(&self, count: Count, before: &Row) -> bool
+        ensures { IsTrue result ↔ HearsMore before.now count self.now }
+    {
+        let (counts, inputs) = self.columns();
+        let (first_counts, first_inputs) = before.columns();
+        let kept = first_counts.len();
+        if kept > counts.len() {
+            return false;
+        }
+        if !same_counts(&counts[..kept], first_counts) {
+            return false;
+        }
+        same_inputs(&inputs[..kept], first_inputs) && all_from(&counts[kept..], count)
     }
 
     /// All counts, and the input of each.

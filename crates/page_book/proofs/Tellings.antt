@@ -1,10 +1,9 @@
 -- What a recording book tells on.
-use Rattle.std.proofs.Common.{◌≡◌, ◌≤◌, ◌++◌, ℕ, zero, suc, List, [], ◌∷◌, All, Option, None, Some, map, sym, ap, subst, ◌∙◌, inl, inr, arith, le_trans}
+use Rattle.std.proofs.Common.{◌≡◌, ◌≤◌, ◌++◌, ℕ, zero, suc, List, [], All, Option, None, Some, map, sym, ap, subst, ◌∙◌, inl, inr, arith, le_trans}
 use Rattle.std.proofs.Common.{le_of_eq, append_assoc, append-nil}
 use Rattle.std.proofs.lemmas.Bool.{cases_eq}
 use Rattle.std.proofs.lemmas.List.Elements.{All-append, All-map, All-nil, All-weaker}
-use Rattle.edge_log.specs.declared.Edge.{Edge}
-use Rattle.edge_log.specs.EdgeLog.{Edges, AreAdded}
+use Rattle.edge_log.specs.EdgeLog.{Edges, IsOfHart, row_of}
 use Rattle.input_log.specs.declared.Input.{Input}
 use Rattle.input_log.specs.Inputs.{inputs_of}
 use Rattle.guest_image.specs.Machine.{MachineState}
@@ -12,7 +11,8 @@ use Rattle.hart_lease.specs.Leases.{LeaseView, laid, whole_in, IsLentBy}
 use Rattle.hart_lease.specs.OpenLeases.{OpenView, open_at}
 use Rattle.hart_lease.specs.Runs.{StandsIn, counts_of, steps_taken}
 use Rattle.hart_lease.proofs.journals.GoingOn.{get-set_here, others_laid, stands_ours}
-use Rattle.book_modes.specs.Recordings.{LogsInputs, IsFrom}
+use Rattle.book_modes.specs.Recordings.{AreLogged, LogsInputs, IsFrom}
+use Rattle.page_book.proofs.Later.{adds_nothing, adds_on, all_added_later}
 use Rattle.page_book.specs.Tellings.{HearsMore, AddsLater, TellsTheSame, TellsFurther, SettledTellsOn}
 
 -- ---- inputs
@@ -45,26 +45,20 @@ hears_on b l (suc steps) before after lent logs hart = elim (cases_eq hart l.har
 
 -- ---- edges
 
-added_on : (a b c : Edges) (found rest : List Edge) → AreAdded a found b → AreAdded b rest c → AreAdded a (found ++ rest) c
-added_on a b c [] rest same on = subst (λ (x : Edges). AreAdded x rest c) same on
-added_on a b c (e ∷ found) rest (now, one, more) on = (now, one, added_on now b c found rest more on)
-
-pub adds_nothing : (a : Edges) (m : ℕ → ℕ) (b : Edges) → b ≡ a → AddsLater a m b
-adds_nothing a m b same = ([], same, All-nil (λ e. m e.hart ≤ e.at))
-
-pub adds_on : (a : Edges) (m : ℕ → ℕ) (b : Edges) (n : ℕ → ℕ) (c : Edges) → ((hart : ℕ) → m hart ≤ n hart) → AddsLater a m b → AddsLater b n c → AddsLater a m c
-adds_on a m b n c le p q = (
-  p.0 ++ q.0,
-  added_on a b c p.0 q.0 p.1 q.1,
-  All-append (λ e. m e.hart ≤ e.at) p.0 q.0 p.2 (All-weaker (λ e. n e.hart ≤ e.at) (λ e. m e.hart ≤ e.at) (λ e at. le_trans (le e.hart) at) q.0 q.2),
-)
-
 -- a lease that comes back has found its edges where it was lent, or later
-pub found_later : (settled : ℕ → ℕ) (l : LeaseView) → settled l.hart ≡ l.base.count → All (IsFrom l.hart l.base.count) l.edges →
+found_later : (settled : ℕ → ℕ) (l : LeaseView) → settled l.hart ≡ l.base.count → All (IsFrom l.hart l.base.count) l.edges →
     All (λ e. settled e.hart ≤ e.at) l.edges
 found_later settled l lent from =
     All-weaker (IsFrom l.hart l.base.count) (λ e. settled e.hart ≤ e.at)
     (λ e its. subst (λ (n : ℕ). n ≤ e.at) (sym (ap settled its.own ∙ lent)) its.from) l.edges from
+
+-- so it adds them later
+pub edges_on : (settled : ℕ → ℕ) (l : LeaseView) (old new : Edges) → settled l.hart ≡ l.base.count → AreLogged old l.edges new →
+    All (IsFrom l.hart l.base.count) l.edges → AddsLater old settled new
+edges_on settled l old new lent logged from =
+    all_added_later old settled l.edges new
+    (λ hart. All-weaker (IsOfHart old.start hart) (λ e. e.hart ≡ hart) (λ e its. its.own) (row_of old hart) (logged.was.own hart)) logged.added
+    (found_later settled l lent from)
 
 -- ---- books
 
@@ -111,5 +105,5 @@ settled_tells_on b c l keep ours machine is =
           (laid_counts b.machine (whole_in b.machine l) (stands_ours (open_at b.leases l.hart) b.machine (whole_in b.machine l) ours) (omega (arith, is.counts))
           hart);
       inputs = hears_on b.machine l l.steps b.mode.inputs c.mode.inputs lent is.inputs;
-      edges = (l.edges, is.edges.added, found_later (counts_of b.machine) l lent is.unsettled);
+      edges = edges_on (counts_of b.machine) l b.mode.edges c.mode.edges lent is.edges is.unsettled;
     }

@@ -1,22 +1,15 @@
 -- What a recording book tells, and what it tells more later.
-use Rattle.std.specs.Prelude.{◌≡◌, ◌≤◌, ◌++◌, ℕ, List, All}
-use Rattle.edge_log.specs.declared.Edge.{Edge}
-use Rattle.edge_log.specs.EdgeLog.{Edges, AreAdded}
-use Rattle.input_log.specs.declared.Input.{Input}
+use Rattle.std.specs.Prelude.{◌≡◌, ◌≤◌, ℕ}
 use Rattle.input_log.specs.Inputs.{inputs_of}
 use Rattle.hart_lease.specs.Leases.{LeaseView, laid, whole_in}
 use Rattle.hart_lease.specs.Runs.{counts_of}
 use Rattle.book_modes.specs.declared.keep.Keep.{Keep}
 use Rattle.book_modes.specs.Recordings.{RecordingView, IsSettled}
 use Rattle.page_book.specs.Books.{BookView, IsOurs}
-
 -- what a hart was given before stays, and the rest was given at its settled count or later
-abbrev pub HearsMore : List (ℕ × Input) → ℕ → List (ℕ × Input) → Type 0
-HearsMore before count after = (more : List (ℕ × Input)) × (after ≡ before ++ more) × All (λ x. count ≤ x.0) more
-
--- edges were added, each of its hart's settled count or later
-abbrev pub AddsLater : Edges → (ℕ → ℕ) → Edges → Type 0
-AddsLater before settled after = (found : List Edge) × AreAdded before found after × All (λ e. settled e.hart ≤ e.at) found
+pub use Rattle.input_log.specs.Inputs.{HearsMore}
+-- edges of the steps that are settled stay, and all that was said is said
+pub use Rattle.edge_log.specs.EdgeLog.{AddsLater}
 
 -- The second book tells all that the first tells of the steps that the first has settled, and no more of those.
 pub record TellsOn (b c : BookView RecordingView) : Type 0 where

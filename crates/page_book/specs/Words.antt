@@ -1,5 +1,4 @@
 -- What the contracts of this crate say of the crates below.
-pub use Rattle.book_modes.specs.Hearings.{HearsBellsInTurn}
 pub use Rattle.book_modes.specs.Modes.{IsAsking}
 pub use Rattle.book_modes.specs.Recordings.{HasHonestLog, heard_by, IsBetween, IsOffered, IsUnused, RecordingView}
 pub use Rattle.edge_log.specs.EdgeLog.{row_of}

@@ -4,19 +4,22 @@ ghost use Rattle.std.specs.Prelude.{All, ◌≡◌, ◌≢◌, ◌<◌, ◌≤�
 ghost use Rattle.std.specs.Prelude.{slice_index, slice_index_or, Some, None, Ok, Err, true, false, IfOk, IfErr, OnOk, OnErr, IsTrue};
 ghost use Rattle.std.specs.Vec.{vec_len, vec_capacity};
 ghost use Rattle.page_book.specs.Words.{added, asked_by, base_at, BeginsSchedule, count_at, counts_of, fresh, given_more, greater, HasHonestLog, HasUnmet};
-ghost use Rattle.page_book.specs.Words.{heard_by, HearsBellsInTurn, inputs_of, is_bell, IsAsking, IsBareLease, IsBetween, IsFull, IsInputOf, IsLentBy};
+ghost use Rattle.page_book.specs.Words.{heard_by, inputs_of, is_bell, IsAsking, IsBareLease, IsBetween, IsFull, IsInputOf, IsLentBy};
 ghost use Rattle.page_book.specs.Words.{IsMember, IsMet, IsOffered, IsUnused, laid, laid_pages, LeadsTo, LeaseView, lent_with, nothing_taken, open_at};
 ghost use Rattle.page_book.specs.Words.{OpenView, RecordingView, row_of, slot_at, want_of, whole_in, with_page, with_slot};
 ghost use Rattle.page_book.specs.Books.{BookView, IsOurs, HasTaken, refusal};
+ghost use Rattle.page_book.specs.Reclaims.{EndsOne, EndsFirst, IsBeginning, GoesOnFrom};
 ghost use Rattle.page_book.specs.Answers.{IfHeldBy, OnHeldBy, OnGiven};
 ghost use Rattle.rv32_hart.specs.Hart.{Hart as HartRecord, with_outputs_of, without_outputs};
 
 use crate::answers::{BookFault, Need};
+use crate::giving::{give, no_leases, note_taken, with_edges};
+use crate::journals::{begins, journal_copied};
 use crate::laying::{add_stretch, take_back};
 use crate::lease::Lease;
 use book_modes::{Keep, Leg, Mode, Recording, Replaying, settled_counts, steps_taken};
 use edge_log::{Edge, EdgeLog};
-use ft_types::{Count, Counts, Hart, HartSet, Memory, PageNo, Want};
+use ft_types::{Count, Counts, HART_LIMIT, Hart, HartSet, Memory, PageNo, Want};
 use guest_image::{Machine, Page};
 use hart_lease::{Asked, Lent, OpenLease, Slot, Stretch, TakenPages};
 use input_log::{Input, InputLog};
@@ -81,12 +84,11 @@ impl Book<Recording> {
     }
 
     /// The edges of the settled steps, with those dropped that others or the start imply. They tell truly of the journal:
-    /// with the start's counts and the settled ones they are an honest log of it.
+    /// with the start's counts and the settled ones they are an honest log of it. Each bell that a hart heard since the start was
+    /// rung by the start, or at a step that comes before by the edges.
     pub fn edges(&self) -> &EdgeLog
         ensures value { result.now ≡ self.now.mode.edges }
         ensures honest { HasHonestLog result.now (heard_by self.now.mode) self.now.start self.now.journal self.now.machine }
-        // Each bell that a hart heard since the start was rung by the start, or at a step that comes before by the edges.
-        ensures bells { HearsBellsInTurn result.now (heard_by self.now.mode) self.now.start self.now.journal }
         // Each is between two harts, and what it names has been settled.
         ensures between { (hart : ℕ) → All (IsBetween self.now.machine hart) (row_of result.now hart) }
     {
@@ -123,61 +125,23 @@ impl Book<Recording> {
     }
 }
 
-fn no_leases() -> [Option<OpenLease>; 8]
-    ensures { result ≡ replicate 8 None }
-{
-    [None, None, None, None, None, None, None, None]
-}
-
-/// The edges that wait, with those found.
-fn with_edges(alloc: Global, waiting: &[Edge], found: &[Edge]) -> Result<SmallVec<Edge, 8>, Memory>
-    ensures { IfOk result (λ all. all.items ≡ waiting.now ++ found.now) }
-{
-    let mut all = SmallVec::from_slice(alloc, waiting)?;
-    all.extend_from_slice(found)?;
-    Ok(all)
-}
-
-fn give(lease: &mut hart_lease::Lease, page: PageNo, here: &Page, want: Want) -> Result<(), Memory>
-    requires page { page < length lease.old.slots }
-    requires lent { (bytes : List ℕ) → base_at lease.old page ≡ Some bytes → bytes ≡ here.now }
-    ensures hart { lease.new.hart ≡ lease.old.hart }
-    ensures base { lease.new.base ≡ lease.old.base }
-    ensures present { lease.new.present ≡ lease.old.present }
-    ensures steps { lease.new.steps ≡ lease.old.steps }
-    ensures stop { lease.new.stop ≡ lease.old.stop }
-    ensures edges { lease.new.edges ≡ lease.old.edges }
-    ensures slots { length lease.new.slots ≡ length lease.old.slots }
-    ensures given { OnOk result (lease.new ≡ with_page lease.old page want here.now) }
-    ensures kept { OnErr result (lease.new ≡ lease.old) }
-{
-    match (want, lease.right(page)) {
-        (Want::Read, None) => lease.take_to_read(page, here.copy()?),
-        (Want::Write, None) => {
-            let base = here.copy()?;
-            lease.take_to_write(page, base, here.copy()?);
-        }
-        (Want::Write, Some(held)) => match held {
-            Want::Read => lease.raise_to_write(page, here.copy()?),
-            Want::Write => {}
-        },
-        _ => {}
+impl Book<Recording> {
+    /// The counts that the harts do not go past.
+    pub fn limits(&self) -> Counts
+        ensures value { result ≡ self.now.mode.limits }
+        ensures harts { length result ≡ length self.now.machine.harts }
+    {
+        self.mode.limits()
     }
-    Ok(())
-}
 
-/// Writes down that an open lease was given the right that it asked for, and found edges: these wait in it now.
-fn note_taken(
-    lease: &mut Option<OpenLease>,
-    asked: &Asked,
-    _found: &[Edge],
-    waiting: SmallVec<Edge, 8>,
-)
-    requires { (lent : OpenView) → lease.old ≡ Some lent → waiting.items ≡ lent.edges ++ _found.now }
-    ensures { lease.new ≡ given_more lease.old asked.now.page asked.now.want asked.now.count _found.now }
-{
-    if let Some(open) = lease {
-        open.take(asked, waiting);
+    /// Each hart goes on to this count and no further, which no hart is past. No lease is open.
+    pub fn limit_at(&mut self, limits: Counts)
+        requires harts { length limits ≡ length self.old.machine.harts }
+        requires idle { self.old.leases ≡ replicate 8 None }
+        requires settled { (hart : ℕ) → counts_of self.old.machine hart ≤ count_at limits hart }
+        ensures { self.new ≡ record self.old { mode = record self.old.mode { limits = limits } } }
+    {
+        self.mode.limit_at(limits);
     }
 }
 
@@ -474,11 +438,60 @@ impl<M: Mode> Book<M> {
         if !ours {
             return Err(BookFault::Foreign);
         }
+        self.close(hart);
+        Ok(())
+    }
+
+    /// Ends the open lease of a hart, where it has one, without its steps: the hart gives up what the lease took, at its settled
+    /// count.
+    fn close(&mut self, hart: Hart)
+        ensures rest { self.new ≡ record self.old { leases = slice_set self.old.leases hart None; mode = self.new.mode } }
+        ensures mode { EndsOne (M.ends) self.old.machine self.old.leases hart self.old.mode self.new.mode }
+    {
         let count = steps_taken(&self.machine, hart);
         let ended = mem::replace(&mut self.leases[hart.index()], None);
         if let Some(open) = ended {
             self.mode.end(hart, count, open.taken());
         }
-        Ok(())
+    }
+
+    /// Ends every open lease without its steps: each hart gives up what its lease took, at its settled count.
+    pub fn reclaim(&mut self)
+        ensures book { self.new ≡ record self.old { leases = replicate 8 None; mode = self.new.mode } }
+        ensures mode { EndsFirst (M.ends) self.old.machine self.old.leases 8 self.old.mode self.new.mode }
+    {
+        let _ = &self.start;
+        for number in 0..HART_LIMIT {
+            self.close(Hart::new(number));
+        }
+    }
+
+    /// An equal book, of one without open leases.
+    pub fn copy(&self) -> Result<Book<M>, Memory>
+        requires idle { self.now.leases ≡ replicate 8 None }
+        ensures { IfOk result (λ b. b ≡ self.now) }
+    {
+        Ok(Book {
+            start: self.start.copy()?,
+            machine: self.machine.copy()?,
+            journal: journal_copied(&self.journal)?,
+            leases: no_leases(),
+            mode: self.mode.copy()?,
+        })
+    }
+
+    /// Whether it began as the other did, the other's journal begins its own, and its mode goes on from the other's: in
+    /// `Replaying` an equal leg, in `Recording` the same edges and inputs of all steps that the other has settled, and all that
+    /// was offered.
+    pub fn continues(&self, before: &Book<M>) -> bool
+        ensures { IsTrue result ↔ GoesOnFrom (M.goes_on) before.now self.now }
+    {
+        if !self.start.same(&before.start) {
+            return false;
+        }
+        if !begins(before.journal(), self.journal()) {
+            return false;
+        }
+        self.mode.goes_on_from(&before.counts(), &before.mode)
     }
 }

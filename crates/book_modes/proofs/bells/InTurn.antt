@@ -2,11 +2,13 @@
 use Rattle.std.proofs.Common.{◌≡◌, ◌≢◌, ◌⊎◌, inl, inr, ℕ, zero, suc, ◌+◌, ◌-◌, ◌<◌, ◌≤◌, List, [], ◌++◌, length, map, replicate, slice_index, slice_get, Some}
 use Rattle.std.proofs.Common.{Contains, refl, ap, sym, subst, ◌∙◌, arith, append_assoc, append-nil}
 use Rattle.std.specs.List.{count_by}
+use Rattle.std.proofs.lemmas.Option.{slice_get_within}
 use Rattle.std.proofs.lemmas.List.Elements.{Contains-append_left, Contains-append_right, Contains-append_cases}
 use Rattle.interleaving.specs.Lists.{put}
 use Rattle.interleaving.specs.Machine.{after, step_of, counts, steps, Runs, run}
 use Rattle.interleaving.specs.Log.{Edge, Place, Before, Own, Across, Through, place}
 use Rattle.interleaving.specs.Cuts.{IsEnough}
+use Rattle.interleaving.specs.Stored.{view}
 use Rattle.interleaving.proofs.Put.{same_or_not, put_same, put_other}
 use Rattle.interleaving.proofs.Cuts.{here_or_later, same_order}
 use Rattle.interleaving.proofs.Runs.{in_turn}
@@ -17,6 +19,7 @@ use Rattle.edge_log.specs.declared.Edge.{Edge as edge_found}
 use Rattle.edge_log.specs.EdgeLog.{edge_as}
 use Rattle.edge_log.proofs.Logs.{contains_map}
 use Rattle.rv32_hart.specs.Bells.{IsRungOnce, is_bell_from}
+use Rattle.rv32_hart.specs.Hardware.{hardware}
 use Rattle.guest_image.specs.Machine.{MachineState}
 use Rattle.hart_lease.specs.Recorded.{system}
 use Rattle.book_modes.specs.Silences.{rung_by, heard_by}
@@ -229,7 +232,8 @@ module _ (start : MachineState) (now : Now) (past : List HartStep) (edges : List
             (rung.own ∙ sym own) below refl (omega arith)
       ]
 
-  heard_first : (source k : ℕ) → IsPair start source l.hart → rung_by (slice_get start.harts source) l.hart ≤ k → heard_by (now.harts l.hart) source ≤ k →
+  heard_first : (source k : ℕ) → IsPair (view (hardware (length start.pages)) start) source l.hart →
+      rung_by (slice_get start.harts source) l.hart ≤ k → heard_by (now.harts l.hart) source ≤ k →
       k < heard_by (now.harts l.hart) source + count_by (is_bell_from source) l.inputs → IsAfter source l.hart k turn
   heard_first source k pair since from below =
       let due_here = bells_from source (kept.due_bells l.hart) in
@@ -247,17 +251,19 @@ module _ (start : MachineState) (now : Now) (past : List HartStep) (edges : List
             (s, Contains-append_left past new s is_in, rung, in_order source k b s among is_in rung under)
       ]
 
-  heard_new : (source target k : ℕ) (t : HartStep) → IsPair start source target → rung_by (slice_get start.harts source) target ≤ k → Contains new t →
+  heard_new : (source target k : ℕ) (t : HartStep) → IsPair (view (hardware (length start.pages)) start) source target →
+      rung_by (slice_get start.harts source) target ≤ k → Contains new t →
       Hears t source target k → (s : HartStep) × Contains (past ++ new) s × Rings s source target k × Before all (place (system pages) s)
       (place (system pages) t)
   heard_new source target k t pair since i hears =
       let is = first_hears pages now l.hart l.steps source target k l.inputs t i hears in
       let first : Hears (step_of (system pages) now (turn_on l.hart l.inputs)) source target k = subst (λ t. Hears t source target k) (sym is) hears in
       subst (λ t. IsAfter source target k (place (system pages) t)) is
-      (subst (λ h. IsPair start source h → rung_by (slice_get start.harts source) h ≤ k → IsAfter source h k turn) first.own
+      (subst (λ h. IsPair (view (hardware (length start.pages)) start) source h → rung_by (slice_get start.harts source) h ≤ k →
+      IsAfter source h k turn) first.own
       (λ pair since. heard_first source k pair since first.from first.below) pair since)
 
-  in_turn_left : HearsInTurn all start (past ++ new)
+  in_turn_left : HearsInTurn (length start.pages) all (view (hardware (length start.pages)) start) (past ++ new)
   in_turn_left source target k t pair since i hears =
       elim (Contains-append_cases past new t i) [
         | inl old ↦
@@ -281,7 +287,7 @@ module _ (start : MachineState) (now : Now) (past : List HartStep) (edges : List
             desk_next source target (left_of l.steps kept.due_bells l.hart target)
             (next_left pages now l.hart l.steps source target l.inputs kept.due_bells (WasRung start (past ++ new) source target)
             (rung_by (now.harts source) target)
-            (bells_of desk target) runs (rows source pair.is_source)
+            (bells_of desk target) runs (rows source (slice_get_within start.harts source pair.is_source.0 pair.is_source.1))
             (ap (count_by (is_bell_from source)) inputs ∙ kept.told l.hart source)
             (next_more (WasRung start past source target) (WasRung start (past ++ new) source target) (still_rung source target) _ _ _
             (kept.next source target pair)));
@@ -291,7 +297,9 @@ module _ (start : MachineState) (now : Now) (past : List HartStep) (edges : List
 
 -- Fewer edges, which imply the others from the start on, are enough.
 pub turns_few : (few all : List Edge) (start : MachineState) (past : List HartStep) (begin : ℕ → ℕ) → IsEnough few all begin →
-    ((s : HartStep) → Contains past s → begin s.hart ≤ (system (length start.pages)).count s.found) → HearsInTurn all start past → HearsInTurn few start past
+    ((s : HartStep) → Contains past s → begin s.hart ≤ (system (length start.pages)).count s.found) →
+    HearsInTurn (length start.pages) all (view (hardware (length start.pages)) start) past →
+    HearsInTurn (length start.pages) few (view (hardware (length start.pages)) start) past
 turns_few few all start past begin enough from in_turn source target k t pair since i hears =
     let (s, is_in, rung, before) = in_turn source target k t pair since i hears in
     let order = same_order few all begin enough in

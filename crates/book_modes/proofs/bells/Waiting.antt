@@ -2,6 +2,7 @@
 use Rattle.std.proofs.Common.{◌≡◌, ◌≢◌, inl, inr, ℕ, zero, suc, ◌<◌, ◌≤◌, false, List, [], ◌∷◌, ◌++◌, length, drop, replicate, slice_get, Some, refl, ap, sym}
 use Rattle.std.proofs.Common.{subst, ◌∙◌, arith, take-append-drop}
 use Rattle.std.specs.List.{count_by}
+use Rattle.std.proofs.lemmas.Option.{slice_get_within}
 use Rattle.std.proofs.lemmas.List.{length-append, length-replicate}
 use Rattle.std.proofs.lemmas.List.Elements.{All-cons, All-append, All-drop}
 use Rattle.interleaving.specs.Lists.{put}
@@ -81,8 +82,10 @@ begun_bells start due desk rows nothing bells others =
       next =
           λ source target pair.
           let many : length (bells_from source (bells_of desk target)) ≡ many_unheard start source target =
-          ap (λ bs. length (bells_from source bs)) (bells target ∙ unheard_there start target pair.is_target) ∙
-          many_from start target source (length start.harts) pair.is_source in
+          ap (λ bs. length (bells_from source bs)) (bells target ∙
+          unheard_there start target (slice_get_within start.harts target pair.is_target.0 pair.is_target.1)) ∙
+          many_from start target source (length start.harts)
+          (slice_get_within start.harts source pair.is_source.0 pair.is_source.1) in
           record {
             many = omega (arith, many, pair.heard);
             each =
@@ -184,7 +187,7 @@ module _ (start : MachineState) (now : Now) (past : List HartStep) (edges : List
           (sym (take-append-drop 8 (bells_of r.desk hart)) ∙ (ap (λ bs. bs ++ drop 8 (bells_of r.desk hart)) (sym here) ∙ ap (λ bs. bells hart ++ bs)
           (sym t.bells))))
 
-      next_left : (source target : ℕ) → IsPair start source target →
+      next_left : (source target : ℕ) → IsPair (view (hardware (length start.pages)) start) source target →
           AreNext (WasRung start past source target) (heard_by (now.harts target) source) (rung_by (now.harts source) target)
           (bells_from source (bells target ++ bells_of new.desk target))
       next_left source target pair =

@@ -22,7 +22,7 @@ use Rattle.guest_image.specs.Machine.{MachineState}
 use Rattle.hart_lease.specs.declared.stretch.Stretch.{Stretch}
 use Rattle.hart_lease.specs.OpenLeases.{OpenView}
 use Rattle.hart_lease.specs.Recorded.{system}
-use Rattle.hart_lease.specs.Runs.{counts_of, harts_of}
+use Rattle.hart_lease.specs.Runs.{counts_of, harts_of, journal_turns}
 use Rattle.book_modes.specs.Dues.{DueView, nothing_due, due_at}
 use Rattle.book_modes.proofs.bells.Unheard.{unheard_rung}
 use Rattle.input_log.specs.Inputs.{is_bell, IsInputOf, inputs_of}
@@ -31,7 +31,7 @@ use Rattle.std.proofs.lemmas.List.Elements.{All-append, All-cons, Contains-get_o
 use Rattle.std.proofs.lemmas.List.{length-replicate}
 use Rattle.book_modes.specs.Recordings.{RecordingView, IsRecorded, IsUnused, IsOffered, IsDueEdge, IsRung, heard_by, stub_as, IsBetween, log_of, HasHonestLog}
 use Rattle.hart_lease.proofs.pages.Slots.{none-replicate}
-use Rattle.book_modes.specs.Hearings.{HearsInTurn, HearsBellsInTurn}
+use Rattle.book_modes.specs.Hearings.{HearsInTurn}
 use Rattle.hart_lease.proofs.journals.Counts.{counts_is}
 use Rattle.book_modes.proofs.bells.InTurn.{turns_few}
 use Rattle.book_modes.proofs.bells.Waiting.{begun_bells, offered_bells}
@@ -58,9 +58,12 @@ inputs_told {I = I} s log m now (h ∷ order) same runs = (
     bumped hart (inr ne) =
         bump_other now h hart ne ∙ same hart ∙ ap s.count (sym (put_other m.harts h hart (step_of s m t).effect.hart ne))
 
-pub honest_log : (r : RecordingView) (start machine : MachineState) (journal : List Stretch) (leases : List (Option OpenView)) →
-    IsRecorded r start machine journal leases → HasHonestLog r.edges (heard_by r) start journal machine
-honest_log r start machine journal leases p =
+-- conflicts come in the order of the edges
+ordered_log : (r : RecordingView) (start machine : MachineState) (journal : List Stretch) (leases : List (Option OpenView)) →
+    IsRecorded r start machine journal leases →
+    IsHonest (system (length start.pages)) (log_of r.edges (heard_by r) start machine) (view (hardware (length start.pages)) start)
+    (journal_turns (heard_by r) start journal)
+ordered_log r start machine journal leases p =
     subst (IsHonest (system pages) log (view (hardware pages) start)) p.led.in_journal
     (is_kept.short log is_of
     (subst (IsEnough (edges_of r.edges) p.ledger.edges) (fun_ext p.log.from_start) p.log.enough))
@@ -89,10 +92,12 @@ honest_log r start machine journal leases p =
         }
 
 -- bells are heard in their turn
-pub heard_in_turn : (r : RecordingView) (start machine : MachineState) (journal : List Stretch) (leases : List (Option OpenView)) →
-    IsRecorded r start machine journal leases → HearsBellsInTurn r.edges (heard_by r) start journal
+heard_in_turn : (r : RecordingView) (start machine : MachineState) (journal : List Stretch) (leases : List (Option OpenView)) →
+    IsRecorded r start machine journal leases →
+    HearsInTurn (length start.pages) (edges_of r.edges) (view (hardware (length start.pages)) start)
+    (steps (system (length start.pages)) (view (hardware (length start.pages)) start) (journal_turns (heard_by r) start journal))
 heard_in_turn r start machine journal leases p =
-    subst (λ ts. HearsInTurn (edges_of r.edges) start (steps (system pages) (view (hardware pages) start) ts)) p.led.in_journal
+    subst (λ ts. HearsInTurn pages (edges_of r.edges) (view (hardware pages) start) (steps (system pages) (view (hardware pages) start) ts)) p.led.in_journal
     (turns_few (edges_of r.edges) p.ledger.edges start (steps (system pages) (view (hardware pages) start) p.ledger.journal) (start_of r.edges) p.log.enough
     (λ s i.
     let from = each_at (λ s. counts (system pages) (view (hardware pages) start) s.hart ≤ (system pages).count s.found)
@@ -106,6 +111,12 @@ heard_in_turn r start machine journal leases p =
 
     is_kept : IsKept (system pages) (view (hardware pages) start) p.ledger
     is_kept = keeps_ledger (system pages) (length start.harts) (view (hardware pages) start) p.ledger p.size.few p.led.reached
+
+-- the log tells truly of the journal
+pub honest_log : (r : RecordingView) (start machine : MachineState) (journal : List Stretch) (leases : List (Option OpenView)) →
+    IsRecorded r start machine journal leases → HasHonestLog r.edges (heard_by r) start journal machine
+honest_log r start machine journal leases p =
+    record { honest = ordered_log r start machine journal leases p; bells = heard_in_turn r start machine journal leases p }
 
 -- an edge of the log is between two harts, and what it names has been settled
 -- each input that is logged is of a count from the start on, and below the settled one

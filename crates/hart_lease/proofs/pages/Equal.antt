@@ -1,9 +1,8 @@
--- What `==` says of the counts of pages, and of edges.
+-- What `==` says of the counts of pages.
 use Rattle.std.proofs.Common.{◌≡◌, ◌==◌, ◌&&◌, ℕ, Bool, true, false, Option, None, Some, refl, ap, ◌∙◌}
 use Rattle.std.specs.Bool.{Decides}
 use Rattle.std.specs.Option.{option_eq}
-use Rattle.std.proofs.lemmas.Bool.Decides.{Decides-and, Decides-eqb, Decides-like}
-use Rattle.edge_log.specs.declared.Edge.{Edge}
+use Rattle.std.proofs.lemmas.Bool.Decides.{Decides-eqb}
 use Rattle.hart_lease.specs.declared.taken.Taken.{Taken}
 
 -- options are compared as what is in them
@@ -27,10 +26,3 @@ taken_decides a b =
           ∙ ap (λ (w : Option ℕ). let t : Taken = record { read_at = b.read_at; write_at = w } in t) (write.0 told.1),
       λ e. rw (read.1 (ap (λ (t : Taken). t.read_at) e)) (write.1 (ap (λ (t : Taken). t.write_at) e)),
     )
-
-pub edge_decides : (a b : Edge) → Decides (a.hart == b.hart && a.at == b.at && a.other == b.other && a.after == b.after) (a ≡ b)
-edge_decides a b =
-    Decides-like _ (λ p i. record { hart = p.0.0.0 i; at = p.0.0.1 i; other = p.0.1 i; after = p.1 i })
-    (λ e. (((ap (λ (k : Edge). k.hart) e, ap (λ (k : Edge). k.at) e), ap (λ (k : Edge). k.other) e), ap (λ (k : Edge). k.after) e))
-    (Decides-and _ _ (Decides-and _ _ (Decides-and _ _ (Decides-eqb a.hart b.hart) (Decides-eqb a.at b.at)) (Decides-eqb a.other b.other))
-    (Decides-eqb a.after b.after))

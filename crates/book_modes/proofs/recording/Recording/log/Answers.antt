@@ -26,7 +26,13 @@ returns-in-Ok-clause-edges c =
     let same : c.self.inside.edges ≡ c.args.self.now.edges = ap (λ (v : RecordingView). v.edges) (c.self.view_is ∙ c.log_inputs.ensures.rest) in
     subst (λ (old : Edges). AreLogged old c.args.lease.now.edges c.add_all.new.self) same
     (rw (← c.edges.ensures)
-    (record { added = c.in-Ok.ensures.added; log = c.in-Ok.ensures.rules; start = c.in-Ok.ensures.start; enough = c.in-Ok.ensures.enough }))
+    (record {
+      added = c.in-Ok.ensures.added;
+      was = c.in-Ok.ensures.rules_before;
+      log = c.in-Ok.ensures.rules;
+      start = c.in-Ok.ensures.start;
+      enough = c.in-Ok.ensures.enough;
+    }))
 
 pub returns-in-Ok-clause-unsettled : goal.returns-in-Ok-clause-unsettled
 returns-in-Ok-clause-unsettled c = edges_from c.requires.settles.1 (whole c.requires.settles.0 c.args.lease.now) c.requires.settles.2

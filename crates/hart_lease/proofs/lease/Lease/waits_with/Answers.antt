@@ -1,5 +1,5 @@
 use Rattle.std.proofs.lemmas.Slice.Eq.{slice_eq-Decides}
-use Rattle.hart_lease.proofs.pages.Equal.{edge_decides}
+use Rattle.edge_log.proofs.Equal.{edge_decides}
 use Rattle.hart_lease.proofs.lease.Lease.waits_with.Goals as goal
 
 pub returns : goal.returns

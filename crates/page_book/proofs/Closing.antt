@@ -1,0 +1,47 @@
+-- Open leases that are ended one after the other.
+use Rattle.std.proofs.Common.{◌≡◌, ◌≤◌, ◌+◌, ◌∙◌, ap, subst, ℕ, zero, suc, List, [], ◌∷◌, length, replicate, slice_set, Option, None, refl, arith}
+use Rattle.std.proofs.lemmas.List.{get_or-set_other}
+use Rattle.hart_lease.specs.OpenLeases.{OpenView, open_at}
+use Rattle.guest_image.specs.Machine.{MachineState}
+use Rattle.page_book.specs.Books.{BookView}
+use Rattle.page_book.specs.Reclaims.{closed, Ending, EndsOpen, EndsOne, EndsFirst}
+
+-- those of later harts stay open
+pub closed_later : (leases : List (Option OpenView)) (n m : ℕ) → n ≤ m → open_at (closed n leases) m ≡ open_at leases m
+closed_later leases zero m le = refl
+closed_later leases (suc n) m le =
+    get_or-set_other (closed n leases) n m None None (λ (e : m ≡ n). absurd (omega arith)) ∙ closed_later leases n m (omega arith)
+
+-- after all eight none is
+pub closed_all : (leases : List (Option OpenView)) → length leases ≡ 8 → closed 8 leases ≡ replicate 8 None
+closed_all [] eight = absurd (omega arith)
+closed_all (a ∷ []) eight = absurd (omega arith)
+closed_all (a ∷ b ∷ []) eight = absurd (omega arith)
+closed_all (a ∷ b ∷ c ∷ []) eight = absurd (omega arith)
+closed_all (a ∷ b ∷ c ∷ d ∷ []) eight = absurd (omega arith)
+closed_all (a ∷ b ∷ c ∷ d ∷ e ∷ []) eight = absurd (omega arith)
+closed_all (a ∷ b ∷ c ∷ d ∷ e ∷ f ∷ []) eight = absurd (omega arith)
+closed_all (a ∷ b ∷ c ∷ d ∷ e ∷ f ∷ g ∷ []) eight = absurd (omega arith)
+closed_all (a ∷ b ∷ c ∷ d ∷ e ∷ f ∷ g ∷ h ∷ []) eight = refl
+closed_all (a ∷ b ∷ c ∷ d ∷ e ∷ f ∷ g ∷ h ∷ i ∷ rest) eight = absurd (omega arith)
+
+-- one lease more is ended
+pub closes_more : {M : Type 0} → (ends : Ending M) (b s a : BookView M) (n h : ℕ) → h ≡ n → s ≡ record b { leases = closed n b.leases; mode = s.mode } →
+    EndsFirst ends b.machine b.leases n b.mode s.mode → a ≡ record s { leases = slice_set s.leases h None; mode = a.mode } →
+    EndsOne ends s.machine s.leases h s.mode a.mode →
+    (a ≡ record b { leases = closed (n + 1) b.leases; mode = a.mode }) × EndsFirst ends b.machine b.leases (n + 1) b.mode a.mode
+closes_more {M} ends b s a n h at is first next one =
+    let more : n + 1 ≡ suc n = omega arith in
+    let machine : s.machine ≡ b.machine = ap (λ (x : BookView M). x.machine) is in
+    let lent : open_at s.leases h ≡ open_at b.leases n =
+    ap (λ (x : BookView M). open_at x.leases h) is ∙ (ap (λ (k : ℕ). open_at (closed n b.leases) k) at ∙ closed_later b.leases n n (omega arith)) in
+    let ended : EndsOpen ends b.machine (open_at b.leases n) n s.mode a.mode =
+    subst (λ (k : ℕ). EndsOpen ends b.machine (open_at b.leases n) k s.mode a.mode) at
+    (subst (λ (o : Option OpenView). EndsOpen ends b.machine o h s.mode a.mode) lent
+    (subst (λ (m : MachineState). EndsOpen ends m (open_at s.leases h) h s.mode a.mode) machine one)) in
+    let now : a ≡ record b { leases = closed (suc n) b.leases; mode = a.mode } =
+    next
+    ∙ (ap (λ (x : BookView M). record { start = x.start; machine = x.machine; journal = x.journal; leases = slice_set x.leases h None; mode = a.mode }) is
+    ∙ ap (λ (k : ℕ). record { start = b.start; machine = b.machine; journal = b.journal; leases = slice_set (closed n b.leases) k None; mode = a.mode }) at) in
+    let all : EndsFirst ends b.machine b.leases (suc n) b.mode a.mode = (s.mode, first, ended) in
+    rw more (now, all)

@@ -1,0 +1,80 @@
+//! What a lease that is given a page gets.
+
+ghost use Rattle.std.specs.Prelude.{◌≡◌, ◌<◌, ◌++◌, ℕ, List, length, replicate, None, Some, IfOk, OnOk, OnErr};
+ghost use Rattle.page_book.specs.Words.{base_at, given_more, OpenView, with_page};
+
+use edge_log::Edge;
+use ft_types::{Memory, PageNo, Want};
+use guest_image::Page;
+use hart_lease::{Asked, OpenLease};
+use smallvec::SmallVec;
+use std::alloc::Global;
+
+/// No hart has an open lease.
+pub(crate) fn no_leases() -> [Option<OpenLease>; 8]
+    ensures { result ≡ replicate 8 None }
+{
+    [None, None, None, None, None, None, None, None]
+}
+
+/// The edges that wait, with those found.
+pub(crate) fn with_edges(
+    alloc: Global,
+    waiting: &[Edge],
+    found: &[Edge],
+) -> Result<SmallVec<Edge, 8>, Memory>
+    ensures { IfOk result (λ all. all.items ≡ waiting.now ++ found.now) }
+{
+    let mut all = SmallVec::from_slice(alloc, waiting)?;
+    all.extend_from_slice(found)?;
+    Ok(all)
+}
+
+/// Gives the lease the page as it stands here.
+pub(crate) fn give(
+    lease: &mut hart_lease::Lease,
+    page: PageNo,
+    here: &Page,
+    want: Want,
+) -> Result<(), Memory>
+    requires page { page < length lease.old.slots }
+    requires lent { (bytes : List ℕ) → base_at lease.old page ≡ Some bytes → bytes ≡ here.now }
+    ensures hart { lease.new.hart ≡ lease.old.hart }
+    ensures base { lease.new.base ≡ lease.old.base }
+    ensures present { lease.new.present ≡ lease.old.present }
+    ensures steps { lease.new.steps ≡ lease.old.steps }
+    ensures stop { lease.new.stop ≡ lease.old.stop }
+    ensures edges { lease.new.edges ≡ lease.old.edges }
+    ensures slots { length lease.new.slots ≡ length lease.old.slots }
+    ensures given { OnOk result (lease.new ≡ with_page lease.old page want here.now) }
+    ensures kept { OnErr result (lease.new ≡ lease.old) }
+{
+    match (want, lease.right(page)) {
+        (Want::Read, None) => lease.take_to_read(page, here.copy()?),
+        (Want::Write, None) => {
+            let base = here.copy()?;
+            lease.take_to_write(page, base, here.copy()?);
+        }
+        (Want::Write, Some(held)) => match held {
+            Want::Read => lease.raise_to_write(page, here.copy()?),
+            Want::Write => {}
+        },
+        _ => {}
+    }
+    Ok(())
+}
+
+/// Writes down that an open lease was given the right that it asked for, and found edges: these wait in it now.
+pub(crate) fn note_taken(
+    lease: &mut Option<OpenLease>,
+    asked: &Asked,
+    _found: &[Edge],
+    waiting: SmallVec<Edge, 8>,
+)
+    requires { (lent : OpenView) → lease.old ≡ Some lent → waiting.items ≡ lent.edges ++ _found.now }
+    ensures { lease.new ≡ given_more lease.old asked.now.page asked.now.want asked.now.count _found.now }
+{
+    if let Some(open) = lease {
+        open.take(asked, waiting);
+    }
+}

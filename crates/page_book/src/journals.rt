@@ -1,0 +1,35 @@
+//! Journals, and whether one begins another.
+
+ghost use Rattle.std.specs.Prelude.{◌≡◌, ◌↔◌, IfOk, IsTrue};
+ghost use Rattle.page_book.specs.Reclaims.{IsBeginning};
+
+use ft_types::Memory;
+use hart_lease::Stretch;
+
+/// An equal journal.
+pub(crate) fn journal_copied(journal: &Vec<Stretch>) -> Result<Vec<Stretch>, Memory>
+    ensures { IfOk result (λ copied. copied.items ≡ journal.now.items) }
+{
+    Ok(journal.clone()?)
+}
+
+fn same_stretch(stretch: &Stretch, other: &Stretch) -> bool
+    ensures { IsTrue result ↔ (stretch.now ≡ other.now) }
+{
+    stretch.hart == other.hart && stretch.steps == other.steps
+}
+
+/// Whether the first journal begins the second.
+pub(crate) fn begins(first: &[Stretch], second: &[Stretch]) -> bool
+    ensures { IsTrue result ↔ IsBeginning first.now second.now }
+{
+    if first.len() > second.len() {
+        return false;
+    }
+    for i in 0..first.len() {
+        if !same_stretch(&first[i], &second[i]) {
+            return false;
+        }
+    }
+    true
+}
