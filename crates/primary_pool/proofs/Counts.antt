@@ -11,5 +11,6 @@ has_run b run =
     record {
       run = run;
       counted = λ hart. ap (λ (now : ℕ → ℕ). now hart) (sym (counts_ran b.start b.machine (heard_by b.mode) (harts_of b.journal) run));
+      harts = (as_large b.start b.machine _ run).harts;
       pages = (as_large b.start b.machine _ run).pages;
     }

@@ -4,7 +4,6 @@ use Rattle.std.proofs.Common.{subst, ◌∙◌, inl, inr, arith, append-nil, eq-
 use Rattle.std.proofs.lemmas.Bool.{cases_lt}
 use Rattle.std.proofs.lemmas.Grind.{common_steps}
 use Rattle.interleaving.proofs.Put.{same_or_not, put_same}
-use Rattle.edge_log.specs.EdgeLog.{AreAdded}
 use Rattle.ft_types.specs.Counts.{count_at}
 use Rattle.ft_types.specs.declared.names.Want.{Want}
 use Rattle.ft_types.specs.declared.names.Want.TheVariants.{Read, Write}
@@ -22,11 +21,11 @@ use Rattle.hart_lease.specs.Runs.{added, counts_of, steps_taken}
 use Rattle.book_modes.specs.Dues.{due_at, is_silent, stop_before}
 use Rattle.hart_lease.specs.Leases.{LeaseView}
 use Rattle.hart_lease.specs.OpenLeases.{OpenView, has_taken}
-use Rattle.book_modes.specs.Recordings.{RecordingView, IsFilled, IsTaker, IsGiven, right_at, right_met, right_stored}
+use Rattle.book_modes.specs.Recordings.{AreLogged, RecordingView, IsFilled, IsTaker, IsGiven, right_at, right_met, right_stored}
 use Rattle.lease_rounds.specs.Leading.{IsFreeAlone, Fills, NoneYet, Steps, Takes, GoesOn}
 use Rattle.lease_rounds.proofs.GoingOn.{IsAhead, lease_filled, own, harts_stay}
 use Rattle.page_book.specs.Tellings.{HearsMore}
-use Rattle.page_book.proofs.Tellings.{hears_on, found_later}
+use Rattle.page_book.proofs.Tellings.{hears_on, edges_on}
 use Rattle.primary_pool.specs.Running.{recording, Continues, KeepsOffered, KeepHeld}
 use Rattle.primary_pool.proofs.Offered.{same_offered, filled_offered, settled_offered}
 
@@ -180,9 +179,7 @@ module _ (hart : ℕ) (b d : BookView RecordingView) (on : GoesOn recording told
         inputs = λ other.
             subst (λ (m : RecordingView). HearsMore (inputs_of m.inputs other) (counts_of b.machine other) (inputs_of d.mode.inputs other)) mode_is
             (hears_on b.machine k k.steps filled.mode.inputs d.mode.inputs counted on.leads.back.mode.inputs other);
-        edges = (
-          k.edges,
-          subst (λ (m : RecordingView). AreAdded m.edges k.edges d.mode.edges) mode_is on.leads.back.mode.edges.added,
-          found_later (counts_of b.machine) k counted on.leads.back.mode.unsettled,
-        );
+        edges =
+            edges_on (counts_of b.machine) k b.mode.edges d.mode.edges counted
+            (subst (λ (m : RecordingView). AreLogged m.edges k.edges d.mode.edges) mode_is on.leads.back.mode.edges) on.leads.back.mode.unsettled;
       }

@@ -16,7 +16,7 @@ use Rattle.hart_lease.specs.Leases.{LeaseView}
 use Rattle.book_modes.specs.Dues.{DueView, nothing_due, due_at, due_from, is_silent}
 use Rattle.book_modes.specs.Recordings.{RecordingView, IsFilled, TakesFromDesk, LogsInputs, HasRung, due_after}
 use Rattle.book_modes.proofs.ledger.Dues.{of_silence}
-use Rattle.primary_pool.specs.Running.{inputs_offered}
+use Rattle.book_modes.specs.Recordings.{inputs_offered}
 
 -- ---- lists
 

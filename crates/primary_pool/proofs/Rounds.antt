@@ -12,14 +12,15 @@ use Rattle.page_book.specs.Books.{BookView}
 use Rattle.book_modes.specs.Recordings.{RecordingView}
 use Rattle.lease_rounds.specs.Leading.{IsHeld, GoesOn, Rounds}
 use Rattle.lease_rounds.proofs.GoingOn.{HasGoneOn, AsFar, has_gone_on, has_fewer, round_far, steps_left}
-use Rattle.page_book.proofs.Tellings.{hears_nothing, hears_more, adds_nothing, adds_on}
+use Rattle.page_book.proofs.Later.{adds_nothing, adds_on}
+use Rattle.page_book.proofs.Tellings.{hears_nothing, hears_more}
 use Rattle.primary_pool.specs.Running.{IsIdle, AreThrough, IsThrough, Continues, GoWithin, recording, NoRound, OneMore, KeepsOffered, KeepHeld}
 use Rattle.primary_pool.specs.Leading.{HasRun, IsSoFar}
 use Rattle.primary_pool.proofs.Leasing.{ahead, limits, continues, offered, keep_held}
 
 -- ---- a book goes on
 
-continues_none : (b : BookView RecordingView) → Continues b b
+pub continues_none : (b : BookView RecordingView) → Continues b b
 continues_none b = record {
   start = refl;
   harts = refl;
@@ -28,7 +29,7 @@ continues_none b = record {
   edges = adds_nothing b.mode.edges (counts_of b.machine) b.mode.edges refl;
 }
 
-continues_on : (b c d : BookView RecordingView) → GoWithin b c → Continues b c → Continues c d → Continues b d
+pub continues_on : (b c d : BookView RecordingView) → ((hart : ℕ) → counts_of b.machine hart ≤ counts_of c.machine hart) → Continues b c → Continues c d → Continues b d
 continues_on b c d counts p q =
     record {
       start = q.start ∙ p.start;
@@ -39,9 +40,9 @@ continues_on b c d counts p q =
           (first ++ second, is_second ∙ ap (λ (x : List Stretch). x ++ second) is_first ∙ append_assoc b.journal first second);
       inputs = λ hart.
           hears_more (inputs_of b.mode.inputs hart) (counts_of b.machine hart) (inputs_of c.mode.inputs hart) (counts_of c.machine hart)
-          (inputs_of d.mode.inputs hart) (counts hart).0 (p.inputs hart) (q.inputs hart);
+          (inputs_of d.mode.inputs hart) (counts hart) (p.inputs hart) (q.inputs hart);
       edges =
-          adds_on b.mode.edges (counts_of b.machine) c.mode.edges (counts_of c.machine) d.mode.edges (λ hart. (counts hart).0) p.edges q.edges;
+          adds_on b.mode.edges (counts_of b.machine) c.mode.edges (counts_of c.machine) d.mode.edges counts p.edges q.edges;
     }
 
 within_none : (b : BookView RecordingView) → GoWithin b b
@@ -104,7 +105,7 @@ further_on b c d p q =
     record {
       idle = q.idle;
       limits = q.limits ∙ p.limits;
-      continues = continues_on b c d p.counts p.continues q.continues;
+      continues = continues_on b c d (λ hart. (p.counts hart).0) p.continues q.continues;
       counts = within_on b c d p.limits p.counts q.counts;
       offered = λ hart. q.offered hart ∙ p.offered hart;
       held = λ page held. q.held page (p.held page held);
@@ -145,7 +146,7 @@ leads_on a b c p q round =
       ran = p.ran;
       idle = q.idle;
       limits = q.limits ∙ p.limits;
-      continues = continues_on a b c p.counts p.continues q.continues;
+      continues = continues_on a b c (λ hart. (p.counts hart).0) p.continues q.continues;
       rounds = OneMore c p.rounds round;
       offered = λ hart. q.offered hart ∙ p.offered hart;
       counts = within_on a b c p.limits p.counts q.counts;

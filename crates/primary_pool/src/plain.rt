@@ -12,7 +12,7 @@ use std::alloc::Global;
 use std::result::Result;
 
 /// The book's journal led from its start to its machine.
-fn has_run(book: &Book<Recording>)
+pub(crate) fn has_run(book: &Book<Recording>)
     ensures { HasRun book.now }
 {
     let _machine = book.machine();

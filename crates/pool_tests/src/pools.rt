@@ -1,0 +1,31 @@
+//! A book that goes on on threads.
+
+use fixtures::{image_of, recorder};
+use ft_types::{Count, Counts};
+use page_book::{Book, Recording};
+use primary_pool::{Turnstile, run};
+use std::alloc::Global;
+use std::sync::Wait;
+use std::test::Fail;
+use std::thread::Threads;
+
+/// A book of four harts that goes on to this budget of each.
+pub fn on_threads<R: Threads + Wait + Sync, T: Turnstile + Sync>(
+    rt: &R,
+    alloc: Global,
+    file: &[u8],
+    budget: Count,
+    turnstile: &T,
+) -> Result<Book<Recording>, Fail> {
+    let mut book = recorder(alloc, &image_of(alloc, file)?, &[budget; 4])?;
+    let budget = Counts::from_slice(&[budget; 4]).ok_or("budget")?;
+    book.reclaim();
+    let counts = book.counts();
+    if counts.harts() != budget.harts() {
+        return Ok(book);
+    }
+    if !counts.within(budget) {
+        return Ok(book);
+    }
+    Ok(run(rt, alloc, book, budget, turnstile).map_err(|_| "memory")?)
+}

@@ -1,0 +1,142 @@
+//! Who waits for which page.
+
+use ft_types::{HART_LIMIT, Hart, HartSet, PageNo, Want};
+
+/// Pages, by number: those to be read, and those to be written.
+#[derive(Clone, Copy, Debug, PartialEq, Eq)]
+pub(crate) struct PageMask {
+    reads: u64,
+    writes: u64,
+}
+
+impl PageMask {
+    /// No page.
+    pub(crate) fn none() -> PageMask {
+        PageMask {
+            reads: 0,
+            writes: 0,
+        }
+    }
+
+    /// This page alone.
+    pub(crate) fn of(page: PageNo, want: Want) -> PageMask {
+        let bit = 1u64.wrapping_shl(u32::from(page.number()));
+        match want {
+            Want::Read => PageMask {
+                reads: bit,
+                writes: 0,
+            },
+            Want::Write => PageMask {
+                reads: 0,
+                writes: bit,
+            },
+        }
+    }
+
+    /// These pages and those.
+    pub(crate) fn with(self, other: PageMask) -> PageMask {
+        PageMask {
+            reads: self.reads | other.reads,
+            writes: self.writes | other.writes,
+        }
+    }
+
+    /// Whether one has a page to write that the other has.
+    pub(crate) fn is_against(self, other: PageMask) -> bool {
+        self.writes & (other.reads | other.writes) != 0 || self.reads & other.writes != 0
+    }
+}
+
+/// The pages that open leases have, and what waits for them.
+#[derive(Clone, Copy, Debug)]
+pub(crate) struct Queue {
+    held: [PageMask; 8],
+    /// What each hart waits for.
+    wishes: [PageMask; 8],
+    /// Since when; 0 where it does not wait.
+    since: [u64; 8],
+    next: u64,
+}
+
+impl Queue {
+    /// Nobody has or waits for a page.
+    pub(crate) fn new() -> Queue {
+        Queue {
+            held: [PageMask::none(); 8],
+            wishes: [PageMask::none(); 8],
+            since: [0; 8],
+            next: 1,
+        }
+    }
+
+    /// Whether the hart waits.
+    pub(crate) fn is_waiting(&self, hart: usize) -> bool {
+        hart < 8 && self.since[hart] != 0
+    }
+
+    /// Whether the other hart waits, and has waited for longer.
+    fn is_earlier(&self, other: usize, hart: usize) -> bool {
+        self.is_waiting(other)
+            && hart < 8
+            && other < 8
+            && (self.since[hart] == 0 || self.since[other] < self.since[hart])
+    }
+
+    /// Whether what another hart's open lease has, or has waited for longer, stands in the way of these pages.
+    pub(crate) fn is_barred(&self, hart: Hart, pages: PageMask) -> bool {
+        let hart = hart.index();
+        for other in 0..8usize {
+            if other != hart {
+                if self.held[other].is_against(pages) {
+                    return true;
+                }
+                if self.is_earlier(other, hart) && self.wishes[other].is_against(pages) {
+                    return true;
+                }
+            }
+        }
+        false
+    }
+
+    /// Whether the hart may ask for what it waits for.
+    pub(crate) fn is_called(&self, hart: Hart) -> bool {
+        !self.is_barred(hart, self.wishes[hart.index()])
+    }
+
+    /// The harts that wait and may ask now.
+    pub(crate) fn called(&self) -> HartSet {
+        let mut harts = HartSet::new();
+        for number in 0..HART_LIMIT {
+            if self.is_waiting(number as usize) && self.is_called(Hart::new(number)) {
+                harts = harts.with(number);
+            }
+        }
+        harts
+    }
+
+    /// The hart's open lease has these pages.
+    pub(crate) fn take(&mut self, hart: Hart, pages: PageMask) {
+        self.held[hart.index()] = self.held[hart.index()].with(pages);
+    }
+
+    /// The hart waits for these pages too.
+    pub(crate) fn wait(&mut self, hart: Hart, pages: PageMask) {
+        let hart = hart.index();
+        if self.since[hart] == 0 {
+            self.since[hart] = self.next;
+            self.next = self.next.saturating_add(1);
+        }
+        self.wishes[hart] = self.wishes[hart].with(pages);
+    }
+
+    /// The hart has no open lease.
+    pub(crate) fn release(&mut self, hart: Hart) {
+        self.held[hart.index()] = PageMask::none();
+    }
+
+    /// The hart waits for nothing.
+    pub(crate) fn forget(&mut self, hart: Hart) {
+        self.since[hart.index()] = 0;
+        self.wishes[hart.index()] = PageMask::none();
+    }
+}
