@@ -3,3 +3,4 @@ pub mod Walking
 pub mod Chains
 pub mod Reach
 pub mod Unique
+pub mod Finding

@@ -3,3 +3,4 @@ pub mod Position
 pub mod Lowering
 pub mod Walks
 pub mod Unique
+pub mod Telling

@@ -1,6 +1,7 @@
--- A store has one position.
-use Rattle.std.specs.Prelude.{ℕ, ◌≡◌, List}
-use Rattle.ft_types.specs.Counts.{count_at}
+-- A store has a position, and only one.
+use Rattle.std.specs.Prelude.{ℕ, ◌≡◌, List, length}
+use Rattle.std.specs.List.{AllByRecursion}
+use Rattle.ft_types.specs.Counts.{count_at, IsCount}
 use Rattle.ft_types.specs.declared.guest.Guest.{Guest}
 use Rattle.fragment_codec.specs.declared.frame.Frame.{Frame}
 use Rattle.log_join.specs.Coming.{Gathers, SameFrames}
@@ -14,7 +15,12 @@ pub record IsSamePosition (p q : Position) : Type 0 where
   pub counts : (hart : ℕ) → count_at p.counts hart ≡ count_at q.counts hart
   pub top : p.top ≡ q.top
 
--- a store has one position
+-- a store has a position, whose counts are a row of its guest
+abbrev pub HasPosition : Type 0
+HasPosition = (store : StoreView) → IsStore store →
+    (p : Position) × IsPosition store p × (length p.counts ≡ store.guest.harts) × AllByRecursion IsCount p.counts
+
+-- and only one
 abbrev pub OnePosition : Type 0
 OnePosition = (store : StoreView) → IsStore store → (p q : Position) → IsPosition store p → IsPosition store q → IsSamePosition p q
 

@@ -2,3 +2,4 @@ pub mod gathering
 pub mod walking
 pub mod honesty
 pub mod rounds
+pub mod failovers

@@ -5,7 +5,7 @@ use Rattle.interleaving.specs.Machine.{Machine, System, Runs, run}
 use Rattle.interleaving.specs.Log.{Begins, IsSchedule, IsReplayed, turns_of}
 use Rattle.interleaving.specs.Beginnings.{order_at}
 use Rattle.input_log.specs.declared.Input.{Input}
-use Rattle.log_join.specs.Stores.{StoreView, IsStore}
+use Rattle.log_join.specs.Stores.{StoreView, IsStore, IsJoin}
 use Rattle.closed_cut.specs.Chain.{LeadsTo}
 use Rattle.closed_cut.specs.declared.answer.Position.{Position}
 use Rattle.hart_replay.specs.declared.plans.PlannedLeg.{PlannedLeg}
@@ -14,7 +14,7 @@ use Rattle.hart_replay.specs.Plans.{terms_of, BeginsAtBase, EndAt, log_of}
 use Rattle.ft_types.specs.declared.guest.Guest.{Guest}
 use Rattle.fragment_codec.specs.declared.frame.Frame.{Frame}
 use Rattle.log_join.specs.Coming.{Gathers}
-use Rattle.hart_replay.specs.Histories.{TermHistory, machine_at, AreHonest, IsHonestStore}
+use Rattle.hart_replay.specs.Histories.{TermHistory, History, InTerm, machine_at, AreHonest, IsHonestStore}
 
 -- what a plan of the store has, up to the position
 pub record ArePlanned (store : StoreView) (position : Position) (legs : List PlannedLeg) : Type 0 where
@@ -44,17 +44,17 @@ module _ {Hart Page : Type 0} (system : System Hart Page (List Input)) where
   -- each leg of a plan of honest frames follows its term
   abbrev pub LegsFollow : Type 0
   LegsFollow =
-      (boot : Machine Hart Page) (history : ℕ → TermHistory Hart Page) (store : StoreView) (position : Position) (legs : List PlannedLeg) →
+      (boot : Machine Hart Page) (history : History Hart Page) (store : StoreView) (position : Position) (legs : List PlannedLeg) →
       IsStore store → IsHonestStore system boot history store → ArePlanned store position legs →
-      All (λ leg. FollowsTerm (history leg.term) leg) legs
+      All (λ leg. InTerm history leg.term (λ t. FollowsTerm t leg)) legs
 
   -- and finds the machine with which its term began, whatever schedules of the legs before it were taken
   abbrev pub LegsFindStart : Type 0
   LegsFindStart =
-      (boot : Machine Hart Page) (history : ℕ → TermHistory Hart Page) (store : StoreView) (position : Position)
+      (boot : Machine Hart Page) (history : History Hart Page) (store : StoreView) (position : Position)
       (front : List PlannedLeg) (leg : PlannedLeg) (back : List PlannedLeg) (m : Machine Hart Page) →
       IsStore store → IsHonestStore system boot history store → ArePlanned store position (front ++ leg ∷ back) →
-      LeadFrom boot front m → m ≡ (history leg.term).start
+      LeadFrom boot front m → InTerm history leg.term (λ t. m ≡ t.start)
 
   -- so the plan leads from boot to the history's machine at the position, and to no other
   pub record LeadToOne (boot : Machine Hart Page) (legs : List PlannedLeg) (end : Machine Hart Page) : Type 0 where
@@ -63,12 +63,18 @@ module _ {Hart Page : Type 0} (system : System Hart Page (List Input)) where
 
   abbrev pub PlansLeadToPosition : Type 0
   PlansLeadToPosition =
-      (boot : Machine Hart Page) (history : ℕ → TermHistory Hart Page) (store : StoreView) (position : Position) (legs : List PlannedLeg) →
+      (boot : Machine Hart Page) (history : History Hart Page) (store : StoreView) (position : Position) (legs : List PlannedLeg) →
       IsStore store → IsHonestStore system boot history store → ArePlanned store position legs →
       LeadToOne boot legs (machine_at system boot history position.term (count_at position.counts))
 
   -- honest frames come together as a store of honest frames
   abbrev pub HonestFramesGather : Type 0
   HonestFramesGather =
-      (boot : Machine Hart Page) (history : ℕ → TermHistory Hart Page) (guest : Guest) (frames : List Frame) (store : StoreView) →
+      (boot : Machine Hart Page) (history : History Hart Page) (guest : Guest) (frames : List Frame) (store : StoreView) →
       Gathers guest frames store → AreHonest system boot history frames → IsHonestStore system boot history store
+
+  -- and the join of two such stores is one
+  abbrev pub HonestStoresJoin : Type 0
+  HonestStoresJoin =
+      (boot : Machine Hart Page) (history : History Hart Page) (a b c : StoreView) → IsJoin a b c →
+      IsHonestStore system boot history a → IsHonestStore system boot history b → IsHonestStore system boot history c

@@ -3,7 +3,9 @@ pub mod Plans
 pub mod Facts
 pub mod Taking
 pub mod Histories
+pub mod Images
 pub mod Laws
 pub mod Replays
 pub mod Leading
 pub mod Primaries
+pub mod Failovers

@@ -1,10 +1,9 @@
 -- What a recording book, its opening and its pieces tell of a term.
-use Rattle.std.specs.Prelude.{ℕ, ◌≡◌, ◌≢◌, ◌≤◌, List, length, Option, Contains}
+use Rattle.std.specs.Prelude.{ℕ, ◌≡◌, ◌<◌, ◌≤◌, ◌++◌, List, [], length, Option, Some, Contains}
 use Rattle.ft_types.specs.Counts.{count_at}
 use Rattle.ft_types.specs.declared.guest.Guest.{Guest}
-use Rattle.interleaving.specs.Machine.{Machine}
-use Rattle.interleaving.specs.Log.{IsCut}
-use Rattle.interleaving.specs.Stored.{system_of, view}
+use Rattle.interleaving.specs.Lists.{put}
+use Rattle.interleaving.specs.Stored.{view}
 use Rattle.edge_log.specs.EdgeLog.{IsLog, row_of}
 use Rattle.input_log.specs.Inputs.{inputs_of}
 use Rattle.rv32_hart.specs.Hart.{Hart}
@@ -15,25 +14,23 @@ use Rattle.page_book.specs.Books.{BookView}
 use Rattle.page_book.specs.Tellings.{TellsOn}
 use Rattle.book_modes.specs.Recordings.{RecordingView, heard_by, log_of, HasHonestLog}
 use Rattle.hart_lease.specs.Runs.{counts_of, journal_turns}
-use Rattle.fragment_codec.specs.declared.types.Key.{Key}
 use Rattle.fragment_codec.specs.declared.frame.Frame.{Frame}
 use Rattle.fragment_codec.specs.declared.frame.Frame.TheVariants.{Log}
 use Rattle.fragment_codec.specs.Rules.{FragmentParts, OpeningParts}
-use Rattle.fragment_codec.specs.Pieces.{SealedView, IsCut as AreCut, book_log, told_by, facts_between}
-use Rattle.log_join.specs.Cells.{One}
-use Rattle.log_join.specs.Stores.{StoreView, opening_at, fragment_at}
-use Rattle.hart_replay.specs.Histories.{TermHistory, TellsOf, machine_at, Opens, IsHonestStore}
+use Rattle.fragment_codec.specs.Pieces.{SealedView, mark_of, IsCut as AreCut, book_log, told_by, facts_between}
+use Rattle.log_join.specs.Families.{no_terms, end_of, HasPieces, OfFamily}
+use Rattle.hart_replay.specs.Histories.{TermHistory, TellsOf, IsPlace}
+use Rattle.hart_replay.specs.Images.{GuestTerm, GuestHistory, machine_of, IsTermOf, IsHistoryOf}
 
 -- A recording book, whose log is honest, as its contract has it.
 pub record IsPrimary (book : BookView RecordingView) : Type 0 where
   pub log : IsLog book.mode.edges.start book.mode.edges.rows
   pub honest : HasHonestLog book.mode.edges (heard_by book.mode) book.start book.journal book.machine
 
--- the term in which it recorded: it went on from another one, or from boot, with the book's start, by the steps of its journal
-abbrev pub term_of : ℕ → BookView RecordingView → TermHistory (Option Hart) (Option (List ℕ))
-term_of parent book =
+-- what happened in the term in which it recorded: it went on from the book's start, by the steps of its journal
+abbrev pub term_of : BookView RecordingView → TermHistory (Option Hart) (Option (List ℕ))
+term_of book =
     record {
-      parent = parent;
       start = view (hardware (length book.start.pages)) book.start;
       turns = journal_turns (heard_by book.mode) book.start book.journal;
       log = log_of book.mode.edges (heard_by book.mode) book.start book.machine;
@@ -46,6 +43,14 @@ pub record IsPieceOf (book : BookView RecordingView) (hart : ℕ) (piece : Fragm
     edges = row_of book.mode.edges hart;
     inputs = inputs_of book.mode.inputs hart;
   })
+
+-- the term is the book's: its opening has the counts of the book's start, and its pieces are the book's, without a gap from there
+pub record IsTermOfBook (book : BookView RecordingView) (past : GuestTerm) : Type 0 where
+  pub told : past.told ≡ term_of book
+  pub base : (hart : ℕ) → count_at past.opening.base hart ≡ counts_of book.start hart
+  pub pieces : HasPieces (λ told. IsPieceOf book) past
+
+-- ---- pieces
 
 -- each frame that is cut of a book is such a piece
 abbrev pub CutsArePieces : Type 0
@@ -61,28 +66,59 @@ PiecesLast =
 -- and tells truly of the book's term
 abbrev pub PiecesTell : Type 0
 PiecesTell =
-    (parent : ℕ) (book : BookView RecordingView) (hart : ℕ) (piece : FragmentParts) → IsPrimary book → IsPieceOf book hart piece →
-    TellsOf (term_of parent book).log hart piece
+    (book : BookView RecordingView) (hart : ℕ) (piece : FragmentParts) → IsPrimary book → IsPieceOf book hart piece → TellsOf (term_of book).log hart piece
 
--- an opening that names the term that the book's start came from, and the start's counts, is the term's
-abbrev pub OpeningsOpen : Type 0
-OpeningsOpen =
-    (pages parent : ℕ) (boot : Machine (Option Hart) (Option (List ℕ))) (history : ℕ → TermHistory (Option Hart) (Option (List ℕ)))
-    (book : BookView RecordingView) (o : OpeningParts) → IsPrimary book → length book.start.pages ≡ pages →
-    view (hardware pages) book.start ≡ machine_at (system_of (hardware pages)) boot history parent (counts_of book.start) →
-    (parent ≢ 0 → IsCut (history parent).log (counts_of book.start)) →
-    o.parent ≡ parent → ((hart : ℕ) → count_at o.base hart ≡ counts_of book.start hart) →
-    Opens (system_of (hardware pages)) boot history (term_of parent book) o
+-- ---- terms
 
--- a store of frames of one book that began at boot: openings that say so, and pieces of the book
-pub record IsOfPrimary (book : BookView RecordingView) (store : StoreView) : Type 0 where
-  pub from_boot : (term : ℕ) (o : OpeningParts) → opening_at store term ≡ One o → o.parent ≡ 0
-  pub base : (term : ℕ) (o : OpeningParts) → opening_at store term ≡ One o → (hart : ℕ) → count_at o.base hart ≡ counts_of book.start hart
-  pub pieces : (key : Key) (piece : FragmentParts) → fragment_at store key ≡ One piece → IsPieceOf book key.hart piece
+-- the book's term before anything of it is sealed
+abbrev pub unsealed : OpeningParts → BookView RecordingView → GuestTerm
+unsealed opening book = record { opening = opening; pieces = λ hart. []; told = term_of book }
 
--- it is a store of honest frames
-abbrev pub PrimariesAreHonest : Type 0
-PrimariesAreHonest =
-    (image : ImageContents) (book : BookView RecordingView) (store : StoreView) → IsPrimary book → book.start ≡ boot_machine image →
-    IsOfPrimary book store →
-    IsHonestStore (system_of (hardware image.pages)) (view (hardware image.pages) (boot_machine image)) (λ term. term_of 0 book) store
+abbrev pub UnsealedIsOfBook : Type 0
+UnsealedIsOfBook =
+    (book : BookView RecordingView) (opening : OpeningParts) → ((hart : ℕ) → count_at opening.base hart ≡ counts_of book.start hart) →
+    IsTermOfBook book (unsealed opening book)
+
+-- each hart's pieces have come to its mark
+abbrev pub IsSealedTo : GuestTerm → SealedView → Type 0
+IsSealedTo past seals =
+    (hart : ℕ) → mark_of seals hart ≡
+    record { place = length (past.pieces hart); count = end_of (count_at past.opening.base hart) (past.pieces hart) }
+
+-- the term with these pieces behind those that it had
+abbrev pub with_pieces : GuestTerm → (ℕ → List FragmentParts) → GuestTerm
+with_pieces past more = record past { pieces = λ hart. past.pieces hart ++ more hart }
+
+-- frames that were cut of the book are its term's, behind those before them
+pub record SealsMore (number : ℕ) (book : BookView RecordingView) (past : GuestTerm) (frames : List Frame) (new : SealedView) : Type 0 where
+  pub more : ℕ → List FragmentParts
+  pub is_of_book : IsTermOfBook book (with_pieces past more)
+  pub sealed : IsSealedTo (with_pieces past more) new
+  pub of_family : (history : GuestHistory) (frame : Frame) → Contains frames frame → OfFamily (put history number (Some (with_pieces past more))) frame
+
+abbrev pub CutsSealMore : Type 0
+CutsSealMore =
+    (guest : Guest) (number : ℕ) (book : BookView RecordingView) (past : GuestTerm) (old new : SealedView) (frames : List Frame) →
+    IsTermOfBook book past → IsSealedTo past old → AreCut (book_log guest number book) guest.harts old frames new → SealsMore number book past frames new
+
+-- a book that goes on has the frames that it had
+abbrev pub TermsGoOn : Type 0
+TermsGoOn =
+    (b c : BookView RecordingView) (past : GuestTerm) → IsTermOfBook b past → c.start ≡ b.start → TellsOn b c →
+    IsTermOfBook c (record past { told = term_of c })
+
+-- ---- histories
+
+-- the term of a book that began at a place of an older term, with the machine there, is a term of the history
+abbrev pub BooksAreTerms : Type 0
+BooksAreTerms =
+    (image : ImageContents) (history : GuestHistory) (number : ℕ) (book : BookView RecordingView) (past : GuestTerm) →
+    IsPrimary book → length book.start.pages ≡ image.pages → IsTermOfBook book past → past.opening.parent < number →
+    view (hardware image.pages) book.start ≡ machine_of image history past.opening.parent (counts_of book.start) →
+    IsPlace history past.opening.parent (counts_of book.start) → IsTermOf image history number past
+
+-- so a book that began at boot is a history of one term
+abbrev pub PrimariesAreHistories : Type 0
+PrimariesAreHistories =
+    (image : ImageContents) (number : ℕ) (book : BookView RecordingView) (past : GuestTerm) → IsPrimary book → book.start ≡ boot_machine image →
+    IsTermOfBook book past → past.opening.parent ≡ 0 → 0 < number → IsHistoryOf image (put no_terms number (Some past))

@@ -1,5 +1,5 @@
 -- What a replay of a plan comes to.
-use Rattle.std.specs.Prelude.{◌≡◌, ◌<◌, ◌++◌, ◌⊎◌, ℕ, List, [], ◌∷◌, length, slice_get, Bool, true, false, Option, Some, Result, MatchResult}
+use Rattle.std.specs.Prelude.{◌≡◌, ◌<◌, ◌++◌, ◌⊎◌, ℕ, List, [], ◌∷◌, length, slice_get, Bool, true, false, Some, Result, MatchResult}
 use Rattle.ft_types.specs.Counts.{count_at}
 use Rattle.interleaving.specs.Machine.{Turn}
 use Rattle.interleaving.specs.Log.{Begins, IsSchedule, IsStuck, counts_after, turns_of}
@@ -7,7 +7,6 @@ use Rattle.interleaving.specs.Stored.{halted_of, system_of, view}
 use Rattle.input_log.specs.declared.Input.{Input}
 use Rattle.log_join.specs.Stores.{StoreView, IsStore}
 use Rattle.closed_cut.specs.declared.answer.Position.{Position}
-use Rattle.rv32_hart.specs.Hart.{Hart}
 use Rattle.rv32_hart.specs.Hardware.{hardware}
 use Rattle.guest_image.specs.Image.{ImageContents}
 use Rattle.guest_image.specs.Machine.{MachineState, boot_machine}
@@ -16,7 +15,7 @@ use Rattle.hart_replay.specs.declared.plans.PlannedLeg.{PlannedLeg}
 use Rattle.hart_replay.specs.declared.fault.ReplayFault.{ReplayFault}
 use Rattle.hart_replay.specs.declared.fault.ReplayFault.TheVariants.{Cyclic, HaltedInside, OtherGuest, Memory}
 use Rattle.hart_replay.specs.Plans.{log_of}
-use Rattle.hart_replay.specs.Histories.{TermHistory, machine_at, IsHonestStore}
+use Rattle.hart_replay.specs.Images.{GuestHistory, machine_of, IsHonestStoreOf}
 use Rattle.hart_replay.specs.Laws.{ArePlanned}
 
 -- ---- legs, one after the other
@@ -97,11 +96,9 @@ IfHaltedInside _ P = Unit {0}
 -- position, and the only faults are another guest and refused memory.
 abbrev pub ReplaysHistory : ImageContents → List PlannedLeg → Result MachineState ReplayFault → Type 0
 ReplaysHistory image legs result =
-    (history : ℕ → TermHistory (Option Hart) (Option (List ℕ))) (store : StoreView) (position : Position) → IsStore store →
-    IsHonestStore (system_of (hardware image.pages)) (view (hardware image.pages) (boot_machine image)) history store →
+    (history : GuestHistory) (store : StoreView) (position : Position) → IsStore store → IsHonestStoreOf image history store →
     ArePlanned store position legs →
     MatchResult result
     (λ m.
-    view (hardware image.pages) m ≡
-    machine_at (system_of (hardware image.pages)) (view (hardware image.pages) (boot_machine image)) history position.term (count_at position.counts))
+    view (hardware image.pages) m ≡ machine_of image history position.term (count_at position.counts))
     (λ fault. (fault ≡ OtherGuest) ⊎ (fault ≡ Memory))

@@ -10,7 +10,10 @@ mod planning;
 mod plans;
 
 pub use fault::ReplayFault;
-pub use laws::{honest_plans, honest_primaries, honest_stores};
+pub use laws::{
+    honest_failovers, honest_plans, honest_positions, honest_primaries, honest_stores,
+    longer_histories,
+};
 pub use plain::replay_plain;
 pub use planning::plan;
 pub use plans::{Plan, PlannedLeg};

@@ -7,3 +7,4 @@ pub mod Present
 pub mod Stores
 pub mod Listed
 pub mod Gathered
+pub mod Families

@@ -6,3 +6,5 @@ pub mod Coming
 pub mod Contents
 pub mod Answers
 pub mod Laws
+pub mod Families
+pub mod FamilyLaws

@@ -5,6 +5,7 @@ ghost use Rattle.log_join.specs.Tests.{same_opening, same_fragment};
 ghost use Rattle.log_join.specs.Stores.{StoreView};
 ghost use Rattle.log_join.specs.Laws.{Tells, CellsJoin, OneJoin, Associates, Commutes, Idempotent, HasUnit, OrderMakesNoDifference, ComeGathers, OnlyGathered};
 ghost use Rattle.log_join.specs.Laws.{GatheredIsStore};
+ghost use Rattle.log_join.specs.FamilyLaws.{HonestJoins, HonestAgree, HonestGather, HonestStay};
 
 /// Contents are told apart exactly, and cells join in whatever order and however often.
 pub fn joins_of_cells()
@@ -29,4 +30,13 @@ pub fn order_and_repetition()
     ensures in_turn { ComeGathers }
     ensures only { OnlyGathered }
     ensures rules { GatheredIsStore }
+{}
+
+/// Stores that have frames of one family alone join to such a store, without a clash; so is each store that gathered such
+/// frames, and it stays one when the family grows.
+pub fn honest_joins<T>()
+    ensures joins { HonestJoins T }
+    ensures agree { HonestAgree T }
+    ensures gather { HonestGather T }
+    ensures stay { HonestStay T }
 {}

@@ -11,5 +11,5 @@ mod shelves;
 mod store;
 
 pub use answers::{Found, Put, StoreFault};
-pub use laws::{joins_of_cells, joins_of_stores, order_and_repetition};
+pub use laws::{honest_joins, joins_of_cells, joins_of_stores, order_and_repetition};
 pub use store::Store;

@@ -6,3 +6,5 @@ pub mod FirstFault
 pub mod Outcomes
 pub mod Openings
 pub mod Truthful
+pub mod Ends
+pub mod Runs

@@ -3,6 +3,7 @@
 #![tactic(auto)]
 
 mod faults;
+mod laws;
 mod lines;
 mod primary;
 mod reading;
@@ -10,6 +11,7 @@ mod stores;
 mod streams;
 
 pub use faults::StreamsFault;
+pub use laws::honest_runs;
 pub use lines::write_numbered;
 pub use primary::{frames_of, run_primary};
 pub use reading::read_store;

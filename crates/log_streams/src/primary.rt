@@ -5,6 +5,7 @@ ghost use Rattle.guest_image.specs.Image.{guest_of};
 ghost use Rattle.fragment_codec.specs.Rules.{IsGuest};
 ghost use Rattle.input_script.specs.Script.{AreOffered};
 ghost use Rattle.log_streams.specs.Primary.{AreOfferedTo, IsReady, IsRunOf, AreFramesOf};
+ghost use Rattle.log_streams.specs.Ends.{ReachItsEnd};
 
 use fragment_codec::{Frame, Opening, Sealed, cut_pieces};
 use ft_types::{Count, Counts, Guest, Hart, Memory, Term};
@@ -97,8 +98,11 @@ fn opening_of(guest: Guest) -> Opening
 /// The opening of the term, and the pieces of the book's log.
 pub fn frames_of(alloc: Global, image: &Image, book: &Book<Recording>) -> Result<Vec<Frame>, Memory>
     requires { length book.now.machine.harts ≡ image.now.harts }
-    ensures { IfOk result (λ frames. AreFramesOf (guest_of image.now) book.now frames.items) }
+    ensures frames { IfOk result (λ frames. AreFramesOf (guest_of image.now) book.now frames.items) }
+    // Whoever gathers them has its position at the end of the run.
+    ensures end { IfOk result (λ frames. ReachItsEnd (guest_of image.now) book.now frames.items) }
 {
+    let _edges = book.edges();
     let harts = image.harts();
     let guest = image.guest();
     let opening = opening_of(guest);

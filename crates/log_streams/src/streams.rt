@@ -6,7 +6,8 @@ ghost use Rattle.guest_image.specs.Image.{guest_of};
 ghost use Rattle.log_streams.specs.declared.faults.StreamsFault.{StreamsFault as StreamsFaultName};
 ghost use Rattle.log_streams.specs.Streams.{OfStreams};
 ghost use Rattle.log_streams.specs.Faults.{IsFirstFault, StandsInBytes, AnswersOnly, Fails, IsBehind, GaveRight};
-ghost use Rattle.log_streams.specs.Honest.{History, TellTruly, IsOfHistory, IsOfDevices};
+ghost use Rattle.hart_replay.specs.Images.{GuestHistory};
+ghost use Rattle.log_streams.specs.Honest.{TellTruly, IsOfHistory, IsOfDevices};
 ghost use Rattle.log_streams.specs.Outcome.{IsOutcome, IsOutcomeOf, WritesTextOf, IsCause, IsReplayFault, IsCauseIn};
 
 use crate::faults::StreamsFault;
@@ -67,9 +68,9 @@ pub fn replay_streams<R: Source, W: Sink>(
 
     // Of streams of honest frames of one history of the image it is the text of the history's machine at the position of
     // their join, and only memory, a reader or the writer may fail.
-    ensures history { (history : History) → OfStreams (map R.left readers.old) (λ streams. TellTruly image.now history streams →
+    ensures history { (history : GuestHistory) → OfStreams (map R.left readers.old) (λ streams. TellTruly image.now history streams →
         WritesTextOf (IsOfHistory image.now history streams) result (W.bytes out.old) (W.bytes out.new) (W.failures out.old) (W.failures out.new)) }
-    ensures only_devices { IfErr result (λ f. (history : History) → OfStreams (map R.left readers.old) (λ streams. TellTruly image.now history streams →
+    ensures only_devices { IfErr result (λ f. (history : GuestHistory) → OfStreams (map R.left readers.old) (λ streams. TellTruly image.now history streams →
         IsOfDevices f)) }
 
     // Where the streams have a fault in their bytes, the first one is the answer, unless a reader or memory failed before.

@@ -113,14 +113,14 @@ module _ (pieces : ℕ → Cell FragmentParts) (fits : (place : ℕ) (f : Fragme
   -- a walk comes to no more than the log's end
   pub to_end : (start n end : ℕ) → Goes pieces start n end → start ≤ log.end hart → end ≤ log.end hart
   to_end start zero end goes le = omega arith
-  to_end start (suc n) end (x, goes, one, is) le = let upto = (tells n x one).end in omega arith
+  to_end start (suc n) end (x, goes, one, is) le = let upto = (tells n x one).edges.end in omega arith
 
   -- an edge among the facts is the log's
   pub edge_of_log : (start n end limit : ℕ) (e : Edge) → Goes pieces start n end → Contains (edges_among (below limit (records_of pieces n))) e →
       Contains log.edges e × (e.hart ≡ hart) × (start ≤ e.step) × (e.step < limit)
   edge_of_log start n end limit e goes has =
       let f = fact_edge pieces n limit e has in
-      let told = ((tells f.from.place f.from.piece f.from.one).edges e).0
+      let told = ((tells f.from.place f.from.piece f.from.one).edges.exact e).0
       (subst (Contains (piece_edges f.from.piece)) f.is (record_edge f.from.piece.records f.edge f.from.has)) in
       let begin = from_start start n end f.from.place f.from.piece goes f.from.gone_over f.from.one in
       let step : f.from.piece.from ≤ e.step = told.2 in
@@ -131,7 +131,7 @@ module _ (pieces : ℕ → Cell FragmentParts) (fits : (place : ℕ) (f : Fragme
       e.step < limit → Contains (edges_among (below limit (records_of pieces n))) e
   edge_of_facts start n end limit e goes le has own from less =
       let c = covered pieces start n end e.step goes from (omega arith) in
-      let (x, at, is) = edge_record c.piece.records e (((tells c.place c.piece c.one).edges e).1 (has, own, c.from, c.to)) in
+      let (x, at, is) = edge_record c.piece.records e (((tells c.place c.piece c.one).edges.exact e).1 (has, own, c.from, c.to)) in
       let step : x.at ≡ e.step = ap (λ e. e.step) is in
       subst (Contains (edges_among (below limit (records_of pieces n)))) is
       (record_edge (below limit (records_of pieces n)) x

@@ -1,5 +1,5 @@
 -- A leg of honest frames follows its term.
-use Rattle.std.proofs.Common.{◌≡◌, inl, inr, ℕ, ◌<◌, ◌≤◌, false, List, Contains, refl, sym, ap, subst, ◌∙◌, arith, le_trans}
+use Rattle.std.proofs.Common.{◌≡◌, inl, inr, ℕ, ◌<◌, ◌≤◌, false, List, Contains, slice_get, Some, refl, sym, ap, subst, ◌∙◌, arith, le_trans}
 use Rattle.std.proofs.Math.Path.{fun_ext}
 use Rattle.std.proofs.lemmas.Bool.{cases_lt}
 use Rattle.ft_types.specs.Counts.{count_at}
@@ -13,45 +13,61 @@ use Rattle.interleaving.proofs.Stuck.{stuck_cannot_go_on}
 use Rattle.edge_log.specs.EdgeLog.{edges_of}
 use Rattle.input_log.specs.declared.Input.{Input}
 use Rattle.input_log.specs.Inputs.{inputs_at}
-use Rattle.fragment_codec.specs.Rules.{FragmentParts, IsFragment}
+use Rattle.fragment_codec.specs.declared.types.Key.{Key}
+use Rattle.fragment_codec.specs.Rules.{FragmentParts, OpeningParts, IsFragment}
 use Rattle.log_join.specs.Cells.{One}
 use Rattle.log_join.specs.Stores.{StoreView, IsStore}
+use Rattle.log_join.specs.Families.{Past}
+use Rattle.log_join.proofs.Families.{opening_known, fragment_known}
 use Rattle.closed_cut.specs.Position.{pieces_of}
 use Rattle.hart_replay.specs.declared.plans.PlannedLeg.{PlannedLeg}
 use Rattle.hart_replay.specs.Facts.{records_of, below, edges_among, inputs_among, EndsInside, HasEdges, HasInputs}
 use Rattle.hart_replay.specs.Plans.{BeginsAtBase, log_of}
-use Rattle.hart_replay.specs.Histories.{TermHistory, IsTerm, IsHonestStore, TellsOf}
+use Rattle.hart_replay.specs.Histories.{TermHistory, History, IsTerm, IsHonestStore, TellsOf}
 use Rattle.hart_replay.specs.Laws.{FollowsTerm}
 use Rattle.hart_replay.proofs.gathering.Pieces.{rules_of}
 use Rattle.hart_replay.proofs.gathering.Ends.{one_avail}
 use Rattle.hart_replay.proofs.gathering.Facts.{to_end, edge_of_log, edge_of_facts, inputs_of_facts}
 use Rattle.hart_replay.proofs.honesty.Schedules.{begins_too, same_turns}
 
-module _ {Hart Page : Type 0} (system : System Hart Page (List Input)) (boot : Machine Hart Page) (history : ℕ → TermHistory Hart Page)
+module _ {Hart Page : Type 0} (system : System Hart Page (List Input)) (boot : Machine Hart Page) (history : History Hart Page)
     (store : StoreView) (rules : IsStore store) (store_honest : IsHonestStore system boot history store) (leg : PlannedLeg)
+    (past : Past (TermHistory Hart Page)) (granted : history leg.term ≡ Some past)
     (begins_at : BeginsAtBase store leg) (inside : EndsInside store leg) (has_edges : HasEdges store leg) (has_inputs : HasInputs store leg) where
   abbrev term : TermHistory Hart Page
-  term = history leg.term
+  term = past.told
 
   abbrev log : Log (List Input)
-  log = (history leg.term).log
+  log = past.told.log
 
   abbrev ends : ℕ → ℕ
   ends = count_at leg.ends
 
-  is_term : IsTerm system boot history (history leg.term)
-  is_term = (store_honest.openings leg.term begins_at.opening begins_at.opens).is_term
+  is_term : IsTerm system boot history leg.term past
+  is_term = store_honest.is_history.terms leg.term past granted
+
+  own : (q : Past (TermHistory Hart Page)) → history leg.term ≡ Some q → q ≡ past
+  own q at = let same : Some q ≡ Some past = sym at ∙ granted in cc
+
+  opening_is : past.opening ≡ begins_at.opening
+  opening_is =
+      let (q, at, same) = opening_known history store store_honest.honest leg.term begins_at.opening begins_at.opens in
+      ap (λ (q : Past (TermHistory Hart Page)). q.opening) (sym (own q at)) ∙ same
 
   -- the leg begins where the term does
-  pub same_start : count_at leg.base ≡ (history leg.term).log.start
+  pub same_start : count_at leg.base ≡ past.told.log.start
   same_start =
       fun_ext
       (λ hart.
       ap (λ (b : List ℕ). count_at b hart) begins_at.base ∙
-      (store_honest.openings leg.term begins_at.opening begins_at.opens).base hart)
+      ap (λ (o : OpeningParts). count_at o.base hart) (sym opening_is) ∙
+      is_term.base hart)
 
-  tells : (hart place : ℕ) (f : FragmentParts) → pieces_of store leg.term hart place ≡ One f → TellsOf (history leg.term).log hart f
-  tells hart place f one = store_honest.fragments (record { term = leg.term; hart = hart; place = place }) f one
+  tells : (hart place : ℕ) (f : FragmentParts) → pieces_of store leg.term hart place ≡ One f → TellsOf past.told.log hart f
+  tells hart place f one =
+      let key : Key = record { term = leg.term; hart = hart; place = place } in
+      let (q, at, placed) = fragment_known history store store_honest.honest key f one in
+      is_term.pieces.tell hart place f (subst (λ (q : Past (TermHistory Hart Page)). slice_get (q.pieces hart) place ≡ Some f) (own q at) placed)
 
   fits : (hart place : ℕ) (f : FragmentParts) → pieces_of store leg.term hart place ≡ One f → IsFragment f
   fits hart place f one = rules_of store rules leg.term hart place f one
@@ -83,7 +99,7 @@ module _ {Hart Page : Type 0} (system : System Hart Page (List Input)) (boot : M
 
   -- ---- the leg's ends are a cut of the term's log
 
-  is_cut : IsCut log ends
+  pub is_cut : IsCut past.told.log (count_at leg.ends)
   is_cut =
       record {
         from_start = subst (λ s. IsWithin s ends) same_start inside.cut.from_start;
@@ -187,7 +203,7 @@ module _ {Hart Page : Type 0} (system : System Hart Page (List Input)) (boot : M
               stuck_cannot_go_on system (edges_of leg.edges) ends now machine stuck (goes_on hart less);
         }
 
-  pub follows : FollowsTerm system (history leg.term) leg
+  pub follows : FollowsTerm system past.told leg
   follows =
       record {
         own =

@@ -1,12 +1,12 @@
 -- What a recording book tells of its term is true.
-use Rattle.std.proofs.Common.{◌≡◌, ◌≢◌, ◌≤◌, ◌<◌, ◌==◌, ℕ, suc, Bool, true, false, List, [], ◌∷◌, length, map, filter, get_or, slice_index_or, Contains, refl}
-use Rattle.std.proofs.Common.{sym, ap, subst, ◌∙◌, inl, inr, arith, le_of_eq}
+use Rattle.std.proofs.Common.{◌≡◌, ◌≢◌, ◌≤◌, ◌<◌, ◌==◌, ℕ, suc, Bool, true, false, List, [], ◌∷◌, length, map, filter, get_or, slice_index_or, Contains}
+use Rattle.std.proofs.Common.{Option, Some, None, refl, sym, ap, subst, ◌∙◌, inl, inr, arith, le_of_eq}
 use Rattle.std.specs.List.{filter_map, flat_map}
 use Rattle.std.proofs.lemmas.Bool.{cases_eq, eq-eqb, ne_eqb, lt-ltb, le-leb}
 use Rattle.std.proofs.lemmas.List.Elements.{Contains-append_cases, Contains-append_right}
 use Rattle.interleaving.specs.Log as theory
 use Rattle.interleaving.specs.Log.{IsCut}
-use Rattle.interleaving.specs.Stored.{system_of, view}
+use Rattle.interleaving.specs.Stored.{view}
 use Rattle.interleaving.proofs.Cuts.{here, here_or_later}
 use Rattle.ft_types.specs.declared.guest.Guest.{Guest}
 use Rattle.edge_log.specs.declared.Edge.{Edge}
@@ -14,10 +14,11 @@ use Rattle.edge_log.specs.EdgeLog.{edge_as, edges_of}
 use Rattle.edge_log.proofs.Logs.{contains_map, map_contains, to_edges, in_row, of_row}
 use Rattle.input_log.specs.declared.Input.{Input}
 use Rattle.input_log.specs.Inputs.{inputs_of, inputs_at}
+use Rattle.rv32_hart.specs.Hart.{Hart}
 use Rattle.rv32_hart.specs.Hardware.{hardware}
-use Rattle.guest_image.specs.Machine.{boot_machine}
 use Rattle.page_book.specs.Books.{BookView}
 use Rattle.book_modes.specs.Recordings.{RecordingView}
+use Rattle.book_modes.specs.Hearings.{IsTrueLog}
 use Rattle.hart_lease.specs.Runs.{counts_of}
 use Rattle.fragment_codec.specs.declared.frame.Frame.TheVariants.{Log}
 use Rattle.fragment_codec.specs.Rules.{FragmentParts}
@@ -25,13 +26,19 @@ use Rattle.fragment_codec.specs.Pieces.{HartLog, Mark, IsPiece, ArePieces, mark_
 use Rattle.fragment_codec.proofs.cuts.Between.{between_is}
 use Rattle.closed_cut.specs.Position.{edges_of as edges_told}
 use Rattle.hart_replay.specs.Facts.{inputs_among}
-use Rattle.hart_replay.specs.Histories.{machine_at}
-use Rattle.hart_replay.specs.Primaries.{term_of, IsPieceOf, CutsArePieces, PiecesTell, OpeningsOpen, PrimariesAreHonest}
+use Rattle.log_join.specs.Families.{no_terms}
+use Rattle.hart_replay.specs.Histories.{TermHistory, TellsOf, IsPlace}
+use Rattle.hart_replay.specs.Images.{machine_of}
+use Rattle.hart_replay.specs.Primaries.{term_of, IsPieceOf, CutsArePieces, PiecesTell, BooksAreTerms, PrimariesAreHistories}
+use Rattle.hart_replay.proofs.honesty.Images.{image_goes_on}
 use Rattle.hart_replay.proofs.honesty.Replays.{boot_pages}
+
+abbrev BookTerm : Type 0
+BookTerm = TermHistory (Option Hart) (Option (List ℕ))
 
 -- ---- lists
 
-in_rows : {A : Type 0} (rows : List (List A)) (x : A) → Contains (flat_map (λ row. row) rows) x → (h : ℕ) × Contains (get_or rows h []) x
+pub in_rows : {A : Type 0} (rows : List (List A)) (x : A) → Contains (flat_map (λ row. row) rows) x → (h : ℕ) × Contains (get_or rows h []) x
 in_rows [] x (k, below, is) = absurd (omega arith)
 in_rows (row ∷ rows) x h =
     elim (Contains-append_cases row (flat_map (λ row. row) rows) x h) [
@@ -41,7 +48,7 @@ in_rows (row ∷ rows) x h =
 
 module _ {A : Type 0} (p : A → Bool) where
   -- what passes is in the list, and what is in the list and passes stays
-  passed : (xs : List A) (x : A) → Contains (filter p xs) x → Contains xs x × (p x ≡ true)
+  pub passed : (xs : List A) (x : A) → Contains (filter p xs) x → Contains xs x × (p x ≡ true)
   passed [] x (k, below, is) = absurd (omega arith)
   passed (y ∷ ys) x h = of (p y) refl (λ later. passed ys x later)
     where
@@ -57,7 +64,7 @@ module _ {A : Type 0} (p : A → Bool) where
           let (is_in, is) = more (subst (λ (l : List A). Contains l x) skipped h) in
           (Contains-append_right (y ∷ []) ys x is_in, is)
 
-  passing : (xs : List A) (x : A) → Contains xs x → p x ≡ true → Contains (filter p xs) x
+  pub passing : (xs : List A) (x : A) → Contains xs x → p x ≡ true → Contains (filter p xs) x
   passing [] x (k, below, is) e = absurd (omega arith)
   passing (y ∷ ys) x h e =
       elim (here_or_later y ys x h) [
@@ -69,7 +76,7 @@ module _ {A : Type 0} (p : A → Bool) where
       more true f is_in = rw f (Contains-append_right (y ∷ []) (filter p ys) x is_in)
       more false f is_in = rw f is_in
 
-between_true : (from to n : ℕ) → from ≤ n → n < to → is_between from to n ≡ true
+pub between_true : (from to n : ℕ) → from ≤ n → n < to → is_between from to n ≡ true
 between_true from to n le lt = rw (le-leb from n le, lt-ltb n to lt) refl
 
 -- of a count between, those between are all
@@ -101,7 +108,7 @@ piece_in log old (p ∷ pieces) new row piece h =
       | inr later ↦ piece_in log (mark_behind p) pieces new row.1 piece later
     ]
 
-is_piece : (guest : Guest) (term : ℕ) (book : BookView RecordingView) (hart : ℕ) (mark : Mark) (piece : FragmentParts) →
+pub is_piece : (guest : Guest) (term : ℕ) (book : BookView RecordingView) (hart : ℕ) (mark : Mark) (piece : FragmentParts) →
     IsPiece (book_log guest term book hart) mark piece → IsPieceOf book piece.key.hart piece
 is_piece guest term book hart mark piece p =
     subst (λ h. IsPieceOf book h piece) (sym (ap (λ k. k.hart) p.key))
@@ -118,10 +125,9 @@ cuts_are_pieces guest term book old new frames piece cut is_in =
     is_piece guest term book hart mark piece its
 
 pub pieces_tell : PiecesTell
-pieces_tell parent book hart piece p its =
+pieces_tell book hart piece p its =
     record {
-      end = its.settled;
-      edges = λ e. (there e, back e);
+      edges = record { end = its.settled; exact = λ e. (there e, back e) };
       inputs = λ n le lt. ap (λ row. inputs_at row n) inputs_are ∙ ap (map (λ (x : ℕ × Input). x.1)) (at_between piece.from piece.to n le lt
           (inputs_of book.mode.inputs hart));
     }
@@ -160,31 +166,42 @@ pieces_tell parent book hart piece p its =
         (passing (λ e. is_between piece.from piece.to e.at) (get_or rows hart []) x (subst (λ h. Contains (get_or rows h []) x) own in_its) passes) in
         subst (Contains (edges_told piece)) is (contains_map edge_as (filter_map edge_in piece.records) x is_in)
 
--- ---- openings and stores
+-- ---- terms and histories
 
-pub openings_open : OpeningsOpen
-openings_open pages parent boot history book o p many start base parent_is base_is =
+pub books_are_terms : BooksAreTerms
+books_are_terms image history number book past p many its older start place =
     record {
-      is_term =
-          record {
-            start = subst (λ n. view (hardware n) book.start ≡ machine_at (system_of (hardware pages)) boot history parent (counts_of book.start))
-                (sym many) start;
-            base = base;
-            honest = subst (λ n. theory.IsHonest (system_of (hardware n)) (term_of parent book).log (term_of parent book).start (term_of parent book).turns)
-                many p.honest;
-          };
-      parent = parent_is;
-      base = base_is;
+      is_term = record {
+        older = older;
+        base = λ hart. its.base hart ∙ ap (λ (c : ℕ → ℕ). c hart) counts_are;
+        start = ap (λ (t : BookTerm). t.start) its.told ∙ ap (λ n. view (hardware n) book.start) many ∙ start
+            ∙ ap (machine_of image history past.opening.parent) counts_are;
+        place = subst (IsPlace history past.opening.parent) counts_are place;
+        honest = true_log.honest;
+        pieces =
+            record {
+              no_gap = its.pieces.no_gap;
+              tell = λ hart place piece at.
+                  subst (λ (t : BookTerm). TellsOf t.log hart piece) (sym its.told) (pieces_tell book hart piece p (its.pieces.tell hart place piece at));
+            };
+      };
+      true_log = true_log;
     }
+  where
+    true_log : IsTrueLog image.pages past.told.log past.told.start past.told.turns
+    true_log =
+        subst (λ (t : BookTerm). IsTrueLog image.pages t.log t.start t.turns) (sym its.told)
+        (subst (λ n. IsTrueLog n (term_of book).log (term_of book).start (term_of book).turns) many p.honest)
 
-pub primaries_are_honest : PrimariesAreHonest
-primaries_are_honest image book store p start its =
-    record {
-      openings =
-          λ term o one.
-          openings_open image.pages 0 (view (hardware image.pages) (boot_machine image)) (λ term. term_of 0 book) book o p
-          (ap (λ (m : _). length m.pages) start ∙ boot_pages image) (ap (view (hardware image.pages)) start) (λ some. absurd (some refl))
-          (its.from_boot term o one)
-          (its.base term o one);
-      fragments = λ key piece one. pieces_tell 0 book key.hart piece p (its.pieces key piece one);
-    }
+    counts_are : counts_of book.start ≡ past.told.log.start
+    counts_are = ap (λ (t : BookTerm). t.log.start) (sym its.told)
+
+pub primaries_are_histories : PrimariesAreHistories
+primaries_are_histories image number book past p start its parent some =
+    image_goes_on image no_terms number past
+    (record {
+      is_history = record { none = refl; terms = λ n q at. let no : None ≡ Some q = at in cc };
+      true_logs = λ n q at. let no : None ≡ Some q = at in cc;
+    }) refl
+    (books_are_terms image no_terms number book past p (ap (λ (m : _). length m.pages) start ∙ boot_pages image) its (omega (arith, parent, some))
+    (ap (view (hardware image.pages)) start) (inl parent))

@@ -18,10 +18,12 @@ use Rattle.hart_replay.specs.declared.fault.ReplayFault.{ReplayFault}
 use Rattle.hart_replay.specs.declared.fault.ReplayFault.TheVariants.{Cyclic, HaltedInside, OtherGuest, Memory}
 use Rattle.hart_replay.specs.Facts.{EndsInside, HasEdges, HasInputs}
 use Rattle.hart_replay.specs.Plans.{BeginsAtBase, log_of}
-use Rattle.hart_replay.specs.Histories.{TermHistory, machine_at, IsHonestStore}
+use Rattle.hart_replay.specs.Histories.{InTerm, IsHonestStore}
+use Rattle.hart_replay.specs.Images.{GuestHistory, machine_of}
 use Rattle.hart_replay.specs.Laws.{ArePlanned, LeadFrom, FollowsTerm}
 use Rattle.hart_replay.specs.Replays.{leg_turns, LegsLead, IsOutcome, GetsStuck, IsAtLeg, IsCyclicAt, HaltsInsideAt, IfCyclic, IfHaltedInside, ReplaysHistory}
 use Rattle.hart_replay.specs.Leading.{IsLegsFault}
+use Rattle.hart_replay.proofs.honesty.Images.{honest_in}
 use Rattle.hart_replay.proofs.honesty.Legs.{follows}
 use Rattle.hart_replay.proofs.honesty.Plans.{finds_start, leads_to_position}
 use Rattle.hart_lease.proofs.journals.Sizes.{is_run, as_large}
@@ -35,7 +37,7 @@ many_pages (suc n) words = ap suc (many_pages n (drop 1024 words))
 pub boot_pages : (image : ImageContents) → length (boot_machine image).pages ≡ image.pages
 boot_pages image = many_pages image.pages image.words
 
-legs_keep_pages : (legs : List PlannedLeg) (m n : MachineState) → LegsLead legs m n → length n.pages ≡ length m.pages
+pub legs_keep_pages : (legs : List PlannedLeg) (m n : MachineState) → LegsLead legs m n → length n.pages ≡ length m.pages
 legs_keep_pages [] m n same = ap (λ (x : MachineState). length x.pages) same
 legs_keep_pages (leg ∷ legs) m n (next, leads, rest) = legs_keep_pages legs next n rest ∙ (left_as_large leg m next leads).pages
 
@@ -53,7 +55,7 @@ lead_from size (leg ∷ legs) m n pages (next, (order, schedule, ran), rest) =
           (lead_from size legs next n (large.pages ∙ pages) rest),
     )
 
-module _ (image : ImageContents) (legs : List PlannedLeg) (history : ℕ → TermHistory (Option Hart) (Option (List ℕ))) (store : StoreView) (position : Position)
+module _ (image : ImageContents) (legs : List PlannedLeg) (history : GuestHistory) (store : StoreView) (position : Position)
     (rules : IsStore store) (honest : IsHonestStore (system_of (hardware image.pages)) (view (hardware image.pages) (boot_machine image)) history store)
     (planned : ArePlanned store position legs) where
   abbrev size : ℕ
@@ -62,9 +64,8 @@ module _ (image : ImageContents) (legs : List PlannedLeg) (history : ℕ → Ter
   abbrev boot : Machine (Option Hart) (Option (List ℕ))
   boot = view (hardware image.pages) (boot_machine image)
 
-  at_position : (m : MachineState) → IsOutcome image legs m →
-      view (hardware image.pages) m ≡ machine_at (system_of (hardware image.pages)) (view (hardware image.pages) (boot_machine image)) history position.term
-      (count_at position.counts)
+  pub at_position : (m : MachineState) → IsOutcome image legs m →
+      view (hardware image.pages) m ≡ machine_of image history position.term (count_at position.counts)
   at_position m led =
       (leads_to_position (system_of (hardware size)) boot history store rules honest position legs planned).only (view (hardware size) m)
       (lead_from size legs (boot_machine image) m (boot_pages image) led)
@@ -74,17 +75,17 @@ module _ (image : ImageContents) (legs : List PlannedLeg) (history : ℕ → Ter
     planned_parts : ArePlanned store position (front ++ leg ∷ back)
     planned_parts = subst (λ (xs : List PlannedLeg). ArePlanned store position xs) parts planned
 
-    finds : view (hardware image.pages) found ≡ (history leg.term).start
-    finds =
+    known : InTerm history leg.term (λ t. view (hardware image.pages) found ≡ t.start)
+    known =
         finds_start (system_of (hardware size)) boot history store rules honest position front leg back planned_parts (view (hardware size) found)
         (lead_from size front (boot_machine image) found (boot_pages image) led)
 
     among : Contains (front ++ leg ∷ back) leg
     among = Contains-append_right front (leg ∷ back) leg (here leg back)
 
-    term_followed : FollowsTerm (system_of (hardware image.pages)) (history leg.term) leg
+    term_followed : FollowsTerm (system_of (hardware image.pages)) known.0.told leg
     term_followed =
-        follows (system_of (hardware size)) boot history store rules honest leg
+        follows (system_of (hardware size)) boot history store rules honest leg known.0 known.1
         (All-contains (BeginsAtBase store) (front ++ leg ∷ back) leg planned_parts.bases among)
         (All-contains (EndsInside store) (front ++ leg ∷ back) leg planned_parts.cuts among)
         (All-contains (HasEdges store) (front ++ leg ∷ back) leg planned_parts.edges among)
@@ -96,10 +97,10 @@ module _ (image : ImageContents) (legs : List PlannedLeg) (history : ℕ → Ter
     pages_now : length now.pages ≡ image.pages
     pages_now = (as_large found now (leg_turns leg order) stuck.run).pages ∙ pages_found
 
-    now_is : view (hardware image.pages) now ≡ run (system_of (hardware image.pages)) (history leg.term).start (leg_turns leg order)
+    now_is : view (hardware image.pages) now ≡ run (system_of (hardware image.pages)) known.0.told.start (leg_turns leg order)
     now_is =
         (is_run size found now (leg_turns leg order) pages_found stuck.run).is
-        ∙ ap (λ (x : Machine (Option Hart) (Option (List ℕ))). run (system_of (hardware size)) x (leg_turns leg order)) finds
+        ∙ ap (λ (x : Machine (Option Hart) (Option (List ℕ))). run (system_of (hardware size)) x (leg_turns leg order)) known.2
 
     abbrev StuckOn : ℕ → Machine (Option Hart) (Option (List ℕ)) → Type 0
     StuckOn n x = IsStuck (system_of (hardware n)) (log_of leg).edges (count_at leg.ends) (counts_after (log_of leg).start order) x
@@ -112,15 +113,16 @@ module _ (image : ImageContents) (legs : List PlannedLeg) (history : ℕ → Ter
 
 pub replays_history : (image : ImageContents) (legs : List PlannedLeg) (result : Result MachineState ReplayFault) → IfOk result (λ m. IsOutcome image legs m) →
     IfErr result (λ f. IsLegsFault image legs f) → ReplaysHistory image legs result
-replays_history image legs (Ok m) ok fault history store position rules honest planned = at_position image legs history store position rules honest planned m ok
+replays_history image legs (Ok m) ok fault history store position rules honest planned =
+    at_position image legs history store position rules (honest_in image history store honest) planned m ok
 replays_history image legs (Err (Cyclic counts)) ok at history store position rules honest planned =
     absurd
-    (never_stuck image legs history store position rules honest planned at.front at.leg at.back at.parts at.found at.led at.fault.order at.fault.machine
-    at.fault.stuck)
+    (never_stuck image legs history store position rules (honest_in image history store honest) planned at.front at.leg at.back at.parts at.found
+    at.led at.fault.order at.fault.machine at.fault.stuck)
 replays_history image legs (Err (HaltedInside hart count)) ok at history store position rules honest planned =
     absurd
-    (never_stuck image legs history store position rules honest planned at.front at.leg at.back at.parts at.found at.led at.fault.order at.fault.machine
-    at.fault.stuck)
+    (never_stuck image legs history store position rules (honest_in image history store honest) planned at.front at.leg at.back at.parts at.found
+    at.led at.fault.order at.fault.machine at.fault.stuck)
 replays_history image legs (Err OtherGuest) ok fault history store position rules honest planned = inl refl
 replays_history image legs (Err Memory) ok fault history store position rules honest planned = inr refl
 

@@ -24,12 +24,12 @@ boot_none : (harts number : ℕ) → (boot_hart harts number).count ≡ 0
 unfolding boot_hart
 boot_none harts number = refl
 
-booted_none : (harts : ℕ) (numbers : List ℕ) (hart : ℕ) → steps_taken (slice_get (map (boot_hart harts) numbers) hart) ≡ 0
+pub booted_none : (harts : ℕ) (numbers : List ℕ) (hart : ℕ) → steps_taken (slice_get (map (boot_hart harts) numbers) hart) ≡ 0
 booted_none harts [] hart = refl
 booted_none harts (number ∷ numbers) zero = boot_none harts number
 booted_none harts (number ∷ numbers) (suc hart) = booted_none harts numbers hart
 
-booted_length : (harts place n : ℕ) → length (map (boot_hart harts) (range_with_len place n)) ≡ n
+pub booted_length : (harts place n : ℕ) → length (map (boot_hart harts) (range_with_len place n)) ≡ n
 booted_length harts place zero = refl
 booted_length harts place (suc n) = ap suc (booted_length harts (place + 1) n)
 
@@ -50,7 +50,7 @@ legs_more [] leg m n k same leads = (k, subst (λ (x : MachineState). LegLeads l
 legs_more (first ∷ front) leg m n k (next, one, rest) leads = (next, one, legs_more front leg next n k rest leads)
 
 -- what a leg leaves
-left_counts : (leg : PlannedLeg) (m n : MachineState) → count_at leg.base ≡ counts_of m → LegLeads leg m n → counts_of n ≡ count_at leg.ends
+pub left_counts : (leg : PlannedLeg) (m n : MachineState) → count_at leg.base ≡ counts_of m → LegLeads leg m n → counts_of n ≡ count_at leg.ends
 left_counts leg m n base (order, schedule, run) =
     counts_ran m n (log_of leg).inputs order (ap (λ (now : ℕ → ℕ). run_of m (turns_of (log_of leg).inputs now order)) (sym base) ∙ run)
     ∙ ap (λ (now : ℕ → ℕ). counts_after now order) (sym base)
