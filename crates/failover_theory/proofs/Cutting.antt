@@ -1,0 +1,126 @@
+-- Pieces of a hart's log, in the words of the theory.
+use Rattle.std.proofs.Common.{◌≡◌, inl, inr, ℕ, ◌+◌, ◌&&◌, ◌<◌, ◌≤◌, Bool, true, false, cond, List, [], ◌∷◌, ◌++◌, length, map, Contains, filter, nat_lt, Some, refl, sym, ap, subst, ◌∙◌, arith, length-append}
+use Rattle.log_join.specs.Families.{end_of}
+use Rattle.std.specs.Prelude.{nat_le}
+use Rattle.std.specs.List.{filter_map}
+use Rattle.std.proofs.lemmas.Bool.{leb-true, le-leb, ltb-true, lt-ltb}
+use Rattle.std.proofs.lemmas.List.Elements.{Contains-append_right}
+use Rattle.interleaving.specs.Lists.{put}
+use Rattle.interleaving.specs.Log.{Edge}
+use Rattle.interleaving.proofs.Put.{put_same}
+use Rattle.interleaving.proofs.Cuts.{here_or_later, here}
+use Rattle.edge_log.specs.EdgeLog.{edge_as}
+use Rattle.ft_types.specs.declared.guest.Guest.{Guest}
+use Rattle.fragment_codec.specs.declared.types.Key.{Key}
+use Rattle.fragment_codec.specs.Rules.{FragmentParts}
+use Rattle.fragment_codec.specs.Pieces.{Facts, mark_behind, is_between, edge_in}
+use Rattle.log_join.specs.Stores.{IsFragmentOf}
+use Rattle.closed_cut.specs.Position.{edges_of, base_of}
+use Rattle.closed_cut.proofs.Lowerings.{found, contains_map}
+use Rattle.failover_theory.specs.Recorders.{Recorder}
+use Rattle.failover_theory.specs.Worlds.{Quorum, sealed, Seal, Then}
+use Rattle.failover_theory.specs.Sealings.{with_piece, PiecesAreCuts, SealsPieces}
+
+both : (a b : Bool) → (a && b) ≡ true → record { 0 : a ≡ true; 1 : b ≡ true }
+both true true e = (refl, refl)
+both true false e = cc
+both false b e = cc
+
+in_filter : {A : Type 0} (P : A → Bool) (xs : List A) (x : A) → Contains (filter P xs) x → record { 0 : Contains xs x; 1 : P x ≡ true }
+in_filter P [] x (k, below, is) = absurd (omega arith)
+in_filter {A} P (y ∷ ys) x has = by (in_filter P ys x) (P y) refl has
+  where
+    by : (Contains (filter P ys) x → record { 0 : Contains ys x; 1 : P x ≡ true }) → (b : Bool) → P y ≡ b →
+        Contains (cond b (y ∷ filter P ys) (filter P ys)) x →
+        record { 0 : Contains (y ∷ ys) x; 1 : P x ≡ true }
+    by rec true e h =
+        elim (here_or_later y (filter P ys) x h) [
+          | inl same ↦ (subst (Contains (y ∷ ys)) same (here y ys), ap P (sym same) ∙ e)
+          | inr later ↦ let r = rec later in (Contains-append_right (y ∷ []) ys x r.0, r.1)
+        ]
+    by rec false e h = let r = rec h in (Contains-append_right (y ∷ []) ys x r.0, r.1)
+
+of_filter : {A : Type 0} (P : A → Bool) (xs : List A) (x : A) → Contains xs x → P x ≡ true → Contains (filter P xs) x
+of_filter P [] x (k, below, is) fine = absurd (omega arith)
+of_filter {A} P (y ∷ ys) x has fine = by (λ later. of_filter P ys x later fine) (P y) refl
+  where
+    by : (Contains ys x → Contains (filter P ys) x) → (b : Bool) → P y ≡ b → Contains (cond b (y ∷ filter P ys) (filter P ys)) x
+    by rec true e =
+        elim (here_or_later y ys x has) [
+          | inl same ↦ subst (Contains (y ∷ filter P ys)) same (here y (filter P ys))
+          | inr later ↦ Contains-append_right (y ∷ []) (filter P ys) x (rec later)
+        ]
+    by rec false e =
+        elim (here_or_later y ys x has) [
+          | inl same ↦ let f : true ≡ false = sym fine ∙ (ap P (sym same) ∙ e) in cc
+          | inr later ↦ rec later
+        ]
+
+between : (from to n : ℕ) → from ≤ n → n < to → is_between from to n ≡ true
+between from to n lo hi = rw (le-leb from n lo) (lt-ltb n to hi)
+
+end_more : (from : ℕ) (xs : List FragmentParts) (x : FragmentParts) → end_of from (xs ++ x ∷ []) ≡ x.to
+end_more from [] x = refl
+end_more from (y ∷ xs) x = end_more y.to xs x
+
+module _ {Book Fact : Type 0} (recorder : Recorder Book Fact) where
+  pub piece_is_cut : PiecesAreCuts recorder
+  piece_is_cut b log mark x of_book piece =
+      record {
+        rises = piece.rules.some;
+        settled =
+            let s : log.settled ≤ recorder.counts b log.hart = of_book.settled in
+            elim piece.far [ inl e ↦ omega arith | inr (less, many) ↦ omega arith ];
+        has =
+            λ e has hart lo hi.
+            let y = found log.facts.edges e ((of_book.edges e).1 (has, hart)) in
+            let at : y.edge.at ≡ e.step = ap (λ (e : Edge). e.step) y.is in
+            let into : Contains (filter (λ e. is_between x.from x.to e.at) log.facts.edges) y.edge =
+            of_filter (λ e. is_between x.from x.to e.at) log.facts.edges y.edge (y.place, y.below, sym y.here)
+            (between x.from x.to y.edge.at (omega arith) (omega arith)) in
+            subst (Contains (edges_of x)) y.is (contains_map (filter_map edge_in x.records) y.edge (subst (λ l. Contains l y.edge) (sym same) into));
+        only =
+            λ e has.
+            let y = found (filter_map edge_in x.records) e has in
+            let at : y.edge.at ≡ e.step = ap (λ (e : Edge). e.step) y.is in
+            let r = in_filter (λ e. is_between x.from x.to e.at) log.facts.edges y.edge (subst (λ l. Contains l y.edge) same (y.place, y.below, sym y.here)) in
+            let (lo, hi) = both (nat_le x.from y.edge.at) (nat_lt y.edge.at x.to) r.1 in
+            let low : x.from ≤ y.edge.at = leb-true x.from y.edge.at lo in
+            let high : y.edge.at < x.to = ltb-true y.edge.at x.to hi in
+            let own = (of_book.edges e).0 (subst (Contains (map edge_as log.facts.edges)) y.is (contains_map log.facts.edges y.edge r.0)) in
+            (own.0, own.1, omega arith, omega arith);
+      }
+    where
+      same : filter_map edge_in x.records ≡ filter (λ e. is_between x.from x.to e.at) log.facts.edges
+      same = ap (λ (f : Facts). f.edges) piece.exact
+
+  module _ (guest : Guest) (quorum : Quorum) where
+    pub seals_pieces : SealsPieces recorder guest quorum
+    seals_pieces w p log old new [] comes runs is of_guest of_term of_book marked pieces = comes
+    seals_pieces w p log old new (x ∷ xs) comes runs is of_guest of_term of_book marked (piece, rest) =
+        seals_pieces (sealed w p log.hart x) (with_piece p log.hart x) log (mark_behind x) new xs
+        (Then comes (Seal p log.hart x runs is rules (piece.begins ∙ marked.count) (piece_is_cut p.told log old x of_book piece))) runs
+        (put_same w.terms w.now w.now (Some (with_piece p log.hart x)) refl) of_guest of_term of_book
+        (
+        record {
+          place =
+              let a : x.key.place ≡ length (p.pieces log.hart) = ap (λ (k : Key). k.place) piece.key ∙ marked.place in
+              let b : length (p.pieces log.hart ++ x ∷ []) ≡ length (p.pieces log.hart) + 1 = length-append (p.pieces log.hart) (x ∷ []) in
+              ap (λ n. n + 1) a ∙ (sym b ∙ ap length (sym pieces_are));
+          count = sym (end_more (base_of p.opening log.hart) (p.pieces log.hart) x) ∙ ap (end_of (base_of p.opening log.hart)) (sym pieces_are);
+        }
+        )
+        rest
+      where
+        pieces_are : put p.pieces log.hart (p.pieces log.hart ++ x ∷ []) log.hart ≡ p.pieces log.hart ++ x ∷ []
+        pieces_are = put_same p.pieces log.hart log.hart (p.pieces log.hart ++ x ∷ []) refl
+
+        rules : IsFragmentOf guest (record { term = w.now; hart = log.hart; place = length (p.pieces log.hart) }) x
+        rules =
+            record {
+              rules = piece.rules;
+              same_guest = piece.same_guest ∙ of_guest;
+              same_key =
+                  piece.key ∙
+                  (λ i. record { term = of_term i; hart = log.hart; place = marked.place i });
+            }

@@ -1,0 +1,13 @@
+pub mod Growing
+pub mod Walks
+pub mod Fate
+pub mod Stores
+pub mod Invariant
+pub mod Events
+pub mod Reaching
+pub mod Ruled
+pub mod Granting
+pub mod Example
+pub mod Recording
+pub mod Cutting
+pub mod Apply

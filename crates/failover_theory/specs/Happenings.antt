@@ -1,0 +1,117 @@
+-- Events as they are asked for, one after the other; a refused one changes nothing.
+use Rattle.std.specs.Prelude.{ℕ, zero, suc, ◌≡◌, ◌+◌, ◌^◌, ◌&&◌, ◌==◌, Bool, true, false, cond, List, [], ◌∷◌, length, nat_lt, Option, Some, None}
+use Rattle.log_join.specs.Families.{Past, end_of}
+use Rattle.std.specs.Prelude.{slice_get}
+use Rattle.std.specs.List.{AllByRecursion}
+use Rattle.interleaving.specs.Lists.{put}
+use Rattle.ft_types.specs.Counts.{count_at, IsCount}
+use Rattle.ft_types.specs.declared.guest.Guest.{Guest}
+use Rattle.fragment_codec.specs.declared.types.Key.{Key}
+use Rattle.fragment_codec.specs.Rules.{FragmentParts, IsGuest}
+use Rattle.log_join.specs.Stores.{StoreView, IsStore, IsFragmentOf, IsJoin, nothing, alone}
+use Rattle.closed_cut.specs.Position.{base_of, IsPosition}
+use Rattle.closed_cut.specs.declared.answer.Position.{Position}
+use Rattle.failover_theory.specs.Lists.{how_many, option}
+use Rattle.failover_theory.specs.Recorders.{Recorder, IsBoot, GoesTo, LivesOn, IsCutOf}
+use Rattle.failover_theory.specs.Families.{IsCutFrom}
+use Rattle.failover_theory.specs.Worlds.{World, Quorum, stepped, sealed, held, granted, first_world}
+use Rattle.failover_theory.specs.Laws.{IsFailover}
+
+pub data Event (Input : Type 0) : Type 0 where
+  Steps : Input → Event Input
+  Offers : Input → Event Input
+  Seals : (hart upto : ℕ) → Event Input
+  Delivers : (keeper frame : ℕ) → Event Input
+  Joins : (keeper other : ℕ) → Event Input
+  Acknowledges : (keeper : ℕ) → Event Input
+  Releases : (hart number : ℕ) → Event Input
+  Stops : Event Input
+  Loses : (keeper : ℕ) → Event Input
+  Grants : (term : ℕ) (chosen : ℕ → Bool) → Event Input
+
+-- each of the first n that is chosen has a store
+abbrev pub all_there : (ℕ → Option StoreView) → (ℕ → Bool) → ℕ → Bool
+all_there stores chosen zero = true
+all_there stores chosen (suc n) = cond (chosen n) (option (stores n) false (λ s. all_there stores chosen n)) (all_there stores chosen n)
+
+module _ {Book Fact : Type 0} (recorder : Recorder Book Fact) (guest : Guest) where
+  -- what begins books, takes steps, joins stores, finds positions, and cuts pieces or can't
+  pub record Tools (Input : Type 0) : Type 0 where
+    pub boot : Book
+    pub boots : IsBoot recorder boot
+    pub step : Book → Input → Book
+    pub steps : (b : Book) (i : Input) → GoesTo recorder b (step b i)
+    pub live : Book → (ℕ → ℕ) → Book
+    pub lives : (b : Book) (cut : ℕ → ℕ) → IsCutOf recorder b cut → LivesOn recorder b cut (live b cut)
+    pub join : StoreView → StoreView → StoreView
+    pub joins : (a b : StoreView) → IsJoin a b (join a b)
+    pub position : StoreView → Position
+    pub finds : (s : StoreView) → IsStore s → IsPosition s (position s)
+    pub harts_are : (s : StoreView) → IsStore s → length (position s).counts ≡ s.guest.harts
+    pub counts_are : (s : StoreView) → IsStore s → AllByRecursion IsCount (position s).counts
+    pub piece : Book → Key → ℕ → ℕ → Option FragmentParts  -- of a key, from and to a count
+    pub cuts : (b : Book) (k : Key) (from to : ℕ) (x : FragmentParts) → piece b k from to ≡ Some x →
+        IsFragmentOf guest k x × (x.from ≡ from) × IsCutFrom recorder b k.hart x
+
+  module _ {Input : Type 0} (tools : Tools Input) (quorum : Quorum) where
+    -- the join of the chosen keepers' stores
+    abbrev pub all_of : (ℕ → Option StoreView) → (ℕ → Bool) → ℕ → StoreView
+    all_of stores chosen zero = nothing guest
+    all_of stores chosen (suc n) = cond (chosen n) (option (stores n) (all_of stores chosen n) (λ r. tools.join r (all_of stores chosen n)))
+        (all_of stores chosen n)
+
+    -- the key of the next piece of a hart of the live term
+    abbrev pub next_key : World Book → Past Book → ℕ → Key
+    next_key w p hart = record { term = w.now; hart = hart; place = length (p.pieces hart) }
+
+    -- the new book at a position: at boot where it has no term
+    abbrev pub book_at : World Book → Position → Book
+    book_at w p = option (w.terms p.term) tools.boot (λ q. tools.live q.told (count_at p.counts))
+
+    -- what comes of an event; the world as it is, where it is refused
+    abbrev pub apply : World Book → Event Input → World Book
+    apply w (Steps i) = cond w.runs (option (w.terms w.now) w (λ p. stepped w p (tools.step p.told i))) w
+    apply w (Offers i) = w
+    apply w (Seals hart upto) =
+        cond w.runs
+        (
+        option (w.terms w.now) w
+        (λ p. option (tools.piece p.told (next_key w p hart) (end_of (base_of p.opening hart) (p.pieces hart)) upto) w (λ x. sealed w p hart x))
+        )
+        w
+    apply w (Delivers keeper frame) =
+        option (w.stores keeper) w (λ s. option (slice_get w.sent frame) w (λ f. held w keeper (tools.join s (alone f))))
+    apply w (Joins keeper other) = option (w.stores keeper) w (λ s. option (w.stores other) w (λ r. held w keeper (tools.join s r)))
+    apply w (Acknowledges keeper) =
+        option (w.stores keeper) w (λ s. cond ((tools.position s).term == w.now)
+        (record w { acked = put w.acked keeper (count_at (tools.position s).counts) }) w)
+    apply w (Releases hart number) =
+        cond w.runs
+        (
+        option (w.terms w.now) w
+        (λ p.
+        option (slice_get (recorder.outputs p.told hart) number) w
+        (λ o.
+        cond (nat_lt quorum.need (suc (how_many quorum.keepers (λ keeper. nat_lt o.step (w.acked keeper hart)))))
+        (record w { released = record { term = w.now; hart = hart; number = number; output = o } ∷ w.released }) w))
+        )
+        w
+    apply w Stops = record w { runs = false }
+    apply w (Loses keeper) = record w { stores = put w.stores keeper None }
+    apply w (Grants term chosen) =
+        cond w.runs w
+        (
+        cond (((nat_lt w.now term && nat_lt term (2 ^ 32)) && all_there w.stores chosen quorum.keepers) && nat_lt quorum.keepers
+        (quorum.need + how_many quorum.keepers chosen))
+        (granted guest w term (tools.position (all_of w.stores chosen quorum.keepers)) (book_at w (tools.position (all_of w.stores chosen quorum.keepers)))) w
+        )
+
+    -- what comes of a list of events
+    abbrev pub apply_all : World Book → List (Event Input) → World Book
+    apply_all w [] = w
+    apply_all w (e ∷ events) = apply_all (apply w e) events
+
+  -- so for every list of events, refused ones among them
+  abbrev pub AfterEvents : Type 0 → Quorum → Type 0
+  AfterEvents Input quorum = IsGuest guest → (tools : Tools Input) → (events : List (Event Input)) →
+      IsFailover recorder quorum (apply_all tools quorum (first_world guest tools.boot) events)

@@ -1,0 +1,131 @@
+-- A primary, keepers of its log, a gate for its outputs, and those who go live after it.
+use Rattle.std.specs.Prelude.{ℕ, suc, ◌≡◌, ◌+◌, ◌<◌, ◌≤◌, Bool, true, false, List, [], ◌∷◌, ◌++◌, length, replicate, Contains, nat_lt, Option, Some, None}
+use Rattle.log_join.specs.Families.{Past, end_of}
+use Rattle.std.specs.Prelude.{slice_get}
+use Rattle.interleaving.specs.Lists.{put}
+use Rattle.ft_types.specs.Counts.{count_at}
+use Rattle.ft_types.specs.declared.guest.Guest.{Guest}
+use Rattle.fragment_codec.specs.declared.frame.Frame.{Frame}
+use Rattle.fragment_codec.specs.declared.frame.Frame.TheVariants.{Log, Opening}
+use Rattle.fragment_codec.specs.Rules.{FragmentParts, OpeningParts, IsOpening}
+use Rattle.log_join.specs.Stores.{StoreView, IsFragmentOf, IsJoin, nothing, alone}
+use Rattle.closed_cut.specs.Position.{base_of, IsPosition}
+use Rattle.closed_cut.specs.declared.answer.Position.{Position}
+use Rattle.failover_theory.specs.Lists.{how_many}
+use Rattle.failover_theory.specs.Recorders.{Output, Recorder, IsBoot, GoesTo, LivesOn}
+use Rattle.failover_theory.specs.Families.{IsCutFrom}
+
+-- an output that went out
+pub record Released : Type 0 where
+  pub term : ℕ
+  pub hart : ℕ
+  pub number : ℕ
+  pub output : Output
+
+pub record World (Book : Type 0) : Type 0 where
+  pub now : ℕ  -- the term granted last
+  pub runs : Bool  -- its primary runs
+  pub terms : ℕ → Option (Past Book)
+  pub sent : List Frame
+  pub stores : ℕ → Option StoreView  -- a keeper's, until it is lost
+  pub acked : ℕ → ℕ → ℕ  -- by keeper and hart, in this term
+  pub released : List Released
+
+-- how many keepers there are, and how many acknowledge a release
+pub record Quorum : Type 0 where
+  pub keepers : ℕ
+  pub need : ℕ
+
+-- the store is the join of those of the chosen keepers below n, each of which has one
+pub data Joined (guest : Guest) (stores : ℕ → Option StoreView) (chosen : ℕ → Bool) : ℕ → StoreView → Type 0 where
+  NoneYet : Joined guest stores chosen 0 (nothing guest)
+  Skip : {n : ℕ} {s : StoreView} → chosen n ≡ false → Joined guest stores chosen n s → Joined guest stores chosen (suc n) s
+  Take : {n : ℕ} {s t : StoreView} (r : StoreView) → chosen n ≡ true → stores n ≡ Some r → Joined guest stores chosen n s → IsJoin r s t →
+      Joined guest stores chosen (suc n) t
+
+-- the opening of a term that goes live at a position
+abbrev pub new_opening : Guest → ℕ → Position → OpeningParts
+new_opening guest u p = record { guest = guest; term = u; parent = p.term; base = p.counts }
+
+abbrev pub first_opening : Guest → OpeningParts
+first_opening guest = record { guest = guest; term = 1; parent = 0; base = replicate guest.harts 0 }
+
+abbrev pub first_term : {Book : Type 0} → Guest → Book → Past Book
+first_term guest b = record { opening = first_opening guest; told = b; pieces = λ hart. [] }
+
+abbrev pub first_world : {Book : Type 0} → Guest → Book → World Book
+first_world guest b =
+    record {
+      now = 1;
+      runs = true;
+      terms = put (λ term. None) 1 (Some (first_term guest b));
+      sent = Opening ((first_term guest b).opening) ∷ [];
+      stores = λ keeper. Some (nothing guest);
+      acked = λ keeper hart. 0;
+      released = [];
+    }
+
+-- the term that goes live at a position, with this book
+abbrev pub new_term : {Book : Type 0} → Guest → ℕ → Position → Book → Past Book
+new_term guest u p b = record { opening = new_opening guest u p; told = b; pieces = λ hart. [] }
+
+abbrev pub stepped : {Book : Type 0} → World Book → Past Book → Book → World Book
+stepped w p b = record w { terms = put w.terms w.now (Some (record p { told = b })) }
+
+abbrev pub sealed : {Book : Type 0} → World Book → Past Book → ℕ → FragmentParts → World Book
+sealed w p hart x =
+    record w {
+      terms = put w.terms w.now (Some (record p { pieces = put p.pieces hart (p.pieces hart ++ x ∷ []) }));
+      sent = w.sent ++ Log x ∷ [];
+    }
+
+abbrev pub held : {Book : Type 0} → World Book → ℕ → StoreView → World Book
+held w keeper s = record w { stores = put w.stores keeper (Some s) }
+
+abbrev pub granted : {Book : Type 0} → Guest → World Book → ℕ → Position → Book → World Book
+granted guest w u p b =
+    record w {
+      now = u;
+      runs = true;
+      terms = put w.terms u (Some (new_term guest u p b));
+      sent = w.sent ++ Opening (new_opening guest u p) ∷ [];
+      acked = λ keeper hart. 0;
+    }
+
+module _ {Book Fact : Type 0} (recorder : Recorder Book Fact) where
+  -- the book begins at the position: at the machine of the position's term at its counts, or at boot where it has no term
+  pub data BeginsAt (terms : ℕ → Option (Past Book)) (p : Position) (b : Book) : Type 0 where
+    AtBoot : terms p.term ≡ None → IsBoot recorder b → BeginsAt terms p b
+    AtCut : (q : Past Book) → terms p.term ≡ Some q → LivesOn recorder q.told (count_at p.counts) b → BeginsAt terms p b
+
+module _ {Book Fact : Type 0} (recorder : Recorder Book Fact) (guest : Guest) (quorum : Quorum) where
+  -- what may happen next
+  pub data Happens (w : World Book) : World Book → Type 0 where
+    -- an input is offered, which only waits, or an event is refused
+    Idle : Happens w w
+    Step : (p : Past Book) (b : Book) → w.runs ≡ true → w.terms w.now ≡ Some p → GoesTo recorder p.told b → Happens w (stepped w p b)
+    -- one piece of one hart goes out
+    Seal : (p : Past Book) (hart : ℕ) (x : FragmentParts) → w.runs ≡ true → w.terms w.now ≡ Some p →
+        IsFragmentOf guest (record { term = w.now; hart = hart; place = length (p.pieces hart) }) x →
+        x.from ≡ end_of (base_of p.opening hart) (p.pieces hart) → IsCutFrom recorder p.told hart x → Happens w (sealed w p hart x)
+    -- any frame that was sent comes to any keeper
+    Deliver : (keeper : ℕ) (s r : StoreView) (f : Frame) → w.stores keeper ≡ Some s → Contains w.sent f → IsJoin s (alone f) r → Happens w (held w keeper r)
+    Join : (keeper other : ℕ) (s t r : StoreView) → w.stores keeper ≡ Some s → w.stores other ≡ Some t → IsJoin s t r → Happens w (held w keeper r)
+    Acknowledge : (keeper : ℕ) (s : StoreView) (p : Position) → w.stores keeper ≡ Some s → IsPosition s p → p.term ≡ w.now →
+        Happens w (record w { acked = put w.acked keeper (count_at p.counts) })
+    -- `need` keepers acknowledged more than its step, by what the gate has noted of them so far
+    Release : (p : Past Book) (hart number : ℕ) (o : Output) (noted : ℕ → ℕ) → w.runs ≡ true → w.terms w.now ≡ Some p →
+        slice_get (recorder.outputs p.told hart) number ≡ Some o → ((keeper : ℕ) → noted keeper ≤ w.acked keeper hart) →
+        quorum.need ≤ how_many quorum.keepers (λ keeper. nat_lt o.step (noted keeper)) →
+        Happens w (record w { released = record { term = w.now; hart = hart; number = number; output = o } ∷ w.released })
+    Stop : Happens w (record w { runs = false })
+    Lose : (keeper : ℕ) → Happens w (record w { stores = put w.stores keeper None })
+    -- a term goes live from the stores of more than keepers - need keepers
+    Grant : (u : ℕ) (chosen : ℕ → Bool) (all : StoreView) (p : Position) (b : Book) → w.runs ≡ false → w.now < u →
+        Joined guest w.stores chosen quorum.keepers all → quorum.keepers < quorum.need + how_many quorum.keepers chosen →
+        IsPosition all p → IsOpening (new_opening guest u p) → BeginsAt recorder w.terms p b → Happens w (granted guest w u p b)
+
+  -- what can have come of the first world
+  pub data Comes : World Book → Type 0 where
+    Begins : (b : Book) → IsBoot recorder b → Comes (first_world guest b)
+    Then : {w v : World Book} → Comes w → Happens w v → Comes v
