@@ -1,0 +1,13 @@
+//! Going live: from the stores of enough keepers comes a book that goes on where their log ends, in a new term.
+#![tactic(auto)]
+
+mod fault;
+mod joining;
+mod laws;
+mod live;
+mod outputs;
+mod quorum;
+
+pub use fault::LiveFault;
+pub use laws::live_histories;
+pub use live::{Live, go_live};

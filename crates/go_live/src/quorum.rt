@@ -1,0 +1,57 @@
+//! Whether keepers, terms and stores are those that a primary may go live with.
+
+ghost use Rattle.std.specs.Prelude.{◌≡◌, ◌≢◌, ◌<◌, ◌≤◌, ◌-◌, ◌+◌, ◌↔◌, map, IsTrue, All};
+ghost use Rattle.std.specs.List.{Any};
+ghost use Rattle.go_live.specs.Quorums.{distinct, AreEnough, IsNew, IsOld};
+ghost use Rattle.log_join.specs.Tests.{same_guest};
+
+use ft_types::{Guest, Keeper, KeeperSet, Term};
+use log_join::Store;
+
+/// Of how many keepers the stores are.
+fn keepers_of(stores: &[(Keeper, &Store)]) -> usize
+    ensures { result ≡ distinct (map (λ s. s.0) stores.now) }
+{
+    let mut keepers = KeeperSet::new();
+    for (keeper, _) in stores {
+        keepers = keepers.with(keeper.number());
+    }
+    keepers.len()
+}
+
+/// Whether the stores are of more keepers than can be left out where `need` hold an output.
+pub(crate) fn are_enough(stores: &[(Keeper, &Store)], keepers: u8, need: u8) -> bool
+    requires { need ≤ keepers }
+    ensures { IsTrue result ↔ AreEnough keepers need (map (λ s. s.0) stores.now) }
+{
+    keepers_of(stores) > usize::from(keepers - need)
+}
+
+/// Whether the term is not 0, and greater than that of every key in the stores.
+pub(crate) fn is_new(stores: &[(Keeper, &Store)], term: Term) -> bool
+    ensures new { IsTrue result → IsNew (map (λ s. s.1.now) stores.now) term }
+    ensures old { (IsTrue result → ⊥) → IsOld (map (λ s. s.1.now) stores.now) term }
+{
+    if term == 0 {
+        return false;
+    }
+    for (_, store) in stores {
+        if store.last_term() >= term {
+            return false;
+        }
+    }
+    true
+}
+
+/// Whether all stores are of this guest.
+pub(crate) fn are_of(stores: &[(Keeper, &Store)], guest: &Guest) -> bool
+    ensures own { IsTrue result → All (λ s. s.guest ≡ guest.now) (map (λ s. s.1.now) stores.now) }
+    ensures foreign { (IsTrue result → ⊥) → Any (λ s. s.guest ≢ guest.now) (map (λ s. s.1.now) stores.now) }
+{
+    for (_, store) in stores {
+        if store.guest() != *guest {
+            return false;
+        }
+    }
+    true
+}
