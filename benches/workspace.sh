@@ -13,6 +13,7 @@ workspace() {
     uses=$3
     shift 3
     mkdir "$work/crates"
+    cp "$top/HANDLES" "$work/"
     for crate in $crates; do
         mkdir "$work/crates/$crate"
         for part in src specs proofs ${kept:+out}; do
@@ -20,7 +21,7 @@ workspace() {
                 cp -R "$top/crates/$crate/$part" "$work/crates/$crate/"
             fi
         done
-        grep "^$crate:" "$top/crates.txt" >> "$work/crates.txt"
+        grep "^$crate[ :]" "$top/crates.txt" >> "$work/crates.txt"
     done
     cp -R "$here/$name" "$work/crates/"
     # The gate reads each .rt and .antt file as a part of a crate, so those of benchmarks end in .rt.txt and .antt.txt.
