@@ -104,6 +104,7 @@ run_block() {
 
 for document in README.md docs/GUIDE.md; do
     blocks "$fresh/$document" "$work/$(basename "$document")"
+    [ -f "$work/$(basename "$document")/001" ] || fail "$document: it prints no command" < /dev/null
     for block in "$work/$(basename "$document")"/*; do
         why=$(lacks "$block")
         if [ -n "$why" ]; then
