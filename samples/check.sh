@@ -42,8 +42,8 @@ lacks() {
         echo "it proves every crate below the program, for half an hour"
     elif grep -q 'apt-get' "$1"; then
         echo "it installs packages"
-    elif grep -q 'make ' "$1" && ! command -v riscv64-unknown-elf-gcc > /dev/null; then
-        echo "no riscv64-unknown-elf-gcc is installed"
+    elif grep -q 'make ' "$1" && [ "$(riscv64-unknown-elf-gcc -dumpfullversion 2> /dev/null)" != 12.2.0 ]; then
+        echo "riscv64-unknown-elf-gcc 12.2.0 is not installed"
     elif grep -q 'broker' "$1" && ! command -v redis-server > /dev/null; then
         echo "no redis-server is installed"
     fi
@@ -71,7 +71,7 @@ commands() {
         NR == FNR { session = session || /^\$ /; next }
         !session || /^\$ / {
             number++
-            print session ? substr($0, 3) : $0 > (typed "/" number)
+            print (session ? substr($0, 3) : $0) > (typed "/" number)
             if (session) printf "" > (shown "/" number)
             next
         }
