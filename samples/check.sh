@@ -37,7 +37,7 @@ fail() {
 # lacks BLOCK: why a block is left out; nothing where it is run.
 lacks() {
     if grep -q '\.ci/run' "$1"; then
-        echo "it is the gate, which runs this check"
+        echo "it is the whole gate, for most of an hour"
     elif grep -q 'rt run' "$1"; then
         echo "it proves every crate below the program, for half an hour"
     elif grep -q 'apt-get' "$1"; then
@@ -108,7 +108,8 @@ for document in README.md docs/GUIDE.md; do
     for block in "$work/$(basename "$document")"/*; do
         why=$(lacks "$block")
         if [ -n "$why" ]; then
-            sed "s|^|left out of $document, since $why: |" "$block"
+            commands "$block"
+            sed "s|^|left out of $document, since $why: |" "$work"/typed/*
         else
             run_block "$document" "$block"
         fi
