@@ -1,0 +1,135 @@
+#!/bin/sh
+# check.sh [PROGRAM]: runs what README.md and docs/GUIDE.md print, as printed, in a fresh copy of the repository, and compares the answers
+# that they show; then runs each guest of guests/ and replays its log. PROGRAM is the built workbench, by itself the one that `.ci/run`
+# and `rt run` leave. The last line is 'N passed, N failed'. Needs rt; what needs more is left out where that is not there.
+#
+# In these documents each indented block is typed into a shell of its own at the top of the repository. Where it has lines that begin with
+# '$ ', these are the commands, and the lines below each are all that it answers. Where it has none, each line is a command.
+set -u
+top=$(cd "$(dirname "$0")/.." && pwd)
+program=${1:-$top/crates/workbench/out/workbench}
+work=$(mktemp -d)
+trap 'rm -rf "$work"' EXIT
+fresh=$work/fresh
+passed=0
+failed=0
+
+if [ ! -x "$program" ]; then
+    echo "there is no $program: build it by .ci/run, or by rt run in crates/workbench"
+    exit 2
+fi
+mkdir "$fresh"
+tar -C "$top" --exclude=./.git --exclude=out -cf - . | tar -C "$fresh" -xf -
+mkdir -p "$fresh/crates/workbench/out"
+cp "$program" "$fresh/crates/workbench/out/workbench"
+
+pass() {
+    passed=$((passed + 1))
+}
+
+# fail WHAT: counts it, and shows what standard input has of it.
+fail() {
+    failed=$((failed + 1))
+    echo "failed: $1"
+    sed -n '1,20s/^/    /p'
+}
+
+# lacks BLOCK: why a block is left out; nothing where it is run.
+lacks() {
+    if grep -q '\.ci/run' "$1"; then
+        echo "it is the whole gate, for most of an hour"
+    elif grep -q 'rt run' "$1"; then
+        echo "it proves every crate below the program, for half an hour"
+    elif grep -q 'apt-get' "$1"; then
+        echo "it installs packages"
+    elif grep -q 'make ' "$1" && [ "$(riscv64-unknown-elf-gcc -dumpfullversion 2> /dev/null)" != 12.2.0 ]; then
+        echo "riscv64-unknown-elf-gcc 12.2.0 is not installed"
+    elif grep -q 'broker' "$1" && ! command -v redis-server > /dev/null; then
+        echo "no redis-server is installed"
+    fi
+}
+
+# blocks DOCUMENT FOLDER: writes the indented blocks into the folder, each into a file with its number.
+blocks() {
+    mkdir "$2"
+    awk -v folder="$2" '
+        /^```/ { fenced = !fenced }
+        !fenced && /^    / {
+            block += !inside
+            inside = 1
+            print substr($0, 5) > sprintf("%s/%03d", folder, block)
+            next
+        }
+        { inside = 0 }' "$1"
+}
+
+# commands BLOCK: writes the block's commands to the files 1, 2, .. of `typed`, and what they should answer, where it is shown, to `shown`.
+commands() {
+    rm -rf "$work/typed" "$work/shown" "$work/said"
+    mkdir "$work/typed" "$work/shown" "$work/said"
+    awk -v typed="$work/typed" -v shown="$work/shown" '
+        NR == FNR { session = session || /^\$ /; next }
+        !session || /^\$ / {
+            number++
+            print (session ? substr($0, 3) : $0) > (typed "/" number)
+            if (session) printf "" > (shown "/" number)
+            next
+        }
+        { print > (shown "/" number) }' "$1" "$1"
+}
+
+# run_block DOCUMENT BLOCK: runs its commands in one shell, and judges each by its status and its answer.
+run_block() {
+    commands "$2"
+    count=$(ls "$work/typed" | wc -l)
+    for number in $(seq "$count"); do
+        echo "{"
+        cat "$work/typed/$number"
+        echo "} > '$work/said/$number' 2>&1 < /dev/null"
+        echo "echo \$? > '$work/said/$number.status'"
+    done > "$work/script"
+    (cd "$fresh" && sh "$work/script")
+    for number in $(seq "$count"); do
+        said=$work/said/$number
+        command=$(cat "$work/typed/$number")
+        if [ "$(cat "$said.status")" != 0 ]; then
+            fail "$1: $command: status $(cat "$said.status")" < "$said"
+        elif [ -f "$work/shown/$number" ] && ! diff "$work/shown/$number" "$said" > "$work/differs"; then
+            fail "$1: $command: it shows another answer" < "$work/differs"
+        else
+            pass
+        fi
+    done
+}
+
+for document in README.md docs/GUIDE.md; do
+    blocks "$fresh/$document" "$work/$(basename "$document")"
+    [ -f "$work/$(basename "$document")/001" ] || fail "$document: it prints no command" < /dev/null
+    for block in "$work/$(basename "$document")"/*; do
+        why=$(lacks "$block")
+        if [ -n "$why" ]; then
+            commands "$block"
+            sed "s|^|left out of $document, since $why: |" "$work"/typed/*
+        else
+            run_block "$document" "$block"
+        fi
+    done
+done
+
+# Each guest's outputs are those that stand beside its source, and its log replays to the text that its run printed.
+for image in "$top"/guests/images/*.image; do
+    guest=$(basename "$image" .image)
+    at=$work/$guest
+    source=$top/guests/$guest
+    if ! "$program" run "$image" "$source/script" 1000000 "$at.log" > "$at.text" 2> "$at.faults"; then
+        fail "the run of $guest" < "$at.faults"
+        continue
+    fi
+    awk -f "$top/guests/kit/outputs.awk" "$at.text" > "$at.outputs"
+    if diff "$source/outputs" "$at.outputs" > "$at.differs"; then pass; else fail "the outputs of $guest" < "$at.differs"; fi
+    "$program" replay "$image" "$at.log" > "$at.replayed" 2>&1
+    if diff "$at.text" "$at.replayed" > "$at.differs"; then pass; else fail "the replay of $guest" < "$at.differs"; fi
+done
+
+echo "$passed passed, $failed failed"
+[ "$failed" = 0 ]
