@@ -38,7 +38,10 @@ fn next(alloc: Global, count: Count) -> Result<Live, Fail> {
 fn one_step_more(alloc: Global, count: Count) -> Result<(usize, Book<Recording>), Fail> {
     let hart = hart(0);
     let mut crew = Crew::new(next(alloc, count)?.book);
-    let refused = crew.play(alloc, &[(Act::Lend(hart), Said::Refused(BookFault::AtLimit))]);
+    let refused = crew.play(
+        alloc,
+        &[(Act::Lend(hart), Said::Refused(BookFault::AtLimit))],
+    );
     raise(&mut crew.book, count.saturating_add(1));
     let gone = crew.play(alloc, &[(Act::Run(hart), Said::Steps(1))]);
     Ok((refused.saturating_add(gone), crew.end()))
@@ -60,7 +63,10 @@ fn a_bell_that_nobody_heard_is_heard(rt: HostRuntime) -> Result<(), Fail> {
     assert_eq!(rt; bells(&live.book), Some((0, 1, 0)));
     let (played, book) = one_step_more(rt.alloc(), 2)?;
     assert_eq!(rt; played, 2);
-    assert_eq!(rt; book.inputs().at(hart(0), 2), [Input::Bell(hart(0))].as_slice());
+    assert_eq!(rt;
+        book.inputs().at(hart(0), 2),
+        [Input::Bell(hart(0))].as_slice()
+    );
     assert_eq!(rt; bells(&book), Some((8, 1, 1)));
     Ok(())
 }

@@ -21,18 +21,18 @@ fn ran(alloc: Global, image: &Image) -> Result<Book<Recording>, Fail> {
 }
 
 /// The stores of two keepers, to each of which the opening and every other piece came.
-fn stores_of(
-    alloc: Global,
-    image: &Image,
-    book: &Book<Recording>,
-) -> Result<(Store, Store), Fail> {
+fn stores_of(alloc: Global, image: &Image, book: &Book<Recording>) -> Result<(Store, Store), Fail> {
     let guest = image.guest();
     let opening = [opening_of(guest, 1, 0, &[0, 0])?];
     let mut first = store_of(alloc, guest, &opening)?;
     let mut second = store_of(alloc, guest, &opening)?;
     let pieces = cut(alloc, image, book, 1, &mut Sealed::new(Counts::zero(2)))?;
     for (place, piece) in pieces.iter().enumerate() {
-        let store = if place % 2 == 0 { &mut first } else { &mut second };
+        let store = if place % 2 == 0 {
+            &mut first
+        } else {
+            &mut second
+        };
         deliver(alloc, store, piece)?;
     }
     Ok((first, second))
