@@ -63,6 +63,22 @@ fn act(crew: &mut Crew<Recording>, alloc: Global, dice: &mut Dice) {
     };
 }
 
+/// The primary of the term from the stores of two of three keepers.
+fn live_from<'a>(
+    alloc: Global,
+    image: &Image,
+    (one, other): (u8, u8),
+    first: &'a Store,
+    second: &'a Store,
+    term: Term,
+) -> Result<Live, Fail> {
+    let stores = [
+        (Keeper::new(one % 3), first),
+        (Keeper::new(other % 3), second),
+    ];
+    Ok(granted(alloc, image, &stores, 3, 2, term)?)
+}
+
 impl World {
     fn new(alloc: Global, harts: u8, seed: u64) -> Result<World, Fail> {
         let image = talking(alloc, harts)?;
@@ -137,18 +153,13 @@ impl World {
 
     /// Two of the three keepers are there, and a primary of the term goes live.
     fn grant(&mut self, alloc: Global, term: Term) -> Result<Live, Fail> {
+        let lost = self.dice.roll() % 3;
         let [first, second, third] = &self.stores;
-        let all = [
-            (Keeper::new(0), first),
-            (Keeper::new(1), second),
-            (Keeper::new(2), third),
-        ];
-        let here = match self.dice.roll() % 3 {
-            0 => [all[1], all[2]],
-            1 => [all[0], all[2]],
-            _ => [all[0], all[1]],
-        };
-        Ok(granted(alloc, &self.image, &here, 3, 2, term)?)
+        match lost {
+            0 => live_from(alloc, &self.image, (1, 2), second, third, term),
+            1 => live_from(alloc, &self.image, (0, 2), first, third, term),
+            _ => live_from(alloc, &self.image, (0, 1), first, second, term),
+        }
     }
 
     /// Whether that is the machine that the terms recorded where the opening goes on.

@@ -6,7 +6,6 @@ use fragment_codec::Frame;
 use ft_types::{Count, Guest, Keeper, Memory, Term};
 use go_live::{Live, LiveFault, go_live};
 use guest_image::Image;
-use hart_replay::ReplayFault;
 use log_join::Store;
 use page_book::{Book, Recording};
 use std::alloc::Global;

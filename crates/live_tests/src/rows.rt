@@ -78,22 +78,19 @@ fn each_refusal_in_its_turn(rt: HostRuntime) -> Result<(), Fail> {
     let image = image_of(rt.alloc(), TWO_LOOPS)?;
     let (first, second) = two_stores(rt.alloc(), image.guest(), &[])?;
     let other = Store::new(rt.alloc(), image_of(rt.alloc(), HALTS)?.guest());
-    let [one, three] = [Keeper::new(1), Keeper::new(3)];
+    let (one, three) = (Keeper::new(1), Keeper::new(3));
     let both = [(one, &first), (three, &second)];
+    let old = Some(LiveFault::TermNotNew);
+    assert_eq!(rt; refusal(rt.alloc(), &image, &both, 2), old);
+    assert_eq!(rt; refusal(rt.alloc(), &image, &both, 0), old);
     let again = [(one, &second), (one, &second)];
+    let few = Some(LiveFault::TooFewStores);
+    assert_eq!(rt; refusal(rt.alloc(), &image, &again, 3), few);
+    assert_eq!(rt; refusal(rt.alloc(), &image, &again, 2), few);
     let foreign = [(one, &second), (three, &other)];
-    let other_guest = LiveFault::Replay(ReplayFault::OtherGuest);
-    let rows: [(&[(Keeper, &Store)], Term, LiveFault); 6] = [
-        (&both, 2, LiveFault::TermNotNew),
-        (&both, 0, LiveFault::TermNotNew),
-        (&again, 3, LiveFault::TooFewStores),
-        (&again, 2, LiveFault::TooFewStores),
-        (&foreign, 2, LiveFault::TermNotNew),
-        (&foreign, 3, other_guest),
-    ];
-    for (stores, term, fault) in rows {
-        assert_eq!(rt; refusal(rt.alloc(), &image, stores, term), Some(fault));
-    }
+    let other_guest = Some(LiveFault::Replay(ReplayFault::OtherGuest));
+    assert_eq!(rt; refusal(rt.alloc(), &image, &foreign, 2), old);
+    assert_eq!(rt; refusal(rt.alloc(), &image, &foreign, 3), other_guest);
     Ok(())
 }
 
