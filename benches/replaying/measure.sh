@@ -1,15 +1,18 @@
 #!/bin/sh
-# Counts what running four harts takes and what replaying their log does, and what a frame of a long log of small pieces costs
-# to join and to plan, by callgrind. Needs rt and valgrind on the PATH. Works in a folder of its own, which it removes.
+# Counts what running four harts takes and what replaying their log does, what going live from two stores of it does and what
+# joining and replaying these stores does, and what a frame of a long log of small pieces costs to join and to plan, by
+# callgrind. Needs rt and valgrind on the PATH. Works in a folder of its own, which it removes.
 set -eu
 
 here=$(cd "$(dirname "$0")" && pwd)
 . "$here/../workspace.sh"
 
-workspace replaying_bench "interleaving zaamo ft_types rv32_isa input_log rv32_hart edge_log guest_image crew_pages lease_ledger hart_lease book_modes page_book lease_rounds primary_pool fragment_codec log_join closed_cut hart_replay" "ft_types input_log guest_image page_book primary_pool fragment_codec log_join closed_cut hart_replay anyhow" run 1
+workspace replaying_bench "interleaving zaamo ft_types rv32_isa input_log rv32_hart edge_log guest_image crew_pages lease_ledger hart_lease book_modes page_book lease_rounds primary_pool fragment_codec log_join closed_cut hart_replay ack_core output_gate go_live" "ft_types input_log guest_image page_book primary_pool fragment_codec log_join closed_cut hart_replay go_live anyhow" run 1
 
 "$program" run 1
 "$program" replay 1
+"$program" live 1
+"$program" parts 1
 
 # What two more rounds cost, each.
 per_round() {
@@ -21,6 +24,10 @@ per_round() {
 a=$(per_round run)
 b=$(per_round replay)
 awk "BEGIN { printf \"run %d, replay %d instructions, ratio %.3f\n\", $a, $b, $b / $a }"
+
+a=$(per_round parts)
+b=$(per_round live)
+awk "BEGIN { printf \"joined and replayed %d, gone live %d instructions, ratio %.3f\n\", $a, $b, $b / $a }"
 
 for frames in 10000 100000 1000000; do
     made=$(count "$program" make "$frames")
