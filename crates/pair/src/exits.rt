@@ -1,11 +1,11 @@
 //! The gate's work: outputs are offered to it, and at each look those that enough keepers hold go out.
 
-ghost use Rattle.std.specs.Prelude.{◌≡◌, ◌++◌, ◌<◌, ℕ, IfOk, OnOk};
+ghost use Rattle.std.specs.Prelude.{◌≡◌, ◌++◌, ◌<◌, ℕ, IfOk, IfSome, OnOk};
 ghost use Rattle.std.specs.List.{AllByRecursion};
 ghost use Rattle.ack_core.specs.Seats.{harts_of, keepers_of, seen};
 ghost use Rattle.output_gate.specs.Gates.{noted_at, held_outputs};
 ghost use Rattle.output_gate.specs.Looks.{IsInside};
-ghost use Rattle.pair.specs.Exits.{AreNext, IsAtBoard};
+ghost use Rattle.pair.specs.Exits.{AreNext, IsAtBoard, IsNextOf};
 
 use crate::messages::ToGate;
 use ack_core::{Board, GateSeat};
@@ -29,22 +29,31 @@ pub(crate) fn no_offers() -> Offers {
     }
 }
 
-/// Offers an output to the gate, where it is its hart's next and of no earlier step than the last.
-fn offer(gate: &mut Gate, offers: &mut Offers, output: Output) -> Result<(), Memory>
+/// The offers with this output, where it is its hart's next and of no earlier step than the last.
+fn offers_with(offers: &Offers, output: &Output) -> Option<Offers>
+    ensures next { IfSome result (λ after. IsNextOf offers.now output.now after) }
+{
+    let hart = output.hart.index();
+    let next = output.number.checked_add(1)?;
+    if output.number != offers.numbers[hart] || output.step < offers.steps[hart] {
+        return None;
+    }
+    let mut after = *offers;
+    after.numbers[hart] = next;
+    after.steps[hart] = output.step;
+    Some(after)
+}
+
+/// Offers an output to the gate, where it is its hart's next.
+fn offer(gate: &mut Gate, offers: &mut Offers, output: &Output) -> Result<(), Memory>
     requires { AreNext gate.old offers.old }
     ensures next { OnOk result (AreNext gate.new offers.new) }
     ensures rest { gate.new ≡ record gate.old { lines = gate.new.lines } }
 {
-    let hart = output.hart.index();
-    let Some(next) = output.number.checked_add(1) else {
-        return Ok(());
-    };
-    if output.number != offers.numbers[hart] || output.step < offers.steps[hart] {
-        return Ok(());
+    if let Some(after) = offers_with(offers, output) {
+        gate.offer(*output)?;
+        *offers = after;
     }
-    gate.offer(output)?;
-    offers.numbers[hart] = next;
-    offers.steps[hart] = output.step;
     Ok(())
 }
 
@@ -60,7 +69,7 @@ pub(crate) fn take_in(
 {
     match message {
         ToGate::Offer(output) => {
-            offer(gate, offers, output)?;
+            offer(gate, offers, &output)?;
             Ok(false)
         }
         ToGate::Published => Ok(false),

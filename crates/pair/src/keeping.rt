@@ -25,10 +25,11 @@ pub fn is_due(held: usize, fresh: usize) -> bool
 
 /// Takes frames, those of another guest aside.
 pub(crate) fn take_all(store: &mut Store, frames: Vec<Frame>) -> Result<(), Memory>
-    ensures { OnOk result (AreTaken store.old frames.items store.new) }
+    ensures taken { OnOk result (AreTaken store.old frames.items store.new) }
+    ensures guest { store.new.guest ≡ store.old.guest }
 {
     for frame in frames {
-        let _put = store.put(frame)?;
+        store.put(frame)?;
     }
     Ok(())
 }
@@ -45,12 +46,9 @@ pub(crate) fn acknowledge(
     ensures seat { IsKeeperOf board.now seat.new }
     ensures tells { OnOk result (Tells board.now seat.old store.now seat.new) }
 {
-    let harts = board.harts();
+    let _harts = board.harts();
     let reached = position(alloc, store)?;
-    if reached.counts.harts() != harts {
-        return Ok(());
-    }
-    let _refused = board.publish(seat, &reached);
+    let _published = board.publish(seat, &reached);
     Ok(())
 }
 
@@ -65,6 +63,7 @@ pub(crate) fn keep(
     requires seat { IsKeeperOf board.now seat.old }
     requires harts { store.old.guest.harts ≡ harts_of board.now }
     ensures seat { IsKeeperOf board.now seat.new }
+    ensures guest { store.new.guest ≡ store.old.guest }
     ensures taken { OnOk result (AreTaken store.old frames.items store.new) }
     ensures tells { OnOk result (Tells board.now seat.old store.new seat.new) }
 {

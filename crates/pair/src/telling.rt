@@ -1,6 +1,7 @@
 //! What a machine has put out since it was last asked.
 
-ghost use Rattle.std.specs.Prelude.{◌≡◌, ◌++◌, ◌≤◌, ℕ, drop, length, IfOk, OnOk};
+ghost use Rattle.std.specs.Prelude.{◌≡◌, ◌+◌, ◌++◌, ◌<◌, ◌^◌, ℕ, Some, drop, length, slice_get, slice_index, IfOk, OnOk};
+ghost use Rattle.rv32_hart.specs.Hart.{Hart as HartRecord};
 ghost use Rattle.pair.specs.Telling.{numbered_from, outputs_since};
 
 use ft_types::{Count, Hart, Memory};
@@ -37,6 +38,20 @@ fn untold(said: &[(Count, u32)], told: usize) -> &[(Count, u32)]
     &said[told.min(said.len())..]
 }
 
+/// Adds the outputs of a hart, but for so many of each hart that were told.
+fn add_untold(
+    hart: Hart,
+    told: &[usize; 8],
+    said: &[(Count, u32)],
+    outputs: &mut Vec<Output>,
+) -> Result<(), Memory>
+    ensures { OnOk result (outputs.new.items ≡ outputs.old.items
+        ++ numbered_from hart (slice_index told.now hart) (drop (slice_index told.now hart) said.now)) }
+{
+    let first = told[hart.index()];
+    add_outputs(hart, first, untold(said, first), outputs)
+}
+
 /// The outputs of all harts, by hart and number, but for so many of each that were told.
 pub(crate) fn new_outputs(
     alloc: Global,
@@ -48,15 +63,15 @@ pub(crate) fn new_outputs(
     let mut outputs = Vec::new(alloc);
     for number in 0..machine.harts() {
         let hart = Hart::new(number);
-        let first = told[hart.index()];
-        let more = untold(machine.hart(hart).outputs(), first);
-        add_outputs(hart, first, more, &mut outputs)?;
+        add_untold(hart, told, machine.hart(hart).outputs(), &mut outputs)?;
     }
     Ok(outputs)
 }
 
 /// How many outputs each hart has.
-pub(crate) fn outputs_told(machine: &Machine) -> [usize; 8] {
+pub(crate) fn outputs_told(machine: &Machine) -> [usize; 8]
+    ensures { (hart : ℕ) (h : HartRecord) → slice_get machine.now.harts hart ≡ Some h → slice_index result hart ≡ length h.outputs }
+{
     let mut told = [0usize; 8];
     for number in 0..machine.harts() {
         let hart = Hart::new(number);
