@@ -1,3 +1,4 @@
 pub mod Offered
+pub mod Onward
 pub mod Taken
 pub mod Told

@@ -1,10 +1,10 @@
 //! How far a primary goes, round by round.
 
-ghost use Rattle.std.specs.Prelude.{◌≡◌, ◌+◌, ◌<◌, ◌≤◌, ◌↔◌, ◌⊎◌, ℕ, length, IsTrue, slice_get, Some};
-ghost use Rattle.ft_types.specs.Counts.{count_at};
+ghost use Rattle.std.specs.Prelude.{◌≡◌, ◌↔◌, length, IsTrue};
+ghost use Rattle.ft_types.specs.Counts.{IsWithin};
 ghost use Rattle.pair.specs.Rounds.{IsAtEnd, IsRoundFrom};
 
-use ft_types::{COUNT_LIMIT, Count, Counts, Hart};
+use ft_types::{Count, Counts, Hart};
 use guest_image::Machine;
 
 /// How many steps a round gives each hart, at the most.
@@ -14,6 +14,7 @@ pub(crate) const ROUND: u64 = 4096;
 pub(crate) fn round_end(counts: Counts, budget: u32) -> Counts
     ensures harts { length result ≡ length counts }
     ensures round { IsRoundFrom counts budget result }
+    ensures forward { IsWithin counts result }
 {
     let mut end = counts;
     for number in 0..counts.harts() {
