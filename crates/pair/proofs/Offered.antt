@@ -51,3 +51,11 @@ next_offered old new offers after o are is line others hart below = elim (cases_
       (ap (λ (l : LineView). l.gone ++ l.waiting) line ∙ sym (append_assoc (gone_of old o.hart) (waiting_of old o.hart) (o ∷ []))))
   | inr ne ↦ next_at_other old new offers after o hart ne (are hart below) is (ap (λ (l : LineView). l.gone ++ l.waiting) (others hart ne))
 ]
+
+-- nothing yet
+pub none_offered : (gate : GateView) (offers : Offers) → ((hart : ℕ) → hart < 8 → offered_of gate hart ≡ []) →
+    ((hart : ℕ) → hart < 8 → slice_index offers.numbers hart ≡ 0) → AreNext gate offers
+none_offered gate offers empty zero hart below = (
+  zero hart below ∙ ap (λ (xs : List Output). length xs) (sym (empty hart below)),
+  subst (λ (xs : List Output). AllByRecursion (λ x. x.step ≤ slice_index offers.steps hart) xs) (sym (empty hart below)) tt,
+)

@@ -1,10 +1,8 @@
 -- What the threads of a pair begin with.
-use Rattle.std.specs.Prelude.{◌≡◌, ℕ, ◌<◌, List, [], length, slice_index_or}
+use Rattle.std.specs.Prelude.{◌≡◌, ℕ, ◌<◌, ◌≤◌, List, [], length, slice_index_or}
 use Rattle.ack_core.specs.declared.board.Board.{Board}
 use Rattle.ack_core.specs.declared.seats.KeeperSeat.{KeeperSeat}
 use Rattle.ack_core.specs.Seats.{harts_of, IsKeeperOf}
-use Rattle.fragment_codec.specs.Rules.{IsGuest}
-use Rattle.hart_lease.specs.Runs.{counts_of}
 use Rattle.output_gate.specs.Gates.{offered_of}
 use Rattle.primary_pool.specs.Running.{IsIdle}
 use Rattle.pair.specs.declared.posts.Post.{Post}
@@ -25,9 +23,9 @@ pub record IsWatchOf (board : Board) (watch : Watch) : Type 0 where
   pub place : IsAtBoard board watch.gate watch.seat
   pub empty : (hart : ℕ) → hart < 8 → offered_of watch.gate hart ≡ []
 
--- a primary before its first step
-pub record IsAtBoot (primary : Primary) : Type 0 where
+-- a primary that no lease holds up, and whose guest has the book's harts
+pub record MayLead (primary : Primary) : Type 0 where
   pub idle : IsIdle primary.book
-  pub guest : IsGuest primary.guest
+  pub some : 1 ≤ primary.guest.harts
+  pub limit : primary.guest.harts ≤ 8
   pub harts : length primary.book.machine.harts ≡ primary.guest.harts
-  pub boot : (hart : ℕ) → counts_of primary.book.machine hart ≡ 0

@@ -1,6 +1,6 @@
 //! The gate's work: outputs are offered to it, and at each look those that enough keepers hold go out.
 
-ghost use Rattle.std.specs.Prelude.{◌≡◌, ◌++◌, ◌<◌, ℕ, IfOk, IfSome, OnOk};
+ghost use Rattle.std.specs.Prelude.{◌≡◌, ◌++◌, ◌<◌, ℕ, slice_index, IfOk, IfSome, OnOk};
 ghost use Rattle.std.specs.List.{AllByRecursion};
 ghost use Rattle.ack_core.specs.Seats.{harts_of, keepers_of, seen};
 ghost use Rattle.output_gate.specs.Gates.{noted_at, held_outputs};
@@ -22,7 +22,9 @@ pub(crate) struct Offers {
 }
 
 /// No output yet.
-pub(crate) fn no_offers() -> Offers {
+pub(crate) fn no_offers() -> Offers
+    ensures { (hart : ℕ) → hart < 8 → slice_index result.numbers hart ≡ 0 }
+{
     Offers {
         numbers: [0; 8],
         steps: [0; 8],

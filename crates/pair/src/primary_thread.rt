@@ -2,10 +2,11 @@
 
 ghost use Rattle.std.specs.Prelude.{◌≡◌, ◌≤◌, ℕ, length, IfOk, OnOk};
 ghost use Rattle.ft_types.specs.Counts.{count_at};
+ghost use Rattle.fragment_codec.specs.Pieces.{IsCut, book_log};
 ghost use Rattle.fragment_codec.specs.Rules.{IsGuest};
 ghost use Rattle.hart_lease.specs.Runs.{counts_of};
 ghost use Rattle.primary_pool.specs.Running.{IsIdle};
-ghost use Rattle.pair.specs.Posts.{IsAtBoot};
+ghost use Rattle.pair.specs.Posts.{MayLead};
 
 use crate::messages::{ToGate, ToKeeper, send};
 use crate::posts::{Lines, Primary};
@@ -69,26 +70,23 @@ fn go_on<R: Threads + Wait + Sync>(
     }
 }
 
-/// Sends the keepers the pieces of the book that were not sent yet.
-fn send_pieces<R: Wait>(
-    rt: &R,
+/// The pieces of the book's log that were not cut yet.
+fn new_pieces(
     alloc: Global,
     book: &Book<Recording>,
     guest: &Guest,
     sealed: &mut Sealed,
-    keepers: &[Sender<ToKeeper, Global>],
-) -> Result<(), Memory>
-    requires harts { length book.now.machine.harts ≡ guest.now.harts }
+) -> Result<Vec<Frame>, Memory>
     requires guest { IsGuest guest.now }
+    requires harts { length book.now.machine.harts ≡ guest.now.harts }
     requires sealed { length sealed.old.reached ≡ guest.now.harts }
     requires within { (hart : ℕ) → count_at sealed.old.reached hart ≤ counts_of book.now.machine hart }
+    ensures cut { IfOk result (λ frames. IsCut (book_log guest.now 1 book.now) guest.now.harts sealed.old frames.items sealed.new) }
     ensures sealed { OnOk result (length sealed.new.reached ≡ guest.now.harts) }
     ensures within { OnOk result ((hart : ℕ) → count_at sealed.new.reached hart ≤ counts_of book.now.machine hart) }
 {
-    for frame in cut_pieces(alloc, book, guest, TERM, sealed)? {
-        send_frame(rt, alloc, keepers, &frame)?;
-    }
-    Ok(())
+    let frames = cut_pieces(alloc, book, guest, TERM, sealed)?;
+    Ok(frames)
 }
 
 /// The primary's thread: round by round it goes on, offers what was put out, and sends the pieces of its log.
@@ -97,7 +95,7 @@ pub(crate) fn lead<R: Threads + Wait + Sync>(
     alloc: Global,
     primary: Primary,
 ) -> Result<Book<Recording>, Memory>
-    requires { IsAtBoot primary }
+    requires { MayLead primary }
 {
     let Primary {
         mut book,
@@ -115,7 +113,9 @@ pub(crate) fn lead<R: Threads + Wait + Sync>(
         let told = outputs_told(book.machine());
         book = go_on(rt, alloc, book, budget)?;
         send_outputs(rt, alloc, book.machine(), &told, &gate)?;
-        send_pieces(rt, alloc, &book, &guest, &mut sealed, &keepers)?;
+        for frame in new_pieces(alloc, &book, &guest, &mut sealed)? {
+            send_frame(rt, alloc, &keepers, &frame)?;
+        }
     }
     send(rt, &gate, ToGate::End)?;
     for keeper in &keepers {

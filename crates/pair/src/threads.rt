@@ -2,7 +2,7 @@
 
 ghost use Rattle.std.specs.Prelude.{All};
 ghost use Rattle.input_script.specs.Script.{AreOffered};
-ghost use Rattle.pair.specs.Posts.{IsPostOf, IsWatchOf, IsAtBoot};
+ghost use Rattle.pair.specs.Posts.{IsPostOf, IsWatchOf, MayLead};
 
 use crate::gate_thread::{GateEnd, guard};
 use crate::keeper_thread::serve;
@@ -73,7 +73,7 @@ fn lead_and_serve<R: Threads + Wait + Sync>(
     primary: Primary,
 ) -> (Result<Vec<Store>, Memory>, Result<Book<Recording>, Memory>)
     requires posts { All (IsPostOf board.now) posts.items }
-    requires primary { IsAtBoot primary }
+    requires primary { MayLead primary }
 {
     thread::join(
         rt,
@@ -81,7 +81,7 @@ fn lead_and_serve<R: Threads + Wait + Sync>(
             requires { All (IsPostOf board.now) posts.items }
         { serve_all(rt, alloc, board, posts) },
         move || -> Result<Book<Recording>, Memory>
-            requires { IsAtBoot primary }
+            requires { MayLead primary }
         { lead(rt, alloc, primary) },
     )
 }
@@ -97,7 +97,7 @@ fn run_all<R: Threads + Wait + Sync>(
 ) -> Result<PairEnd, Memory>
     requires watch { IsWatchOf board.now watch }
     requires posts { All (IsPostOf board.now) posts.items }
-    requires primary { IsAtBoot primary }
+    requires primary { MayLead primary }
 {
     let (gate, (stores, book)) = thread::join(
         rt,
@@ -105,7 +105,7 @@ fn run_all<R: Threads + Wait + Sync>(
             requires { IsWatchOf board.now watch }
         { guard(rt, alloc, board, watch) },
         move || -> (Result<Vec<Store>, Memory>, Result<Book<Recording>, Memory>)
-            requires { All (IsPostOf board.now) posts.items × IsAtBoot primary }
+            requires { All (IsPostOf board.now) posts.items × MayLead primary }
         { lead_and_serve(rt, alloc, board, posts, primary) },
     );
     Ok(end_of(gate?, stores?, book?))
