@@ -259,7 +259,9 @@ fn pair_script<F: Files, P: Pairs, W: Sink>(
     files: &mut F,
     pairs: &P,
     out: &mut W,
-) -> Result<(), CommandFault> {
+) -> Result<(), CommandFault>
+    requires { P.may_run pairs.now }
+{
     let script = read_script_file(alloc, request, image.harts(), files)?;
     Ok(pairs.run_pair(alloc, image, &script, orders, out)?)
 }
@@ -272,7 +274,9 @@ fn run_task<F: Files, P: Pairs, W: Sink>(
     files: &mut F,
     pairs: &P,
     out: &mut W,
-) -> Result<(), CommandFault> {
+) -> Result<(), CommandFault>
+    requires { P.may_run pairs.now }
+{
     match &request.task {
         Task::Replay(logs) => replay_logs(alloc, image, logs, files, out),
         Task::Join { logs, .. } => join_logs(alloc, image, logs, request, files, out),
@@ -288,7 +292,9 @@ fn run<F: Files, P: Pairs, W: Sink>(
     files: &mut F,
     pairs: &P,
     out: &mut W,
-) -> Result<(), CommandFault> {
+) -> Result<(), CommandFault>
+    requires { P.may_run pairs.now }
+{
     let image = read_image_file(alloc, request, files)?;
     run_task(alloc, &image, request, files, pairs, out)
 }
@@ -300,7 +306,9 @@ fn run_and_tell<F: Files, P: Pairs, W: Sink, E: Sink>(
     pairs: &P,
     out: &mut W,
     err: &mut E,
-) -> u8 {
+) -> u8
+    requires { P.may_run pairs.now }
+{
     match run(alloc, request, files, pairs, out) {
         Ok(()) => 0,
         Err(fault) => {
@@ -328,7 +336,9 @@ pub fn command<F: Files, P: Pairs, W: Sink, E: Sink>(
     pairs: &P,
     out: &mut W,
     err: &mut E,
-) -> u8 {
+) -> u8
+    requires { P.may_run pairs.now }
+{
     match read_words(alloc, words) {
         Ok(request) => run_and_tell(alloc, &request, files, pairs, out, err),
         Err(fault) => no_request(fault, err),

@@ -63,6 +63,9 @@ impl PairOrders {
 
 /// Who runs pairs: a primary, its keepers and a gate. How they run is in no contract here.
 pub trait Pairs {
+    /// What has to hold of who runs them.
+    ghost may_run: { Self → Type 0 };
+
     /// Runs a primary of the image from boot, with what the script offers, beside keepers and a gate. Then it writes what went
     /// out, how much did not, and the primary's machine.
     fn run_pair<W: Sink>(
@@ -73,5 +76,6 @@ pub trait Pairs {
         orders: &PairOrders,
         out: &mut W,
     ) -> Result<(), StreamsFault>
-        requires { AreOffered image.now.harts script.now };
+        requires may { may_run self.now }
+        requires script { AreOffered image.now.harts script.now };
 }

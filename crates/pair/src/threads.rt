@@ -171,6 +171,10 @@ impl<'a, R: Threads + Wait + Sync> OnThreads<'a, R> {
 }
 
 impl<R: Threads + Wait + Sync> Pairs for OnThreads<'_, R> {
+    ghost use Rattle.std.specs.Thread.{IsSync};
+
+    ghost may_run = { λ _. IsSync R.row };
+
     fn run_pair<W: Sink>(
         &self,
         alloc: Global,

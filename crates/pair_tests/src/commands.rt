@@ -66,7 +66,9 @@ pub fn perform<P: Pairs>(
     words: &[&str],
     image: &[u8],
     pairs: &P,
-) -> Result<Done, Memory> {
+) -> Result<Done, Memory>
+    requires { P.may_run pairs.now }
+{
     let strings = strings_of(alloc, words)?;
     let mut files = TwoFiles {
         image: Some(MemorySource::new(image.to_vec(alloc)?)),

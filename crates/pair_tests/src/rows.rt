@@ -22,7 +22,9 @@ fn first_wrong<P: Pairs>(
     status: u8,
     out: &[&[u8]],
     err: &[u8],
-) -> Result<Option<usize>, Fail> {
+) -> Result<Option<usize>, Fail>
+    requires { P.may_run pairs.now }
+{
     for (number, [budget, keepers, need]) in rows.iter().enumerate() {
         let words = ["pair", "image", "script", budget, keepers, need];
         if !perform(alloc, &words, ONE_OUTPUT, pairs)?.wrote(status, out, err) {

@@ -95,6 +95,10 @@ impl Done {
 struct NoPairs;
 
 impl Pairs for NoPairs {
+    ghost use Rattle.std.specs.Prelude.{⊤};
+
+    ghost may_run = { λ _. ⊤ };
+
     fn run_pair<W: Sink>(
         &self,
         _alloc: Global,

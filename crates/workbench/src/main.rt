@@ -25,7 +25,9 @@ fn fault_of(error: &io::Error) -> WordsFault {
     }
 }
 
-fn status<P: Pairs>(rt: &HostRuntime, pairs: &P) -> u8 {
+fn status<P: Pairs>(rt: &HostRuntime, pairs: &P) -> u8
+    requires { P.may_run pairs.now }
+{
     let mut files = HostFiles::new(rt);
     let mut out = HostWriter::new(rt.stdout());
     let mut err = HostWriter::new(rt.stderr());
