@@ -25,10 +25,10 @@ next_at_own old new offers after o at is more =
     ap (λ (xs : List Output). length xs) more ∙ length-append (offered_of old o.hart) (o ∷ []) in (
       (let a = at.0 in let n = is.number in omega (arith, number, long)),
       subst (λ (xs : List Output). AllByRecursion (λ x. x.step ≤ slice_index after.steps o.hart) xs) (sym more)
-      (subst (λ (n : ℕ). AllByRecursion (λ x. x.step ≤ n) (offered_of old o.hart ++ o ∷ [])) (sym step)
-      (all_join (λ (x : Output). x.step ≤ o.step) (offered_of old o.hart) (o ∷ [])
-      (all_so (λ (x : Output). x.step ≤ slice_index offers.steps o.hart) (λ (x : Output). x.step ≤ o.step) (λ x le. (let s = is.step in omega arith)) (offered_of old o.hart) at.1)
-      (omega arith, tt))),
+          (subst (λ (n : ℕ). AllByRecursion (λ x. x.step ≤ n) (offered_of old o.hart ++ o ∷ [])) (sym step)
+          (all_join (λ (x : Output). x.step ≤ o.step) (offered_of old o.hart) (o ∷ [])
+          (all_so (λ (x : Output). x.step ≤ slice_index offers.steps o.hart) (λ (x : Output). x.step ≤ o.step) (λ x le. (let s = is.step in omega arith)) (offered_of old o.hart) at.1)
+          (omega arith, tt))),
     )
 
 next_at_other : (old new : GateView) (offers after : Offers) (o : Output) (hart : ℕ) → hart ≢ o.hart → IsNextAt old offers hart → IsNextOf offers o after →
@@ -40,7 +40,7 @@ next_at_other old new offers after o hart ne at is same =
     ap (λ (xs : List ℕ). slice_index xs hart) is.steps ∙ get_or-set_other offers.steps o.hart hart o.step 0 ne in (
       number ∙ at.0 ∙ ap (λ (xs : List Output). length xs) (sym same),
       subst (λ (xs : List Output). AllByRecursion (λ x. x.step ≤ slice_index after.steps hart) xs) (sym same)
-      (subst (λ (n : ℕ). AllByRecursion (λ x. x.step ≤ n) (offered_of old hart)) (sym step) at.1),
+          (subst (λ (n : ℕ). AllByRecursion (λ x. x.step ≤ n) (offered_of old hart)) (sym step) at.1),
     )
 
 pub next_offered : (old new : GateView) (offers after : Offers) (o : Output) → AreNext old offers → IsNextOf offers o after →

@@ -14,8 +14,8 @@ pieces_within : (log : HartLog) (old : Mark) (pieces : List FragmentParts) (new 
 pieces_within log old [] new le at = (let e : new.count ≡ old.count = ap (λ (m : Mark). m.count) at in omega (arith, e))
 pieces_within log old (piece ∷ pieces) new le at =
     let to : piece.to ≤ log.settled = ⊎_elim (λ (e : piece.to ≡ log.settled). omega (arith, e))
-        (λ (t : (piece.to < log.settled) × (256 < number_of (facts_between piece.from (piece.to + 1) log.facts))). (let l : piece.to < log.settled = t.0 in omega (arith, l)))
-        at.0.far in
+    (λ (t : (piece.to < log.settled) × (256 < number_of (facts_between piece.from (piece.to + 1) log.facts))). (let l : piece.to < log.settled = t.0 in omega (arith, l)))
+    at.0.far in
     pieces_within log (mark_behind piece) pieces new to at.1
 
 pub cut_within : (guest : Guest) (book : BookView RecordingView) (old : SealedView) (frames : List Frame) (new : SealedView) →

@@ -60,11 +60,7 @@ fn offer(gate: &mut Gate, offers: &mut Offers, output: &Output) -> Result<(), Me
 }
 
 /// Takes a message, and says whether it is the primary's last.
-pub(crate) fn take_in(
-    gate: &mut Gate,
-    offers: &mut Offers,
-    message: ToGate,
-) -> Result<bool, Memory>
+pub(crate) fn take_in(gate: &mut Gate, offers: &mut Offers, message: ToGate) -> Result<bool, Memory>
     requires { AreNext gate.old offers.old }
     ensures next { OnOk result (AreNext gate.new offers.new) }
     ensures rest { gate.new ≡ record gate.old { lines = gate.new.lines } }

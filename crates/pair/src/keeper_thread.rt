@@ -50,7 +50,12 @@ fn hear<R: Wait>(
 }
 
 /// A keeper's thread, which ends at the primary's last message. Where it finds no memory, or none comes any more, it gives up.
-pub(crate) fn serve<R: Wait>(rt: &R, alloc: Global, board: &Board, post: Post) -> Result<Store, Memory>
+pub(crate) fn serve<R: Wait>(
+    rt: &R,
+    alloc: Global,
+    board: &Board,
+    post: Post,
+) -> Result<Store, Memory>
     requires { IsPostOf board.now post }
 {
     let Post {

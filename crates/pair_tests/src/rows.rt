@@ -44,7 +44,14 @@ static TO_THE_END: [Numbers; 4] = [
 #[test]
 fn what_goes_out_is_printed(rt: HostRuntime) -> Result<(), Fail> {
     let printed = [RELEASED, NONE_KEPT, ONE_OUTPUT_ENDED];
-    let wrong = first_wrong(rt.alloc(), &OnThreads::new(&rt), &TO_THE_END, 0, &printed, b"")?;
+    let wrong = first_wrong(
+        rt.alloc(),
+        &OnThreads::new(&rt),
+        &TO_THE_END,
+        0,
+        &printed,
+        b"",
+    )?;
     assert_eq!(rt; wrong, None);
     Ok(())
 }
@@ -75,7 +82,14 @@ static OF_NO_FORM: [Numbers; 11] = [
 
 #[test]
 fn other_numbers_are_refused(rt: HostRuntime) -> Result<(), Fail> {
-    let wrong = first_wrong(rt.alloc(), &OnThreads::new(&rt), &OF_NO_FORM, 2, &[], b"fault usage\n")?;
+    let wrong = first_wrong(
+        rt.alloc(),
+        &OnThreads::new(&rt),
+        &OF_NO_FORM,
+        2,
+        &[],
+        b"fault usage\n",
+    )?;
     assert_eq!(rt; wrong, None);
     Ok(())
 }

@@ -45,7 +45,12 @@ fn replayed(alloc: Global, image: &Image, store: &Store) -> Result<Machine, Repl
 }
 
 /// Whether what these keepers hold replays to the primary's machine.
-fn replay_to(alloc: Global, image: &Image, stores: &[Store], machine: &Machine) -> Result<bool, Fail> {
+fn replay_to(
+    alloc: Global,
+    image: &Image,
+    stores: &[Store],
+    machine: &Machine,
+) -> Result<bool, Fail> {
     let all = joined(alloc, image, stores)?;
     let replayed = replayed(alloc, image, &all).map_err(|_| "replay")?;
     Ok(replayed.same(machine))
@@ -128,6 +133,10 @@ fn each_output_goes_out_once_and_in_order(rt: HostRuntime) -> Result<(), Fail> {
     assert_eq!(rt; [end.released.len(), end.kept], [6000, 0]);
     assert_eq!(rt; in_order(&end.released), 6000);
     let reached = positions(rt.alloc(), &end.stores)?;
-    assert!(rt; end.released.iter().all(|output| holders(&reached, output) >= 3));
+    assert!(rt;
+        end.released
+            .iter()
+            .all(|output| holders(&reached, output) >= 3)
+    );
     Ok(())
 }

@@ -11,7 +11,7 @@ loop-frame-preserved c =
     let frame = c.in-Some.frame in
     let steps : into_iter_items at.frame-iterator ≡ frame ∷ into_iter_items c.next.new.self = c.in-Some.ensures.steps.0 in
     let took : IsTaken at.store frame c.put.new.self = put_taken at.store frame c.in_ok-put.field-0 c.put.new.self c.in_ok-put.ensures.answer
-        c.in_ok-put.ensures.joined (λ e. c.put.ensures.other_guest (c.in_ok-put.was ∙ ap Ok e)) in
+    c.in_ok-put.ensures.joined (λ e. c.put.ensures.other_guest (c.in_ok-put.was ∙ ap Ok e)) in
     record {
       taken = taken_more c.args.store.now at.store c.put.new.self at.yielded frame at.invariant.taken took;
       guest = taken_guest at.store frame c.put.new.self took ∙ at.invariant.guest;

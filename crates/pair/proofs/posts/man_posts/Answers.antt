@@ -19,7 +19,7 @@ loop-seat-preserved c =
     let parts : c.args.seats.items ≡ at.yielded ++ seat ∷ into_iter_items c.next.new.self =
     sym (ap (λ (xs : List KeeperSeat). at.yielded ++ xs) (sym steps) ∙ at.invariant.rest ∙ c.into_iter-seat-iterator.ensures.into_iter_gives.0) in
     let own : IsKeeperOf board seat = at_middle (IsKeeperOf board) at.yielded seat (into_iter_items c.next.new.self)
-        (subst (λ (xs : List KeeperSeat). AreKeepersOf board xs) parts c.requires.seats) in
+    (subst (λ (xs : List KeeperSeat). AreKeepersOf board xs) parts c.requires.seats) in
     let posted : IsPostOf board post = (
       subst (λ (s : KeeperSeat). IsKeeperOf board s) (sym c.in_ok-post.ensures.0) own,
       ap (λ (g : Guest). g.harts) c.in_ok-post.ensures.1 ∙ c.requires.harts,
