@@ -3,10 +3,10 @@
 ghost use Rattle.std.specs.Prelude.{◌≡◌, ◌<◌, ◌≤◌, ◌↔◌, IsSome, IfSome};
 ghost use Rattle.input_script.specs.Script.{AreOffered};
 
+use ft_types::{KEEPER_LIMIT, Sink};
 use guest_image::Image;
 use input_script::Offered;
 use log_streams::StreamsFault;
-use ft_types::{KEEPER_LIMIT, Sink};
 use std::alloc::Global;
 
 /// How far a pair goes, and how many keepers it has.
