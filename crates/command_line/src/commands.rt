@@ -5,6 +5,7 @@ ghost use Rattle.input_script.specs.Script.{AreOffered};
 
 use crate::faults::{CommandFault, status_of, write_fault, write_words_fault};
 use crate::files::Files;
+use crate::pairs::{PairOrders, Pairs};
 use crate::words::{NamedFile, Request, Task, WordsFault, read_words};
 use closed_cut::{chain, position};
 use ft_types::{Failed, Sink, Source};
@@ -249,40 +250,66 @@ fn record<F: Files, W: Sink>(
     write_run(alloc, image, &book, request, files, out)
 }
 
+/// Runs a pair with what the request's script offers.
+fn pair_script<F: Files, P: Pairs, W: Sink>(
+    alloc: Global,
+    image: &Image,
+    orders: &PairOrders,
+    request: &Request<'_>,
+    files: &mut F,
+    pairs: &P,
+    out: &mut W,
+) -> Result<(), CommandFault>
+    requires { P.may_run pairs.now }
+{
+    let script = read_script_file(alloc, request, image.harts(), files)?;
+    Ok(pairs.run_pair(alloc, image, &script, orders, out)?)
+}
+
 /// Does what is asked for with the image.
-fn run_task<F: Files, W: Sink>(
+fn run_task<F: Files, P: Pairs, W: Sink>(
     alloc: Global,
     image: &Image,
     request: &Request<'_>,
     files: &mut F,
+    pairs: &P,
     out: &mut W,
-) -> Result<(), CommandFault> {
+) -> Result<(), CommandFault>
+    requires { P.may_run pairs.now }
+{
     match &request.task {
         Task::Replay(logs) => replay_logs(alloc, image, logs, files, out),
         Task::Join { logs, .. } => join_logs(alloc, image, logs, request, files, out),
         Task::Run { budget, .. } => record(alloc, image, *budget, request, files, out),
         Task::Cut(logs) => cut_logs(alloc, image, logs, files, out),
+        Task::Pair { orders, .. } => pair_script(alloc, image, orders, request, files, pairs, out),
     }
 }
 
-fn run<F: Files, W: Sink>(
+fn run<F: Files, P: Pairs, W: Sink>(
     alloc: Global,
     request: &Request<'_>,
     files: &mut F,
+    pairs: &P,
     out: &mut W,
-) -> Result<(), CommandFault> {
+) -> Result<(), CommandFault>
+    requires { P.may_run pairs.now }
+{
     let image = read_image_file(alloc, request, files)?;
-    run_task(alloc, &image, request, files, out)
+    run_task(alloc, &image, request, files, pairs, out)
 }
 
-fn run_and_tell<F: Files, W: Sink, E: Sink>(
+fn run_and_tell<F: Files, P: Pairs, W: Sink, E: Sink>(
     alloc: Global,
     request: &Request<'_>,
     files: &mut F,
+    pairs: &P,
     out: &mut W,
     err: &mut E,
-) -> u8 {
-    match run(alloc, request, files, out) {
+) -> u8
+    requires { P.may_run pairs.now }
+{
+    match run(alloc, request, files, pairs, out) {
         Ok(()) => 0,
         Err(fault) => {
             // Where not even the fault can be told, the status says it alone.
@@ -302,15 +329,18 @@ pub fn no_request<E: Sink>(fault: WordsFault, err: &mut E) -> u8 {
 }
 
 /// Does what the words ask for, and gives the status that the program ends with.
-pub fn command<F: Files, W: Sink, E: Sink>(
+pub fn command<F: Files, P: Pairs, W: Sink, E: Sink>(
     alloc: Global,
     words: &[String],
     files: &mut F,
+    pairs: &P,
     out: &mut W,
     err: &mut E,
-) -> u8 {
+) -> u8
+    requires { P.may_run pairs.now }
+{
     match read_words(alloc, words) {
-        Ok(request) => run_and_tell(alloc, &request, files, out, err),
+        Ok(request) => run_and_tell(alloc, &request, files, pairs, out, err),
         Err(fault) => no_request(fault, err),
     }
 }

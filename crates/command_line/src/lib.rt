@@ -5,8 +5,10 @@
 mod commands;
 mod faults;
 mod files;
+mod pairs;
 mod words;
 
 pub use commands::{command, no_request};
 pub use files::Files;
+pub use pairs::{PairOrders, Pairs};
 pub use words::WordsFault;

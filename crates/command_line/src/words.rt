@@ -1,5 +1,6 @@
 //! What the words of the command line ask for.
 
+use crate::pairs::PairOrders;
 use clap::error::ErrorKind;
 use clap::{Arg, ArgAction, ArgMatches, Command, Error};
 use ft_types::read_number;
@@ -35,6 +36,11 @@ pub enum Task<'a> {
         budget: u32,
         made: &'a str,
     },
+    /// Run a pair.
+    Pair {
+        script: &'a str,
+        orders: PairOrders,
+    },
 }
 
 /// A file that a request names.
@@ -67,13 +73,14 @@ impl<'a> Task<'a> {
             Task::Replay(logs) => name_at(logs, number),
             Task::Join { logs, .. } => name_at(logs, number),
             Task::Cut(logs) => name_at(logs, number),
-            Task::Run { .. } => "",
+            Task::Run { .. } | Task::Pair { .. } => "",
         }
     }
 
     fn script(&self) -> &'a str {
         match self {
             Task::Run { script, .. } => script,
+            Task::Pair { script, .. } => script,
             _ => "",
         }
     }
@@ -140,7 +147,7 @@ struct Form {
     has_logs: bool,
 }
 
-static FORMS: [Form; 4] = [
+static FORMS: [Form; 5] = [
     Form {
         name: "replay",
         words: &["image"],
@@ -159,6 +166,11 @@ static FORMS: [Form; 4] = [
     Form {
         name: "run",
         words: &["image", "script", "budget", "made"],
+        has_logs: false,
+    },
+    Form {
+        name: "pair",
+        words: &["image", "script", "budget", "keepers", "need"],
         has_logs: false,
     },
 ];
@@ -230,6 +242,20 @@ fn run_of<'a>(matches: &ArgMatches<'a>) -> Result<Task<'a>, WordsFault> {
     })
 }
 
+/// The number that the word of this name is.
+fn number_of(matches: &ArgMatches<'_>, name: &str) -> Result<u64, WordsFault> {
+    read_number(word_of(matches, name)?.as_bytes()).ok_or(WordsFault::Usage)
+}
+
+fn pair_of<'a>(matches: &ArgMatches<'a>) -> Result<Task<'a>, WordsFault> {
+    let script = word_of(matches, "script")?;
+    let budget = read_budget(word_of(matches, "budget")?)?;
+    let keepers = number_of(matches, "keepers")?;
+    let need = number_of(matches, "need")?;
+    let orders = PairOrders::new(budget, keepers, need).ok_or(WordsFault::Usage)?;
+    Ok(Task::Pair { script, orders })
+}
+
 fn task_of<'a>(
     alloc: Global,
     command: &str,
@@ -240,6 +266,7 @@ fn task_of<'a>(
         "join" => join_of(alloc, matches),
         "cut" => Ok(Task::Cut(logs_of(alloc, matches)?)),
         "run" => run_of(matches),
+        "pair" => pair_of(matches),
         _ => Err(WordsFault::Usage),
     }
 }

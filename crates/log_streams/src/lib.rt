@@ -13,7 +13,7 @@ mod streams;
 pub use faults::StreamsFault;
 pub use laws::honest_runs;
 pub use lines::write_numbered;
-pub use primary::{frames_of, run_primary};
+pub use primary::{TERM, begin_run, first_opening, frames_of, run_primary};
 pub use reading::read_store;
 pub use stores::{StoreSize, write_frames, write_position, write_size, write_store};
 pub use streams::replay_streams;

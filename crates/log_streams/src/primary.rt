@@ -16,7 +16,7 @@ use primary_pool::{PoolFault, run_plain};
 use std::alloc::Global;
 
 /// The term of the run.
-const TERM: Term = 1;
+pub const TERM: Term = 1;
 
 /// One limit for all harts.
 fn limits_of(harts: u8, limit: u32) -> Counts
@@ -43,7 +43,7 @@ fn offer_all(book: &mut Book<Recording>, script: &[Offered]) -> Result<(), Memor
 }
 
 /// A book of the image from boot, with what the script offers.
-fn begin(
+pub fn begin_run(
     alloc: Global,
     image: &Image,
     script: &[Offered],
@@ -70,7 +70,7 @@ pub fn run_primary(
     ensures run { IfOk result (λ b. IsRunOf image.now script.now limit b) }
     ensures harts { IfOk result (λ b. length b.machine.harts ≡ image.now.harts) }
 {
-    let book = begin(alloc, image, script, limit)?;
+    let book = begin_run(alloc, image, script, limit)?;
     match run_plain(alloc, book) {
         Ok(book) => Ok(book),
         Err(PoolFault::Memory) => Err(Memory),
@@ -83,7 +83,7 @@ fn bytes_fit(_bytes: &[u8])
 {}
 
 /// The opening of the term, from boot.
-fn opening_of(guest: Guest) -> Opening
+pub fn first_opening(guest: Guest) -> Opening
     requires some { 1 ≤ guest.harts }
     requires limit { guest.harts ≤ 8 }
     ensures opening { result ≡ record { guest = guest; term = 1; parent = 0; base = replicate guest.harts 0 } }
@@ -105,7 +105,7 @@ pub fn frames_of(alloc: Global, image: &Image, book: &Book<Recording>) -> Result
     let _edges = book.edges();
     let harts = image.harts();
     let guest = image.guest();
-    let opening = opening_of(guest);
+    let opening = first_opening(guest);
     let mut sealed = Sealed::new(Counts::zero(harts));
     let mut frames = cut_pieces(alloc, book, &guest, TERM, &mut sealed)?;
     frames.insert(0, Frame::Opening(opening))?;

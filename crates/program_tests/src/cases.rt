@@ -2,8 +2,11 @@
 
 use crate::files_in_memory::MemoryFiles;
 use crate::samples::{Part, stream_of};
-use command_line::command;
-use ft_types::{MemorySink, MemorySource};
+use command_line::{PairOrders, Pairs, command};
+use ft_types::{MemorySink, MemorySource, Sink};
+use guest_image::Image;
+use input_script::Offered;
+use log_streams::StreamsFault;
 use std::alloc::Global;
 use std::cell::RefCell;
 use std::rc::Rc;
@@ -88,6 +91,26 @@ impl Done {
     }
 }
 
+/// Runs no pair: those that run have tests of their own.
+struct NoPairs;
+
+impl Pairs for NoPairs {
+    ghost use Rattle.std.specs.Prelude.{⊤};
+
+    ghost may_run = { λ _. ⊤ };
+
+    fn run_pair<W: Sink>(
+        &self,
+        _alloc: Global,
+        _image: &Image,
+        _script: &[Offered],
+        _orders: &PairOrders,
+        _out: &mut W,
+    ) -> Result<(), StreamsFault> {
+        Err(StreamsFault::Memory)
+    }
+}
+
 fn strings_of(alloc: Global, words: &[&str]) -> Result<Vec<String>, Fail> {
     let mut strings = Vec::new(alloc);
     for word in words {
@@ -106,7 +129,7 @@ pub fn perform(
     let strings = strings_of(alloc, words)?;
     let mut out = MemorySink::new(alloc, room);
     let mut err = MemorySink::new(alloc, 1000);
-    let status = command(alloc, &strings, &mut files, &mut out, &mut err);
+    let status = command(alloc, &strings, &mut files, &NoPairs, &mut out, &mut err);
     Ok(Done { status, out, err })
 }
 

@@ -4,7 +4,8 @@
 mod host;
 
 use crate::host::{HostFiles, HostWriter};
-use command_line::{WordsFault, command, no_request};
+use command_line::{Pairs, WordsFault, command, no_request};
+use pair::OnThreads;
 use std::process::ExitCode;
 use std::{env, io};
 
@@ -24,16 +25,18 @@ fn fault_of(error: &io::Error) -> WordsFault {
     }
 }
 
-fn status(rt: &HostRuntime) -> u8 {
+fn status<P: Pairs>(rt: &HostRuntime, pairs: &P) -> u8
+    requires { P.may_run pairs.now }
+{
     let mut files = HostFiles::new(rt);
     let mut out = HostWriter::new(rt.stdout());
     let mut err = HostWriter::new(rt.stderr());
     match arguments(rt) {
-        Ok(words) => command(rt.alloc(), &words, &mut files, &mut out, &mut err),
+        Ok(words) => command(rt.alloc(), &words, &mut files, pairs, &mut out, &mut err),
         Err(error) => no_request(fault_of(&error), &mut err),
     }
 }
 
 fn main(rt: HostRuntime) -> ExitCode {
-    ExitCode::from(status(&rt))
+    ExitCode::from(status(&rt, &OnThreads::new(&rt)))
 }

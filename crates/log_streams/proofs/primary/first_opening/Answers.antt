@@ -1,6 +1,6 @@
 use Rattle.fragment_codec.specs.Rules.{IsDigest}
 use Rattle.log_streams.proofs.Openings.{opens_from_boot}
-use Rattle.log_streams.proofs.primary.opening_of.Goals as goal
+use Rattle.log_streams.proofs.primary.first_opening.Goals as goal
 
 pub unwrap-requires : goal.unwrap-requires
 unwrap-requires c =

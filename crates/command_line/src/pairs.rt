@@ -1,0 +1,81 @@
+//! What a pair is asked for, and who runs it.
+
+ghost use Rattle.std.specs.Prelude.{◌≡◌, ◌<◌, ◌≤◌, ◌↔◌, IsSome, IfSome};
+ghost use Rattle.input_script.specs.Script.{AreOffered};
+
+use ft_types::{KEEPER_LIMIT, Sink};
+use guest_image::Image;
+use input_script::Offered;
+use log_streams::StreamsFault;
+use std::alloc::Global;
+
+/// How far a pair goes, and how many keepers it has.
+#[derive(Clone, Copy, Debug, PartialEq, Eq)]
+pub struct PairOrders {
+    budget: u32,
+    keepers: u8,
+    need: u8,
+    ghost sized: { (0 < need) × (need ≤ keepers) × (keepers ≤ 5) },
+}
+
+impl PairOrders {
+    /// The orders of a pair whose harts may each go to the budget, with 1 to 5 keepers, of whom 1 to all must hold an output:
+    /// `None` for other numbers.
+    pub fn new(budget: u32, keepers: u64, need: u64) -> Option<PairOrders>
+        ensures exact { IsSome result ↔ ((0 < need) × (need ≤ keepers) × (keepers ≤ 5)) }
+        ensures parts { IfSome result (λ o. (o.budget ≡ budget) × (o.keepers ≡ keepers) × (o.need ≡ need)) }
+    {
+        if need == 0 || need > keepers || keepers > u64::from(KEEPER_LIMIT) {
+            return None;
+        }
+        Some(PairOrders {
+            budget,
+            keepers: keepers as u8,
+            need: need as u8,
+        })
+    }
+
+    /// The limit of each hart.
+    pub fn budget(&self) -> u32
+        ensures { result ≡ self.now.budget }
+    {
+        self.budget
+    }
+
+    /// The number of keepers.
+    pub fn keepers(&self) -> u8
+        ensures value { result ≡ self.now.keepers }
+        ensures some { 0 < result }
+        ensures limit { result ≤ 5 }
+    {
+        self.keepers
+    }
+
+    /// How many keepers must hold an output before it goes out.
+    pub fn need(&self) -> u8
+        ensures value { result ≡ self.now.need }
+        ensures some { 0 < result }
+        ensures limit { result ≤ self.now.keepers }
+    {
+        self.need
+    }
+}
+
+/// Who runs pairs: a primary, its keepers and a gate. How they run is in no contract here.
+pub trait Pairs {
+    /// What has to hold of who runs them.
+    ghost may_run: { Self → Type 0 };
+
+    /// Runs a primary of the image from boot, with what the script offers, beside keepers and a gate. Then it writes what went
+    /// out, how much did not, and the primary's machine.
+    fn run_pair<W: Sink>(
+        &self,
+        alloc: Global,
+        image: &Image,
+        script: &[Offered],
+        orders: &PairOrders,
+        out: &mut W,
+    ) -> Result<(), StreamsFault>
+        requires may { may_run self.now }
+        requires script { AreOffered image.now.harts script.now };
+}

@@ -1,0 +1,6 @@
+pub mod Manned
+pub mod Offered
+pub mod Onward
+pub mod Sealed
+pub mod Taken
+pub mod Told

@@ -1,0 +1,8 @@
+use Rattle.pair.proofs.Offered.{none_offered}
+use Rattle.pair.proofs.gate_thread.guard.Goals as goal
+
+pub loop-init : goal.loop-init
+loop-init g c = (c.requires.place, none_offered c.args.watch.gate c.no_offers-offers.result c.requires.empty c.no_offers-offers.ensures)
+
+pub loop-preserved : goal.loop-preserved
+loop-preserved g c = (c.in_ok-look_on.ensures.place, c.in_ok-look_on.ensures.next c.listen.new.offers c.in_ok-ended.ensures.next)

@@ -1,0 +1,13 @@
+use Rattle.std.proofs.Common.{◌≡◌, ◌≤◌, ℕ, length}
+use Rattle.ft_types.specs.Counts.{count_at}
+use Rattle.hart_lease.specs.Runs.{counts_of}
+use Rattle.primary_pool.specs.Running.{IsIdle}
+use Rattle.pair.proofs.primary_thread.lead.Given as goal
+
+abbrev pub invariant-loop-round : goal.invariant-loop-round
+invariant-loop-round g l = record {
+  idle : IsIdle l.book;
+  harts : length l.book.machine.harts ≡ l.guest.harts;
+  sealed : length l.sealed.reached ≡ l.guest.harts;
+  within : (hart : ℕ) → count_at l.sealed.reached hart ≤ counts_of l.book.machine hart;
+}

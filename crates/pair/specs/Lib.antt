@@ -1,0 +1,5 @@
+pub mod Exits
+pub mod Keeping
+pub mod Posts
+pub mod Rounds
+pub mod Telling

@@ -1,0 +1,82 @@
+//! A keeper's thread.
+
+ghost use Rattle.pair.specs.Posts.{IsPostOf};
+
+use crate::keeping::{is_due, keep};
+use crate::messages::{ToGate, ToKeeper, send};
+use crate::posts::Post;
+use ack_core::Board;
+use crossbeam_channel::Receiver;
+use fragment_codec::Frame;
+use ft_types::Memory;
+use log_join::Store;
+use std::alloc::Global;
+use std::mem;
+use std::result::Result;
+use std::sync::Wait;
+
+/// Adds the frame of a message. Whether it was the last message.
+fn add(frames: &mut Vec<Frame>, message: ToKeeper) -> Result<bool, Memory> {
+    match message {
+        ToKeeper::Frame(frame) => {
+            frames.push(frame)?;
+            Ok(false)
+        }
+        ToKeeper::End => Ok(true),
+    }
+}
+
+/// Waits for a message to a keeper, and takes with it what is there by then. Whether the last one came.
+fn hear<R: Wait>(
+    rt: &R,
+    channel: &Receiver<ToKeeper, Global>,
+    frames: &mut Vec<Frame>,
+) -> Result<bool, Memory> {
+    let Ok(first) = channel.recv(rt) else {
+        return Err(Memory);
+    };
+    if add(frames, first)? {
+        return Ok(true);
+    }
+    for _more in 0..channel.len() {
+        let Ok(message) = channel.try_recv(rt) else {
+            break;
+        };
+        if add(frames, message)? {
+            return Ok(true);
+        }
+    }
+    Ok(false)
+}
+
+/// A keeper's thread, which ends at the primary's last message. Where it finds no memory, or none comes any more, it gives up.
+pub(crate) fn serve<R: Wait>(
+    rt: &R,
+    alloc: Global,
+    board: &Board,
+    post: Post,
+) -> Result<Store, Memory>
+    requires { IsPostOf board.now post }
+{
+    let Post {
+        mut seat,
+        mut store,
+        frames: channel,
+        gate,
+    } = post;
+    let mut held = 0usize;
+    let mut fresh = Vec::new(alloc);
+    for _ in rt.forever() {
+        let ended = hear(rt, &channel, &mut fresh)?;
+        if ended || is_due(held, fresh.len()) {
+            held = held.saturating_add(fresh.len());
+            let frames = mem::replace(&mut fresh, Vec::new(alloc));
+            keep(alloc, board, &mut seat, &mut store, frames)?;
+            if ended {
+                return Ok(store);
+            }
+            send(rt, &gate, ToGate::Published)?;
+        }
+    }
+    unreachable!()
+}

@@ -1,0 +1,18 @@
+//! A pair in one process: a primary whose harts run on threads, keepers that take its frames from channels and acknowledge, and
+//! a gate that lets its outputs go. What decides stands in functions with contracts; the threads are thin.
+#![tactic(auto)]
+
+mod exits;
+mod gate_thread;
+mod keeper_thread;
+mod keeping;
+mod messages;
+mod posts;
+mod primary_thread;
+mod printing;
+mod rounds;
+mod telling;
+mod threads;
+
+pub use keeping::is_due;
+pub use threads::{OnThreads, PairEnd, run_pair};

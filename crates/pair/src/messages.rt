@@ -1,0 +1,39 @@
+//! What a pair's threads send each other.
+
+use crossbeam_channel::Sender;
+use fragment_codec::Frame;
+use ft_types::Memory;
+use output_gate::Output;
+use std::alloc::Global;
+use std::sync::Wait;
+
+/// What a keeper is sent.
+#[derive(Drop)]
+pub(crate) enum ToKeeper {
+    Frame(Frame),
+    /// There are no more.
+    End,
+}
+
+/// What the gate is sent.
+#[derive(Drop)]
+pub(crate) enum ToGate {
+    /// A hart has put this out.
+    Offer(Output),
+    /// A keeper has published.
+    Published,
+    /// The primary is at its end.
+    End,
+}
+
+/// Sends a message. A channel that has lost its receiver takes as little as one that finds no memory.
+pub(crate) fn send<R: Wait, T: Drop>(
+    rt: &R,
+    sender: &Sender<T, Global>,
+    message: T,
+) -> Result<(), Memory> {
+    match sender.send(rt, message) {
+        Ok(()) => Ok(()),
+        Err(_) => Err(Memory),
+    }
+}

@@ -1,0 +1,92 @@
+//! The channels of a pair: what each keeper's thread begins with, and whom the primary sends to.
+
+ghost use Rattle.std.specs.Prelude.{◌≡◌, IfOk, All};
+ghost use Rattle.ack_core.specs.Seats.{harts_of, keepers_of};
+ghost use Rattle.pair.specs.Posts.{AreKeepersOf, IsPostOf};
+
+use crate::messages::{ToGate, ToKeeper};
+use ack_core::{Board, GateSeat, KeeperSeat};
+use crossbeam_channel::{Receiver, Sender, unbounded};
+use ft_types::{Guest, Memory};
+use log_join::Store;
+use output_gate::Gate;
+use page_book::{Book, Recording};
+use std::alloc::Global;
+use std::result::Result;
+
+/// What a keeper's thread begins with.
+#[derive(Drop)]
+pub(crate) struct Post {
+    pub(crate) seat: KeeperSeat,
+    pub(crate) store: Store,
+    pub(crate) frames: Receiver<ToKeeper, Global>,
+    pub(crate) gate: Sender<ToGate, Global>,
+}
+
+/// What the gate's thread begins with.
+#[derive(Drop)]
+pub(crate) struct Watch {
+    pub(crate) gate: Gate,
+    pub(crate) seat: GateSeat,
+    pub(crate) channel: Receiver<ToGate, Global>,
+}
+
+/// What the primary's thread begins with.
+#[derive(Drop)]
+pub(crate) struct Primary {
+    pub(crate) book: Book<Recording>,
+    pub(crate) guest: Guest,
+    /// The limit of each hart.
+    pub(crate) budget: u32,
+    pub(crate) lines: Lines,
+}
+
+/// Whom the primary sends to.
+#[derive(Drop)]
+pub(crate) struct Lines {
+    pub(crate) keepers: Vec<Sender<ToKeeper, Global>>,
+    pub(crate) gate: Sender<ToGate, Global>,
+}
+
+/// A post for this seat, and the sender of its frames.
+fn new_post(
+    alloc: Global,
+    guest: Guest,
+    seat: KeeperSeat,
+    gate: &Sender<ToGate, Global>,
+) -> Result<(Post, Sender<ToKeeper, Global>), Memory>
+    ensures { IfOk result (λ r. (r.0.seat ≡ seat) × (r.0.store.guest ≡ guest)) }
+{
+    let (sender, frames) = unbounded(alloc)?;
+    let store = Store::new(alloc, guest);
+    let gate = gate.clone()?;
+    let post = Post {
+        seat,
+        store,
+        frames,
+        gate,
+    };
+    Ok((post, sender))
+}
+
+/// A post for each seat, and whom the primary sends to.
+pub(crate) fn man_posts(
+    alloc: Global,
+    board: &Board,
+    guest: Guest,
+    seats: Vec<KeeperSeat>,
+    gate: Sender<ToGate, Global>,
+) -> Result<(Vec<Post>, Lines), Memory>
+    requires seats { AreKeepersOf board.now seats.items }
+    requires harts { guest.harts ≡ harts_of board.now }
+    ensures { IfOk result (λ r. All (IsPostOf board.now) r.0.items) }
+{
+    let mut posts = Vec::new(alloc);
+    let mut keepers = Vec::new(alloc);
+    for seat in seats {
+        let (post, sender) = new_post(alloc, guest, seat, &gate)?;
+        posts.push(post)?;
+        keepers.push(sender)?;
+    }
+    Ok((posts, Lines { keepers, gate }))
+}

@@ -1,0 +1,14 @@
+//! The tests of pairs on threads: what the command prints, that the keepers' stores replay to the primary's machine, and what
+//! comes where memory is refused.
+#![tactic(auto)]
+
+#[cfg(test)]
+mod commands;
+#[cfg(test)]
+mod guests;
+#[cfg(test)]
+mod refused;
+#[cfg(test)]
+mod rows;
+#[cfg(test)]
+mod stores;

@@ -1,0 +1,142 @@
+//! What the keepers hold, and what went out.
+
+ghost use Rattle.std.specs.Prelude.{◌<◌};
+
+use crate::guests::{ADDS, COUNTS_DOWN};
+use closed_cut::{Position, position};
+use command_line::PairOrders;
+use fixtures::image_of;
+use ft_types::{Hart, Memory};
+use guest_image::{Image, Machine};
+use hart_replay::{ReplayFault, plan, replay_plain};
+use log_join::Store;
+use output_gate::Output;
+use pair::{PairEnd, run_pair};
+use std::alloc::Global;
+use std::sync::Wait;
+use std::test::Fail;
+use std::thread::Threads;
+
+/// The end of a pair of this image.
+fn end_of<R: Threads + Wait + Sync>(
+    rt: &R,
+    alloc: Global,
+    image: &Image,
+    keepers: u64,
+    need: u64,
+) -> Result<PairEnd, Fail> {
+    let orders = PairOrders::new(100_000, keepers, need).ok_or("orders")?;
+    Ok(run_pair(rt, alloc, image, &[], &orders).map_err(|_| "memory")?)
+}
+
+/// All that these keepers hold.
+fn joined(alloc: Global, image: &Image, stores: &[Store]) -> Result<Store, Fail> {
+    let mut all = Store::new(alloc, image.guest());
+    for store in stores {
+        all.join(alloc, store).map_err(|_| "join")?;
+    }
+    Ok(all)
+}
+
+fn replayed(alloc: Global, image: &Image, store: &Store) -> Result<Machine, ReplayFault> {
+    let reached = position(alloc, store)?;
+    let plan = plan(alloc, store, &reached)?;
+    replay_plain(alloc, image, &plan)
+}
+
+/// Whether what these keepers hold replays to the primary's machine.
+fn replay_to(
+    alloc: Global,
+    image: &Image,
+    stores: &[Store],
+    machine: &Machine,
+) -> Result<bool, Fail> {
+    let all = joined(alloc, image, stores)?;
+    let replayed = replayed(alloc, image, &all).map_err(|_| "replay")?;
+    Ok(replayed.same(machine))
+}
+
+/// The number of the first keeper whose frames alone do not replay to the primary's machine.
+fn first_other(alloc: Global, image: &Image, end: &PairEnd) -> Result<Option<usize>, Fail> {
+    for (number, store) in end.stores.chunks(1).enumerate() {
+        if !replay_to(alloc, image, store, end.book.machine())? {
+            return Ok(Some(number));
+        }
+    }
+    Ok(None)
+}
+
+#[test]
+fn what_each_keeper_holds_replays_to_the_machine(rt: HostRuntime) -> Result<(), Fail> {
+    let image = image_of(rt.alloc(), ADDS)?;
+    let end = end_of(&rt, rt.alloc(), &image, 3, 2)?;
+    assert_eq!(rt; end.book.counts().as_slice(), [1805u64; 4].as_slice());
+    assert_eq!(rt; end.stores.len(), 3);
+    assert_eq!(rt; first_other(rt.alloc(), &image, &end)?, None);
+    assert!(rt; replay_to(rt.alloc(), &image, &end.stores, end.book.machine())?);
+    Ok(())
+}
+
+/// The output that a hart which counts down puts out with this number.
+fn counted_down(hart: u8, number: u64) -> Output
+    requires hart { hart < 8 }
+    requires numbers { number < 1500 }
+{
+    Output {
+        hart: Hart::new(hart),
+        number,
+        step: 2 + 3 * number,
+        word: 1500 - number as u32,
+    }
+}
+
+/// How many outputs, from the first on, stand by hart and number as harts that count down put them out.
+fn in_order(released: &[Output]) -> usize {
+    let mut place = 0usize;
+    for hart in 0..4u8 {
+        for number in 0..1500u64 {
+            match released.get(place) {
+                Some(output) if *output == counted_down(hart, number) => {}
+                _ => return place,
+            }
+            place = place.saturating_add(1);
+        }
+    }
+    place
+}
+
+/// How many of these keepers' positions have the output inside.
+fn holders(reached: &[Position], output: &Output) -> usize {
+    let mut holders = 0usize;
+    for position in reached {
+        if output.hart.number() < position.counts.harts()
+            && output.step < position.counts.get(output.hart)
+        {
+            holders = holders.saturating_add(1);
+        }
+    }
+    holders
+}
+
+fn positions(alloc: Global, stores: &[Store]) -> Result<Vec<Position>, Memory> {
+    let mut reached = Vec::new(alloc);
+    for store in stores {
+        reached.push(position(alloc, store)?)?;
+    }
+    Ok(reached)
+}
+
+#[test]
+fn each_output_goes_out_once_and_in_order(rt: HostRuntime) -> Result<(), Fail> {
+    let image = image_of(rt.alloc(), COUNTS_DOWN)?;
+    let end = end_of(&rt, rt.alloc(), &image, 5, 3)?;
+    assert_eq!(rt; [end.released.len(), end.kept], [6000, 0]);
+    assert_eq!(rt; in_order(&end.released), 6000);
+    let reached = positions(rt.alloc(), &end.stores)?;
+    assert!(rt;
+        end.released
+            .iter()
+            .all(|output| holders(&reached, output) >= 3)
+    );
+    Ok(())
+}
