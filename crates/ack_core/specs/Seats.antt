@@ -1,5 +1,5 @@
 -- What the contracts say of a board and its seats.
-use Rattle.std.specs.Prelude.{◌≡◌, ◌≢◌, ℕ, ◌+◌, ◌*◌, ◌<◌, ◌≤◌, List, [], ◌∷◌, ◌++◌, slice_index}
+use Rattle.std.specs.Prelude.{◌≡◌, ◌≢◌, ℕ, ◌+◌, ◌*◌, ◌<◌, ◌≤◌, List, [], ◌∷◌, ◌++◌, replicate, slice_index}
 use Rattle.ack_core.specs.declared.board.Board.{Board}
 use Rattle.closed_cut.specs.declared.answer.Position.{Position}
 use Rattle.ack_core.specs.declared.board.AckFault.{AckFault}
@@ -29,6 +29,14 @@ keeper_of s = s.keeper
 abbrev pub published : KeeperSeat → ℕ → List ℕ
 published s h = known_at s.seat.me.0 (s.keeper * s.harts + h)
 
+-- the count that it published last for each hart, or 0
+abbrev pub last_counts : KeeperSeat → List ℕ
+last_counts s = s.last
+
+-- how many harts a seat has counts of
+abbrev pub width_of : KeeperSeat → ℕ
+width_of s = s.harts
+
 -- the beginning of what keeper k published for the hart h that the gate has seen
 abbrev pub heard : GateSeat → ℕ → ℕ → List ℕ
 heard g k h = known_at g.seat.me.0 (k * g.harts + h)
@@ -48,7 +56,7 @@ IsGateOf b g = (g.seat.table_id ≡ b.table.shared.table_id) × (g.harts ≡ b.h
 -- a seat of the same keeper at the same board, which published the same
 abbrev pub IsSameKeeper : KeeperSeat → KeeperSeat → Type 0
 IsSameKeeper s t = (t.seat.table_id ≡ s.seat.table_id) × (t.harts ≡ s.harts) × (t.keepers ≡ s.keepers) × (t.keeper ≡ s.keeper)
-    × ((h : ℕ) → published t h ≡ published s h)
+    × ((h : ℕ) → published t h ≡ published s h) × (last_counts t ≡ last_counts s)
 
 -- a gate's seat at the same board; what it has seen may differ
 abbrev pub IsSameGate : GateSeat → GateSeat → Type 0
@@ -66,4 +74,4 @@ Publishes b s p t = (p.term ≡ b.term)
 
 -- keeper k's seat at the board, which has published nothing
 abbrev pub IsDealt : Board → KeeperSeat → ℕ → Type 0
-IsDealt b s k = IsKeeperOf b s × (s.keeper ≡ k) × ((h : ℕ) → published s h ≡ [])
+IsDealt b s k = IsKeeperOf b s × (s.keeper ≡ k) × ((h : ℕ) → published s h ≡ []) × (last_counts s ≡ replicate b.harts 0)

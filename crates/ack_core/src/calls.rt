@@ -2,7 +2,7 @@
 ghost use Rattle.std.specs.Prelude.{◌≡◌, ◌≢◌, ℕ, ◌+◌, ◌*◌, ◌<◌, ◌≤◌, ◌⊎◌, [], ◌∷◌, ◌++◌, length, slice_index, slice_index_or, IfOk, IfErr};
 ghost use Rattle.ack_core.specs.Lists.{last_count, Rises, StartsWith, IsZeroOrIn};
 ghost use Rattle.ack_core.specs.Rule.{known_at};
-ghost use Rattle.ack_core.specs.Seats.{term_of, harts_of, keepers_of, keeper_of, published, heard, seen, IsKeeperOf, IsGateOf, IsSameKeeper, IsSameGate};
+ghost use Rattle.ack_core.specs.Seats.{term_of, harts_of, keepers_of, keeper_of, published, heard, last_counts, width_of, seen, IsKeeperOf, IsGateOf, IsSameKeeper, IsSameGate};
 ghost use Rattle.ack_core.specs.Seats.{IsDealt, Refuses, Publishes};
 
 use crate::board::{AckFault, Board};
@@ -17,6 +17,17 @@ use std::result::Result;
 
 /// The number of words that a board has at the most.
 const WORD_LIMIT: usize = KEEPER_LIMIT as usize * HART_LIMIT as usize;
+
+impl KeeperSeat {
+    /// What it published last for each hart, or 0.
+    pub fn last(&self) -> Counts
+        ensures value { result ≡ last_counts self.now }
+        ensures harts { length (last_counts self.now) ≡ width_of self.now }
+        ensures published { (h : ℕ) → h < width_of self.now → slice_index (last_counts self.now) h ≡ last_count (published self.now h) }
+    {
+        self.last
+    }
+}
 
 impl Board {
     /// A board of one term, on which each count is 0, with the seats of its keepers in order and a gate's seat.
@@ -99,6 +110,7 @@ impl Board {
         requires harts { length position.now.counts ≡ harts_of self.now }
         ensures same { IsKeeperOf self.now seat.new × (keeper_of seat.new ≡ keeper_of seat.old) }
         ensures ok { IfOk result (λ _. Publishes self.now seat.old position.now seat.new) }
+        ensures last { IfOk result (λ _. last_counts seat.new ≡ position.now.counts) }
         ensures refused { IfErr result (λ e. Refuses self.now seat.old position.now e × (seat.new ≡ seat.old)) }
     {
         if position.term != self.term {

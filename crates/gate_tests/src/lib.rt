@@ -10,4 +10,6 @@ mod made;
 #[cfg(test)]
 mod refused;
 #[cfg(test)]
+mod terms;
+#[cfg(test)]
 mod threads;

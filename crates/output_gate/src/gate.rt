@@ -137,6 +137,13 @@ impl Gate {
         offer_in(&mut self.lines, output)
     }
 
+    /// How many outputs of the hart were offered.
+    pub fn offered(&self, hart: Hart) -> usize
+        ensures { result ≡ length (offered_of self.now hart) }
+    {
+        self.lines[hart.index()].offered()
+    }
+
     /// Notes a count, where it is greater than what is noted.
     pub fn note(&mut self, keeper: Keeper, hart: Hart, count: Count)
         requires { keeper < self.old.keepers }

@@ -64,6 +64,13 @@ impl Line {
         Ok(self.offered.push(output)?)
     }
 
+    /// How many outputs were offered.
+    pub(crate) fn offered(&self) -> usize
+        ensures { result ≡ length (self.now.gone ++ self.now.waiting) }
+    {
+        self.offered.len()
+    }
+
     /// How many outputs wait.
     pub(crate) fn kept(&self) -> usize
         ensures value { result ≡ length self.now.waiting }

@@ -34,7 +34,7 @@ loop-keeper-preserved c = let i = c.loop-keeper.invariant in let k : ℕ = c.loo
       count = ap (λ (l : List KeeperSeat). length l) c.in_ok-push.ensures.items ∙ length-append c.loop-keeper.seats.items _ ∙ ap (λ (z : ℕ). z + 1) i.count;
       dealt = each_more
           (λ (j : ℕ) (s : KeeperSeat). (s.seat.table_id ≡ c.in_ok-table.table.shared.table_id) × (s.harts ≡ c.args.harts) × (s.keepers ≡ c.args.keepers) ×
-          (s.keeper ≡ j) × (s.seat.me.0.known ≡ replicate (c.args.keepers * c.args.harts) []))
+          (s.keeper ≡ j) × (s.seat.me.0.known ≡ replicate (c.args.keepers * c.args.harts) []) × (s.last ≡ replicate c.args.harts 0))
           c.loop-keeper.keeper _ _ _ c.in_ok-push.ensures.items i.count i.dealt (
             e.3 ∙ i.table,
             refl,
@@ -42,6 +42,7 @@ loop-keeper-preserved c = let i = c.loop-keeper.invariant in let k : ℕ = c.loo
             c.new.ensures,
             ap (λ (v : View). v.known)
                 (ap (λ m. m.0) e.4) ∙ i.known,
+            c.zero.ensures,
           );
     }
 
@@ -56,4 +57,5 @@ returns-clause-keepers c = let i = c.loop-keeper.invariant in let done = c.loop-
       x.3,
       λ h. ap (λ (l : List (List ℕ)). get_or l (s.keeper * s.harts + h) []) x.4 ∙ get_or-same (c.args.keepers * c.args.harts)
           (s.keeper * s.harts + h) [],
+      x.5,
     )

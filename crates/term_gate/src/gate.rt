@@ -1,0 +1,127 @@
+//! The gate.
+
+ghost use Rattle.std.specs.Prelude.{◌≡◌, ◌≢◌, ◌↔◌, ℕ, ◌<◌, ◌≤◌, ◌++◌, ◌∷◌, [], Err, length, replicate, slice_index, slice_set, IfOk, IfErr, OnOk, OnErr};
+ghost use Rattle.std.specs.List.{AllByRecursion};
+ghost use Rattle.output_gate.specs.Gates.{line_of, gone_of, waiting_of, offered_of, waiting_count, held_outputs, after_release};
+ghost use Rattle.output_gate.specs.Orders.{RiseByHart};
+ghost use Rattle.term_gate.specs.TermGates.{acked_at, AreAcked};
+
+use crate::seeing::{know_all, see_all};
+use ack_core::{AckFault, Board, GateSeat, KeeperSeat};
+use closed_cut::Position;
+use ft_types::{Hart, Keeper, Memory, Term};
+use output_gate::{Gate, Output};
+use std::alloc::Global;
+use std::marker::Model;
+use std::result::Result;
+
+/// The gate of a term, the board on which its keepers acknowledge, and their seats.
+///
+/// Contracts see the gate, and by keeper and hart the count that was acknowledged last.
+#[derive(Drop)]
+pub struct TermGate {
+    board: Board,
+    seats: Vec<KeeperSeat>,
+    gate_seat: GateSeat,
+    gate: Gate,
+}
+
+impl Model for TermGate {
+    ghost use Rattle.std.specs.Prelude.{map};
+    ghost use Rattle.ack_core.specs.Seats.{harts_of, last_counts};
+    ghost use Rattle.term_gate.specs.TermGates.{TermGateView, IsTermGate};
+
+    ghost Value = { TermGateView };
+
+    ghost view = { λ g. record { harts = harts_of g.board; acked = map last_counts g.seats.items; gate = g.gate } };
+
+    ghost invariant = { λ g. IsTermGate g.board g.seats.items g.gate_seat g.gate };
+}
+
+impl TermGate {
+    /// A gate to which nothing was offered, and a board on which nothing was published.
+    pub fn new(
+        alloc: Global,
+        term: Term,
+        harts: u8,
+        keepers: u8,
+        need: u8,
+    ) -> Result<TermGate, Memory>
+        requires harts { (0 < harts) × (harts ≤ 8) }
+        requires quorum { (0 < need) × (need ≤ keepers) × (keepers ≤ 5) }
+        ensures harts { IfOk result (λ g. g.harts ≡ harts) }
+        ensures parts { IfOk result (λ g. (g.gate.term ≡ term) × (g.gate.keepers ≡ keepers) × (g.gate.need ≡ need)) }
+        ensures acked { IfOk result (λ g. g.acked ≡ replicate keepers (replicate harts 0)) }
+        ensures lines { IfOk result (λ g. (hart : ℕ) → line_of g.gate hart ≡ record { gone = []; waiting = [] }) }
+    {
+        let (board, seats, gate_seat) = Board::new(alloc, term, harts, keepers)?;
+        Ok(TermGate {
+            board,
+            seats,
+            gate_seat,
+            gate: Gate::new(alloc, term, keepers, need),
+        })
+    }
+
+    /// The keeper acknowledges its store's position: a count for each hart. Where it is refused, nothing is acknowledged.
+    pub fn acknowledge(&mut self, keeper: Keeper, position: &Position) -> Result<(), AckFault>
+        requires keeper { keeper < self.old.gate.keepers }
+        requires harts { length position.now.counts ≡ self.old.harts }
+        ensures acked { OnOk result (self.new ≡ record self.old { acked = slice_set self.old.acked keeper position.now.counts }) }
+        ensures term { OnOk result (position.now.term ≡ self.old.gate.term) }
+        ensures no_lower { OnOk result ((hart : ℕ) → hart < self.old.harts → acked_at self.old keeper hart ≤ slice_index position.now.counts hart) }
+        ensures other_term { (result ≡ Err AckFault.OtherTerm) ↔ (position.now.term ≢ self.old.gate.term) }
+        ensures lower { IfErr result (λ fault. fault ≡ AckFault.Lower →
+            (hart : ℕ) × (hart < self.old.harts) × (slice_index position.now.counts hart < acked_at self.old keeper hart)) }
+        ensures kept { OnErr result (self.new ≡ self.old) }
+    {
+        let seat = &mut self.seats[keeper.index()];
+        let _last = seat.last();
+        self.board.publish(seat, position)
+    }
+
+    /// How many outputs of the hart were offered.
+    pub fn offered(&self, hart: Hart) -> usize
+        ensures { result ≡ length (offered_of self.now.gate hart) }
+    {
+        self.gate.offered(hart)
+    }
+
+    /// Takes a hart's next output, which isn't of an earlier step than those before it.
+    pub fn offer(&mut self, output: Output) -> Result<(), Memory>
+        requires number { output.number ≡ length (offered_of self.old.gate output.hart) }
+        requires steps { AllByRecursion (λ o. o.step ≤ output.step) (offered_of self.old.gate output.hart) }
+        ensures line { OnOk result (line_of self.new.gate output.hart
+            ≡ record { gone = gone_of self.old.gate output.hart; waiting = waiting_of self.old.gate output.hart ++ output ∷ [] }) }
+        ensures others { (hart : ℕ) → hart ≢ output.hart → line_of self.new.gate hart ≡ line_of self.old.gate hart }
+        ensures rest { self.new ≡ record self.old { gate = record self.old.gate { lines = self.new.gate.lines } } }
+        ensures err { OnErr result (self.new ≡ self.old) }
+    {
+        self.gate.offer(output)
+    }
+
+    /// How many outputs wait.
+    pub fn kept(&self) -> usize
+        ensures { result ≡ waiting_count self.now.gate.lines }
+    {
+        self.gate.kept()
+    }
+
+    /// Releases the outputs whose step enough keepers acknowledged, by hart, then number.
+    pub fn release(&mut self, alloc: Global) -> Result<Vec<Output>, Memory>
+        ensures acked { AreAcked self.old self.new.gate.noted }
+        ensures given { IfOk result (λ given. given.items ≡ held_outputs self.old.gate.need self.new.gate.noted self.old.gate.lines) }
+        ensures rising { IfOk result (λ given. RiseByHart given.items) }
+        ensures lines { OnOk result ((hart : ℕ) → hart < 8 →
+            line_of self.new.gate hart ≡ after_release self.old.gate.need self.new.gate.noted (line_of self.old.gate hart)) }
+        ensures rest { self.new ≡ record self.old {
+          gate = record self.old.gate { noted = self.new.gate.noted; lines = self.new.gate.lines };
+        } }
+        ensures err { OnErr result (self.new.gate.lines ≡ self.old.gate.lines) }
+    {
+        see_all(&self.board, &mut self.gate_seat, &mut self.seats);
+        let given = self.gate.look(alloc, &self.board, &mut self.gate_seat);
+        know_all(&self.board, &mut self.gate_seat, &mut self.seats);
+        given
+    }
+}
