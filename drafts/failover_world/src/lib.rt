@@ -1,0 +1,11 @@
+//! A primary, its keepers and the gate for its outputs, led by a list of events: what fails, what is lost, who goes live.
+#![tactic(auto)]
+
+mod event;
+mod held;
+mod stepping;
+mod term_gate;
+mod world;
+
+pub use event::{Event, Released, WorldFault};
+pub use world::World;
