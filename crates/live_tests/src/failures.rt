@@ -6,7 +6,7 @@ use fixtures::{Crew, Dice, hart, machine_of, opening_of, recorder};
 use fragment_codec::{Frame, Sealed};
 use ft_types::{Count, Counts, Hart, Keeper, Memory, Term};
 use go_live::Live;
-use guest_image::{Image, Machine};
+use guest_image::Image;
 use input_log::Input;
 use log_join::Store;
 use page_book::{Book, Keep, Recording};

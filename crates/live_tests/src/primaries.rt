@@ -1,11 +1,9 @@
 //! Primaries that record, and what is cut of them.
 
-use edge_log::EdgeLog;
-use fixtures::{Crew, hart, image_of, recorder};
+use fixtures::{Crew, hart, image_of};
 use fragment_codec::{Frame, Sealed, cut_pieces};
 use ft_types::{Count, Counts, Memory, Term};
 use guest_image::{Image, Machine};
-use input_log::InputLog;
 use page_book::{Book, Keep, Leg, Recording, Replaying};
 use std::alloc::Global;
 use std::test::Fail;

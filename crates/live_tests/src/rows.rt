@@ -1,7 +1,5 @@
 //! Stores that were worked out by hand.
 
-ghost use Rattle.std.specs.Prelude.{◌<◌, ◌≤◌};
-
 use crate::keepers::{goes_on, granted, store_of};
 use fixtures::{HALTS, TWO_LOOPS, edge, hart, image_of, key, opening_of, piece_of};
 use fragment_codec::Record;
