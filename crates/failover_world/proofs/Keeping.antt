@@ -1,0 +1,88 @@
+-- The world stays one that comes in the theory: what keepers do, and what stops.
+use Rattle.std.proofs.Common.{◌≡◌, ℕ, zero, suc, ◌<◌, Bool, true, false, List, [], ◌∷◌, ◌++◌, length, slice_get, slice_set, slice_index_or, get_or, Contains, Option, Some, None, refl, sym, ap, subst, ◌∙◌, arith}
+use Rattle.ft_types.specs.Counts.{count_at}
+use Rattle.guest_image.specs.Image.{guest_of}
+use Rattle.fragment_codec.specs.declared.frame.Frame.{Frame}
+use Rattle.log_join.specs.Stores.{StoreView, IsJoin, alone, nothing}
+use Rattle.closed_cut.specs.Position.{IsPosition}
+use Rattle.closed_cut.specs.declared.answer.Position.{Position}
+use Rattle.term_gate.specs.TermGates.{TermGateView, acked_at}
+use Rattle.failover_theory.specs.Worlds as theory
+use Rattle.failover_world.specs.declared.event.Released.{Released}
+use Rattle.failover_world.specs.Worlds.{WorldView, store_at, term_of}
+use Rattle.failover_world.specs.Tied.{theory_released, theory_world, quorum_of, IsTied}
+use Rattle.interleaving.specs.Lists.{put}
+use Rattle.failover_world.proofs.Places.{row_put, acked_put, there_too, is_below}
+
+pub contained : {A : Type 0} (xs : List A) (k : ℕ) (x : A) → slice_get xs k ≡ Some x → Contains xs x
+contained [] k x is = absurd cc
+contained (y ∷ xs) zero x is = (0, omega arith, let e : y ≡ x = cc in e)
+contained (y ∷ xs) (suc k) x is = let (j, below, same) = contained xs k x is in (suc j, omega (arith, below), same)
+
+module _ (v : WorldView) (is : IsTied v) where
+  -- what else there is than terms and frames may change as it does in the theory
+  pub changed : (runs : Bool) (stores : List (Option StoreView)) (gate : TermGateView) (released : List Released) (out : List theory.Released) →
+      theory.Comes is.is_recorder.recorder (guest_of v.image) (quorum_of v) (theory_world v.image.pages is.are_theory (guest_of v.image)
+      (record v { runs = runs; stores = stores; gate = gate; released = released }) is.terms out) →
+      ((r : Released) → Contains released r → Contains out (theory_released r)) →
+      IsTied (record v { runs = runs; stores = stores; gate = gate; released = released })
+  changed runs stores gate released out comes went_out =
+      record {
+        are_theory = is.are_theory;
+        is_recorder = is.is_recorder;
+        terms = is.terms;
+        out = out;
+        comes = comes;
+        went_out = went_out;
+        pieces = is.pieces;
+        is_book = is.is_book;
+        there = is.there;
+        of_book = is.of_book;
+        sealed = is.sealed;
+        opened = is.opened;
+        longer = is.longer;
+      }
+
+  -- a keeper's store is another
+  module _ (keeper : ℕ) (s : StoreView) (there : store_at v.stores keeper ≡ Some s) where
+    in_theory : slice_index_or v.stores keeper (Some (nothing (guest_of v.image))) ≡ Some s
+    in_theory = there_too v.stores keeper s (Some (nothing (guest_of v.image))) there
+
+    now_held : (x : Option StoreView) →
+        theory.Comes is.is_recorder.recorder (guest_of v.image) (quorum_of v)
+        (record (theory_world v.image.pages is.are_theory (guest_of v.image) v is.terms is.out) {
+          stores = put (λ j. slice_index_or v.stores j (Some (nothing (guest_of v.image)))) keeper x
+        }) →
+        IsTied (record v { stores = slice_set v.stores keeper x })
+    now_held x comes =
+        changed v.runs (slice_set v.stores keeper x) v.gate v.released is.out
+        (subst
+        (λ t. theory.Comes is.is_recorder.recorder (guest_of v.image) (quorum_of v)
+        (record (theory_world v.image.pages is.are_theory (guest_of v.image) v is.terms is.out) { stores = t }))
+        (sym (row_put v.stores keeper x (Some (nothing (guest_of v.image))) (is_below v.stores keeper s there))) comes) is.went_out
+
+    pub delivered : (number : ℕ) (f : Frame) (r : StoreView) → slice_get v.sent number ≡ Some f → IsJoin s (alone f) r →
+        IsTied (record v { stores = slice_set v.stores keeper (Some r) })
+    delivered number f r sent join =
+        now_held (Some r) (theory.Then is.comes (theory.Deliver keeper s r f in_theory (contained v.sent number f sent) join))
+
+    pub joined : (other : ℕ) (t r : StoreView) → store_at v.stores other ≡ Some t → IsJoin s t r →
+        IsTied (record v { stores = slice_set v.stores keeper (Some r) })
+    joined other t r at_other join =
+        now_held (Some r)
+        (theory.Then is.comes (theory.Join keeper other s t r in_theory (there_too v.stores other t (Some (nothing (guest_of v.image))) at_other) join))
+
+    pub lost : IsTied (record v { stores = slice_set v.stores keeper None })
+    lost = now_held None (theory.Then is.comes (theory.Lose keeper))
+
+    pub acknowledged : (p : Position) → IsPosition s p → p.term ≡ term_of v → keeper < length v.gate.acked →
+        IsTied (record v { gate = record v.gate { acked = slice_set v.gate.acked keeper p.counts } })
+    acknowledged p is_position term below =
+        changed v.runs v.stores (record v.gate { acked = slice_set v.gate.acked keeper p.counts }) v.released is.out
+        (subst
+        (λ t. theory.Comes is.is_recorder.recorder (guest_of v.image) (quorum_of v)
+        (record (theory_world v.image.pages is.are_theory (guest_of v.image) v is.terms is.out) { acked = t }))
+        (sym (acked_put v.gate.acked keeper p.counts below)) (theory.Then is.comes (theory.Acknowledge keeper s p in_theory is_position term))) is.went_out
+
+  pub stopped : IsTied (record v { runs = false })
+  stopped = changed false v.stores v.gate v.released is.out (theory.Then is.comes theory.Stop) is.went_out

@@ -1,0 +1,10 @@
+pub mod Places
+pub mod Rows
+pub mod Offers
+pub mod Ties
+pub mod Keeping
+pub mod Counting
+pub mod Going
+pub mod Releasing
+pub mod Parts
+pub mod Guests

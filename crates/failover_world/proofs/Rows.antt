@@ -1,0 +1,53 @@
+-- Lists that are written place by place.
+use Rattle.std.proofs.Common.{◌≡◌, ◌≢◌, ℕ, zero, suc, ◌+◌, ◌-◌, ◌<◌, ◌≤◌, List, [], ◌∷◌, ◌++◌, length, map, replicate, take, slice_set, slice_get, get_or, Option, Some, None, refl, sym, ap, subst, ◌∙◌, arith}
+
+pub set_next : {A : Type 0} (xs : List A) (n : ℕ) (x : A) → n < length xs → take n xs ≡ replicate n x → take (suc n) (slice_set xs n x) ≡ replicate (suc n) x
+set_next [] n x lt is = absurd (omega (arith, lt))
+set_next (y ∷ xs) zero x lt is = refl
+set_next (y ∷ xs) (suc n) x lt is =
+    let head : y ≡ x = cc in
+    let tail : take n xs ≡ replicate n x = cc in
+    ap (λ z. z ∷ take (suc n) (slice_set xs n x)) head ∙ ap (λ zs. x ∷ zs) (set_next xs n x (omega (arith, lt)) tail)
+
+pub take_all : {A : Type 0} (xs : List A) (n : ℕ) → length xs ≤ n → take n xs ≡ xs
+take_all [] zero le = refl
+take_all [] (suc n) le = refl
+take_all (x ∷ xs) zero le = absurd (omega (arith, le))
+take_all (x ∷ xs) (suc n) le = ap (λ ys. x ∷ ys) (take_all xs n (omega (arith, le)))
+
+pub take_next : {A : Type 0} (xs : List A) (n : ℕ) (x : A) → slice_get xs n ≡ Some x → take (suc n) xs ≡ take n xs ++ x ∷ []
+take_next [] n x is = absurd cc
+take_next (y ∷ xs) zero x is = ap (λ z. z ∷ []) (let e : y ≡ x = cc in e)
+take_next (y ∷ xs) (suc n) x is = ap (λ ys. y ∷ ys) (take_next xs n x is)
+
+pub take_length : {A : Type 0} (xs : List A) (n : ℕ) → n ≤ length xs → length (take n xs) ≡ n
+take_length [] zero le = refl
+take_length [] (suc n) le = absurd (omega (arith, le))
+take_length (x ∷ xs) zero le = refl
+take_length (x ∷ xs) (suc n) le = ap suc (take_length xs n (omega (arith, le)))
+
+pub set_set : {A : Type 0} (xs : List A) (i : ℕ) (x y : A) → slice_set (slice_set xs i x) i y ≡ slice_set xs i y
+set_set [] i x y = refl
+set_set (z ∷ xs) zero x y = refl
+set_set (z ∷ xs) (suc i) x y = ap (λ zs. z ∷ zs) (set_set xs i x y)
+
+pub set_own : {A : Type 0} (xs : List (Option A)) (i : ℕ) (x : Option A) → get_or xs i None ≡ x → slice_set xs i x ≡ xs
+set_own [] i x is = refl
+set_own (z ∷ xs) zero x is = ap (λ y. y ∷ xs) (sym is)
+set_own (z ∷ xs) (suc i) x is = ap (λ zs. z ∷ zs) (set_own xs i x is)
+
+pub set_elsewhere : {A : Type 0} (xs : List A) (i j : ℕ) (x d : A) → i ≢ j → get_or (slice_set xs i x) j d ≡ get_or xs j d
+set_elsewhere [] i j x d ne = refl
+set_elsewhere (z ∷ xs) zero zero x d ne = absurd (ne refl)
+set_elsewhere (z ∷ xs) zero (suc j) x d ne = refl
+set_elsewhere (z ∷ xs) (suc i) zero x d ne = refl
+set_elsewhere (z ∷ xs) (suc i) (suc j) x d ne = set_elsewhere xs i j x d (λ e. ne (ap suc e))
+
+-- what else would be there doesn't matter
+pub whatever : {A : Type 0} (xs : List A) (i : ℕ) (d e : A) → i < length xs → get_or xs i d ≡ get_or xs i e
+whatever [] i d e lt = absurd (omega (arith, lt))
+whatever (x ∷ xs) zero d e lt = refl
+whatever (x ∷ xs) (suc i) d e lt = whatever xs i d e (omega (arith, lt))
+
+pub same_some : {A : Type 0} (x y : A) → Some x ≡ Some y → x ≡ y
+same_some x y e = cc

@@ -1,0 +1,30 @@
+use Rattle.std.proofs.Common.{◌≡◌, ℕ, ◌≤◌, ◌<◌, List, length, take, slice_index_or, get_or, Some, sym, ap, subst, ◌∙◌, arith}
+use Rattle.std.specs.List.{AllByRecursion}
+use Rattle.std.proofs.lemmas.Option.{slice_get-get_or}
+use Rattle.output_gate.specs.declared.output.Output.{Output}
+use Rattle.output_gate.specs.Gates.{offered_of}
+use Rattle.go_live.specs.Outputs.{numbered}
+use Rattle.failover_world.proofs.Rows.{take_all}
+use Rattle.failover_world.proofs.Offers.{AtNumber, offers_none, numbered_many, next_number, steps_before}
+use Rattle.failover_world.proofs.gating.offer_hart.Goals as goal
+
+pub offer-requires-clause-steps : goal.offer-requires-clause-steps
+offer-requires-clause-steps c =
+    let lt = c.loop-number-test.true in
+    subst (AllByRecursion (λ (o : Output). o.step ≤ (slice_index_or c.args.outputs.now c.loop-number.number (0, 0)).0)) (sym c.loop-number.invariant.offered)
+    (steps_before c.args.hart c.loop-number.number c.args.outputs.now (slice_index_or c.args.outputs.now c.loop-number.number (0, 0)) c.requires.rising
+    (slice_get-get_or c.args.outputs.now c.loop-number.number (0, 0) (omega (arith, lt))))
+
+pub loop-number-preserved : goal.loop-number-preserved
+loop-number-preserved c =
+    let lt = c.loop-number-test.true in
+    next_number c.args.gate.now c.loop-number.gate c.offer.new.self c.args.hart c.loop-number.number c.args.outputs.now
+    (slice_index_or c.args.outputs.now c.loop-number.number (0, 0)) c.loop-number.invariant
+    (slice_get-get_or c.args.outputs.now c.loop-number.number (0, 0) (omega (arith, lt))) c.in_ok-offer.ensures.line c.in_ok-offer.ensures.others
+    c.in_ok-offer.ensures.rest
+
+pub returns-clause-all : goal.returns-clause-all
+returns-clause-all c =
+    let over = c.loop-number-test.false in
+    let many = numbered_many c.args.hart c.args.outputs.now in
+    c.loop-number.invariant.offered ∙ take_all (numbered c.args.hart c.args.outputs.now) c.loop-number.number (omega (arith, over, many))

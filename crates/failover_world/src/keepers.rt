@@ -1,0 +1,141 @@
+//! What each keeper holds.
+
+ghost use Rattle.std.specs.Prelude.{◌≡◌, ◌≢◌, ◌<◌, ◌≤◌, ℕ, length, map, replicate, slice_set, None, Some, IsTrue, IfOk, OnOk, OnErr, IfSome, IfNone, All, ◌↔◌};
+ghost use Rattle.std.specs.List.{Any};
+ghost use Rattle.log_join.specs.Stores.{StoreView, IsJoin, alone, nothing};
+ghost use Rattle.log_join.specs.Answers.{answer_to};
+ghost use Rattle.log_join.specs.declared.answers.Put.TheVariants.{OtherGuest};
+ghost use Rattle.failover_world.specs.Worlds.{store_at};
+ghost use Rattle.failover_world.specs.Happenings.{stores_of};
+
+use fragment_codec::Frame;
+use ft_types::{Guest, Keeper, Memory};
+use log_join::{Put, Store};
+use std::alloc::Global;
+use std::result::Result;
+
+/// The stores of so many keepers to which nothing came.
+pub(crate) fn empty_stores(
+    alloc: Global,
+    guest: Guest,
+    keepers: u8,
+) -> Result<Vec<Option<Store>>, Memory>
+    ensures { IfOk result (λ stores. stores.items ≡ replicate keepers (Some (nothing guest))) }
+{
+    let mut stores = Vec::new(alloc);
+    for _keeper in 0..keepers {
+        stores.push(Some(Store::new(alloc, guest)))?;
+    }
+    Ok(stores)
+}
+
+/// The store of the keeper of this number, where there is one that is not lost.
+pub(crate) fn held_by(stores: &[Option<Store>], number: u64) -> Option<&Store>
+    ensures some { IfSome result (λ s. store_at stores.now number ≡ Some s.now) }
+    ensures below { IfSome result (λ s. number < length stores.now) }
+    ensures none { IfNone result (store_at stores.now number ≡ None) }
+{
+    if number >= stores.len() as u64 {
+        return None;
+    }
+    stores[number as usize].as_ref()
+}
+
+/// The keeper of this number, where there is one that is not lost.
+pub(crate) fn keeper_at(stores: &[Option<Store>], number: u64) -> Option<Keeper>
+    requires { length stores.now ≤ 5 }
+    ensures some { IfSome result (λ k. k ≡ number) }
+    ensures below { IfSome result (λ k. number < length stores.now) }
+    ensures there { IfSome result (λ k. (s : StoreView) × (store_at stores.now number ≡ Some s)) }
+    ensures none { IfNone result (store_at stores.now number ≡ None) }
+{
+    let _store = held_by(stores, number)?;
+    Some(Keeper::new(number as u8))
+}
+
+/// A frame comes to the keeper, who is not lost. Where memory is refused its store is as it was.
+pub(crate) fn put(stores: &mut [Option<Store>], keeper: Keeper, frame: Frame) -> Result<(), Memory>
+    requires below { keeper < length stores.old }
+    requires own { (s : StoreView) → store_at stores.old keeper ≡ Some s → answer_to s frame ≢ OtherGuest }
+    requires there { (s : StoreView) × (store_at stores.old keeper ≡ Some s) }
+    ensures joined { OnOk result ((s : StoreView) → store_at stores.old keeper ≡ Some s →
+        (r : StoreView) × IsJoin s (alone frame) r × (stores.new ≡ slice_set stores.old keeper (Some r))) }
+    ensures kept { OnErr result (stores.new ≡ stores.old) }
+{
+    let taken = stores[keeper.index()].take();
+    let Some(mut store) = taken else {
+        unreachable!();
+    };
+    let answer = store.put(frame);
+    stores[keeper.index()] = Some(store);
+    let _put = answer?;
+    Ok(())
+}
+
+/// The keeper joins the other's store. Neither is lost. Where memory is refused its store is as it was.
+pub(crate) fn join(
+    stores: &mut [Option<Store>],
+    alloc: Global,
+    keeper: Keeper,
+    other: Keeper,
+) -> Result<(), Memory>
+    requires below { (keeper < length stores.old) × (other < length stores.old) }
+    requires there { (s : StoreView) × (store_at stores.old keeper ≡ Some s) }
+    requires at_other { (s : StoreView) × (store_at stores.old other ≡ Some s) }
+    requires own { (s t : StoreView) → store_at stores.old keeper ≡ Some s → store_at stores.old other ≡ Some t → s.guest ≡ t.guest }
+    ensures joined { OnOk result ((s t : StoreView) → store_at stores.old keeper ≡ Some s → store_at stores.old other ≡ Some t →
+        (r : StoreView) × IsJoin s t r × (stores.new ≡ slice_set stores.old keeper (Some r))) }
+    ensures kept { OnErr result (stores.new ≡ stores.old) }
+{
+    if keeper == other {
+        return Ok(());
+    }
+    let taken = stores[keeper.index()].take();
+    let Some(mut store) = taken else {
+        unreachable!();
+    };
+    let Some(held) = &stores[other.index()] else {
+        unreachable!();
+    };
+    let joined = store.join(alloc, held);
+    stores[keeper.index()] = Some(store);
+    match joined {
+        Ok(()) => Ok(()),
+        Err(_) => Err(Memory),
+    }
+}
+
+/// Whether each of these keepers is there.
+pub(crate) fn are_there(stores: &[Option<Store>], numbers: &[u64]) -> bool
+    ensures all { IsTrue result → All (λ k. store_at stores.now k ≢ None) numbers.now }
+    ensures missing { (IsTrue result → ⊥) → Any (λ k. store_at stores.now k ≡ None) numbers.now }
+{
+    for number in numbers {
+        if held_by(stores, *number).is_none() {
+            return false;
+        }
+    }
+    true
+}
+
+/// The stores of these keepers, each once; of those that are not there, none.
+pub(crate) fn stores_named<'a>(
+    alloc: Global,
+    stores: &'a [Option<Store>],
+    numbers: &[u64],
+) -> Result<Vec<(Keeper, &'a Store)>, Memory>
+    requires { length stores.now ≤ 5 }
+    ensures keepers { IfOk result (λ named. map (λ s. s.0) named.items ≡ map (λ s. s.0) (stores_of stores.now numbers.now)) }
+    ensures stores { IfOk result (λ named. map (λ s. s.1.now) named.items ≡ map (λ s. s.1) (stores_of stores.now numbers.now)) }
+{
+    let mut named = Vec::new(alloc);
+    named.reserve(stores.len())?;
+    for number in 0..stores.len() {
+        if numbers.contains(&(number as u64))
+            && let Some(store) = held_by(stores, number as u64)
+        {
+            named.push_reserved((Keeper::new(number as u8), store));
+        }
+    }
+    Ok(named)
+}

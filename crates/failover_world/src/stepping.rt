@@ -1,0 +1,49 @@
+//! One step of a primary's hart.
+
+ghost use Rattle.std.specs.Prelude.{◌≡◌, ◌<◌, ◌≤◌, ℕ, None, length, OnOk, OnErr, IfErr};
+ghost use Rattle.ft_types.specs.Counts.{count_at};
+ghost use Rattle.hart_lease.specs.Runs.{counts_of};
+ghost use Rattle.primary_pool.specs.Running.{IsIdle};
+ghost use Rattle.failover_world.specs.Steps.{HasStepped, IsUnmoved, IsRefused, RefusesStep};
+
+use ft_types::{Hart, Memory};
+use lease_rounds::go;
+use page_book::{Book, BookFault, Keep, Recording, books_tell_on};
+use std::alloc::Global;
+use std::result::Result;
+
+/// One step of the hart, which keeps no rights. Where it is refused no step is taken.
+pub(crate) fn take_step(
+    alloc: Global,
+    book: &mut Book<Recording>,
+    hart: Hart,
+) -> Result<(), BookFault>
+    requires hart { hart < length book.old.machine.harts }
+    requires idle { IsIdle book.old }
+    requires within { (other : ℕ) → counts_of book.old.machine other ≤ count_at book.old.mode.limits other }
+    ensures stepped { OnOk result (HasStepped hart book.old book.new) }
+    ensures open { OnOk result (IsRefused book.old hart None) }
+    ensures refused { IfErr result (λ fault. RefusesStep book.old hart fault) }
+    ensures unmoved { OnErr result (IsUnmoved book.old book.new) }
+{
+    books_tell_on();
+    let limits = book.limits();
+    let state = book.machine().hart(hart);
+    if state.is_halted() {
+        return Err(BookFault::Halted);
+    }
+    let count = state.count();
+    if count >= limits.get(hart) {
+        return Err(BookFault::AtLimit);
+    }
+    let mut once = book.counts();
+    once.set(hart, count + 1);
+    book.limit_at(once);
+    let went = go(alloc, book, hart, Keep::Nothing);
+    book.limit_at(limits);
+    match went {
+        Ok(true) => Ok(()),
+        Ok(false) => unreachable!(),
+        Err(Memory) => Err(BookFault::Memory),
+    }
+}
