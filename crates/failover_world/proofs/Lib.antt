@@ -5,6 +5,7 @@ pub mod Ties
 pub mod Keeping
 pub mod Counting
 pub mod Going
+pub mod Sealing
 pub mod Releasing
 pub mod Parts
 pub mod Guests
