@@ -75,7 +75,7 @@ beyond (x ∷ xs) zero d lt = absurd (omega (arith, lt))
 beyond (x ∷ xs) (suc k) d lt = beyond xs k d (omega (arith, lt))
 
 not_true : (b : Bool) → (b ≡ true → ⊥) → b ≡ false
-not_true true no = absurd (no refl)
+not_true true never = absurd (never refl)
 not_true false _ = refl
 
 chained : (a b c d e : ℕ) → a ≡ b → c ≡ b → d ≡ c → d ≤ e → a ≤ e

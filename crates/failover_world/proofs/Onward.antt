@@ -17,8 +17,8 @@ use Rattle.failover_world.specs.Worlds.{WorldView, said_by, said_at}
 use Rattle.failover_world.specs.Gating.{AreOffered}
 use Rattle.failover_world.specs.Tied.{IsTied}
 use Rattle.failover_world.proofs.Offers.{numbered_many}
-use Rattle.failover_world.proofs.Ties.{with_book, new_book, goes_on}
-use Rattle.failover_world.proofs.Releasing.{in_theory, outputs_are}
+use Rattle.failover_world.proofs.Ties.{new_book}
+use Rattle.failover_world.proofs.Releasing.{in_theory, book_outputs}
 
 -- the second list has what the first one has
 abbrev Extends : List (ℕ × ℕ) → List (ℕ × ℕ) → Type 0
@@ -75,4 +75,4 @@ module _ (v : WorldView) (is : IsTied v) (c : BookView RecordingView) (runs : v.
       let was = in_theory v is before hart n o.0 o.1 at in
       let now = is.is_recorder.recorder.old_outputs b d fact (is.is_recorder.tells fact) hart n (record { step = o.0; word = o.1 }) was in
       from_theory (slice_get c.machine.harts hart) n o
-      (ap (λ os. slice_get os n) (sym (outputs_are (with_book v c) (goes_on v is c runs on primary) after hart)) ∙ now)
+      (ap (λ os. slice_get os n) (sym (book_outputs v.image is.are_theory is.is_recorder c (new_book v is c runs on primary) after hart)) ∙ now)

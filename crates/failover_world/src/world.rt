@@ -21,7 +21,7 @@ ghost use Rattle.failover_world.specs.Promises.{IsOne, IsOfMachine, IsKept, AreH
 use crate::event::{Event, Released, WorldFault};
 use crate::gating::{add_released, offer_all};
 use crate::keepers::{are_there, empty_stores, held_by, join, keeper_at, put, stores_named};
-use crate::primary::{Primary, boot, no_limits};
+use crate::primary::{Primary, boot, no_limits, tell_primary};
 use crate::stepping::take_step;
 use closed_cut::position;
 use fragment_codec::{Frame, Sealed, cut_pieces};
@@ -185,10 +185,9 @@ impl World {
         if !self.runs {
             return Err(WorldFault::NoPrimary);
         }
-        let _before = self.primary.book.machine();
+        tell_primary(&self.primary.book);
         let stepped = take_step(alloc, &mut self.primary.book, hart);
-        let _edges = self.primary.book.edges();
-        let _machine = self.primary.book.machine();
+        tell_primary(&self.primary.book);
         Ok(stepped?)
     }
 
@@ -203,7 +202,7 @@ impl World {
             return Err(WorldFault::NoPrimary);
         }
         let offered = self.primary.book.offer(hart, 0, input);
-        let _edges = self.primary.book.edges();
+        tell_primary(&self.primary.book);
         Ok(offered?)
     }
 

@@ -9,6 +9,10 @@ use Rattle.failover_world.specs.Tied.{IsWorld}
 use Rattle.failover_world.proofs.Parts.{with_new_book}
 use Rattle.failover_world.proofs.Ties.{with_book, goes_on}
 use Rattle.failover_world.proofs.Onward.{offered_on, more_said}
+use Rattle.guest_image.specs.Machine.{MachineState}
+use Rattle.hart_lease.specs.Runs.{counts_of}
+use Rattle.ft_types.specs.Counts.{count_at}
+use Rattle.failover_world.specs.Gating.{AreOffered}
 use Rattle.failover_world.proofs.world.World.offer.Goals as goal
 
 pub invariant_of-self-2 : goal.invariant_of-self-2
@@ -34,8 +38,14 @@ invariant_of-self-2 c =
       tells = tells_the_same v.primary.book d (ap (λ (x : BookView RecordingView). x.machine) same) (ap (λ (m : RecordingView). m.inputs) mode)
           (ap (λ (m : RecordingView). m.edges) mode);
     } in
-    let primary : IsPrimary d = ? in
+    let machine : d.machine ≡ v.primary.book.machine = ap (λ (x : BookView RecordingView). x.machine) same in
     record {
-      parts = with_new_book v c.self.invariant.parts d ? ? ? ?;
-      tied = goes_on v c.self.invariant.tied d ? on primary;
+      parts = with_new_book v c.self.invariant.parts d (ap (λ (x : BookView RecordingView). x.leases) same ∙ c.self.invariant.parts.idle)
+          (λ hart.
+          subst (λ m. counts_of m hart ≤ count_at d.mode.limits hart) (sym machine)
+          (subst (λ limits. counts_of v.primary.book.machine hart ≤ count_at limits hart) (sym (ap (λ (m : RecordingView). m.limits) mode))
+          (c.self.invariant.parts.within hart)))
+          (ap (λ (m : MachineState). length m.harts) machine)
+          (subst (AreOffered v.gate.gate) (sym machine) c.self.invariant.parts.offered);
+      tied = goes_on v c.self.invariant.tied d c.if-not-self.false on c.tell_primary.ensures.primary;
     }
