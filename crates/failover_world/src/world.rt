@@ -139,6 +139,7 @@ impl World {
         ensures kept { IsKept self.now }
         ensures held { AreHeld self.now }
     {
+        let _machine = self.primary.book.machine();
         self.released.as_slice()
     }
 
