@@ -1,5 +1,5 @@
 -- What holds of the outputs that went out, by the theory of failover.
-use Rattle.std.proofs.Common.{◌≡◌, ℕ, zero, suc, ◌<◌, ◌≤◌, Bool, true, List, [], ◌∷◌, map, slice_get, slice_index_or, Contains, Option, Some, None, refl, sym, ap, subst, ◌∙◌, arith}
+use Rattle.std.proofs.Common.{◌≡◌, ℕ, zero, suc, ◌<◌, List, [], ◌∷◌, map, slice_get, Contains, Option, Some, None, refl, sym, ap, subst, ◌∙◌}
 use Rattle.ft_types.specs.Counts.{count_at}
 use Rattle.rv32_hart.specs.Hart.{Hart}
 use Rattle.guest_image.specs.Image.{guest_of}
@@ -8,21 +8,17 @@ use Rattle.book_modes.specs.Recordings.{heard_by}
 use Rattle.fragment_codec.specs.declared.frame.Frame.TheVariants.{Opening}
 use Rattle.fragment_codec.specs.Rules.{OpeningParts, IsGuest}
 use Rattle.log_join.specs.Families.{Past}
-use Rattle.log_join.specs.Stores.{StoreView, nothing}
+use Rattle.log_join.specs.Stores.{nothing}
 use Rattle.log_join.proofs.Families.{granted_opening}
-use Rattle.closed_cut.specs.Position.{IsPosition}
-use Rattle.closed_cut.specs.declared.answer.Position.{Position}
 use Rattle.book_recorder.specs.TermBooks.{outputs_of}
 use Rattle.failover_theory.specs.Recorders.{Output as TheoryOutput}
 use Rattle.failover_theory.specs.Families.{Keeps, Here as IsHere, Above as IsAbove}
-use Rattle.failover_theory.specs.Worlds as theory
 use Rattle.failover_theory.specs.Laws.{IsFailover}
 use Rattle.failover_theory.proofs.Events.{failover}
 use Rattle.failover_theory.proofs.Ruled.{ruled}
-use Rattle.failover_world.specs.declared.event.Released.{Released}
-use Rattle.failover_world.specs.Worlds.{WorldView, store_at, said_by, said_at, term_of}
-use Rattle.failover_world.specs.Promises.{IsInChain, Here, Above, IsHeld, IsOne, IsOfMachine, IsKept, AreHeld}
-use Rattle.failover_world.specs.Tied.{TermBook, Books, retold, retold_in, told_as, theory_released, theory_world, quorum_of, live_book, IsTied}
+use Rattle.failover_world.specs.Worlds.{WorldView, said_by}
+use Rattle.failover_world.specs.Promises.{IsInChain, Here, Above, IsOne, IsOfMachine, IsKept, AreHeld}
+use Rattle.failover_world.specs.Tied.{Books, retold, retold_in, told_as, theory_released, theory_world, quorum_of, live_book, IsTied}
 use Rattle.failover_world.proofs.Places.{there_too}
 use Rattle.failover_world.proofs.Releasing.{outputs_are}
 
