@@ -109,6 +109,7 @@ impl World {
     {
         let guest = image.guest();
         let primary = boot(alloc, image)?;
+        let _edges = primary.book.edges();
         let mut sent = Vec::new(alloc);
         sent.push(Frame::Opening(primary.opening.copy()))?;
         let own = image.copy()?;
