@@ -1,12 +1,11 @@
 -- The first world is one of the theory.
-use Rattle.std.proofs.Common.{◌≡◌, ◌⊎◌, inl, inr, ℕ, zero, suc, ◌<◌, ◌≤◌, Bool, true, false, List, [], ◌∷◌, ◌++◌, ◌==◌, length, replicate, take, slice_get, slice_index_or, get_or, Contains, if◌then◌else◌, Option, Some, None, refl, sym, ap, subst, ◌∙◌, arith}
+use Rattle.std.proofs.Common.{◌≡◌, inl, inr, ℕ, ◌<◌, ◌≤◌, Bool, true, false, List, [], ◌∷◌, ◌++◌, ◌==◌, length, replicate, take, slice_get, slice_index_or, get_or, Contains, if◌then◌else◌, Option, Some, None, refl, sym, ap, subst, ◌∙◌, arith}
 use Rattle.std.proofs.Math.Path.{fun_ext}
 use Rattle.std.specs.List.{range_with_len}
 use Rattle.std.proofs.lemmas.Bool.{cases_lt}
 use Rattle.std.proofs.lemmas.List.{get_or_past, get_or-replicate, length-replicate}
 use Rattle.ft_types.specs.Counts.{count_at}
 use Rattle.interleaving.specs.Lists.{put}
-use Rattle.interleaving.specs.Machine.{counts}
 use Rattle.interleaving.specs.Stored.{system_of, view}
 use Rattle.interleaving.proofs.Put.{same_or_not, put_same, put_other}
 use Rattle.interleaving.proofs.Cuts.{here}
@@ -23,7 +22,7 @@ use Rattle.log_join.specs.Stores.{StoreView, nothing}
 use Rattle.closed_cut.proofs.Chains.{zero_row}
 use Rattle.output_gate.specs.Gates.{LineView, line_of}
 use Rattle.term_gate.specs.TermGates.{acked_at}
-use Rattle.hart_replay.specs.Images.{GuestTerm, GuestHistory, boot_of, IsHistoryOf}
+use Rattle.hart_replay.specs.Images.{GuestHistory, boot_of, IsHistoryOf}
 use Rattle.hart_replay.specs.Primaries.{IsPrimary}
 use Rattle.hart_replay.proofs.failovers.Books.{unsealed_from_boot}
 use Rattle.hart_replay.proofs.honesty.Primaries.{primaries_are_histories}
@@ -36,9 +35,9 @@ use Rattle.failover_theory.proofs.Recording.{of_logs}
 use Rattle.go_live.specs.Histories.{MakesLonger}
 use Rattle.go_live.specs.Outputs.{numbered}
 use Rattle.failover_world.specs.declared.event.Released.{Released}
-use Rattle.failover_world.specs.Primaries.{no_limits, opening_at_boot, IsBooted}
+use Rattle.failover_world.specs.Primaries.{IsBooted}
 use Rattle.failover_world.specs.Worlds.{WorldView, said_at, term_of}
-use Rattle.failover_world.specs.Tied.{TermBook, Books, retold, retold_in, history, told_as, theory_released, theory_world, quorum_of, live_book, live_term, AreParts, IsTied, IsWorld}
+use Rattle.failover_world.specs.Tied.{TermBook, Books, retold_in, history, told_as, theory_world, quorum_of, live_book, AreParts, IsTied, IsWorld}
 use Rattle.failover_world.proofs.Places.{retold_put, put_put}
 
 -- ---- rows of one thing

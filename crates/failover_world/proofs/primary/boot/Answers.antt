@@ -1,4 +1,4 @@
-use Rattle.std.proofs.Common.{◌≡◌, length, ap, sym, ◌∙◌, ◌^◌, ◌-◌}
+use Rattle.std.proofs.Common.{length, ap, sym, ◌∙◌, ◌^◌, ◌-◌}
 use Rattle.std.proofs.lemmas.List.{length-replicate}
 use Rattle.guest_image.specs.Machine.{MachineState}
 use Rattle.hart_replay.proofs.walking.Outcomes.{booted_length}

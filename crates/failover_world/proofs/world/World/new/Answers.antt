@@ -7,10 +7,9 @@ use Rattle.fragment_codec.specs.Rules.{IsGuest, OpeningParts}
 use Rattle.fragment_codec.specs.declared.frame.Frame.{Frame}
 use Rattle.fragment_codec.specs.declared.frame.Frame.TheVariants.{Opening}
 use Rattle.log_join.specs.Stores.{nothing}
-use Rattle.failover_world.specs.declared.primary.Primary.{Primary}
 use Rattle.failover_world.specs.Primaries.{IsBooted}
 use Rattle.failover_world.specs.Worlds.{WorldView}
-use Rattle.failover_world.proofs.Beginning.{IsFirst, first_world}
+use Rattle.failover_world.proofs.Beginning.{first_world}
 use Rattle.failover_world.proofs.world.World.new.Goals as goal
 
 pub invariant_of-result : goal.invariant_of-result
