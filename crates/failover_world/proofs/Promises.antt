@@ -44,7 +44,9 @@ untold f (Some p) q is = (p, refl, let e : retold f p ≡ q = cc in ap (λ (r : 
 
 module _ (v : WorldView) (is : IsTied v) where
   laws : IsFailover is.is_recorder.recorder (quorum_of v) (theory_world v.image.pages is.are_theory (guest_of v.image) v is.terms is.out)
-  laws = failover is.is_recorder.recorder (guest_of v.image) (quorum_of v) (theory_world v.image.pages is.are_theory (guest_of v.image) v is.terms is.out) is.comes
+  laws =
+      failover is.is_recorder.recorder (guest_of v.image) (quorum_of v) (theory_world v.image.pages is.are_theory (guest_of v.image) v is.terms is.out)
+      is.comes
 
   pub is_one : IsOne v
   is_one r s has_r has_s hart number =
