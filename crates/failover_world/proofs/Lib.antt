@@ -5,8 +5,10 @@ pub mod Ties
 pub mod Keeping
 pub mod Counting
 pub mod Going
+pub mod Sealing
 pub mod Releasing
 pub mod Parts
 pub mod Guests
+pub mod Onward
 pub mod Promises
 pub mod Beginning

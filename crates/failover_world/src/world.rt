@@ -187,7 +187,11 @@ impl World {
         if !self.runs {
             return Err(WorldFault::NoPrimary);
         }
-        Ok(take_step(alloc, &mut self.primary.book, hart)?)
+        let _before = self.primary.book.machine();
+        let stepped = take_step(alloc, &mut self.primary.book, hart);
+        let _edges = self.primary.book.edges();
+        let _machine = self.primary.book.machine();
+        Ok(stepped?)
     }
 
     fn offer(&mut self, hart: Hart, input: Input) -> Result<(), WorldFault>
