@@ -90,9 +90,8 @@ module _ (v : WorldView) (is : IsTied v) where
 
     pub is_kept : IsKept v
     is_kept r o has sent later =
-        let (q, at, same) = granted_opening told_terms o.term o (laws.honest.frames (Opening o) sent) in
-        (
+        let (q, at, same) = granted_opening told_terms o.term o (laws.honest.frames (Opening o) sent) in (
           in_chain r.term r.output.hart r.output.step (laws.kept (theory_released r) o.term q (is.went_out r has) at later),
           subst (λ (p : OpeningParts). r.output.step < count_at p.base r.output.hart) same
-          (laws.within (theory_released r) o.term q (is.went_out r has) at later),
+              (laws.within (theory_released r) o.term q (is.went_out r has) at later),
         )
