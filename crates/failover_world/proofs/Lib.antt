@@ -10,3 +10,5 @@ pub mod Releasing
 pub mod Parts
 pub mod Guests
 pub mod Onward
+pub mod Promises
+pub mod Beginning

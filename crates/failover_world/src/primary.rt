@@ -42,13 +42,14 @@ pub(crate) fn boot(alloc: Global, image: &Image) -> Result<Primary, Memory>
     ensures guest { IsGuest (guest_of image.now) }
 {
     let guest = image.guest();
+    let harts = image.harts();
     let opening = first_opening(guest);
     let start = Machine::boot(alloc, image)?;
-    let book = Book::<Recording>::begin(alloc, start, no_limits(guest.harts))?;
+    let book = Book::<Recording>::begin(alloc, start, no_limits(harts))?;
     Ok(Primary {
         opening,
         book,
-        sealed: Sealed::new(Counts::zero(guest.harts)),
+        sealed: Sealed::new(Counts::zero(harts)),
     })
 }
 

@@ -109,6 +109,7 @@ impl World {
     {
         let guest = image.guest();
         let primary = boot(alloc, image)?;
+        let _edges = primary.book.edges();
         let mut sent = Vec::new(alloc);
         sent.push(Frame::Opening(primary.opening.copy()))?;
         let own = image.copy()?;
@@ -139,6 +140,7 @@ impl World {
         ensures kept { IsKept self.now }
         ensures held { AreHeld self.now }
     {
+        let _machine = self.primary.book.machine();
         self.released.as_slice()
     }
 
