@@ -12,3 +12,5 @@ pub mod Guests
 pub mod Onward
 pub mod Promises
 pub mod Beginning
+pub mod Waiting
+pub mod Gates

@@ -287,8 +287,10 @@ impl World {
             return Err(WorldFault::Memory);
         }
         let term = self.primary.opening.term();
-        let given = self.gate.release(alloc)?;
-        add_released(&mut self.released, term, &given);
+        let _before = self.gate.offered(Hart::new(0));
+        let given = self.gate.release(alloc);
+        let _after = self.gate.offered(Hart::new(0));
+        add_released(&mut self.released, term, &given?);
         Ok(())
     }
 

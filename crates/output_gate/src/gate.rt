@@ -139,7 +139,8 @@ impl Gate {
 
     /// How many outputs of the hart were offered.
     pub fn offered(&self, hart: Hart) -> usize
-        ensures { result ≡ length (offered_of self.now hart) }
+        ensures number { result ≡ length (offered_of self.now hart) }
+        ensures harts { length self.now.lines ≡ 8 }
     {
         self.lines[hart.index()].offered()
     }

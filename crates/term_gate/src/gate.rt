@@ -82,7 +82,8 @@ impl TermGate {
 
     /// How many outputs of the hart were offered.
     pub fn offered(&self, hart: Hart) -> usize
-        ensures { result ≡ length (offered_of self.now.gate hart) }
+        ensures number { result ≡ length (offered_of self.now.gate hart) }
+        ensures harts { length self.now.gate.lines ≡ 8 }
     {
         self.gate.offered(hart)
     }
