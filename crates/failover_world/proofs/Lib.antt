@@ -8,3 +8,4 @@ pub mod Going
 pub mod Releasing
 pub mod Parts
 pub mod Guests
+pub mod Chosen
