@@ -9,3 +9,4 @@ pub mod Releasing
 pub mod Parts
 pub mod Guests
 pub mod Chosen
+pub mod Granting
