@@ -4,7 +4,8 @@ use Rattle.std.specs.List.{range_with_len}
 use Rattle.std.proofs.lemmas.List.Elements.{Contains-append_left, Contains-push}
 use Rattle.std.proofs.Math.Path.{fun_ext}
 use Rattle.ft_types.specs.Counts.{count_at}
-use Rattle.interleaving.specs.Lists.{put}
+use Rattle.edge_log.specs.EdgeLog.{start_of}
+use Rattle.interleaving.specs.Lists.{put, Each, EachPair}
 use Rattle.interleaving.specs.Machine.{Machine, Turn, at}
 use Rattle.interleaving.specs.Log.{IsCut}
 use Rattle.interleaving.specs.Stored.{system_of, view}
@@ -31,6 +32,7 @@ use Rattle.hart_replay.proofs.honesty.Sealing.{unsealed_is_of_book}
 use Rattle.hart_replay.proofs.honesty.Replays.{legs_keep_pages, boot_pages}
 use Rattle.failover_theory.specs.Machines.{Book, BookFact, AreTidy, AtBoot, AtCut}
 use Rattle.failover_theory.specs.Lists.{how_many}
+use Rattle.failover_theory.specs.Recorders.{Output as TheoryOutput}
 use Rattle.failover_theory.specs.Worlds as theory
 use Rattle.failover_theory.proofs.Invariant.{Invariant}
 use Rattle.failover_theory.proofs.Events.{always}
@@ -38,10 +40,11 @@ use Rattle.failover_theory.proofs.Stores.{see}
 use Rattle.book_recorder.specs.TermBooks.{outputs_of, IsTermBook, IsRevived}
 use Rattle.book_recorder.proofs.Books.{revived_are_term_books}
 use Rattle.term_gate.specs.TermGates.{TermGateView, acked_at}
-use Rattle.go_live.specs.Lives.{opening_from}
+use Rattle.go_live.specs.Lives.{opening_from, IsAtPosition}
 use Rattle.go_live.specs.Histories.{MakesLonger}
 use Rattle.failover_world.specs.declared.primary.Primary.{Primary}
-use Rattle.failover_world.specs.Worlds.{WorldView, term_of}
+use Rattle.failover_world.specs.Worlds.{WorldView, term_of, said_by, said_at}
+use Rattle.failover_world.specs.Gating.{AreRising}
 use Rattle.failover_world.specs.Happenings.{GoesLive, stores_of}
 use Rattle.failover_world.specs.Tied.{TermBook, retold, retold_in, history, told_as, theory_world, quorum_of, live_book, live_term, AreParts, IsTied, BeginsTerm}
 use Rattle.failover_world.proofs.Places.{retold_put, put_put}
@@ -71,31 +74,45 @@ some_is x y e = cc
 no_some : {A : Type 0} (x : A) (a : Option A) → a ≡ None → a ≡ Some x → ⊥
 no_some x a none some = let e : None ≡ Some x = sym none ∙ some in cc
 
-module _ (v : WorldView) (is : IsTied v) (parts : AreParts v) (term : ℕ) (named : List ℕ) (p : Primary) (g : TermGateView)
-    (live : GoesLive v term named p g) (begins : BeginsTerm v term named p) where
+each_mapped : {A B : Type 0} (P : B → Type 0) (f : A → B) (xs : List A) → Each P (map f xs) → Each (λ x. P (f x)) xs
+each_mapped P f [] all = tt
+each_mapped P f (x ∷ xs) (first, rest) = (first, each_mapped P f xs rest)
+
+pair_mapped : {A B : Type 0} (R : B → B → Type 0) (f : A → B) (xs : List A) → EachPair R (map f xs) → EachPair (λ a b. R (f a) (f b)) xs
+pair_mapped R f [] all = tt
+pair_mapped R f (x ∷ xs) (first, rest) = (each_mapped (R (f x)) f xs first, pair_mapped R f xs rest)
+
+-- the outputs of the machine with which it begins stand in the order of their steps
+rising_said : (h : Option Hart) → EachPair (λ o p. o.step < p.step) (outputs_of h) → EachPair (λ a b. a.0 < b.0) (said_by h)
+rising_said None rising = tt
+rising_said (Some h) rising = pair_mapped (λ (o p : TheoryOutput). o.step < p.step) (λ o. record { step = o.0; word = o.1 }) h.outputs rising
+
+module _ (v : WorldView) (is : IsTied v) (term : ℕ) (named : List ℕ) (p : Primary)
+    (begun_at : IsAtPosition v.image (map (λ s. s.1) (stores_of v.stores named)) term p.book.start p.opening) (later : term_of v < term)
+    (log_start : (hart : ℕ) → start_of p.book.mode.edges hart ≡ counts_of p.book.start hart) (begins : BeginsTerm v term named p) where
   abbrev pages : ℕ
   pages = v.image.pages
 
   abbrev position : Position
-  position = live.at.position
+  position = begun_at.position
 
   abbrev cut : ℕ → ℕ
-  cut = count_at live.at.position.counts
+  cut = count_at begun_at.position.counts
 
   abbrev tell : TermBook v.image.pages → TermHistory (Option Hart) (Option (List ℕ))
   tell t = history_of t.book
 
   base : (hart : ℕ) → count_at p.opening.base hart ≡ counts_of p.book.start hart
-  base hart = ap (λ (o : OpeningParts). count_at o.base hart) live.at.opened ∙ sym (live.at.replayed.counts hart)
+  base hart = ap (λ (o : OpeningParts). count_at o.base hart) begun_at.opened ∙ sym (begun_at.replayed.counts hart)
 
   is_term : p.opening.term ≡ term
-  is_term = ap (λ (o : OpeningParts). o.term) live.at.opened
+  is_term = ap (λ (o : OpeningParts). o.term) begun_at.opened
 
   parent : p.opening.parent ≡ position.term
-  parent = ap (λ (o : OpeningParts). o.parent) live.at.opened
+  parent = ap (λ (o : OpeningParts). o.parent) begun_at.opened
 
   as_large : length p.book.start.pages ≡ v.image.pages
-  as_large = legs_keep_pages live.at.replayed.legs (boot_machine v.image) p.book.start live.at.replayed.outcome ∙ boot_pages v.image
+  as_large = legs_keep_pages begun_at.replayed.legs (boot_machine v.image) p.book.start begun_at.replayed.outcome ∙ boot_pages v.image
 
   kept : Invariant is.is_recorder.recorder (quorum_of v) (theory_world v.image.pages is.are_theory (guest_of v.image) v is.terms is.out)
   kept = always is.is_recorder.recorder (guest_of v.image) (quorum_of v) is.comes
@@ -108,7 +125,7 @@ module _ (v : WorldView) (is : IsTied v) (parts : AreParts v) (term : ℕ) (name
         | inr (q, there) ↦
             let old : term ≤ term_of v = kept.last term (retold (told_as v.image.pages is.are_theory) q)
             (ap (retold_in (told_as v.image.pages is.are_theory)) there) in
-            let new : term_of v < term = live.later in
+            let new : term_of v < term = later in
             absurd (omega (arith, old, new))
       ]
 
@@ -116,7 +133,7 @@ module _ (v : WorldView) (is : IsTied v) (parts : AreParts v) (term : ℕ) (name
   starts : view (hardware v.image.pages) p.book.start ≡ machine_of v.image (history is.terms) position.term cut
   starts =
       begins.is_history (history is.terms) (honest v is named)
-      ∙ ap (λ (o : OpeningParts). machine_of v.image (history is.terms) o.parent (count_at o.base)) live.at.opened
+      ∙ ap (λ (o : OpeningParts). machine_of v.image (history is.terms) o.parent (count_at o.base)) begun_at.opened
 
   from_boot : is.terms position.term ≡ None → view (hardware v.image.pages) p.book.start ≡ boot_of v.image
   from_boot none =
@@ -161,8 +178,8 @@ module _ (v : WorldView) (is : IsTied v) (parts : AreParts v) (term : ℕ) (name
     revived : IsRevived v.image.pages q.told.book cut p.book
     revived =
         record {
-          above = λ hart. subst (λ n. counts_of q.told.book.start hart ≤ n) (live.at.replayed.counts hart) (its_cut.from_start hart);
-          within = λ hart. subst (λ n. n ≤ counts_of q.told.book.machine hart) (live.at.replayed.counts hart) (its_cut.to_end hart);
+          above = λ hart. subst (λ n. counts_of q.told.book.start hart ≤ n) (begun_at.replayed.counts hart) (its_cut.from_start hart);
+          within = λ hart. subst (λ n. n ≤ counts_of q.told.book.machine hart) (begun_at.replayed.counts hart) (its_cut.to_end hart);
           start =
               starts
               ∙ ap (λ (t : Option GuestTerm). machine_in (system_of (hardware v.image.pages)) (boot_of v.image) t cut) (ap (retold_in tell) there)
@@ -174,10 +191,20 @@ module _ (v : WorldView) (is : IsTied v) (parts : AreParts v) (term : ℕ) (name
   pub new_book : IsTermBook v.image.pages p.book
   new_book =
       elim (see (is.terms position.term)) [
-        | inl none ↦ record { primary = begins.primary; many = as_large; log_start = live.unused.log_start; tidy = tidy_at_boot none }
+        | inl none ↦ record { primary = begins.primary; many = as_large; log_start = log_start; tidy = tidy_at_boot none }
         | inr (q, there) ↦
-            revived_are_term_books v.image.pages q.told.book p.book cut q.told.is (revived q there) begins.primary as_large live.unused.log_start
+            revived_are_term_books v.image.pages q.told.book p.book cut q.told.is (revived q there) begins.primary as_large log_start
       ]
+
+  pub rising : p.book.machine ≡ p.book.start → AreRising p.book.machine
+  rising same hart =
+      subst (λ (m : MachineState). EachPair (λ a b. a.0 < b.0) (said_at m hart)) (sym same)
+      (rising_said (slice_get p.book.start.harts hart) (new_book.tidy hart).rising)
+
+module _ (v : WorldView) (is : IsTied v) (parts : AreParts v) (term : ℕ) (named : List ℕ) (p : Primary) (g : TermGateView)
+    (live : GoesLive v term named p g) (begins : BeginsTerm v term named p) where
+  abbrev own_book : IsTermBook v.image.pages p.book
+  own_book = new_book v is term named p live.at live.later live.unused.log_start begins
 
   -- ---- in the theory
 
@@ -185,27 +212,27 @@ module _ (v : WorldView) (is : IsTied v) (parts : AreParts v) (term : ℕ) (name
   told = told_as v.image.pages is.are_theory
 
   abbrev now : Book (system_of (hardware v.image.pages)) is.are_theory.outs
-  now = is.are_theory.book p.book new_book
+  now = is.are_theory.book p.book own_book
 
-  begun : theory.BeginsAt is.is_recorder.recorder (λ u. retold_in told (is.terms u)) position now
+  begun : theory.BeginsAt is.is_recorder.recorder (λ u. retold_in told (is.terms u)) live.at.position now
   begun =
-      elim (see (is.terms position.term)) [
+      elim (see (is.terms live.at.position.term)) [
         | inl none ↦
             let fact : BookFact (system_of (hardware v.image.pages)) is.are_theory.outs (boot_of v.image) =
-            AtBoot now (is.are_theory.from p.book new_book ∙ from_boot none) in
+            AtBoot now (is.are_theory.from p.book own_book ∙ from_boot v is term named p live.at live.later live.unused.log_start begins none) in
             theory.AtBoot (ap (retold_in told) none) (fact, is.is_recorder.tells fact)
         | inr (q, there) ↦
             let was = is.are_theory.book q.told.book q.told.is in
             let fact : BookFact (system_of (hardware v.image.pages)) is.are_theory.outs (boot_of v.image) =
-            AtCut was cut now
+            AtCut was (count_at live.at.position.counts) now
             (
-            is.are_theory.from p.book new_book ∙ (revived q there).start
+            is.are_theory.from p.book own_book ∙ (revived v is term named p live.at live.later live.unused.log_start begins q there).start
             ∙ ap (λ (m : HartMachine). at (system_of (hardware v.image.pages)) m
-            (journal_turns (heard_by q.told.book.mode) q.told.book.start q.told.book.journal) cut) (sym (is.are_theory.from q.told.book q.told.is))
-            ∙ ap (λ (ts : List (Turn (List Input))). at (system_of (hardware v.image.pages)) was.from ts cut) (sym (is.are_theory.turns q.told.book q.told.is))
+            (journal_turns (heard_by q.told.book.mode) q.told.book.start q.told.book.journal) (count_at live.at.position.counts)) (sym (is.are_theory.from q.told.book q.told.is))
+            ∙ ap (λ (ts : List (Turn (List Input))). at (system_of (hardware v.image.pages)) was.from ts (count_at live.at.position.counts)) (sym (is.are_theory.turns q.told.book q.told.is))
             )
             (
-            is.are_theory.turns p.book new_book
+            is.are_theory.turns p.book own_book
             ∙ ap (λ (b : BookView RecordingView). journal_turns (heard_by p.book.mode) p.book.start b.journal) live.begins
             ) in
             theory.AtCut (retold told q) (ap (retold_in told) there) (fact, is.is_recorder.tells fact)
@@ -232,7 +259,7 @@ module _ (v : WorldView) (is : IsTied v) (parts : AreParts v) (term : ℕ) (name
   in_theory quiet =
       subst (λ o. Comes (with_opening o)) (sym live.at.opened)
       (theory.Then is.comes
-      (theory.Grant term (chosen_of v.stores named) live.at.joined position now quiet live.later
+      (theory.Grant term (chosen_of v.stores named) live.at.joined live.at.position now quiet live.later
       (subst (λ n. theory.Joined (guest_of v.image) world.stores (chosen_of v.stores named) n live.at.joined) parts.stores
       (all_joined v is parts.guest named live.at.joined live.at.are_joined))
       (subst (λ n. v.keepers < v.need + how_many n (chosen_of v.stores named)) parts.stores (enough v is parts.guest named live.enough))
@@ -249,7 +276,7 @@ module _ (v : WorldView) (is : IsTied v) (parts : AreParts v) (term : ℕ) (name
   granted_world = record v { primary = p; runs = true; stopped = v.stopped ++ v.primary ∷ []; sent = v.sent ++ Opening p.opening ∷ []; gate = g }
 
   abbrev new_past : Past (TermBook v.image.pages)
-  new_past = live_book granted_world (λ hart. []) new_book
+  new_past = live_book granted_world (λ hart. []) own_book
 
   abbrev terms : Family (TermBook v.image.pages)
   terms = put is.terms p.opening.term (Some new_past)
@@ -268,9 +295,9 @@ module _ (v : WorldView) (is : IsTied v) (parts : AreParts v) (term : ℕ) (name
             (in_theory quiet));
         went_out = is.went_out;
         pieces = λ hart. [];
-        is_book = new_book;
+        is_book = own_book;
         there = put_same is.terms p.opening.term p.opening.term (Some new_past) refl;
-        of_book = of_book;
+        of_book = of_book v is term named p live.at live.later live.unused.log_start begins;
         sealed = live.uncut.1;
         opened = λ u q at. elim (same_or_not p.opening.term u) [
           | inl same ↦
@@ -283,7 +310,7 @@ module _ (v : WorldView) (is : IsTied v) (parts : AreParts v) (term : ℕ) (name
         ];
         longer =
             subst (λ (t : Family (TermBook v.image.pages)). MakesLonger v.image (history t) p.opening.term p.book.start p.opening)
-            (sym (put_put is.terms p.opening.term (Some new_past) None ∙ put_own is.terms p.opening.term None (ap is.terms is_term ∙ not_granted)))
-            (subst (λ n. MakesLonger v.image (history is.terms) n p.book.start p.opening) (sym is_term)
+            (sym (put_put is.terms p.opening.term (Some new_past) None ∙ put_own is.terms p.opening.term None (ap is.terms (is_term v is term named p live.at live.later live.unused.log_start begins) ∙ not_granted v is term named p live.at live.later live.unused.log_start begins)))
+            (subst (λ n. MakesLonger v.image (history is.terms) n p.book.start p.opening) (sym (is_term v is term named p live.at live.later live.unused.log_start begins))
             (begins.longer (history is.terms) (honest v is named)));
       }
