@@ -37,7 +37,7 @@ chosen_of stores named keeper = picks named keeper (store_at stores keeper)
 abbrev pub named_from : ℕ → List (Option StoreView) → List ℕ → List (ℕ × StoreView)
 named_from n stores named = flat_map (λ s. if_named named s.0 s.1) (enumerate_from n stores)
 
-each_named : (Q : StoreView → Type 0) (rest : List (Option StoreView)) (n : ℕ) (named : List ℕ) →
+pub each_named : (Q : StoreView → Type 0) (rest : List (Option StoreView)) (n : ℕ) (named : List ℕ) →
     ((k : ℕ) (s : StoreView) → store_at rest k ≡ Some s → Q s) → All Q (map (λ s. s.1) (named_from n rest named))
 each_named Q [] n named each = All-nil Q
 each_named Q (None ∷ rest) n named each = each_named Q rest (n + 1) named (λ k s at. each (suc k) s at)

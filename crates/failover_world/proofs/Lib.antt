@@ -10,3 +10,4 @@ pub mod Parts
 pub mod Guests
 pub mod Chosen
 pub mod Granting
+pub mod Reviving
