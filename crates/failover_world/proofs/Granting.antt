@@ -201,6 +201,11 @@ module _ (v : WorldView) (is : IsTied v) (term : ℕ) (named : List ℕ) (p : Pr
       subst (λ (m : MachineState). EachPair (λ a b. a.0 < b.0) (said_at m hart)) (sym same)
       (rising_said (slice_get p.book.start.harts hart) (new_book.tidy hart).rising)
 
+-- the world with the primary and its gate
+abbrev pub granted_world : WorldView → Primary → TermGateView → WorldView
+granted_world v p g =
+    record v { primary = p; runs = true; stopped = v.stopped ++ v.primary ∷ []; sent = v.sent ++ Opening p.opening ∷ []; gate = g }
+
 module _ (v : WorldView) (is : IsTied v) (parts : AreParts v) (term : ℕ) (named : List ℕ) (p : Primary) (g : TermGateView)
     (live : GoesLive v term named p g) (begins : BeginsTerm v term named p) where
   abbrev own_book : IsTermBook v.image.pages p.book
@@ -272,17 +277,14 @@ module _ (v : WorldView) (is : IsTied v) (parts : AreParts v) (term : ℕ) (name
       (λ hart. ap (λ (rows : List (List ℕ)). count_at (slice_index_or rows keeper []) hart) live.fresh.acked
       ∙ none_acked v.keepers keeper (replicate v.image.harts 0) (no_counts v.image.harts) hart))
 
-  abbrev granted_world : WorldView
-  granted_world = record v { primary = p; runs = true; stopped = v.stopped ++ v.primary ∷ []; sent = v.sent ++ Opening p.opening ∷ []; gate = g }
-
   abbrev new_past : Past (TermBook v.image.pages)
-  new_past = live_book granted_world (λ hart. []) own_book
+  new_past = live_book (granted_world v p g) (λ hart. []) own_book
 
   abbrev terms : Family (TermBook v.image.pages)
   terms = put is.terms p.opening.term (Some new_past)
 
   -- a primary went live
-  pub granted : v.runs ≡ false → IsTied granted_world
+  pub granted : v.runs ≡ false → IsTied (granted_world v p g)
   granted quiet =
       record {
         are_theory = is.are_theory;

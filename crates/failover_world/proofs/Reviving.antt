@@ -2,11 +2,14 @@
 use Rattle.std.proofs.Common.{◌≡◌, ◌≢◌, ◌⊎◌, inl, inr, ℕ, zero, suc, ◌+◌, ◌-◌, ◌^◌, ◌<◌, ◌≤◌, Bool, true, false, List, [], ◌∷◌, ◌++◌, length, map, replicate, take, get_or, Option, Some, None, refl, sym, ap, subst, ◌∙◌, arith}
 use Rattle.std.specs.Prelude.{All}
 use Rattle.std.specs.List.{Any, AllByRecursion}
+use Rattle.std.proofs.lemmas.List.{length-replicate}
 use Rattle.ft_types.specs.Counts.{count_at, IsCount}
 use Rattle.edge_log.specs.EdgeLog.{IsLog}
 use Rattle.guest_image.specs.Image.{guest_of}
 use Rattle.guest_image.specs.Machine.{MachineState}
 use Rattle.hart_lease.specs.Runs.{counts_of}
+use Rattle.fragment_codec.specs.declared.frame.Frame.{Frame}
+use Rattle.fragment_codec.specs.declared.frame.Frame.TheVariants.{Opening}
 use Rattle.fragment_codec.specs.Rules.{OpeningParts, IsGuest, IsOpening}
 use Rattle.log_join.specs.Stores.{StoreView, nothing}
 use Rattle.page_book.specs.Books.{BookView}
@@ -28,11 +31,14 @@ use Rattle.failover_world.specs.declared.primary.Primary.{Primary}
 use Rattle.failover_world.specs.Primaries.{no_limits}
 use Rattle.failover_world.specs.Worlds.{WorldView, store_at, term_of, said_at}
 use Rattle.failover_world.specs.Gating.{AreOffered, OffersMore}
-use Rattle.failover_world.specs.Happenings.{stores_of, IsFresh}
+use Rattle.failover_world.specs.Happenings.{stores_of, IsFresh, GoesLive}
 use Rattle.failover_world.specs.Refusals.{CannotGoLive}
-use Rattle.failover_world.specs.Tied.{history, IsTied, BeginsTerm}
+use Rattle.failover_world.specs.Tied.{history, AreParts, IsTied, IsWorld, BeginsTerm}
+use Rattle.go_live.proofs.Places.{has_harts}
+use Rattle.failover_world.proofs.Rows.{take_all}
 use Rattle.failover_world.proofs.Guests.{store_guest}
 use Rattle.failover_world.proofs.Chosen.{each_named, honest}
+use Rattle.failover_world.proofs.Granting.{granted_world, granted}
 
 -- ---- limits
 
@@ -157,4 +163,54 @@ fresh old new term keepers need harts of_harts of_term of_keepers of_need acked 
       of_need = ap (λ (g : TermGateView). g.gate.need) more.rest ∙ of_need;
       acked = ap (λ (g : TermGateView). g.acked) more.rest ∙ acked;
       gone = λ hart. more.gone hart ∙ ap (λ l. l.gone) (none hart);
+    }
+
+-- ---- the parts of the new world
+
+pub with_primary : (v : WorldView) (term : ℕ) (named : List ℕ) (p : Primary) (g : TermGateView) → AreParts v → GoesLive v term named p g →
+    BeginsTerm v term named p → AreParts (granted_world v p g)
+with_primary v term named p g parts live begins =
+    let machine : p.book.machine ≡ p.book.start = ap (λ (b : BookView RecordingView). b.machine) live.begins in
+    record {
+      guest = parts.guest;
+      quorum = parts.quorum;
+      stores = parts.stores;
+      idle = ap (λ (b : BookView RecordingView). b.leases) live.begins;
+      within = λ hart.
+          subst (λ row. counts_of p.book.machine hart ≤ count_at row hart) (sym live.unused.limits_are)
+          (in_limits v.image.harts p.opening p.book.machine begins.rules (ap (λ (o : OpeningParts). o.guest.harts) live.at.opened)
+          (λ h. ap (λ (m : MachineState). counts_of m h) machine ∙ live.at.replayed.counts h
+          ∙ ap (λ (o : OpeningParts). count_at o.base h) (sym live.at.opened)) hart);
+      harts =
+          ap (λ (m : MachineState). length m.harts) machine ∙ has_harts v.image live.at.replayed.legs p.book.start live.at.replayed.outcome;
+      reached = ap length live.uncut.0 ∙ begins.rules.base ∙ ap (λ (o : OpeningParts). o.guest.harts) live.at.opened;
+      gate_term = live.fresh.of_term ∙ sym (ap (λ (o : OpeningParts). o.term) live.at.opened);
+      gate_keepers = live.fresh.of_keepers;
+      gate_need = live.fresh.of_need;
+      gate_harts = live.fresh.of_harts;
+      acked = ap length live.fresh.acked ∙ length-replicate v.keepers (replicate v.image.harts 0);
+      offered = λ hart.
+          let many = ap length (live.offered hart) in
+          live.offered hart
+          ∙ sym (take_all (numbered hart (said_at p.book.machine hart)) (length (offered_of g.gate hart)) (omega (arith, many)));
+    }
+
+-- ---- the new world
+
+abbrev pub world_with : WorldView → TermGateView → Primary → List Primary → List Frame → WorldView
+world_with v g p stopped sent = record v { primary = p; runs = true; stopped = stopped; sent = sent; gate = g }
+
+pub is_granted : (v : WorldView) (g : TermGateView) (p now : Primary) (stopped : List Primary) (sent : List Frame) → now ≡ p →
+    stopped ≡ v.stopped ++ v.primary ∷ [] → sent ≡ v.sent ++ Opening p.opening ∷ [] → world_with v g now stopped sent ≡ granted_world v p g
+is_granted v g p now stopped sent primary before frames =
+    ap (λ x. world_with v g x stopped sent) primary
+    ∙ ap (λ x. world_with v g p x sent) before
+    ∙ ap (λ x. world_with v g p (v.stopped ++ v.primary ∷ []) x) frames
+
+pub new_world : (v : WorldView) (term : ℕ) (named : List ℕ) (p : Primary) (g : TermGateView) → IsWorld v → v.runs ≡ false → GoesLive v term named p g →
+    BeginsTerm v term named p → IsWorld (granted_world v p g)
+new_world v term named p g is quiet live begins =
+    record {
+      parts = with_primary v term named p g is.parts live begins;
+      tied = granted v is.tied is.parts term named p g live begins quiet;
     }
