@@ -1,6 +1,6 @@
 -- How many keepers acknowledged more than a step.
 use Rattle.std.proofs.Common.{◌≡◌, ◌≢◌, ◌⊎◌, inl, inr, ℕ, zero, suc, ◌+◌, ◌<◌, ◌≤◌, Bool, true, false, cond, List, [], ◌∷◌, length, nat_lt, get_or, slice_index_or, refl, sym, ap, subst, ◌∙◌, arith}
-use Rattle.std.specs.List.{count_by}
+use Rattle.std.specs.List.{count_by, fold}
 use Rattle.std.proofs.lemmas.Bool.{cases_lt, ltb-true}
 use Rattle.failover_theory.specs.Lists.{how_many}
 use Rattle.failover_theory.proofs.Stores.{see_bool}
@@ -20,22 +20,37 @@ from_below (suc n) f =
     swapped : (a b c d : ℕ) → d ≡ b + c → a + d ≡ b + (a + c)
     swapped a b c d e = omega (arith, e)
 
+regroup : (n c r : ℕ) → (n + c) + r ≡ n + ((0 + c) + r)
+regroup n c r = omega arith
+
+from_there : {A : Type 0} (f : A → Bool) (n : ℕ) (xs : List A) →
+    fold (λ a x. a + cond (f x) 1 0) n xs ≡ n + fold (λ a x. a + cond (f x) 1 0) 0 xs
+from_there f n [] = omega arith
+from_there f n (x ∷ xs) =
+    from_there f (n + cond (f x) 1 0) xs
+    ∙ regroup n (cond (f x) 1 0) (fold (λ a x. a + cond (f x) 1 0) 0 xs)
+    ∙ ap (λ m. n + m) (sym (from_there f (0 + cond (f x) 1 0) xs))
+
+and_zero : (c r : ℕ) → (0 + c) + r ≡ c + r
+and_zero c r = omega arith
+
 -- those in a row
 pub in_row : {A : Type 0} (f : A → Bool) (d : A) (xs : List A) → count_by f xs ≡ how_many (length xs) (λ k. f (get_or xs k d))
 in_row f d [] = refl
-in_row f d (x ∷ xs) = ap (λ n. cond (f x) 1 0 + n) (in_row f d xs) ∙ sym (from_below (length xs) (λ k. f (get_or (x ∷ xs) k d)))
-
-plus_zero : (n more : ℕ) → suc more + n ≡ suc (more + n)
-plus_zero n more = refl
+in_row f d (x ∷ xs) =
+    from_there f (0 + cond (f x) 1 0) xs
+    ∙ and_zero (cond (f x) 1 0) (fold (λ a x. a + cond (f x) 1 0) 0 xs)
+    ∙ ap (λ n. cond (f x) 1 0 + n) (in_row f d xs)
+    ∙ sym (from_below (length xs) (λ k. f (get_or (x ∷ xs) k d)))
 
 nothing_more : (a n m : ℕ) → a ≡ 0 → n ≡ m → a + n ≡ m
 nothing_more a n m none same = omega (arith, none, same)
 
 -- those that are beyond count nothing
 pub none_beyond : (n more : ℕ) (f : ℕ → Bool) → ((k : ℕ) → n ≤ k → f k ≡ false) → how_many (more + n) f ≡ how_many n f
-none_beyond n zero f none = ap (λ k. how_many k f) (omega arith)
+none_beyond n zero f none = ap (λ k. how_many k f) (let e : 0 + n ≡ n = omega arith in e)
 none_beyond n (suc more) f none =
-    ap (λ k. how_many k f) (omega arith)
+    ap (λ k. how_many k f) (let e : suc more + n ≡ suc (more + n) = omega arith in e)
     ∙ nothing_more (cond (f (more + n)) 1 0) (how_many (more + n) f) (how_many n f)
     (ap (λ (b : Bool). cond b 1 0) (none (more + n) (omega arith))) (none_beyond n more f none)
 
@@ -60,8 +75,8 @@ beyond (x ∷ xs) zero d lt = absurd (omega (arith, lt))
 beyond (x ∷ xs) (suc k) d lt = beyond xs k d (omega (arith, lt))
 
 not_true : (b : Bool) → (b ≡ true → ⊥) → b ≡ false
-not_true true no = absurd (no refl)
-not_true false no = refl
+not_true true never = absurd (never refl)
+not_true false _ = refl
 
 chained : (a b c d e : ℕ) → a ≡ b → c ≡ b → d ≡ c → d ≤ e → a ≤ e
 chained a b c d e one two three last = omega (arith, one, two, three, last)

@@ -5,9 +5,13 @@ pub mod Ties
 pub mod Keeping
 pub mod Counting
 pub mod Going
+pub mod Sealing
 pub mod Releasing
 pub mod Parts
 pub mod Guests
 pub mod Chosen
 pub mod Granting
 pub mod Reviving
+pub mod Onward
+pub mod Promises
+pub mod Beginning

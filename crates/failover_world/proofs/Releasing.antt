@@ -7,17 +7,20 @@ use Rattle.interleaving.specs.Stored.{system_of, view}
 use Rattle.interleaving.proofs.Cuts.{here_or_later, here}
 use Rattle.rv32_hart.specs.Hart.{Hart}
 use Rattle.rv32_hart.specs.Hardware.{hardware}
-use Rattle.guest_image.specs.Image.{guest_of}
+use Rattle.guest_image.specs.Image.{ImageContents, guest_of}
 use Rattle.guest_image.specs.Machine.{MachineState}
 use Rattle.hart_lease.specs.Runs.{LeadsTo, journal_turns}
 use Rattle.hart_lease.proofs.journals.Sizes.{is_run}
-use Rattle.book_modes.specs.Recordings.{heard_by}
+use Rattle.book_modes.specs.Recordings.{RecordingView, heard_by}
 use Rattle.output_gate.specs.declared.output.Output.{Output}
 use Rattle.term_gate.specs.TermGates.{TermGateView, acked_at}
 use Rattle.failover_theory.specs.Lists.{how_many}
 use Rattle.failover_theory.specs.Recorders.{Output as TheoryOutput}
 use Rattle.failover_theory.specs.Worlds as theory
-use Rattle.book_recorder.specs.TermBooks.{outputs_of}
+use Rattle.failover_theory.specs.Machines.{IsRecorder}
+use Rattle.book_recorder.specs.TermBooks.{AreTheory, IsTermBook, outputs_of}
+use Rattle.hart_replay.specs.Images.{boot_of}
+use Rattle.page_book.specs.Books.{BookView}
 use Rattle.failover_world.specs.declared.event.Released.{Released}
 use Rattle.failover_world.specs.Worlds.{WorldView, said_by, said_at, term_of}
 use Rattle.failover_world.specs.Gating.{AreRising, released_in}
@@ -50,21 +53,24 @@ rising_said : (h : Option Hart) → EachPair (λ o p. o.step < p.step) (outputs_
 rising_said None rising = tt
 rising_said (Some h) rising = pair_mapped (λ (o p : TheoryOutput). o.step < p.step) (λ o. record { step = o.0; word = o.1 }) h.outputs rising
 
+-- the theory's machine of a book has the book's outputs
+pub book_outputs : (image : ImageContents) (are : AreTheory image.pages)
+    (recorded : IsRecorder (system_of (hardware image.pages)) are.outs (boot_of image)) (b : BookView RecordingView) (is : IsTermBook image.pages b) →
+    LeadsTo (heard_by b.mode) b.start b.journal b.machine → (hart : ℕ) →
+    recorded.recorder.outputs (are.book b is) hart ≡ outputs_of (slice_get b.machine.harts hart)
+book_outputs image are recorded b is leads hart =
+    let ran = is_run image.pages b.start b.machine (journal_turns (heard_by b.mode) b.start b.journal) is.many leads in
+    recorded.outputs (are.book b is) hart
+    ∙ ap (λ m. are.outs.outputs ((run (system_of (hardware image.pages)) m (are.book b is).turns).harts hart)) (are.from b is)
+    ∙ ap (λ ts. are.outs.outputs ((run (system_of (hardware image.pages)) (view (hardware image.pages) b.start) ts).harts hart)) (are.turns b is)
+    ∙ ap (λ m. are.outs.outputs (m.harts hart)) (sym ran.is)
+    ∙ are.outputs (slice_get b.machine.harts hart)
+
 module _ (v : WorldView) (is : IsTied v) (leads : LeadsTo (heard_by v.primary.book.mode) v.primary.book.start v.primary.book.journal v.primary.book.machine) where
   -- the theory's machine has the outputs of the book's
   pub outputs_are : (hart : ℕ) →
       is.is_recorder.recorder.outputs (is.are_theory.book v.primary.book is.is_book) hart ≡ outputs_of (slice_get v.primary.book.machine.harts hart)
-  outputs_are hart =
-      let pages = v.image.pages in
-      let b = v.primary.book in
-      let ran = is_run pages b.start b.machine (journal_turns (heard_by b.mode) b.start b.journal) is.is_book.many leads in
-      is.is_recorder.outputs (is.are_theory.book b is.is_book) hart
-      ∙ ap (λ m. is.are_theory.outs.outputs ((run (system_of (hardware v.image.pages)) m (is.are_theory.book v.primary.book is.is_book).turns).harts hart))
-      (is.are_theory.from b is.is_book)
-      ∙ ap (λ ts. is.are_theory.outs.outputs ((run (system_of (hardware v.image.pages)) (view (hardware v.image.pages) v.primary.book.start) ts).harts hart))
-      (is.are_theory.turns b is.is_book)
-      ∙ ap (λ m. is.are_theory.outs.outputs (m.harts hart)) (sym ran.is)
-      ∙ is.are_theory.outputs (slice_get b.machine.harts hart)
+  outputs_are hart = book_outputs v.image is.are_theory is.is_recorder v.primary.book is.is_book leads hart
 
   -- the outputs stand in the order of their steps
   pub rising : AreRising v.primary.book.machine

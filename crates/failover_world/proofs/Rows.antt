@@ -1,5 +1,6 @@
 -- Lists that are written place by place.
-use Rattle.std.proofs.Common.{◌≡◌, ◌≢◌, ℕ, zero, suc, ◌+◌, ◌-◌, ◌<◌, ◌≤◌, List, [], ◌∷◌, ◌++◌, length, map, replicate, take, slice_set, slice_get, get_or, Option, Some, None, refl, sym, ap, subst, ◌∙◌, arith}
+use Rattle.std.proofs.Common.{◌≡◌, ◌≢◌, ℕ, zero, suc, ◌+◌, ◌-◌, ◌<◌, ◌≤◌, List, [], ◌∷◌, ◌++◌, length, map, replicate, take, slice_set, slice_get, get_or, Option, Some, None, append_assoc, append-nil, refl, sym, ap, subst, ◌∙◌, arith}
+use Rattle.std.specs.List.{enumerate_from, flat_map}
 
 pub set_next : {A : Type 0} (xs : List A) (n : ℕ) (x : A) → n < length xs → take n xs ≡ replicate n x → take (suc n) (slice_set xs n x) ≡ replicate (suc n) x
 set_next [] n x lt is = absurd (omega (arith, lt))
@@ -51,3 +52,12 @@ whatever (x ∷ xs) (suc i) d e lt = whatever xs i d e (omega (arith, lt))
 
 pub same_some : {A : Type 0} (x y : A) → Some x ≡ Some y → x ≡ y
 same_some x y e = cc
+
+pub enumerate_more : {A : Type 0} (n : ℕ) (xs : List A) (x : A) → enumerate_from n (xs ++ x ∷ []) ≡ enumerate_from n xs ++ (n + length xs, x) ∷ []
+enumerate_more n [] x = ap (λ k. (k, x) ∷ []) (omega arith)
+enumerate_more n (y ∷ xs) x =
+    ap (λ zs. (n, y) ∷ zs) (enumerate_more (n + 1) xs x ∙ ap (λ k. enumerate_from (n + 1) xs ++ (k, x) ∷ []) (omega arith))
+
+pub flat_more : {A B : Type 0} (f : A → List B) (xs : List A) (x : A) → flat_map f (xs ++ x ∷ []) ≡ flat_map f xs ++ f x
+flat_more f [] x = append-nil (f x)
+flat_more f (y ∷ xs) x = ap (λ zs. f y ++ zs) (flat_more f xs x) ∙ sym (append_assoc (f y) (flat_map f xs) (f x))

@@ -27,7 +27,7 @@ abbrev pub with_book : WorldView → BookView RecordingView → WorldView
 with_book v c = record v { primary = record v.primary { book = c } }
 
 module _ (v : WorldView) (is : IsTied v) (c : BookView RecordingView) (runs : v.runs ≡ true) (on : ComesOf v.primary.book c) (primary : IsPrimary c) where
-  new_book : IsTermBook v.image.pages c
+  pub new_book : IsTermBook v.image.pages c
   new_book = later_are_term_books v.image.pages v.primary.book c is.is_book on primary
 
   abbrev terms : Family (TermBook v.image.pages)

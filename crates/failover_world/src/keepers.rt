@@ -1,12 +1,12 @@
 //! What each keeper holds.
 
-ghost use Rattle.std.specs.Prelude.{◌≡◌, ◌≢◌, ◌<◌, ◌≤◌, ℕ, length, map, replicate, slice_set, None, Some, IsTrue, IfOk, OnOk, OnErr, IfSome, IfNone, All, ◌↔◌};
+ghost use Rattle.std.specs.Prelude.{◌≡◌, ◌≢◌, ◌<◌, ◌≤◌, ℕ, length, map, replicate, slice_set, None, Some, IsTrue, IfOk, OnOk, OnErr, IfSome, IfNone, All, ◌↔◌, ◌+◌, ◌++◌, vec_len, vec_capacity};
 ghost use Rattle.std.specs.List.{Any};
 ghost use Rattle.log_join.specs.Stores.{StoreView, IsJoin, alone, nothing};
 ghost use Rattle.log_join.specs.Answers.{answer_to};
 ghost use Rattle.log_join.specs.declared.answers.Put.TheVariants.{OtherGuest};
 ghost use Rattle.failover_world.specs.Worlds.{store_at};
-ghost use Rattle.failover_world.specs.Happenings.{stores_of};
+ghost use Rattle.failover_world.specs.Happenings.{if_named, stores_of};
 
 use fragment_codec::Frame;
 use ft_types::{Guest, Keeper, Memory};
@@ -118,6 +118,30 @@ pub(crate) fn are_there(stores: &[Option<Store>], numbers: &[u64]) -> bool
     true
 }
 
+/// Adds the keeper of this number with its store, where it is among these and is not lost. There is room for one more.
+fn add_if_named<'a>(
+    named: &mut Vec<(Keeper, &'a Store)>,
+    stores: &'a [Option<Store>],
+    number: usize,
+    numbers: &[u64],
+)
+    requires few { number < 5 }
+    requires room { vec_len named.old < vec_capacity named.old }
+    ensures keepers { map (λ s. s.0) named.new.items
+        ≡ map (λ s. s.0) named.old.items ++ map (λ s. s.0) (if_named numbers.now number (store_at stores.now number)) }
+    ensures stores { map (λ s. s.1.now) named.new.items
+        ≡ map (λ s. s.1.now) named.old.items ++ map (λ s. s.1) (if_named numbers.now number (store_at stores.now number)) }
+    ensures one_more { vec_len named.new ≤ vec_len named.old + 1 }
+    ensures capacity { vec_capacity named.new ≡ vec_capacity named.old }
+{
+    let Some(store) = held_by(stores, number as u64) else {
+        return;
+    };
+    if numbers.contains(&(number as u64)) {
+        named.push_reserved((Keeper::new(number as u8), store));
+    }
+}
+
 /// The stores of these keepers, each once; of those that are not there, none.
 pub(crate) fn stores_named<'a>(
     alloc: Global,
@@ -131,11 +155,7 @@ pub(crate) fn stores_named<'a>(
     let mut named = Vec::new(alloc);
     named.reserve(stores.len())?;
     for number in 0..stores.len() {
-        if numbers.contains(&(number as u64))
-            && let Some(store) = held_by(stores, number as u64)
-        {
-            named.push_reserved((Keeper::new(number as u8), store));
-        }
+        add_if_named(&mut named, stores, number, numbers);
     }
     Ok(named)
 }

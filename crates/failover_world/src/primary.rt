@@ -3,6 +3,9 @@
 ghost use Rattle.std.specs.Prelude.{◌≡◌, ◌≤◌, IfOk};
 ghost use Rattle.fragment_codec.specs.Rules.{IsGuest};
 ghost use Rattle.guest_image.specs.Image.{guest_of};
+ghost use Rattle.hart_lease.specs.Runs.{LeadsTo};
+ghost use Rattle.book_modes.specs.Recordings.{heard_by};
+ghost use Rattle.hart_replay.specs.Primaries.{IsPrimary};
 ghost use Rattle.failover_world.specs.Primaries.{no_limits as greatest_limits, IsBooted};
 
 use fragment_codec::{Opening, Sealed};
@@ -39,12 +42,22 @@ pub(crate) fn boot(alloc: Global, image: &Image) -> Result<Primary, Memory>
     ensures guest { IsGuest (guest_of image.now) }
 {
     let guest = image.guest();
+    let harts = image.harts();
     let opening = first_opening(guest);
     let start = Machine::boot(alloc, image)?;
-    let book = Book::<Recording>::begin(alloc, start, no_limits(guest.harts))?;
+    let book = Book::<Recording>::begin(alloc, start, no_limits(harts))?;
     Ok(Primary {
         opening,
         book,
-        sealed: Sealed::new(Counts::zero(guest.harts)),
+        sealed: Sealed::new(Counts::zero(harts)),
     })
+}
+
+/// What the type of a recording book tells: its log is honest, and its journal leads to its machine.
+pub(crate) fn tell_primary(book: &Book<Recording>)
+    ensures primary { IsPrimary book.now }
+    ensures leads { LeadsTo (heard_by book.now.mode) book.now.start book.now.journal book.now.machine }
+{
+    let _next = book.edges().next(Hart::new(0), 0);
+    let _machine = book.machine();
 }

@@ -1,10 +1,12 @@
 //! One step of a primary's hart.
 
-ghost use Rattle.std.specs.Prelude.{◌≡◌, ◌<◌, ◌≤◌, ℕ, None, length, OnOk, OnErr, IfErr};
+ghost use Rattle.std.specs.Prelude.{◌≡◌, ◌<◌, ◌≤◌, ◌+◌, ◌++◌, ℕ, List, None, false, length, OnOk, OnErr, IfErr};
 ghost use Rattle.ft_types.specs.Counts.{count_at};
+ghost use Rattle.hart_lease.specs.declared.stretch.Stretch.{Stretch};
 ghost use Rattle.hart_lease.specs.Runs.{counts_of};
+ghost use Rattle.page_book.specs.Tellings.{TellsOn};
 ghost use Rattle.primary_pool.specs.Running.{IsIdle};
-ghost use Rattle.failover_world.specs.Steps.{HasStepped, IsUnmoved, IsRefused, RefusesStep};
+ghost use Rattle.failover_world.specs.Steps.{AreWithin, HasStepped, HoldsNothing, IsUnmoved, IsRefused, RefusesStep, Runs};
 
 use ft_types::{Hart, Memory};
 use lease_rounds::go;
@@ -20,11 +22,18 @@ pub(crate) fn take_step(
 ) -> Result<(), BookFault>
     requires hart { hart < length book.old.machine.harts }
     requires idle { IsIdle book.old }
-    requires within { (other : ℕ) → counts_of book.old.machine other ≤ count_at book.old.mode.limits other }
+    requires within { AreWithin book.old }
     ensures stepped { OnOk result (HasStepped hart book.old book.new) }
+    ensures rights { OnOk result (HoldsNothing book.new hart) }
     ensures open { OnOk result (IsRefused book.old hart None) }
     ensures refused { IfErr result (λ fault. RefusesStep book.old hart fault) }
     ensures unmoved { OnErr result (IsUnmoved book.old book.new) }
+    // In either case:
+    ensures idle { IsIdle book.new }
+    ensures within { AreWithin book.new }
+    ensures start { book.new.start ≡ book.old.start }
+    ensures journal { (more : List Stretch) × (book.new.journal ≡ book.old.journal ++ more) }
+    ensures comes { TellsOn book.old book.new }
 {
     books_tell_on();
     let limits = book.limits();

@@ -21,7 +21,7 @@ ghost use Rattle.failover_world.specs.Promises.{IsOne, IsOfMachine, IsKept, AreH
 use crate::event::{Event, Released, WorldFault};
 use crate::gating::{add_released, offer_all};
 use crate::keepers::{are_there, empty_stores, held_by, join, keeper_at, put, stores_named};
-use crate::primary::{Primary, boot, no_limits};
+use crate::primary::{Primary, boot, no_limits, tell_primary};
 use crate::stepping::take_step;
 use closed_cut::position;
 use fragment_codec::{Frame, Sealed, cut_pieces};
@@ -109,6 +109,7 @@ impl World {
     {
         let guest = image.guest();
         let primary = boot(alloc, image)?;
+        let _edges = primary.book.edges();
         let mut sent = Vec::new(alloc);
         sent.push(Frame::Opening(primary.opening.copy()))?;
         let own = image.copy()?;
@@ -139,6 +140,7 @@ impl World {
         ensures kept { IsKept self.now }
         ensures held { AreHeld self.now }
     {
+        let _machine = self.primary.book.machine();
         self.released.as_slice()
     }
 
@@ -185,7 +187,10 @@ impl World {
         if !self.runs {
             return Err(WorldFault::NoPrimary);
         }
-        Ok(take_step(alloc, &mut self.primary.book, hart)?)
+        tell_primary(&self.primary.book);
+        let stepped = take_step(alloc, &mut self.primary.book, hart);
+        tell_primary(&self.primary.book);
+        Ok(stepped?)
     }
 
     fn offer(&mut self, hart: Hart, input: Input) -> Result<(), WorldFault>
@@ -199,7 +204,7 @@ impl World {
             return Err(WorldFault::NoPrimary);
         }
         let offered = self.primary.book.offer(hart, 0, input);
-        let _edges = self.primary.book.edges();
+        tell_primary(&self.primary.book);
         Ok(offered?)
     }
 

@@ -1,4 +1,4 @@
-use Rattle.std.proofs.Common.{◌≡◌, ◌≢◌, ℕ, List, slice_set, get_or, Option, Some, None, refl, sym, ap, subst, ◌∙◌, arith}
+use Rattle.std.proofs.Common.{◌≡◌, ◌≢◌, ℕ, true, false, eq-eqb, List, slice_set, get_or, Option, Some, None, refl, sym, ap, subst, ◌∙◌, arith}
 use Rattle.std.proofs.lemmas.Bool.{eqb-true}
 use Rattle.log_join.specs.Stores.{StoreView, IsJoin}
 use Rattle.failover_world.proofs.Rows.{set_set, set_own, set_elsewhere, whatever, same_some}
@@ -24,13 +24,14 @@ returns-in-Ok-clause-joined c = λ s t is at.
     let there : get_or c.args.stores.now c.args.keeper None ≡ Some c.in-Some.store =
     sym here ∙ sym c.take-taken.ensures.value ∙ c.in-Some.is in
     let one : c.in-Some.store ≡ s = same_some c.in-Some.store s (sym there ∙ is) in
-    let apart : c.index.result ≢ c.index-2.result = λ e. c.if-eq.ensures (sym (sym c.index-2.ensures.value ∙ sym e ∙ c.index.ensures.value)) in
+    let apart : c.index.result ≢ c.index-2.result = λ e.
+    let no : false ≡ true = c.if-eq.ensures ∙ eq-eqb c.args.keeper c.args.other (sym c.index.ensures.value ∙ e ∙ c.index-2.ensures.value) in cc in
     let other : get_or (slice_set c.args.stores.now c.index.result c.take-taken.new.self) c.index-2.result c.index-stores-index-2.result
         ≡ get_or c.args.stores.now c.args.other None =
     set_elsewhere c.args.stores.now c.index.result c.index-2.result c.take-taken.new.self c.index-stores-index-2.result apart
     ∙ ap (λ k. get_or c.args.stores.now k c.index-stores-index-2.result) c.index-2.ensures.value
     ∙ whatever c.args.stores.now c.args.other c.index-stores-index-2.result None c.requires.below.1 in
-    let held : c.in-Some-stores.held ≡ t = same_some c.in-Some-stores.held t (sym c.in-Some-stores.is ∙ c.index-stores-index-2.is ∙ other ∙ at) in
+    let held : c.in-Some-stores.held ≡ t = same_some c.in-Some-stores.held t (sym c.in-Some-stores.is ∙ other ∙ at) in
     (
       c.join-joined.new.self,
       subst (λ (x : StoreView). IsJoin x t c.join-joined.new.self) one

@@ -23,5 +23,6 @@ invariant_of-self c =
       released = c.self.inside.released.items;
     } in
     let (s, at) = c.in-Some.ensures.there in
-    let there : store_at v.stores c.index.result ≡ Some s = ? in
+    let there : store_at v.stores c.index.result ≡ Some s =
+    ap (store_at v.stores) (c.index.ensures.value ∙ c.in-Some.ensures.some) ∙ ap (λ stores. store_at stores c.args.keeper) (sym c.deref.ensures.value) ∙ at in
     record { parts = with_store v c.self.invariant.parts c.index.result None; tied = lost v c.self.invariant.tied c.index.result s there }

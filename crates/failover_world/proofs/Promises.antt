@@ -1,0 +1,97 @@
+-- What holds of the outputs that went out, by the theory of failover.
+use Rattle.std.proofs.Common.{◌≡◌, ℕ, zero, suc, ◌<◌, List, [], ◌∷◌, map, slice_get, Contains, Option, Some, None, refl, sym, ap, subst, ◌∙◌}
+use Rattle.ft_types.specs.Counts.{count_at}
+use Rattle.rv32_hart.specs.Hart.{Hart}
+use Rattle.guest_image.specs.Image.{guest_of}
+use Rattle.hart_lease.specs.Runs.{LeadsTo}
+use Rattle.book_modes.specs.Recordings.{heard_by}
+use Rattle.fragment_codec.specs.declared.frame.Frame.TheVariants.{Opening}
+use Rattle.fragment_codec.specs.Rules.{OpeningParts, IsGuest}
+use Rattle.log_join.specs.Families.{Past}
+use Rattle.log_join.specs.Stores.{nothing}
+use Rattle.log_join.proofs.Families.{granted_opening}
+use Rattle.book_recorder.specs.TermBooks.{outputs_of}
+use Rattle.failover_theory.specs.Recorders.{Output as TheoryOutput}
+use Rattle.failover_theory.specs.Families.{Keeps, Here as IsHere, Above as IsAbove}
+use Rattle.failover_theory.specs.Laws.{IsFailover}
+use Rattle.failover_theory.proofs.Events.{failover}
+use Rattle.failover_theory.proofs.Ruled.{ruled}
+use Rattle.failover_world.specs.Worlds.{WorldView, said_by}
+use Rattle.failover_world.specs.Promises.{IsInChain, Here, Above, IsOne, IsOfMachine, IsKept, AreHeld}
+use Rattle.failover_world.specs.Tied.{Books, retold, retold_in, told_as, theory_released, theory_world, quorum_of, live_book, IsTied}
+use Rattle.failover_world.proofs.Places.{there_too}
+use Rattle.failover_world.proofs.Releasing.{outputs_are}
+
+unmapped : {A B : Type 0} (f : A → B) (xs : List A) (n : ℕ) (y : B) → slice_get (map f xs) n ≡ Some y → (x : A) × (slice_get xs n ≡ Some x) × (f x ≡ y)
+unmapped f [] n y is = absurd cc
+unmapped f (x ∷ xs) zero y is = (x, refl, let e : f x ≡ y = cc in e)
+unmapped f (x ∷ xs) (suc n) y is = unmapped f xs n y is
+
+out_of_theory : (h : Option Hart) (n step word : ℕ) → slice_get (outputs_of h) n ≡ Some (record { step = step; word = word }) →
+    slice_get (said_by h) n ≡ Some (step, word)
+out_of_theory None n step word is = absurd cc
+out_of_theory (Some h) n step word is =
+    let (x, at, same) = unmapped (λ (o : ℕ × ℕ). as_output o) h.outputs n (record { step = step; word = word }) is in
+    at ∙ ap (λ (o : TheoryOutput). Some (o.step, o.word)) same
+  where
+    as_output : ℕ × ℕ → TheoryOutput
+    as_output o = record { step = o.0; word = o.1 }
+
+-- what is told of a term is of a term that is there, with its opening
+untold : {A B : Type 0} (f : A → B) (x : Option (Past A)) (q : Past B) → retold_in f x ≡ Some q → (p : Past A) × (x ≡ Some p) × (p.opening ≡ q.opening)
+untold f None q is = absurd cc
+untold f (Some p) q is = (p, refl, let e : retold f p ≡ q = cc in ap (λ (r : Past _). r.opening) e)
+
+module _ (v : WorldView) (is : IsTied v) where
+  laws : IsFailover is.is_recorder.recorder (quorum_of v) (theory_world v.image.pages is.are_theory (guest_of v.image) v is.terms is.out)
+  laws =
+      failover is.is_recorder.recorder (guest_of v.image) (quorum_of v) (theory_world v.image.pages is.are_theory (guest_of v.image) v is.terms is.out)
+      is.comes
+
+  pub is_one : IsOne v
+  is_one r s has_r has_s hart number =
+      let same = laws.one (theory_released r) (theory_released s) (is.went_out r has_r) (is.went_out s has_s) hart number in
+      (ap (λ o. o.step) same, ap (λ o. o.word) same)
+
+  pub is_of_machine : LeadsTo (heard_by v.primary.book.mode) v.primary.book.start v.primary.book.journal v.primary.book.machine → IsOfMachine v
+  is_of_machine leads r has =
+      out_of_theory (slice_get v.primary.book.machine.harts r.output.hart) r.output.number r.output.step r.output.word
+      (
+      ap (λ os. slice_get os r.output.number) (sym (outputs_are v is leads r.output.hart))
+      ∙ laws.current (theory_released r) (retold (told_as v.image.pages is.are_theory) (live_book v is.pieces is.is_book)) (is.went_out r has)
+      (ap (retold_in (told_as v.image.pages is.are_theory)) is.there)
+      )
+
+  pub are_held : AreHeld v
+  are_held r has =
+      let held = laws.held (theory_released r) (is.went_out r has) in
+      record {
+        by = held.by;
+        enough = held.enough;
+        inside = λ keeper s p below chosen at position.
+            (held.inside keeper s p chosen (there_too v.stores keeper s (Some (nothing (guest_of v.image))) at) position).1;
+      }
+
+  module _ (guest : IsGuest (guest_of v.image)) where
+    abbrev told_terms : ℕ → Option (Past (Books v.image.pages is.are_theory))
+    told_terms u = retold_in (told_as v.image.pages is.are_theory) (is.terms u)
+
+    opened : (u : ℕ) (q : Past (Books v.image.pages is.are_theory)) → told_terms u ≡ Some q → Contains v.sent (Opening q.opening)
+    opened u q at =
+        let (p, there, same) = untold (told_as v.image.pages is.are_theory) (is.terms u) q at in
+        subst (λ (o : OpeningParts). Contains v.sent (Opening o)) same (is.opened u p there)
+
+    of_term : (u : ℕ) (q : Past (Books v.image.pages is.are_theory)) → told_terms u ≡ Some q → q.opening.term ≡ u
+    of_term u q at = ((ruled is.is_recorder.recorder (guest_of v.image) (quorum_of v) guest is.comes).terms.openings u q at).same_term
+
+    in_chain : (term hart step : ℕ) {u : ℕ} → Keeps told_terms term hart step u → IsInChain v term hart step u
+    in_chain term hart step (IsHere {u = u} q at parent inside) = Here q.opening (opened u q at) (of_term u q at) parent inside
+    in_chain term hart step (IsAbove {u = u} q at rest) = Above q.opening (opened u q at) (of_term u q at) (in_chain term hart step rest)
+
+    pub is_kept : IsKept v
+    is_kept r o has sent later =
+        let (q, at, same) = granted_opening told_terms o.term o (laws.honest.frames (Opening o) sent) in (
+          in_chain r.term r.output.hart r.output.step (laws.kept (theory_released r) o.term q (is.went_out r has) at later),
+          subst (λ (p : OpeningParts). r.output.step < count_at p.base r.output.hart) same
+              (laws.within (theory_released r) o.term q (is.went_out r has) at later),
+        )

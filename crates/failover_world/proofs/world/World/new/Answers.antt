@@ -1,0 +1,57 @@
+use Rattle.std.proofs.Common.{◌≡◌, true, List, [], ◌∷◌, ◌++◌, replicate, Some, refl, sym, ap, subst, ◌∙◌}
+use Rattle.ft_types.specs.declared.guest.Guest.{Guest}
+use Rattle.guest_image.specs.Image.{ImageContents, guest_of}
+use Rattle.edge_log.specs.EdgeLog.{Edges}
+use Rattle.book_modes.specs.Recordings.{heard_by, HasHonestLog}
+use Rattle.fragment_codec.specs.Rules.{IsGuest, OpeningParts}
+use Rattle.fragment_codec.specs.declared.frame.Frame.{Frame}
+use Rattle.fragment_codec.specs.declared.frame.Frame.TheVariants.{Opening}
+use Rattle.log_join.specs.Stores.{nothing}
+use Rattle.failover_world.specs.Primaries.{IsBooted}
+use Rattle.failover_world.specs.Worlds.{WorldView}
+use Rattle.failover_world.proofs.Beginning.{first_world}
+use Rattle.failover_world.proofs.world.World.new.Goals as goal
+
+pub invariant_of-result : goal.invariant_of-result
+invariant_of-result c =
+    let v : WorldView = record {
+      image = c.in_ok-own.own;
+      keepers = c.args.keepers;
+      need = c.args.need;
+      primary = c.in_ok-primary.primary;
+      runs = true;
+      stopped = c.new-2.result.items;
+      sent = c.push.new.self.items;
+      stores = c.in_ok-stores.stores.items;
+      gate = c.in_ok-gate.gate;
+      released = c.new-3.result.items;
+    } in
+    let own : c.args.image.now ≡ v.image = sym c.in_ok-own.ensures in
+    let guest : c.guest-guest.result ≡ guest_of v.image = c.guest-guest.ensures ∙ ap guest_of own in
+    let booted : IsBooted v.image v.primary = subst (λ (i : ImageContents). IsBooted i v.primary) own c.in_ok-primary.ensures.booted in
+    let book = v.primary.book in
+    let parts = c.in_ok-gate.ensures.parts in
+    first_world v (record {
+      guest = subst (λ (i : ImageContents). IsGuest (guest_of i)) own c.in_ok-primary.ensures.guest;
+      quorum = c.requires.quorum;
+      booted = booted;
+      primary = record {
+        log = booted.unused.log;
+        honest =
+            subst (λ (edges : Edges). HasHonestLog edges (heard_by book.mode) book.start book.journal book.machine) c.edges-edges.ensures.value
+            c.edges-edges.ensures.honest;
+      };
+      runs = refl;
+      sent =
+          c.in_ok-push.ensures.items
+          ∙ ap (λ (fs : List Frame). fs ++ Opening c.copy.result ∷ []) c.new-sent.ensures.items
+          ∙ ap (λ (o : OpeningParts). Opening o ∷ []) c.copy.ensures;
+      stores = c.in_ok-stores.ensures ∙ ap (λ (g : Guest). replicate c.args.keepers (Some (nothing g))) guest;
+      released = c.new-3.ensures.items;
+      gate_term = parts.0;
+      gate_keepers = parts.1;
+      gate_need = parts.2;
+      gate_harts = c.in_ok-gate.ensures.harts ∙ ap (λ (g : Guest). g.harts) guest;
+      acked = c.in_ok-gate.ensures.acked ∙ ap (λ (g : Guest). replicate c.args.keepers (replicate g.harts 0)) guest;
+      lines = c.in_ok-gate.ensures.lines;
+    })
