@@ -9,6 +9,9 @@ pub mod Sealing
 pub mod Releasing
 pub mod Parts
 pub mod Guests
+pub mod Chosen
+pub mod Granting
+pub mod Reviving
 pub mod Onward
 pub mod Promises
 pub mod Beginning

@@ -339,13 +339,13 @@ impl World {
             self.need,
             asked,
         )?;
+        let sealed = Sealed::new(live.opening.base());
         let harts = self.image.harts();
         let mut gate = TermGate::new(alloc, term, harts, self.keepers, self.need)?;
         let mut book = live.book;
         book.limit_at(no_limits(harts));
         let _edges = book.edges();
         offer_all(&mut gate, book.machine())?;
-        let sealed = Sealed::new(live.opening.base());
         let primary = Primary {
             opening: live.opening,
             book,

@@ -1,0 +1,216 @@
+-- What going live gives, and why it is refused, in the world.
+use Rattle.std.proofs.Common.{◌≡◌, ◌≢◌, ◌⊎◌, inl, inr, ℕ, zero, suc, ◌+◌, ◌-◌, ◌^◌, ◌<◌, ◌≤◌, Bool, true, false, List, [], ◌∷◌, ◌++◌, length, map, replicate, take, get_or, Option, Some, None, refl, sym, ap, subst, ◌∙◌, arith}
+use Rattle.std.specs.Prelude.{All}
+use Rattle.std.specs.List.{Any, AllByRecursion}
+use Rattle.std.proofs.lemmas.List.{length-replicate}
+use Rattle.ft_types.specs.Counts.{count_at, IsCount}
+use Rattle.edge_log.specs.EdgeLog.{IsLog}
+use Rattle.guest_image.specs.Image.{guest_of}
+use Rattle.guest_image.specs.Machine.{MachineState}
+use Rattle.hart_lease.specs.Runs.{counts_of}
+use Rattle.fragment_codec.specs.declared.frame.Frame.{Frame}
+use Rattle.fragment_codec.specs.declared.frame.Frame.TheVariants.{Opening}
+use Rattle.fragment_codec.specs.Rules.{OpeningParts, IsGuest, IsOpening}
+use Rattle.log_join.specs.Stores.{StoreView, nothing}
+use Rattle.page_book.specs.Books.{BookView}
+use Rattle.book_modes.specs.Recordings.{RecordingView, heard_by, HasHonestLog, IsUnused}
+use Rattle.hart_replay.specs.Images.{GuestHistory}
+use Rattle.hart_replay.specs.Primaries.{IsPrimary}
+use Rattle.hart_replay.specs.declared.fault.ReplayFault.{ReplayFault}
+use Rattle.hart_replay.specs.declared.fault.ReplayFault.TheVariants.{OtherGuest}
+use Rattle.output_gate.specs.Gates.{GateView, line_of, gone_of, offered_of}
+use Rattle.term_gate.specs.TermGates.{TermGateView}
+use Rattle.go_live.specs.declared.fault.LiveFault.{LiveFault}
+use Rattle.go_live.specs.declared.fault.LiveFault.TheVariants.{TooFewStores, TermNotNew, Replay, Memory as NoLive}
+use Rattle.go_live.specs.Faults.{IfReplay}
+use Rattle.go_live.specs.Outputs.{numbered}
+use Rattle.go_live.specs.Quorums.{distinct, AreEnough, IsNew, IsOld}
+use Rattle.go_live.specs.Lives.{BeginsFrom, IsAtPosition}
+use Rattle.go_live.specs.Histories.{AreOfHistory, IsOfHistory, MakesLonger}
+use Rattle.failover_world.specs.declared.primary.Primary.{Primary}
+use Rattle.failover_world.specs.Primaries.{no_limits}
+use Rattle.failover_world.specs.Worlds.{WorldView, store_at, term_of, said_at}
+use Rattle.failover_world.specs.Gating.{AreOffered, OffersMore}
+use Rattle.failover_world.specs.Happenings.{stores_of, IsFresh, GoesLive}
+use Rattle.failover_world.specs.Refusals.{CannotGoLive}
+use Rattle.failover_world.specs.Tied.{history, AreParts, IsTied, IsWorld, BeginsTerm}
+use Rattle.go_live.proofs.Places.{has_harts}
+use Rattle.failover_world.proofs.Rows.{take_all}
+use Rattle.failover_world.proofs.Guests.{store_guest}
+use Rattle.failover_world.proofs.Chosen.{each_named, honest}
+use Rattle.failover_world.proofs.Granting.{granted_world, granted}
+
+-- ---- limits
+
+below : (row : List ℕ) (n : ℕ) → length row ≡ n → AllByRecursion IsCount row → (hart : ℕ) → count_at row hart ≤ count_at (replicate n (2 ^ 48 - 1)) hart
+below [] n many each hart = omega arith
+below (x ∷ row) zero many each hart = absurd (omega (arith, many))
+below (x ∷ row) (suc n) many (first, rest) zero = let low : x < 2 ^ 48 = first in omega (arith, low)
+below (x ∷ row) (suc n) many (first, rest) (suc hart) = below row n (omega (arith, many)) rest hart
+
+-- no hart is past the greatest limit
+pub in_limits : (harts : ℕ) (o : OpeningParts) (m : MachineState) → IsOpening o → o.guest.harts ≡ harts →
+    ((hart : ℕ) → counts_of m hart ≡ count_at o.base hart) → (hart : ℕ) → counts_of m hart ≤ count_at (no_limits harts) hart
+in_limits harts o m rules same are hart =
+    subst (λ n. n ≤ count_at (no_limits harts) hart) (sym (are hart)) (below o.base harts (rules.base ∙ same) rules.counts hart)
+
+-- a book with other limits
+abbrev pub with_limits : BookView RecordingView → List ℕ → BookView RecordingView
+with_limits b limits = record b { mode = record b.mode { limits = limits } }
+
+pub begins_too : (b c : BookView RecordingView) (limits : List ℕ) → c ≡ with_limits b limits → BeginsFrom b.start b → BeginsFrom c.start c
+begins_too b c limits is begins =
+    subst (λ (x : BookView RecordingView). BeginsFrom x.start x) (sym is) (ap (λ (x : BookView RecordingView). with_limits x limits) begins)
+
+pub unused_too : (b c : BookView RecordingView) (before limits : List ℕ) → c ≡ with_limits b limits → IsUnused b.mode b.start before →
+    IsUnused c.mode c.start limits
+unused_too b c before limits is unused =
+    subst (λ (x : BookView RecordingView). IsUnused x.mode x.start limits) (sym is)
+    (record {
+      limits_are = refl;
+      inputs = unused.inputs;
+      due = unused.due;
+      bells = unused.bells;
+      others = unused.others;
+      few = unused.few;
+      edges = unused.edges;
+      log = unused.log;
+      log_harts = unused.log_harts;
+      log_start = unused.log_start;
+      many = unused.many;
+      rights = unused.rights;
+    })
+
+-- ---- the term
+
+-- a term that is not later is asked for as 0
+abbrev pub IsAsked : WorldView → ℕ → ℕ → Type 0
+IsAsked v term asked = ((asked ≡ term) × (term_of v < term)) ⊎ ((asked ≡ 0) × (term ≤ term_of v))
+
+pub record IsGiven (v : WorldView) (term asked : ℕ) (stores : List StoreView) : Type 0 where
+  pub same : asked ≡ term
+  pub later : term_of v < term
+  pub new : IsNew stores term
+
+pub given : (v : WorldView) (term asked : ℕ) (stores : List StoreView) → IsAsked v term asked → IsNew stores asked → IsGiven v term asked stores
+given v term asked stores (inl (same, later)) new = record { same = same; later = later; new = subst (IsNew stores) same new }
+given v term asked stores (inr (none, old)) new = let some = new.granted in absurd (omega (arith, some, none))
+
+-- what going live does in a history makes it the beginning of a term
+pub begins_term : (v : WorldView) (term asked : ℕ) (named : List ℕ) (stores : List StoreView) (p : Primary) (start : MachineState) →
+    stores ≡ map (λ s. s.1) (stores_of v.stores named) → asked ≡ term → p.book.start ≡ start → IsPrimary p.book → IsOpening p.opening →
+    ((h : GuestHistory) → AreOfHistory v.image h stores → IsOfHistory v.image h start p.opening) →
+    ((h : GuestHistory) → AreOfHistory v.image h stores → MakesLonger v.image h asked start p.opening) → BeginsTerm v term named p
+begins_term v term asked named stores p start are same begins primary rules is_history longer =
+    record {
+      primary = primary;
+      rules = rules;
+      is_history = λ h honest.
+          subst (λ (m : MachineState). IsOfHistory v.image h m p.opening) (sym begins) (is_history h (subst (AreOfHistory v.image h) (sym are) honest));
+      longer = λ h honest.
+          subst (λ (m : MachineState). MakesLonger v.image h term m p.opening) (sym begins)
+          (subst (λ n. MakesLonger v.image h n start p.opening) same (longer h (subst (AreOfHistory v.image h) (sym are) honest)));
+    }
+
+-- ---- refusals
+
+not_any : (Q : StoreView → Type 0) (stores : List StoreView) → All Q stores → Any (λ s. Q s → ⊥) stores → ⊥
+not_any Q stores all (k, s, within, is, not) = not (subst Q is (all k s within))
+
+module _ (v : WorldView) (is : IsTied v) (guest : IsGuest (guest_of v.image)) where
+  pub own : (named : List ℕ) → All (λ s. s.guest ≡ guest_of v.image) (map (λ s. s.1) (stores_of v.stores named))
+  own named = each_named (λ s. s.guest ≡ guest_of v.image) v.stores 0 named (λ k s at. store_guest v is guest k s at)
+
+  pub cannot : (term asked : ℕ) (named keepers : List ℕ) (stores : List StoreView) (fault : LiveFault) →
+      keepers ≡ map (λ s. s.0) (stores_of v.stores named) → stores ≡ map (λ s. s.1) (stores_of v.stores named) → IsAsked v term asked →
+      (fault ≡ TooFewStores → distinct keepers < v.keepers - v.need + 1) →
+      (fault ≡ TermNotNew → AreEnough v.keepers v.need keepers × IsOld stores asked) →
+      (fault ≡ Replay OtherGuest → Any (λ s. s.guest ≢ guest_of v.image) stores) →
+      IfReplay fault (λ f. (h : GuestHistory) → AreOfHistory v.image h stores → f ≡ OtherGuest) → fault ≢ NoLive → CannotGoLive v term named fault
+  cannot term asked named keepers stores TooFewStores are_keepers are asks few old other ends known = λ enough.
+      let less = few refl in
+      let many : v.keepers - v.need + 1 ≤ distinct keepers = subst (AreEnough v.keepers v.need) (sym are_keepers) enough in
+      omega (arith, less, many)
+  cannot term asked named keepers stores TermNotNew are_keepers are asks few old other ends known = (
+    subst (AreEnough v.keepers v.need) are_keepers (old refl).0,
+    elim asks [
+      | inl (same, later) ↦ inr (subst (λ n. IsOld (map (λ s. s.1) (stores_of v.stores named)) n) same (subst (λ xs. IsOld xs asked) are (old refl).1))
+      | inr (none, earlier) ↦ inl earlier
+    ],
+  )
+  cannot term asked named keepers stores (Replay fault) are_keepers are asks few old other ends known =
+      let same : fault ≡ OtherGuest = ends (history is.terms) (subst (AreOfHistory v.image (history is.terms)) (sym are) (honest v is named)) in
+      not_any (λ s. s.guest ≡ guest_of v.image) (map (λ s. s.1) (stores_of v.stores named)) (own named)
+      (subst (Any (λ s. s.guest ≢ guest_of v.image)) are (other (ap Replay same)))
+  cannot term asked named keepers stores NoLive are_keepers are asks few old other ends known = absurd (known refl)
+
+-- ---- the gate
+
+-- a gate to which nothing was offered yet
+pub none_offered : (g : GateView) (m : MachineState) → ((hart : ℕ) → line_of g hart ≡ record { gone = []; waiting = [] }) → AreOffered g m
+none_offered g m none hart =
+    let empty : offered_of g hart ≡ [] = ap (λ l. l.gone ++ l.waiting) (none hart) in
+    empty ∙ sym (ap (λ os. take (length os) (numbered hart (said_at m hart))) empty)
+
+pub fresh : (old new : TermGateView) (term keepers need harts : ℕ) → old.harts ≡ harts → old.gate.term ≡ term → old.gate.keepers ≡ keepers →
+    old.gate.need ≡ need → old.acked ≡ replicate keepers (replicate harts 0) →
+    ((hart : ℕ) → line_of old.gate hart ≡ record { gone = []; waiting = [] }) → OffersMore old new → IsFresh new term keepers need harts
+fresh old new term keepers need harts of_harts of_term of_keepers of_need acked none more =
+    record {
+      of_harts = ap (λ (g : TermGateView). g.harts) more.rest ∙ of_harts;
+      of_term = ap (λ (g : TermGateView). g.gate.term) more.rest ∙ of_term;
+      of_keepers = ap (λ (g : TermGateView). g.gate.keepers) more.rest ∙ of_keepers;
+      of_need = ap (λ (g : TermGateView). g.gate.need) more.rest ∙ of_need;
+      acked = ap (λ (g : TermGateView). g.acked) more.rest ∙ acked;
+      gone = λ hart. more.gone hart ∙ ap (λ l. l.gone) (none hart);
+    }
+
+-- ---- the parts of the new world
+
+pub with_primary : (v : WorldView) (term : ℕ) (named : List ℕ) (p : Primary) (g : TermGateView) → AreParts v → GoesLive v term named p g →
+    BeginsTerm v term named p → AreParts (granted_world v p g)
+with_primary v term named p g parts live begins =
+    let machine : p.book.machine ≡ p.book.start = ap (λ (b : BookView RecordingView). b.machine) live.begins in
+    record {
+      guest = parts.guest;
+      quorum = parts.quorum;
+      stores = parts.stores;
+      idle = ap (λ (b : BookView RecordingView). b.leases) live.begins;
+      within = λ hart.
+          subst (λ row. counts_of p.book.machine hart ≤ count_at row hart) (sym live.unused.limits_are)
+          (in_limits v.image.harts p.opening p.book.machine begins.rules (ap (λ (o : OpeningParts). o.guest.harts) live.at.opened)
+          (λ h. ap (λ (m : MachineState). counts_of m h) machine ∙ live.at.replayed.counts h
+          ∙ ap (λ (o : OpeningParts). count_at o.base h) (sym live.at.opened)) hart);
+      harts =
+          ap (λ (m : MachineState). length m.harts) machine ∙ has_harts v.image live.at.replayed.legs p.book.start live.at.replayed.outcome;
+      reached = ap length live.uncut.0 ∙ begins.rules.base ∙ ap (λ (o : OpeningParts). o.guest.harts) live.at.opened;
+      gate_term = live.fresh.of_term ∙ sym (ap (λ (o : OpeningParts). o.term) live.at.opened);
+      gate_keepers = live.fresh.of_keepers;
+      gate_need = live.fresh.of_need;
+      gate_harts = live.fresh.of_harts;
+      acked = ap length live.fresh.acked ∙ length-replicate v.keepers (replicate v.image.harts 0);
+      offered = λ hart.
+          let many = ap length (live.offered hart) in
+          live.offered hart
+          ∙ sym (take_all (numbered hart (said_at p.book.machine hart)) (length (offered_of g.gate hart)) (omega (arith, many)));
+    }
+
+-- ---- the new world
+
+abbrev pub world_with : WorldView → TermGateView → Primary → List Primary → List Frame → WorldView
+world_with v g p stopped sent = record v { primary = p; runs = true; stopped = stopped; sent = sent; gate = g }
+
+pub is_granted : (v : WorldView) (g : TermGateView) (p now : Primary) (stopped : List Primary) (sent : List Frame) → now ≡ p →
+    stopped ≡ v.stopped ++ v.primary ∷ [] → sent ≡ v.sent ++ Opening p.opening ∷ [] → world_with v g now stopped sent ≡ granted_world v p g
+is_granted v g p now stopped sent primary before frames =
+    ap (λ x. world_with v g x stopped sent) primary
+    ∙ ap (λ x. world_with v g p x sent) before
+    ∙ ap (λ x. world_with v g p (v.stopped ++ v.primary ∷ []) x) frames
+
+pub new_world : (v : WorldView) (term : ℕ) (named : List ℕ) (p : Primary) (g : TermGateView) → IsWorld v → v.runs ≡ false → GoesLive v term named p g →
+    BeginsTerm v term named p → IsWorld (granted_world v p g)
+new_world v term named p g is quiet live begins =
+    record {
+      parts = with_primary v term named p g is.parts live begins;
+      tied = granted v is.tied is.parts term named p g live begins quiet;
+    }

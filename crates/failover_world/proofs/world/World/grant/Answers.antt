@@ -1,0 +1,74 @@
+use Rattle.std.proofs.Common.{rules, ◌≡◌, ◌≢◌, ◌<◌, ◌≤◌, ℕ, List, [], ◌∷◌, ◌++◌, true, false, Option, None, refl, sym, ap, subst, ◌∙◌, arith}
+use Rattle.std.specs.Prelude.{All}
+use Rattle.fragment_codec.specs.declared.frame.Frame.{Frame}
+use Rattle.fragment_codec.specs.declared.frame.Frame.TheVariants.{Opening}
+use Rattle.fragment_codec.specs.Rules.{OpeningParts}
+use Rattle.failover_world.specs.declared.primary.Primary.{Primary}
+use Rattle.log_join.specs.Stores.{StoreView}
+use Rattle.failover_world.specs.Worlds.{WorldView, store_at}
+use Rattle.failover_world.specs.Happenings.{GoesLive, Grants}
+use Rattle.failover_world.specs.Tied.{IsWorld, BeginsTerm}
+use Rattle.failover_world.proofs.Granting.{granted_world}
+use Rattle.failover_world.proofs.Reviving.{world_with, is_granted, new_world}
+use Rattle.failover_world.proofs.world.World.grant.Goals as goal
+
+pub invariant_of-self-2 : goal.invariant_of-self-2
+invariant_of-self-2 c =
+    let v : WorldView = record {
+      image = c.self.inside.image;
+      keepers = c.self.inside.keepers;
+      need = c.self.inside.need;
+      primary = c.self.inside.primary;
+      runs = c.self.inside.runs;
+      stopped = c.self.inside.stopped.items;
+      sent = c.self.inside.sent.items;
+      stores = c.self.inside.stores.items;
+      gate = c.self.inside.gate;
+      released = c.self.inside.released.items;
+    } in
+    let p = c.in_ok-primary.primary in
+    let g = c.in_ok-primary.gate in
+    let live : GoesLive v c.args.term c.args.keepers.now p g =
+    subst (λ (w : WorldView). GoesLive w c.args.term c.args.keepers.now p g) (sym c.self.view_is) c.in_ok-primary.ensures.goes in
+    let begins : BeginsTerm v c.args.term c.args.keepers.now p =
+    subst (λ (w : WorldView). BeginsTerm w c.args.term c.args.keepers.now p) (sym c.self.view_is) c.in_ok-primary.ensures.begins in
+    let now : world_with v g c.replace-before.new.dest c.push_reserved-2.new.self.items c.push_reserved.new.self.items ≡ granted_world v p g =
+    is_granted v g p c.replace-before.new.dest c.push_reserved-2.new.self.items c.push_reserved.new.self.items c.replace-before.ensures.after
+    (c.push_reserved-2.ensures.items ∙ ap (λ before. c.reserve.new.self.items ++ before ∷ []) c.replace-before.ensures.value
+    ∙ ap (λ (before : List Primary). before ++ c.self.inside.primary ∷ []) c.reserve.ensures.items)
+    (c.push_reserved.ensures.items ∙ ap (λ (o : OpeningParts). c.reserve-else-is_err.new.self.items ++ Opening o ∷ []) c.copy.ensures
+    ∙ ap (λ (before : List Frame). before ++ Opening p.opening ∷ []) c.reserve-else-is_err.ensures.items) in
+    subst IsWorld (sym now) (new_world v c.args.term c.args.keepers.now p g c.self.invariant c.if-self.false live begins)
+
+pub returns-clause-happens : goal.returns-clause-happens
+returns-clause-happens c =
+    let v : WorldView = record {
+      image = c.self.inside.image;
+      keepers = c.self.inside.keepers;
+      need = c.self.inside.need;
+      primary = c.self.inside.primary;
+      runs = c.self.inside.runs;
+      stopped = c.self.inside.stopped.items;
+      sent = c.self.inside.sent.items;
+      stores = c.self.inside.stores.items;
+      gate = c.self.inside.gate;
+      released = c.self.inside.released.items;
+    } in
+    let p = c.in_ok-primary.primary in
+    let g = c.in_ok-primary.gate in
+    let live : GoesLive v c.args.term c.args.keepers.now p g =
+    subst (λ (w : WorldView). GoesLive w c.args.term c.args.keepers.now p g) (sym c.self.view_is) c.in_ok-primary.ensures.goes in
+    let begins : BeginsTerm v c.args.term c.args.keepers.now p =
+    subst (λ (w : WorldView). BeginsTerm w c.args.term c.args.keepers.now p) (sym c.self.view_is) c.in_ok-primary.ensures.begins in
+    let now : world_with v g c.replace-before.new.dest c.push_reserved-2.new.self.items c.push_reserved.new.self.items ≡ granted_world v p g =
+    is_granted v g p c.replace-before.new.dest c.push_reserved-2.new.self.items c.push_reserved.new.self.items c.replace-before.ensures.after
+    (c.push_reserved-2.ensures.items ∙ ap (λ before. c.reserve.new.self.items ++ before ∷ []) c.replace-before.ensures.value
+    ∙ ap (λ (before : List Primary). before ++ c.self.inside.primary ∷ []) c.reserve.ensures.items)
+    (c.push_reserved.ensures.items ∙ ap (λ (o : OpeningParts). c.reserve-else-is_err.new.self.items ++ Opening o ∷ []) c.copy.ensures
+    ∙ ap (λ (before : List Frame). before ++ Opening p.opening ∷ []) c.reserve-else-is_err.ensures.items) in
+    let there : All (λ keeper. store_at v.stores keeper ≢ None) c.args.keepers.now =
+    subst (λ (stores : List (Option StoreView)). All (λ keeper. store_at stores keeper ≢ None) c.args.keepers.now) c.deref.ensures.value
+    (c.if-not-are_there.ensures.all refl) in
+    subst (λ (w : WorldView). Grants c.args.self.now c.args.term c.args.keepers.now w) (sym now)
+    (subst (λ (w : WorldView). Grants w c.args.term c.args.keepers.now (granted_world v p g)) c.self.view_is
+    (record { quiet = c.if-self.false; there = there; live = live; rest = refl }))
