@@ -1,8 +1,14 @@
 -- One step: a lease whose stop is one above its hart's count.
-use Rattle.std.proofs.Common.{◌≡◌, ℕ, zero, suc, ◌+◌, ◌<◌, ◌≤◌, List, [], ◌∷◌, length, slice_get, slice_set, Some, Bool, true, false}
-use Rattle.std.proofs.Common.{Result, Ok, Err, refl, sym, ap, subst, ◌∙◌, inl, inr, arith}
+use Rattle.std.proofs.Common.{◌≡◌, ℕ, zero, suc, ◌+◌, ◌<◌, ◌≤◌, List, [], ◌∷◌, length, nat_lt, slice_get, slice_set, Option, None, Some, Bool, true, false}
+use Rattle.std.proofs.Common.{Result, Ok, Err, refl, sym, ap, subst, ◌∙◌, inl, inr, arith, if◌then◌else◌}
 use Rattle.std.proofs.lemmas.Grind.{common_steps}
 use Rattle.std.specs.Result.{IfOk, OnErr}
+use Rattle.std.proofs.lemmas.Bool.{cases_lt}
+use Rattle.interleaving.specs.Lists.{put}
+use Rattle.interleaving.proofs.Put.{put_same}
+use Rattle.crew_pages.specs.declared.right.PageRight.{PageRight}
+use Rattle.crew_pages.specs.Rights.{Right, Shared, Exclusive, give_up, holds, nobody}
+use Rattle.lease_ledger.specs.Calls.{kept, Nothing}
 use Rattle.rv32_hart.specs.Hart.{Hart}
 use Rattle.ft_types.specs.Counts.{count_at}
 use Rattle.ft_types.specs.declared.errors.Memory.{Memory}
@@ -13,7 +19,7 @@ use Rattle.hart_lease.specs.Runs.{added, counts_of, steps_taken}
 use Rattle.hart_lease.proofs.steps.LackedRights.{step_counts}
 use Rattle.book_modes.specs.declared.keep.Keep.TheVariants as told
 use Rattle.book_modes.specs.Dues.{due_at, is_silent}
-use Rattle.book_modes.specs.Recordings.{RecordingView, inputs_offered}
+use Rattle.book_modes.specs.Recordings.{RecordingView, inputs_offered, right_at, right_stored}
 use Rattle.page_book.specs.Books.{BookView}
 use Rattle.page_book.specs.Tellings.{TellsOn}
 use Rattle.page_book.proofs.Tellings.{tells_the_same}
@@ -24,7 +30,7 @@ use Rattle.lease_rounds.proofs.GoingOn.{HasGoneOn, count_is, from, stop, went_fa
 use Rattle.primary_pool.specs.Running.{recording}
 use Rattle.primary_pool.proofs.Leasing.{KeepsRest, ahead, continues, filled_keeps, keeps_rest, offered}
 use Rattle.primary_pool.proofs.Offered.{filled_offered}
-use Rattle.hart_steps.specs.Steps.{AreWithin, HasStepped, IsUnmoved, Runs}
+use Rattle.hart_steps.specs.Steps.{AreWithin, HasStepped, HoldsNothing, IsUnmoved, Runs}
 
 -- ---- a book that has not moved
 
@@ -94,6 +100,33 @@ module _ (hart : ℕ) (b d : BookView RecordingView) (up : GivesUp recording har
             ∙ filled_offered b.mode hart (counts_of b.machine hart) up.opened.mode (is_silent (due_at b.mode.due hart).inputs) refl up.lends.mode.filled other;
       }
 
+-- ---- rights
+
+-- a hart that keeps nothing has no right
+left_none : (r : Right) (hart n : ℕ) → holds (give_up r hart n) hart ≡ false
+left_none (Shared since readers left) hart n = put_same readers hart hart false refl
+left_none (Exclusive owner at since left) hart n = of (nat_lt at n)
+  where
+    of : (b : Bool) →
+        holds
+        (if b then Shared (Some (record { hart = owner; count = n })) (λ other. false) nobody else Shared since (λ other. false) (put left owner (Some n)))
+        hart ≡
+        false
+    of true = refl
+    of false = refl
+
+kept_none : (r : Right) (hart n : ℕ) → holds (kept Nothing r hart n) hart ≡ false
+kept_none r hart n = of (holds r hart) refl
+  where
+    of : (b : Bool) → holds r hart ≡ b → holds (if b then give_up r hart n else r) hart ≡ false
+    of true has = left_none r hart n
+    of false has = has
+
+beyond : (rights : List PageRight) (page : ℕ) → length rights ≤ page → slice_get rights page ≡ None
+beyond [] page le = refl
+beyond (r ∷ rights) zero le = absurd (omega (arith, le))
+beyond (r ∷ rights) (suc page) le = beyond rights page (omega (arith, le))
+
 -- ---- one step
 
 -- the counts of the harts, one of which has gone on
@@ -152,6 +185,19 @@ module _ (hart : ℕ) (b : BookView RecordingView) (once : List ℕ) (d : BookVi
         (set_counts b.machine.harts hart g.before g.after (count_at b.mode.limits other) other g.there g.further
         (λ e. subst (λ (n : ℕ). g.after.count ≤ count_at b.mode.limits n) (sym e) (omega (arith, end, one, below))) (within other))
 
+    holds_nothing : HoldsNothing d hart
+    holds_nothing page =
+        let settled = on.leads.back.mode in
+        let same : on.leads.lease.hart ≡ hart = (lease_filled recording told.Nothing hart low d on).hart ∙ own recording told.Nothing hart low d on in
+        elim (cases_lt page (length on.leads.filled.mode.rights)) [
+          | inl there ↦
+              ap (λ (r : Right). holds r hart) (settled.rights page there)
+              ∙ subst
+              (λ (h : ℕ). holds (kept Nothing (right_at on.leads.filled.mode.rights page) on.leads.lease.hart on.leads.lease.present.count) h ≡ false) same
+              (kept_none (right_at on.leads.filled.mode.rights page) on.leads.lease.hart on.leads.lease.present.count)
+          | inr past ↦ ap (λ (o : Option PageRight). holds (right_stored o) hart) (beyond d.mode.rights page (omega (arith, past, settled.many)))
+        ]
+
     has_stepped : (limits : List ℕ) → limits ≡ b.mode.limits → HasStepped hart b (limited d limits)
     has_stepped limits same =
         let p = continues told.Nothing hart low d on gone.start in
@@ -196,6 +242,11 @@ module _ (hart : ℕ) (b : BookView RecordingView) (once : List ℕ) (d : BookVi
         (λ other.
         subst (λ (l : List ℕ). counts_of d.machine other ≤ count_at l other) (sym same)
         (counts_go (subst (λ (x : BookView RecordingView). GoesOn recording told.Nothing hart x d) is on) other).1)
+
+    pub took_rights : GoesOn recording told.Nothing hart a d → HoldsNothing f hart
+    took_rights on =
+        subst (λ (x : BookView RecordingView). HoldsNothing x hart) (sym back)
+        (holds_nothing (subst (λ (x : BookView RecordingView). GoesOn recording told.Nothing hart x d) is on))
 
     pub took_none : IsIdle d → HasNotGone recording hart a d → IsUnmoved b f
     took_none now none =

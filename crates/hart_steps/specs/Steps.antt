@@ -3,7 +3,8 @@ use Rattle.std.specs.Prelude.{◌≡◌, ◌≤◌, ℕ, slice_get, false, Optio
 use Rattle.rv32_hart.specs.Hart.{Hart}
 use Rattle.ft_types.specs.Counts.{count_at}
 use Rattle.hart_lease.specs.Runs.{added, counts_of}
-use Rattle.book_modes.specs.Recordings.{RecordingView}
+use Rattle.crew_pages.specs.Rights.{holds}
+use Rattle.book_modes.specs.Recordings.{RecordingView, right_at}
 use Rattle.page_book.specs.Books.{BookView, refusal}
 use Rattle.page_book.specs.declared.answers.BookFault.{BookFault}
 use Rattle.page_book.specs.declared.answers.BookFault.TheVariants.{Memory}
@@ -26,6 +27,10 @@ pub record HasStepped (hart : ℕ) (b c : BookView RecordingView) : Type 0 where
   pub tells : TellsOn b c
   pub limits : c.mode.limits ≡ b.mode.limits
   pub offered : KeepsOffered b c
+
+-- the hart has no right to any page
+abbrev pub HoldsNothing : BookView RecordingView → ℕ → Type 0
+HoldsNothing b hart = (page : ℕ) → holds (right_at b.mode.rights page) hart ≡ false
 
 -- no step was taken: what is settled, and what was told of it, is as it was
 pub record IsUnmoved (b c : BookView RecordingView) : Type 0 where

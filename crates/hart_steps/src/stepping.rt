@@ -6,7 +6,7 @@ ghost use Rattle.hart_lease.specs.declared.stretch.Stretch.{Stretch};
 ghost use Rattle.hart_lease.specs.Runs.{counts_of};
 ghost use Rattle.page_book.specs.Tellings.{TellsOn};
 ghost use Rattle.primary_pool.specs.Running.{IsIdle};
-ghost use Rattle.hart_steps.specs.Steps.{AreWithin, HasStepped, IsUnmoved, IsRefused, RefusesStep, Runs};
+ghost use Rattle.hart_steps.specs.Steps.{AreWithin, HasStepped, HoldsNothing, IsUnmoved, IsRefused, RefusesStep, Runs};
 
 use ft_types::{Counts, Hart, Memory};
 use lease_rounds::go;
@@ -31,6 +31,7 @@ fn go_once(
     requires one { count_at once hart ≡ counts_of book.old.machine hart + 1 }
     ensures stepped { OnOk result (HasStepped hart book.old book.new) }
     ensures within { OnOk result (AreWithin book.new) }
+    ensures rights { OnOk result (HoldsNothing book.new hart) }
     ensures unmoved { OnErr result (IsUnmoved book.old book.new) }
 {
     let limits = book.limits();
@@ -50,6 +51,7 @@ pub fn take_step(alloc: Global, book: &mut Book<Recording>, hart: Hart) -> Resul
     requires idle { IsIdle book.old }
     requires within { AreWithin book.old }
     ensures stepped { OnOk result (HasStepped hart book.old book.new) }
+    ensures rights { OnOk result (HoldsNothing book.new hart) }
     ensures open { OnOk result (IsRefused book.old hart None) }
     ensures refused { IfErr result (λ fault. RefusesStep book.old hart fault) }
     ensures unmoved { OnErr result (IsUnmoved book.old book.new) }

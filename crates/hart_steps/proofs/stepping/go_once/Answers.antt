@@ -1,7 +1,7 @@
 use Rattle.std.proofs.Common.{◌≤◌, List, ℕ, sym, subst, ◌∙◌}
 use Rattle.ft_types.specs.Counts.{count_at}
 use Rattle.hart_lease.specs.Runs.{counts_of}
-use Rattle.hart_steps.proofs.OneStep.{fits, not_held, took_step, took_within, took_none}
+use Rattle.hart_steps.proofs.OneStep.{fits, not_held, took_step, took_within, took_rights, took_none}
 use Rattle.hart_steps.proofs.stepping.go_once.Goals as goal
 
 pub limit_at-requires-2 : goal.limit_at-requires-2
@@ -30,6 +30,12 @@ returns-in-Ok-true-clause-stepped c =
 pub returns-in-Ok-true-clause-within : goal.returns-in-Ok-true-clause-within
 returns-in-Ok-true-clause-within c =
     took_within c.args.hart c.args.book.now c.args.once c.go-went.new.book c.requires.idle c.requires.one c.requires.below c.requires.within
+    c.limit_at.new.self c.limit_at-2.new.self c.limits-limits.result c.limit_at.ensures c.limit_at-2.ensures c.limits-limits.ensures.value
+    (rw c.in-Ok-true.field-0-test at c.in-Ok-true.ensures.goes)
+
+pub returns-in-Ok-true-clause-rights : goal.returns-in-Ok-true-clause-rights
+returns-in-Ok-true-clause-rights c =
+    took_rights c.args.hart c.args.book.now c.args.once c.go-went.new.book c.requires.idle c.requires.one c.requires.below c.requires.within
     c.limit_at.new.self c.limit_at-2.new.self c.limits-limits.result c.limit_at.ensures c.limit_at-2.ensures c.limits-limits.ensures.value
     (rw c.in-Ok-true.field-0-test at c.in-Ok-true.ensures.goes)
 
