@@ -17,3 +17,5 @@ mod records;
 mod runs;
 #[cfg(test)]
 mod starts;
+#[cfg(test)]
+mod steps;

@@ -34,7 +34,13 @@ fn offer(book: &mut Book<Recording>, offered: Offered) -> Result<(), Memory>
     book.offer(Hart::new(0), not_before, input)
 }
 
-fn begin(alloc: Global, image: &Image, limits: Counts, offered: Offered) -> Option<Book<Recording>>
+/// A book of the image's primary, whose first hart was offered this input.
+pub(crate) fn begin(
+    alloc: Global,
+    image: &Image,
+    limits: Counts,
+    offered: Offered,
+) -> Option<Book<Recording>>
     ensures { IfSome result (λ b. IsIdle b) }
 {
     let start = Machine::boot(alloc, image).ok()?;

@@ -1,7 +1,7 @@
 -- A lease, step by step, and back in its book.
 use Rattle.std.proofs.Common.{◌≡◌, ◌≢◌, ℕ, zero, suc, ◌+◌, ◌-◌, ◌<◌, ◌≤◌, ◌⊎◌, List, [], ◌∷◌, map, length, length-set, replicate, slice_get, slice_set, Option}
 use Rattle.std.proofs.Common.{None, Some, Result, Ok, Err, false, refl, sym, ap, subst, ◌∙◌, inl, inr, arith, lit<}
-use Rattle.std.specs.Result.{OnOk, is_err}
+use Rattle.std.specs.Result.{OnOk, OnErr, IfErr, is_err}
 use Rattle.rv32_hart.specs.declared.outcome.Tick.TheVariants.{Miss}
 use Rattle.rv32_hart.specs.Hart.{Hart}
 use Rattle.ft_types.specs.declared.names.Want.{Want}
@@ -14,9 +14,13 @@ use Rattle.hart_lease.specs.declared.taken.Taken.{Taken}
 use Rattle.hart_lease.specs.Slots.{slot_at, want_of}
 use Rattle.hart_lease.specs.Leases.{LeaseView, Ticks, StepsOn, IsFull, inputs_next, IsLent, outputs_of, whole, whole_in, with_page, with_page_beside, IsLentBy}
 use Rattle.page_book.specs.Books.{BookView, IsOurs}
+use Rattle.page_book.specs.declared.answers.BookFault.{BookFault}
+use Rattle.page_book.specs.declared.answers.BookFault.TheVariants.{Foreign}
 use Rattle.hart_lease.specs.OpenLeases.{OpenView, open_at}
+use Rattle.hart_lease.specs.Runs.{counts_of}
+use Rattle.book_modes.specs.declared.keep.Keep.{Keep}
 use Rattle.hart_lease.specs.Laws.{StepCounts, StepKeepsRights, LacksOnAPage, Covers}
-use Rattle.lease_rounds.specs.Leading.{IsIdle, IsAlone, Fills, NoneYet, Steps, Takes, lacking, rights_short}
+use Rattle.lease_rounds.specs.Leading.{IsIdle, IsAlone, Fills, NoneYet, Steps, Takes, ComesBack, EndsWithout, lacking, rights_short}
 
 -- ---- a page that is given
 
@@ -145,6 +149,11 @@ alone_kept c k n still alone t =
       rows = alone.rows;
     }
 
+-- and so does what leaves lease and book as they are
+pub alone_as : {M : Type 0} (c d : BookView M) (k n : LeaseView) → IsAlone c k → d ≡ c → n ≡ k → IsAlone d n
+alone_as c d k n alone book lease =
+    subst (λ (x : BookView _). IsAlone x n) (sym book) (subst (λ (x : LeaseView). IsAlone c x) (sym lease) alone)
+
 -- after steps and a page there is less to go
 pub smaller : (k n m : LeaseView) → Keeps k n → m.present ≡ n.present → m.stop ≡ n.stop → lacking (map want_of m.slots) < lacking (map want_of n.slots) →
     (m.stop - m.present.count) + lacking (map want_of m.slots) < (k.stop - k.present.count) + lacking (map want_of k.slots)
@@ -198,6 +207,10 @@ module _ {M : Type 0} (g : Ghosts M) (b : BookView M) (l : LeaseView) where
   fills_run zero c k n fills s = subst (λ (x : LeaseView). Fills g b l c x) (sym s) fills
   fills_run (suc j) c k n fills s = Steps n (fills_run j c k s.0 fills s.1) s.2 s.3
 
+  pub fills_as : (c d : BookView M) (k n : LeaseView) → Fills g b l c k → d ≡ c → n ≡ k → Fills g b l d n
+  fills_as c d k n fills book lease =
+      subst (λ (x : BookView M). Fills g b l x n) (sym book) (subst (λ (x : LeaseView). Fills g b l c x) (sym lease) fills)
+
   pub has_filled : StepCounts → (c : BookView M) (k : LeaseView) → Fills g b l c k → HasFilled b l c k
   has_filled counts c k NoneYet = record { book = refl; hart = refl; base = refl; inputs = refl; stop = refl; gone = inl (refl, refl) }
   has_filled counts c k (Steps {c = now} {k = before} n fills room t) =
@@ -231,6 +244,14 @@ pub on_ok : {A E P Q : Type 0} (r : Result A E) → (P → Q) → OnOk r P → O
 on_ok (Ok x) f p = f p
 on_ok (Err x) f p = tt
 
+pub where_err : {A E P : Type 0} (r : Result A E) → P → OnErr r P
+where_err (Ok x) p = tt
+where_err (Err x) p = p
+
+pub on_err : {A E P Q : Type 0} (r : Result A E) → (P → Q) → OnErr r P → OnErr r Q
+on_err (Ok x) f p = tt
+on_err (Err x) f p = f p
+
 none_left : (leases : List (Option OpenView)) (hart other : ℕ) → (other ≢ hart → open_at leases other ≡ None) → open_at (slice_set leases hart None) other ≡
     None
 none_left [] hart other e = refl
@@ -252,3 +273,20 @@ idle_again c d k alone is =
     is
     ∙ all_none (slice_set c.leases k.hart None) (λ other. none_left c.leases k.hart other (alone.alone other))
     ∙ ap (λ (n : ℕ). replicate n None) (length-set c.leases k.hart None ∙ alone.rows)
+
+module _ {M : Type 0} (g : Ghosts M) (c d : BookView M) (k : LeaseView) where
+  -- a lease of the book's own that was let go of ended
+  pub ends_without : {A : Type 0} (r : Result A BookFault) → IsAlone c k →
+      OnOk r (d ≡ record c { leases = slice_set c.leases k.hart None; mode = d.mode }) →
+      OnOk r (g.ends c.mode k.hart (counts_of c.machine k.hart) k.taken d.mode) →
+      IfErr r (λ f. (f ≡ Foreign) × (IsOurs c k → ⊥)) → EndsWithout g c k d
+  ends_without (Ok x) alone book mode foreign = record { mode = mode; book = book }
+  ends_without (Err f) alone book mode foreign = absurd (foreign.1 alone.ours)
+
+  -- no lease is open, once the only one ended, or came back or ended
+  pub idle_ended : IsAlone c k → EndsWithout g c k d → IsIdle d
+  idle_ended alone ends = idle_again c d k alone (ap (λ (x : BookView M). x.leases) ends.book)
+
+  pub idle_at_last : {A E : Type 0} (keep : Keep) (r : Result A E) → IsAlone c k → OnOk r (ComesBack g keep c k d) → OnErr r (EndsWithout g c k d) → IsIdle d
+  idle_at_last keep (Ok x) alone back ends = idle_again c d k alone back.leases
+  idle_at_last keep (Err x) alone back ends = idle_ended alone ends

@@ -116,13 +116,13 @@ module _ {M : Type 0} (g : Ghosts M) where
           lent_runs on.lends.state (count_at (g.stops b.mode) hart)
           (subst (λ (o : Option OpenView). refusal o on.lends.state (count_at (g.stops b.mode) hart) ≡ None) (idle_at b idle hart) on.lends.unrefused)
 
-      count_is : counts_of b.machine hart ≡ on.lends.state.count
+      pub count_is : counts_of b.machine hart ≡ on.lends.state.count
       count_is = ap steps_taken on.lends.there
 
-      from : on.lease.present.count ≡ on.lends.state.count
+      pub from : on.lease.present.count ≡ on.lends.state.count
       from = ap (λ (x : LeaseView). x.present.count) on.lends.lent
 
-      stop : (counts_of b.machine hart < on.lease.stop) × (on.lease.stop ≤ count_at (g.stops b.mode) hart)
+      pub stop : (counts_of b.machine hart < on.lease.stop) × (on.lease.stop ≤ count_at (g.stops b.mode) hart)
       stop =
           let below = runs.1 in
           ahead b.mode on.opened.mode hart (counts_of b.machine hart) (lent_as l) (omega (arith, below, count_is)) on.lends.mode
@@ -139,11 +139,14 @@ module _ {M : Type 0} (g : Ghosts M) where
         ]
       ]
 
+      -- its hart took a step at least, and went no further than its stop
+      pub went_far : (on.lease.present.count < on.leads.lease.present.count) × (on.leads.lease.present.count ≤ on.lease.stop)
+      went_far = went_on l k room on.leads.full lease_filled.base lease_filled.stop lease_filled.gone
+
       pub has_gone_on : HasGoneOn hart b d
       unfolding state_after
       has_gone_on =
-          let far = went_on l k room on.leads.full lease_filled.base lease_filled.stop lease_filled.gone in
-          let rises = far.0 in
+          let rises = went_far.0 in
           record {
             start = on.leads.back.start ∙ ap (λ (x : BookView M). x.start) lease_filled.book ∙ ap (λ (x : BookView M). x.start) on.lends.book;
             before = on.lends.state;
@@ -151,7 +154,7 @@ module _ {M : Type 0} (g : Ghosts M) where
             after = state_after;
             harts = harts_are;
             further = omega (arith, from, rises);
-            within = le_trans far.1 stop.1;
+            within = le_trans went_far.1 stop.1;
           }
 
   -- the book has fewer steps to go

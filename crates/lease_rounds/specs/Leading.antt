@@ -90,6 +90,18 @@ module _ {M : Type 0} (g : Ghosts M) where
     pub full : IsFull lease
     pub back : ComesBack keep filled lease d
 
+  -- the lease ended without its steps, and its hart gave up what it took
+  pub record EndsWithout (b : BookView M) (l : LeaseView) (d : BookView M) : Type 0 where
+    pub mode : g.ends b.mode l.hart (counts_of b.machine l.hart) l.taken d.mode
+    pub book : d ≡ record b { leases = slice_set b.leases l.hart None; mode = d.mode }
+
+  -- the lease, in the first book, took steps and pages, and then ended without its steps
+  pub record LeavesOff (b : BookView M) (l : LeaseView) (d : BookView M) : Type 0 where
+    pub filled : BookView M
+    pub lease : LeaseView
+    pub fills : Fills b l filled lease
+    pub ends : EndsWithout filled lease d
+
   -- the first book lent the hart, which runs, is below its stop and has each edge of its next step met
   pub record Lends (hart : ℕ) (b : BookView M) (l : LeaseView) (c : BookView M) : Type 0 where
     pub state : Hart
@@ -107,6 +119,17 @@ module _ {M : Type 0} (g : Ghosts M) where
     pub lends : Lends hart b lease opened
     pub leads : Leads keep opened lease d
     pub idle : IsIdle d
+
+  -- the hart went out for a lease that was given up
+  pub record GivesUp (hart : ℕ) (b d : BookView M) : Type 0 where
+    pub opened : BookView M
+    pub lease : LeaseView
+    pub lends : Lends hart b lease opened
+    pub leaves : LeavesOff opened lease d
+
+  -- nothing has changed, or a lease was given up
+  abbrev pub HasNotGone : ℕ → BookView M → BookView M → Type 0
+  HasNotGone hart b d = (d ≡ b) ⊎ GivesUp hart b d
 
   -- the hart is halted, at its stop, or waits for another
   abbrev pub IsHeld : BookView M → ℕ → Type 0

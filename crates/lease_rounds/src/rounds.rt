@@ -1,11 +1,12 @@
 //! One lease after the other: each is filled with steps and settled.
 
-ghost use Rattle.std.specs.Prelude.{◌≡◌, ◌<◌, ℕ, length, map, IfOk, OnOk};
+ghost use Rattle.std.specs.Prelude.{◌≡◌, ◌<◌, ℕ, length, map, IfOk, OnOk, OnErr};
 ghost use Rattle.hart_lease.specs.Slots.{slot_at, want_of};
 ghost use Rattle.hart_lease.specs.Leases.{IsFull};
 ghost use Rattle.page_book.specs.Books.{IsOurs};
 ghost use Rattle.hart_lease.specs.Laws.{Covers};
 ghost use Rattle.lease_rounds.specs.Leading.{IsIdle, IsAlone, IsFreeAlone, Gives, Fills, ComesBack, Leads, Goes, Rounds, lacking};
+ghost use Rattle.lease_rounds.specs.Leading.{EndsWithout, LeavesOff, HasNotGone};
 
 use ft_types::{Hart, Memory, PageNo, Want};
 use page_book::{Book, BookFault, Keep, Lease, Mode, Need, steps_of_leases};
@@ -27,6 +28,8 @@ fn give<M: Mode>(
     ensures gives { OnOk result (Gives M.Mode book.old lease.old book.new lease.new) }
     ensures alone { OnOk result (IsAlone book.new lease.new) }
     ensures fewer { OnOk result (lacking (map want_of lease.new.slots) < lacking (map want_of lease.old.slots)) }
+    ensures book_kept { OnErr result (book.new ≡ book.old) }
+    ensures lease_kept { OnErr result (lease.new ≡ lease.old) }
 {
     match book.need_own(lease, page, want) {
         Ok(Need::Given) => Ok(()),
@@ -35,13 +38,13 @@ fn give<M: Mode>(
     }
 }
 
-/// Takes steps until the book's one lease is full. A page that a step lacks is given.
+/// Takes steps until the book's one lease is full, or memory is refused. A page that a step lacks is given.
 pub fn fill<M: Mode>(book: &mut Book<M>, lease: &mut Lease) -> Result<(), Memory>
     requires free { IsFreeAlone M.Mode }
     requires alone { IsAlone book.old lease.old }
-    ensures fills { OnOk result (Fills M.Mode book.old lease.old book.new lease.new) }
+    ensures fills { Fills M.Mode book.old lease.old book.new lease.new }
     ensures full { OnOk result (IsFull lease.new) }
-    ensures alone { OnOk result (IsAlone book.new lease.new) }
+    ensures alone { IsAlone book.new lease.new }
 {
     steps_of_leases();
     while !lease.full() {
@@ -58,7 +61,8 @@ pub fn fill<M: Mode>(book: &mut Book<M>, lease: &mut Lease) -> Result<(), Memory
 /// Settles the lease. Its hart keeps the rights that it is told.
 fn bring_back<M: Mode>(book: &mut Book<M>, lease: Lease, keep: Keep) -> Result<(), Memory>
     requires { IsOurs book.old lease }
-    ensures { OnOk result (ComesBack M.Mode keep book.old lease book.new) }
+    ensures back { OnOk result (ComesBack M.Mode keep book.old lease book.new) }
+    ensures ends { OnErr result (EndsWithout M.Mode book.old lease book.new) }
 {
     match book.settle_own(lease, keep) {
         Ok(()) => Ok(()),
@@ -74,7 +78,8 @@ fn go_on<M: Mode>(book: &mut Book<M>, mut lease: Lease, keep: Keep) -> Result<()
     requires free { IsFreeAlone M.Mode }
     requires alone { IsAlone book.old lease }
     ensures leads { OnOk result (Leads M.Mode keep book.old lease book.new) }
-    ensures idle { OnOk result (IsIdle book.new) }
+    ensures leaves { OnErr result (LeavesOff M.Mode book.old lease book.new) }
+    ensures idle { IsIdle book.new }
 {
     if fill(book, &mut lease).is_err() {
         let _ended = book.discard(lease);
@@ -95,7 +100,8 @@ pub fn go<M: Mode>(
     requires hart { hart < length book.old.machine.harts }
     requires idle { IsIdle book.old }
     ensures goes { IfOk result (λ went. Goes M.Mode keep went hart book.old book.new) }
-    ensures idle { OnOk result (IsIdle book.new) }
+    ensures not_gone { OnErr result (HasNotGone M.Mode hart book.old book.new) }
+    ensures idle { IsIdle book.new }
 {
     match book.lease(alloc, hart) {
         Ok(lease) => {

@@ -13,6 +13,7 @@ use Rattle.crew_pages.specs.declared.right.PageRight.{PageRight}
 use Rattle.crew_pages.specs.Rights as crew
 use Rattle.crew_pages.specs.Rights.{Right, Shared, Exclusive, holds}
 use Rattle.rv32_hart.specs.Hart.{Hart}
+use Rattle.book_modes.specs.declared.keep.Keep.{Keep}
 use Rattle.book_modes.specs.declared.keep.Keep.TheVariants as told
 use Rattle.hart_lease.specs.declared.asked.Asked.{Asked}
 use Rattle.hart_lease.specs.declared.stretch.Stretch.{Stretch}
@@ -52,7 +53,7 @@ pub ahead : IsAhead recording
 ahead r s hart count lent lt goes = stops_within (count_at r.limits hart) count lent.stop (next_going (bells_of s.desk hart) (others_of s.desk hart)) lt
     goes.stop
 
-filled_keeps : (b : Bool) (r : RecordingView) (hart count : ℕ) (new : RecordingView) → IsFilled b r hart count new →
+pub filled_keeps : (b : Bool) (r : RecordingView) (hart count : ℕ) (new : RecordingView) → IsFilled b r hart count new →
     new ≡ record r { due = new.due; desk = new.desk }
 filled_keeps false r hart count new same = subst (λ (x : RecordingView). x ≡ record r { due = x.due; desk = x.desk }) (sym same) refl
 filled_keeps true r hart count new takes = takes.rest
@@ -76,11 +77,11 @@ held_on b c settled asked g = λ page held.
     ]
 
 -- rights may have changed, and nothing else of the mode; each page that was held is held
-record KeepsRest (b c : BookView RecordingView) : Type 0 where
-  mode : c.mode ≡ record b.mode { rights = c.mode.rights }
-  held : KeepHeld b c
+pub record KeepsRest (b c : BookView RecordingView) : Type 0 where
+  pub mode : c.mode ≡ record b.mode { rights = c.mode.rights }
+  pub held : KeepHeld b c
 
-keeps_rest : (b : BookView RecordingView) (l : LeaseView) (c : BookView RecordingView) (k : LeaseView) → Fills recording b l c k → KeepsRest b c
+pub keeps_rest : (b : BookView RecordingView) (l : LeaseView) (c : BookView RecordingView) (k : LeaseView) → Fills recording b l c k → KeepsRest b c
 keeps_rest b l c k NoneYet = record { mode = refl; held = λ page held. held }
 keeps_rest b l c k (Steps {c = now} {k = before} n fills room t) = keeps_rest b l c before fills
 keeps_rest b l c k (Takes {c = before} {k = asker} d n fills room given) =
@@ -114,7 +115,7 @@ rights_stay old new many same page = elim (cases_lt page (length old)) [
 
 -- ---- a lease of a hart
 
-module _ (hart : ℕ) (b d : BookView RecordingView) (on : GoesOn recording told.All hart b d) where
+module _ (keep : Keep) (hart : ℕ) (b d : BookView RecordingView) (on : GoesOn recording keep hart b d) where
   abbrev filled : BookView RecordingView
   filled = on.leads.filled
 
@@ -124,7 +125,7 @@ module _ (hart : ℕ) (b d : BookView RecordingView) (on : GoesOn recording told
   rest : KeepsRest on.opened on.leads.filled
   rest = keeps_rest on.opened on.lease filled k on.leads.fills
 
-  mode_is : on.leads.filled.mode ≡ record b.mode { rights = on.leads.filled.mode.rights; due = on.opened.mode.due; desk = on.opened.mode.desk }
+  pub mode_is : on.leads.filled.mode ≡ record b.mode { rights = on.leads.filled.mode.rights; due = on.opened.mode.due; desk = on.opened.mode.desk }
   mode_is =
       rest.mode
       ∙ ap (λ (m : RecordingView). let s : RecordingView = record m { rights = filled.mode.rights } in s)
@@ -132,8 +133,8 @@ module _ (hart : ℕ) (b d : BookView RecordingView) (on : GoesOn recording told
 
   counted : counts_of b.machine on.leads.lease.hart ≡ on.leads.lease.base.count
   counted =
-      let f = lease_filled recording told.All hart b d on in
-      ap (counts_of b.machine) (f.hart ∙ own recording told.All hart b d on)
+      let f = lease_filled recording keep hart b d on in
+      ap (counts_of b.machine) (f.hart ∙ own recording keep hart b d on)
       ∙ ap steps_taken on.lends.there
       ∙ sym (ap (λ (h : Hart). h.count) f.base ∙ ap (λ (x : LeaseView). x.base.count) on.lends.lent)
 
@@ -143,10 +144,10 @@ module _ (hart : ℕ) (b d : BookView RecordingView) (on : GoesOn recording told
   -- its inputs were those due to its hart
   is_due : on.leads.lease.inputs ≡ (due_at on.leads.filled.mode.due on.leads.lease.hart).inputs
   is_due =
-      let f = lease_filled recording told.All hart b d on in
+      let f = lease_filled recording keep hart b d on in
       f.inputs
       ∙ on.lends.mode.inputs
-      ∙ ap (λ (h : ℕ). (due_at on.opened.mode.due h).inputs) (sym (f.hart ∙ own recording told.All hart b d on))
+      ∙ ap (λ (h : ℕ). (due_at on.opened.mode.due h).inputs) (sym (f.hart ∙ own recording keep hart b d on))
       ∙ ap (λ (m : RecordingView). (due_at m.due k.hart).inputs) (sym rest.mode)
 
   pub offered : KeepsOffered b d
@@ -156,23 +157,14 @@ module _ (hart : ℕ) (b d : BookView RecordingView) (on : GoesOn recording told
       (ap (λ (m : RecordingView). (due_at m.due other).inputs) rest.mode) (ap (λ (m : RecordingView). others_of m.desk other) rest.mode)
       ∙ filled_offered b.mode hart (counts_of b.machine hart) on.opened.mode (is_silent (due_at b.mode.due hart).inputs) refl on.lends.mode.filled other
 
-  pub keep_held : KeepHeld b d
-  keep_held page held =
-      let settled = on.leads.back.mode in
-      let opened =
-      subst (λ (m : RecordingView). (other : ℕ) × (holds (right_at m.rights page) other ≡ true))
-      (sym (filled_keeps _ b.mode hart (counts_of b.machine hart) on.opened.mode on.lends.mode.filled)) held in
-      subst (λ (r : Right). (other : ℕ) × (holds r other ≡ true))
-      (sym (rights_stay filled.mode.rights d.mode.rights settled.many settled.rights page)) (rest.held page opened)
-
   pub continues : d.start ≡ b.start → Continues b d
   continues start =
       record {
         start = start;
-        harts = harts_stay recording told.All hart b d on;
+        harts = harts_stay recording keep hart b d on;
         journal =
             let more = longer b.journal k.hart k.steps in
-            let f = lease_filled recording told.All hart b d on in
+            let f = lease_filled recording keep hart b d on in
             let same : filled.journal ≡ b.journal = ap (λ (x : BookView RecordingView). x.journal) f.book ∙ ap (λ (x : BookView RecordingView). x.journal)
             on.lends.book in
             (more.0, on.leads.back.journal ∙ ap (λ (j : List Stretch). added j k.hart k.steps) same ∙ more.1);
@@ -183,3 +175,14 @@ module _ (hart : ℕ) (b d : BookView RecordingView) (on : GoesOn recording told
             edges_on (counts_of b.machine) k b.mode.edges d.mode.edges counted
             (subst (λ (m : RecordingView). AreLogged m.edges k.edges d.mode.edges) mode_is on.leads.back.mode.edges) on.leads.back.mode.unsettled;
       }
+
+-- where it keeps all rights, each page that was held is held
+module _ (hart : ℕ) (b d : BookView RecordingView) (on : GoesOn recording told.All hart b d) where
+  pub keep_held : KeepHeld b d
+  keep_held page held =
+      let settled = on.leads.back.mode in
+      let opened =
+      subst (λ (m : RecordingView). (other : ℕ) × (holds (right_at m.rights page) other ≡ true))
+      (sym (filled_keeps _ b.mode hart (counts_of b.machine hart) on.opened.mode on.lends.mode.filled)) held in
+      subst (λ (r : Right). (other : ℕ) × (holds r other ≡ true))
+      (sym (rights_stay on.leads.filled.mode.rights d.mode.rights settled.many settled.rights page)) ((rest told.All hart b d on).held page opened)

@@ -87,8 +87,8 @@ further hart b d idle on =
     let gone : HasGoneOn recording hart b d = has_gone_on recording told.All hart b d on ahead idle in
     record {
       idle = on.idle;
-      limits = limits hart b d on;
-      continues = continues hart b d on gone.start;
+      limits = limits told.All hart b d on;
+      continues = continues told.All hart b d on gone.start;
       counts = λ other.
           subst
           (λ (hs : List Hart). (counts_of b.machine other ≤ steps_taken (slice_get hs other)) ×
@@ -96,7 +96,7 @@ further hart b d idle on =
           (set_counts b.machine.harts hart gone.before gone.after (count_at b.mode.limits other) other gone.there gone.further
           (λ e. subst (λ (n : ℕ). gone.after.count ≤ count_at b.mode.limits n) (sym e) gone.within));
       fewer = has_fewer recording hart b d gone;
-      offered = offered hart b d on;
+      offered = offered told.All hart b d on;
       held = keep_held hart b d on;
     }
 

@@ -1,6 +1,6 @@
 use Rattle.std.proofs.Common.{refl}
 use Rattle.lease_rounds.specs.Leading.{NoneYet, Takes}
-use Rattle.lease_rounds.proofs.Filling.{alone_kept, fills_run, keeps, lacks_there, smaller}
+use Rattle.lease_rounds.proofs.Filling.{alone_as, alone_kept, fills_as, fills_run, keeps, lacks_there, smaller}
 use Rattle.lease_rounds.proofs.rounds.fill.Goals as goal
 
 pub loop-lease-init : goal.loop-lease-init
@@ -30,6 +30,32 @@ returns-in-Done-clause-alone g c =
     alone_kept c.loop-lease.book c.loop-lease.lease c.run.new.self c.run.ensures.lent c.loop-lease.invariant.alone
     (keeps c.in-Done.ensures.does.0 c.loop-lease.lease c.run.new.self c.steps_of_leases.ensures.counts c.steps_of_leases.ensures.rights
     c.in-Done.ensures.does.1)
+
+pub returns-in-Memory-clause-fills : goal.returns-in-Memory-clause-fills
+returns-in-Memory-clause-fills g c =
+    fills_run g.M.Mode c.args.book.now c.args.lease.now c.in-Memory.ensures.does.0 c.loop-lease.book c.loop-lease.lease c.run.new.self
+    c.loop-lease.invariant.fills c.in-Memory.ensures.does.1
+
+pub returns-in-Memory-clause-alone : goal.returns-in-Memory-clause-alone
+returns-in-Memory-clause-alone g c =
+    alone_kept c.loop-lease.book c.loop-lease.lease c.run.new.self c.run.ensures.lent c.loop-lease.invariant.alone
+    (keeps c.in-Memory.ensures.does.0 c.loop-lease.lease c.run.new.self c.steps_of_leases.ensures.counts c.steps_of_leases.ensures.rights
+    c.in-Memory.ensures.does.1)
+
+pub returns-in_err-give-in-Miss-clause-fills : goal.returns-in_err-give-in-Miss-clause-fills
+returns-in_err-give-in-Miss-clause-fills g c =
+    fills_as g.M.Mode c.args.book.now c.args.lease.now c.loop-lease.book c.give.new.book c.run.new.self c.give.new.lease
+    (fills_run g.M.Mode c.args.book.now c.args.lease.now c.in-Miss.ensures.does.0 c.loop-lease.book c.loop-lease.lease c.run.new.self
+    c.loop-lease.invariant.fills c.in-Miss.ensures.does.1)
+    c.in_err-give-in-Miss.ensures.book_kept c.in_err-give-in-Miss.ensures.lease_kept
+
+pub returns-in_err-give-in-Miss-clause-alone : goal.returns-in_err-give-in-Miss-clause-alone
+returns-in_err-give-in-Miss-clause-alone g c =
+    alone_as c.loop-lease.book c.give.new.book c.run.new.self c.give.new.lease
+    (alone_kept c.loop-lease.book c.loop-lease.lease c.run.new.self c.run.ensures.lent c.loop-lease.invariant.alone
+    (keeps c.in-Miss.ensures.does.0 c.loop-lease.lease c.run.new.self c.steps_of_leases.ensures.counts c.steps_of_leases.ensures.rights
+    c.in-Miss.ensures.does.1))
+    c.in_err-give-in-Miss.ensures.book_kept c.in_err-give-in-Miss.ensures.lease_kept
 
 pub loop-lease-preserved : goal.loop-lease-preserved
 loop-lease-preserved g c =

@@ -1,0 +1,50 @@
+-- One step of a primary's hart.
+use Rattle.std.specs.Prelude.{◌≡◌, ◌≤◌, ℕ, slice_get, false, Option, None, Some}
+use Rattle.rv32_hart.specs.Hart.{Hart}
+use Rattle.ft_types.specs.Counts.{count_at}
+use Rattle.hart_lease.specs.Runs.{added, counts_of}
+use Rattle.crew_pages.specs.Rights.{holds}
+use Rattle.book_modes.specs.Recordings.{RecordingView, right_at}
+use Rattle.page_book.specs.Books.{BookView, refusal}
+use Rattle.page_book.specs.declared.answers.BookFault.{BookFault}
+use Rattle.page_book.specs.declared.answers.BookFault.TheVariants.{Memory}
+use Rattle.page_book.specs.Tellings.{TellsOn}
+use Rattle.primary_pool.specs.Running.{IsIdle, Continues, KeepsOffered}
+
+-- no hart is past its limit
+abbrev pub AreWithin : BookView RecordingView → Type 0
+AreWithin b = (hart : ℕ) → counts_of b.machine hart ≤ count_at b.mode.limits hart
+
+-- the hart is not halted
+abbrev pub Runs : BookView RecordingView → ℕ → Type 0
+Runs b hart = (h : Hart) → slice_get b.machine.harts hart ≡ Some h → h.halted ≡ false
+
+-- the hart took one step, which is settled: the second book goes on from the first
+pub record HasStepped (hart : ℕ) (b c : BookView RecordingView) : Type 0 where
+  pub idle : IsIdle c
+  pub journal : c.journal ≡ added b.journal hart 1
+  pub continues : Continues b c
+  pub tells : TellsOn b c
+  pub limits : c.mode.limits ≡ b.mode.limits
+  pub offered : KeepsOffered b c
+
+-- the hart has no right to any page
+abbrev pub HoldsNothing : BookView RecordingView → ℕ → Type 0
+HoldsNothing b hart = (page : ℕ) → holds (right_at b.mode.rights page) hart ≡ false
+
+-- no step was taken: what is settled, and what was told of it, is as it was
+pub record IsUnmoved (b c : BookView RecordingView) : Type 0 where
+  pub book : c ≡ record b { mode = c.mode }
+  pub edges : c.mode.edges ≡ b.mode.edges
+  pub inputs : c.mode.inputs ≡ b.mode.inputs
+  pub limits : c.mode.limits ≡ b.mode.limits
+  pub offered : KeepsOffered b c
+
+-- why the hart can't take a step, if it can't: it is halted, or at its limit
+abbrev pub IsRefused : BookView RecordingView → ℕ → Option BookFault → Type 0
+IsRefused b hart fault = (h : Hart) → slice_get b.machine.harts hart ≡ Some h → refusal None h (count_at b.mode.limits hart) ≡ fault
+
+-- why it did not: it can't, or memory was refused
+abbrev pub RefusesStep : BookView RecordingView → ℕ → BookFault → Type 0
+RefusesStep b hart Memory = IsRefused b hart None
+RefusesStep b hart fault = IsRefused b hart (Some fault)
