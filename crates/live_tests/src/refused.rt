@@ -5,6 +5,7 @@ use crate::primaries::{cut, talking};
 use fixtures::{Crew, hart, opening_of, recorder};
 use fragment_codec::Sealed;
 use ft_types::{Counts, Hart, Keeper};
+use go_live::Live;
 use guest_image::Image;
 use log_join::Store;
 use page_book::{Book, Keep, Recording};
@@ -48,17 +49,31 @@ fn outputs_in(book: &Book<Recording>) -> usize {
     outputs
 }
 
+/// A primary that goes live from what this one has sent.
+fn live_behind(alloc: Global, image: &Image, book: &Book<Recording>) -> Result<Live, Fail> {
+    let (first, second) = stores_of(alloc, image, book)?;
+    let stores = [(Keeper::new(0), &first), (Keeper::new(1), &second)];
+    Ok(granted(alloc, image, &stores, 2, 1, 2)?)
+}
+
+/// Whether it begins with all that this one recorded, among it more than five outputs.
+fn is_whole(live: &Live, book: &Book<Recording>) -> bool {
+    goes_on(live, 1, &[60, 40])
+        && live.book.machine().same(book.machine())
+        && live.outputs.len() == outputs_in(book)
+        && live.outputs.len() > 5
+}
+
+fn is_whole_behind(alloc: Global, harts: u8) -> Result<bool, Fail> {
+    let image = talking(alloc, harts)?;
+    let book = ran(alloc, &image)?;
+    let live = live_behind(alloc, &image, &book)?;
+    Ok(is_whole(&live, &book))
+}
+
 /// Who is refused memory once goes live when it is asked again, with all that was recorded.
 #[test]
 fn refused_memory(rt: HostRuntime) -> Result<(), Fail> {
-    let image = talking(rt.alloc(), 2)?;
-    let book = ran(rt.alloc(), &image)?;
-    let (first, second) = stores_of(rt.alloc(), &image, &book)?;
-    let stores = [(Keeper::new(0), &first), (Keeper::new(1), &second)];
-    let live = granted(rt.alloc(), &image, &stores, 2, 1, 2)?;
-    assert!(rt; goes_on(&live, 1, &[60, 40]));
-    assert!(rt; live.book.machine().same(book.machine()));
-    assert_eq!(rt; live.outputs.len(), outputs_in(&book));
-    assert!(rt; live.outputs.len() > 5);
+    assert!(rt; is_whole_behind(rt.alloc(), 2)?);
     Ok(())
 }

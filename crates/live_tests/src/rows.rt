@@ -51,44 +51,73 @@ fn a_term_goes_on_where_the_joined_stores_end(rt: HostRuntime) -> Result<(), Fai
     Ok(())
 }
 
+/// Whether a keeper that holds nothing has a primary of term 1 go on from boot.
+fn goes_on_from_boot(alloc: Global) -> Result<bool, Fail> {
+    let image = image_of(alloc, TWO_LOOPS)?;
+    let none = Store::new(alloc, image.guest());
+    let stores = [(Keeper::new(0), &none)];
+    let live = granted(alloc, &image, &stores, 3, 3, 1)?;
+    Ok(goes_on(&live, 0, &[0, 0]))
+}
+
 #[test]
 fn a_term_goes_on_from_boot_where_no_opening_came(rt: HostRuntime) -> Result<(), Fail> {
-    let image = image_of(rt.alloc(), TWO_LOOPS)?;
-    let none = Store::new(rt.alloc(), image.guest());
-    let stores = [(Keeper::new(0), &none)];
-    let live = granted(rt.alloc(), &image, &stores, 3, 3, 1)?;
-    assert!(rt; goes_on(&live, 0, &[0, 0]));
+    assert!(rt; goes_on_from_boot(rt.alloc())?);
     Ok(())
 }
 
-/// Why four keepers, of which three must hold an output, have no primary of the term.
+/// Three stores: the two above, and one of another guest.
+#[derive(Clone, Copy, Debug, PartialEq, Eq)]
+enum Which {
+    First,
+    Second,
+    Foreign,
+}
+
+/// The store of a keeper.
+fn chosen(alloc: Global, guest: Guest, which: Which) -> Result<Store, Fail> {
+    if which == Which::Foreign {
+        return Ok(Store::new(alloc, image_of(alloc, HALTS)?.guest()));
+    }
+    let (first, second) = two_stores(alloc, guest, &[])?;
+    match which {
+        Which::First => Ok(first),
+        _ => Ok(second),
+    }
+}
+
+/// Why two of four keepers with such stores, of which three must hold an output, have no primary of the term.
 fn refusal(
     alloc: Global,
-    image: &Image,
-    stores: &[(Keeper, &Store)],
+    [one, other]: [(u8, Which); 2],
     term: Term,
-) -> Option<LiveFault> {
-    granted(alloc, image, stores, 4, 3, term).err()
+) -> Result<Option<LiveFault>, Fail> {
+    let image = image_of(alloc, TWO_LOOPS)?;
+    let first = chosen(alloc, image.guest(), one.1)?;
+    let second = chosen(alloc, image.guest(), other.1)?;
+    let stores = [
+        (Keeper::new(one.0 % 5), &first),
+        (Keeper::new(other.0 % 5), &second),
+    ];
+    Ok(granted(alloc, &image, &stores, 4, 3, term).err())
 }
 
 #[test]
 fn each_refusal_in_its_turn(rt: HostRuntime) -> Result<(), Fail> {
-    let image = image_of(rt.alloc(), TWO_LOOPS)?;
-    let (first, second) = two_stores(rt.alloc(), image.guest(), &[])?;
-    let other = Store::new(rt.alloc(), image_of(rt.alloc(), HALTS)?.guest());
-    let (one, three) = (Keeper::new(1), Keeper::new(3));
-    let both = [(one, &first), (three, &second)];
-    let old = Some(LiveFault::TermNotNew);
-    assert_eq!(rt; refusal(rt.alloc(), &image, &both, 2), old);
-    assert_eq!(rt; refusal(rt.alloc(), &image, &both, 0), old);
-    let again = [(one, &second), (one, &second)];
-    let few = Some(LiveFault::TooFewStores);
-    assert_eq!(rt; refusal(rt.alloc(), &image, &again, 3), few);
-    assert_eq!(rt; refusal(rt.alloc(), &image, &again, 2), few);
-    let foreign = [(one, &second), (three, &other)];
-    let other_guest = Some(LiveFault::Replay(ReplayFault::OtherGuest));
-    assert_eq!(rt; refusal(rt.alloc(), &image, &foreign, 2), old);
-    assert_eq!(rt; refusal(rt.alloc(), &image, &foreign, 3), other_guest);
+    let both = [(1, Which::First), (3, Which::Second)];
+    let again = [(1, Which::Second), (1, Which::Second)];
+    let foreign = [(1, Which::Second), (3, Which::Foreign)];
+    let other_guest = LiveFault::Replay(ReplayFault::OtherGuest);
+    for (stores, term, fault) in [
+        (both, 2, LiveFault::TermNotNew),
+        (both, 0, LiveFault::TermNotNew),
+        (again, 3, LiveFault::TooFewStores),
+        (again, 2, LiveFault::TooFewStores),
+        (foreign, 2, LiveFault::TermNotNew),
+        (foreign, 3, other_guest),
+    ] {
+        assert_eq!(rt; refusal(rt.alloc(), stores, term)?, Some(fault));
+    }
     Ok(())
 }
 
@@ -133,21 +162,29 @@ fn said(number: u8, place: u8) -> Output {
     }
 }
 
-#[test]
-fn all_outputs_are_offered_again(rt: HostRuntime) -> Result<(), Fail> {
-    let image = image_of(rt.alloc(), BOTH_COUNT_ALOUD)?;
+/// The outputs that a primary offers again which goes on behind 6 and 9 steps.
+fn outputs_again(alloc: Global) -> Result<Vec<Output>, Fail> {
+    let image = image_of(alloc, BOTH_COUNT_ALOUD)?;
     let guest = image.guest();
     let frames = [
         opening_of(guest, 1, 0, &[0, 0])?,
-        piece_of(rt.alloc(), guest, key(1, 0, 0), 0, 6, &[])?,
-        piece_of(rt.alloc(), guest, key(1, 1, 0), 0, 9, &[])?,
+        piece_of(alloc, guest, key(1, 0, 0), 0, 6, &[])?,
+        piece_of(alloc, guest, key(1, 1, 0), 0, 9, &[])?,
     ];
-    let store = store_of(rt.alloc(), guest, &frames)?;
-    let stores = [(Keeper::new(4), &store)];
-    let live = granted(rt.alloc(), &image, &stores, 5, 5, 7)?;
-    assert!(rt; goes_on(&live, 1, &[6, 9]));
+    let store = store_of(alloc, guest, &frames)?;
+    let live = granted(alloc, &image, &[(Keeper::new(4), &store)], 5, 5, 7)?;
+    if goes_on(&live, 1, &[6, 9]) {
+        Ok(live.outputs)
+    } else {
+        Err("another base".into())
+    }
+}
+
+#[test]
+fn all_outputs_are_offered_again(rt: HostRuntime) -> Result<(), Fail> {
     let outputs = [said(0, 0), said(0, 1), said(1, 0), said(1, 1), said(1, 2)];
-    assert_eq!(rt; live.outputs.as_slice(), outputs.as_slice());
+    let again = outputs_again(rt.alloc())?;
+    assert_eq!(rt; again.as_slice(), outputs.as_slice());
     Ok(())
 }
 

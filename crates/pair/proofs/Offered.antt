@@ -1,61 +1,75 @@
 -- What a gate was offered, with one output more.
-use Rattle.std.proofs.Common.{◌≡◌, ◌≢◌, ◌+◌, ◌<◌, ◌≤◌, ℕ, List, [], ◌∷◌, ◌++◌, length, slice_index, inl, inr, ap, arith, sym, subst, ◌∙◌, append_assoc, length-append, le_trans}
+use Rattle.std.proofs.Common.{◌≡◌, ◌≢◌, ◌↔◌, IsTrue, nat_le, ◌<◌, ◌≤◌, ℕ, List, [], ◌∷◌, ◌++◌, length, slice_index, slice_set, inl, inr, ap, arith, refl, sym, subst, ◌∙◌, append_assoc}
 use Rattle.std.proofs.lemmas.Bool.{cases_eq}
+use Rattle.std.proofs.lemmas.Bool.Decides.{nat_tests}
 use Rattle.std.proofs.lemmas.List.{get_or-set_same, get_or-set_other}
 use Rattle.std.specs.List.{AllByRecursion}
 use Rattle.output_gate.specs.declared.output.Output.{Output}
-use Rattle.output_gate.specs.Gates.{LineView, GateView, line_of, gone_of, waiting_of, offered_of}
-use Rattle.output_gate.proofs.Alls.{all_so, all_join}
-use Rattle.pair.specs.declared.exits.Offers.{Offers}
-use Rattle.pair.specs.Exits.{AreNext, IsNextOf}
+use Rattle.output_gate.specs.Gates.{LineView, GateView, gone_of, waiting_of, offered_of}
+use Rattle.output_gate.proofs.Alls.{all_so, all_join, all_back}
+use Rattle.pair.specs.Exits.{AreLast, IsNext, IsOffered}
+
+-- no output of the list is behind the step
+abbrev NoneBehind : ℕ → List Output → Type 0
+NoneBehind step outputs = AllByRecursion (λ o. o.step ≤ step) outputs
 
 -- of one hart
-abbrev IsNextAt : GateView → Offers → ℕ → Type 0
-IsNextAt gate offers hart = (slice_index offers.numbers hart ≡ length (offered_of gate hart))
-    × AllByRecursion (λ o. o.step ≤ slice_index offers.steps hart) (offered_of gate hart)
+abbrev IsLastAt : GateView → List ℕ → ℕ → Type 0
+IsLastAt gate steps hart =
+    NoneBehind (slice_index steps hart) (offered_of gate hart) × ((step : ℕ) → NoneBehind step (offered_of gate hart) → slice_index steps hart ≤ step)
 
-next_at_own : (old new : GateView) (offers after : Offers) (o : Output) → IsNextAt old offers o.hart → IsNextOf offers o after →
-    offered_of new o.hart ≡ offered_of old o.hart ++ o ∷ [] → IsNextAt new after o.hart
-next_at_own old new offers after o at is more =
-    let number : slice_index after.numbers o.hart ≡ o.number + 1 =
-    ap (λ (xs : List ℕ). slice_index xs o.hart) is.numbers ∙ get_or-set_same offers.numbers o.hart (o.number + 1) 0 (let w = is.eight.0 in let h = is.hart in omega arith) in
-    let step : slice_index after.steps o.hart ≡ o.step =
-    ap (λ (xs : List ℕ). slice_index xs o.hart) is.steps ∙ get_or-set_same offers.steps o.hart o.step 0 (let w = is.eight.1 in let h = is.hart in omega arith) in
-    let long : length (offered_of new o.hart) ≡ length (offered_of old o.hart) + 1 =
-    ap (λ (xs : List Output). length xs) more ∙ length-append (offered_of old o.hart) (o ∷ []) in (
-      (let a = at.0 in let n = is.number in omega (arith, number, long)),
-      subst (λ (xs : List Output). AllByRecursion (λ x. x.step ≤ slice_index after.steps o.hart) xs) (sym more)
-          (subst (λ (n : ℕ). AllByRecursion (λ x. x.step ≤ n) (offered_of old o.hart ++ o ∷ [])) (sym step)
-          (all_join (λ (x : Output). x.step ≤ o.step) (offered_of old o.hart) (o ∷ [])
-          (all_so (λ (x : Output). x.step ≤ slice_index offers.steps o.hart) (λ (x : Output). x.step ≤ o.step) (λ x le. (let s = is.step in omega arith)) (offered_of old o.hart) at.1)
-          (omega arith, tt))),
+told_le : (a b : ℕ) → IsTrue (nat_le a b) → a ≤ b
+told_le a b t = grind (arith, nat_tests)
+
+le_told : (a b : ℕ) → a ≤ b → IsTrue (nat_le a b)
+le_told a b le = grind (arith, nat_tests)
+
+-- one that has the next number is next exactly where it is not before the last
+pub next_told : (gate : GateView) (steps : List ℕ) (o : Output) (place : ℕ) → place ≡ o.hart → place < 8 → AreLast gate steps →
+    length (offered_of gate o.hart) ≡ o.number → IsTrue (nat_le (slice_index steps place) o.step) ↔ IsNext gate o
+next_told gate steps o place same below last number =
+    let at : IsLastAt gate steps o.hart = subst (IsLastAt gate steps) same (last place below) in
+    let e : slice_index steps place ≡ slice_index steps o.hart = ap (λ (p : ℕ). slice_index steps p) same in (
+      λ t. (number, all_so (λ (x : Output). x.step ≤ slice_index steps o.hart) (λ (x : Output). x.step ≤ o.step)
+          (λ x b. (let l = told_le (slice_index steps place) o.step t in omega arith)) (offered_of gate o.hart) at.0),
+      λ next. le_told (slice_index steps place) o.step (let l : slice_index steps o.hart ≤ o.step = at.1 o.step next.1 in omega arith),
     )
 
-next_at_other : (old new : GateView) (offers after : Offers) (o : Output) (hart : ℕ) → hart ≢ o.hart → IsNextAt old offers hart → IsNextOf offers o after →
-    offered_of new hart ≡ offered_of old hart → IsNextAt new after hart
-next_at_other old new offers after o hart ne at is same =
-    let number : slice_index after.numbers hart ≡ slice_index offers.numbers hart =
-    ap (λ (xs : List ℕ). slice_index xs hart) is.numbers ∙ get_or-set_other offers.numbers o.hart hart (o.number + 1) 0 ne in
-    let step : slice_index after.steps hart ≡ slice_index offers.steps hart =
-    ap (λ (xs : List ℕ). slice_index xs hart) is.steps ∙ get_or-set_other offers.steps o.hart hart o.step 0 ne in (
-      number ∙ at.0 ∙ ap (λ (xs : List Output). length xs) (sym same),
-      subst (λ (xs : List Output). AllByRecursion (λ x. x.step ≤ slice_index after.steps hart) xs) (sym same)
-          (subst (λ (n : ℕ). AllByRecursion (λ x. x.step ≤ n) (offered_of old hart)) (sym step) at.1),
-    )
+last_same : (old new : GateView) (before after : List ℕ) (hart : ℕ) → offered_of new hart ≡ offered_of old hart →
+    slice_index after hart ≡ slice_index before hart → IsLastAt old before hart → IsLastAt new after hart
+last_same old new before after hart same step at = (
+  subst (λ (xs : List Output). NoneBehind (slice_index after hart) xs) (sym same) (subst (λ (n : ℕ). NoneBehind n (offered_of old hart)) (sym step) at.0),
+  λ n all. subst (λ (m : ℕ). m ≤ n) (sym step) (at.1 n (subst (λ (xs : List Output). NoneBehind n xs) same all)),
+)
 
-pub next_offered : (old new : GateView) (offers after : Offers) (o : Output) → AreNext old offers → IsNextOf offers o after →
-    line_of new o.hart ≡ record { gone = gone_of old o.hart; waiting = waiting_of old o.hart ++ o ∷ [] } →
-    ((hart : ℕ) → hart ≢ o.hart → line_of new hart ≡ line_of old hart) → AreNext new after
-next_offered old new offers after o are is line others hart below = elim (cases_eq hart o.hart) [
-  | inl same ↦ subst (IsNextAt new after) (sym same) (next_at_own old new offers after o (are o.hart is.hart) is
-      (ap (λ (l : LineView). l.gone ++ l.waiting) line ∙ sym (append_assoc (gone_of old o.hart) (waiting_of old o.hart) (o ∷ []))))
-  | inr ne ↦ next_at_other old new offers after o hart ne (are hart below) is (ap (λ (l : LineView). l.gone ++ l.waiting) (others hart ne))
+last_own : (old new : GateView) (after : List ℕ) (o : Output) → IsNext old o → offered_of new o.hart ≡ offered_of old o.hart ++ o ∷ [] →
+    slice_index after o.hart ≡ o.step → IsLastAt new after o.hart
+last_own old new after o next more step = (
+  subst (λ (xs : List Output). NoneBehind (slice_index after o.hart) xs) (sym more) (subst (λ (n : ℕ). NoneBehind n (offered_of old o.hart ++ o ∷ [])) (sym step)
+      (all_join (λ (x : Output). x.step ≤ o.step) (offered_of old o.hart) (o ∷ []) next.1 (omega arith, tt))),
+  λ n all. subst (λ (m : ℕ). m ≤ n) (sym step)
+      (all_back (λ (x : Output). x.step ≤ n) (offered_of old o.hart) (o ∷ []) (subst (λ (xs : List Output). NoneBehind n xs) more all)).0,
+)
+
+-- one output more
+pub last_offered : (old new : GateView) (steps : List ℕ) (o : Output) (place : ℕ) → place ≡ o.hart → place < length steps → AreLast old steps →
+    IsNext old o → IsOffered old o new → AreLast new (slice_set steps place o.step)
+last_offered old new steps o place at there last next is hart below = elim (cases_eq hart place) [
+  | inl same ↦ subst (IsLastAt new (slice_set steps place o.step)) (sym (same ∙ at)) (last_own old new (slice_set steps place o.step) o next
+      (ap (λ (l : LineView). l.gone ++ l.waiting) is.line ∙ sym (append_assoc (gone_of old o.hart) (waiting_of old o.hart) (o ∷ [])))
+      (ap (λ (p : ℕ). slice_index (slice_set steps place o.step) p) (sym at) ∙ get_or-set_same steps place o.step 0 there))
+  | inr ne ↦ last_same old new steps (slice_set steps place o.step) hart
+      (ap (λ (l : LineView). l.gone ++ l.waiting) (is.others hart (λ e. ne (e ∙ sym at)))) (get_or-set_other steps place hart o.step 0 ne) (last hart below)
 ]
 
+-- what goes out was offered all the same
+pub last_kept : (old new : GateView) → ((hart : ℕ) → hart < 8 → offered_of new hart ≡ offered_of old hart) → (steps : List ℕ) → AreLast old steps → AreLast new steps
+last_kept old new same steps last hart below = last_same old new steps steps hart (same hart below) refl (last hart below)
+
 -- nothing yet
-pub none_offered : (gate : GateView) (offers : Offers) → ((hart : ℕ) → hart < 8 → offered_of gate hart ≡ []) →
-    ((hart : ℕ) → hart < 8 → slice_index offers.numbers hart ≡ 0) → AreNext gate offers
-none_offered gate offers empty zero hart below = (
-  zero hart below ∙ ap (λ (xs : List Output). length xs) (sym (empty hart below)),
-  subst (λ (xs : List Output). AllByRecursion (λ x. x.step ≤ slice_index offers.steps hart) xs) (sym (empty hart below)) tt,
+pub none_offered : (gate : GateView) (steps : List ℕ) → ((hart : ℕ) → hart < 8 → offered_of gate hart ≡ []) →
+    ((hart : ℕ) → hart < 8 → slice_index steps hart ≡ 0) → AreLast gate steps
+none_offered gate steps empty zero hart below = (
+  subst (λ (xs : List Output). NoneBehind (slice_index steps hart) xs) (sym (empty hart below)) tt,
+  λ n all. (let e = zero hart below in omega arith),
 )

@@ -1,29 +1,35 @@
 -- What a gate's thread keeps.
-use Rattle.std.specs.Prelude.{◌≡◌, ◌+◌, ◌<◌, ◌≤◌, ℕ, length, slice_index, slice_set}
+use Rattle.std.specs.Prelude.{◌≡◌, ◌≢◌, ◌++◌, ◌∷◌, [], ◌<◌, ◌≤◌, ℕ, List, length, slice_index}
 use Rattle.std.specs.List.{AllByRecursion}
 use Rattle.ack_core.specs.declared.board.Board.{Board}
 use Rattle.ack_core.specs.declared.seats.GateSeat.{GateSeat}
 use Rattle.ack_core.specs.Seats.{term_of, keepers_of, IsGateOf}
-use Rattle.output_gate.specs.Gates.{GateView, offered_of}
+use Rattle.output_gate.specs.Gates.{GateView, line_of, gone_of, waiting_of, offered_of}
 use Rattle.output_gate.specs.Looks.{IsSeen}
 use Rattle.output_gate.specs.declared.output.Output.{Output}
-use Rattle.pair.specs.declared.exits.Offers.{Offers}
+use Rattle.pair.specs.declared.messages.ToGate.{ToGate}
+use Rattle.pair.specs.declared.messages.ToGate.TheVariants.{Offer, Published, End}
 
--- of each hart, how many outputs were offered, and a step that none of them is behind
-abbrev pub AreNext : GateView → Offers → Type 0
-AreNext gate offers =
-    (hart : ℕ) → hart < 8 → (slice_index offers.numbers hart ≡ length (offered_of gate hart))
-    × AllByRecursion (λ o. o.step ≤ slice_index offers.steps hart) (offered_of gate hart)
+-- of each hart, the least step that none of its offered outputs is behind
+abbrev pub AreLast : GateView → List ℕ → Type 0
+AreLast gate steps = (hart : ℕ) → hart < 8 → AllByRecursion (λ o. o.step ≤ slice_index steps hart) (offered_of gate hart)
+    × ((step : ℕ) → AllByRecursion (λ o. o.step ≤ step) (offered_of gate hart) → slice_index steps hart ≤ step)
 
 -- the gate is one of the board's term and keepers, the seat is the board's, and no count is noted that it has not seen
 abbrev pub IsAtBoard : Board → GateView → GateSeat → Type 0
 IsAtBoard board gate seat = (term_of board ≡ gate.term) × (keepers_of board ≡ gate.keepers) × IsGateOf board seat × IsSeen board gate seat
 
--- the output is its hart's next, of no earlier step than the last, and then these are offered
-pub record IsNextOf (offers : Offers) (output : Output) (after : Offers) : Type 0 where
-  pub hart : output.hart < 8
-  pub eight : (length offers.numbers ≡ 8) × (length offers.steps ≡ 8)
-  pub number : output.number ≡ slice_index offers.numbers output.hart
-  pub step : slice_index offers.steps output.hart ≤ output.step
-  pub numbers : after.numbers ≡ slice_set offers.numbers output.hart (output.number + 1)
-  pub steps : after.steps ≡ slice_set offers.steps output.hart output.step
+-- the output is its hart's next: its number is how many were offered, and none of them has a later step
+abbrev pub IsNext : GateView → Output → Type 0
+IsNext gate o = (length (offered_of gate o.hart) ≡ o.number) × AllByRecursion (λ x. x.step ≤ o.step) (offered_of gate o.hart)
+
+-- the output waits behind those of its hart, and every other hart's are as they were
+pub record IsOffered (old : GateView) (o : Output) (new : GateView) : Type 0 where
+  pub line : line_of new o.hart ≡ record { gone = gone_of old o.hart; waiting = waiting_of old o.hart ++ o ∷ [] }
+  pub others : (hart : ℕ) → hart ≢ o.hart → line_of new hart ≡ line_of old hart
+
+-- what a gate takes in of a message: an output that is its hart's next is offered, and nothing else changes it
+abbrev pub TakesIn : GateView → ToGate → GateView → Type 0
+TakesIn old (Offer o) new = (IsNext old o → IsOffered old o new) × ((IsNext old o → ⊥) → new ≡ old)
+TakesIn old Published new = new ≡ old
+TakesIn old End new = new ≡ old

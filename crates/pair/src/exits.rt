@@ -1,11 +1,12 @@
 //! The gate's work: outputs are offered to it, and at each look those that enough keepers hold go out.
 
-ghost use Rattle.std.specs.Prelude.{◌≡◌, ◌++◌, ◌<◌, ℕ, slice_index, IfOk, IfSome, OnOk};
+ghost use Rattle.std.specs.Prelude.{◌≡◌, ◌↔◌, ◌++◌, ◌<◌, ℕ, List, slice_index, IfOk, IsTrue, OnOk};
 ghost use Rattle.std.specs.List.{AllByRecursion};
 ghost use Rattle.ack_core.specs.Seats.{harts_of, keepers_of, seen};
 ghost use Rattle.output_gate.specs.Gates.{noted_at, held_outputs};
 ghost use Rattle.output_gate.specs.Looks.{IsInside};
-ghost use Rattle.pair.specs.Exits.{AreNext, IsAtBoard, IsNextOf};
+ghost use Rattle.pair.specs.Exits.{AreLast, IsAtBoard, IsNext, TakesIn};
+ghost use Rattle.pair.specs.declared.messages.ToGate.TheVariants.{Offer, End};
 
 use crate::messages::ToGate;
 use ack_core::{Board, GateSeat};
@@ -14,60 +15,49 @@ use output_gate::{Gate, Output};
 use std::alloc::Global;
 use std::result::Result;
 
-/// Of each hart, the number of its next output, and the step of its last.
-#[derive(Clone, Copy)]
-pub(crate) struct Offers {
-    pub(crate) numbers: [u64; 8],
-    pub(crate) steps: [Count; 8],
-}
+/// Of each hart, the step of its last output that was offered, or 0.
+pub(crate) type LastSteps = [Count; 8];
 
 /// No output yet.
-pub(crate) fn no_offers() -> Offers
-    ensures { (hart : ℕ) → hart < 8 → slice_index result.numbers hart ≡ 0 }
+pub(crate) fn no_steps() -> LastSteps
+    ensures { (hart : ℕ) → hart < 8 → slice_index result hart ≡ 0 }
 {
-    Offers {
-        numbers: [0; 8],
-        steps: [0; 8],
-    }
+    [0; 8]
 }
 
-/// The offers with this output, where it is its hart's next and of no earlier step than the last.
-fn offers_with(offers: &Offers, output: &Output) -> Option<Offers>
-    ensures next { IfSome result (λ after. IsNextOf offers.now output.now after) }
+/// Whether the output is its hart's next, of no earlier step than the last.
+fn is_next(gate: &Gate, last: &LastSteps, output: &Output) -> bool
+    requires { AreLast gate.now last.now }
+    ensures { IsTrue result ↔ IsNext gate.now output.now }
 {
-    let hart = output.hart.index();
-    let next = output.number.checked_add(1)?;
-    if output.number != offers.numbers[hart] || output.step < offers.steps[hart] {
-        return None;
-    }
-    let mut after = *offers;
-    after.numbers[hart] = next;
-    after.steps[hart] = output.step;
-    Some(after)
+    gate.offered(output.hart) as u64 == output.number && last[output.hart.index()] <= output.step
 }
 
 /// Offers an output to the gate, where it is its hart's next.
-fn offer(gate: &mut Gate, offers: &mut Offers, output: &Output) -> Result<(), Memory>
-    requires { AreNext gate.old offers.old }
-    ensures next { OnOk result (AreNext gate.new offers.new) }
+fn offer(gate: &mut Gate, last: &mut LastSteps, output: Output) -> Result<(), Memory>
+    requires { AreLast gate.old last.old }
+    ensures offered { OnOk result (TakesIn gate.old (Offer output) gate.new) }
+    ensures last { OnOk result (AreLast gate.new last.new) }
     ensures rest { gate.new ≡ record gate.old { lines = gate.new.lines } }
 {
-    if let Some(after) = offers_with(offers, output) {
-        gate.offer(*output)?;
-        *offers = after;
+    if is_next(gate, last, &output) {
+        gate.offer(output)?;
+        last[output.hart.index()] = output.step;
     }
     Ok(())
 }
 
 /// Takes a message, and says whether it is the primary's last.
-pub(crate) fn take_in(gate: &mut Gate, offers: &mut Offers, message: ToGate) -> Result<bool, Memory>
-    requires { AreNext gate.old offers.old }
-    ensures next { OnOk result (AreNext gate.new offers.new) }
+pub(crate) fn take_in(gate: &mut Gate, last: &mut LastSteps, message: ToGate) -> Result<bool, Memory>
+    requires { AreLast gate.old last.old }
+    ensures taken { OnOk result (TakesIn gate.old message gate.new) }
+    ensures end { IfOk result (λ is_end. IsTrue is_end ↔ (message ≡ End)) }
+    ensures last { OnOk result (AreLast gate.new last.new) }
     ensures rest { gate.new ≡ record gate.old { lines = gate.new.lines } }
 {
     match message {
         ToGate::Offer(output) => {
-            offer(gate, offers, &output)?;
+            offer(gate, last, output)?;
             Ok(false)
         }
         ToGate::Published => Ok(false),
@@ -90,7 +80,7 @@ pub(crate) fn look_on(
     ensures released { OnOk result (released.new.items ≡ released.old.items ++ held_outputs gate.new.need gate.new.noted gate.old.lines) }
     // Each was counted above its step by as many keepers as it needs.
     ensures inside { OnOk result (AllByRecursion (IsInside board.now gate.new seat.new) (held_outputs gate.new.need gate.new.noted gate.old.lines)) }
-    ensures next { OnOk result ((offers : Offers) → AreNext gate.old offers → AreNext gate.new offers) }
+    ensures last { OnOk result ((steps : List ℕ) → AreLast gate.old steps → AreLast gate.new steps) }
 {
     let given = gate.look(alloc, board, seat)?;
     released.extend_from_slice(&given)?;

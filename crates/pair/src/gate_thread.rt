@@ -2,10 +2,10 @@
 
 ghost use Rattle.std.specs.Prelude.{◌≡◌, ◌<◌, ℕ, [], OnOk};
 ghost use Rattle.output_gate.specs.Gates.{offered_of};
-ghost use Rattle.pair.specs.Exits.{AreNext, IsAtBoard};
+ghost use Rattle.pair.specs.Exits.{AreLast, IsAtBoard};
 ghost use Rattle.pair.specs.Posts.{IsWatchOf};
 
-use crate::exits::{Offers, close, look_on, no_offers, take_in};
+use crate::exits::{LastSteps, close, look_on, no_steps, take_in};
 use crate::messages::ToGate;
 use crate::posts::Watch;
 use ack_core::Board;
@@ -31,21 +31,21 @@ fn listen<R: Wait>(
     rt: &R,
     channel: &Receiver<ToGate, Global>,
     gate: &mut Gate,
-    offers: &mut Offers,
+    last: &mut LastSteps,
 ) -> Result<Option<bool>, Memory>
-    requires { AreNext gate.old offers.old }
-    ensures next { OnOk result (AreNext gate.new offers.new) }
+    requires { AreLast gate.old last.old }
+    ensures last { OnOk result (AreLast gate.new last.new) }
     ensures rest { gate.new ≡ record gate.old { lines = gate.new.lines } }
 {
     let Ok(first) = channel.recv(rt) else {
         return Ok(None);
     };
-    let mut ended = take_in(gate, offers, first)?;
+    let mut ended = take_in(gate, last, first)?;
     for _more in 0..channel.len() {
         let Ok(message) = channel.try_recv(rt) else {
             break;
         };
-        if take_in(gate, offers, message)? {
+        if take_in(gate, last, message)? {
             ended = true;
         }
     }
@@ -67,11 +67,11 @@ pub(crate) fn guard<R: Wait>(
         mut seat,
         channel,
     } = watch;
-    let mut offers = no_offers();
+    let mut last = no_steps();
     let mut released = Vec::new(alloc);
     let mut early = 0usize;
     for _ in rt.forever() {
-        let Some(ended) = listen(rt, &channel, &mut gate, &mut offers)? else {
+        let Some(ended) = listen(rt, &channel, &mut gate, &mut last)? else {
             break;
         };
         if ended {

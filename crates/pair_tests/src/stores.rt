@@ -66,14 +66,26 @@ fn first_other(alloc: Global, image: &Image, end: &PairEnd) -> Result<Option<usi
     Ok(None)
 }
 
+/// Whether what the three keepers of a pair hold, each alone and all joined, replays to the primary's machine.
+fn holds_it_all(alloc: Global, image: &Image, end: &PairEnd) -> Result<bool, Fail> {
+    Ok(end.stores.len() == 3
+        && first_other(alloc, image, end)?.is_none()
+        && replay_to(alloc, image, &end.stores, end.book.machine())?)
+}
+
+/// The same of a pair whose harts add, where each comes to its end.
+fn keeps_what_adds<R: Threads + Wait + Sync>(rt: &R, alloc: Global) -> Result<bool, Fail> {
+    let image = image_of(alloc, ADDS)?;
+    let end = end_of(rt, alloc, &image, 3, 2)?;
+    if end.book.counts().as_slice() != [1805u64; 4].as_slice() {
+        return Ok(false);
+    }
+    holds_it_all(alloc, &image, &end)
+}
+
 #[test]
 fn what_each_keeper_holds_replays_to_the_machine(rt: HostRuntime) -> Result<(), Fail> {
-    let image = image_of(rt.alloc(), ADDS)?;
-    let end = end_of(&rt, rt.alloc(), &image, 3, 2)?;
-    assert_eq!(rt; end.book.counts().as_slice(), [1805u64; 4].as_slice());
-    assert_eq!(rt; end.stores.len(), 3);
-    assert_eq!(rt; first_other(rt.alloc(), &image, &end)?, None);
-    assert!(rt; replay_to(rt.alloc(), &image, &end.stores, end.book.machine())?);
+    assert!(rt; keeps_what_adds(&rt, rt.alloc())?);
     Ok(())
 }
 
@@ -126,17 +138,34 @@ fn positions(alloc: Global, stores: &[Store]) -> Result<Vec<Position>, Memory> {
     Ok(reached)
 }
 
+/// How many of these outputs are inside the positions of three of these keepers.
+fn held_by_three(reached: &[Position], released: &[Output]) -> usize {
+    let mut held = 0usize;
+    for output in released {
+        if holders(reached, output) >= 3 {
+            held = held.saturating_add(1);
+        }
+    }
+    held
+}
+
+/// Of a pair whose harts count down: how many outputs went out, how many did not, how many stand in order, and how many three
+/// keepers hold.
+fn counts_of<R: Threads + Wait + Sync>(rt: &R, alloc: Global) -> Result<[usize; 4], Fail> {
+    let image = image_of(alloc, COUNTS_DOWN)?;
+    let end = end_of(rt, alloc, &image, 5, 3)?;
+    let reached = positions(alloc, &end.stores)?;
+    let held = held_by_three(&reached, &end.released);
+    Ok([
+        end.released.len(),
+        end.kept,
+        in_order(&end.released),
+        held,
+    ])
+}
+
 #[test]
 fn each_output_goes_out_once_and_in_order(rt: HostRuntime) -> Result<(), Fail> {
-    let image = image_of(rt.alloc(), COUNTS_DOWN)?;
-    let end = end_of(&rt, rt.alloc(), &image, 5, 3)?;
-    assert_eq!(rt; [end.released.len(), end.kept], [6000, 0]);
-    assert_eq!(rt; in_order(&end.released), 6000);
-    let reached = positions(rt.alloc(), &end.stores)?;
-    assert!(rt;
-        end.released
-            .iter()
-            .all(|output| holders(&reached, output) >= 3)
-    );
+    assert_eq!(rt; counts_of(&rt, rt.alloc())?, [6000, 0, 6000, 6000]);
     Ok(())
 }

@@ -1,6 +1,6 @@
 use Rattle.std.proofs.Common.{◌≡◌}
-use Rattle.pair.specs.Exits.{AreNext, IsAtBoard}
+use Rattle.pair.specs.Exits.{AreLast, IsAtBoard}
 use Rattle.pair.proofs.gate_thread.guard.Given as goal
 
 abbrev pub invariant-loop : goal.invariant-loop
-invariant-loop g l = IsAtBoard l.board l.gate l.seat × AreNext l.gate l.offers
+invariant-loop g l = IsAtBoard l.board l.gate l.seat × AreLast l.gate l.last

@@ -1,6 +1,6 @@
 use Rattle.std.proofs.Common.{◌≡◌}
-use Rattle.pair.specs.Exits.{AreNext}
+use Rattle.pair.specs.Exits.{AreLast}
 use Rattle.pair.proofs.gate_thread.listen.Given as goal
 
 abbrev pub invariant-loop-more : goal.invariant-loop-more
-invariant-loop-more g l = AreNext l.gate l.offers × (l.gate ≡ record l.fn.gate { lines = l.gate.lines })
+invariant-loop-more g l = AreLast l.gate l.last × (l.gate ≡ record l.fn.gate { lines = l.gate.lines })
