@@ -93,7 +93,7 @@ fn is_replayed<R: Threads + Wait + Sync>(
 ) -> Result<bool, Fail> {
     let mut dice = Dice::new(seed);
     let image = guest(alloc, harts, &mut dice)?;
-    let mut book = recorder(alloc, &image, &[2000; 8])?;
+    let mut book = recorder(alloc, &image, &[150; 8])?;
     offer_all(&mut book, &mut dice);
     let book = run_all(rt, alloc, book)?;
     let plan = plan_of(alloc, &store_of(alloc, &image, &book)?)?;
@@ -105,10 +105,8 @@ fn is_replayed<R: Threads + Wait + Sync>(
 #[test]
 fn what_runs_by_chance_is_replayed(rt: HostRuntime) -> Result<(), Fail> {
     for harts in 2..9u8 {
-        for seed in 1..4u8 {
-            let state = u64::from(seed) * 0x9e37 + u64::from(harts);
-            assert!(rt; is_replayed(&rt, rt.alloc(), harts, state)?, "{harts} harts, seed {seed}");
-        }
+        let seed = 0x9e37 + u64::from(harts);
+        assert!(rt; is_replayed(&rt, rt.alloc(), harts, seed)?, "{harts} harts");
     }
     Ok(())
 }

@@ -59,14 +59,7 @@ type Row<'a> = (Count, &'a [Record]);
 fn one_term(alloc: Global, image: &Image, rows: &[Row]) -> Result<Store, Fail> {
     let mut store = opened(alloc, image)?;
     for (number, (end, records)) in (0u8..8).zip(rows) {
-        let piece = piece_of(
-            alloc,
-            image.guest(),
-            key(1, number, 0),
-            0,
-            *end,
-            *records,
-        )?;
+        let piece = piece_of(alloc, image.guest(), key(1, number, 0), 0, *end, *records)?;
         put(alloc, &mut store, &piece)?;
     }
     Ok(store)
