@@ -1,1 +1,3 @@
 mod Finishing
+mod GoingOn
+mod Along

@@ -11,7 +11,7 @@ use hart_replay::ReplayFault;
 use std::result::Result;
 
 /// A hart's count, 0 where the row has none.
-fn count_of(counts: Counts, hart: Hart) -> Count
+pub(crate) fn count_of(counts: Counts, hart: Hart) -> Count
     ensures { result ≡ count_at counts hart }
 {
     if hart.number() < counts.harts() {

@@ -21,7 +21,11 @@ use std::sync::Wait;
 use std::thread::Threads;
 
 /// A book of the leg from this machine on, without steps.
-fn begin(alloc: Global, start: Machine, leg: &PlannedLeg) -> Result<Book<Replaying>, Memory>
+pub(crate) fn begin(
+    alloc: Global,
+    start: Machine,
+    leg: &PlannedLeg,
+) -> Result<Book<Replaying>, Memory>
     ensures { IfOk result (λ b. b ≡ record { start = start; machine = start; journal = []; leases = replicate 8 None; mode = leg_of leg.now }) }
 {
     let obeyed = Leg {
@@ -43,7 +47,7 @@ fn pick(held: Book<Replaying>, copy: Book<Replaying>) -> Book<Replaying>
 }
 
 /// Ends the leases that the book has open, and lets its harts go on in turn until none can.
-fn finish(alloc: Global, book: Book<Replaying>) -> Result<Book<Replaying>, Memory>
+pub(crate) fn finish(alloc: Global, book: Book<Replaying>) -> Result<Book<Replaying>, Memory>
     ensures leading { IfOk result (λ b. IsLeading book.start book.mode b) }
     ensures held { IfOk result (λ b. (hart : ℕ) → hart < length b.machine.harts → IsHeld b hart) }
 {

@@ -17,7 +17,7 @@ use std::result::Result;
 use std::sync::Wait;
 use std::thread::Threads;
 
-fn is_same_guest(guest: &Guest, other: &Guest) -> bool
+pub(crate) fn is_same_guest(guest: &Guest, other: &Guest) -> bool
     ensures { result ≡ same_guest guest.now other.now }
 {
     guest == other
