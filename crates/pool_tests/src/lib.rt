@@ -6,6 +6,8 @@ mod adding;
 #[cfg(test)]
 mod chances;
 #[cfg(test)]
+mod followers;
+#[cfg(test)]
 mod logs;
 #[cfg(test)]
 mod meeting;
