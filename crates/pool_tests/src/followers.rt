@@ -36,10 +36,13 @@ fn advance(alloc: Global, follower: &mut Follower, store: &Store) -> Result<(), 
 
 /// Whether the follower stands at this term and count of its one hart, to which it took so many steps.
 fn stands(follower: &Follower, term: u32, count: Count, steps: u64) -> bool {
+    let machine = follower.machine();
+    if machine.harts() != 1 || machine.hart(Hart::new(0)).count() != count {
+        return false;
+    }
     follower.position().term == term
         && follower.position().counts.as_slice() == [count].as_slice()
         && follower.last_steps() == steps
-        && follower.machine().hart(Hart::new(0)).count() == count
 }
 
 /// Puts the frame and lets the follower go on. Whether it stands there then.
@@ -52,7 +55,7 @@ fn comes_to(
 ) -> Result<bool, Fail> {
     put(alloc, store, frame)?;
     advance(alloc, follower, store)?;
-    Ok(follower.machine().harts() == 1 && stands(follower, term, count, steps))
+    Ok(stands(follower, term, count, steps))
 }
 
 /// A second opening of term 2 changes the chain, and a second piece at one key takes the position back.
@@ -91,7 +94,7 @@ fn what_is_gone_on_from(rt: HostRuntime) -> Result<(), Fail> {
     put(rt.alloc(), &mut store, &past_its_halt)?;
     let fault = advance(rt.alloc(), &mut follower, &store).err();
     assert_eq!(rt; fault, Some(ReplayFault::HaltedInside(Hart::new(0), 4)));
-    assert!(rt; follower.machine().harts() == 1 && stands(&follower, 1, 4, 1));
+    assert!(rt; stands(&follower, 1, 4, 1));
     let other = Store::new(rt.alloc(), image_of(rt.alloc(), ADDS)?.guest());
     let fault = advance(rt.alloc(), &mut follower, &other).err();
     assert_eq!(rt; fault, Some(ReplayFault::OtherGuest));
@@ -166,8 +169,14 @@ fn piece_by_piece_in_any_order(rt: HostRuntime) -> Result<(), Fail> {
         if let Some(piece) = pieces.get(number % pieces.len().max(1)) {
             put(rt.alloc(), &mut store, piece)?;
         }
-        assert!(rt; keeps_up(rt.alloc(), &image, &mut follower, &store)?, "turn {turn}");
+        assert!(rt;
+            keeps_up(rt.alloc(), &image, &mut follower, &store)?,
+            "turn {turn}"
+        );
     }
-    assert_eq!(rt; follower.position().counts.as_slice(), [305u64; 4].as_slice());
+    assert_eq!(rt;
+        follower.position().counts.as_slice(),
+        [305u64; 4].as_slice()
+    );
     Ok(())
 }

@@ -1,6 +1,6 @@
 -- A leg that goes on from where its harts have come to.
-use Rattle.std.proofs.Common.{◌≡◌, ◌<◌, ◌≤◌, ◌+◌, ◌++◌, ℕ, List, [], ◌∷◌, length, filter, get_or, Option, Some, Result, IfOk, IfErr, Contains, refl, sym, ap, subst, ◌∙◌}
-use Rattle.std.proofs.Common.{arith, le_trans, lt-ltb, nat_lt, true, inl, inr}
+use Rattle.std.proofs.Common.{◌≡◌, ◌<◌, ◌≤◌, ◌+◌, ◌++◌, ℕ, List, [], ◌∷◌, length, filter, get_or, Option, Some, Result, IfOk, IfErr, Contains, refl}
+use Rattle.std.proofs.Common.{sym, ap, subst, ◌∙◌, arith, le_trans, lt-ltb, nat_lt, true, inl, inr}
 use Rattle.std.proofs.Math.Path.{fun_ext}
 use Rattle.std.proofs.lemmas.Bool.{cases_lt}
 use Rattle.std.proofs.lemmas.Result.{IfOk-weaker, IfErr-weaker}

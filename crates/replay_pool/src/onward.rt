@@ -56,7 +56,8 @@ fn ends_within(leg: &PlannedLeg, later: &PlannedLeg) -> bool
 
 /// Whether each hart of the second leg is given what it was given in the first, and the rest at that one's ends or later.
 fn hear_more(leg: &PlannedLeg, later: &PlannedLeg) -> bool
-    ensures { IsTrue result ↔ ((hart : ℕ) → hart < 8 → HearsMore (inputs_of leg.now.inputs hart) (count_at leg.now.ends hart) (inputs_of later.now.inputs hart)) }
+    ensures { IsTrue result ↔ ((hart : ℕ) → hart < 8 →
+        HearsMore (inputs_of leg.now.inputs hart) (count_at leg.now.ends hart) (inputs_of later.now.inputs hart)) }
 {
     for number in 0..HART_LIMIT {
         let hart = Hart::new(number);

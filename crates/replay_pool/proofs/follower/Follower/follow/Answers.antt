@@ -15,7 +15,8 @@ lead_all-requires-clause-at c =
     let plan = c.args.plan.now in
     let f = c.args.self.now in
     let planned = c.legs-planned.result.now in
-    subst (λ (i : ImageContents). IsAt i planned (length c.legs.result.now - 1) c.in_ok-machine.machine) (sym (ap (λ (x : FollowerView). x.image) c.self.view_is))
+    let same = ap (λ (x : FollowerView). x.image) c.self.view_is in
+    subst (λ (i : ImageContents). IsAt i planned (length c.legs.result.now - 1) c.in_ok-machine.machine) (sym same)
     (follows_at f.image f.legs plan.legs c.legs.result.now planned f.machine c.in_ok-machine.machine plan.guest c.legs.ensures.kept
     c.legs-planned.ensures.rules c.requires.guest (c.requires.on c.if-on.true) c.legs.ensures.value c.legs-planned.ensures.legs
     (c.in_ok-machine.ensures ∙ ap (λ (x : FollowerView). x.machine) c.self.view_is) c.index-planned-first.result c.index-planned-first.is
