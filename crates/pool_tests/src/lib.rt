@@ -1,9 +1,19 @@
-//! The tests of harts on threads.
+//! The tests of harts on threads: primaries and replays.
 #![tactic(auto)]
 
 #[cfg(test)]
 mod adding;
 #[cfg(test)]
+mod chances;
+#[cfg(test)]
+mod followers;
+#[cfg(test)]
+mod logs;
+#[cfg(test)]
 mod meeting;
 #[cfg(test)]
 mod pools;
+#[cfg(test)]
+mod refused;
+#[cfg(test)]
+mod replays;

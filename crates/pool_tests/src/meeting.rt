@@ -8,12 +8,12 @@ use std::test::Fail;
 use std::thread;
 
 /// Four harts add 1 to one word 10,000 times each, and halt.
-static ADDS_MANY: &[u8] =
+pub static ADDS_MANY: &[u8] =
     b"harts 4\npages 2\n800010b7\n00002137\n71010113\n00100193\n0030a02f\nfff10113\nfe011ce3\nf0000237\n00022a23\n";
 
 /// Holds each hart's second lease until each hart has come to its own.
 #[derive(Drop)]
-struct Meeting {
+pub struct Meeting {
     came: [AtomicU64; 4],
     met: AtomicU64,
     last: [AtomicU64; 4],
@@ -29,6 +29,30 @@ fn four_zeros() -> [AtomicU64; 4] {
 }
 
 impl Meeting {
+    /// Nobody has come.
+    pub fn new() -> Meeting {
+        Meeting {
+            came: four_zeros(),
+            met: AtomicU64::new(0),
+            last: four_zeros(),
+        }
+    }
+
+    /// Whether each hart saw that all had come.
+    pub fn all_met(&self) -> bool {
+        self.met.load(Ordering::SeqCst) == 4
+    }
+
+    /// Whether each hart's last lease was settled at this count.
+    pub fn all_left_at(&self, count: Count) -> bool {
+        for hart in 0..4usize {
+            if self.last[hart].load(Ordering::SeqCst) != count {
+                return false;
+            }
+        }
+        true
+    }
+
     fn all_came(&self) -> bool {
         for hart in 0..4usize {
             if self.came[hart].load(Ordering::SeqCst) == 0 {
@@ -63,16 +87,10 @@ impl Turnstile for Meeting {
 
 #[test]
 fn each_hart_goes_on_its_own_thread(rt: HostRuntime) -> Result<(), Fail> {
-    let meeting = Meeting {
-        came: four_zeros(),
-        met: AtomicU64::new(0),
-        last: four_zeros(),
-    };
+    let meeting = Meeting::new();
     let book = on_threads(&rt, rt.alloc(), ADDS_MANY, 100000, &meeting)?;
-    assert!(rt; meeting.met.load(Ordering::SeqCst) == 4);
-    for hart in 0..4usize {
-        assert!(rt; meeting.last[hart].load(Ordering::SeqCst) == 30006);
-    }
+    assert!(rt; meeting.all_met());
+    assert!(rt; meeting.all_left_at(30006));
     let machine = book.machine();
     assert!(rt; machine.pages() == 2);
     assert_eq!(rt; machine.page(PageNo::new(1)).read_word(0), 40000);

@@ -1,9 +1,9 @@
-//! A book that goes on on threads.
+//! A book that goes on on threads, or in turn.
 
 use fixtures::{image_of, recorder};
 use ft_types::{Count, Counts};
 use page_book::{Book, Recording};
-use primary_pool::{Turnstile, run};
+use primary_pool::{Turnstile, run, run_plain};
 use std::alloc::Global;
 use std::sync::Wait;
 use std::test::Fail;
@@ -28,4 +28,11 @@ pub fn on_threads<R: Threads + Wait + Sync, T: Turnstile + Sync>(
         return Ok(book);
     }
     Ok(run(rt, alloc, book, budget, turnstile).map_err(|_| "memory")?)
+}
+
+/// The same, whose harts go on in turn.
+pub fn in_turn(alloc: Global, file: &[u8], budget: Count) -> Result<Book<Recording>, Fail> {
+    let mut book = recorder(alloc, &image_of(alloc, file)?, &[budget; 4])?;
+    book.reclaim();
+    Ok(run_plain(alloc, book).map_err(|_| "memory")?)
 }

@@ -1,0 +1,77 @@
+-- A backup that keeps up with a store.
+use Rattle.std.specs.Prelude.{◌≡◌, ◌<◌, ◌≤◌, ◌⊎◌, ◌++◌, ◌∷◌, ℕ, List, [], Option, Some, None, Result, MatchResult}
+use Rattle.ft_types.specs.Counts.{count_at}
+use Rattle.edge_log.specs.EdgeLog.{AddsLater}
+use Rattle.input_log.specs.Inputs.{HearsMore, inputs_of}
+use Rattle.interleaving.specs.Stored.{view}
+use Rattle.log_join.specs.Stores.{StoreView, IsStore}
+use Rattle.closed_cut.specs.declared.answer.Position.{Position}
+use Rattle.rv32_hart.specs.Hardware.{hardware}
+use Rattle.guest_image.specs.Image.{ImageContents, guest_of}
+use Rattle.guest_image.specs.Machine.{MachineState}
+use Rattle.hart_replay.specs.declared.plans.PlannedLeg.{PlannedLeg}
+use Rattle.hart_replay.specs.declared.fault.ReplayFault.{ReplayFault}
+use Rattle.hart_replay.specs.declared.fault.ReplayFault.TheVariants.{OtherGuest, Memory}
+use Rattle.hart_replay.specs.Plans.{IsPlan, PlanView}
+use Rattle.hart_replay.specs.Replays.{IsOutcome}
+use Rattle.hart_replay.specs.Laws.{ArePlanned}
+use Rattle.hart_replay.specs.Images.{GuestHistory, machine_of, IsHonestStoreOf}
+use Rattle.hart_replay.specs.Leading.{IsLegsFault}
+
+-- an image, the legs that were replayed, up to a position, and the machine there; and how many steps the last advance took
+pub record FollowerView : Type 0 where
+  pub image : ImageContents
+  pub legs : List PlannedLeg
+  pub position : Position
+  pub machine : MachineState
+  pub last_steps : ℕ
+
+-- the legs of a plan, none where there is none
+abbrev pub legs_of : Option PlanView → List PlannedLeg
+legs_of None = []
+legs_of (Some plan) = plan.legs
+
+-- what every follower keeps
+pub record KeepsUp (image : ImageContents) (legs : List PlannedLeg) (machine : MachineState) : Type 0 where
+  pub plan : IsPlan (guest_of image) legs
+  pub led : IsOutcome image legs machine
+
+-- the first leg begins the second: their terms and bases are the same, the second ends no earlier, and of the steps before the
+-- first one's ends it has the same edges and inputs
+pub record BeginsLeg (leg later : PlannedLeg) : Type 0 where
+  pub term : later.term ≡ leg.term
+  pub base : later.base ≡ leg.base
+  pub ends : (hart : ℕ) → hart < 8 → count_at leg.ends hart ≤ count_at later.ends hart
+  pub edges : AddsLater leg.edges (count_at leg.ends) later.edges
+  pub inputs : (hart : ℕ) → hart < 8 → HearsMore (inputs_of leg.inputs hart) (count_at leg.ends hart) (inputs_of later.inputs hart)
+
+-- the first legs begin the second
+abbrev pub IsFront : List PlannedLeg → List PlannedLeg → Type 0
+IsFront first second = (rest : List PlannedLeg) × (second ≡ first ++ rest)
+
+-- the second legs go on from the first: all of these but the last are theirs too, and the last begins their next
+pub record GoOnFrom (old new : List PlannedLeg) : Type 0 where
+  pub front : List PlannedLeg
+  pub last : PlannedLeg
+  pub next : PlannedLeg
+  pub back : List PlannedLeg
+  pub was : old ≡ front ++ last ∷ []
+  pub is : new ≡ front ++ next ∷ back
+  pub begins : BeginsLeg last next
+
+-- why the legs planned up to the store's position lead to no machine
+pub record IsFaultOfStore (image : ImageContents) (store : StoreView) (fault : ReplayFault) : Type 0 where
+  pub position : Position
+  pub legs : List PlannedLeg
+  pub planned : ArePlanned store position legs
+  pub is_fault : IsLegsFault image legs fault
+
+-- Where the store's frames are honest frames of one history of the image, the machine is the history's at the position, and the only
+-- faults are another guest and refused memory.
+abbrev pub FollowsHistory : StoreView → Result Unit ReplayFault → FollowerView → Type 0
+FollowsHistory store result f =
+    (history : GuestHistory) → IsStore store → IsHonestStoreOf f.image history store →
+    MatchResult result
+    (λ done.
+    view (hardware f.image.pages) f.machine ≡ machine_of f.image history f.position.term (count_at f.position.counts))
+    (λ fault. (fault ≡ OtherGuest) ⊎ (fault ≡ Memory))

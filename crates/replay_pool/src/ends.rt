@@ -1,0 +1,50 @@
+//! Where a leg's harts have come to.
+
+ghost use Rattle.std.specs.Prelude.{◌≡◌, ℕ, length, IfOk, IfErr};
+ghost use Rattle.ft_types.specs.Counts.{count_at};
+ghost use Rattle.hart_lease.specs.Runs.{counts_of};
+ghost use Rattle.hart_replay.specs.Leading.{ComesTo, ComesShort};
+
+use ft_types::{Count, Counts, Hart};
+use guest_image::Machine;
+use hart_replay::ReplayFault;
+use std::result::Result;
+
+/// A hart's count, 0 where the row has none.
+pub(crate) fn count_of(counts: Counts, hart: Hart) -> Count
+    ensures { result ≡ count_at counts hart }
+{
+    if hart.number() < counts.harts() {
+        counts.get(hart)
+    } else {
+        0
+    }
+}
+
+/// The machine, where each of its harts has come to its end; else why not.
+pub(crate) fn come_to(
+    machine: &Machine,
+    counts: Counts,
+    ends: Counts,
+) -> Result<Machine, ReplayFault>
+    requires harts { length counts ≡ length machine.now.harts }
+    requires counts { (hart : ℕ) → count_at counts hart ≡ counts_of machine.now hart }
+    ensures ok { IfOk result (λ m. ComesTo machine.now ends m) }
+    ensures fault { IfErr result (λ fault. ComesShort machine.now ends fault) }
+{
+    let mut waits = false;
+    for number in 0..counts.harts() {
+        let hart = Hart::new(number);
+        let count = counts.get(hart);
+        if count < count_of(ends, hart) {
+            if machine.hart(hart).is_halted() {
+                return Err(ReplayFault::HaltedInside(hart, count));
+            }
+            waits = true;
+        }
+    }
+    if waits {
+        return Err(ReplayFault::Cyclic(counts));
+    }
+    Ok(machine.copy()?)
+}

@@ -1,0 +1,94 @@
+//! Whether a plan goes on where another one ends.
+
+ghost use Rattle.std.specs.Prelude.{◌≡◌, ◌↔◌, ◌<◌, ◌≤◌, ℕ, IsTrue};
+ghost use Rattle.ft_types.specs.Counts.{count_at};
+ghost use Rattle.input_log.specs.Inputs.{HearsMore, inputs_of};
+ghost use Rattle.replay_pool.specs.Following.{BeginsLeg, GoOnFrom, IsFront};
+
+use crate::ends::count_of;
+use ft_types::{Count, HART_LIMIT, Hart};
+use hart_replay::PlannedLeg;
+
+fn same_counts(counts: &[Count], others: &[Count]) -> bool
+    ensures { IsTrue result ↔ (counts.now ≡ others.now) }
+{
+    counts == others
+}
+
+/// Whether the legs are equal.
+fn same_leg(leg: &PlannedLeg, other: &PlannedLeg) -> bool
+    ensures { IsTrue result ↔ (leg.now ≡ other.now) }
+{
+    leg.term == other.term
+        && same_counts(leg.base.as_slice(), other.base.as_slice())
+        && same_counts(leg.ends.as_slice(), other.ends.as_slice())
+        && leg.edges.same(&other.edges)
+        && leg.inputs.same(&other.inputs)
+}
+
+/// Whether the first legs begin the second.
+fn begin_legs(first: &[PlannedLeg], second: &[PlannedLeg]) -> bool
+    ensures { IsTrue result ↔ IsFront first.now second.now }
+{
+    if first.len() > second.len() {
+        return false;
+    }
+    for i in 0..first.len() {
+        if !same_leg(&first[i], &second[i]) {
+            return false;
+        }
+    }
+    true
+}
+
+/// Whether no hart's end is above the other leg's.
+fn ends_within(leg: &PlannedLeg, later: &PlannedLeg) -> bool
+    ensures { IsTrue result ↔ ((hart : ℕ) → hart < 8 → count_at leg.now.ends hart ≤ count_at later.now.ends hart) }
+{
+    for number in 0..HART_LIMIT {
+        let hart = Hart::new(number);
+        if count_of(leg.ends, hart) > count_of(later.ends, hart) {
+            return false;
+        }
+    }
+    true
+}
+
+/// Whether each hart of the second leg is given what it was given in the first, and the rest at that one's ends or later.
+fn hear_more(leg: &PlannedLeg, later: &PlannedLeg) -> bool
+    ensures { IsTrue result ↔ ((hart : ℕ) → hart < 8 →
+        HearsMore (inputs_of leg.now.inputs hart) (count_at leg.now.ends hart) (inputs_of later.now.inputs hart)) }
+{
+    for number in 0..HART_LIMIT {
+        let hart = Hart::new(number);
+        if !later
+            .inputs
+            .hears_more(hart, count_of(leg.ends, hart), &leg.inputs)
+        {
+            return false;
+        }
+    }
+    true
+}
+
+/// Whether the first leg begins the second.
+fn begins_leg(leg: &PlannedLeg, later: &PlannedLeg) -> bool
+    ensures { IsTrue result ↔ BeginsLeg leg.now later.now }
+{
+    later.term == leg.term
+        && same_counts(later.base.as_slice(), leg.base.as_slice())
+        && ends_within(leg, later)
+        && later.edges.adds_later(&leg.ends, &leg.edges)
+        && hear_more(leg, later)
+}
+
+/// Whether the second legs go on from the first.
+pub(crate) fn go_on_from(old: &[PlannedLeg], new: &[PlannedLeg]) -> bool
+    ensures { IsTrue result ↔ GoOnFrom old.now new.now }
+{
+    if old.is_empty() || new.len() < old.len() {
+        return false;
+    }
+    let last = old.len() - 1;
+    begin_legs(&old[..last], new) && begins_leg(&old[last], &new[last])
+}
