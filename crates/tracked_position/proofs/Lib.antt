@@ -1,0 +1,5 @@
+mod Scans
+mod Walks
+mod Cuts
+mod Stops
+mod Bounds

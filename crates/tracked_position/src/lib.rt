@@ -1,0 +1,7 @@
+//! The position of a store that frames come to, kept up: what a frame costs is what it adds, and not what the store holds.
+#![tactic(auto)]
+
+mod held;
+mod lowering;
+mod raising;
+mod walk;
