@@ -3,3 +3,6 @@ mod Walks
 mod Cuts
 mod Stops
 mod Bounds
+mod Growth
+mod Positions
+mod Keeping

@@ -1,4 +1,4 @@
 pub mod Cuts
 pub mod Walks
 pub mod Waits
-pub mod Tracked
+pub mod Keeping

@@ -55,14 +55,7 @@ fn lower_hart(
     ensures less { result ≡ true → total high.new < total high.old }
     ensures met { result ≡ false → IsMetFrom store.now opening.now.term (base_of opening.now) (count_at high.old) hart cursor.place }
 {
-    let stop = walk_on(
-        store,
-        opening.term(),
-        hart,
-        cursor,
-        high.get(hart),
-        high,
-    );
+    let stop = walk_on(store, opening.term(), hart, cursor, high.get(hart), high);
     match stop.edge {
         None => false,
         Some(edge) => {

@@ -57,11 +57,7 @@ impl Stop {
 fn count_of(counts: &Counts, hart: Hart) -> Count
     ensures { result ≡ count_at counts.now hart }
 {
-    counts
-        .as_slice()
-        .get(hart.index())
-        .copied()
-        .unwrap_or(0)
+    counts.as_slice().get(hart.index()).copied().unwrap_or(0)
 }
 
 /// The edge with the least count among those below the ceiling that ask for more of a hart's steps than the counts have.

@@ -49,8 +49,11 @@ loop-number-preserved c =
           let (a, b) = none_rose c is in
           elim (cases_eq h c.loop-number.number) [
             | inl same ↦
-                rw (same, get_or-set_same c.loop-number.waits c.loop-number.number c.raise_hart-raised.result.waits None (omega arith),
-                  ← c.loop-number.invariant.same a)
+                rw (
+                  same,
+                  get_or-set_same c.loop-number.waits c.loop-number.number c.raise_hart-raised.result.waits None (omega arith),
+                  ← c.loop-number.invariant.same a,
+                )
                 (rw c.new-hart.ensures at c.raise_hart-raised.ensures.waits b)
             | inr ne ↦
                 rw (get_or-set_other c.loop-number.waits c.loop-number.number h c.raise_hart-raised.result.waits None ne)

@@ -1,0 +1,182 @@
+//! A store with its position.
+
+ghost use Rattle.std.specs.Prelude.{◌≡◌, ◌≢◌, ◌≤◌, ◌↔◌, ℕ, length, Ok, Err, IfOk, OnOk, OnErr};
+ghost use Rattle.fragment_codec.specs.declared.frame.Frame.{Frame as frame_of_specs};
+ghost use Rattle.log_join.specs.Stores.{IsJoin, nothing, alone, IsStore, opening_at};
+ghost use Rattle.log_join.specs.Answers.{answer_to};
+ghost use Rattle.closed_cut.specs.Position.{IsPosition, base_of};
+ghost use Rattle.fragment_codec.specs.Rules.{OpeningParts};
+ghost use Rattle.log_join.specs.Cells.{One};
+ghost use Rattle.tracked_position.specs.Walks.{AreOver};
+ghost use Rattle.tracked_position.specs.Keeping.{Takes};
+
+use crate::answering::{answer_of, is_same_guest};
+use crate::taking::{take_elsewhere, take_on_top};
+use crate::walk::Cursor;
+use closed_cut::{Position, opening_of, position};
+use fragment_codec::{Fragment, Frame};
+use ft_types::{Counts, Guest, HART_LIMIT, Hart, Memory, Term};
+use log_join::{Put, Store, StoreFault};
+use std::alloc::Global;
+use std::marker::Model;
+use std::option::Option;
+use std::result::Result;
+
+/// A store with its position, which is kept up as frames come. Contracts see the store.
+#[derive(Drop)]
+pub struct Tracked {
+    store: Store,
+    position: Position,
+    cursors: [Cursor; 8],
+}
+
+impl Model for Tracked {
+    ghost use Rattle.log_join.specs.Stores.{StoreView, coded_store};
+
+    ghost Value = { StoreView };
+
+    ghost coded = { coded_store };
+
+    ghost use Rattle.tracked_position.specs.Keeping.{IsTracked};
+
+    ghost view = { λ t. t.store };
+
+    ghost invariant = { λ t. IsTracked t.store t.position t.cursors };
+}
+
+/// Cursors at the base of a term, where it is opened.
+fn start(store: &Store, term: Term) -> [Cursor; 8]
+    ensures rules { IsStore store.now }
+    ensures over { (o : OpeningParts) (cut : ℕ → ℕ) → opening_at store.now term ≡ One o → AreOver store.now term (base_of o) cut result }
+{
+    let mut cursors = [Cursor { place: 0, end: 0 }; 8];
+    let Some(opening) = opening_of(store, term) else {
+        return cursors;
+    };
+    let base = opening.base();
+    for number in 0..base.harts() {
+        let hart = Hart::new(number);
+        cursors[hart.index()] = Cursor {
+            place: 0,
+            end: base.get(hart),
+        };
+    }
+    cursors
+}
+
+impl Tracked {
+    /// A store of a guest to which nothing came, and its position.
+    pub fn new(alloc: Global, guest: Guest) -> Tracked
+        ensures { result ≡ nothing guest }
+    {
+        Tracked {
+            store: Store::new(alloc, guest),
+            position: Position {
+                term: 0,
+                counts: Counts::zero(guest.harts.min(HART_LIMIT)),
+                top: 0,
+            },
+            cursors: [Cursor { place: 0, end: 0 }; 8],
+        }
+    }
+
+    /// The store.
+    pub fn store(&self) -> &Store
+        ensures { result.now ≡ self.now }
+    {
+        &self.store
+    }
+
+    /// The store's position.
+    pub fn position(&self) -> &Position
+        ensures position { IsPosition self.now result.now }
+        // A guest has 1 to 8 harts.
+        ensures harts { self.now.guest.harts ≤ 8 → length result.now.counts ≡ self.now.guest.harts }
+    {
+        &self.position
+    }
+
+    /// That store, with its position found anew.
+    fn found(alloc: Global, store: Store) -> Result<Tracked, Memory>
+        ensures { IfOk result (λ tracked. tracked ≡ store) }
+    {
+        let position = position(alloc, &store)?;
+        let cursors = start(&store, position.term);
+        Ok(Tracked {
+            store,
+            position,
+            cursors,
+        })
+    }
+
+    /// Takes a frame into a copy, whose position is found anew.
+    fn put_anew(&mut self, alloc: Global, frame: Frame) -> Result<Put, Memory>
+        ensures { Takes self.old frame result self.new }
+    {
+        let mut store = self.store.copy(alloc)?;
+        let put = store.put(frame)?;
+        *self = Tracked::found(alloc, store)?;
+        Ok(put)
+    }
+
+    /// Takes a piece at a key at which nothing was.
+    fn put_new(&mut self, alloc: Global, fragment: Fragment) -> Result<Put, Memory>
+        requires { answer_to self.old (frame_of_specs.Log fragment) ≡ Put.New }
+        ensures { Takes self.old (frame_of_specs.Log fragment) result self.new }
+    {
+        let term = fragment.key().term;
+        if term != self.position.term {
+            return take_elsewhere(&mut self.store, &self.position, &self.cursors, fragment);
+        }
+        match opening_of(&self.store, term) {
+            Some(opening) if term == self.position.top => {
+                let opening = opening.copy();
+                take_on_top(
+                    &mut self.store,
+                    &mut self.position,
+                    &mut self.cursors,
+                    &opening,
+                    fragment,
+                )
+            }
+            _ => self.put_anew(alloc, Frame::Log(fragment)),
+        }
+    }
+
+    /// Takes a frame.
+    pub fn put(&mut self, alloc: Global, frame: Frame) -> Result<Put, Memory>
+        // The answer is as its key stood, and OtherGuest first.
+        ensures answer { IfOk result (λ p. p ≡ answer_to self.old frame) }
+
+        // It is a join with the store of that one frame.
+        ensures joined { IfOk result (λ p. p ≢ Put.OtherGuest → IsJoin self.old (alone frame) self.new) }
+        ensures same { result ≡ Ok Put.Same → self.new ≡ self.old }
+        ensures other_guest { result ≡ Ok Put.OtherGuest → self.new ≡ self.old }
+
+        // Memory is refused only where the store would change, and then nothing changes.
+        ensures memory { OnErr result (answer_to self.old frame ≢ Put.Same) }
+        ensures own_guest { OnErr result (answer_to self.old frame ≢ Put.OtherGuest) }
+        ensures err { OnErr result (self.new ≡ self.old) }
+    {
+        match (answer_of(&self.store, &frame), frame) {
+            (Put::New, Frame::Log(fragment)) => self.put_new(alloc, fragment),
+            (Put::Same | Put::OtherGuest, frame) => self.store.put(frame),
+            (_, frame) => self.put_anew(alloc, frame),
+        }
+    }
+
+    /// Joins a store to this one.
+    pub fn join(&mut self, alloc: Global, other: &Store) -> Result<(), StoreFault>
+        ensures joined { OnOk result (IsJoin self.old other.now self.new) }
+        ensures other_guest { (result ≡ Err StoreFault.OtherGuest) ↔ (self.old.guest ≢ other.now.guest) }
+        ensures err { OnErr result (self.new ≡ self.old) }
+    {
+        if !is_same_guest(&self.store.guest(), &other.guest()) {
+            return Err(StoreFault::OtherGuest);
+        }
+        let mut store = self.store.copy(alloc)?;
+        store.join(alloc, other)?;
+        *self = Tracked::found(alloc, store)?;
+        Ok(())
+    }
+}
