@@ -109,13 +109,22 @@ impl Tracked {
         })
     }
 
+    /// Takes that store in place of this one, with its position found anew.
+    fn replace(&mut self, alloc: Global, store: Store) -> Result<(), Memory>
+        ensures ok { OnOk result (self.new ≡ store) }
+        ensures err { OnErr result (self.new ≡ self.old) }
+    {
+        *self = Tracked::found(alloc, store)?;
+        Ok(())
+    }
+
     /// Takes a frame into a copy, whose position is found anew.
     fn put_anew(&mut self, alloc: Global, frame: Frame) -> Result<Put, Memory>
         ensures { Takes self.old frame result self.new }
     {
         let mut store = self.store.copy(alloc)?;
         let put = store.put(frame)?;
-        *self = Tracked::found(alloc, store)?;
+        self.replace(alloc, store)?;
         Ok(put)
     }
 
@@ -176,7 +185,7 @@ impl Tracked {
         }
         let mut store = self.store.copy(alloc)?;
         store.join(alloc, other)?;
-        *self = Tracked::found(alloc, store)?;
+        self.replace(alloc, store)?;
         Ok(())
     }
 }
