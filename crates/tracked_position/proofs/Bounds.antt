@@ -10,18 +10,19 @@ use Rattle.fragment_codec.specs.Rules.{FragmentParts, OpeningParts}
 use Rattle.log_join.specs.Cells.{One}
 use Rattle.log_join.specs.Stores.{StoreView, IsStore, opening_at}
 use Rattle.closed_cut.specs.Position.{pieces_of, Goes}
-use Rattle.tracked_position.specs.Cuts.{edges_in, Meets, GoesOver, ComeTo, IsCutOf, IsBound, IsGreatestCut}
+use Rattle.tracked_position.specs.Cuts.{edges_in, Meets, GoesOver, ComeTo, IsLimited, IsCutOf, IsHigh, IsGreatestCut}
 use Rattle.tracked_position.specs.Walks.{cursor_at, IsMetFrom, IsOver, AreOver}
 use Rattle.tracked_position.specs.declared.walk.Cursor.{Cursor}
 use Rattle.interleaving.specs.Lists as theory
 use Rattle.ft_types.specs.declared.guest.Guest.{Guest}
 use Rattle.tracked_position.proofs.Stops.{over_more}
-use Rattle.tracked_position.specs.Waits.{IsHeld, Free, Behind, IsWaiting, WaitsFor, room}
-use Rattle.tracked_position.proofs.Cuts.{own, rises, no_pieces}
+use Rattle.tracked_position.specs.Waits.{IsHeld, Free, Behind, IsWaiting, room, limited_to}
+use Rattle.std.specs.Option.{option_map}
+use Rattle.tracked_position.proofs.Cuts.{own, rises, no_pieces, set_limited, limited_is, limited_le, limited_bound}
 
-module _ (s : StoreView) (rules : IsStore s) (term : ℕ) (base : ℕ → ℕ) where
+module _ (s : StoreView) (rules : IsStore s) (term : ℕ) (base : ℕ → ℕ) (next : Option (ℕ → ℕ)) where
   -- a hart that the guest has not stands at its base
-  pub past_harts : (cut other : ℕ → ℕ) → IsCutOf s term base None cut → IsCutOf s term base None other → (hart : ℕ) → s.guest.harts ≤ hart →
+  pub past_harts : (cut other : ℕ → ℕ) → IsCutOf s term base next cut → IsCutOf s term base next other → (hart : ℕ) → s.guest.harts ≤ hart →
       other hart ≤ cut hart
   past_harts cut other is_cut is hart over =
       let w = is.within hart in
@@ -30,13 +31,13 @@ module _ (s : StoreView) (rules : IsStore s) (term : ℕ) (base : ℕ → ℕ) w
       let above : base hart ≤ cut hart = is_cut.above hart in
       omega arith
 
-  module _ (cut : ℕ → ℕ) (waits : List (Option ℕ)) (all : (hart : ℕ) → IsWaiting s term base cut hart (slice_index_or waits hart None))
-      (other : ℕ → ℕ) (is : IsCutOf s term base None other) where
-    free : (hart : ℕ) (w : Option ℕ) → w ≡ None → IsWaiting s term base cut hart w → other hart ≤ cut hart
-    free hart None e waiting = let w = is.within hart in le_trans w.far (waiting w.place w.end w.goes)
+  module _ (cut : ℕ → ℕ) (waits : List (Option ℕ)) (all : (hart : ℕ) → IsWaiting s term base next cut hart (slice_index_or waits hart None))
+      (other : ℕ → ℕ) (is : IsCutOf s term base next other) where
+    free : (hart : ℕ) (w : Option ℕ) → w ≡ None → IsWaiting s term base next cut hart w → other hart ≤ cut hart
+    free hart None e waiting = waiting other is
     free hart (Some o) e waiting = cc
 
-    behind : (hart o : ℕ) (w : Option ℕ) → w ≡ Some o → other o ≤ cut o → IsWaiting s term base cut hart w → other hart ≤ cut hart
+    behind : (hart o : ℕ) (w : Option ℕ) → w ≡ Some o → other o ≤ cut o → IsWaiting s term base next cut hart w → other hart ≤ cut hart
     behind hart o None e le waiting = cc
     behind hart o (Some p) e le waiting =
         elim (cases_lt (cut hart) (other hart)) [
@@ -58,37 +59,32 @@ module _ (s : StoreView) (rules : IsStore s) (term : ℕ) (base : ℕ → ℕ) w
     held_below hart (Behind o e held) = behind hart o (slice_index_or waits hart None) e (held_below o held) (all hart)
 
   -- a hart that the guest has not has gone as far as it goes
-  pub none_waiting : (cut : ℕ → ℕ) (hart : ℕ) (w : Option ℕ) → IsCutOf s term base None cut → s.guest.harts ≤ hart → w ≡ None →
-      IsWaiting s term base cut hart w
-  none_waiting cut hart None is over e =
-      λ place end goes.
-      let same : end ≡ base hart = no_pieces s rules term hart over (base hart) place end goes in
-      let above : base hart ≤ cut hart = is.above hart in
-      omega arith
+  pub none_waiting : (cut : ℕ → ℕ) (hart : ℕ) (w : Option ℕ) → IsCutOf s term base next cut → s.guest.harts ≤ hart → w ≡ None →
+      IsWaiting s term base next cut hart w
+  none_waiting cut hart None is over e = λ other other_is. past_harts cut other is other_is hart over
   none_waiting cut hart (Some o) is over e = cc
 
   -- where the edges behind the cursors forbid nothing, and those before are met by a cut, the greatest cut is there
-  pub lowest : (cut high : ℕ → ℕ) (places : ℕ → ℕ) (harts : ℕ) → harts ≡ s.guest.harts → IsCutOf s term base None cut → ComeTo s term base high →
-      IsBound s term base None high →
+  pub lowest : (cut high : ℕ → ℕ) (places : ℕ → ℕ) (harts : ℕ) → harts ≡ s.guest.harts → IsCutOf s term base next cut → IsHigh s term base next high →
       ((hart place : ℕ) (x : FragmentParts) (e : Edge) → hart < harts → place < places hart → pieces_of s term hart place ≡ One x → Contains (edges_in x) e → Meets cut e) →
-      ((hart : ℕ) → hart < harts → IsMetFrom s term base high hart (places hart)) → IsGreatestCut s term base None high
-  lowest cut high places harts many is come bound before behind =
+      ((hart : ℕ) → hart < harts → IsMetFrom s term base high hart (places hart)) → IsGreatestCut s term base next high
+  lowest cut high places harts many is at before behind =
       record {
         cut_of =
             record {
-              above = λ h. le_trans (is.above h) (bound cut is h);
-              within = come;
-              before_next = tt;
+              above = λ h. le_trans (is.above h) (at.bound cut is h);
+              within = at.come;
+              before_next = at.limited;
               closed =
                   λ h place x e over has less.
                   let own_is = (own s rules term h place x e over.one has).own in
                   let there : h < harts = below_harts h place x over in
                   elim (cases_lt place (places h)) [
-                    | inl passed ↦ le_trans (before h place x e there passed over.one has) (bound cut is e.other)
+                    | inl passed ↦ le_trans (before h place x e there passed over.one has) (at.bound cut is e.other)
                     | inr from ↦ behind h there place x e from over has (subst (λ n. e.at < high n) own_is less)
                   ];
             };
-        bound = bound;
+        bound = at.bound;
       }
     where
       below_harts : (h place : ℕ) (x : FragmentParts) → GoesOver (pieces_of s term h) (base h) place x → h < harts
@@ -105,48 +101,64 @@ module _ (s : StoreView) (rules : IsStore s) (term : ℕ) (base : ℕ → ℕ) w
 -- ---- the ends of the pieces
 
 -- the ends of the first harts are found
-pub record AreEnds (s : StoreView) (term : ℕ) (base : ℕ → ℕ) (cut ends : List ℕ) (number : ℕ) : Type 0 where
+pub record AreEnds (s : StoreView) (term : ℕ) (base : ℕ → ℕ) (next : Option (ℕ → ℕ)) (cut ends : List ℕ) (number : ℕ) : Type 0 where
   pub harts : length ends ≡ length cut
   pub come : ComeTo s term base (count_at ends)
-  pub last : (hart : ℕ) → hart < number → (place end : ℕ) → Goes (pieces_of s term hart) (base hart) place end → end ≤ count_at ends hart
+  pub limited : IsLimited next (count_at ends)
+  pub last : (hart : ℕ) → hart < number → (other : ℕ → ℕ) → IsCutOf s term base next other → other hart ≤ count_at ends hart
   pub rest : (hart : ℕ) → number ≤ hart → count_at ends hart ≡ count_at cut hart
 
-pub no_ends : (s : StoreView) (term : ℕ) (base : ℕ → ℕ) (cut : List ℕ) → ComeTo s term base (count_at cut) → AreEnds s term base cut cut 0
-no_ends s term base cut come = record { harts = refl; come = come; last = λ h less. absurd (omega arith); rest = λ h le. refl }
+pub no_ends : (s : StoreView) (term : ℕ) (base : ℕ → ℕ) (next : Option (ℕ → ℕ)) (cut : List ℕ) → IsCutOf s term base next (count_at cut) →
+    AreEnds s term base next cut cut 0
+no_ends s term base next cut is =
+    record { harts = refl; come = is.within; limited = is.before_next; last = λ h less. absurd (omega arith); rest = λ h le. refl }
 
-pub next_end : (s : StoreView) (term : ℕ) (base : ℕ → ℕ) (cut ends : List ℕ) (number place end : ℕ) → number < length cut → AreEnds s term base cut ends number →
-    Goes (pieces_of s term number) (base number) place end →
-    ((p e : ℕ) → Goes (pieces_of s term number) (base number) p e → e ≤ end) → AreEnds s term base cut (set ends number end) (number + 1)
-next_end s term base cut ends number place end less so_far goes last =
+pub next_end : (s : StoreView) (term : ℕ) (base : ℕ → ℕ) (limit : Option (List ℕ)) (cut ends : List ℕ) (number place end : ℕ) → number < length cut →
+    AreEnds s term base (option_map count_at limit) cut ends number → Goes (pieces_of s term number) (base number) place end →
+    ((p e : ℕ) → Goes (pieces_of s term number) (base number) p e → e ≤ end) →
+    AreEnds s term base (option_map count_at limit) cut (set ends number (limited_to limit number end)) (number + 1)
+next_end s term base limit cut ends number place end less so_far goes last =
     let many : length ends ≡ length cut = so_far.harts in
     let there : number < length ends = omega arith in
+    let to = limited_to limit number end in
     record {
-      harts = length-set ends number end ∙ so_far.harts;
+      harts = length-set ends number to ∙ so_far.harts;
       come =
           λ h.
           elim (cases_eq h number) [
-            | inl same ↦ rw (same, get_or-set_same ends number end 0 there) (record { place = place; end = end; goes = goes; far = omega arith })
-            | inr ne ↦ rw (get_or-set_other ends number h end 0 ne) (so_far.come h)
+            | inl same ↦
+                rw (same, get_or-set_same ends number to 0 there)
+                (record { place = place; end = end; goes = goes; far = limited_le limit number end })
+            | inr ne ↦ rw (get_or-set_other ends number h to 0 ne) (so_far.come h)
           ];
+      limited = set_limited (option_map count_at limit) ends number to there so_far.limited (limited_is limit number end);
       last =
-          λ h under p e g.
+          λ h under other is.
           elim (cases_eq h number) [
-            | inl same ↦ rw (same, get_or-set_same ends number end 0 there) (last p e (subst (λ n. Goes (pieces_of s term n) (base n) p e) same g))
-            | inr ne ↦ rw (get_or-set_other ends number h end 0 ne) (so_far.last h (omega arith) p e g)
+            | inl same ↦
+                rw (same, get_or-set_same ends number to 0 there)
+                (limited_bound limit other number end is.before_next (let w = is.within number in le_trans w.far (last w.place w.end w.goes)))
+            | inr ne ↦ rw (get_or-set_other ends number h to 0 ne) (so_far.last h (omega arith) other is)
           ];
-      rest = λ h le. let ne : h ≡ number → ⊥ = λ (e : h ≡ number). absurd (omega arith) in get_or-set_other ends number h end 0 ne ∙ so_far.rest h (omega arith);
+      rest = λ h le. let ne : h ≡ number → ⊥ = λ (e : h ≡ number). absurd (omega arith) in get_or-set_other ends number h to 0 ne ∙ so_far.rest h (omega arith);
     }
 
-pub ends_bound : (s : StoreView) → IsStore s → (term : ℕ) (base : ℕ → ℕ) (cut ends : List ℕ) (number : ℕ) → number ≡ s.guest.harts →
-    IsCutOf s term base None (count_at cut) → AreEnds s term base cut ends number → IsBound s term base None (count_at ends)
-ends_bound s rules term base cut ends number many is all other other_is h =
-    elim (cases_lt h number) [
-      | inl less ↦ let w = other_is.within h in le_trans w.far (all.last h less w.place w.end w.goes)
-      | inr over ↦
-          let below : other h ≤ count_at cut h = past_harts s rules term base (count_at cut) other is other_is h (omega arith) in
-          let same : count_at ends h ≡ count_at cut h = all.rest h over in
-          omega arith
-    ]
+pub ends_high : (s : StoreView) → IsStore s → (term : ℕ) (base : ℕ → ℕ) (next : Option (ℕ → ℕ)) (cut ends : List ℕ) (number : ℕ) →
+    number ≡ s.guest.harts → IsCutOf s term base next (count_at cut) → AreEnds s term base next cut ends number → IsHigh s term base next (count_at ends)
+ends_high s rules term base next cut ends number many is all =
+    record {
+      come = all.come;
+      limited = all.limited;
+      bound =
+          λ other other_is h.
+          elim (cases_lt h number) [
+            | inl less ↦ all.last h less other other_is
+            | inr over ↦
+                let below : other h ≤ count_at cut h = past_harts s rules term base next (count_at cut) other is other_is h (omega arith) in
+                let same : count_at ends h ≡ count_at cut h = all.rest h over in
+                omega arith
+          ];
+    }
 
 -- ---- flags of those that are held
 

@@ -1,5 +1,5 @@
 -- Walks over the pieces of a store, and cuts of what they go over.
-use Rattle.std.proofs.Common.{◌≡◌, ◌≢◌, inl, inr, ℕ, zero, suc, ◌+◌, ◌<◌, ◌≤◌, ◌^◌, List, [], ◌∷◌, Contains, length, set, Option, refl, sym, ap, subst, ◌∙◌, arith}
+use Rattle.std.proofs.Common.{◌≡◌, inl, inr, ℕ, zero, suc, ◌<◌, ◌≤◌, ◌^◌, List, [], ◌∷◌, Contains, length, set, Option, Some, None, MatchOption, refl, sym, ap, subst, ◌∙◌, arith}
 use Rattle.std.proofs.Common.{le_trans, get_or-set_same, get_or-set_other}
 use Rattle.std.specs.List.{filter_map, AllByRecursion}
 use Rattle.std.proofs.lemmas.Bool.{cases_lt, cases_eq}
@@ -15,7 +15,9 @@ use Rattle.log_join.specs.Stores.{StoreView, IsStore, opening_at}
 use Rattle.closed_cut.specs.Position.{pieces_of, Goes, base_of}
 use Rattle.closed_cut.proofs.Walking.{one_same}
 use Rattle.closed_cut.proofs.Reach.{cut_short, goes_above}
-use Rattle.tracked_position.specs.Cuts.{edges_in, Meets, GoesOver, ComesTo, ComeTo, IsCutOf, IsBound}
+use Rattle.tracked_position.specs.Cuts.{edges_in, Meets, GoesOver, ComesTo, IsLimited, IsCutOf, IsHigh}
+use Rattle.tracked_position.specs.Waits.{limited_to}
+use Rattle.std.specs.Option.{option_map}
 
 -- a row with a greater count
 pub set_rises : (cut : List ℕ) (hart end : ℕ) → hart < length cut → count_at cut hart < end → (h : ℕ) → count_at cut h ≤ count_at (set cut hart end) h
@@ -24,6 +26,47 @@ set_rises cut hart end there less h =
       | inl same ↦ rw (same, get_or-set_same cut hart end 0 there) (omega arith)
       | inr ne ↦ rw (get_or-set_other cut hart h end 0 ne) (omega arith)
     ]
+
+-- ---- limits
+
+-- the hart's count is at most its limit
+abbrev pub IsLimitedAt : Option (ℕ → ℕ) → ℕ → ℕ → Type 0
+IsLimitedAt next hart count = MatchOption next (Unit {0}) (λ limit. count ≤ limit hart)
+
+pub set_limited : (next : Option (ℕ → ℕ)) (cut : List ℕ) (hart count : ℕ) → hart < length cut → IsLimited next (count_at cut) → IsLimitedAt next hart count →
+    IsLimited next (count_at (set cut hart count))
+set_limited None cut hart count there are is = tt
+set_limited (Some limit) cut hart count there are is =
+    λ h.
+    elim (cases_eq h hart) [
+      | inl same ↦ rw (same, get_or-set_same cut hart count 0 there) is
+      | inr ne ↦ rw (get_or-set_other cut hart h count 0 ne) (are h)
+    ]
+
+pub limited_lower : (next : Option (ℕ → ℕ)) (cut : ℕ → ℕ) (hart count : ℕ) → IsLimited next cut → count ≤ cut hart → IsLimitedAt next hart count
+limited_lower None cut hart count are less = tt
+limited_lower (Some limit) cut hart count are less = le_trans less (are hart)
+
+-- the lesser of a count and a hart's limit
+pub limited_is : (limit : Option (List ℕ)) (hart count : ℕ) → IsLimitedAt (option_map count_at limit) hart (limited_to limit hart count)
+limited_is None hart count = tt
+limited_is (Some limit) hart count = omega arith
+
+pub limited_le : (limit : Option (List ℕ)) (hart count : ℕ) → limited_to limit hart count ≤ count
+limited_le None hart count = omega arith
+limited_le (Some limit) hart count = omega arith
+
+-- no cut is above it that is not above the count
+pub limited_bound : (limit : Option (List ℕ)) (cut : ℕ → ℕ) (hart count : ℕ) → IsLimited (option_map count_at limit) cut → cut hart ≤ count →
+    cut hart ≤ limited_to limit hart count
+limited_bound None cut hart count are less = less
+limited_bound (Some limit) cut hart count are less = let l : cut hart ≤ count_at limit hart = are hart in omega arith
+
+-- nor where the limit is what holds it
+pub limited_holds : (limit : Option (List ℕ)) (cut : ℕ → ℕ) (hart count : ℕ) → IsLimited (option_map count_at limit) cut →
+    limited_to limit hart count < count → cut hart ≤ limited_to limit hart count
+limited_holds None cut hart count are less = absurd (omega arith)
+limited_holds (Some limit) cut hart count are less = let l : cut hart ≤ count_at limit hart = are hart in omega arith
 
 -- ---- one hart's pieces
 
@@ -119,14 +162,14 @@ module _ (s : StoreView) (rules : IsStore s) (term : ℕ) where
 
   -- ---- cuts
 
-  module _ (base : ℕ → ℕ) where
+  module _ (base : ℕ → ℕ) (next : Option (ℕ → ℕ)) where
     -- the base is a cut
-    pub base_cut : IsCutOf s term base Option.None base
-    base_cut =
+    pub base_cut : IsLimited next base → IsCutOf s term base next base
+    base_cut limited =
         record {
           above = λ h. omega arith;
           within = λ h. record { place = 0; end = base h; goes = refl; far = omega arith };
-          before_next = tt;
+          before_next = limited;
           closed =
               λ h place x e over has less.
               let from : base h ≤ x.from = goes_above (pieces_of s term h) (base h) (rises h) place x.from over.goes in
@@ -137,11 +180,11 @@ module _ (s : StoreView) (rules : IsStore s) (term : ℕ) where
         }
 
     -- one hart is raised, whose edges up to there are met
-    pub raised : (cut : List ℕ) (hart end : ℕ) → IsCutOf s term base Option.None (count_at cut) → hart < length cut → count_at cut hart < end →
-        ComesTo (pieces_of s term hart) (base hart) end →
+    pub raised : (cut : List ℕ) (hart end : ℕ) → IsCutOf s term base next (count_at cut) → hart < length cut → count_at cut hart < end →
+        IsLimitedAt next hart end → ComesTo (pieces_of s term hart) (base hart) end →
         ((place : ℕ) (x : FragmentParts) (e : Edge) → GoesOver (pieces_of s term hart) (base hart) place x → Contains (edges_in x) e → e.at < end →
-        Meets (count_at cut) e) → IsCutOf s term base Option.None (count_at (set cut hart end))
-    raised cut hart end is there less comes met =
+        Meets (count_at cut) e) → IsCutOf s term base next (count_at (set cut hart end))
+    raised cut hart end is there less limited comes met =
         record {
           above = λ h. le_trans (is.above h) (grows h);
           within =
@@ -150,7 +193,7 @@ module _ (s : StoreView) (rules : IsStore s) (term : ℕ) where
                 | inl same ↦ rw (same, get_or-set_same cut hart end 0 there) comes
                 | inr ne ↦ rw (get_or-set_other cut hart h end 0 ne) (is.within h)
               ];
-          before_next = tt;
+          before_next = set_limited next cut hart end there is.before_next limited;
           closed =
               λ h place x e over has below.
               le_trans (elim (cases_eq h hart) [
@@ -170,32 +213,34 @@ module _ (s : StoreView) (rules : IsStore s) (term : ℕ) where
         grows = set_rises cut hart end there less
 
     -- one hart is stopped in front of a step that an edge forbids
-    pub stopped : (high : List ℕ) (hart : ℕ) (place : ℕ) (x : FragmentParts) (e : Edge) → IsBound s term base Option.None (count_at high) → hart < length high →
-        GoesOver (pieces_of s term hart) (base hart) place x → Contains (edges_in x) e → count_at high e.other < e.after →
-        IsBound s term base Option.None (count_at (set high hart e.at))
-    stopped high hart place x e bound there over has unmet other is h =
-        elim (cases_eq h hart) [
-          | inl same ↦
-              rw (same, get_or-set_same high hart e.at 0 there)
-              (elim (cases_lt e.at (other hart)) [
-                | inl past ↦
-                    let own_is : other e.hart ≡ other hart = ap other (own hart place x e over.one has).own in
-                    let met : e.after ≤ other e.other = is.closed hart place x e over has (omega arith) in
-                    let under : other e.other ≤ count_at high e.other = bound other is e.other in
-                    absurd (omega arith)
-                | inr fine ↦ fine
-              ])
-          | inr ne ↦ rw (get_or-set_other high hart h e.at 0 ne) (bound other is h)
-        ]
-
-    -- a lower count is come to as well
-    pub come_lower : (high : List ℕ) (hart at : ℕ) → ComeTo s term base (count_at high) → hart < length high → at ≤ count_at high hart →
-        ComeTo s term base (count_at (set high hart at))
-    come_lower high hart at come there less h =
-        elim (cases_eq h hart) [
-          | inl same ↦
-              let c = come hart in
-              let far : count_at high hart ≤ c.end = c.far in
-              rw (same, get_or-set_same high hart at 0 there) (record { place = c.place; end = c.end; goes = c.goes; far = omega arith })
-          | inr ne ↦ rw (get_or-set_other high hart h at 0 ne) (come h)
-        ]
+    pub stopped : (high : List ℕ) (hart : ℕ) (place : ℕ) (x : FragmentParts) (e : Edge) → IsHigh s term base next (count_at high) → hart < length high →
+        GoesOver (pieces_of s term hart) (base hart) place x → Contains (edges_in x) e → e.at < count_at high hart → count_at high e.other < e.after →
+        IsHigh s term base next (count_at (set high hart e.at))
+    stopped high hart place x e is there over has below unmet =
+        record {
+          come =
+              λ h.
+              elim (cases_eq h hart) [
+                | inl same ↦
+                    let c = is.come hart in
+                    let far : count_at high hart ≤ c.end = c.far in
+                    rw (same, get_or-set_same high hart e.at 0 there) (record { place = c.place; end = c.end; goes = c.goes; far = omega arith })
+                | inr ne ↦ rw (get_or-set_other high hart h e.at 0 ne) (is.come h)
+              ];
+          limited = set_limited next high hart e.at there is.limited (limited_lower next (count_at high) hart e.at is.limited (omega arith));
+          bound =
+              λ other cut h.
+              elim (cases_eq h hart) [
+                | inl same ↦
+                    rw (same, get_or-set_same high hart e.at 0 there)
+                    (elim (cases_lt e.at (other hart)) [
+                      | inl past ↦
+                          let own_is : other e.hart ≡ other hart = ap other (own hart place x e over.one has).own in
+                          let met : e.after ≤ other e.other = cut.closed hart place x e over has (omega arith) in
+                          let under : other e.other ≤ count_at high e.other = is.bound other cut e.other in
+                          absurd (omega arith)
+                      | inr fine ↦ fine
+                    ])
+                | inr ne ↦ rw (get_or-set_other high hart h e.at 0 ne) (is.bound other cut h)
+              ];
+        }

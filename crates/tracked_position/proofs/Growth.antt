@@ -1,5 +1,5 @@
 -- What a store keeps when a piece comes at a key at which nothing was.
-use Rattle.std.proofs.Common.{◌≡◌, ◌⊎◌, inl, inr, ℕ, zero, suc, ◌+◌, ◌<◌, ◌≤◌, ◌^◌, Bool, true, false, cond, Contains, map, Option, Some, None, refl, sym, ap, subst, ◌∙◌, arith}
+use Rattle.std.proofs.Common.{◌≡◌, ◌⊎◌, inl, inr, ℕ, zero, suc, ◌+◌, ◌<◌, ◌≤◌, ◌^◌, Bool, true, false, cond, Option, Some, refl, sym, ap, subst, ◌∙◌, arith}
 use Rattle.std.proofs.lemmas.Bool.{cases_lt}
 use Rattle.std.specs.List.{filter_map}
 use Rattle.std.specs.Ordering.{nat_cmp, eq_by_cmp}
@@ -8,25 +8,24 @@ use Rattle.std.specs.declared.cmp.Ordering.TheVariants.{Equal}
 use Rattle.std.specs.Cmp.{IsTotalOrder, Equal-is}
 use Rattle.std.specs.FinMap as finite
 use Rattle.interleaving.specs.Log.{Edge as EdgeOfTheory}
-use Rattle.edge_log.specs.declared.Edge.{Edge}
 use Rattle.edge_log.specs.EdgeLog.{edge_as}
 use Rattle.interleaving.proofs.Put.{same_or_not}
 use Rattle.fragment_codec.specs.declared.types.Key.{Key}
 use Rattle.fragment_codec.specs.declared.frame.Frame.TheVariants.{Log}
-use Rattle.fragment_codec.specs.Rules.{FragmentParts, OpeningParts}
+use Rattle.fragment_codec.specs.Rules.{FragmentParts}
 use Rattle.fragment_codec.specs.Pieces.{edge_in}
 use Rattle.log_join.specs.declared.answers.Put.TheVariants.{New, Same, Clash as Clashes, OtherGuest}
 use Rattle.log_join.specs.Cells.{Cell, Absent, One, Clash, join_cell, cell_of}
 use Rattle.log_join.specs.Tests.{same_guest, same_opening, same_fragment}
-use Rattle.log_join.specs.Stores.{StoreView, key_cmp, opening_at, fragment_at, IsStore, IsJoin, alone}
+use Rattle.log_join.specs.Stores.{StoreView, opening_at, fragment_at, IsStore, IsJoin, alone}
 use Rattle.log_join.specs.Answers.{answer, answer_to}
 use Rattle.log_join.proofs.Joins.{keys_total, keys_exact, join_absent}
-use Rattle.closed_cut.specs.Position.{pieces_of, edges_of, Goes, Avail, Fits, IsReached}
+use Rattle.closed_cut.specs.Position.{pieces_of, Goes, Avail, Fits, IsReached}
 use Rattle.closed_cut.proofs.Lowerings.{found, contains_map}
 use Rattle.closed_cut.proofs.Walking.{one_same, no_place}
 use Rattle.tracked_position.specs.declared.walk.Cursor.{Cursor}
-use Rattle.tracked_position.specs.Cuts.{edges_in, Meets, GoesOver, ComesTo, IsCutOf, IsBound, IsGreatestCut}
-use Rattle.tracked_position.specs.Walks.{cursor_at, IsOver, AreOver}
+use Rattle.tracked_position.specs.Cuts.{GoesOver, IsCutOf, IsGreatestCut}
+use Rattle.tracked_position.specs.Walks.{IsOver}
 use Rattle.tracked_position.proofs.Cuts.{before_end, over_of, goes_rise, rises, own}
 use Rattle.tracked_position.proofs.Stops.{last_end_of}
 

@@ -1,5 +1,5 @@
 -- What is kept of a store and its position, when a frame comes.
-use Rattle.std.proofs.Common.{◌≡◌, ◌≢◌, ◌⊎◌, inl, inr, ℕ, ◌<◌, ◌≤◌, List, length, replicate, Option, Some, None, Result, Ok, Err, IfOk, OnOk, OnErr, refl, sym, ap, subst, ◌∙◌, arith}
+use Rattle.std.proofs.Common.{◌≡◌, ◌≢◌, ◌⊎◌, inl, inr, ℕ, ◌≤◌, List, length, replicate, Option, Result, Ok, Err, IfOk, OnErr, refl, sym, ap, subst, ◌∙◌}
 use Rattle.std.proofs.lemmas.List.{length-replicate}
 use Rattle.std.specs.FinMap as finite
 use Rattle.std.specs.Ordering.{nat_cmp}
@@ -7,7 +7,6 @@ use Rattle.ft_types.specs.Counts.{count_at}
 use Rattle.ft_types.specs.declared.guest.Guest.{Guest}
 use Rattle.ft_types.specs.declared.errors.Memory.{Memory}
 use Rattle.fragment_codec.specs.declared.types.Key.{Key}
-use Rattle.fragment_codec.specs.declared.frame.Frame.{Frame}
 use Rattle.fragment_codec.specs.declared.frame.Frame.TheVariants.{Log}
 use Rattle.fragment_codec.specs.Rules.{FragmentParts, OpeningParts}
 use Rattle.log_join.specs.declared.answers.Put.{Put}
@@ -16,16 +15,17 @@ use Rattle.log_join.specs.Cells.{Cell, Absent, One, cell_of}
 use Rattle.log_join.specs.Stores.{StoreView, key_cmp, opening_at, fragment_at, IsStore, IsJoin, nothing, alone}
 use Rattle.log_join.specs.Answers.{answer_to}
 use Rattle.closed_cut.specs.Chain.{Sound}
-use Rattle.closed_cut.specs.Position.{base_of, IsPosition, NoTop}
+use Rattle.closed_cut.specs.Position.{base_of, InChain, Stops, IsPosition, NoTop}
 use Rattle.closed_cut.specs.declared.answer.Position.{Position}
-use Rattle.closed_cut.proofs.Walking.{one_same}
 use Rattle.closed_cut.proofs.Chains.{sound_opens, zero_row}
 use Rattle.tracked_position.specs.declared.walk.Cursor.{Cursor}
-use Rattle.tracked_position.specs.Cuts.{IsCutOf, IsGreatestCut}
+use Rattle.tracked_position.specs.Cuts.{IsCutOf}
+use Rattle.std.specs.Option.{option_map}
+use Rattle.tracked_position.specs.Legs.{IsNext}
 use Rattle.tracked_position.specs.Walks.{cursor_at, AreOver}
 use Rattle.tracked_position.specs.Keeping.{IsTracked}
-use Rattle.tracked_position.proofs.Growth.{HasOneMore, one_more, GrowsAt, cut_grown, over_grown, to_greatest, from_greatest}
-use Rattle.tracked_position.proofs.Positions.{top_reached, position_same, position_on_top}
+use Rattle.tracked_position.proofs.Growth.{HasOneMore, one_more, GrowsAt, cut_grown, over_grown, to_greatest}
+use Rattle.tracked_position.proofs.Positions.{here_reached, here_chain, here_sound, next_over, chain_grown, sound_grown, position_same, position_here}
 
 -- ---- nothing came
 
@@ -97,31 +97,30 @@ module _ (old new : StoreView) (f : FragmentParts) (rules : IsStore old) (grown 
           sym (more.others key (λ at. elsewhere (ap (λ (k : Key). k.term) (sym at)))) ∙ one
 
   -- what the position's term reached is a cut of it
-  pub cut_on_top : (p : Position) (o : OpeningParts) → IsPosition old p → p.term ≡ p.top → opening_at old p.top ≡ One o →
-      IsCutOf new p.top (base_of o) None (count_at p.counts)
-  cut_on_top p o is same one =
-      cut_grown old new grown p.top (grows p.top) (base_of o) None (count_at p.counts)
-      (to_greatest old rules p.top (base_of o) None (count_at p.counts) (top_reached old rules p is same o one)).cut_of
+  pub cut_here : (p : Position) (o : OpeningParts) → IsPosition old p → opening_at old p.term ≡ One o → (limit : Option (List ℕ)) →
+      IsNext new p.top p.term limit → IsCutOf new p.term (base_of o) (option_map count_at limit) (count_at p.counts)
+  cut_here p o is one limit next =
+      cut_grown old new grown p.term (grows p.term) (base_of o) (option_map count_at limit) (count_at p.counts)
+      (to_greatest old rules p.term (base_of o) (option_map count_at limit) (count_at p.counts)
+      (here_reached old rules p is o one limit (next_over old new rules grown more.openings more.kept p.top p.term limit next))).cut_of
 
-  -- and the greatest is the position
-  pub tracked_on_top : (p : Position) (counts : List ℕ) (cursors new_cursors : List Cursor) (o : OpeningParts) → p.term ≡ p.top → opening_at old p.top ≡ One o →
-      length counts ≡ length p.counts → IsGreatestCut new p.top (base_of o) None (count_at counts) →
-      AreOver new p.top (base_of o) (count_at counts) new_cursors → IsTracked old p cursors →
-      IsTracked new (record { term = p.term; counts = counts; top = p.top }) new_cursors
-  tracked_on_top p counts cursors new_cursors o same one long greatest over is =
+  pub chain_here : (p : Position) (o : OpeningParts) → IsPosition old p → opening_at old p.term ≡ One o → InChain new p.term p.top
+  chain_here p o is one = chain_grown old new rules grown more.openings more.kept (here_chain old rules p is o one)
+
+  pub sound_here : (p : Position) (o : OpeningParts) → IsPosition old p → opening_at old p.term ≡ One o → Sound new p.top
+  sound_here p o is one = sound_grown old new rules grown more.openings more.kept (here_sound old rules p is o one)
+
+  -- and where the walk goes on to is the position
+  pub tracked_here : (p q : Position) (cursors new_cursors : List Cursor) (o : OpeningParts) → opening_at old p.term ≡ One o → q.top ≡ p.top →
+      length q.counts ≡ length p.counts → Stops new p.top q.term (count_at q.counts) p.term →
+      ((o : OpeningParts) → opening_at new q.term ≡ One o → AreOver new q.term (base_of o) (count_at q.counts) new_cursors) → IsTracked old p cursors →
+      IsTracked new q new_cursors
+  tracked_here p q cursors new_cursors o one top long stops over is =
       record {
         rules = grown;
-        position =
-            position_on_top old new rules grown more.openings more.kept p (record { term = p.term; counts = counts; top = p.top }) refl refl same o one
-            (from_greatest new grown p.top (base_of o) None (count_at counts) greatest) is.position;
+        position = position_here old new rules grown more.openings more.kept p q top o one stops is.position;
         harts =
             λ few.
             long ∙ (is.harts (subst (λ (g : Guest). g.harts ≤ 8) more.guest few) ∙ ap (λ (g : Guest). g.harts) (sym more.guest));
-        over =
-            λ r two.
-            let here_is : opening_at new p.top ≡ One r = sym (ap (opening_at new) same) ∙ two in
-            let there : opening_at new p.top ≡ One o = more.openings p.top ∙ one in
-            let e : o ≡ r = one_same there here_is in
-            subst (λ t. AreOver new t (base_of r) (count_at counts) new_cursors) (sym same)
-            (subst (λ (o : OpeningParts). AreOver new p.top (base_of o) (count_at counts) new_cursors) e over);
+        over = over;
       }

@@ -5,4 +5,5 @@ mod Stops
 mod Bounds
 mod Growth
 mod Positions
+mod Legs
 mod Keeping

@@ -1,5 +1,5 @@
 -- What it means where a walk stops.
-use Rattle.std.proofs.Common.{◌≡◌, inl, inr, ℕ, zero, suc, ◌+◌, ◌<◌, ◌≤◌, ◌^◌, Contains, Option, Some, None, IfSome, IfNone, refl, sym, ap, subst, ◌∙◌, arith}
+use Rattle.std.proofs.Common.{◌≡◌, inl, inr, ℕ, suc, ◌<◌, ◌≤◌, ◌^◌, List, Contains, Option, Some, None, IfSome, IfNone, refl, sym, ap, subst, ◌∙◌, arith}
 use Rattle.std.proofs.Common.{le_trans}
 use Rattle.std.proofs.lemmas.Bool.{cases_lt, cases_eq}
 use Rattle.interleaving.specs.Lists as theory
@@ -12,8 +12,10 @@ use Rattle.closed_cut.proofs.Walking.{one_same}
 use Rattle.tracked_position.specs.declared.walk.Cursor.{Cursor}
 use Rattle.tracked_position.specs.Cuts.{edges_in, Meets, GoesOver, ComesTo}
 use Rattle.tracked_position.specs.Walks.{GoesTo, StopsBefore, EndsAt, IsOver, stop_count, other_of}
-use Rattle.tracked_position.specs.Waits.{IsWaiting, WaitsFor}
-use Rattle.tracked_position.proofs.Cuts.{goes_same, over_before, before_end, over_of, goes_rise, rises, own, end_count}
+use Rattle.tracked_position.specs.Waits.{IsWaiting, limited_to}
+use Rattle.std.specs.Option.{option_map}
+use Rattle.ft_types.specs.Counts.{count_at}
+use Rattle.tracked_position.proofs.Cuts.{before_end, over_of, goes_rise, rises, own, end_count}
 
 -- the walk came further, and met all on its way
 pub over_on : (pieces : ℕ → Cell FragmentParts) (start : ℕ) (cut : ℕ → ℕ) (ceiling : ℕ) (from to : Cursor) →
@@ -47,6 +49,10 @@ last_end_of s rules term base hart at there ends place end goes =
           absurd (omega arith)
       | inr fine ↦ goes_rise (pieces_of s term hart) (base hart) (rises s rules term hart) place at.place end at.end goes there fine
     ]
+
+-- a walk that comes to a count comes to each lower one
+pub comes_less : (pieces : ℕ → Cell FragmentParts) (start count less : ℕ) → less ≤ count → ComesTo pieces start count → ComesTo pieces start less
+comes_less pieces start count less le comes = record { place = comes.place; end = comes.end; goes = comes.goes; far = le_trans le comes.far }
 
 module _ (s : StoreView) (rules : IsStore s) (term : ℕ) (base cut : ℕ → ℕ) (hart ceiling : ℕ) (at : Cursor)
     (over : IsOver (pieces_of s term hart) (base hart) cut at) where
@@ -93,10 +99,14 @@ module _ (s : StoreView) (rules : IsStore s) (term : ℕ) (base cut : ℕ → �
             ]
       ]
 
-  pub stop_waits : (edge : Option Edge) → IfSome edge (StopsBefore (pieces_of s term hart) cut ceiling at) → IfNone edge (EndsAt (pieces_of s term hart) at) →
-      stop_count at edge ≤ cut hart → IsWaiting s term base cut hart (other_of edge)
-  stop_waits None before ends le = λ place end goes. le_trans (last_end_of s rules term base hart at over.goes ends place end goes) le
-  stop_waits (Some e) before ends le =
+  -- where it is as far as the walk came, or at its limit
+  pub stop_waits : (limit : Option (List ℕ)) (edge : Option Edge) → IfSome edge (StopsBefore (pieces_of s term hart) cut ceiling at) →
+      IfNone edge (EndsAt (pieces_of s term hart) at) → limited_to limit hart (stop_count at edge) ≡ stop_count at edge → stop_count at edge ≤ cut hart →
+      IsWaiting s term base (option_map count_at limit) cut hart (other_of edge)
+  stop_waits limit None before ends whole le =
+      λ other is.
+      let w = is.within hart in le_trans w.far (le_trans (last_end_of s rules term base hart at over.goes ends w.place w.end w.goes) le)
+  stop_waits limit (Some e) before ends whole le =
       record {
         place = at.place;
         piece = before.piece;

@@ -1,15 +1,13 @@
 -- Walks that go on.
-use Rattle.std.proofs.Common.{◌≡◌, inl, inr, ℕ, zero, suc, ◌+◌, ◌<◌, ◌≤◌, List, Contains, refl, sym, ap, subst, ◌∙◌, arith}
-use Rattle.std.proofs.lemmas.Bool.{cases_lt, cases_eq}
+use Rattle.std.proofs.Common.{◌≡◌, inl, inr, ℕ, ◌+◌, ◌<◌, ◌≤◌, Contains, sym, ap, subst, ◌∙◌, arith}
+use Rattle.std.proofs.lemmas.Bool.{cases_lt}
 use Rattle.edge_log.specs.declared.Edge.{Edge}
 use Rattle.fragment_codec.specs.Rules.{FragmentParts}
 use Rattle.log_join.specs.Cells.{Cell, One}
-use Rattle.closed_cut.specs.Position.{Goes}
 use Rattle.closed_cut.proofs.Walking.{one_same, goes_on}
-use Rattle.closed_cut.proofs.Reach.{cut_short}
 use Rattle.tracked_position.specs.declared.walk.Cursor.{Cursor}
-use Rattle.tracked_position.specs.Cuts.{edges_in, Meets, GoesOver, ComesTo}
-use Rattle.tracked_position.specs.Walks.{GoesTo, EndsAt, IsOver}
+use Rattle.tracked_position.specs.Cuts.{edges_in, Meets}
+use Rattle.tracked_position.specs.Walks.{GoesTo}
 
 pub goes_nowhere : (pieces : ℕ → Cell FragmentParts) (cut : ℕ → ℕ) (ceiling : ℕ) (at : Cursor) → GoesTo pieces cut ceiling at at
 goes_nowhere pieces cut ceiling at =

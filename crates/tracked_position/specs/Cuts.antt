@@ -32,11 +32,15 @@ pub record ComesTo (pieces : ℕ → Cell FragmentParts) (start count : ℕ) : T
 abbrev pub ComeTo : StoreView → ℕ → (ℕ → ℕ) → (ℕ → ℕ) → Type 0
 ComeTo store term base cut = (hart : ℕ) → ComesTo (pieces_of store term hart) (base hart) (cut hart)
 
+-- the counts are at most these, where there are such
+abbrev pub IsLimited : Option (ℕ → ℕ) → (ℕ → ℕ) → Type 0
+IsLimited next cut = MatchOption next (Unit {0}) (λ limit. (hart : ℕ) → cut hart ≤ limit hart)
+
 -- a cut between the base and where the walks come to, at most the next term's base, closed for the edges on the walks
 pub record IsCutOf (store : StoreView) (term : ℕ) (base : ℕ → ℕ) (next : Option (ℕ → ℕ)) (cut : ℕ → ℕ) : Type 0 where
   pub above : (hart : ℕ) → base hart ≤ cut hart
   pub within : ComeTo store term base cut
-  pub before_next : MatchOption next (Unit {0}) (λ limit. (hart : ℕ) → cut hart ≤ limit hart)
+  pub before_next : IsLimited next cut
   pub closed : (hart place : ℕ) (piece : FragmentParts) (e : Edge) → GoesOver (pieces_of store term hart) (base hart) place piece →
       Contains (edges_in piece) e → e.at < cut e.hart → Meets cut e
 
@@ -48,3 +52,9 @@ IsBound store term base next cut = (other : ℕ → ℕ) → IsCutOf store term 
 pub record IsGreatestCut (store : StoreView) (term : ℕ) (base : ℕ → ℕ) (next : Option (ℕ → ℕ)) (cut : ℕ → ℕ) : Type 0 where
   pub cut_of : IsCutOf store term base next cut
   pub bound : IsBound store term base next cut
+
+-- counts to which the walks come, and above which no cut is
+pub record IsHigh (store : StoreView) (term : ℕ) (base : ℕ → ℕ) (next : Option (ℕ → ℕ)) (high : ℕ → ℕ) : Type 0 where
+  pub come : ComeTo store term base high
+  pub limited : IsLimited next high
+  pub bound : IsBound store term base next high

@@ -1,10 +1,11 @@
 -- Why a hart goes no further: private words.
-use Rattle.std.specs.Prelude.{ℕ, ◌≡◌, ◌<◌, ◌≤◌, ◌-◌, ◌^◌, List, Contains, sum_by, Option, Some, None, slice_index_or}
+use Rattle.std.specs.Prelude.{ℕ, ◌≡◌, ◌<◌, ◌≤◌, ◌-◌, ◌^◌, min, List, Contains, sum_by, Option, Some, None, slice_index_or}
 use Rattle.edge_log.specs.declared.Edge.{Edge}
 use Rattle.fragment_codec.specs.Rules.{FragmentParts}
 use Rattle.log_join.specs.Stores.{StoreView}
-use Rattle.closed_cut.specs.Position.{pieces_of, Goes}
-use Rattle.tracked_position.specs.Cuts.{edges_in, GoesOver}
+use Rattle.closed_cut.specs.Position.{pieces_of}
+use Rattle.tracked_position.specs.Cuts.{edges_in, GoesOver, IsCutOf}
+use Rattle.ft_types.specs.Counts.{count_at}
 
 -- the hart waits for none, or for one that is held
 pub data IsHeld (waits : List (Option ℕ)) : ℕ → Type 0 where
@@ -22,10 +23,15 @@ pub record WaitsFor (store : StoreView) (term : ℕ) (base cut : ℕ → ℕ) (h
   pub for : edge.other ≡ other
   pub unmet : cut other < edge.after
 
--- the hart's count is where its walk ends, or it waits for another
-abbrev pub IsWaiting : StoreView → ℕ → (ℕ → ℕ) → (ℕ → ℕ) → ℕ → Option ℕ → Type 0
-IsWaiting store term base cut hart None = (place end : ℕ) → Goes (pieces_of store term hart) (base hart) place end → end ≤ cut hart
-IsWaiting store term base cut hart (Some other) = WaitsFor store term base cut hart other
+-- no cut is further for the hart, or it waits for another
+abbrev pub IsWaiting : StoreView → ℕ → (ℕ → ℕ) → Option (ℕ → ℕ) → (ℕ → ℕ) → ℕ → Option ℕ → Type 0
+IsWaiting store term base next cut hart None = (other : ℕ → ℕ) → IsCutOf store term base next other → other hart ≤ cut hart
+IsWaiting store term base next cut hart (Some other) = WaitsFor store term base cut hart other
+
+-- the count, where it is at most the hart's limit, and else that
+abbrev pub limited_to : Option (List ℕ) → ℕ → ℕ → ℕ
+limited_to None hart count = count
+limited_to (Some limit) hart count = min count (count_at limit hart)
 
 -- how far the counts can still rise, all in all
 abbrev pub room : List ℕ → ℕ

@@ -5,6 +5,7 @@ mod answering;
 mod held;
 mod lowering;
 mod raising;
+mod starting;
 mod taking;
 mod tracked;
 mod walk;

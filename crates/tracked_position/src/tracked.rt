@@ -1,21 +1,19 @@
 //! A store with its position.
 
-ghost use Rattle.std.specs.Prelude.{◌≡◌, ◌≢◌, ◌≤◌, ◌↔◌, ℕ, length, Ok, Err, IfOk, OnOk, OnErr};
+ghost use Rattle.std.specs.Prelude.{◌≡◌, ◌≢◌, ◌≤◌, ◌↔◌, length, Ok, Err, IfOk, OnOk, OnErr};
 ghost use Rattle.fragment_codec.specs.declared.frame.Frame.{Frame as frame_of_specs};
-ghost use Rattle.log_join.specs.Stores.{IsJoin, nothing, alone, IsStore, opening_at};
+ghost use Rattle.log_join.specs.Stores.{IsJoin, nothing, alone};
 ghost use Rattle.log_join.specs.Answers.{answer_to};
-ghost use Rattle.closed_cut.specs.Position.{IsPosition, base_of};
-ghost use Rattle.fragment_codec.specs.Rules.{OpeningParts};
-ghost use Rattle.log_join.specs.Cells.{One};
-ghost use Rattle.tracked_position.specs.Walks.{AreOver};
+ghost use Rattle.closed_cut.specs.Position.{IsPosition};
 ghost use Rattle.tracked_position.specs.Keeping.{Takes};
 
 use crate::answering::{answer_of, is_same_guest};
-use crate::taking::{take_elsewhere, take_on_top};
+use crate::starting::start;
+use crate::taking::{take_elsewhere, take_here};
 use crate::walk::Cursor;
 use closed_cut::{Position, opening_of, position};
 use fragment_codec::{Fragment, Frame};
-use ft_types::{Counts, Guest, HART_LIMIT, Hart, Memory, Term};
+use ft_types::{Counts, Guest, HART_LIMIT, Memory};
 use log_join::{Put, Store, StoreFault};
 use std::alloc::Global;
 use std::marker::Model;
@@ -42,26 +40,6 @@ impl Model for Tracked {
     ghost view = { λ t. t.store };
 
     ghost invariant = { λ t. IsTracked t.store t.position t.cursors };
-}
-
-/// Cursors at the base of a term, where it is opened.
-fn start(store: &Store, term: Term) -> [Cursor; 8]
-    ensures rules { IsStore store.now }
-    ensures over { (o : OpeningParts) (cut : ℕ → ℕ) → opening_at store.now term ≡ One o → AreOver store.now term (base_of o) cut result }
-{
-    let mut cursors = [Cursor { place: 0, end: 0 }; 8];
-    let Some(opening) = opening_of(store, term) else {
-        return cursors;
-    };
-    let base = opening.base();
-    for number in 0..base.harts() {
-        let hart = Hart::new(number);
-        cursors[hart.index()] = Cursor {
-            place: 0,
-            end: base.get(hart),
-        };
-    }
-    cursors
 }
 
 impl Tracked {
@@ -138,9 +116,9 @@ impl Tracked {
             return take_elsewhere(&mut self.store, &self.position, &self.cursors, fragment);
         }
         match opening_of(&self.store, term) {
-            Some(opening) if term == self.position.top => {
+            Some(opening) => {
                 let opening = opening.copy();
-                take_on_top(
+                take_here(
                     &mut self.store,
                     &mut self.position,
                     &mut self.cursors,
@@ -148,7 +126,7 @@ impl Tracked {
                     fragment,
                 )
             }
-            _ => self.put_anew(alloc, Frame::Log(fragment)),
+            None => self.put_anew(alloc, Frame::Log(fragment)),
         }
     }
 

@@ -1,4 +1,4 @@
-use Rattle.std.proofs.Common.{◌≡◌, ℕ, true, false, get_or, length}
+use Rattle.std.proofs.Common.{◌≡◌, ℕ, true, false, get_or}
 use Rattle.tracked_position.specs.Waits.{IsHeld}
 use Rattle.tracked_position.proofs.held.all_held.Given as goal
 

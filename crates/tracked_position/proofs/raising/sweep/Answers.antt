@@ -1,9 +1,10 @@
-use Rattle.std.proofs.Common.{◌≡◌, ◌<◌, ◌≤◌, inl, inr, true, false, None, length, refl, sym, ap, subst, ◌∙◌, arith, length-set, get_or-set_same, get_or-set_other}
+use Rattle.std.proofs.Common.{◌≡◌, ◌<◌, ◌≤◌, inl, inr, false, None, length, sym, ap, ◌∙◌, arith, length-set, get_or-set_same, get_or-set_other}
 use Rattle.std.proofs.lemmas.Bool.{cases_lt, cases_eq}
+use Rattle.std.specs.Option.{option_map}
 use Rattle.ft_types.specs.Counts.{count_at}
 use Rattle.closed_cut.specs.Position.{base_of}
 use Rattle.closed_cut.proofs.Reach.{base_many}
-use Rattle.tracked_position.specs.Waits.{IsWaiting, room}
+use Rattle.tracked_position.specs.Waits.{room}
 use Rattle.tracked_position.proofs.Bounds.{none_waiting, set_over, room_le}
 use Rattle.tracked_position.proofs.raising.sweep.Goals as goal
 use Rattle.tracked_position.proofs.raising.sweep.Goals.{then-rose, else-rose}
@@ -73,6 +74,6 @@ returns-clause-waits c none h =
     elim (cases_lt h c.loop-number.number) [
       | inl less ↦ rw (c.loop-number.invariant.same none) (c.loop-number.invariant.waits none h less)
       | inr over ↦
-          none_waiting s c.requires.rules c.args.opening.now.term (base_of c.args.opening.now) (count_at c.loop-number.cut) h _ c.loop-number.invariant.cut
+          none_waiting s c.requires.rules c.args.opening.now.term (base_of c.args.opening.now) (option_map count_at c.args.limit.now) (count_at c.loop-number.cut) h _ c.loop-number.invariant.cut
           (omega arith) (c.loop-number.invariant.rest h over)
     ]

@@ -1,4 +1,4 @@
-use Rattle.std.proofs.Common.{◌≤◌, arith}
+use Rattle.std.proofs.Common.{arith}
 use Rattle.tracked_position.proofs.Keeping.{nothing_tracked}
 use Rattle.tracked_position.proofs.tracked.Tracked.new.Goals as goal
 

@@ -1,7 +1,7 @@
 use Rattle.std.proofs.Common.{◌≡◌, ◌<◌, ◌≤◌, ℕ, length}
 use Rattle.ft_types.specs.Counts.{count_at}
 use Rattle.tracked_position.specs.Walks.{cursor_at}
-use Rattle.tracked_position.proofs.tracked.start.Given as goal
+use Rattle.tracked_position.proofs.starting.start.Given as goal
 
 abbrev pub invariant-loop-number : goal.invariant-loop-number
 invariant-loop-number l =
