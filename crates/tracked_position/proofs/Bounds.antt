@@ -66,7 +66,8 @@ module _ (s : StoreView) (rules : IsStore s) (term : ℕ) (base : ℕ → ℕ) (
 
   -- where the edges behind the cursors forbid nothing, and those before are met by a cut, the greatest cut is there
   pub lowest : (cut high : ℕ → ℕ) (places : ℕ → ℕ) (harts : ℕ) → harts ≡ s.guest.harts → IsCutOf s term base next cut → IsHigh s term base next high →
-      ((hart place : ℕ) (x : FragmentParts) (e : Edge) → hart < harts → place < places hart → pieces_of s term hart place ≡ One x → Contains (edges_in x) e → Meets cut e) →
+      ((hart place : ℕ) (x : FragmentParts) (e : Edge) → hart < harts → place < places hart → pieces_of s term hart place ≡ One x → Contains
+      (edges_in x) e → Meets cut e) →
       ((hart : ℕ) → hart < harts → IsMetFrom s term base high hart (places hart)) → IsGreatestCut s term base next high
   lowest cut high places harts many is at before behind =
       record {
@@ -171,7 +172,8 @@ set_held held waits at flag are here_is hart is =
     elim (cases_eq hart at) [
       | inl same ↦
           elim (cases_lt at (length held)) [
-            | inl less ↦ subst (IsHeld waits) (sym same) (here_is (sym (ap (λ n. get_or (set held at flag) n false) same ∙ get_or-set_same held at flag false less) ∙ is))
+            | inl less ↦ subst (IsHeld waits) (sym same) (here_is (sym (ap (λ n. get_or (set held at flag) n false) same ∙ get_or-set_same held at
+                flag false less) ∙ is))
             | inr over ↦
                 let none : get_or (set held at flag) hart false ≡ false =
                 get_or_past (set held at flag) hart false (let l : length (set held at flag) ≡ length held = length-set held at flag in omega arith) in

@@ -116,7 +116,13 @@ module _ (s n : StoreView) (rules : IsStore n) (term : ℕ) (grows : GrowsAt s n
         within =
             λ h.
             let w = is.within h in
-            record { place = w.place; end = w.end; goes = goes_grown (pieces_of s term h) (pieces_of n term h) (grows h) (base h) w.place w.end w.goes; far = w.far };
+            record {
+              place = w.place;
+              end = w.end;
+              goes = goes_grown (pieces_of s term h) (pieces_of n term h) (grows h) (base h) w.place w.end
+                  w.goes;
+              far = w.far;
+            };
         before_next = is.before_next;
         closed =
             λ h place x e over has less.

@@ -68,7 +68,8 @@ taken old new f (Ok p) is answer joined err = inr (put_more old new f p is answe
 taken old new f (Err e) is answer joined err = inl err
 
 -- a position that was found anew
-pub found_tracked : (s : StoreView) (p : Position) (cursors : List Cursor) → IsStore s → IsPosition s p → (s.guest.harts ≤ 8 → length p.counts ≡ s.guest.harts) →
+pub found_tracked : (s : StoreView) (p : Position) (cursors : List Cursor) → IsStore s → IsPosition s p → (s.guest.harts ≤ 8 → length p.counts ≡
+    s.guest.harts) →
     ((o : OpeningParts) (cut : ℕ → ℕ) → opening_at s p.term ≡ One o → AreOver s p.term (base_of o) cut cursors) → IsTracked s p cursors
 found_tracked s p cursors rules position harts over =
     record { rules = rules; position = position; harts = harts; over = λ o. over o (count_at p.counts) }

@@ -109,7 +109,8 @@ next_many s rules top term (Some base) (o, child, e) x is =
 
 module _ (s : StoreView) (rules : IsStore s) (top : ℕ) (o : OpeningParts) (opens : opening_at s o.term ≡ One o) where
   -- the walk of a term begins at its base
-  pub leg_start : Sound s top → (limit : Option (List ℕ)) → IsNext s top o.term limit → IsCutOf s o.term (base_of o) (option_map count_at limit) (count_at o.base)
+  pub leg_start : Sound s top → (limit : Option (List ℕ)) → IsNext s top o.term limit → IsCutOf s o.term (base_of o) (option_map count_at limit)
+      (count_at o.base)
   leg_start sound None next = base_cut s rules o.term (base_of o) None tt
   leg_start sound (Some base) (c, child, e) =
       base_cut s rules o.term (base_of o) (Some (count_at base))

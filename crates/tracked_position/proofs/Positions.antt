@@ -67,7 +67,8 @@ same_child s rules top term o p a b =
 
 -- ---- what the position's term reaches
 
-child_of : (s : StoreView) → IsStore s → (top term next : ℕ) (m : OpeningParts) → opening_at s next ≡ One m → m.parent ≡ term → InChain s next top → IsChild s top term m
+child_of : (s : StoreView) → IsStore s → (top term next : ℕ) (m : OpeningParts) → opening_at s next ≡ One m → m.parent ≡ term → InChain s next top →
+    IsChild s top term m
 child_of s rules top term next m two parent chain =
     let same : m.term ≡ next = (rules.openings next m two).same_term in
     record {
@@ -106,7 +107,8 @@ stop_reached s rules top term cut o one limit next (Short {now = now} r m after 
 stop_reached s rules top term cut o one limit next (On r m after all two three parent chain a e stops) =
     stop_reached s rules top term cut o one limit next stops
 
-pub here_reached : (s : StoreView) → IsStore s → (p : Position) → IsPosition s p → (o : OpeningParts) → opening_at s p.term ≡ One o → (limit : Option (List ℕ)) →
+pub here_reached : (s : StoreView) → IsStore s → (p : Position) → IsPosition s p → (o : OpeningParts) → opening_at s p.term ≡ One o → (limit : Option
+    (List ℕ)) →
     IsNext s p.top p.term limit → IsReached s p.term (base_of o) (option_map count_at limit) (count_at p.counts)
 here_reached s rules p (NoTop none a b c) o one limit next = absurd (no_boot s rules p.term o one a)
 here_reached s rules p (Top w) o one limit next = stop_reached s rules p.top p.term (count_at p.counts) o one limit next w.stops
@@ -143,7 +145,8 @@ module _ (s n : StoreView) (rules : IsStore s) (grown : IsStore n) (openings : (
       })
 
   -- and a term to which nothing came is reached as it was
-  pub same_reached : (now : ℕ) → GrowsAt n s now → (base : ℕ → ℕ) (next : Option (ℕ → ℕ)) (cut : ℕ → ℕ) → IsReached s now base next cut → IsReached n now base next cut
+  pub same_reached : (now : ℕ) → GrowsAt n s now → (base : ℕ → ℕ) (next : Option (ℕ → ℕ)) (cut : ℕ → ℕ) → IsReached s now base next cut → IsReached n
+      now base next cut
   same_reached now back base next cut r =
       let g = to_greatest s rules now base next cut r in
       from_greatest n grown now base next cut

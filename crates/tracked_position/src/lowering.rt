@@ -74,7 +74,8 @@ fn lower_hart(
 /// Lowers each hart once. Tells whether one was.
 fn lower_each(store: &Store, opening: &Opening, cursors: &[Cursor; 8], high: &mut Counts) -> bool
     requires rules { IsStore store.now }
-    requires goes { (hart : ℕ) → hart < length high.old → Goes (pieces_of store.now opening.now.term hart) (base_of opening.now hart) (cursor_at cursors.now hart).place
+    requires goes { (hart : ℕ) → hart < length high.old → Goes (pieces_of store.now opening.now.term hart) (base_of opening.now hart) (cursor_at
+        cursors.now hart).place
         (cursor_at cursors.now hart).end }
     ensures harts { length high.new ≡ length high.old }
     ensures high { (next : Option (ℕ → ℕ)) → IsHigh store.now opening.now.term (base_of opening.now) next (count_at high.old) →

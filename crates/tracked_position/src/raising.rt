@@ -65,7 +65,8 @@ fn raise_hart(
     ensures over { IsOver (pieces_of store.now opening.now.term hart) (base_of opening.now hart) (count_at cut.new) cursor.new }
     ensures same { result.rose ≡ false → cut.new ≡ cut.old }
     ensures less { result.rose ≡ true → room cut.new < room cut.old }
-    ensures waits { result.rose ≡ false → IsWaiting store.now opening.now.term (base_of opening.now) (option_map count_at limit.now) (count_at cut.old) hart result.waits }
+    ensures waits { result.rose ≡ false → IsWaiting store.now opening.now.term (base_of opening.now) (option_map count_at limit.now) (count_at
+        cut.old) hart result.waits }
 {
     let stop = walk_on(store, opening.term(), hart, *cursor, COUNT_LIMIT, cut);
     *cursor = stop.cursor;
@@ -97,7 +98,8 @@ fn sweep(
     ensures cut { IsCutOf store.now opening.now.term (base_of opening.now) (option_map count_at limit.now) (count_at cut.new) }
     ensures over { AreOver store.now opening.now.term (base_of opening.now) (count_at cut.new) cursors.new }
     ensures less { result.rose ≡ true → room cut.new < room cut.old }
-    ensures waits { result.rose ≡ false → (hart : ℕ) → IsWaiting store.now opening.now.term (base_of opening.now) (option_map count_at limit.now) (count_at cut.new) hart
+    ensures waits { result.rose ≡ false → (hart : ℕ) → IsWaiting store.now opening.now.term (base_of opening.now) (option_map count_at limit.now)
+        (count_at cut.new) hart
         (slice_index_or result.waits hart None) }
 {
     let mut rose = false;
@@ -130,7 +132,8 @@ fn raise(
     ensures harts { length cut.new ≡ length cut.old }
     ensures cut { IsCutOf store.now opening.now.term (base_of opening.now) (option_map count_at limit.now) (count_at cut.new) }
     ensures over { AreOver store.now opening.now.term (base_of opening.now) (count_at cut.new) cursors.new }
-    ensures waits { (hart : ℕ) → IsWaiting store.now opening.now.term (base_of opening.now) (option_map count_at limit.now) (count_at cut.new) hart (slice_index_or result hart None) }
+    ensures waits { (hart : ℕ) → IsWaiting store.now opening.now.term (base_of opening.now) (option_map count_at limit.now) (count_at cut.new) hart
+        (slice_index_or result hart None) }
 {
     loop {
         let swept = sweep(store, opening, limit, cursors, cut);

@@ -31,7 +31,11 @@ fn pieces(
         let at = to.saturating_sub(1);
         let after = from.saturating_add(u64::from(below(dice, 6)));
         let fact = [Record::Edge(edge(hart, at, other, after))];
-        let facts = if other == hart || after == 0 { &fact[..0] } else { &fact[..] };
+        let facts = if other == hart || after == 0 {
+            &fact[..0]
+        } else {
+            &fact[..]
+        };
         frames.push(piece(alloc, harts, (term, hart, place), (from, to), facts)?)?;
         if below(dice, 40) == 0 {
             let longer = to.saturating_add(1);

@@ -118,7 +118,10 @@ fn joins(rt: HostRuntime) -> Result<(), Fail> {
     assert!(rt; join(alloc, &mut tracked, other.store()).is_ok());
     assert!(rt; stands_at(&tracked, 1, 1, &[7]));
     let foreign = Store::new(alloc, guest_of(2));
-    assert_eq!(rt; join(alloc, &mut tracked, &foreign), Err(StoreFault::OtherGuest));
+    assert_eq!(rt;
+        join(alloc, &mut tracked, &foreign),
+        Err(StoreFault::OtherGuest)
+    );
     assert!(rt; stands_at(&tracked, 1, 1, &[7]));
     assert!(rt; agrees(alloc, &tracked)?);
     Ok(())

@@ -55,5 +55,6 @@ pub returns-clause-high : goal.returns-clause-high
 returns-clause-high c =
     let base = c.args.opening.now.base in
     let many : length base ≡ c.args.store.now.guest.harts = base_many c.args.store.now c.args.opening.now c.requires.rules c.requires.opening in
-    ends_high c.args.store.now c.requires.rules c.args.opening.now.term (base_of c.args.opening.now) (option_map count_at c.args.limit.now) c.args.cut.now c.loop-number.ends c.loop-number.number
+    ends_high c.args.store.now c.requires.rules c.args.opening.now.term (base_of c.args.opening.now) (option_map count_at c.args.limit.now)
+    c.args.cut.now c.loop-number.ends c.loop-number.number
     (omega arith) c.requires.cut c.loop-number.invariant

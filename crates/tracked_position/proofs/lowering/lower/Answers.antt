@@ -14,7 +14,9 @@ returns-clause-greatest c =
     let few : s.guest.harts ≤ 8 = few_harts s c.requires.rules c.args.opening.now c.requires.opening in
     let same : length c.lower_each.new.high ≡ length c.loop.high = c.lower_each.ensures.harts in
     let high : length c.loop.high ≡ length c.args.cut.now = c.loop.invariant.harts in
-    lowest s c.requires.rules c.args.opening.now.term (base_of c.args.opening.now) (option_map count_at c.args.limit.now) (count_at c.args.cut.now) (count_at c.lower_each.new.high)
+    lowest s c.requires.rules c.args.opening.now.term (base_of c.args.opening.now) (option_map count_at c.args.limit.now) (count_at c.args.cut.now)
+    (count_at c.lower_each.new.high)
     (λ h. (cursor_at c.args.cursors.now h).place) (length c.lower_each.new.high) (omega arith) c.requires.cut
-    (c.lower_each.ensures.high (option_map count_at c.args.limit.now) c.loop.invariant.high) (λ h place x e less passed one has. (c.requires.over h (omega arith)).met place x e passed one has)
+    (c.lower_each.ensures.high (option_map count_at c.args.limit.now) c.loop.invariant.high) (λ h place x e less passed one has. (c.requires.over h
+    (omega arith)).met place x e passed one has)
     (c.lower_each.ensures.met c.loop-test.false)

@@ -23,6 +23,8 @@ returns-in-Some-clause-high c next high =
     let goes : GoesTo pieces (count_at c.args.high.now) c.get.result c.args.cursor to = rw c.term.ensures at c.walk_on-stop.ensures.goes in
     let b : StopsBefore pieces (count_at c.args.high.now) c.get.result to c.in-Some.edge = rw (c.term.ensures, c.in-Some.is) at c.walk_on-stop.ensures.before in
     rw (c.set.ensures, c.in-Some.edge-is)
-    (stopped c.args.store.now c.requires.rules c.args.opening.now.term (base_of c.args.opening.now) next c.args.high.now c.args.hart to.place b.piece c.in-Some.edge
+    (stopped c.args.store.now c.requires.rules c.args.opening.now.term (base_of c.args.opening.now) next c.args.high.now c.args.hart to.place b.piece
+    c.in-Some.edge
     high c.requires.hart
-    (record { goes = subst (λ n. Goes pieces base to.place n) (sym b.from) (goes.goes base c.requires.goes); one = b.one }) b.least.has (let less : c.in-Some.edge.at < c.get.result = b.least.below in omega arith) b.least.unmet)
+    (record { goes = subst (λ n. Goes pieces base to.place n) (sym b.from) (goes.goes base c.requires.goes); one = b.one }) b.least.has (let less :
+    c.in-Some.edge.at < c.get.result = b.least.below in omega arith) b.least.unmet)

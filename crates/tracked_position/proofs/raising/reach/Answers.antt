@@ -15,6 +15,7 @@ returns-else-not-all_held-clause-greatest c =
       cut_of = c.raise-waits.ensures.cut;
       bound =
           λ other is h.
-          held_below c.args.store.now c.requires.rules c.args.opening.now.term (base_of c.args.opening.now) (option_map count_at c.args.limit.now) (count_at c.raise-waits.new.cut)
+          held_below c.args.store.now c.requires.rules c.args.opening.now.term (base_of c.args.opening.now) (option_map count_at c.args.limit.now)
+          (count_at c.raise-waits.new.cut)
           c.raise-waits.result c.raise-waits.ensures.waits other is h (c.all_held.ensures c.if-not-all_held.false h);
     }

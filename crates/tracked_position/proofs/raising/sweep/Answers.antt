@@ -74,6 +74,7 @@ returns-clause-waits c none h =
     elim (cases_lt h c.loop-number.number) [
       | inl less ↦ rw (c.loop-number.invariant.same none) (c.loop-number.invariant.waits none h less)
       | inr over ↦
-          none_waiting s c.requires.rules c.args.opening.now.term (base_of c.args.opening.now) (option_map count_at c.args.limit.now) (count_at c.loop-number.cut) h _ c.loop-number.invariant.cut
+          none_waiting s c.requires.rules c.args.opening.now.term (base_of c.args.opening.now) (option_map count_at c.args.limit.now) (count_at
+          c.loop-number.cut) h _ c.loop-number.invariant.cut
           (omega arith) (c.loop-number.invariant.rest h over)
     ]

@@ -79,4 +79,5 @@ returns-clause-tracked c =
     let at : o.term ≡ p.term = (c.requires.tracked.rules.openings p.term o c.requires.opening).same_term in
     tracked_here old new c.args.fragment c.requires.tracked.rules c.guest-rules.ensures.rules more p _ c.args.cursors.now c.go_on-position.new.cursors o
     c.requires.opening refl c.go_on-position.ensures.harts
-    (subst (λ t. Stops new p.top c.go_on-position.result (count_at c.go_on-position.new.counts) t) at c.go_on-position.ensures.stops) c.go_on-position.ensures.over c.requires.tracked
+    (subst (λ t. Stops new p.top c.go_on-position.result (count_at c.go_on-position.new.counts) t) at c.go_on-position.ensures.stops)
+    c.go_on-position.ensures.over c.requires.tracked

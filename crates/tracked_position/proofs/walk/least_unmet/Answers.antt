@@ -2,7 +2,9 @@ use Rattle.std.proofs.Common.{arith}
 use Rattle.ft_types.specs.Counts.{count_at}
 use Rattle.tracked_position.proofs.Scans.{next_taken, next_skipped, next_input}
 use Rattle.tracked_position.proofs.walk.least_unmet.Goals as goal
-use Rattle.tracked_position.proofs.walk.least_unmet.Goals.{in-Edge+then-edge-below+then-count_of-edge, in-Edge+else-edge-below, else-edge-below-via-then-edge-below+else-count_of-edge, else-edge-below-via-else-edge-below, in_default}
+use Rattle.tracked_position.proofs.walk.least_unmet.Goals.{in-Edge+then-edge-below+then-count_of-edge, in-Edge+else-edge-below}
+use Rattle.tracked_position.proofs.walk.least_unmet.Goals.{else-edge-below-via-then-edge-below+else-count_of-edge, else-edge-below-via-else-edge-below}
+use Rattle.tracked_position.proofs.walk.least_unmet.Goals.{in_default}
 
 pub loop-record-preserved : goal.loop-record-preserved
 loop-record-preserved c =
