@@ -1,0 +1,9 @@
+mod Scans
+mod Walks
+mod Cuts
+mod Stops
+mod Bounds
+mod Growth
+mod Positions
+mod Legs
+mod Keeping

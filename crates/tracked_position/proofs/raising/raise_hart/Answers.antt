@@ -1,0 +1,106 @@
+use Rattle.std.proofs.Common.{◌≡◌, ◌<◌, ◌≤◌, ◌^◌, IfSome, IfNone, refl, arith, le_of_eq}
+use Rattle.std.proofs.lemmas.Bool.{ltb-false}
+use Rattle.ft_types.specs.Counts.{count_at}
+use Rattle.closed_cut.specs.Position.{base_of, pieces_of}
+use Rattle.tracked_position.specs.Walks.{IsOver, StopsBefore, EndsAt, stop_count}
+use Rattle.tracked_position.specs.Waits.{limited_to}
+use Rattle.tracked_position.proofs.Cuts.{own, raised, set_rises, limited_is, limited_le, limited_holds}
+use Rattle.tracked_position.proofs.Stops.{over_on, over_more, stop_comes, stop_below, stop_met, stop_waits, comes_less}
+use Rattle.std.specs.Option.{option_map}
+use Rattle.tracked_position.proofs.raising.raise_hart.Goals as goal
+use Rattle.tracked_position.proofs.raising.raise_hart.Goals.{then-rose, else-rose, then-end-count, else-end-count}
+
+-- the walk came so far, and stopped there
+over : (c : goal.Joined-end-count) → IsOver (pieces_of c.args.store.now c.args.opening.now.term c.args.hart) (base_of c.args.opening.now c.args.hart)
+    (count_at c.args.cut.now) c.walk_on-stop.result.cursor
+over c =
+    over_on (pieces_of c.args.store.now c.args.opening.now.term c.args.hart) (base_of c.args.opening.now c.args.hart) (count_at c.args.cut.now) (2 ^ 48)
+    c.args.cursor.now c.walk_on-stop.result.cursor
+    (λ place x e one has. (own c.args.store.now c.requires.rules c.args.opening.now.term c.args.hart place x e one has).count) c.requires.over
+    (rw c.term.ensures at c.walk_on-stop.ensures.goes)
+
+before : (c : goal.Joined-end-count) → IfSome c.walk_on-stop.result.edge
+    (StopsBefore (pieces_of c.args.store.now c.args.opening.now.term c.args.hart) (count_at c.args.cut.now) (2 ^ 48) c.walk_on-stop.result.cursor)
+before c = rw c.term.ensures at c.walk_on-stop.ensures.before
+
+ends : (c : goal.Joined-end-count) → IfNone c.walk_on-stop.result.edge
+    (EndsAt (pieces_of c.args.store.now c.args.opening.now.term c.args.hart) c.walk_on-stop.result.cursor)
+ends c = rw c.term.ensures at c.walk_on-stop.ensures.end
+
+-- it goes no further than the walk came
+within : (c : goal.After-set-arg-1) → c.limited-end.result ≤ stop_count c.walk_on-stop.result.cursor c.walk_on-stop.result.edge
+within c =
+    rw (c.limited-end.ensures, c.count-count.ensures)
+    (limited_le c.args.limit.now c.args.hart (stop_count c.walk_on-stop.result.cursor c.walk_on-stop.result.edge))
+
+pub set-requires-clause-count : goal.set-requires-clause-count
+set-requires-clause-count c =
+    let le : c.limited-end.result ≤ stop_count c.walk_on-stop.result.cursor c.walk_on-stop.result.edge = within c in
+    let less : stop_count c.walk_on-stop.result.cursor c.walk_on-stop.result.edge < 2 ^ 48 =
+    stop_below c.args.store.now c.requires.rules c.args.opening.now.term (base_of c.args.opening.now) (count_at c.args.cut.now) c.args.hart (2 ^ 48)
+    c.walk_on-stop.result.cursor
+    (over_on (pieces_of c.args.store.now c.args.opening.now.term c.args.hart) (base_of c.args.opening.now c.args.hart) (count_at c.args.cut.now) (2 ^ 48)
+    c.args.cursor.now c.walk_on-stop.result.cursor
+    (λ place x e one has. (own c.args.store.now c.requires.rules c.args.opening.now.term c.args.hart place x e one has).count) c.requires.over
+    (rw c.term.ensures at c.walk_on-stop.ensures.goes)) c.args.opening.now c.requires.opening refl (omega arith) c.walk_on-stop.result.edge
+    (rw c.term.ensures at c.walk_on-stop.ensures.before) in
+    omega arith
+
+pub returns-clause-cut : goal.returns-clause-cut
+returns-clause-cut c =
+    let s = c.args.store.now in
+    let term = c.args.opening.now.term in
+    let base = base_of c.args.opening.now in
+    let cut = count_at c.args.cut.now in
+    let at = c.walk_on-stop.result.cursor in
+    let edge = c.walk_on-stop.result.edge in
+    let le : c.limited-end.result ≤ stop_count at edge =
+    rw (c.limited-end.ensures, c.count-count.ensures) (limited_le c.args.limit.now c.args.hart (stop_count at edge)) in
+    elim c.if-rose.branch [
+      | then-rose w ↦
+          rw (w.cut-is, w.set.ensures)
+          (raised s c.requires.rules term base (option_map count_at c.args.limit.now) c.args.cut.now c.args.hart c.limited-end.result c.requires.cut
+          c.requires.hart (let less : c.get.result < c.limited-end.result = w.if-rose.true in omega arith)
+          (rw c.limited-end.ensures (limited_is c.args.limit.now c.args.hart c.count-count.result))
+          (comes_less (pieces_of s term c.args.hart) (base c.args.hart) (stop_count at edge) c.limited-end.result le
+          (stop_comes s c.requires.rules term base cut c.args.hart (2 ^ 48) at (over c) edge (before c)))
+          (λ place x e goes has less.
+          stop_met s c.requires.rules term base cut c.args.hart (2 ^ 48) at (over c) edge (before c) (ends c) place x e goes has (omega arith)))
+      | else-rose w ↦ rw w.cut-is c.requires.cut
+    ]
+
+pub returns-clause-over : goal.returns-clause-over
+returns-clause-over c =
+    over_more (pieces_of c.args.store.now c.args.opening.now.term c.args.hart) (base_of c.args.opening.now c.args.hart) (count_at c.args.cut.now)
+    (count_at c.if-rose.cut) c.walk_on-stop.result.cursor
+    (elim c.if-rose.branch [
+      | then-rose w ↦
+          rw (w.cut-is, w.set.ensures)
+          (set_rises c.args.cut.now c.args.hart c.limited-end.result c.requires.hart
+          (let less : c.get.result < c.limited-end.result = w.if-rose.true in omega arith))
+      | else-rose w ↦ rw w.cut-is (λ h. le_of_eq refl)
+    ]) (over c)
+
+pub returns-clause-waits : goal.returns-clause-waits
+returns-clause-waits c risen =
+    let at = c.walk_on-stop.result.cursor in
+    let edge = c.walk_on-stop.result.edge in
+    let down : c.limited-end.result ≤ c.get.result = ltb-false c.get.result c.limited-end.result risen in
+    let is : c.limited-end.result ≡ limited_to c.args.limit.now c.args.hart c.count-count.result = c.limited-end.ensures in
+    elim c.if-end-count.branch [
+      | then-end-count w ↦
+          rw w.waits-is
+          (λ other cut_of.
+          let less : c.limited-end.result < c.count-count.result = w.if-end-count.true in
+          let le : other c.args.hart ≤ limited_to c.args.limit.now c.args.hart c.count-count.result =
+          limited_holds c.args.limit.now other c.args.hart c.count-count.result cut_of.before_next (omega arith) in
+          omega arith)
+      | else-end-count w ↦
+          let more : c.count-count.result ≤ c.limited-end.result = w.if-end-count.false in
+          let le : limited_to c.args.limit.now c.args.hart c.count-count.result ≤ c.count-count.result =
+          limited_le c.args.limit.now c.args.hart c.count-count.result in
+          let whole : limited_to c.args.limit.now c.args.hart c.count-count.result ≡ c.count-count.result = omega arith in
+          rw (w.waits-is, w.waits-waits.ensures)
+          (stop_waits c.args.store.now c.requires.rules c.args.opening.now.term (base_of c.args.opening.now) (count_at c.args.cut.now) c.args.hart (2 ^ 48) at
+          (over c) c.args.limit.now edge (before c) (ends c) (rw c.count-count.ensures at whole) (omega arith))
+    ]

@@ -1,0 +1,5 @@
+pub mod Cuts
+pub mod Walks
+pub mod Waits
+pub mod Legs
+pub mod Keeping

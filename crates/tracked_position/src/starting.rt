@@ -1,0 +1,33 @@
+//! Where the walks of a term begin.
+
+ghost use Rattle.std.specs.Prelude.{◌≡◌, ℕ};
+ghost use Rattle.fragment_codec.specs.Rules.{OpeningParts};
+ghost use Rattle.log_join.specs.Cells.{One};
+ghost use Rattle.log_join.specs.Stores.{opening_at, IsStore};
+ghost use Rattle.closed_cut.specs.Position.{base_of};
+ghost use Rattle.tracked_position.specs.Walks.{AreOver};
+
+use crate::walk::Cursor;
+use closed_cut::opening_of;
+use ft_types::{Hart, Term};
+use log_join::Store;
+
+/// Cursors at the base of a term, where it is opened.
+pub(crate) fn start(store: &Store, term: Term) -> [Cursor; 8]
+    ensures rules { IsStore store.now }
+    ensures over { (o : OpeningParts) (cut : ℕ → ℕ) → opening_at store.now term ≡ One o → AreOver store.now term (base_of o) cut result }
+{
+    let mut cursors = [Cursor { place: 0, end: 0 }; 8];
+    let Some(opening) = opening_of(store, term) else {
+        return cursors;
+    };
+    let base = opening.base();
+    for number in 0..base.harts() {
+        let hart = Hart::new(number);
+        cursors[hart.index()] = Cursor {
+            place: 0,
+            end: base.get(hart),
+        };
+    }
+    cursors
+}

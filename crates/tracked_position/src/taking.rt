@@ -1,0 +1,129 @@
+//! A piece that comes at a key at which nothing was.
+
+ghost use Rattle.std.specs.Prelude.{◌≡◌, ◌≢◌, ℕ, List, Option, Some, None, length, IfSome, IfNone};
+ghost use Rattle.std.specs.Option.{option_map};
+ghost use Rattle.ft_types.specs.Counts.{count_at};
+ghost use Rattle.fragment_codec.specs.Rules.{OpeningParts};
+ghost use Rattle.fragment_codec.specs.declared.frame.Frame.{Frame as frame_of_specs};
+ghost use Rattle.log_join.specs.Cells.{One};
+ghost use Rattle.log_join.specs.Stores.{opening_at, IsStore};
+ghost use Rattle.log_join.specs.Answers.{answer_to};
+ghost use Rattle.closed_cut.specs.Chain.{Sound};
+ghost use Rattle.closed_cut.specs.Position.{base_of, InChain, Stops};
+ghost use Rattle.tracked_position.specs.Cuts.{IsCutOf};
+ghost use Rattle.tracked_position.specs.Walks.{AreOver};
+ghost use Rattle.tracked_position.specs.Legs.{IsChild, IsNext};
+ghost use Rattle.tracked_position.specs.Keeping.{Takes, IsTracked};
+
+use crate::raising::reach;
+use crate::starting::start;
+use crate::walk::Cursor;
+use closed_cut::{Position, opening_of};
+use fragment_codec::{Fragment, Frame, Opening};
+use ft_types::{Counts, Memory, Term};
+use log_join::{Put, Store};
+use std::option::Option;
+use std::result::Result;
+
+/// The opening of the term that comes after this one in the chain of the top, where one does.
+fn child(store: &Store, top: Term, term: Term) -> Option<&Opening>
+    requires { IsStore store.now }
+    ensures some { IfSome result (λ o. IsChild store.entry.now top term o.now) }
+    ensures none { IfNone result ((o : OpeningParts) → IsChild store.entry.now top term o → ⊥) }
+{
+    let mut now = top;
+    while let Some(opening) = opening_of(store, now) {
+        if opening.parent() == term {
+            return Some(opening);
+        }
+        now = opening.parent();
+    }
+    None
+}
+
+/// The base of an opening, where there is one.
+fn base_of_next(next: Option<&Opening>) -> Option<Counts>
+    ensures some { IfSome next.entry (λ o. result ≡ Some o.now.base) }
+    ensures none { IfNone next.entry (result ≡ None) }
+{
+    match next {
+        None => None,
+        Some(next) => Some(next.base()),
+    }
+}
+
+/// Goes on from a cut of an opened term as far as the store reaches, in that term and in those that come after it in the
+/// chain of the top. Gives the term in which that ends.
+fn go_on(
+    store: &Store,
+    top: Term,
+    opening: &Opening,
+    cursors: &mut [Cursor; 8],
+    counts: &mut Counts,
+) -> Term
+    requires rules { IsStore store.now }
+    requires sound { Sound store.now top }
+    requires opening { opening_at store.now opening.now.term ≡ One opening.now }
+    requires in_chain { InChain store.now opening.now.term top }
+    requires harts { length counts.old ≡ length opening.now.base }
+    requires cut { (limit : Option (List ℕ)) → IsNext store.now top opening.now.term limit →
+        IsCutOf store.now opening.now.term (base_of opening.now) (option_map count_at limit) (count_at counts.old) }
+    requires over { AreOver store.now opening.now.term (base_of opening.now) (count_at counts.old) cursors.old }
+    ensures harts { length counts.new ≡ length counts.old }
+    ensures stops { Stops store.now top result (count_at counts.new) opening.now.term }
+    ensures over { (o : OpeningParts) → opening_at store.now result ≡ One o → AreOver store.now result (base_of o) (count_at counts.new) cursors.new }
+{
+    let mut now = opening;
+    loop {
+        let next = child(store, top, now.term());
+        let limit = base_of_next(next);
+        reach(store, now, &limit, cursors, counts);
+        let Some(next) = next else {
+            return now.term();
+        };
+        if !next.base().within(*counts) {
+            return now.term();
+        }
+        now = next;
+        *counts = next.base();
+        *cursors = start(store, next.term());
+    }
+}
+
+/// Takes a piece of another term than the position's, which stays.
+pub(crate) fn take_elsewhere(
+    store: &mut Store,
+    position: &Position,
+    cursors: &[Cursor; 8],
+    fragment: Fragment,
+) -> Result<Put, Memory>
+    requires new { answer_to store.old (frame_of_specs.Log fragment) ≡ Put.New }
+    requires tracked { IsTracked store.old position.now cursors.now }
+    requires elsewhere { fragment.key.term ≢ position.now.term }
+    ensures takes { Takes store.old (frame_of_specs.Log fragment) result store.new }
+    ensures tracked { IsTracked store.new position.now cursors.now }
+{
+    let put = store.put(Frame::Log(fragment));
+    let _rules = store.guest();
+    put
+}
+
+/// Takes a piece of the position's term, and goes on as far as the store then reaches.
+pub(crate) fn take_here(
+    store: &mut Store,
+    position: &mut Position,
+    cursors: &mut [Cursor; 8],
+    opening: &Opening,
+    fragment: Fragment,
+) -> Result<Put, Memory>
+    requires new { answer_to store.old (frame_of_specs.Log fragment) ≡ Put.New }
+    requires tracked { IsTracked store.old position.old cursors.old }
+    requires opening { opening_at store.old position.old.term ≡ One opening.now }
+    ensures takes { Takes store.old (frame_of_specs.Log fragment) result store.new }
+    ensures tracked { IsTracked store.new position.new cursors.new }
+{
+    let put = store.put(Frame::Log(fragment))?;
+    let _rules = store.guest();
+    position.term = go_on(store, position.top, opening, cursors, &mut position.counts);
+    Ok(put)
+}

@@ -1,0 +1,169 @@
+//! A store with its position.
+
+ghost use Rattle.std.specs.Prelude.{◌≡◌, ◌≢◌, ◌≤◌, ◌↔◌, length, Ok, Err, IfOk, OnOk, OnErr};
+ghost use Rattle.fragment_codec.specs.declared.frame.Frame.{Frame as frame_of_specs};
+ghost use Rattle.log_join.specs.Stores.{IsJoin, nothing, alone};
+ghost use Rattle.log_join.specs.Answers.{answer_to};
+ghost use Rattle.closed_cut.specs.Position.{IsPosition};
+ghost use Rattle.tracked_position.specs.Keeping.{Takes};
+
+use crate::answering::{answer_of, is_same_guest};
+use crate::starting::start;
+use crate::taking::{take_elsewhere, take_here};
+use crate::walk::Cursor;
+use closed_cut::{Position, opening_of, position};
+use fragment_codec::{Fragment, Frame};
+use ft_types::{Counts, Guest, HART_LIMIT, Memory};
+use log_join::{Put, Store, StoreFault};
+use std::alloc::Global;
+use std::marker::Model;
+use std::option::Option;
+use std::result::Result;
+
+/// A store with its position, which is kept up as frames come. Contracts see the store.
+#[derive(Drop)]
+pub struct Tracked {
+    store: Store,
+    position: Position,
+    cursors: [Cursor; 8],
+}
+
+impl Model for Tracked {
+    ghost use Rattle.log_join.specs.Stores.{StoreView, coded_store};
+
+    ghost Value = { StoreView };
+
+    ghost coded = { coded_store };
+
+    ghost use Rattle.tracked_position.specs.Keeping.{IsTracked};
+
+    ghost view = { λ t. t.store };
+
+    ghost invariant = { λ t. IsTracked t.store t.position t.cursors };
+}
+
+impl Tracked {
+    /// A store of a guest to which nothing came, and its position.
+    pub fn new(alloc: Global, guest: Guest) -> Tracked
+        ensures { result ≡ nothing guest }
+    {
+        Tracked {
+            store: Store::new(alloc, guest),
+            position: Position {
+                term: 0,
+                counts: Counts::zero(guest.harts.min(HART_LIMIT)),
+                top: 0,
+            },
+            cursors: [Cursor { place: 0, end: 0 }; 8],
+        }
+    }
+
+    /// The store.
+    pub fn store(&self) -> &Store
+        ensures { result.now ≡ self.now }
+    {
+        &self.store
+    }
+
+    /// The store's position.
+    pub fn position(&self) -> &Position
+        ensures position { IsPosition self.now result.now }
+        // A guest has 1 to 8 harts.
+        ensures harts { self.now.guest.harts ≤ 8 → length result.now.counts ≡ self.now.guest.harts }
+    {
+        &self.position
+    }
+
+    /// That store, with its position found anew.
+    fn found(alloc: Global, store: Store) -> Result<Tracked, Memory>
+        ensures { IfOk result (λ tracked. tracked ≡ store) }
+    {
+        let position = position(alloc, &store)?;
+        let cursors = start(&store, position.term);
+        Ok(Tracked {
+            store,
+            position,
+            cursors,
+        })
+    }
+
+    /// Takes that store in place of this one, with its position found anew.
+    fn replace(&mut self, alloc: Global, store: Store) -> Result<(), Memory>
+        ensures ok { OnOk result (self.new ≡ store) }
+        ensures err { OnErr result (self.new ≡ self.old) }
+    {
+        *self = Tracked::found(alloc, store)?;
+        Ok(())
+    }
+
+    /// Takes a frame into a copy, whose position is found anew.
+    fn put_anew(&mut self, alloc: Global, frame: Frame) -> Result<Put, Memory>
+        ensures { Takes self.old frame result self.new }
+    {
+        let mut store = self.store.copy(alloc)?;
+        let put = store.put(frame)?;
+        self.replace(alloc, store)?;
+        Ok(put)
+    }
+
+    /// Takes a piece at a key at which nothing was.
+    fn put_new(&mut self, alloc: Global, fragment: Fragment) -> Result<Put, Memory>
+        requires { answer_to self.old (frame_of_specs.Log fragment) ≡ Put.New }
+        ensures { Takes self.old (frame_of_specs.Log fragment) result self.new }
+    {
+        let term = fragment.key().term;
+        if term != self.position.term {
+            return take_elsewhere(&mut self.store, &self.position, &self.cursors, fragment);
+        }
+        match opening_of(&self.store, term) {
+            Some(opening) => {
+                let opening = opening.copy();
+                take_here(
+                    &mut self.store,
+                    &mut self.position,
+                    &mut self.cursors,
+                    &opening,
+                    fragment,
+                )
+            }
+            None => self.put_anew(alloc, Frame::Log(fragment)),
+        }
+    }
+
+    /// Takes a frame.
+    pub fn put(&mut self, alloc: Global, frame: Frame) -> Result<Put, Memory>
+        // The answer is as its key stood, and OtherGuest first.
+        ensures answer { IfOk result (λ p. p ≡ answer_to self.old frame) }
+
+        // It is a join with the store of that one frame.
+        ensures joined { IfOk result (λ p. p ≢ Put.OtherGuest → IsJoin self.old (alone frame) self.new) }
+        ensures same { result ≡ Ok Put.Same → self.new ≡ self.old }
+        ensures other_guest { result ≡ Ok Put.OtherGuest → self.new ≡ self.old }
+
+        // Memory is refused only where the store would change, and then nothing changes.
+        ensures memory { OnErr result (answer_to self.old frame ≢ Put.Same) }
+        ensures own_guest { OnErr result (answer_to self.old frame ≢ Put.OtherGuest) }
+        ensures err { OnErr result (self.new ≡ self.old) }
+    {
+        match (answer_of(&self.store, &frame), frame) {
+            (Put::New, Frame::Log(fragment)) => self.put_new(alloc, fragment),
+            (Put::Same | Put::OtherGuest, frame) => self.store.put(frame),
+            (_, frame) => self.put_anew(alloc, frame),
+        }
+    }
+
+    /// Joins a store to this one.
+    pub fn join(&mut self, alloc: Global, other: &Store) -> Result<(), StoreFault>
+        ensures joined { OnOk result (IsJoin self.old other.now self.new) }
+        ensures other_guest { (result ≡ Err StoreFault.OtherGuest) ↔ (self.old.guest ≢ other.now.guest) }
+        ensures err { OnErr result (self.new ≡ self.old) }
+    {
+        if !is_same_guest(&self.store.guest(), &other.guest()) {
+            return Err(StoreFault::OtherGuest);
+        }
+        let mut store = self.store.copy(alloc)?;
+        store.join(alloc, other)?;
+        self.replace(alloc, store)?;
+        Ok(())
+    }
+}
