@@ -1,0 +1,11 @@
+//! A primary, its keepers and the gate for its outputs, led by a list of events: what fails, what is lost, who goes live.
+#![tactic(auto)]
+
+mod held;
+mod released;
+mod stepping;
+mod world;
+
+pub use failover_events::{Event, WorldFault};
+pub use released::Released;
+pub use world::World;
