@@ -1,5 +1,9 @@
 //! A list of events, applied to a primary and its keepers.
 
+ghost use Rattle.std.specs.List.{AllByRecursion};
+ghost use Rattle.failover_events.specs.Events.{MayCome};
+ghost use Rattle.event_script.specs.Events.{MayAllHappen};
+
 use crate::faults::{CommandFault, written};
 use crate::quorum::Quorum;
 use failover_events::{Event, WorldFault};
@@ -10,12 +14,17 @@ use log_streams::write_numbered;
 use std::alloc::Global;
 
 /// Applies the events, up to the first that is refused.
-fn apply_all(alloc: Global, world: &mut World, events: Vec<Event>) -> Result<(), CommandFault> {
-    for (number, event) in events.into_iter().enumerate() {
+fn apply_all(alloc: Global, world: &mut World, events: Vec<Event>) -> Result<(), CommandFault>
+    requires events { AllByRecursion (MayCome world.old.harts) events.items }
+{
+    let _many = events.len();
+    let mut line = 0;
+    for event in events {
+        line += 1;
         match world.apply(alloc, event) {
             Ok(()) => {}
             Err(WorldFault::Memory) => return Err(CommandFault::Memory),
-            Err(fault) => return Err(CommandFault::World(number as u64 + 1, fault)),
+            Err(fault) => return Err(CommandFault::World(line, fault)),
         }
     }
     Ok(())
@@ -50,13 +59,16 @@ fn write_primary<W: Sink>(world: &World, out: &mut W) -> Result<(), Failed> {
 
 /// Applies the events to a primary of the image and its keepers, and writes what went out, also where an event was refused, and
 /// then the primary's machine.
+#[tactic(auto, using(crate::proofs::Coming::all_come))]
 pub fn fail_over<W: Sink>(
     alloc: Global,
     image: &Image,
     events: Vec<Event>,
     quorum: Quorum,
     out: &mut W,
-) -> Result<(), CommandFault> {
+) -> Result<(), CommandFault>
+    requires events { MayAllHappen image.now.harts events.items }
+{
     let mut world = World::new(alloc, image, quorum.keepers(), quorum.need())?;
     let done = apply_all(alloc, &mut world, events);
     let told = write_all_released(&world, out);
