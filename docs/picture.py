@@ -51,7 +51,7 @@ class Picture:
         return FIRST_KEEPER + number * APART
 
     def line(self, x, y, to_x, to_y, kind, arrow=False):
-        end = ' marker-end="url(#arrow)"' if arrow else ""
+        end = f' marker-end="url(#arrow-{kind})"' if arrow else ""
         self.marks.append(f'<line class="{kind}" x1="{x}" y1="{y}" x2="{to_x}" y2="{to_y}"{end}/>')
 
     def text(self, x, y, words, kind="small", anchor="middle"):
@@ -170,8 +170,11 @@ def draw(program, image, events, keepers, need):
         x += 46 + 6 * len(words)
     print(f'<svg xmlns="http://www.w3.org/2000/svg" width="{width:.0f}" height="{height}" viewBox="0 0 {width:.0f} {height}">')
     print(f"<style>{STYLE}</style>")
-    print('<defs><marker id="arrow" viewBox="0 0 8 8" refX="7" refY="4" markerWidth="6" markerHeight="6" orient="auto">')
-    print('<path d="M0 0 L8 4 L0 8 z" fill="context-stroke"/></marker></defs>')
+    print("<defs>")
+    for kind in ("frame", "ack", "grant", "out"):
+        print(f'<marker id="arrow-{kind}" viewBox="0 0 8 8" refX="7" refY="4" markerWidth="6" markerHeight="6" orient="auto">')
+        print(f'<path class="{kind}" style="stroke: none" d="M0 0 L8 4 L0 8 z"/></marker>')
+    print("</defs>")
     print('<rect width="100%" height="100%" fill="white"/>')
     print("\n".join(marks))
     print("</svg>")
