@@ -1,5 +1,8 @@
 //! The world: a primary, the terms before it, what was sent, what keepers hold, and what went out.
 
+ghost use Rattle.std.specs.Prelude.{◌≡◌, ◌<◌, ◌≤◌, IfOk};
+ghost use Rattle.failover_events.specs.Events.{MayCome};
+
 use crate::held::Keepers;
 use crate::released::Released;
 use crate::stepping::take_step;
@@ -32,6 +35,8 @@ pub(crate) struct Primary {
 #[derive(Drop)]
 pub struct World {
     image: Image,
+    /// The number of the image's harts.
+    harts: u8,
     keepers: u8,
     need: u8,
     /// The primary of the term that was granted last.
@@ -87,13 +92,17 @@ fn boot(alloc: Global, image: &Image, guest: Guest) -> Result<Primary, Memory> {
 
 impl World {
     /// A primary of term 1 that runs from boot, keepers to which nothing came, and its opening sent as frame 0.
-    pub fn new(alloc: Global, image: &Image, keepers: u8, need: u8) -> Result<World, Memory> {
+    pub fn new(alloc: Global, image: &Image, keepers: u8, need: u8) -> Result<World, Memory>
+        requires quorum { (0 < need) × (need ≤ keepers) × (keepers ≤ 5) }
+        ensures harts { IfOk result (λ w. w.harts ≡ image.now.harts) }
+    {
         let guest = image.guest();
         let primary = boot(alloc, image, guest)?;
         let mut sent = Vec::new(alloc);
         sent.push(Frame::Opening(primary.opening.copy()))?;
         Ok(World {
             image: image.copy()?,
+            harts: image.harts(),
             keepers,
             need,
             primary,
@@ -283,7 +292,10 @@ impl World {
     }
 
     /// Does what the event says, or says why not.
-    pub fn apply(&mut self, alloc: Global, event: Event) -> Result<(), WorldFault> {
+    pub fn apply(&mut self, alloc: Global, event: Event) -> Result<(), WorldFault>
+        requires event { MayCome self.old.harts event }
+        ensures harts { self.new.harts ≡ self.old.harts }
+    {
         match event {
             Event::Step(hart) => self.step(alloc, hart),
             Event::Offer(hart, input) => self.offer(hart, input),
