@@ -42,22 +42,75 @@ decimal_no_break n h = has_none-left 10 (decimal n) (32 ∷ codes "timer")
 
 word_no_break : (w : ℕ) → w < 2 ^ 32 → HasNone 10 (word w)
 word_no_break w h =
-    let one = has_none-right 10 (decimal 0) (32 ∷ (decimal 0 ++ 32 ∷ (codes "word " ++ word w))) (offered_no_break 1 (offer_of 0 (input.Word w)) (word_waits w h)) in
+    let one =
+    has_none-right 10 (decimal 0) (32 ∷ (decimal 0 ++ 32 ∷ (codes "word " ++ word w))) (offered_no_break 1 (offer_of 0 (input.Word w)) (word_waits w h)) in
     let two = has_none-right 10 (decimal 0) (32 ∷ (codes "word " ++ word w)) one.1 in
     has_none-right 10 (codes "word ") (word w) two.1
 
 pub name_plain : (c : ℕ) → c ≤ 32 → (harts : ℕ) (e : Event) → MayHappen harts e → HasNone c (name_of e)
-name_plain c small harts (Step h) m = ((λ e. omega (arith, small)), ((λ e. omega (arith, small)), ((λ e. omega (arith, small)), ((λ e. omega (arith, small)), tt))))
-name_plain c small harts (Offer h input.Timer) m = ((λ e. omega (arith, small)), ((λ e. omega (arith, small)), ((λ e. omega (arith, small)), ((λ e. omega (arith, small)), ((λ e. omega (arith, small)), tt)))))
-name_plain c small harts (Offer h (input.Word w)) m = ((λ e. omega (arith, small)), ((λ e. omega (arith, small)), ((λ e. omega (arith, small)), ((λ e. omega (arith, small)), tt))))
+name_plain c small harts (Step h) m =
+    ((λ e. omega (arith, small)), ((λ e. omega (arith, small)), ((λ e. omega (arith, small)), ((λ e. omega (arith, small)), tt))))
+name_plain c small harts (Offer h input.Timer) m = (
+  (λ e. omega (arith, small)),
+  (
+    (λ e. omega (arith, small)),
+    (
+      (λ e. omega (arith, small)),
+      (
+        (λ e. omega (arith, small)),
+        ((λ e. omega (arith, small)), tt),
+      ),
+    ),
+  ),
+)
+name_plain c small harts (Offer h (input.Word w)) m =
+    ((λ e. omega (arith, small)), ((λ e. omega (arith, small)), ((λ e. omega (arith, small)), ((λ e. omega (arith, small)), tt))))
 name_plain c small harts Seal m = ((λ e. omega (arith, small)), ((λ e. omega (arith, small)), ((λ e. omega (arith, small)), ((λ e. omega (arith, small)), tt))))
-name_plain c small harts (Deliver k f) m = ((λ e. omega (arith, small)), ((λ e. omega (arith, small)), ((λ e. omega (arith, small)), ((λ e. omega (arith, small)), ((λ e. omega (arith, small)), ((λ e. omega (arith, small)), ((λ e. omega (arith, small)), tt)))))))
-name_plain c small harts (Join k o) m = ((λ e. omega (arith, small)), ((λ e. omega (arith, small)), ((λ e. omega (arith, small)), ((λ e. omega (arith, small)), tt))))
+name_plain c small harts (Deliver k f) m = (
+  (λ e. omega (arith, small)),
+  (
+    (λ e. omega (arith, small)),
+    (
+      (λ e. omega (arith, small)),
+      (
+        (λ e. omega (arith, small)),
+        ((λ e. omega (arith, small)), ((λ e. omega (arith, small)), ((λ e. omega (arith, small)), tt))),
+      ),
+    ),
+  ),
+)
+name_plain c small harts (Join k o) m =
+    ((λ e. omega (arith, small)), ((λ e. omega (arith, small)), ((λ e. omega (arith, small)), ((λ e. omega (arith, small)), tt))))
 name_plain c small harts (Acknowledge k) m = ((λ e. omega (arith, small)), ((λ e. omega (arith, small)), ((λ e. omega (arith, small)), tt)))
-name_plain c small harts Release m = ((λ e. omega (arith, small)), ((λ e. omega (arith, small)), ((λ e. omega (arith, small)), ((λ e. omega (arith, small)), ((λ e. omega (arith, small)), ((λ e. omega (arith, small)), ((λ e. omega (arith, small)), tt)))))))
+name_plain c small harts Release m = (
+  (λ e. omega (arith, small)),
+  (
+    (λ e. omega (arith, small)),
+    (
+      (λ e. omega (arith, small)),
+      (
+        (λ e. omega (arith, small)),
+        ((λ e. omega (arith, small)), ((λ e. omega (arith, small)), ((λ e. omega (arith, small)), tt))),
+      ),
+    ),
+  ),
+)
 name_plain c small harts Stop m = ((λ e. omega (arith, small)), ((λ e. omega (arith, small)), ((λ e. omega (arith, small)), ((λ e. omega (arith, small)), tt))))
-name_plain c small harts (Lose k) m = ((λ e. omega (arith, small)), ((λ e. omega (arith, small)), ((λ e. omega (arith, small)), ((λ e. omega (arith, small)), tt))))
-name_plain c small harts (Grant t ks) m = ((λ e. omega (arith, small)), ((λ e. omega (arith, small)), ((λ e. omega (arith, small)), ((λ e. omega (arith, small)), ((λ e. omega (arith, small)), tt)))))
+name_plain c small harts (Lose k) m =
+    ((λ e. omega (arith, small)), ((λ e. omega (arith, small)), ((λ e. omega (arith, small)), ((λ e. omega (arith, small)), tt))))
+name_plain c small harts (Grant t ks) m = (
+  (λ e. omega (arith, small)),
+  (
+    (λ e. omega (arith, small)),
+    (
+      (λ e. omega (arith, small)),
+      (
+        (λ e. omega (arith, small)),
+        ((λ e. omega (arith, small)), tt),
+      ),
+    ),
+  ),
+)
 name_plain c small harts (Offer h (input.Bell s)) m = absurd m.1
 
 -- ---- the first space
@@ -252,7 +305,8 @@ spaced_event : (harts : ℕ) (text name rest : List ℕ) → HasNone 32 name →
 spaced_event harts text name rest none is other e m same =
     let r = text_cut harts e name (32 ∷ rest) m none refl (sym is ∙ same) in
     let words : words_of e ≡ [] = no_words harts e m (λ w. other (r.0 ∙ sym w)) in
-    let spaced : 32 ∷ rest ≡ spaced_numbers (numbers_of e) ++ spaced_words [] = r.1 ∙ ap (λ (ws : List ℕ). spaced_numbers (numbers_of e) ++ spaced_words ws) words in
+    let spaced : 32 ∷ rest ≡ spaced_numbers (numbers_of e) ++ spaced_words [] =
+    r.1 ∙ ap (λ (ws : List ℕ). spaced_numbers (numbers_of e) ++ spaced_words ws) words in
     (r.0, words, spaced ∙ grind (arith, common_steps))
 
 pub no_numbers : (harts : ℕ) (text name rest : List ℕ) → HasNone 32 name → text ≡ name ++ 32 ∷ rest → (name ≡ codes "word" → ⊥) →

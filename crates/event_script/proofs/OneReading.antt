@@ -42,7 +42,8 @@ same_offers harts e f p q u v same =
     let r = offer_only harts f q v in
     let first : 32 ∷ (decimal r.0 ++ 32 ∷ word r.1) ≡ spaced_numbers (r.0 ∷ []) ++ spaced_words (r.1 ∷ []) = grind (arith, common_steps) in
     let spaced : 32 ∷ (decimal r.0 ++ 32 ∷ word r.1) ≡ spaced_numbers (o.0 ∷ []) ++ spaced_words (o.1 ∷ []) = first
-    ∙ ap (λ (ns : List ℕ). spaced_numbers ns ++ spaced_words (r.1 ∷ [])) (sym r.4) ∙ ap (λ (ws : List ℕ). spaced_numbers (numbers_of f) ++ spaced_words ws) (sym r.5)
+    ∙ ap (λ (ns : List ℕ). spaced_numbers ns ++ spaced_words (r.1 ∷ [])) (sym r.4)
+    ∙ ap (λ (ws : List ℕ). spaced_numbers (numbers_of f) ++ spaced_words ws) (sym r.5)
     ∙ sym same
     ∙ ap (λ (ns : List ℕ). spaced_numbers ns ++ spaced_words (words_of e)) o.4 ∙ ap (λ (ws : List ℕ). spaced_numbers (o.0 ∷ []) ++ spaced_words ws) o.5 in
     let parts : decimal r.0 ++ 32 ∷ word r.1 ≡ decimal o.0 ++ 32 ∷ word o.1 = offer_end o.0 o.1 (decimal r.0 ++ 32 ∷ word r.1) spaced in

@@ -14,7 +14,8 @@ returns-in_err-hart-clause-none c = if_none c.from_residual-in_err-hart.result _
 
 pub returns-in_err-behind-clause-none : goal.returns-in_err-behind-clause-none
 returns-in_err-behind-clause-none c = if_none c.from_residual-in_err-behind.result _ (no_word (λ b. b.now) c.cut.result.1 c.args.harts c.args.text.now
-    c.cut.result.0.now c.cut.ensures.one c.cut.ensures.some c.cut.ensures.none (λ w small e. behind_none (λ b. b.now) c.cut.result.1 (word w) c.in_err-behind.was e))
+    c.cut.result.0.now c.cut.ensures.one c.cut.ensures.some c.cut.ensures.none
+    (λ w small e. behind_none (λ b. b.now) c.cut.result.1 (word w) c.in_err-behind.was e))
 
 pub returns-in_err-word-clause-none : goal.returns-in_err-word-clause-none
 returns-in_err-word-clause-none c = if_none c.from_residual-in_err-word.result _ (no_word (λ b. b.now) c.cut.result.1 c.args.harts c.args.text.now
