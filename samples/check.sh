@@ -1,6 +1,6 @@
 #!/bin/sh
-# check.sh [PROGRAM]: runs what README.md and docs/GUIDE.md print, as printed, in a fresh copy of the repository, and compares the answers
-# that they show; then runs each guest of guests/ and replays its log. PROGRAM is the built workbench, by itself the one that `.ci/run`
+# check.sh [PROGRAM]: runs what README.md, docs/GUIDE.md and docs/FAILOVER.md print, as printed, in a fresh copy of the repository, and compares
+# the answers that they show; then runs each guest of guests/ and replays its log. PROGRAM is the built workbench, by itself the one that `.ci/run`
 # and `rt run` leave. The last line is 'N passed, N failed'. Needs rt; what needs more is left out where that is not there.
 #
 # In these documents each indented block is typed into a shell of its own at the top of the repository. Where it has lines that begin with
@@ -46,6 +46,8 @@ lacks() {
         echo "riscv64-unknown-elf-gcc 12.2.0 is not installed"
     elif grep -q 'broker' "$1" && ! command -v redis-server > /dev/null; then
         echo "no redis-server is installed"
+    elif grep -q 'python3' "$1" && ! command -v python3 > /dev/null; then
+        echo "no python3 is installed"
     fi
 }
 
@@ -83,7 +85,7 @@ run_block() {
     commands "$2"
     count=$(ls "$work/typed" | wc -l)
     for number in $(seq "$count"); do
-        echo "{"
+        echo "{ :"  # ':' since dash 0.5.12 drops the redirection of a subshell that stands alone in braces
         cat "$work/typed/$number"
         echo "} > '$work/said/$number' 2>&1 < /dev/null"
         echo "echo \$? > '$work/said/$number.status'"
@@ -102,7 +104,7 @@ run_block() {
     done
 }
 
-for document in README.md docs/GUIDE.md; do
+for document in README.md docs/GUIDE.md docs/FAILOVER.md; do
     blocks "$fresh/$document" "$work/$(basename "$document")"
     [ -f "$work/$(basename "$document")/001" ] || fail "$document: it prints no command" < /dev/null
     for block in "$work/$(basename "$document")"/*; do

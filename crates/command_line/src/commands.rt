@@ -3,18 +3,21 @@
 ghost use Rattle.std.specs.Prelude.{◌≡◌, length, IfOk};
 ghost use Rattle.input_script.specs.Script.{AreOffered};
 
-use crate::faults::{CommandFault, status_of, write_fault, write_words_fault};
+use crate::failing_over::fail_over;
+use crate::faults::{CommandFault, status_of, write_fault, write_words_fault, written};
 use crate::files::Files;
 use crate::pairs::{PairOrders, Pairs};
+use crate::quorum::Quorum;
 use crate::words::{NamedFile, Request, Task, WordsFault, read_words};
 use closed_cut::{chain, position};
-use ft_types::{Failed, Sink, Source};
+use event_script::read_events;
+use ft_types::{Sink, Source};
 use guest_image::{Image, read_image};
 use input_script::{Offered, read_script};
 use log_join::Store;
 use log_streams::{
-    StreamsFault, frames_of, read_store, replay_streams, run_primary, write_frames, write_position,
-    write_size, write_store,
+    frames_of, read_store, replay_streams, run_primary, write_frames, write_position, write_size,
+    write_store,
 };
 use page_book::{Book, Recording};
 use std::alloc::Global;
@@ -85,14 +88,6 @@ fn read_script_file<F: Files>(
     let bytes = read_file(alloc, request, NamedFile::Script, files)?;
     let script = read_script(alloc, &bytes, harts)?;
     Ok(script)
-}
-
-/// What came of writing to standard output.
-fn written(done: Result<(), Failed>) -> Result<(), CommandFault> {
-    match done {
-        Ok(()) => Ok(()),
-        Err(_) => Err(CommandFault::Streams(StreamsFault::Write)),
-    }
 }
 
 /// Makes the file that the request names.
@@ -266,6 +261,20 @@ fn pair_script<F: Files, P: Pairs, W: Sink>(
     Ok(pairs.run_pair(alloc, image, &script, orders, out)?)
 }
 
+/// Applies the request's list of events to a primary of the image and its keepers. All lines are read before the first event.
+fn apply_events<F: Files, W: Sink>(
+    alloc: Global,
+    image: &Image,
+    quorum: Quorum,
+    request: &Request<'_>,
+    files: &mut F,
+    out: &mut W,
+) -> Result<(), CommandFault> {
+    let bytes = read_file(alloc, request, NamedFile::Events, files)?;
+    let events = read_events(alloc, &bytes, image.harts())?;
+    fail_over(alloc, image, events, quorum, out)
+}
+
 /// Does what is asked for with the image.
 fn run_task<F: Files, P: Pairs, W: Sink>(
     alloc: Global,
@@ -283,6 +292,7 @@ fn run_task<F: Files, P: Pairs, W: Sink>(
         Task::Run { budget, .. } => record(alloc, image, *budget, request, files, out),
         Task::Cut(logs) => cut_logs(alloc, image, logs, files, out),
         Task::Pair { orders, .. } => pair_script(alloc, image, orders, request, files, pairs, out),
+        Task::FailOver { quorum, .. } => apply_events(alloc, image, *quorum, request, files, out),
     }
 }
 

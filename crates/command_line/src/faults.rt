@@ -3,6 +3,8 @@
 ghost use Rattle.std.specs.Prelude.{◌≡◌, ◌≢◌};
 
 use crate::words::{NamedFile, Request, WordsFault};
+use event_script::EventsFault;
+use failover_events::WorldFault;
 use ft_types::{Failed, Memory, Sink, write_all};
 use guest_image::ImageFault;
 use hart_replay::ReplayFault;
@@ -20,6 +22,10 @@ pub enum CommandFault {
     Image(ImageFault),
     /// The line of the script, from 1, that is at fault.
     Script(u64),
+    /// The line of the list of events, from 1, that is at fault.
+    Events(u64),
+    /// The line of the event, from 1, that was refused, and why.
+    World(u64, WorldFault),
     /// What is wrong with the logs, their replay or the output.
     Streams(StreamsFault),
     /// A growth was refused.
@@ -53,6 +59,23 @@ impl From<ScriptFault> for CommandFault {
             ScriptFault::BadLine(line) => CommandFault::Script(line),
             ScriptFault::Memory => CommandFault::Memory,
         }
+    }
+}
+
+impl From<EventsFault> for CommandFault {
+    fn from(fault: EventsFault) -> CommandFault {
+        match fault {
+            EventsFault::BadLine(line) => CommandFault::Events(line),
+            EventsFault::Memory => CommandFault::Memory,
+        }
+    }
+}
+
+/// What came of writing to standard output.
+pub fn written(done: Result<(), Failed>) -> Result<(), CommandFault> {
+    match done {
+        Ok(()) => Ok(()),
+        Err(_) => Err(CommandFault::Streams(StreamsFault::Write)),
     }
 }
 
@@ -134,6 +157,11 @@ pub fn write_fault<W: Sink>(
         }
         CommandFault::Image(fault) => write_image_fault(*fault, out),
         CommandFault::Script(line) => write_numbered(b"fault script line ", *line, b"\n", out),
+        CommandFault::Events(line) => write_numbered(b"fault events line ", *line, b"\n", out),
+        CommandFault::World(line, fault) => {
+            write_numbered(b"fault events line ", *line, b" world ", out)?;
+            write_numbered(b"", u64::from(fault.number()), b"\n", out)
+        }
         CommandFault::Streams(fault) => write_streams_fault(*fault, out),
         CommandFault::Memory => write_all(out, b"fault memory\n"),
     }

@@ -3,9 +3,11 @@
 #![tactic(auto)]
 
 mod commands;
+mod failing_over;
 mod faults;
 mod files;
 mod pairs;
+mod quorum;
 mod words;
 
 pub use commands::{command, no_request};

@@ -3,7 +3,8 @@
 ghost use Rattle.std.specs.Prelude.{◌≡◌, ◌<◌, ◌≤◌, ◌↔◌, IsSome, IfSome};
 ghost use Rattle.input_script.specs.Script.{AreOffered};
 
-use ft_types::{KEEPER_LIMIT, Sink};
+use crate::quorum::Quorum;
+use ft_types::Sink;
 use guest_image::Image;
 use input_script::Offered;
 use log_streams::StreamsFault;
@@ -13,9 +14,7 @@ use std::alloc::Global;
 #[derive(Clone, Copy, Debug, PartialEq, Eq)]
 pub struct PairOrders {
     budget: u32,
-    keepers: u8,
-    need: u8,
-    ghost sized: { (0 < need) × (need ≤ keepers) × (keepers ≤ 5) },
+    quorum: Quorum,
 }
 
 impl PairOrders {
@@ -23,16 +22,10 @@ impl PairOrders {
     /// `None` for other numbers.
     pub fn new(budget: u32, keepers: u64, need: u64) -> Option<PairOrders>
         ensures exact { IsSome result ↔ ((0 < need) × (need ≤ keepers) × (keepers ≤ 5)) }
-        ensures parts { IfSome result (λ o. (o.budget ≡ budget) × (o.keepers ≡ keepers) × (o.need ≡ need)) }
+        ensures parts { IfSome result (λ o. (o.budget ≡ budget) × (o.quorum.keepers ≡ keepers) × (o.quorum.need ≡ need)) }
     {
-        if need == 0 || need > keepers || keepers > u64::from(KEEPER_LIMIT) {
-            return None;
-        }
-        Some(PairOrders {
-            budget,
-            keepers: keepers as u8,
-            need: need as u8,
-        })
+        let quorum = Quorum::new(keepers, need)?;
+        Some(PairOrders { budget, quorum })
     }
 
     /// The limit of each hart.
@@ -44,20 +37,20 @@ impl PairOrders {
 
     /// The number of keepers.
     pub fn keepers(&self) -> u8
-        ensures value { result ≡ self.now.keepers }
+        ensures value { result ≡ self.now.quorum.keepers }
         ensures some { 0 < result }
         ensures limit { result ≤ 5 }
     {
-        self.keepers
+        self.quorum.keepers()
     }
 
     /// How many keepers must hold an output before it goes out.
     pub fn need(&self) -> u8
-        ensures value { result ≡ self.now.need }
+        ensures value { result ≡ self.now.quorum.need }
         ensures some { 0 < result }
-        ensures limit { result ≤ self.now.keepers }
+        ensures limit { result ≤ self.now.quorum.keepers }
     {
-        self.need
+        self.quorum.need()
     }
 }
 

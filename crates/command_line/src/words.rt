@@ -1,6 +1,7 @@
 //! What the words of the command line ask for.
 
 use crate::pairs::PairOrders;
+use crate::quorum::Quorum;
 use clap::error::ErrorKind;
 use clap::{Arg, ArgAction, ArgMatches, Command, Error};
 use ft_types::read_number;
@@ -41,6 +42,11 @@ pub enum Task<'a> {
         script: &'a str,
         orders: PairOrders,
     },
+    /// Apply a list of events to a primary and its keepers.
+    FailOver {
+        events: &'a str,
+        quorum: Quorum,
+    },
 }
 
 /// A file that a request names.
@@ -51,6 +57,8 @@ pub enum NamedFile {
     Log(usize),
     /// What is offered to the harts of a run.
     Script,
+    /// What happens to a primary and its keepers.
+    Events,
     /// The file that is made.
     Made,
 }
@@ -62,6 +70,7 @@ impl<'a> Request<'a> {
             NamedFile::Image => self.image,
             NamedFile::Log(number) => self.task.log(number),
             NamedFile::Script => self.task.script(),
+            NamedFile::Events => self.task.events(),
             NamedFile::Made => self.task.made(),
         }
     }
@@ -73,7 +82,7 @@ impl<'a> Task<'a> {
             Task::Replay(logs) => name_at(logs, number),
             Task::Join { logs, .. } => name_at(logs, number),
             Task::Cut(logs) => name_at(logs, number),
-            Task::Run { .. } | Task::Pair { .. } => "",
+            _ => "",
         }
     }
 
@@ -81,6 +90,13 @@ impl<'a> Task<'a> {
         match self {
             Task::Run { script, .. } => script,
             Task::Pair { script, .. } => script,
+            _ => "",
+        }
+    }
+
+    fn events(&self) -> &'a str {
+        match self {
+            Task::FailOver { events, .. } => events,
             _ => "",
         }
     }
@@ -147,7 +163,7 @@ struct Form {
     has_logs: bool,
 }
 
-static FORMS: [Form; 5] = [
+static FORMS: [Form; 6] = [
     Form {
         name: "replay",
         words: &["image"],
@@ -171,6 +187,11 @@ static FORMS: [Form; 5] = [
     Form {
         name: "pair",
         words: &["image", "script", "budget", "keepers", "need"],
+        has_logs: false,
+    },
+    Form {
+        name: "failover",
+        words: &["image", "events", "keepers", "need"],
         has_logs: false,
     },
 ];
@@ -256,6 +277,14 @@ fn pair_of<'a>(matches: &ArgMatches<'a>) -> Result<Task<'a>, WordsFault> {
     Ok(Task::Pair { script, orders })
 }
 
+fn fail_over_of<'a>(matches: &ArgMatches<'a>) -> Result<Task<'a>, WordsFault> {
+    let events = word_of(matches, "events")?;
+    let keepers = number_of(matches, "keepers")?;
+    let need = number_of(matches, "need")?;
+    let quorum = Quorum::new(keepers, need).ok_or(WordsFault::Usage)?;
+    Ok(Task::FailOver { events, quorum })
+}
+
 fn task_of<'a>(
     alloc: Global,
     command: &str,
@@ -267,6 +296,7 @@ fn task_of<'a>(
         "cut" => Ok(Task::Cut(logs_of(alloc, matches)?)),
         "run" => run_of(matches),
         "pair" => pair_of(matches),
+        "failover" => fail_over_of(matches),
         _ => Err(WordsFault::Usage),
     }
 }

@@ -34,7 +34,7 @@ use Rattle.failover_theory.specs.Worlds as theory
 use Rattle.failover_theory.proofs.Recording.{of_logs}
 use Rattle.go_live.specs.Histories.{MakesLonger}
 use Rattle.go_live.specs.Outputs.{numbered}
-use Rattle.failover_world.specs.declared.event.Released.{Released}
+use Rattle.failover_world.specs.declared.released.Released.{Released}
 use Rattle.failover_world.specs.Primaries.{IsBooted}
 use Rattle.failover_world.specs.Worlds.{WorldView, said_at, term_of}
 use Rattle.failover_world.specs.Tied.{TermBook, Books, retold_in, history, told_as, theory_world, quorum_of, live_book, AreParts, IsTied, IsWorld}

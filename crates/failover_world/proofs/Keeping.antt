@@ -8,7 +8,7 @@ use Rattle.closed_cut.specs.Position.{IsPosition}
 use Rattle.closed_cut.specs.declared.answer.Position.{Position}
 use Rattle.term_gate.specs.TermGates.{TermGateView, acked_at}
 use Rattle.failover_theory.specs.Worlds as theory
-use Rattle.failover_world.specs.declared.event.Released.{Released}
+use Rattle.failover_world.specs.declared.released.Released.{Released}
 use Rattle.failover_world.specs.Worlds.{WorldView, store_at, term_of}
 use Rattle.failover_world.specs.Tied.{theory_released, theory_world, quorum_of, IsTied}
 use Rattle.interleaving.specs.Lists.{put}

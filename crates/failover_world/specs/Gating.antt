@@ -6,7 +6,7 @@ use Rattle.output_gate.specs.declared.output.Output.{Output}
 use Rattle.output_gate.specs.Gates.{GateView, gone_of, waiting_of, offered_of}
 use Rattle.term_gate.specs.TermGates.{TermGateView}
 use Rattle.go_live.specs.Outputs.{numbered}
-use Rattle.failover_world.specs.declared.event.Released.{Released}
+use Rattle.failover_world.specs.declared.released.Released.{Released}
 use Rattle.failover_world.specs.Worlds.{said_at}
 
 -- the outputs of each hart stand in the order of their steps

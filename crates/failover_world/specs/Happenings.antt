@@ -15,11 +15,11 @@ use Rattle.output_gate.specs.Gates.{gone_of, line_of, held_outputs, after_releas
 use Rattle.term_gate.specs.TermGates.{TermGateView, AreAcked, acked_at}
 use Rattle.go_live.specs.Quorums.{AreEnough, IsNew}
 use Rattle.go_live.specs.Lives.{IsAtPosition, BeginsFrom}
-use Rattle.failover_world.specs.declared.event.Event.{Event}
-use Rattle.failover_world.specs.declared.event.Event.TheVariants as on
+use Rattle.failover_events.specs.declared.event.Event.{Event}
+use Rattle.failover_events.specs.declared.event.Event.TheVariants as on
 use Rattle.failover_world.specs.declared.primary.Primary.{Primary}
 use Rattle.failover_world.specs.Primaries.{no_limits, IsUncut}
-use Rattle.failover_world.specs.Steps.{HasStepped}
+use Rattle.hart_steps.specs.Steps.{HasStepped}
 use Rattle.failover_world.specs.Worlds.{WorldView, store_at, term_of}
 use Rattle.failover_world.specs.Gating.{AreAllOffered, OffersMore, released_in}
 

@@ -1,8 +1,6 @@
-pub mod Faults
 pub mod Primaries
 pub mod Worlds
 pub mod Gating
-pub mod Steps
 pub mod Happenings
 pub mod Refusals
 pub mod Promises

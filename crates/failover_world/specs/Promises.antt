@@ -8,7 +8,7 @@ use Rattle.log_join.specs.Stores.{StoreView}
 use Rattle.closed_cut.specs.Position.{IsPosition}
 use Rattle.closed_cut.specs.declared.answer.Position.{Position}
 use Rattle.failover_theory.specs.Lists.{how_many}
-use Rattle.failover_world.specs.declared.event.Released.{Released}
+use Rattle.failover_world.specs.declared.released.Released.{Released}
 use Rattle.failover_world.specs.Worlds.{WorldView, store_at, said_at}
 
 -- The step of the hart in the term is inside the chain of the other, up to the other's base: going down from the other by the

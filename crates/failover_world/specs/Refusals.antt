@@ -1,7 +1,6 @@
 -- Why events are refused, and what a refused one leaves.
-use Rattle.std.specs.Prelude.{ℕ, ◌≡◌, ◌≢◌, ◌<◌, ◌≤◌, ◌⊎◌, ◌++◌, ◌∷◌, [], List, Bool, true, false, length, map, Some, None, All}
+use Rattle.std.specs.Prelude.{ℕ, ◌≡◌, ◌≢◌, ◌≤◌, ◌⊎◌, ◌++◌, ◌∷◌, [], List, Bool, true, false, length, map, Some, None, All}
 use Rattle.std.specs.List.{Any}
-use Rattle.input_log.specs.Inputs.{is_bell}
 use Rattle.page_book.specs.declared.answers.BookFault.{BookFault}
 use Rattle.page_book.specs.declared.answers.BookFault.TheVariants.{Memory as NoBookMemory}
 use Rattle.closed_cut.specs.Position.{IsPosition}
@@ -15,11 +14,11 @@ use Rattle.term_gate.specs.TermGates.{TermGateView}
 use Rattle.go_live.specs.declared.fault.LiveFault.{LiveFault}
 use Rattle.go_live.specs.declared.fault.LiveFault.TheVariants.{TooFewStores, TermNotNew, Replay, Memory as NoLiveMemory}
 use Rattle.go_live.specs.Quorums.{AreEnough, IsOld}
-use Rattle.failover_world.specs.declared.event.Event.{Event}
-use Rattle.failover_world.specs.declared.event.Event.TheVariants as on
-use Rattle.failover_world.specs.declared.event.WorldFault.{WorldFault}
-use Rattle.failover_world.specs.declared.event.WorldFault.TheVariants.{NoPrimary, NoKeeper, NoFrame, NotStopped, Step, Live, Ack, Memory}
-use Rattle.failover_world.specs.Steps.{IsUnmoved, RefusesStep}
+use Rattle.failover_events.specs.declared.event.Event.{Event}
+use Rattle.failover_events.specs.declared.event.Event.TheVariants as on
+use Rattle.failover_events.specs.declared.fault.WorldFault.{WorldFault}
+use Rattle.failover_events.specs.declared.fault.WorldFault.TheVariants.{NoPrimary, NoKeeper, NoFrame, NotStopped, Step, Live, Ack, Memory}
+use Rattle.hart_steps.specs.Steps.{IsUnmoved, RefusesStep}
 use Rattle.failover_world.specs.Worlds.{WorldView, store_at, term_of}
 use Rattle.failover_world.specs.Happenings.{stores_of}
 
@@ -90,12 +89,6 @@ RefusesGrant v term named NotStopped = All (λ keeper. store_at v.stores keeper 
 RefusesGrant v term named (Live fault) = All (λ keeper. store_at v.stores keeper ≢ None) named × (v.runs ≡ false) × CannotGoLive v term named fault
 RefusesGrant v term named Memory = Unit {0}
 RefusesGrant v term named _ = ⊥
-
--- an event names a hart of the guest, and no bell is offered
-abbrev pub MayBe : ℕ → Event → Type 0
-MayBe harts (on.Step hart) = hart < harts
-MayBe harts (on.Offer hart input) = (hart < harts) × (is_bell input ≡ false)
-MayBe harts _ = Unit {0}
 
 -- why the event is refused; memory may be refused to any
 abbrev pub Refuses : WorldView → Event → WorldFault → Type 0

@@ -22,7 +22,7 @@ use Rattle.primary_pool.specs.Running.{IsIdle}
 use Rattle.hart_lease.specs.Runs.{counts_of}
 use Rattle.term_gate.specs.TermGates.{acked_at}
 use Rattle.go_live.specs.Histories.{AreOfHistory, IsOfHistory, MakesLonger}
-use Rattle.failover_world.specs.declared.event.Released.{Released}
+use Rattle.failover_world.specs.declared.released.Released.{Released}
 use Rattle.failover_world.specs.declared.primary.Primary.{Primary}
 use Rattle.failover_world.specs.Worlds.{WorldView, term_of}
 use Rattle.failover_world.specs.Happenings.{stores_of}

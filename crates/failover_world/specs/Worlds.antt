@@ -7,7 +7,7 @@ use Rattle.fragment_codec.specs.declared.frame.Frame.{Frame}
 use Rattle.log_join.specs.Stores.{StoreView}
 use Rattle.term_gate.specs.TermGates.{TermGateView}
 use Rattle.failover_world.specs.declared.primary.Primary.{Primary}
-use Rattle.failover_world.specs.declared.event.Released.{Released}
+use Rattle.failover_world.specs.declared.released.Released.{Released}
 
 pub record WorldView : Type 0 where
   pub image : ImageContents

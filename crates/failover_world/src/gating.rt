@@ -6,7 +6,7 @@ ghost use Rattle.output_gate.specs.Gates.{line_of, offered_of};
 ghost use Rattle.go_live.specs.Outputs.{numbered};
 ghost use Rattle.failover_world.specs.Gating.{AreRising, AreOffered, AreAllOffered, OffersMore, released_in};
 
-use crate::event::Released;
+use crate::released::Released;
 use ft_types::{Count, Hart, Memory, Term};
 use guest_image::Machine;
 use output_gate::Output;

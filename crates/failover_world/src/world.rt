@@ -6,28 +6,30 @@ ghost use Rattle.guest_image.specs.Image.{guest_of};
 ghost use Rattle.input_log.specs.declared.Input.{Input as input_of_specs};
 ghost use Rattle.fragment_codec.specs.declared.frame.Frame.TheVariants.{Opening as opens};
 ghost use Rattle.page_book.specs.declared.answers.BookFault.{BookFault as book_fault};
-ghost use Rattle.failover_world.specs.declared.event.Event.{Event as event_of};
-ghost use Rattle.failover_world.specs.declared.event.Event.TheVariants as on;
-ghost use Rattle.failover_world.specs.declared.event.WorldFault.TheVariants.{Memory as NoMemory, NoPrimary};
+ghost use Rattle.failover_events.specs.declared.event.Event.{Event as event_of};
+ghost use Rattle.failover_events.specs.declared.event.Event.TheVariants as on;
+ghost use Rattle.failover_events.specs.declared.fault.WorldFault.TheVariants.{Memory as NoMemory, NoPrimary};
 ghost use Rattle.failover_world.specs.Primaries.{IsBooted};
+ghost use Rattle.failover_events.specs.Events.{MayCome};
 ghost use Rattle.failover_world.specs.Worlds.{term_of};
 ghost use Rattle.failover_world.specs.Happenings.{GoesLive, IsFresh, Grants, Happens};
-ghost use Rattle.failover_world.specs.Refusals.{MayBe, Refuses, RefusesGrant, CannotGoLive, IsLeft};
+ghost use Rattle.failover_world.specs.Refusals.{Refuses, RefusesGrant, CannotGoLive, IsLeft};
 ghost use Rattle.failover_world.specs.Tied.{BeginsTerm};
 ghost use Rattle.go_live.specs.declared.fault.LiveFault.TheVariants.{Memory as NoLive};
 ghost use Rattle.input_log.specs.Inputs.{is_bell};
 ghost use Rattle.failover_world.specs.Promises.{IsOne, IsOfMachine, IsKept, AreHeld};
 
-use crate::event::{Event, Released, WorldFault};
+use crate::released::Released;
+use failover_events::{Event, WorldFault};
 use crate::gating::{add_released, offer_all};
 use crate::keepers::{are_there, empty_stores, held_by, join, keeper_at, put, stores_named};
 use crate::primary::{Primary, boot, no_limits, tell_primary};
-use crate::stepping::take_step;
 use closed_cut::position;
 use fragment_codec::{Frame, Sealed, cut_pieces};
 use ft_types::{Hart, Memory, Term};
 use go_live::{LiveFault, go_live};
 use guest_image::{Image, Machine};
+use hart_steps::take_step;
 use input_log::Input;
 use log_join::Store;
 use log_streams::TERM as FIRST_TERM;
@@ -380,7 +382,7 @@ impl World {
 
     /// Does what the event says, or says why not.
     pub fn apply(&mut self, alloc: Global, event: Event) -> Result<(), WorldFault>
-        requires { MayBe self.old.image.harts event }
+        requires { MayCome self.old.image.harts event }
         ensures happens { OnOk result (Happens self.old event self.new) }
         ensures refused { IfErr result (λ f. Refuses self.old event f) }
         ensures left { OnErr result (IsLeft self.old self.new) }

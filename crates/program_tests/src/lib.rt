@@ -4,6 +4,8 @@
 #[cfg(test)]
 mod cases;
 #[cfg(test)]
+mod failover_tests;
+#[cfg(test)]
 mod files_in_memory;
 #[cfg(test)]
 mod log_tests;

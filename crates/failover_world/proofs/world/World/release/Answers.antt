@@ -11,14 +11,14 @@ use Rattle.output_gate.specs.declared.output.Output.{Output}
 use Rattle.output_gate.specs.Gates.{GateView, line_of, held_outputs, after_release}
 use Rattle.term_gate.specs.TermGates.{TermGateView, AreAcked}
 use Rattle.guest_image.specs.Machine.{MachineState}
-use Rattle.failover_world.specs.declared.event.Released.{Released}
+use Rattle.failover_world.specs.declared.released.Released.{Released}
 use Rattle.failover_world.specs.Gating.{AreRising, AreOffered, AreAllOffered, OffersMore, released_in}
 use Rattle.failover_world.specs.Happenings.{Releases}
 use Rattle.failover_world.specs.Refusals.{IsLeft}
 use Rattle.failover_world.specs.Tied.{AreParts, IsWorld}
 use Rattle.failover_world.proofs.Releasing.{rising, released}
 use Rattle.failover_world.proofs.Waiting.{still_offered, released_offered}
-use Rattle.failover_world.specs.declared.event.WorldFault.{WorldFault}
+use Rattle.failover_events.specs.declared.fault.WorldFault.{WorldFault}
 use Rattle.failover_world.proofs.Gates.{noted_world, offers_rest, left_with, rest_after, was_offered, same_lines, every_line, all_going, few_held, on_ok}
 use Rattle.failover_world.proofs.world.World.release.Goals as goal
 
