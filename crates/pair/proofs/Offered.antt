@@ -1,5 +1,6 @@
 -- What a gate was offered, with one output more.
-use Rattle.std.proofs.Common.{◌≡◌, ◌≢◌, ◌↔◌, IsTrue, nat_le, ◌<◌, ◌≤◌, ℕ, List, [], ◌∷◌, ◌++◌, length, slice_index, slice_set, inl, inr, ap, arith, refl, sym, subst, ◌∙◌, append_assoc}
+use Rattle.std.proofs.Common.{◌≡◌, ◌≢◌, ◌↔◌, IsTrue, nat_le, ◌<◌, ◌≤◌, ℕ, List, [], ◌∷◌, ◌++◌}
+use Rattle.std.proofs.Common.{length, slice_index, slice_set, inl, inr, ap, arith, refl, sym, subst, ◌∙◌, append_assoc}
 use Rattle.std.proofs.lemmas.Bool.{cases_eq}
 use Rattle.std.proofs.lemmas.Bool.Decides.{nat_tests}
 use Rattle.std.proofs.lemmas.List.{get_or-set_same, get_or-set_other}
@@ -30,8 +31,11 @@ pub next_told : (gate : GateView) (steps : List ℕ) (o : Output) (place : ℕ) 
 next_told gate steps o place same below last number =
     let at : IsLastAt gate steps o.hart = subst (IsLastAt gate steps) same (last place below) in
     let e : slice_index steps place ≡ slice_index steps o.hart = ap (λ (p : ℕ). slice_index steps p) same in (
-      λ t. (number, all_so (λ (x : Output). x.step ≤ slice_index steps o.hart) (λ (x : Output). x.step ≤ o.step)
-          (λ x b. (let l = told_le (slice_index steps place) o.step t in omega arith)) (offered_of gate o.hart) at.0),
+      λ t. (
+        number,
+        all_so (λ (x : Output). x.step ≤ slice_index steps o.hart) (λ (x : Output). x.step ≤ o.step)
+            (λ x b. (let l = told_le (slice_index steps place) o.step t in omega arith)) (offered_of gate o.hart) at.0,
+      ),
       λ next. le_told (slice_index steps place) o.step (let l : slice_index steps o.hart ≤ o.step = at.1 o.step next.1 in omega arith),
     )
 
@@ -45,7 +49,8 @@ last_same old new before after hart same step at = (
 last_own : (old new : GateView) (after : List ℕ) (o : Output) → IsNext old o → offered_of new o.hart ≡ offered_of old o.hart ++ o ∷ [] →
     slice_index after o.hart ≡ o.step → IsLastAt new after o.hart
 last_own old new after o next more step = (
-  subst (λ (xs : List Output). NoneBehind (slice_index after o.hart) xs) (sym more) (subst (λ (n : ℕ). NoneBehind n (offered_of old o.hart ++ o ∷ [])) (sym step)
+  subst (λ (xs : List Output). NoneBehind (slice_index after o.hart) xs) (sym more)
+      (subst (λ (n : ℕ). NoneBehind n (offered_of old o.hart ++ o ∷ [])) (sym step)
       (all_join (λ (x : Output). x.step ≤ o.step) (offered_of old o.hart) (o ∷ []) next.1 (omega arith, tt))),
   λ n all. subst (λ (m : ℕ). m ≤ n) (sym step)
       (all_back (λ (x : Output). x.step ≤ n) (offered_of old o.hart) (o ∷ []) (subst (λ (xs : List Output). NoneBehind n xs) more all)).0,
@@ -63,7 +68,8 @@ last_offered old new steps o place at there last next is hart below = elim (case
 ]
 
 -- what goes out was offered all the same
-pub last_kept : (old new : GateView) → ((hart : ℕ) → hart < 8 → offered_of new hart ≡ offered_of old hart) → (steps : List ℕ) → AreLast old steps → AreLast new steps
+pub last_kept : (old new : GateView) → ((hart : ℕ) → hart < 8 → offered_of new hart ≡ offered_of old hart) → (steps : List ℕ) → AreLast old steps →
+    AreLast new steps
 last_kept old new same steps last hart below = last_same old new steps steps hart (same hart below) refl (last hart below)
 
 -- nothing yet

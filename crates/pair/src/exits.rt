@@ -48,7 +48,11 @@ fn offer(gate: &mut Gate, last: &mut LastSteps, output: Output) -> Result<(), Me
 }
 
 /// Takes a message, and says whether it is the primary's last.
-pub(crate) fn take_in(gate: &mut Gate, last: &mut LastSteps, message: ToGate) -> Result<bool, Memory>
+pub(crate) fn take_in(
+    gate: &mut Gate,
+    last: &mut LastSteps,
+    message: ToGate,
+) -> Result<bool, Memory>
     requires { AreLast gate.old last.old }
     ensures taken { OnOk result (TakesIn gate.old message gate.new) }
     ensures end { IfOk result (λ is_end. IsTrue is_end ↔ (message ≡ End)) }

@@ -68,9 +68,11 @@ fn first_other(alloc: Global, image: &Image, end: &PairEnd) -> Result<Option<usi
 
 /// Whether what the three keepers of a pair hold, each alone and all joined, replays to the primary's machine.
 fn holds_it_all(alloc: Global, image: &Image, end: &PairEnd) -> Result<bool, Fail> {
-    Ok(end.stores.len() == 3
-        && first_other(alloc, image, end)?.is_none()
-        && replay_to(alloc, image, &end.stores, end.book.machine())?)
+    Ok(
+        end.stores.len() == 3
+            && first_other(alloc, image, end)?.is_none()
+            && replay_to(alloc, image, &end.stores, end.book.machine())?,
+    )
 }
 
 /// The same of a pair whose harts add, where each comes to its end.
@@ -156,12 +158,7 @@ fn counts_of<R: Threads + Wait + Sync>(rt: &R, alloc: Global) -> Result<[usize; 
     let end = end_of(rt, alloc, &image, 5, 3)?;
     let reached = positions(alloc, &end.stores)?;
     let held = held_by_three(&reached, &end.released);
-    Ok([
-        end.released.len(),
-        end.kept,
-        in_order(&end.released),
-        held,
-    ])
+    Ok([end.released.len(), end.kept, in_order(&end.released), held])
 }
 
 #[test]
