@@ -1,8 +1,8 @@
 //! Followers that keep up with stores.
 
-use crate::logs::{in_turn, opened, plan_of, put};
+use crate::logs::{in_turn, opened, pieces_of, plan_of, put};
 use fixtures::{Dice, HALTS, image_of, key, opening_of, piece_of, recorder};
-use fragment_codec::{Frame, Sealed, cut_pieces};
+use fragment_codec::{Frame, Sealed};
 use ft_types::{Count, Counts, Hart};
 use guest_image::Image;
 use hart_replay::ReplayFault;
@@ -119,11 +119,7 @@ fn many_pieces(alloc: Global, image: &Image) -> Result<Vec<Frame>, Fail> {
     let mut pieces = Vec::new(alloc);
     for round in 1..9u64 {
         book = gone_to(alloc, book, round * 40)?;
-        let counts = book.counts();
-        if counts.harts() != image.harts() || !sealed.is_within(&counts) {
-            return Err("counts".into());
-        }
-        for piece in cut_pieces(alloc, &book, &image.guest(), 1, &mut sealed)? {
+        for piece in pieces_of(alloc, image, &book, &mut sealed)? {
             pieces.push(piece)?;
         }
     }

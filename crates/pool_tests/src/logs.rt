@@ -38,8 +38,8 @@ pub fn opened(alloc: Global, image: &Image) -> Result<Store, Fail> {
     Ok(store)
 }
 
-/// The pieces of a book's whole log.
-fn pieces_of(
+/// The pieces of a book's log behind what is sealed.
+pub fn pieces_of(
     alloc: Global,
     image: &Image,
     book: &Book<Recording>,
