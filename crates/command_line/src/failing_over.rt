@@ -15,7 +15,7 @@ use std::alloc::Global;
 
 /// Applies the events, up to the first that is refused.
 fn apply_all(alloc: Global, world: &mut World, events: Vec<Event>) -> Result<(), CommandFault>
-    requires events { AllByRecursion (MayCome world.old.harts) events.items }
+    requires events { AllByRecursion (MayCome world.old.image.harts) events.items }
 {
     let _many = events.len();
     let mut line = 0;

@@ -40,8 +40,8 @@ noted_world v is gate same offered =
     record {
       parts =
           with_gate v is.parts gate (ap (λ (g : TermGateView). g.gate.term) same) (ap (λ (g : TermGateView). g.gate.keepers) same)
-              (ap (λ (g : TermGateView). g.gate.need) same)
-              (ap (λ (g : TermGateView). g.harts) same) (ap (λ (g : TermGateView). length g.acked) same) offered;
+          (ap (λ (g : TermGateView). g.gate.need) same)
+          (ap (λ (g : TermGateView). g.harts) same) (ap (λ (g : TermGateView). length g.acked) same) offered;
       tied = same_acked v is.tied gate (ap (λ (g : TermGateView). g.acked) same);
     }
 

@@ -51,7 +51,7 @@ module _ (v : WorldView) (is : IsTied v) where
     now_held : (x : Option StoreView) →
         theory.Comes is.is_recorder.recorder (guest_of v.image) (quorum_of v)
         (record (theory_world v.image.pages is.are_theory (guest_of v.image) v is.terms is.out) {
-          stores = put (λ j. slice_index_or v.stores j (Some (nothing (guest_of v.image)))) keeper x
+          stores = put (λ j. slice_index_or v.stores j (Some (nothing (guest_of v.image)))) keeper x;
         }) →
         IsTied (record v { stores = slice_set v.stores keeper x })
     now_held x comes =

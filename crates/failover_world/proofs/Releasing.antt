@@ -123,7 +123,7 @@ module _ (v : WorldView) (is : IsTied v) (leads : LeadsTo (heard_by v.primary.bo
   split (x ∷ xs) ys r has =
       elim (here_or_later x (xs ++ ys) r has) [
         | inl same ↦ inl (subst (Contains (x ∷ xs)) same (here x xs))
-        | inr later ↦ elim (split xs ys r later) [ | inl one ↦ inl (Contains-append_right (x ∷ []) xs r one) | inr two ↦ inr two ]
+        | inr later ↦ elim (split xs ys r later) [ inl one ↦ inl (Contains-append_right (x ∷ []) xs r one) | inr two ↦ inr two ]
       ]
 
   -- outputs went out, and the gate knows no less of what was acknowledged

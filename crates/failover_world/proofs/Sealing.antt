@@ -147,8 +147,7 @@ module _ (v : WorldView) (is : IsTied v) where
       Contains (edges_of v.primary.book.mode.edges) e × (e.hart ≡ hart)
   to_theory hart e has =
       let log = is.is_book.primary.log in
-      let (x, there, same) = map_contains edge_as (row_of v.primary.book.mode.edges hart) e has in
-      (
+      let (x, there, same) = map_contains edge_as (row_of v.primary.book.mode.edges hart) e has in (
         subst (Contains (edges_of v.primary.book.mode.edges)) same (to_edges v.primary.book.mode.edges.rows hart x there),
         sym (ap (λ (e : Edge). e.hart) same) ∙ (of_row v.primary.book.mode.edges.start v.primary.book.mode.edges.rows log hart x there).own,
       )
@@ -249,7 +248,7 @@ module _ (v : WorldView) (is : IsTied v) where
         rest
       where
         below : (hart n : ℕ) → hart < suc n → (n ≡ hart → ⊥) → hart < n
-        below hart n less other = elim (cases_lt hart n) [ | inl lt ↦ lt | inr over ↦ absurd (other (omega (arith, less, over))) ]
+        below hart n less other = elim (cases_lt hart n) [ inl lt ↦ lt | inr over ↦ absurd (other (omega (arith, less, over))) ]
 
     module _ (frames : List Frame) (cut : IsCut (book_log (guest_of v.image) (term_of v) v.primary.book) v.image.harts v.primary.sealed frames new) where
       as_it_was : ComesWith is.pieces v.sent

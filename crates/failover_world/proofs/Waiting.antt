@@ -61,8 +61,7 @@ module _ (need : ℕ) (noted : List (List ℕ)) where
   all_back a [] all none = (refl, refl)
   all_back a (x ∷ xs) (first, rest) none =
       let rec = all_back a xs rest none in
-      let is = held_back a x first none in
-      (
+      let is = held_back a x first none in (
         ap (λ b. cond b (x ∷ filter (is_held need noted) xs) (filter (is_held need noted) xs)) is ∙ rec.0,
         ap (λ b. cond (not b) (x ∷ filter (is_not_held need noted) xs) (filter (is_not_held need noted) xs)) is ∙ ap (λ ys. x ∷ ys) rec.1,
       )

@@ -82,9 +82,9 @@ pub record Releases (v : WorldView) (w : WorldView) : Type 0 where
   pub lines : (hart : ℕ) → hart < 8 → line_of w.gate.gate hart ≡ after_release v.need w.gate.gate.noted (line_of offered.gate hart)
   pub gate : w.gate ≡ record v.gate { gate = record v.gate.gate { noted = w.gate.gate.noted; lines = w.gate.gate.lines } }
   pub rest : w ≡ record v {
-        gate = w.gate;
-        released = v.released ++ released_in (term_of v) (held_outputs v.need w.gate.gate.noted offered.gate.lines);
-      }
+    gate = w.gate;
+    released = v.released ++ released_in (term_of v) (held_outputs v.need w.gate.gate.noted offered.gate.lines);
+  }
 
 -- the primary stopped
 pub record Stops (v : WorldView) (w : WorldView) : Type 0 where
@@ -132,12 +132,12 @@ pub record Grants (v : WorldView) (term : ℕ) (named : List ℕ) (w : WorldView
   pub there : All (λ keeper. store_at v.stores keeper ≢ None) named
   pub live : GoesLive v term named w.primary w.gate
   pub rest : w ≡ record v {
-        primary = w.primary;
-        runs = true;
-        stopped = v.stopped ++ v.primary ∷ [];
-        sent = v.sent ++ Opening w.primary.opening ∷ [];
-        gate = w.gate;
-      }
+    primary = w.primary;
+    runs = true;
+    stopped = v.stopped ++ v.primary ∷ [];
+    sent = v.sent ++ Opening w.primary.opening ∷ [];
+    gate = w.gate;
+  }
 
 abbrev pub Happens : WorldView → Event → WorldView → Type 0
 Happens v (on.Step hart) w = Steps v hart w

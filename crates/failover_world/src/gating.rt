@@ -14,11 +14,7 @@ use std::result::Result;
 use term_gate::TermGate;
 
 /// Offers a hart's outputs from the one of this number on.
-fn offer_hart(
-    gate: &mut TermGate,
-    hart: Hart,
-    outputs: &[(Count, u32)],
-) -> Result<(), Memory>
+fn offer_hart(gate: &mut TermGate, hart: Hart, outputs: &[(Count, u32)]) -> Result<(), Memory>
     requires rising { EachPair (λ a b. a.0 < b.0) outputs.now }
     requires offered { offered_of gate.old.gate hart ≡ take (length (offered_of gate.old.gate hart)) (numbered hart outputs.now) }
     ensures more { OffersMore gate.old gate.new }

@@ -19,12 +19,12 @@ ghost use Rattle.go_live.specs.declared.fault.LiveFault.TheVariants.{Memory as N
 ghost use Rattle.input_log.specs.Inputs.{is_bell};
 ghost use Rattle.failover_world.specs.Promises.{IsOne, IsOfMachine, IsKept, AreHeld};
 
-use crate::released::Released;
-use failover_events::{Event, WorldFault};
 use crate::gating::{add_released, offer_all};
 use crate::keepers::{are_there, empty_stores, held_by, join, keeper_at, put, stores_named};
 use crate::primary::{Primary, boot, no_limits, tell_primary};
+use crate::released::Released;
 use closed_cut::position;
+use failover_events::{Event, WorldFault};
 use fragment_codec::{Frame, Sealed, cut_pieces};
 use ft_types::{Hart, Memory, Term};
 use go_live::{LiveFault, go_live};
@@ -185,6 +185,7 @@ impl World {
         ensures happens { OnOk result (Happens self.old (on.Step hart) self.new) }
         ensures refused { IfErr result (λ f. Refuses self.old (on.Step hart) f) }
         ensures left { OnErr result (IsLeft self.old self.new) }
+        ensures image { self.new.image ≡ self.old.image }
     {
         if !self.runs {
             return Err(WorldFault::NoPrimary);
@@ -201,6 +202,7 @@ impl World {
         ensures happens { OnOk result (Happens self.old (on.Offer hart input) self.new) }
         ensures refused { IfErr result (λ f. Refuses self.old (on.Offer hart input) f) }
         ensures left { OnErr result (IsLeft self.old self.new) }
+        ensures image { self.new.image ≡ self.old.image }
     {
         if !self.runs {
             return Err(WorldFault::NoPrimary);
@@ -214,6 +216,7 @@ impl World {
         ensures happens { OnOk result (Happens self.old on.Seal self.new) }
         ensures refused { IfErr result (λ f. Refuses self.old on.Seal f) }
         ensures left { OnErr result (IsLeft self.old self.new) }
+        ensures image { self.new.image ≡ self.old.image }
     {
         if !self.runs {
             return Err(WorldFault::NoPrimary);
@@ -233,6 +236,7 @@ impl World {
         ensures happens { OnOk result (Happens self.old (on.Deliver keeper frame) self.new) }
         ensures refused { IfErr result (λ f. Refuses self.old (on.Deliver keeper frame) f) }
         ensures left { OnErr result (IsLeft self.old self.new) }
+        ensures image { self.new.image ≡ self.old.image }
     {
         let Some(keeper) = keeper_at(&self.stores, keeper) else {
             return Err(WorldFault::NoKeeper);
@@ -248,6 +252,7 @@ impl World {
         ensures happens { OnOk result (Happens self.old (on.Join keeper other) self.new) }
         ensures refused { IfErr result (λ f. Refuses self.old (on.Join keeper other) f) }
         ensures left { OnErr result (IsLeft self.old self.new) }
+        ensures image { self.new.image ≡ self.old.image }
     {
         let Some(keeper) = keeper_at(&self.stores, keeper) else {
             return Err(WorldFault::NoKeeper);
@@ -262,6 +267,7 @@ impl World {
         ensures happens { OnOk result (Happens self.old (on.Acknowledge keeper) self.new) }
         ensures refused { IfErr result (λ f. Refuses self.old (on.Acknowledge keeper) f) }
         ensures left { OnErr result (IsLeft self.old self.new) }
+        ensures image { self.new.image ≡ self.old.image }
     {
         let Some(store) = held_by(&self.stores, keeper) else {
             return Err(WorldFault::NoKeeper);
@@ -280,6 +286,7 @@ impl World {
         ensures happens { OnOk result (Happens self.old on.Release self.new) }
         ensures refused { IfErr result (λ f. Refuses self.old on.Release f) }
         ensures left { OnErr result (IsLeft self.old self.new) }
+        ensures image { self.new.image ≡ self.old.image }
     {
         if !self.runs {
             return Err(WorldFault::NoPrimary);
@@ -300,6 +307,7 @@ impl World {
         ensures happens { OnOk result (Happens self.old on.Stop self.new) }
         ensures refused { IfErr result (λ f. Refuses self.old on.Stop f) }
         ensures left { OnErr result (IsLeft self.old self.new) }
+        ensures image { self.new.image ≡ self.old.image }
     {
         if !self.runs {
             return Err(WorldFault::NoPrimary);
@@ -312,6 +320,7 @@ impl World {
         ensures happens { OnOk result (Happens self.old (on.Lose keeper) self.new) }
         ensures refused { IfErr result (λ f. Refuses self.old (on.Lose keeper) f) }
         ensures left { OnErr result (IsLeft self.old self.new) }
+        ensures image { self.new.image ≡ self.old.image }
     {
         let Some(keeper) = keeper_at(&self.stores, keeper) else {
             return Err(WorldFault::NoKeeper);
@@ -360,6 +369,7 @@ impl World {
         ensures happens { OnOk result (Grants self.old term keepers.now self.new) }
         ensures refused { IfErr result (λ f. RefusesGrant self.old term keepers.now f) }
         ensures left { OnErr result (self.new ≡ self.old) }
+        ensures image { self.new.image ≡ self.old.image }
     {
         if !are_there(&self.stores, keepers) {
             return Err(WorldFault::NoKeeper);
@@ -386,6 +396,7 @@ impl World {
         ensures happens { OnOk result (Happens self.old event self.new) }
         ensures refused { IfErr result (λ f. Refuses self.old event f) }
         ensures left { OnErr result (IsLeft self.old self.new) }
+        ensures image { self.new.image ≡ self.old.image }
     {
         match event {
             Event::Step(hart) => self.step(alloc, hart),

@@ -6,6 +6,6 @@ use Rattle.command_line.proofs.failing_over.apply_all.Given as goal
 
 abbrev pub invariant-loop-event : goal.invariant-loop-event
 invariant-loop-event l = record {
-  left : AllByRecursion (MayCome l.world.harts) (into_iter_items l.event-iterator);
+  left : AllByRecursion (MayCome l.world.image.harts) (into_iter_items l.event-iterator);
   lines : l.line + length (into_iter_items l.event-iterator) ≤ 2 ^ 63;
 }

@@ -14,7 +14,7 @@ loop-number-preserved c =
     let said : c.outputs.result.now ≡ said_at c.args.machine.now c.loop-number.number =
     c.outputs.ensures ∙ ap said_by (sym c.hart.ensures) ∙ ap (said_at c.args.machine.now) c.new-hart.ensures in
     next_hart c.args.gate.now c.loop-number.gate c.offer_hart.new.gate c.args.machine.now c.loop-number.number c.loop-number.invariant
-    c.in_ok-offer_hart.ensures.more 
+    c.in_ok-offer_hart.ensures.more
     (subst (λ h. offered_of c.offer_hart.new.gate.gate h ≡ numbered h c.outputs.result.now) c.new-hart.ensures c.in_ok-offer_hart.ensures.all
     ∙ ap (numbered c.loop-number.number) said)
     (λ other ne. c.in_ok-offer_hart.ensures.others other (λ e. ne (e ∙ c.new-hart.ensures)))

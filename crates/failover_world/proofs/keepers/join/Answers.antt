@@ -27,12 +27,11 @@ returns-in-Ok-clause-joined c = λ s t is at.
     let apart : c.index.result ≢ c.index-2.result = λ e.
     let no : false ≡ true = c.if-eq.ensures ∙ eq-eqb c.args.keeper c.args.other (sym c.index.ensures.value ∙ e ∙ c.index-2.ensures.value) in cc in
     let other : get_or (slice_set c.args.stores.now c.index.result c.take-taken.new.self) c.index-2.result c.index-stores-index-2.result
-        ≡ get_or c.args.stores.now c.args.other None =
+    ≡ get_or c.args.stores.now c.args.other None =
     set_elsewhere c.args.stores.now c.index.result c.index-2.result c.take-taken.new.self c.index-stores-index-2.result apart
     ∙ ap (λ k. get_or c.args.stores.now k c.index-stores-index-2.result) c.index-2.ensures.value
     ∙ whatever c.args.stores.now c.args.other c.index-stores-index-2.result None c.requires.below.1 in
-    let held : c.in-Some-stores.held ≡ t = same_some c.in-Some-stores.held t (sym c.in-Some-stores.is ∙ other ∙ at) in
-    (
+    let held : c.in-Some-stores.held ≡ t = same_some c.in-Some-stores.held t (sym c.in-Some-stores.is ∙ other ∙ at) in (
       c.join-joined.new.self,
       subst (λ (x : StoreView). IsJoin x t c.join-joined.new.self) one
           (subst (λ (x : StoreView). IsJoin c.in-Some.store x c.join-joined.new.self) held c.in-Ok.ensures.joined),

@@ -13,8 +13,7 @@ returns-clause-joined c = λ s is.
     ∙ ap (λ k. get_or c.args.stores.now k c.index-stores-index.result) c.index.ensures.value
     ∙ whatever c.args.stores.now c.args.keeper c.index-stores-index.result None c.requires.below in
     let there : get_or c.args.stores.now c.args.keeper None ≡ Some c.in-Some.store = sym at ∙ c.index-stores-index.is ∙ sym c.take-taken.ensures.value ∙ c.in-Some.is in
-    let same : c.in-Some.store ≡ s = same_some c.in-Some.store s (sym there ∙ is) in
-    (
+    let same : c.in-Some.store ≡ s = same_some c.in-Some.store s (sym there ∙ is) in (
       c.put-answer.new.self,
       subst (λ (x : StoreView). IsJoin x (alone c.args.frame) c.put-answer.new.self) same
           (c.in_ok-_put.ensures.joined (λ e. c.requires.own c.in-Some.store there (sym c.in_ok-_put.ensures.answer ∙ e))),

@@ -25,8 +25,7 @@ loop-number-preserved c =
     let more = one_more c.args.stores.now c.args.numbers.now c.loop-number.number (omega (arith, lt)) in
     let room = c.loop-number.invariant.2 in
     let grown = c.add_if_named.ensures.one_more in
-    let same = c.add_if_named.ensures.capacity in
-    (
+    let same = c.add_if_named.ensures.capacity in (
       c.add_if_named.ensures.keepers
           ∙ ap (λ xs. xs ++ map (λ s. s.0) (if_named c.args.numbers.now c.loop-number.number (get_or c.args.stores.now c.loop-number.number None))) c.loop-number.invariant.0
           ∙ sym (map-append (λ (s : ℕ × StoreView). s.0) (stores_of (take c.loop-number.number c.args.stores.now) c.args.numbers.now)

@@ -114,10 +114,14 @@ returns-clause-happens c =
       released = c.self.inside.released.items;
     } in
     let r = (put_there c).0 in
-    subst (λ x. Delivers x c.args.keeper c.args.frame (record v { stores = take c.self.inside.stores.len
-    (c.put.new.stores ++ drop (length c.put.new.stores) c.self.inside.stores.items) })) c.self.view_is
-    (subst (λ k. Delivers v k c.args.frame (record v { stores = take c.self.inside.stores.len
-    (c.put.new.stores ++ drop (length c.put.new.stores) c.self.inside.stores.items) })) c.in-Some.ensures.some
+    subst (λ x. Delivers x c.args.keeper c.args.frame (record v {
+      stores = take c.self.inside.stores.len
+          (c.put.new.stores ++ drop (length c.put.new.stores) c.self.inside.stores.items);
+    })) c.self.view_is
+    (subst (λ k. Delivers v k c.args.frame (record v {
+      stores = take c.self.inside.stores.len
+          (c.put.new.stores ++ drop (length c.put.new.stores) c.self.inside.stores.items);
+    })) c.in-Some.ensures.some
     (record {
       store = c.in-Some.ensures.there.0;
       there = there c;
