@@ -1,6 +1,7 @@
 #!/bin/sh
 # Counts the instructions per frame of a log that comes frame by frame, by callgrind. Needs rt and valgrind on the PATH. Works
-# in a folder of its own, which it removes.
+# in a folder of its own, which it removes. Where `counts` is set, as in `counts=10000 sh measure.sh`, only logs of so many frames
+# are counted.
 set -eu
 
 here=$(cd "$(dirname "$0")" && pwd)
@@ -8,7 +9,7 @@ here=$(cd "$(dirname "$0")" && pwd)
 
 workspace tracked_bench "interleaving zaamo ft_types rv32_isa input_log rv32_hart edge_log guest_image crew_pages lease_ledger hart_lease book_modes page_book fragment_codec log_join closed_cut tracked_position" "closed_cut tracked_position log_join fragment_codec ft_types input_log edge_log anyhow"
 
-for frames in 10000 100000; do
+for frames in ${counts:-10000 100000 1000000}; do
     for order in in_turn streams mixed; do
         made=$(count "$program" "$frames" "$order" make)
         joined=$(count "$program" "$frames" "$order" join)

@@ -13,6 +13,7 @@ use Rattle.closed_cut.specs.Position.{pieces_of, Goes}
 use Rattle.tracked_position.specs.Cuts.{edges_in, Meets, GoesOver, ComeTo, IsLimited, IsCutOf, IsHigh, IsGreatestCut}
 use Rattle.tracked_position.specs.Walks.{cursor_at, IsMetFrom, IsOver, AreOver}
 use Rattle.tracked_position.specs.declared.walk.Cursor.{Cursor}
+use Rattle.tracked_position.specs.declared.walk.Ahead.TheVariants.{Unseen}
 use Rattle.interleaving.specs.Lists as theory
 use Rattle.ft_types.specs.declared.guest.Guest.{Guest}
 use Rattle.tracked_position.proofs.Stops.{over_more}
@@ -197,11 +198,20 @@ pub set_over : (s : StoreView) (term : ℕ) (base cut more : ℕ → ℕ) (curso
     AreOver s term base more (set cursors at cursor)
 set_over s term base cut more cursors at cursor there within are over h less =
     elim (cases_eq h at) [
-      | inl same ↦ rw (same, get_or-set_same cursors at cursor (record { place = 0; end = 0 }) there) over
+      | inl same ↦ rw (same, get_or-set_same cursors at cursor (record { place = 0; end = 0; ahead = Unseen }) there) over
       | inr ne ↦
-          rw (get_or-set_other cursors at h cursor (record { place = 0; end = 0 }) ne)
+          rw (get_or-set_other cursors at h cursor (record { place = 0; end = 0; ahead = Unseen }) ne)
           (over_more (pieces_of s term h) (base h) cut more (cursor_at cursors h) within (are h less))
     ]
+
+-- nothing is seen ahead of one any more
+pub unseen_over : (s : StoreView) (term : ℕ) (base cut : ℕ → ℕ) (cursors : List Cursor) (at : ℕ) → at < 8 → length cursors ≡ 8 →
+    AreOver s term base cut cursors →
+    AreOver s term base cut (set cursors at (record { place = (cursor_at cursors at).place; end = (cursor_at cursors at).end; ahead = Unseen }))
+unseen_over s term base cut cursors at less eight are =
+    let over = are at less in
+    set_over s term base cut cut cursors at (record { place = (cursor_at cursors at).place; end = (cursor_at cursors at).end; ahead = Unseen }) (omega arith)
+    (λ h. le_of_eq refl) are (record { goes = over.goes; met = over.met; seen = tt })
 
 pub more_over : (s : StoreView) (term : ℕ) (base cut more : ℕ → ℕ) (cursors : List Cursor) → theory.IsWithin cut more → AreOver s term base cut cursors →
     AreOver s term base more cursors

@@ -24,8 +24,10 @@ use Rattle.closed_cut.specs.Position.{pieces_of, Goes, Avail, Fits, IsReached}
 use Rattle.closed_cut.proofs.Lowerings.{found, contains_map}
 use Rattle.closed_cut.proofs.Walking.{one_same, no_place}
 use Rattle.tracked_position.specs.declared.walk.Cursor.{Cursor}
+use Rattle.tracked_position.specs.declared.walk.Ahead.{Ahead}
+use Rattle.tracked_position.specs.declared.walk.Ahead.TheVariants.{Unseen, End, Waits}
 use Rattle.tracked_position.specs.Cuts.{GoesOver, IsCutOf, IsGreatestCut}
-use Rattle.tracked_position.specs.Walks.{IsOver}
+use Rattle.tracked_position.specs.Walks.{EndsAt, IsAhead, IsOver}
 use Rattle.tracked_position.proofs.Cuts.{before_end, over_of, goes_rise, rises, own}
 use Rattle.tracked_position.proofs.Stops.{last_end_of}
 
@@ -37,10 +39,13 @@ pub record HasOneMore (s n : StoreView) (piece : FragmentParts) : Type 0 where
   pub openings : (term : ℕ) → opening_at n term ≡ opening_at s term
   pub kept : (key : Key) (x : FragmentParts) → fragment_at s key ≡ One x → fragment_at n key ≡ One x
   pub others : (key : Key) → (key ≡ piece.key → ⊥) → fragment_at n key ≡ fragment_at s key
+  pub fresh : fragment_at s piece.key ≡ Absent
+  pub back : (key : Key) (x : FragmentParts) → fragment_at n key ≡ One x → (fragment_at s key ≡ One x) ⊎ ((key ≡ piece.key) × (x ≡ piece))
 
 -- a map of one content has that at its key, and nothing elsewhere
 alone_cell : {K X : Type 0} {R : K → K → Ordering} → IsTotalOrder R → ((a b : K) → R a b ≡ Equal → a ≡ b) → (k q : K) (x : X) →
-    (cell_of (finite.get (finite.insert (finite.empty {R = R}) k (Some x)) q) ≡ Absent) ⊎ (q ≡ k)
+    (cell_of (finite.get (finite.insert (finite.empty {R = R}) k (Some x)) q) ≡ Absent) ⊎
+    ((q ≡ k) × (cell_of (finite.get (finite.insert (finite.empty {R = R}) k (Some x)) q) ≡ One x))
 alone_cell {K} {X} {R} total exact k q x = of (eq_by_cmp R q k) refl
   where
     seen : Bool → Cell X
@@ -49,8 +54,9 @@ alone_cell {K} {X} {R} total exact k q x = of (eq_by_cmp R q k) refl
     is : cell_of (finite.get (finite.insert (finite.empty {R = R}) k (Some x)) q) ≡ seen (eq_by_cmp R q k)
     is = ap cell_of (finite.get-insert total finite.empty k (Some x) q)
 
-    of : (b : Bool) → eq_by_cmp R q k ≡ b → (cell_of (finite.get (finite.insert (finite.empty {R = R}) k (Some x)) q) ≡ Absent) ⊎ (q ≡ k)
-    of true t = inr (exact q k ((Equal-is (R q k)).0 t))
+    of : (b : Bool) → eq_by_cmp R q k ≡ b → (cell_of (finite.get (finite.insert (finite.empty {R = R}) k (Some x)) q) ≡ Absent) ⊎
+        ((q ≡ k) × (cell_of (finite.get (finite.insert (finite.empty {R = R}) k (Some x)) q) ≡ One x))
+    of true t = inr (exact q k ((Equal-is (R q k)).0 t), is ∙ ap seen t)
     of false t = inl (is ∙ ap seen t ∙ ap cell_of (finite.get-empty R q))
 
 new_here : (b : Bool) (c : Cell FragmentParts) (f : FragmentParts) → cond b (answer same_fragment c f) OtherGuest ≡ New → c ≡ Absent
@@ -76,18 +82,33 @@ one_more s n f is joined =
           elim (alone_cell keys_total keys_exact f.key key f) [
             | inl none ↦
                 joined.fragments key ∙ ap (λ c. join_cell same_fragment (fragment_at s key) c) none ∙ join_absent same_fragment (fragment_at s key) ∙ one
-            | inr at ↦
-                let absent : fragment_at s f.key ≡ Absent = new_here (same_guest f.guest s.guest) (fragment_at s f.key) f is in
-                let here_is : fragment_at s key ≡ Absent = ap (fragment_at s) at ∙ absent in
-                cc
+            | inr (at, one_there) ↦ let here_is : fragment_at s key ≡ Absent = ap (fragment_at s) at ∙ absent in cc
           ];
       others =
           λ key other.
           elim (alone_cell keys_total keys_exact f.key key f) [
             | inl none ↦ joined.fragments key ∙ ap (λ c. join_cell same_fragment (fragment_at s key) c) none ∙ join_absent same_fragment (fragment_at s key)
-            | inr at ↦ absurd (other at)
+            | inr (at, one_there) ↦ absurd (other at)
+          ];
+      fresh = absent;
+      back =
+          λ key x one.
+          elim (alone_cell keys_total keys_exact f.key key f) [
+            | inl none ↦
+                inl
+                (sym
+                (joined.fragments key ∙ ap (λ c. join_cell same_fragment (fragment_at s key) c) none ∙ join_absent same_fragment (fragment_at s key)) ∙
+                one)
+            | inr (at, one_there) ↦
+                let here_is : fragment_at s key ≡ Absent = ap (fragment_at s) at ∙ absent in
+                let joins : fragment_at n key ≡ One f =
+                joined.fragments key ∙ ap (λ c. join_cell same_fragment c (fragment_at (alone (Log f)) key)) here_is ∙ one_there in
+                inr (at, one_same one joins)
           ];
     }
+  where
+    absent : fragment_at s f.key ≡ Absent
+    absent = new_here (same_guest f.guest s.guest) (fragment_at s f.key) f is
 
 -- ---- cuts of a term
 
@@ -95,7 +116,7 @@ one_more s n f is joined =
 abbrev pub GrowsAt : StoreView → StoreView → ℕ → Type 0
 GrowsAt s n term = (hart place : ℕ) (x : FragmentParts) → pieces_of s term hart place ≡ One x → pieces_of n term hart place ≡ One x
 
-goes_grown : (a b : ℕ → Cell FragmentParts) → ((place : ℕ) (x : FragmentParts) → a place ≡ One x → b place ≡ One x) → (start place end : ℕ) →
+pub goes_grown : (a b : ℕ → Cell FragmentParts) → ((place : ℕ) (x : FragmentParts) → a place ≡ One x → b place ≡ One x) → (start place end : ℕ) →
     Goes a start place end → Goes b start place end
 goes_grown a b grows start zero end goes = goes
 goes_grown a b grows start (suc place) end (x, g, one, is) = (x, goes_grown a b grows start place x.from g, grows place x one, is)
@@ -141,12 +162,28 @@ module _ (s n : StoreView) (rules : IsStore n) (term : ℕ) (grows : GrowsAt s n
             ];
       }
 
-  -- and a walk came as far
-  pub over_grown : (hart start : ℕ) (cut : ℕ → ℕ) (at : Cursor) → IsOver (pieces_of s term hart) start cut at → IsOver (pieces_of n term hart) start cut at
-  over_grown hart start cut at over =
+  ahead_grown : (hart : ℕ) (cut : ℕ → ℕ) (at : Cursor) (ahead : Ahead) → (ahead ≡ End → EndsAt (pieces_of n term hart) at) →
+      IsAhead (pieces_of s term hart) cut at ahead → IsAhead (pieces_of n term hart) cut at ahead
+  ahead_grown hart cut at Unseen ends is = tt
+  ahead_grown hart cut at End ends is = ends refl
+  ahead_grown hart cut at (Waits e) ends is =
+      record {
+        piece = is.piece;
+        one = grows hart at.place is.piece is.one;
+        from = is.from;
+        has = is.has;
+        below = is.below;
+        first = is.first;
+      }
+
+  -- and a walk came as far, where it has not ended before what came
+  pub over_grown : (hart start : ℕ) (cut : ℕ → ℕ) (at : Cursor) → (at.ahead ≡ End → EndsAt (pieces_of n term hart) at) →
+      IsOver (pieces_of s term hart) start cut at → IsOver (pieces_of n term hart) start cut at
+  over_grown hart start cut at ends over =
       record {
         goes = goes_grown (pieces_of s term hart) (pieces_of n term hart) (grows hart) start at.place at.end over.goes;
         met = λ place x e less one has. over.met place x e less (same_piece hart start at.place place at.end x over.goes less one).one has;
+        seen = ahead_grown hart cut at at.ahead ends over.seen;
       }
 
 -- ---- what is reached, by its walks
@@ -191,7 +228,7 @@ module _ (s : StoreView) (rules : IsStore s) (term : ℕ) (base : ℕ → ℕ) w
               λ h.
               let w = is.within h in
               let last : w.end ≤ a.end h =
-              last_end_of s rules term base h (record { place = a.places h; end = a.end h }) (a.goes h) (a.stops h) w.place w.end w.goes in
+              last_end_of s rules term base h (record { place = a.places h; end = a.end h; ahead = Unseen }) (a.goes h) (a.stops h) w.place w.end w.goes in
               let far : cut h ≤ w.end = w.far in omega arith;
           before_next = is.before_next;
           closed =

@@ -11,6 +11,7 @@ use Rattle.closed_cut.specs.declared.answer.Position.{Position}
 use Rattle.closed_cut.proofs.Walking.{one_same}
 use Rattle.closed_cut.proofs.Chains.{term_above, chain_up}
 use Rattle.std.specs.Option.{option_map}
+use Rattle.tracked_position.specs.Cuts.{IsCutOf}
 use Rattle.tracked_position.specs.Legs.{IsChild, IsNext}
 use Rattle.tracked_position.proofs.Growth.{GrowsAt, cut_grown, to_greatest, from_greatest}
 
@@ -144,23 +145,33 @@ module _ (s n : StoreView) (rules : IsStore s) (grown : IsStore n) (openings : (
         bound = λ other is h. let below : other h ≤ limit h = is.before_next h in let e : all h ≡ limit h = same h in omega arith;
       })
 
-  -- and a term to which nothing came is reached as it was
-  pub same_reached : (now : ℕ) → GrowsAt n s now → (base : ℕ → ℕ) (next : Option (ℕ → ℕ)) (cut : ℕ → ℕ) → IsReached s now base next cut → IsReached n
-      now base next cut
-  same_reached now back base next cut r =
-      let g = to_greatest s rules now base next cut r in
-      from_greatest n grown now base next cut
+  -- each cut of the term was one before
+  abbrev pub HasNoMore : ℕ → Type 0
+  HasNoMore term = (o : OpeningParts) → opening_at s term ≡ One o → (next : Option (ℕ → ℕ)) (other : ℕ → ℕ) → IsCutOf n term (base_of o) next other →
+      IsCutOf s term (base_of o) next other
+
+  -- where nothing came to the term
+  pub no_more : (term : ℕ) → GrowsAt n s term → HasNoMore term
+  no_more term back o one next other is = cut_grown n s rules term back (base_of o) next other is
+
+  -- and then the term is reached as it was
+  same_reached : (term : ℕ) → HasNoMore term → (now : ℕ) → now ≡ term → (o : OpeningParts) → opening_at s now ≡ One o → (next : Option (ℕ → ℕ))
+      (cut : ℕ → ℕ) → IsReached s now (base_of o) next cut → IsReached n now (base_of o) next cut
+  same_reached term back now is o one next cut r =
+      let before : HasNoMore now = subst HasNoMore (sym is) back in
+      let g = to_greatest s rules now (base_of o) next cut r in
+      from_greatest n grown now (base_of o) next cut
       (record {
-        cut_of = cut_grown s n grown now (grows now) base next cut g.cut_of;
-        bound = λ other is. g.bound other (cut_grown n s rules now back base next other is);
+        cut_of = cut_grown s n grown now (grows now) (base_of o) next cut g.cut_of;
+        bound = λ other is. g.bound other (before o one next other is);
       })
 
-  stops_same : (top term : ℕ) (cut : ℕ → ℕ) → GrowsAt n s term → {now : ℕ} → Stops s top term cut now → Stops n top term cut now
+  stops_same : (top term : ℕ) (cut : ℕ → ℕ) → HasNoMore term → {now : ℕ} → Stops s top term cut now → Stops n top term cut now
   stops_same top term cut back (Last {now = now} o one is_top is a) =
-      Last o (openings now ∙ one) is_top is (same_reached now (subst (GrowsAt n s) (sym is) back) (base_of o) None cut a)
+      Last o (openings now ∙ one) is_top is (same_reached term back now is o one None cut a)
   stops_same top term cut back (Short {now = now} o m next one two parent chain is a ne) =
       Short o m next (openings now ∙ one) (openings next ∙ two) parent (chain_over s n openings chain) is
-      (same_reached now (subst (GrowsAt n s) (sym is) back) (base_of o) (Some (base_of m)) cut a) ne
+      (same_reached term back now is o one (Some (base_of m)) cut a) ne
   stops_same top term cut back (On {now = now} o m next all one two parent chain a e stops) =
       On o m next all (openings now ∙ one) (openings next ∙ two) parent (chain_over s n openings chain) (on_reached now (base_of o) (base_of m) all e a) e
       (stops_same top term cut back stops)
@@ -180,8 +191,8 @@ module _ (s n : StoreView) (rules : IsStore s) (grown : IsStore n) (openings : (
         greatest = λ other sound. is.greatest other (sound_over n s (λ t. sym (openings t)) sound);
       }
 
-  -- nothing came to the position's term
-  pub position_same : (p : Position) → GrowsAt n s p.term → IsPosition s p → IsPosition n p
+  -- the position's term has no cut more
+  pub position_same : (p : Position) → HasNoMore p.term → IsPosition s p → IsPosition n p
   position_same p back (NoTop none a b c) = NoTop (λ term sound. none term (sound_over n s (λ t. sym (openings t)) sound)) a b c
   position_same p back (Top w) =
       Top

@@ -10,8 +10,10 @@ use Rattle.log_join.specs.Stores.{StoreView, IsStore, opening_at}
 use Rattle.closed_cut.specs.Position.{pieces_of, Goes, base_of}
 use Rattle.closed_cut.proofs.Walking.{one_same}
 use Rattle.tracked_position.specs.declared.walk.Cursor.{Cursor}
+use Rattle.tracked_position.specs.declared.walk.Ahead.{Ahead}
+use Rattle.tracked_position.specs.declared.walk.Ahead.TheVariants.{Unseen, End, Waits}
 use Rattle.tracked_position.specs.Cuts.{edges_in, Meets, GoesOver, ComesTo}
-use Rattle.tracked_position.specs.Walks.{GoesTo, StopsBefore, EndsAt, IsOver, stop_count, other_of}
+use Rattle.tracked_position.specs.Walks.{GoesTo, StopsBefore, EndsAt, IsAhead, IsOver, stop_count, other_of}
 use Rattle.tracked_position.specs.Waits.{IsWaiting, limited_to}
 use Rattle.std.specs.Option.{option_map}
 use Rattle.ft_types.specs.Counts.{count_at}
@@ -20,8 +22,8 @@ use Rattle.tracked_position.proofs.Cuts.{before_end, over_of, goes_rise, rises, 
 -- the walk came further, and met all on its way
 pub over_on : (pieces : ℕ → Cell FragmentParts) (start : ℕ) (cut : ℕ → ℕ) (ceiling : ℕ) (from to : Cursor) →
     ((place : ℕ) (x : FragmentParts) (e : Edge) → pieces place ≡ One x → Contains (edges_in x) e → e.at < ceiling) → IsOver pieces start cut from →
-    GoesTo pieces cut ceiling from to → IsOver pieces start cut to
-over_on pieces start cut ceiling from to below over goes =
+    GoesTo pieces cut ceiling from to → IsAhead pieces cut to to.ahead → IsOver pieces start cut to
+over_on pieces start cut ceiling from to below over goes seen =
     record {
       goes = goes.goes start over.goes;
       met =
@@ -30,13 +32,33 @@ over_on pieces start cut ceiling from to below over goes =
             | inl before ↦ over.met place x e before one has
             | inr behind ↦ goes.met place x e behind less one has (below place x e one has)
           ];
+      seen = seen;
+    }
+
+-- what is seen ahead stays so where the counts rise
+ahead_more : (pieces : ℕ → Cell FragmentParts) (cut more : ℕ → ℕ) (at : Cursor) (ahead : Ahead) → theory.IsWithin cut more → IsAhead pieces cut at ahead →
+    IsAhead pieces more at ahead
+ahead_more pieces cut more at Unseen within is = tt
+ahead_more pieces cut more at End within is = is
+ahead_more pieces cut more at (Waits e) within is =
+    record {
+      piece = is.piece;
+      one = is.one;
+      from = is.from;
+      has = is.has;
+      below = is.below;
+      first = λ other has less. le_trans (is.first other has less) (within other.other);
     }
 
 -- and what is met stays so
 pub over_more : (pieces : ℕ → Cell FragmentParts) (start : ℕ) (cut more : ℕ → ℕ) (at : Cursor) → theory.IsWithin cut more → IsOver pieces start cut at →
     IsOver pieces start more at
 over_more pieces start cut more at within over =
-    record { goes = over.goes; met = λ place x e less one has. le_trans (over.met place x e less one has) (within e.other) }
+    record {
+      goes = over.goes;
+      met = λ place x e less one has. le_trans (over.met place x e less one has) (within e.other);
+      seen = ahead_more pieces cut more at at.ahead within over.seen;
+    }
 
 -- where there is no next piece, no walk goes further
 pub last_end_of : (s : StoreView) → IsStore s → (term : ℕ) (base : ℕ → ℕ) (hart : ℕ) (at : Cursor) → Goes (pieces_of s term hart) (base hart) at.place at.end →

@@ -1,11 +1,14 @@
 -- A walk that goes on from where an earlier one stopped: private words.
-use Rattle.std.specs.Prelude.{ℕ, ◌≡◌, ◌<◌, ◌≤◌, List, Contains, slice_index_or, Option, Some, None}
+use Rattle.std.specs.Prelude.{ℕ, ◌≡◌, ◌<◌, ◌≤◌, ◌^◌, List, Contains, slice_index_or, Option, Some, None}
 use Rattle.edge_log.specs.declared.Edge.{Edge}
+use Rattle.fragment_codec.specs.declared.types.Key.{Key}
 use Rattle.fragment_codec.specs.Rules.{FragmentParts}
 use Rattle.log_join.specs.Cells.{Cell, One}
 use Rattle.log_join.specs.Stores.{StoreView}
 use Rattle.closed_cut.specs.Position.{pieces_of, Goes}
 use Rattle.tracked_position.specs.declared.walk.Cursor.{Cursor}
+use Rattle.tracked_position.specs.declared.walk.Ahead.{Ahead}
+use Rattle.tracked_position.specs.declared.walk.Ahead.TheVariants.{Unseen, End, Waits}
 use Rattle.tracked_position.specs.Cuts.{edges_in, Meets, GoesOver}
 
 -- among the edges below the ceiling that the counts do not meet, one with the least count
@@ -43,14 +46,40 @@ abbrev pub other_of : Option Edge → Option ℕ
 other_of None = None
 other_of (Some e) = Some e.other
 
--- the walk from the start came to the cursor, and the counts meet each edge on its way
+-- the next piece has this edge, and the counts meet those of its edges that come before
+pub record IsFacing (pieces : ℕ → Cell FragmentParts) (cut : ℕ → ℕ) (at : Cursor) (e : Edge) : Type 0 where
+  pub piece : FragmentParts
+  pub one : pieces at.place ≡ One piece
+  pub from : piece.from ≡ at.end
+  pub has : Contains (edges_in piece) e
+  pub below : e.at < 2 ^ 48
+  pub first : (other : Edge) → Contains (edges_in piece) other → other.at < e.at → Meets cut other
+
+-- this holds of the piece with which a walk would go on
+abbrev pub IsAhead : (ℕ → Cell FragmentParts) → (ℕ → ℕ) → Cursor → Ahead → Type 0
+IsAhead pieces cut at Unseen = Unit {0}
+IsAhead pieces cut at End = EndsAt pieces at
+IsAhead pieces cut at (Waits e) = IsFacing pieces cut at e
+
+-- what stopped a walk
+abbrev pub ahead_of : Option Edge → Ahead
+ahead_of None = End
+ahead_of (Some e) = Waits e
+
+-- the walk from the start came to the cursor, the counts meet each edge on its way, and ahead is what was seen there
 pub record IsOver (pieces : ℕ → Cell FragmentParts) (start : ℕ) (cut : ℕ → ℕ) (at : Cursor) : Type 0 where
   pub goes : Goes pieces start at.place at.end
   pub met : (place : ℕ) (piece : FragmentParts) (e : Edge) → place < at.place → pieces place ≡ One piece → Contains (edges_in piece) e → Meets cut e
+  pub seen : IsAhead pieces cut at at.ahead
 
 -- where the walk over a hart's pieces stands
 abbrev pub cursor_at : List Cursor → ℕ → Cursor
-cursor_at cursors hart = slice_index_or cursors hart (record { place = 0; end = 0 })
+cursor_at cursors hart = slice_index_or cursors hart (record { place = 0; end = 0; ahead = Unseen })
+
+-- where the walk over the piece's hart ended, the piece does not begin
+abbrev pub IsApart : List Cursor → Key → ℕ → Type 0
+IsApart cursors key from = (cursor_at cursors key.hart).ahead ≡ End → key.place ≡ (cursor_at cursors key.hart).place →
+    from ≡ (cursor_at cursors key.hart).end → ⊥
 
 -- this holds of each hart
 abbrev pub AreOver : StoreView → ℕ → (ℕ → ℕ) → (ℕ → ℕ) → List Cursor → Type 0

@@ -13,9 +13,9 @@ ghost use Rattle.tracked_position.specs.Waits.{IsWaiting, room, limited_to};
 
 use crate::held::all_held;
 use crate::lowering::lower;
-use crate::walk::{Cursor, walk_on};
+use crate::walk::{Cursor, walk_further};
 use fragment_codec::Opening;
-use ft_types::{COUNT_LIMIT, Count, Counts, Hart};
+use ft_types::{Count, Counts, Hart};
 use log_join::Store;
 use std::option::Option;
 
@@ -68,7 +68,7 @@ fn raise_hart(
     ensures waits { result.rose ≡ false → IsWaiting store.now opening.now.term (base_of opening.now) (option_map count_at limit.now) (count_at
         cut.old) hart result.waits }
 {
-    let stop = walk_on(store, opening.term(), hart, *cursor, COUNT_LIMIT, cut);
+    let stop = walk_further(store, opening.term(), hart, *cursor, cut);
     *cursor = stop.cursor;
     let count = stop.count();
     let end = limited(count, limit, hart);

@@ -7,7 +7,7 @@ ghost use Rattle.log_join.specs.Stores.{opening_at, IsStore};
 ghost use Rattle.closed_cut.specs.Position.{base_of};
 ghost use Rattle.tracked_position.specs.Walks.{AreOver};
 
-use crate::walk::Cursor;
+use crate::walk::{Ahead, Cursor};
 use closed_cut::opening_of;
 use ft_types::{Hart, Term};
 use log_join::Store;
@@ -17,7 +17,11 @@ pub(crate) fn start(store: &Store, term: Term) -> [Cursor; 8]
     ensures rules { IsStore store.now }
     ensures over { (o : OpeningParts) (cut : ℕ → ℕ) → opening_at store.now term ≡ One o → AreOver store.now term (base_of o) cut result }
 {
-    let mut cursors = [Cursor { place: 0, end: 0 }; 8];
+    let mut cursors = [Cursor {
+        place: 0,
+        end: 0,
+        ahead: Ahead::Unseen,
+    }; 8];
     let Some(opening) = opening_of(store, term) else {
         return cursors;
     };
@@ -27,6 +31,7 @@ pub(crate) fn start(store: &Store, term: Term) -> [Cursor; 8]
         cursors[hart.index()] = Cursor {
             place: 0,
             end: base.get(hart),
+            ahead: Ahead::Unseen,
         };
     }
     cursors

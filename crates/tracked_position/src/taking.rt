@@ -1,26 +1,26 @@
 //! A piece that comes at a key at which nothing was.
 
-ghost use Rattle.std.specs.Prelude.{◌≡◌, ◌≢◌, ℕ, List, Option, Some, None, length, IfSome, IfNone};
+ghost use Rattle.std.specs.Prelude.{◌≡◌, ◌≢◌, ◌<◌, ℕ, List, Option, Some, None, false, length, IfSome, IfNone};
 ghost use Rattle.std.specs.Option.{option_map};
 ghost use Rattle.ft_types.specs.Counts.{count_at};
 ghost use Rattle.fragment_codec.specs.Rules.{OpeningParts};
 ghost use Rattle.fragment_codec.specs.declared.frame.Frame.{Frame as frame_of_specs};
 ghost use Rattle.log_join.specs.Cells.{One};
-ghost use Rattle.log_join.specs.Stores.{opening_at, IsStore};
+ghost use Rattle.log_join.specs.Stores.{StoreView, opening_at, IsStore};
 ghost use Rattle.log_join.specs.Answers.{answer_to};
 ghost use Rattle.closed_cut.specs.Chain.{Sound};
 ghost use Rattle.closed_cut.specs.Position.{base_of, InChain, Stops};
 ghost use Rattle.tracked_position.specs.Cuts.{IsCutOf};
-ghost use Rattle.tracked_position.specs.Walks.{AreOver};
+ghost use Rattle.tracked_position.specs.Walks.{cursor_at, AreOver, IsApart};
 ghost use Rattle.tracked_position.specs.Legs.{IsChild, IsNext};
 ghost use Rattle.tracked_position.specs.Keeping.{Takes, IsTracked};
 
 use crate::raising::reach;
 use crate::starting::start;
-use crate::walk::Cursor;
+use crate::walk::{Ahead, Cursor};
 use closed_cut::{Position, opening_of};
-use fragment_codec::{Fragment, Frame, Opening};
-use ft_types::{Counts, Memory, Term};
+use fragment_codec::{Fragment, Frame, Key, Opening};
+use ft_types::{Count, Counts, Memory, Term};
 use log_join::{Put, Store};
 use std::option::Option;
 use std::result::Result;
@@ -108,6 +108,30 @@ pub(crate) fn take_elsewhere(
     put
 }
 
+/// Whether a piece that comes may let harts go on: not where the walk over its hart has ended elsewhere. Where it begins at that
+/// end, what is ahead is no longer seen.
+fn may_go_on(cursors: &mut [Cursor; 8], key: Key, from: Count) -> bool
+    ensures hart { key.hart < 8 }
+    ensures apart { IsApart cursors.new key from }
+    ensures over { (store : StoreView) (term : ℕ) (base cut : ℕ → ℕ) → AreOver store term base cut cursors.old → AreOver store term base cut cursors.new }
+    ensures ended { result ≡ false → (cursor_at cursors.new key.hart).ahead ≡ Ahead.End }
+{
+    let index = key.hart.index();
+    let cursor = cursors[index];
+    let Ahead::End = cursor.ahead else {
+        return true;
+    };
+    if u64::from(key.place) != cursor.place || from != cursor.end {
+        return false;
+    }
+    cursors[index] = Cursor {
+        place: cursor.place,
+        end: cursor.end,
+        ahead: Ahead::Unseen,
+    };
+    true
+}
+
 /// Takes a piece of the position's term, and goes on as far as the store then reaches.
 pub(crate) fn take_here(
     store: &mut Store,
@@ -122,8 +146,13 @@ pub(crate) fn take_here(
     ensures takes { Takes store.old (frame_of_specs.Log fragment) result store.new }
     ensures tracked { IsTracked store.new position.new cursors.new }
 {
+    let key = fragment.key();
+    let from = fragment.from();
     let put = store.put(Frame::Log(fragment))?;
     let _rules = store.guest();
+    if !may_go_on(cursors, key, from) {
+        return Ok(put);
+    }
     position.term = go_on(store, position.top, opening, cursors, &mut position.counts);
     Ok(put)
 }

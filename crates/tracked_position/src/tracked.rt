@@ -10,7 +10,7 @@ ghost use Rattle.tracked_position.specs.Keeping.{Takes};
 use crate::answering::{answer_of, is_same_guest};
 use crate::starting::start;
 use crate::taking::{take_elsewhere, take_here};
-use crate::walk::Cursor;
+use crate::walk::{Ahead, Cursor};
 use closed_cut::{Position, opening_of, position};
 use fragment_codec::{Fragment, Frame};
 use ft_types::{Counts, Guest, HART_LIMIT, Memory};
@@ -54,7 +54,11 @@ impl Tracked {
                 counts: Counts::zero(guest.harts.min(HART_LIMIT)),
                 top: 0,
             },
-            cursors: [Cursor { place: 0, end: 0 }; 8],
+            cursors: [Cursor {
+                place: 0,
+                end: 0,
+                ahead: Ahead::Unseen,
+            }; 8],
         }
     }
 

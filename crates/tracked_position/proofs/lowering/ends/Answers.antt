@@ -1,4 +1,6 @@
-use Rattle.std.proofs.Common.{◌≡◌, ◌<◌, ◌≤◌, ◌^◌, length, IfSome, IfNone, arith}
+use Rattle.std.proofs.Common.{◌≡◌, ◌<◌, ◌≤◌, ◌^◌, length, get_or, IfSome, IfNone, arith}
+use Rattle.std.proofs.lemmas.List.{get_or_default}
+use Rattle.tracked_position.specs.declared.walk.Ahead.TheVariants.{Unseen}
 use Rattle.ft_types.specs.Counts.{count_at}
 use Rattle.closed_cut.specs.Position.{base_of, pieces_of, Goes}
 use Rattle.closed_cut.proofs.Reach.{base_many}
@@ -18,10 +20,13 @@ set-requires-clause-count c =
     let base = base_of c.args.opening.now in
     let few : s.guest.harts ≤ 8 = few_harts s c.requires.rules c.args.opening.now c.requires.opening in
     let many : length c.args.opening.now.base ≡ s.guest.harts = base_many s c.args.opening.now c.requires.rules c.requires.opening in
+    let eight : length c.args.cursors.now ≡ 8 = c.type_inv.cursors in
+    let here_is : cursor_at c.args.cursors.now number ≡ get_or c.args.cursors.now number c.index-cursors-index.result =
+    get_or_default c.args.cursors.now number (record { place = 0; end = 0; ahead = Unseen }) c.index-cursors-index.result (omega arith) in
     let over : IsOver (pieces_of s term number) (base number) (count_at c.args.cut.now) (cursor_at c.args.cursors.now number) =
     c.requires.over number (omega arith) in
     let to : GoesTo (pieces_of s term number) (count_at c.args.cut.now) 0 (cursor_at c.args.cursors.now number) c.walk_on-stop.result.cursor =
-    rw (c.term.ensures, c.index.ensures.value, c.new-hart.ensures) at c.walk_on-stop.ensures.goes in
+    rw (c.term.ensures, c.index.ensures.value, c.new-hart.ensures, ← here_is) at c.walk_on-stop.ensures.goes in
     let less : c.walk_on-stop.result.cursor.end < 2 ^ 48 =
     end_count s c.requires.rules term c.args.opening.now c.requires.opening number c.walk_on-stop.result.cursor.place c.walk_on-stop.result.cursor.end
     (to.goes (base number) over.goes) in
@@ -38,11 +43,14 @@ loop-number-preserved c =
     let base = base_of c.args.opening.now in
     let few : s.guest.harts ≤ 8 = few_harts s c.requires.rules c.args.opening.now c.requires.opening in
     let many : length c.args.opening.now.base ≡ s.guest.harts = base_many s c.args.opening.now c.requires.rules c.requires.opening in
+    let eight : length c.args.cursors.now ≡ 8 = c.type_inv.cursors in
+    let here_is : cursor_at c.args.cursors.now number ≡ get_or c.args.cursors.now number c.index-cursors-index.result =
+    get_or_default c.args.cursors.now number (record { place = 0; end = 0; ahead = Unseen }) c.index-cursors-index.result (omega arith) in
     let over : IsOver (pieces_of s term number) (base number) (count_at c.args.cut.now) (cursor_at c.args.cursors.now number) =
     c.requires.over number (omega arith) in
     let stop = c.walk_on-stop.result in
     let to : GoesTo (pieces_of s term number) (count_at c.args.cut.now) 0 (cursor_at c.args.cursors.now number) stop.cursor =
-    rw (c.term.ensures, c.index.ensures.value, c.new-hart.ensures) at c.walk_on-stop.ensures.goes in
+    rw (c.term.ensures, c.index.ensures.value, c.new-hart.ensures, ← here_is) at c.walk_on-stop.ensures.goes in
     let before : IfSome stop.edge (StopsBefore (pieces_of s term number) (count_at c.args.cut.now) 0 stop.cursor) =
     rw (c.term.ensures, c.new-hart.ensures) at c.walk_on-stop.ensures.before in
     let last : IfNone stop.edge (EndsAt (pieces_of s term number) stop.cursor) = rw (c.term.ensures, c.new-hart.ensures) at c.walk_on-stop.ensures.end in

@@ -1,8 +1,8 @@
-use Rattle.std.proofs.Common.{◌≡◌, ◌<◌, ◌≤◌, ◌^◌, IfSome, IfNone, refl, arith, le_of_eq}
+use Rattle.std.proofs.Common.{◌≡◌, ◌<◌, ◌≤◌, ◌^◌, IfSome, IfNone, refl, sym, subst, arith, le_of_eq}
 use Rattle.std.proofs.lemmas.Bool.{ltb-false}
 use Rattle.ft_types.specs.Counts.{count_at}
 use Rattle.closed_cut.specs.Position.{base_of, pieces_of}
-use Rattle.tracked_position.specs.Walks.{IsOver, StopsBefore, EndsAt, stop_count}
+use Rattle.tracked_position.specs.Walks.{IsOver, IsAhead, StopsBefore, EndsAt, stop_count}
 use Rattle.tracked_position.specs.Waits.{limited_to}
 use Rattle.tracked_position.proofs.Cuts.{own, raised, set_rises, limited_is, limited_le, limited_holds}
 use Rattle.tracked_position.proofs.Stops.{over_on, over_more, stop_comes, stop_below, stop_met, stop_waits, comes_less}
@@ -10,40 +10,45 @@ use Rattle.std.specs.Option.{option_map}
 use Rattle.tracked_position.proofs.raising.raise_hart.Goals as goal
 use Rattle.tracked_position.proofs.raising.raise_hart.Goals.{then-rose, else-rose, then-end-count, else-end-count}
 
+pub walk_further-stop-requires-clause-ahead : goal.walk_further-stop-requires-clause-ahead
+walk_further-stop-requires-clause-ahead c =
+    subst (λ t. IsAhead (pieces_of c.args.store.now t c.args.hart) (count_at c.args.cut.now) c.args.cursor.now c.args.cursor.now.ahead) (sym c.term.ensures)
+    c.requires.over.seen
+
 -- the walk came so far, and stopped there
 over : (c : goal.Joined-end-count) → IsOver (pieces_of c.args.store.now c.args.opening.now.term c.args.hart) (base_of c.args.opening.now c.args.hart)
-    (count_at c.args.cut.now) c.walk_on-stop.result.cursor
+    (count_at c.args.cut.now) c.walk_further-stop.result.cursor
 over c =
     over_on (pieces_of c.args.store.now c.args.opening.now.term c.args.hart) (base_of c.args.opening.now c.args.hart) (count_at c.args.cut.now) (2 ^ 48)
-    c.args.cursor.now c.walk_on-stop.result.cursor
+    c.args.cursor.now c.walk_further-stop.result.cursor
     (λ place x e one has. (own c.args.store.now c.requires.rules c.args.opening.now.term c.args.hart place x e one has).count) c.requires.over
-    (rw c.term.ensures at c.walk_on-stop.ensures.goes)
+    (rw c.term.ensures at c.walk_further-stop.ensures.goes) (rw c.term.ensures at c.walk_further-stop.ensures.ahead)
 
-before : (c : goal.Joined-end-count) → IfSome c.walk_on-stop.result.edge
-    (StopsBefore (pieces_of c.args.store.now c.args.opening.now.term c.args.hart) (count_at c.args.cut.now) (2 ^ 48) c.walk_on-stop.result.cursor)
-before c = rw c.term.ensures at c.walk_on-stop.ensures.before
+before : (c : goal.Joined-end-count) → IfSome c.walk_further-stop.result.edge
+    (StopsBefore (pieces_of c.args.store.now c.args.opening.now.term c.args.hart) (count_at c.args.cut.now) (2 ^ 48) c.walk_further-stop.result.cursor)
+before c = rw c.term.ensures at c.walk_further-stop.ensures.before
 
-ends : (c : goal.Joined-end-count) → IfNone c.walk_on-stop.result.edge
-    (EndsAt (pieces_of c.args.store.now c.args.opening.now.term c.args.hart) c.walk_on-stop.result.cursor)
-ends c = rw c.term.ensures at c.walk_on-stop.ensures.end
+ends : (c : goal.Joined-end-count) → IfNone c.walk_further-stop.result.edge
+    (EndsAt (pieces_of c.args.store.now c.args.opening.now.term c.args.hart) c.walk_further-stop.result.cursor)
+ends c = rw c.term.ensures at c.walk_further-stop.ensures.end
 
 -- it goes no further than the walk came
-within : (c : goal.After-set-arg-1) → c.limited-end.result ≤ stop_count c.walk_on-stop.result.cursor c.walk_on-stop.result.edge
+within : (c : goal.After-set-arg-1) → c.limited-end.result ≤ stop_count c.walk_further-stop.result.cursor c.walk_further-stop.result.edge
 within c =
     rw (c.limited-end.ensures, c.count-count.ensures)
-    (limited_le c.args.limit.now c.args.hart (stop_count c.walk_on-stop.result.cursor c.walk_on-stop.result.edge))
+    (limited_le c.args.limit.now c.args.hart (stop_count c.walk_further-stop.result.cursor c.walk_further-stop.result.edge))
 
 pub set-requires-clause-count : goal.set-requires-clause-count
 set-requires-clause-count c =
-    let le : c.limited-end.result ≤ stop_count c.walk_on-stop.result.cursor c.walk_on-stop.result.edge = within c in
-    let less : stop_count c.walk_on-stop.result.cursor c.walk_on-stop.result.edge < 2 ^ 48 =
+    let le : c.limited-end.result ≤ stop_count c.walk_further-stop.result.cursor c.walk_further-stop.result.edge = within c in
+    let less : stop_count c.walk_further-stop.result.cursor c.walk_further-stop.result.edge < 2 ^ 48 =
     stop_below c.args.store.now c.requires.rules c.args.opening.now.term (base_of c.args.opening.now) (count_at c.args.cut.now) c.args.hart (2 ^ 48)
-    c.walk_on-stop.result.cursor
+    c.walk_further-stop.result.cursor
     (over_on (pieces_of c.args.store.now c.args.opening.now.term c.args.hart) (base_of c.args.opening.now c.args.hart) (count_at c.args.cut.now) (2 ^ 48)
-    c.args.cursor.now c.walk_on-stop.result.cursor
+    c.args.cursor.now c.walk_further-stop.result.cursor
     (λ place x e one has. (own c.args.store.now c.requires.rules c.args.opening.now.term c.args.hart place x e one has).count) c.requires.over
-    (rw c.term.ensures at c.walk_on-stop.ensures.goes)) c.args.opening.now c.requires.opening refl (omega arith) c.walk_on-stop.result.edge
-    (rw c.term.ensures at c.walk_on-stop.ensures.before) in
+    (rw c.term.ensures at c.walk_further-stop.ensures.goes) (rw c.term.ensures at c.walk_further-stop.ensures.ahead)) c.args.opening.now c.requires.opening refl (omega arith) c.walk_further-stop.result.edge
+    (rw c.term.ensures at c.walk_further-stop.ensures.before) in
     omega arith
 
 pub returns-clause-cut : goal.returns-clause-cut
@@ -52,8 +57,8 @@ returns-clause-cut c =
     let term = c.args.opening.now.term in
     let base = base_of c.args.opening.now in
     let cut = count_at c.args.cut.now in
-    let at = c.walk_on-stop.result.cursor in
-    let edge = c.walk_on-stop.result.edge in
+    let at = c.walk_further-stop.result.cursor in
+    let edge = c.walk_further-stop.result.edge in
     let le : c.limited-end.result ≤ stop_count at edge =
     rw (c.limited-end.ensures, c.count-count.ensures) (limited_le c.args.limit.now c.args.hart (stop_count at edge)) in
     elim c.if-rose.branch [
@@ -72,7 +77,7 @@ returns-clause-cut c =
 pub returns-clause-over : goal.returns-clause-over
 returns-clause-over c =
     over_more (pieces_of c.args.store.now c.args.opening.now.term c.args.hart) (base_of c.args.opening.now c.args.hart) (count_at c.args.cut.now)
-    (count_at c.if-rose.cut) c.walk_on-stop.result.cursor
+    (count_at c.if-rose.cut) c.walk_further-stop.result.cursor
     (elim c.if-rose.branch [
       | then-rose w ↦
           rw (w.cut-is, w.set.ensures)
@@ -83,8 +88,8 @@ returns-clause-over c =
 
 pub returns-clause-waits : goal.returns-clause-waits
 returns-clause-waits c risen =
-    let at = c.walk_on-stop.result.cursor in
-    let edge = c.walk_on-stop.result.edge in
+    let at = c.walk_further-stop.result.cursor in
+    let edge = c.walk_further-stop.result.edge in
     let down : c.limited-end.result ≤ c.get.result = ltb-false c.get.result c.limited-end.result risen in
     let is : c.limited-end.result ≡ limited_to c.args.limit.now c.args.hart c.count-count.result = c.limited-end.ensures in
     elim c.if-end-count.branch [

@@ -1,4 +1,5 @@
-use Rattle.std.proofs.Common.{◌≡◌, ℕ, List, Option, ◌∙◌, refl, sym, subst}
+use Rattle.std.proofs.Common.{◌≡◌, ◌≤◌, ℕ, List, Option, ◌∙◌, refl, sym, ap, subst}
+use Rattle.ft_types.specs.declared.guest.Guest.{Guest}
 use Rattle.std.specs.Option.{option_map}
 use Rattle.ft_types.specs.Counts.{count_at}
 use Rattle.log_join.specs.Cells.{One}
@@ -8,7 +9,7 @@ use Rattle.tracked_position.specs.Cuts.{IsCutOf}
 use Rattle.tracked_position.specs.Walks.{AreOver}
 use Rattle.tracked_position.specs.Legs.{IsNext}
 use Rattle.tracked_position.proofs.Growth.{HasOneMore}
-use Rattle.tracked_position.proofs.Keeping.{put_more, over_more, cut_here, chain_here, sound_here, tracked_here}
+use Rattle.tracked_position.proofs.Keeping.{put_more, over_more, cut_here, chain_here, sound_here, tracked_here, tracked_moved, tracked_apart}
 use Rattle.tracked_position.proofs.taking.take_here.Goals as goal
 
 pub go_on-position-requires-clause-sound : goal.go_on-position-requires-clause-sound
@@ -64,9 +65,11 @@ go_on-position-requires-clause-over c =
     let more : HasOneMore old new c.args.fragment =
     put_more old new c.args.fragment c.in_ok-put.put c.requires.new c.in_ok-put.ensures.answer c.in_ok-put.ensures.joined in
     let at : o.term ≡ p.term = (c.requires.tracked.rules.openings p.term o c.requires.opening).same_term in
-    subst (λ t. AreOver new t (base_of o) (count_at p.counts) c.args.cursors.now) (sym at)
-    (over_more old new c.args.fragment c.requires.tracked.rules c.guest-rules.ensures.rules more p.term (base_of o) (count_at p.counts) c.args.cursors.now
-    (c.requires.tracked.over o c.requires.opening))
+    let cursors = c.may_go_on.new.cursors in
+    subst (λ t. AreOver new t (base_of o) (count_at p.counts) cursors) (sym at)
+    (over_more old new c.args.fragment c.requires.tracked.rules c.guest-rules.ensures.rules more p.term (base_of o) (count_at p.counts) cursors
+    (rw (c.key-key.ensures, c.from-from.ensures) at c.may_go_on.ensures.apart)
+    (c.may_go_on.ensures.over old p.term (base_of o) (count_at p.counts) (c.requires.tracked.over o c.requires.opening)))
 
 pub returns-clause-tracked : goal.returns-clause-tracked
 returns-clause-tracked c =
@@ -81,3 +84,22 @@ returns-clause-tracked c =
     c.requires.opening refl c.go_on-position.ensures.harts
     (subst (λ t. Stops new p.top c.go_on-position.result (count_at c.go_on-position.new.counts) t) at c.go_on-position.ensures.stops)
     c.go_on-position.ensures.over c.requires.tracked
+
+pub returns-then-not-may_go_on-clause-tracked : goal.returns-then-not-may_go_on-clause-tracked
+returns-then-not-may_go_on-clause-tracked c =
+    let old = c.args.store.now in
+    let new = c.put.new.self in
+    let p = c.args.position.now in
+    let cursors = c.may_go_on.new.cursors in
+    let more : HasOneMore old new c.args.fragment =
+    put_more old new c.args.fragment c.in_ok-put.put c.requires.new c.in_ok-put.ensures.answer c.in_ok-put.ensures.joined in
+    tracked_apart old new c.args.fragment c.requires.tracked.rules c.guest-rules.ensures.rules more p cursors
+    (rw c.key-key.ensures at c.may_go_on.ensures.hart) (rw (c.key-key.ensures, c.from-from.ensures) at c.may_go_on.ensures.apart)
+    (rw c.key-key.ensures at c.may_go_on.ensures.ended c.if-not-may_go_on.true)
+    (tracked_moved old p c.args.cursors.now cursors c.may_go_on.ensures.over c.requires.tracked)
+
+pub go_on-position-requires-clause-harts : goal.go_on-position-requires-clause-harts
+go_on-position-requires-clause-harts c =
+    let fits = c.requires.tracked.rules.openings c.args.position.now.term c.args.opening.now c.requires.opening in
+    let same = ap (λ (g : Guest). g.harts) fits.same_guest in
+    c.requires.tracked.harts (subst (λ (n : ℕ). n ≤ 8) same fits.rules.guest.limit) ∙ sym (fits.rules.base ∙ same)
