@@ -204,7 +204,7 @@ module _ (harts bound : ℕ) (s : StoreView) (formed : IsFormed harts bound s) w
             ]
       ]
 
-  avail_of : (term : ℕ) (base : ℕ → ℕ) → Avail s term base
+  pub avail_of : (term : ℕ) (base : ℕ → ℕ) → Avail s term base
   avail_of term base = record { places = λ h. (all h).0; end = λ h. (all h).1; goes = λ h. (all h).2; stops = λ h. (all h).3 }
     where
       all : (hart : ℕ) → (p e : ℕ) × Goes (pieces_of s term hart) (base hart) p e × ((x : FragmentParts) → pieces_of s term hart p ≡ One x → x.from ≡ e → ⊥)

@@ -4,3 +4,4 @@ pub mod Chains
 pub mod Reach
 pub mod Unique
 pub mod Finding
+pub mod OnChain

@@ -30,13 +30,13 @@ module _ (s : StoreView) where
         | inr fine ↦ fine
       ]
 
-  same_places : (term : ℕ) (base : ℕ → ℕ) (a b : Avail s term base) (hart : ℕ) → a.places hart ≡ b.places hart
+  pub same_places : (term : ℕ) (base : ℕ → ℕ) (a b : Avail s term base) (hart : ℕ) → a.places hart ≡ b.places hart
   same_places term base a b hart =
       let l : b.places hart ≤ a.places hart = not_more term base a b hart in
       let m : a.places hart ≤ b.places hart = not_more term base b a hart in
       omega arith
 
-  one_end : (term : ℕ) (base : ℕ → ℕ) (a b : Avail s term base) (hart : ℕ) → a.end hart ≡ b.end hart
+  pub one_end : (term : ℕ) (base : ℕ → ℕ) (a b : Avail s term base) (hart : ℕ) → a.end hart ≡ b.end hart
   one_end term base a b hart =
       goes_same (pieces_of s term hart) (base hart) (b.places hart) (a.end hart) (b.end hart)
       (subst (λ n. Goes (pieces_of s term hart) (base hart) n (a.end hart)) (same_places term base a b hart) (a.goes hart)) (b.goes hart)

@@ -11,5 +11,5 @@ mod walk;
 pub use ancestry::{chain, opening_of};
 pub use answer::Position;
 pub use gathering::piece_from;
-pub use laws::one_position;
+pub use laws::{one_position, positions_on_chains};
 pub use walk::position;

@@ -3,3 +3,4 @@ pub mod Advances
 pub mod Pieces
 pub mod Readings
 pub mod Faults
+pub mod AtFault

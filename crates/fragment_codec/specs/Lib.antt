@@ -4,6 +4,7 @@ pub mod Slots
 pub mod Spelling
 pub mod Reading
 pub mod Streams
+pub mod AtFault
 pub mod Fronts
 pub mod Pieces
 pub mod Cutting

@@ -19,7 +19,9 @@ pub use cutting::{cut_logs, cut_pieces};
 pub use fault::FrameFault;
 pub use feed::Feed;
 pub use frame::{Fragment, Frame, Opening};
-pub use laws::{any_cutting, lasting_fault, one_fault, one_reading, one_spelling, short_rest};
+pub use laws::{
+    any_cutting, faults_by_bytes, lasting_fault, one_fault, one_reading, one_spelling, short_rest,
+};
 pub use sealed::Sealed;
 pub use types::{Key, Record};
 pub use writing::write_frame;
