@@ -1,5 +1,5 @@
 -- Keepers that are named: their stores are of the world's history, and their join is one of the theory's.
-use Rattle.std.proofs.Common.{◌≡◌, ◌≢◌, ◌⊎◌, inl, inr, ℕ, zero, suc, ◌+◌, ◌-◌, ◌<◌, ◌≤◌, ◌==◌, Bool, true, false, cond, List, [], ◌∷◌, ◌++◌, length, map, slice_index_or, Option, Some, None, if◌then◌else◌, refl, sym, ap, subst, ◌∙◌, arith}
+use Rattle.std.proofs.Common.{◌≡◌, inl, inr, ℕ, suc, ◌+◌, ◌-◌, ◌<◌, ◌≤◌, ◌==◌, Bool, true, false, cond, List, [], ◌∷◌, ◌++◌, length, map, slice_index_or, Option, Some, None, if◌then◌else◌, refl, sym, ap, subst, ◌∙◌, arith}
 use Rattle.std.specs.Prelude.{All}
 use Rattle.std.specs.List.{list_any, flat_map, enumerate_from}
 use Rattle.std.proofs.lemmas.List.Elements.{All-nil, All-cons}
@@ -9,19 +9,18 @@ use Rattle.interleaving.proofs.Put.{same_or_not, put_same, put_other}
 use Rattle.guest_image.specs.Image.{guest_of}
 use Rattle.fragment_codec.specs.Rules.{IsGuest}
 use Rattle.log_join.specs.Families.{Past, opening_of, piece_of, HonestStore}
-use Rattle.log_join.specs.Stores.{StoreView, IsJoin, nothing}
+use Rattle.log_join.specs.Stores.{StoreView, nothing}
 use Rattle.hart_replay.specs.Images.{GuestHistory, IsHistoryOf}
 use Rattle.hart_replay.specs.Primaries.{term_of as history_of}
 use Rattle.failover_theory.specs.Lists.{how_many}
 use Rattle.failover_theory.specs.Worlds as theory
-use Rattle.failover_theory.proofs.Invariant.{Invariant}
 use Rattle.failover_theory.proofs.Events.{always}
 use Rattle.go_live.specs.Quorums.{distinct, AreEnough}
 use Rattle.go_live.specs.Joined.{AreJoinedTo, AreJoined}
 use Rattle.go_live.specs.Histories.{AreOfHistory}
 use Rattle.failover_world.specs.Worlds.{WorldView, store_at, term_of}
 use Rattle.failover_world.specs.Happenings.{if_named, stores_of}
-use Rattle.failover_world.specs.Tied.{TermBook, retold_in, history, told_as, theory_world, quorum_of, live_term, IsTied}
+use Rattle.failover_world.specs.Tied.{TermBook, retold_in, history, told_as, quorum_of, live_term, IsTied}
 use Rattle.failover_world.proofs.Places.{retold_put, put_put, there_too}
 use Rattle.failover_world.proofs.Guests.{either_side, store_guest}
 

@@ -1,9 +1,7 @@
 -- How many keepers acknowledged more than a step.
-use Rattle.std.proofs.Common.{◌≡◌, ◌≢◌, ◌⊎◌, inl, inr, ℕ, zero, suc, ◌+◌, ◌<◌, ◌≤◌, Bool, true, false, cond, List, [], ◌∷◌, length, nat_lt, get_or, slice_index_or, refl, sym, ap, subst, ◌∙◌, arith}
+use Rattle.std.proofs.Common.{◌≡◌, ℕ, zero, suc, ◌+◌, ◌<◌, ◌≤◌, Bool, true, false, cond, List, [], ◌∷◌, length, get_or, refl, sym, ap, subst, ◌∙◌, arith}
 use Rattle.std.specs.List.{count_by, fold}
-use Rattle.std.proofs.lemmas.Bool.{cases_lt, ltb-true}
 use Rattle.failover_theory.specs.Lists.{how_many}
-use Rattle.failover_theory.proofs.Stores.{see_bool}
 
 one_if : Bool → ℕ
 one_if b = cond b 1 0

@@ -1,5 +1,5 @@
 -- The world with another gate.
-use Rattle.std.proofs.Common.{◌≡◌, ◌⊎◌, inl, inr, ℕ, zero, suc, ◌+◌, ◌<◌, ◌≤◌, ◌++◌, ◌∷◌, [], List, Bool, true, false, cond, append-nil, length, length-append, filter, nat_lt, slice_index_or, get_or, Result, Ok, Err, OnOk, refl, sym, ap, subst, ◌∙◌, arith}
+use Rattle.std.proofs.Common.{◌≡◌, inl, inr, ℕ, zero, suc, ◌+◌, ◌<◌, ◌≤◌, ◌∷◌, [], List, Bool, true, false, cond, length, length-append, filter, nat_lt, slice_index_or, get_or, Result, Ok, Err, OnOk, refl, sym, ap, subst, ◌∙◌, arith}
 use Rattle.std.specs.Result.{is_err}
 use Rattle.std.proofs.lemmas.Bool.{cases_lt}
 use Rattle.std.proofs.lemmas.List.Sums.{sum_by-cons}
@@ -7,7 +7,6 @@ use Rattle.interleaving.specs.Lists.{Each}
 use Rattle.guest_image.specs.Machine.{MachineState}
 use Rattle.guest_image.specs.Image.{guest_of}
 use Rattle.output_gate.specs.Gates.{LineView, GateView, line_of, gone_of, waiting_of, offered_of, is_held, held_outputs, after_release, waiting_count}
-use Rattle.output_gate.specs.declared.output.Output.{Output}
 use Rattle.page_book.specs.Books.{BookView}
 use Rattle.book_modes.specs.Recordings.{RecordingView}
 use Rattle.term_gate.specs.TermGates.{TermGateView, AreAcked, acked_at}

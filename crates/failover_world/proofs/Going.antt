@@ -1,7 +1,7 @@
 -- Outputs that go out at the gate are the machine's, and enough keepers acknowledged their steps.
-use Rattle.std.proofs.Common.{◌≡◌, ◌≢◌, ◌⊎◌, inl, inr, ℕ, zero, suc, ◌+◌, ◌<◌, ◌≤◌, Bool, true, false, cond, List, [], ◌∷◌, ◌++◌, length, length-append, map, filter, take, nat_lt, nat_le, slice_get, slice_index_or, get_or, Contains, Option, Some, None, refl, sym, ap, subst, ◌∙◌, arith}
+use Rattle.std.proofs.Common.{◌≡◌, inl, inr, ℕ, zero, suc, ◌+◌, ◌<◌, ◌≤◌, Bool, true, false, cond, List, [], ◌∷◌, ◌++◌, length, length-append, map, filter, take, nat_lt, slice_get, slice_index_or, Some, refl, sym, ap, subst, ◌∙◌, arith}
 use Rattle.std.specs.List.{enumerate_from, flat_map}
-use Rattle.std.proofs.lemmas.Bool.{cases_lt, ltb-true, lt-ltb, leb-true}
+use Rattle.std.proofs.lemmas.Bool.{cases_lt, ltb-true, leb-true}
 use Rattle.interleaving.specs.Lists.{Each}
 use Rattle.ft_types.specs.Counts.{count_at}
 use Rattle.guest_image.specs.Machine.{MachineState}
@@ -12,7 +12,7 @@ use Rattle.go_live.specs.Outputs.{numbered}
 use Rattle.failover_theory.specs.Lists.{how_many}
 use Rattle.failover_theory.proofs.Stores.{see_bool}
 use Rattle.failover_world.specs.Worlds.{said_at}
-use Rattle.failover_world.specs.Gating.{AreAllOffered, AreOffered}
+use Rattle.failover_world.specs.Gating.{AreOffered}
 use Rattle.failover_world.proofs.Counting.{row_among}
 
 -- the machine has the output, at its number

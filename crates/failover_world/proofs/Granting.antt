@@ -1,12 +1,12 @@
 -- The world stays one that comes in the theory: a primary goes live.
-use Rattle.std.proofs.Common.{◌≡◌, ◌≢◌, ◌⊎◌, inl, inr, ℕ, zero, suc, ◌+◌, ◌<◌, ◌≤◌, Bool, true, false, List, [], ◌∷◌, ◌++◌, length, map, replicate, slice_get, slice_index_or, get_or, Contains, Option, Some, None, refl, sym, ap, subst, ◌∙◌, arith}
+use Rattle.std.proofs.Common.{◌≡◌, inl, inr, ℕ, zero, suc, ◌+◌, ◌<◌, ◌≤◌, true, false, List, [], ◌∷◌, ◌++◌, length, map, replicate, slice_get, slice_index_or, get_or, Contains, Option, Some, None, refl, sym, ap, subst, ◌∙◌, arith}
 use Rattle.std.specs.List.{range_with_len}
 use Rattle.std.proofs.lemmas.List.Elements.{Contains-append_left, Contains-push}
 use Rattle.std.proofs.Math.Path.{fun_ext}
 use Rattle.ft_types.specs.Counts.{count_at}
 use Rattle.edge_log.specs.EdgeLog.{start_of}
 use Rattle.interleaving.specs.Lists.{put, Each, EachPair}
-use Rattle.interleaving.specs.Machine.{Machine, Turn, at}
+use Rattle.interleaving.specs.Machine.{Turn, at}
 use Rattle.interleaving.specs.Log.{IsCut}
 use Rattle.interleaving.specs.Stored.{system_of, view}
 use Rattle.interleaving.proofs.Put.{same_or_not, put_same, put_other}
@@ -15,18 +15,16 @@ use Rattle.rv32_hart.specs.Hart.{Hart, boot_hart}
 use Rattle.rv32_hart.specs.Hardware.{hardware}
 use Rattle.guest_image.specs.Image.{guest_of}
 use Rattle.guest_image.specs.Machine.{MachineState, boot_machine}
-use Rattle.fragment_codec.specs.declared.frame.Frame.{Frame}
 use Rattle.fragment_codec.specs.declared.frame.Frame.TheVariants.{Opening}
-use Rattle.fragment_codec.specs.Rules.{OpeningParts, IsGuest, IsOpening}
+use Rattle.fragment_codec.specs.Rules.{OpeningParts, IsOpening}
 use Rattle.log_join.specs.Families.{Past, Family}
 use Rattle.closed_cut.specs.declared.answer.Position.{Position}
 use Rattle.page_book.specs.Books.{BookView}
 use Rattle.book_modes.specs.Hearings.{HartMachine}
 use Rattle.book_modes.specs.Recordings.{RecordingView, heard_by}
-use Rattle.hart_lease.specs.declared.stretch.Stretch.{Stretch}
 use Rattle.hart_lease.specs.Runs.{counts_of, journal_turns}
-use Rattle.hart_replay.specs.Histories.{TermHistory, InTerm, IsTerm, machine_in}
-use Rattle.hart_replay.specs.Images.{GuestTerm, GuestHistory, machine_of, boot_of, IsHistoryOf}
+use Rattle.hart_replay.specs.Histories.{TermHistory, IsTerm, machine_in}
+use Rattle.hart_replay.specs.Images.{GuestTerm, machine_of, boot_of}
 use Rattle.hart_replay.specs.Primaries.{IsTermOfBook, unsealed, term_of as history_of}
 use Rattle.hart_replay.proofs.honesty.Sealing.{unsealed_is_of_book}
 use Rattle.hart_replay.proofs.honesty.Replays.{legs_keep_pages, boot_pages}
@@ -40,13 +38,13 @@ use Rattle.failover_theory.proofs.Stores.{see}
 use Rattle.book_recorder.specs.TermBooks.{outputs_of, IsTermBook, IsRevived}
 use Rattle.book_recorder.proofs.Books.{revived_are_term_books}
 use Rattle.term_gate.specs.TermGates.{TermGateView, acked_at}
-use Rattle.go_live.specs.Lives.{opening_from, IsAtPosition}
+use Rattle.go_live.specs.Lives.{IsAtPosition}
 use Rattle.go_live.specs.Histories.{MakesLonger}
 use Rattle.failover_world.specs.declared.primary.Primary.{Primary}
 use Rattle.failover_world.specs.Worlds.{WorldView, term_of, said_by, said_at}
 use Rattle.failover_world.specs.Gating.{AreRising}
 use Rattle.failover_world.specs.Happenings.{GoesLive, stores_of}
-use Rattle.failover_world.specs.Tied.{TermBook, retold, retold_in, history, told_as, theory_world, quorum_of, live_book, live_term, AreParts, IsTied, BeginsTerm}
+use Rattle.failover_world.specs.Tied.{TermBook, retold, retold_in, history, told_as, theory_world, quorum_of, live_book, AreParts, IsTied, BeginsTerm}
 use Rattle.failover_world.proofs.Places.{retold_put, put_put}
 use Rattle.failover_world.proofs.Chosen.{chosen_of, put_own, honest, all_joined, enough}
 

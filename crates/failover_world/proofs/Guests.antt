@@ -1,11 +1,10 @@
 -- Stores and frames of one guest.
-use Rattle.std.proofs.Common.{◌≡◌, ◌≢◌, ℕ, Bool, true, false, Contains, Option, Some, None, refl, sym, ap, subst, ◌∙◌, if◌then◌else◌}
+use Rattle.std.proofs.Common.{◌≡◌, ◌≢◌, ℕ, Bool, true, false, Contains, Some, sym, ap, subst, ◌∙◌, if◌then◌else◌}
 use Rattle.ft_types.specs.declared.guest.Guest.{Guest}
 use Rattle.guest_image.specs.Image.{guest_of}
 use Rattle.fragment_codec.specs.declared.frame.Frame.{Frame}
 use Rattle.fragment_codec.specs.declared.frame.Frame.TheVariants.{Log, Opening}
 use Rattle.fragment_codec.specs.Rules.{IsGuest}
-use Rattle.log_join.specs.declared.answers.Put.{Put}
 use Rattle.log_join.specs.declared.answers.Put.TheVariants.{Same, Clash as Clashes, OtherGuest}
 use Rattle.log_join.specs.Cells.{Cell, Absent, One, Clash}
 use Rattle.log_join.specs.Tests.{same_guest, same_opening, same_fragment}
@@ -15,7 +14,6 @@ use Rattle.log_join.proofs.Told.{guests_told, openings_told, fragments_told}
 use Rattle.log_join.proofs.Cells.{cells_join}
 use Rattle.log_join.proofs.Joins.{commutes, idempotent_stores}
 use Rattle.log_join.proofs.Families.{granted_opening, granted_piece}
-use Rattle.failover_theory.specs.Worlds as theory
 use Rattle.failover_theory.proofs.Granting.{a_join}
 use Rattle.failover_theory.proofs.Invariant.{Invariant}
 use Rattle.failover_theory.proofs.Events.{always}

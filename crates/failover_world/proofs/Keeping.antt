@@ -1,12 +1,11 @@
 -- The world stays one that comes in the theory: what keepers do, and what stops.
-use Rattle.std.proofs.Common.{◌≡◌, ℕ, zero, suc, ◌<◌, Bool, true, false, List, [], ◌∷◌, ◌++◌, length, slice_get, slice_set, slice_index_or, get_or, Contains, Option, Some, None, refl, sym, ap, subst, ◌∙◌, arith}
-use Rattle.ft_types.specs.Counts.{count_at}
+use Rattle.std.proofs.Common.{◌≡◌, ℕ, zero, suc, ◌<◌, Bool, false, List, [], ◌∷◌, length, slice_get, slice_set, slice_index_or, Contains, Option, Some, None, sym, subst, arith}
 use Rattle.guest_image.specs.Image.{guest_of}
 use Rattle.fragment_codec.specs.declared.frame.Frame.{Frame}
 use Rattle.log_join.specs.Stores.{StoreView, IsJoin, alone, nothing}
 use Rattle.closed_cut.specs.Position.{IsPosition}
 use Rattle.closed_cut.specs.declared.answer.Position.{Position}
-use Rattle.term_gate.specs.TermGates.{TermGateView, acked_at}
+use Rattle.term_gate.specs.TermGates.{TermGateView}
 use Rattle.failover_theory.specs.Worlds as theory
 use Rattle.failover_world.specs.declared.released.Released.{Released}
 use Rattle.failover_world.specs.Worlds.{WorldView, store_at, term_of}

@@ -1,5 +1,5 @@
 -- A machine that goes on has what it had put out.
-use Rattle.std.proofs.Common.{◌≡◌, ℕ, zero, suc, ◌+◌, ◌<◌, ◌≤◌, true, List, [], ◌∷◌, ◌++◌, append-nil, length, map, take, slice_get, Option, Some, None, refl, sym, ap, subst, ◌∙◌, arith}
+use Rattle.std.proofs.Common.{◌≡◌, ℕ, zero, suc, ◌+◌, ◌≤◌, true, List, [], ◌∷◌, length, map, take, slice_get, Option, Some, None, refl, sym, ap, ◌∙◌, arith}
 use Rattle.std.specs.List.{enumerate_from}
 use Rattle.rv32_hart.specs.Hart.{Hart}
 use Rattle.guest_image.specs.Machine.{MachineState}
@@ -11,7 +11,7 @@ use Rattle.output_gate.specs.Gates.{GateView, offered_of}
 use Rattle.go_live.specs.Outputs.{numbered}
 use Rattle.failover_theory.specs.Recorders.{Output as TheoryOutput}
 use Rattle.failover_theory.specs.Machines.{ByRun}
-use Rattle.book_recorder.specs.TermBooks.{IsTermBook, ComesOf, outputs_of}
+use Rattle.book_recorder.specs.TermBooks.{ComesOf, outputs_of}
 use Rattle.hart_replay.specs.Primaries.{IsPrimary}
 use Rattle.failover_world.specs.Worlds.{WorldView, said_by, said_at}
 use Rattle.failover_world.specs.Gating.{AreOffered}

@@ -1,7 +1,6 @@
 -- The parts of the world still fit together.
-use Rattle.std.proofs.Common.{◌≡◌, ℕ, ◌<◌, ◌≤◌, Bool, List, length, length-set, replicate, slice_set, Option, None, refl, sym, ap, subst, ◌∙◌, arith}
+use Rattle.std.proofs.Common.{◌≡◌, ℕ, ◌≤◌, Bool, List, length, length-set, slice_set, Option, ◌∙◌}
 use Rattle.ft_types.specs.Counts.{count_at}
-use Rattle.guest_image.specs.Machine.{MachineState}
 use Rattle.page_book.specs.Books.{BookView}
 use Rattle.book_modes.specs.Recordings.{RecordingView}
 use Rattle.hart_lease.specs.Runs.{counts_of}
@@ -11,9 +10,9 @@ use Rattle.primary_pool.specs.Running.{IsIdle}
 use Rattle.term_gate.specs.TermGates.{TermGateView}
 use Rattle.failover_world.specs.declared.released.Released.{Released}
 use Rattle.failover_world.specs.declared.primary.Primary.{Primary}
-use Rattle.failover_world.specs.Worlds.{WorldView, term_of}
+use Rattle.failover_world.specs.Worlds.{WorldView}
 use Rattle.failover_world.specs.Gating.{AreOffered}
-use Rattle.failover_world.specs.Tied.{AreParts, IsTied, IsWorld}
+use Rattle.failover_world.specs.Tied.{AreParts}
 use Rattle.failover_world.proofs.Ties.{with_book}
 
 module _ (v : WorldView) (is : AreParts v) where

@@ -1,11 +1,11 @@
 -- Lists and functions that are changed at one place.
-use Rattle.std.proofs.Common.{◌≡◌, ◌≢◌, ℕ, zero, suc, ◌<◌, ◌==◌, Bool, true, false, List, [], ◌∷◌, length, slice_set, get_or, if◌then◌else◌, Option, Some, None, ◌⊎◌, inl, inr, eq-eqb, ne_eqb, refl, sym, ap, ◌∙◌, arith}
+use Rattle.std.proofs.Common.{◌≡◌, ℕ, zero, suc, ◌<◌, ◌==◌, Bool, true, false, List, [], ◌∷◌, length, slice_set, get_or, if◌then◌else◌, Option, Some, None, inl, inr, eq-eqb, ne_eqb, refl, sym, ap, ◌∙◌, arith}
 use Rattle.std.proofs.Math.Path.{fun_ext}
 use Rattle.ft_types.specs.Counts.{count_at}
 use Rattle.interleaving.specs.Lists.{put}
 use Rattle.interleaving.proofs.Put.{same_or_not}
 use Rattle.log_join.specs.Families.{Past, Family}
-use Rattle.failover_world.specs.Tied.{retold, retold_in}
+use Rattle.failover_world.specs.Tied.{retold_in}
 
 of_if : {A B : Type 0} (f : A → B) (b : Bool) (x y : A) → f (if b then x else y) ≡ (if b then f x else f y)
 of_if f true x y = refl

@@ -1,5 +1,5 @@
 -- What holds of the outputs that went out, by the theory of failover.
-use Rattle.std.proofs.Common.{◌≡◌, ℕ, zero, suc, ◌<◌, List, [], ◌∷◌, map, slice_get, Contains, Option, Some, None, refl, sym, ap, subst, ◌∙◌}
+use Rattle.std.proofs.Common.{◌≡◌, ℕ, zero, suc, ◌<◌, List, [], ◌∷◌, map, slice_get, Contains, Option, Some, None, inl, inr, refl, sym, ap, subst, ◌∙◌}
 use Rattle.ft_types.specs.Counts.{count_at}
 use Rattle.rv32_hart.specs.Hart.{Hart}
 use Rattle.guest_image.specs.Image.{guest_of}
@@ -8,16 +8,18 @@ use Rattle.book_modes.specs.Recordings.{heard_by}
 use Rattle.fragment_codec.specs.declared.frame.Frame.TheVariants.{Opening}
 use Rattle.fragment_codec.specs.Rules.{OpeningParts, IsGuest}
 use Rattle.log_join.specs.Families.{Past}
+use Rattle.closed_cut.specs.declared.answer.Position.{Position}
+use Rattle.failover_world.specs.declared.released.Released.{Released}
 use Rattle.log_join.specs.Stores.{nothing}
 use Rattle.log_join.proofs.Families.{granted_opening}
 use Rattle.book_recorder.specs.TermBooks.{outputs_of}
 use Rattle.failover_theory.specs.Recorders.{Output as TheoryOutput}
 use Rattle.failover_theory.specs.Families.{Keeps, Here as IsHere, Above as IsAbove}
-use Rattle.failover_theory.specs.Laws.{IsFailover}
+use Rattle.failover_theory.specs.Laws.{IsFailover, IsInside}
 use Rattle.failover_theory.proofs.Events.{failover}
 use Rattle.failover_theory.proofs.Ruled.{ruled}
 use Rattle.failover_world.specs.Worlds.{WorldView, said_by}
-use Rattle.failover_world.specs.Promises.{IsInChain, Here, Above, IsOne, IsOfMachine, IsKept, AreHeld}
+use Rattle.failover_world.specs.Promises.{IsInChain, Here, Above, IsInside as IsInsideHere, IsOne, IsOfMachine, IsKept, AreHeld}
 use Rattle.failover_world.specs.Tied.{Books, retold, retold_in, told_as, theory_released, theory_world, quorum_of, live_book, IsTied}
 use Rattle.failover_world.proofs.Places.{there_too}
 use Rattle.failover_world.proofs.Releasing.{outputs_are}
@@ -62,16 +64,6 @@ module _ (v : WorldView) (is : IsTied v) where
       (ap (retold_in (told_as v.image.pages is.are_theory)) is.there)
       )
 
-  pub are_held : AreHeld v
-  are_held r has =
-      let held = laws.held (theory_released r) (is.went_out r has) in
-      record {
-        by = held.by;
-        enough = held.enough;
-        inside = λ keeper s p below chosen at position.
-            (held.inside keeper s p chosen (there_too v.stores keeper s (Some (nothing (guest_of v.image))) at) position).1;
-      }
-
   module _ (guest : IsGuest (guest_of v.image)) where
     abbrev told_terms : ℕ → Option (Past (Books v.image.pages is.are_theory))
     told_terms u = retold_in (told_as v.image.pages is.are_theory) (is.terms u)
@@ -95,3 +87,20 @@ module _ (v : WorldView) (is : IsTied v) where
           subst (λ (p : OpeningParts). r.output.step < count_at p.base r.output.hart) same
               (laws.within (theory_released r) o.term q (is.went_out r has) at later),
         )
+
+    -- inside a position in the theory's words
+    inside : (r : Released) (p : Position) → IsInside told_terms r.term r.output.hart r.output.step p → r.output.step < count_at p.counts r.output.hart →
+        IsInsideHere v r p
+    inside r p (inl (same, below)) less = (inl same, less)
+    inside r p (inr keeps) less = (inr (in_chain r.term r.output.hart r.output.step keeps), less)
+
+    pub are_held : AreHeld v
+    are_held r has =
+        let held = laws.held (theory_released r) (is.went_out r has) in
+        record {
+          by = held.by;
+          enough = held.enough;
+          inside = λ keeper s p below chosen at position.
+              let both = held.inside keeper s p chosen (there_too v.stores keeper s (Some (nothing (guest_of v.image))) at) position in
+              inside r p both.0 both.1;
+        }

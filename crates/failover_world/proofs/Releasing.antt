@@ -1,20 +1,18 @@
 -- The world stays one that comes in the theory: outputs go out.
-use Rattle.std.proofs.Common.{◌≡◌, ◌⊎◌, inl, inr, ℕ, zero, suc, ◌+◌, ◌<◌, ◌≤◌, Bool, true, false, List, [], ◌∷◌, ◌++◌, length, map, nat_lt, slice_get, Contains, Option, Some, None, refl, sym, ap, subst, ◌∙◌, arith}
+use Rattle.std.proofs.Common.{◌≡◌, ◌⊎◌, inl, inr, ℕ, zero, suc, ◌<◌, true, List, [], ◌∷◌, ◌++◌, map, slice_get, Contains, Option, Some, None, sym, ap, subst, ◌∙◌, arith}
 use Rattle.std.proofs.lemmas.List.Elements.{Contains-append_right}
 use Rattle.interleaving.specs.Lists.{Each, EachPair}
-use Rattle.interleaving.specs.Machine.{Machine, run}
+use Rattle.interleaving.specs.Machine.{run}
 use Rattle.interleaving.specs.Stored.{system_of, view}
 use Rattle.interleaving.proofs.Cuts.{here_or_later, here}
 use Rattle.rv32_hart.specs.Hart.{Hart}
 use Rattle.rv32_hart.specs.Hardware.{hardware}
 use Rattle.guest_image.specs.Image.{ImageContents, guest_of}
-use Rattle.guest_image.specs.Machine.{MachineState}
 use Rattle.hart_lease.specs.Runs.{LeadsTo, journal_turns}
 use Rattle.hart_lease.proofs.journals.Sizes.{is_run}
 use Rattle.book_modes.specs.Recordings.{RecordingView, heard_by}
 use Rattle.output_gate.specs.declared.output.Output.{Output}
 use Rattle.term_gate.specs.TermGates.{TermGateView, acked_at}
-use Rattle.failover_theory.specs.Lists.{how_many}
 use Rattle.failover_theory.specs.Recorders.{Output as TheoryOutput}
 use Rattle.failover_theory.specs.Worlds as theory
 use Rattle.failover_theory.specs.Machines.{IsRecorder}
@@ -26,7 +24,7 @@ use Rattle.failover_world.specs.Worlds.{WorldView, said_by, said_at, term_of}
 use Rattle.failover_world.specs.Gating.{AreRising, released_in}
 use Rattle.failover_world.specs.Tied.{retold, retold_in, told_as, theory_released, theory_world, quorum_of, live_book, IsTied}
 use Rattle.failover_world.proofs.Keeping.{changed}
-use Rattle.failover_world.proofs.Going.{IsSaid, IsGoing}
+use Rattle.failover_world.proofs.Going.{IsGoing}
 
 mapped : {A B : Type 0} (f : A → B) (xs : List A) (n : ℕ) (x : A) → slice_get xs n ≡ Some x → slice_get (map f xs) n ≡ Some (f x)
 mapped f [] n x is = absurd cc

@@ -1,35 +1,33 @@
 -- What going live gives, and why it is refused, in the world.
-use Rattle.std.proofs.Common.{◌≡◌, ◌≢◌, ◌⊎◌, inl, inr, ℕ, zero, suc, ◌+◌, ◌-◌, ◌^◌, ◌<◌, ◌≤◌, Bool, true, false, List, [], ◌∷◌, ◌++◌, length, map, replicate, take, get_or, Option, Some, None, refl, sym, ap, subst, ◌∙◌, arith}
+use Rattle.std.proofs.Common.{◌≡◌, ◌≢◌, ◌⊎◌, inl, inr, ℕ, zero, suc, ◌+◌, ◌-◌, ◌^◌, ◌<◌, ◌≤◌, true, false, List, [], ◌∷◌, ◌++◌, length, map, replicate, take, refl, sym, ap, subst, ◌∙◌, arith}
 use Rattle.std.specs.Prelude.{All}
 use Rattle.std.specs.List.{Any, AllByRecursion}
 use Rattle.std.proofs.lemmas.List.{length-replicate}
 use Rattle.ft_types.specs.Counts.{count_at, IsCount}
-use Rattle.edge_log.specs.EdgeLog.{IsLog}
 use Rattle.guest_image.specs.Image.{guest_of}
 use Rattle.guest_image.specs.Machine.{MachineState}
 use Rattle.hart_lease.specs.Runs.{counts_of}
 use Rattle.fragment_codec.specs.declared.frame.Frame.{Frame}
 use Rattle.fragment_codec.specs.declared.frame.Frame.TheVariants.{Opening}
 use Rattle.fragment_codec.specs.Rules.{OpeningParts, IsGuest, IsOpening}
-use Rattle.log_join.specs.Stores.{StoreView, nothing}
+use Rattle.log_join.specs.Stores.{StoreView}
 use Rattle.page_book.specs.Books.{BookView}
-use Rattle.book_modes.specs.Recordings.{RecordingView, heard_by, HasHonestLog, IsUnused}
+use Rattle.book_modes.specs.Recordings.{RecordingView, IsUnused}
 use Rattle.hart_replay.specs.Images.{GuestHistory}
 use Rattle.hart_replay.specs.Primaries.{IsPrimary}
-use Rattle.hart_replay.specs.declared.fault.ReplayFault.{ReplayFault}
 use Rattle.hart_replay.specs.declared.fault.ReplayFault.TheVariants.{OtherGuest}
-use Rattle.output_gate.specs.Gates.{GateView, line_of, gone_of, offered_of}
+use Rattle.output_gate.specs.Gates.{GateView, noted_at, line_of, offered_of}
 use Rattle.term_gate.specs.TermGates.{TermGateView}
 use Rattle.go_live.specs.declared.fault.LiveFault.{LiveFault}
 use Rattle.go_live.specs.declared.fault.LiveFault.TheVariants.{TooFewStores, TermNotNew, Replay, Memory as NoLive}
 use Rattle.go_live.specs.Faults.{IfReplay}
 use Rattle.go_live.specs.Outputs.{numbered}
 use Rattle.go_live.specs.Quorums.{distinct, AreEnough, IsNew, IsOld}
-use Rattle.go_live.specs.Lives.{BeginsFrom, IsAtPosition}
+use Rattle.go_live.specs.Lives.{BeginsFrom}
 use Rattle.go_live.specs.Histories.{AreOfHistory, IsOfHistory, MakesLonger}
 use Rattle.failover_world.specs.declared.primary.Primary.{Primary}
 use Rattle.failover_world.specs.Primaries.{no_limits}
-use Rattle.failover_world.specs.Worlds.{WorldView, store_at, term_of, said_at}
+use Rattle.failover_world.specs.Worlds.{WorldView, term_of, said_at}
 use Rattle.failover_world.specs.Gating.{AreOffered, OffersMore}
 use Rattle.failover_world.specs.Happenings.{stores_of, IsFresh, GoesLive}
 use Rattle.failover_world.specs.Refusals.{CannotGoLive}
@@ -153,15 +151,16 @@ none_offered g m none hart =
     empty ∙ sym (ap (λ os. take (length os) (numbered hart (said_at m hart))) empty)
 
 pub fresh : (old new : TermGateView) (term keepers need harts : ℕ) → old.harts ≡ harts → old.gate.term ≡ term → old.gate.keepers ≡ keepers →
-    old.gate.need ≡ need → old.acked ≡ replicate keepers (replicate harts 0) →
+    old.gate.need ≡ need → old.acked ≡ replicate keepers (replicate harts 0) → ((keeper hart : ℕ) → noted_at old.gate keeper hart ≡ 0) →
     ((hart : ℕ) → line_of old.gate hart ≡ record { gone = []; waiting = [] }) → OffersMore old new → IsFresh new term keepers need harts
-fresh old new term keepers need harts of_harts of_term of_keepers of_need acked none more =
+fresh old new term keepers need harts of_harts of_term of_keepers of_need acked noted none more =
     record {
       of_harts = ap (λ (g : TermGateView). g.harts) more.rest ∙ of_harts;
       of_term = ap (λ (g : TermGateView). g.gate.term) more.rest ∙ of_term;
       of_keepers = ap (λ (g : TermGateView). g.gate.keepers) more.rest ∙ of_keepers;
       of_need = ap (λ (g : TermGateView). g.gate.need) more.rest ∙ of_need;
       acked = ap (λ (g : TermGateView). g.acked) more.rest ∙ acked;
+      noted = λ keeper hart. ap (λ (g : TermGateView). noted_at g.gate keeper hart) more.rest ∙ noted keeper hart;
       gone = λ hart. more.gone hart ∙ ap (λ l. l.gone) (none hart);
     }
 

@@ -1,5 +1,5 @@
 -- Lists that are written place by place.
-use Rattle.std.proofs.Common.{◌≡◌, ◌≢◌, ℕ, zero, suc, ◌+◌, ◌-◌, ◌<◌, ◌≤◌, List, [], ◌∷◌, ◌++◌, length, map, replicate, take, slice_set, slice_get, get_or, Option, Some, None, append_assoc, append-nil, refl, sym, ap, subst, ◌∙◌, arith}
+use Rattle.std.proofs.Common.{◌≡◌, ◌≢◌, ℕ, zero, suc, ◌+◌, ◌<◌, ◌≤◌, List, [], ◌∷◌, ◌++◌, length, replicate, take, slice_set, slice_get, get_or, Option, Some, None, append_assoc, append-nil, refl, sym, ap, ◌∙◌, arith}
 use Rattle.std.specs.List.{enumerate_from, flat_map}
 
 pub set_next : {A : Type 0} (xs : List A) (n : ℕ) (x : A) → n < length xs → take n xs ≡ replicate n x → take (suc n) (slice_set xs n x) ≡ replicate (suc n) x

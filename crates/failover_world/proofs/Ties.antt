@@ -1,17 +1,14 @@
 -- The world stays one that comes in the theory: what a primary does.
-use Rattle.std.proofs.Common.{◌≡◌, ◌⊎◌, inl, inr, ℕ, true, false, List, [], ◌∷◌, ◌++◌, Contains, Option, Some, None, refl, sym, ap, subst, ◌∙◌, arith}
+use Rattle.std.proofs.Common.{◌≡◌, inl, inr, true, Contains, Some, None, refl, sym, ap, subst, ◌∙◌}
 use Rattle.interleaving.specs.Lists.{put}
-use Rattle.interleaving.specs.Stored.{system_of}
 use Rattle.interleaving.proofs.Put.{same_or_not, put_same, put_other}
-use Rattle.rv32_hart.specs.Hardware.{hardware}
 use Rattle.guest_image.specs.Image.{guest_of}
 use Rattle.guest_image.specs.Machine.{MachineState}
 use Rattle.page_book.specs.Books.{BookView}
 use Rattle.book_modes.specs.Recordings.{RecordingView}
 use Rattle.fragment_codec.specs.declared.frame.Frame.TheVariants.{Opening}
-use Rattle.log_join.specs.Families.{Past, Family}
+use Rattle.log_join.specs.Families.{Family}
 use Rattle.hart_replay.specs.Primaries.{IsPrimary}
-use Rattle.hart_replay.specs.Images.{GuestHistory}
 use Rattle.hart_replay.proofs.honesty.Sealing.{terms_go_on}
 use Rattle.failover_theory.specs.Machines.{ByRun}
 use Rattle.failover_theory.specs.Worlds as theory

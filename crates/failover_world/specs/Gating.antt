@@ -1,5 +1,5 @@
 -- The outputs of a machine, at the gate.
-use Rattle.std.specs.Prelude.{ℕ, ◌≡◌, ◌<◌, ◌≤◌, ◌++◌, List, [], drop, length, map, take}
+use Rattle.std.specs.Prelude.{ℕ, ◌≡◌, ◌<◌, ◌++◌, List, length, map, take}
 use Rattle.interleaving.specs.Lists.{EachPair}
 use Rattle.guest_image.specs.Machine.{MachineState}
 use Rattle.output_gate.specs.declared.output.Output.{Output}

@@ -1,7 +1,6 @@
 -- What each event does to the world.
-use Rattle.std.specs.Prelude.{ℕ, ◌≡◌, ◌≢◌, ◌<◌, ◌≤◌, ◌++◌, ◌∷◌, ◌==◌, [], List, true, false, map, replicate, slice_get, slice_set, Option, Some, None, All, if◌then◌else◌}
+use Rattle.std.specs.Prelude.{ℕ, ◌≡◌, ◌≢◌, ◌<◌, ◌++◌, ◌∷◌, ◌==◌, [], List, true, false, map, replicate, slice_get, slice_set, Option, Some, None, All, if◌then◌else◌}
 use Rattle.std.specs.List.{list_any, flat_map, enumerate_from}
-use Rattle.ft_types.specs.Counts.{count_at}
 use Rattle.input_log.specs.declared.Input.{Input}
 use Rattle.guest_image.specs.Image.{guest_of}
 use Rattle.book_modes.specs.Recordings.{IsOffered, IsUnused}
@@ -11,8 +10,8 @@ use Rattle.fragment_codec.specs.Pieces.{IsCut, book_log}
 use Rattle.log_join.specs.Stores.{StoreView, IsJoin, alone}
 use Rattle.closed_cut.specs.Position.{IsPosition}
 use Rattle.closed_cut.specs.declared.answer.Position.{Position}
-use Rattle.output_gate.specs.Gates.{gone_of, line_of, held_outputs, after_release}
-use Rattle.term_gate.specs.TermGates.{TermGateView, AreAcked, acked_at}
+use Rattle.output_gate.specs.Gates.{noted_at, gone_of, line_of, held_outputs, after_release}
+use Rattle.term_gate.specs.TermGates.{TermGateView, AreAcked}
 use Rattle.go_live.specs.Quorums.{AreEnough, IsNew}
 use Rattle.go_live.specs.Lives.{IsAtPosition, BeginsFrom}
 use Rattle.failover_events.specs.declared.event.Event.{Event}
@@ -105,13 +104,14 @@ if_named named keeper (Some store) = if list_any (λ n. n == keeper) named then 
 abbrev pub stores_of : List (Option StoreView) → List ℕ → List (ℕ × StoreView)
 stores_of stores named = flat_map (λ s. if_named named s.0 s.1) (enumerate_from 0 stores)
 
--- no keeper has acknowledged anything, and nothing went out
+-- no keeper has acknowledged anything, none is noted, and nothing went out
 pub record IsFresh (g : TermGateView) (term keepers need harts : ℕ) : Type 0 where
   pub of_harts : g.harts ≡ harts
   pub of_term : g.gate.term ≡ term
   pub of_keepers : g.gate.keepers ≡ keepers
   pub of_need : g.gate.need ≡ need
   pub acked : g.acked ≡ replicate keepers (replicate harts 0)
+  pub noted : (keeper hart : ℕ) → noted_at g.gate keeper hart ≡ 0
   pub gone : (hart : ℕ) → gone_of g.gate hart ≡ []
 
 -- the primary begins where the stores of these keepers lead to, with its gate

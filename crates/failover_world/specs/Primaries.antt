@@ -2,7 +2,7 @@
 use Rattle.std.specs.Prelude.{ℕ, ◌≡◌, ◌-◌, ◌^◌, List, replicate}
 use Rattle.ft_types.specs.Counts.{count_at}
 use Rattle.guest_image.specs.Image.{ImageContents, guest_of}
-use Rattle.guest_image.specs.Machine.{MachineState, boot_machine}
+use Rattle.guest_image.specs.Machine.{boot_machine}
 use Rattle.book_modes.specs.Recordings.{IsUnused}
 use Rattle.fragment_codec.specs.Rules.{OpeningParts}
 use Rattle.fragment_codec.specs.Pieces.{SealedView, mark_of}

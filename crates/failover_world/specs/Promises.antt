@@ -1,7 +1,6 @@
 -- What holds of the outputs that went out.
-use Rattle.std.specs.Prelude.{ℕ, ◌≡◌, ◌<◌, ◌≤◌, true, Bool, Contains, slice_get, Option, Some}
+use Rattle.std.specs.Prelude.{ℕ, ◌≡◌, ◌<◌, ◌≤◌, ◌⊎◌, true, Bool, Contains, slice_get, Some}
 use Rattle.ft_types.specs.Counts.{count_at}
-use Rattle.fragment_codec.specs.declared.frame.Frame.{Frame}
 use Rattle.fragment_codec.specs.declared.frame.Frame.TheVariants.{Opening}
 use Rattle.fragment_codec.specs.Rules.{OpeningParts}
 use Rattle.log_join.specs.Stores.{StoreView}
@@ -19,12 +18,17 @@ pub data IsInChain (w : WorldView) (term hart step : ℕ) : ℕ → Type 0 where
   Above : {other : ℕ} (o : OpeningParts) → Contains w.sent (Opening o) → o.term ≡ other → IsInChain w term hart step o.parent →
       IsInChain w term hart step other
 
+-- the step of the hart in the term is inside the position: of its term, or inside the chain of its term; and below its counts
+abbrev pub IsInside : WorldView → Released → Position → Type 0
+IsInside w r p =
+    ((p.term ≡ r.term) ⊎ IsInChain w r.term r.output.hart r.output.step p.term) × (r.output.step < count_at p.counts r.output.hart)
+
 -- `need` keepers have the output inside the position of whatever store they have, while they have one
 pub record IsHeld (w : WorldView) (r : Released) : Type 0 where
   pub by : ℕ → Bool
   pub enough : w.need ≤ how_many w.keepers by
   pub inside : (keeper : ℕ) (store : StoreView) (p : Position) → keeper < w.keepers → by keeper ≡ true → store_at w.stores keeper ≡ Some store →
-      IsPosition store p → r.output.step < count_at p.counts r.output.hart
+      IsPosition store p → IsInside w r p
 
 -- what went out has one step and word for each hart and number
 abbrev pub IsOne : WorldView → Type 0

@@ -1,12 +1,11 @@
 -- What ties the world to the theory of failover. Machinery: nothing here needs to be believed.
-use Rattle.std.specs.Prelude.{ℕ, ◌≡◌, ◌<◌, ◌≤◌, [], List, length, map, Contains, slice_index_or, Option, Some, None}
+use Rattle.std.specs.Prelude.{ℕ, ◌≡◌, ◌<◌, ◌≤◌, List, length, map, Contains, slice_index_or, Option, Some, None}
 use Rattle.ft_types.specs.Counts.{count_at}
 use Rattle.ft_types.specs.declared.guest.Guest.{Guest}
 use Rattle.interleaving.specs.Lists.{put}
-use Rattle.interleaving.specs.Stored.{system_of, view}
+use Rattle.interleaving.specs.Stored.{system_of}
 use Rattle.rv32_hart.specs.Hardware.{hardware}
-use Rattle.guest_image.specs.Image.{ImageContents, guest_of}
-use Rattle.guest_image.specs.Machine.{boot_machine}
+use Rattle.guest_image.specs.Image.{guest_of}
 use Rattle.page_book.specs.Books.{BookView}
 use Rattle.book_modes.specs.Recordings.{RecordingView}
 use Rattle.fragment_codec.specs.declared.frame.Frame.TheVariants.{Opening}
@@ -15,7 +14,7 @@ use Rattle.log_join.specs.Families.{Past, Family}
 use Rattle.log_join.specs.Stores.{nothing}
 use Rattle.hart_replay.specs.Images.{GuestTerm, GuestHistory, boot_of}
 use Rattle.hart_replay.specs.Primaries.{term_of as history_of, IsPrimary, IsTermOfBook, IsSealedTo}
-use Rattle.failover_theory.specs.Machines.{Book, BookFact, IsRecorder}
+use Rattle.failover_theory.specs.Machines.{Book, IsRecorder}
 use Rattle.failover_theory.specs.Worlds as theory
 use Rattle.book_recorder.specs.TermBooks.{IsTermBook, AreTheory}
 use Rattle.primary_pool.specs.Running.{IsIdle}

@@ -13,24 +13,25 @@ use ft_types::{Guest, Keeper, Memory};
 use log_join::{Put, Store};
 use std::alloc::Global;
 use std::result::Result;
+use tracked_position::Tracked;
 
 /// The stores of so many keepers to which nothing came.
 pub(crate) fn empty_stores(
     alloc: Global,
     guest: Guest,
     keepers: u8,
-) -> Result<Vec<Option<Store>>, Memory>
+) -> Result<Vec<Option<Tracked>>, Memory>
     ensures { IfOk result (λ stores. stores.items ≡ replicate keepers (Some (nothing guest))) }
 {
     let mut stores = Vec::new(alloc);
     for _keeper in 0..keepers {
-        stores.push(Some(Store::new(alloc, guest)))?;
+        stores.push(Some(Tracked::new(alloc, guest)))?;
     }
     Ok(stores)
 }
 
 /// The store of the keeper of this number, where there is one that is not lost.
-pub(crate) fn held_by(stores: &[Option<Store>], number: u64) -> Option<&Store>
+pub(crate) fn held_by(stores: &[Option<Tracked>], number: u64) -> Option<&Tracked>
     ensures some { IfSome result (λ s. store_at stores.now number ≡ Some s.now) }
     ensures below { IfSome result (λ s. number < length stores.now) }
     ensures none { IfNone result (store_at stores.now number ≡ None) }
@@ -42,7 +43,7 @@ pub(crate) fn held_by(stores: &[Option<Store>], number: u64) -> Option<&Store>
 }
 
 /// The keeper of this number, where there is one that is not lost.
-pub(crate) fn keeper_at(stores: &[Option<Store>], number: u64) -> Option<Keeper>
+pub(crate) fn keeper_at(stores: &[Option<Tracked>], number: u64) -> Option<Keeper>
     requires { length stores.now ≤ 5 }
     ensures some { IfSome result (λ k. k ≡ number) }
     ensures below { IfSome result (λ k. number < length stores.now) }
@@ -54,7 +55,12 @@ pub(crate) fn keeper_at(stores: &[Option<Store>], number: u64) -> Option<Keeper>
 }
 
 /// A frame comes to the keeper, who is not lost. Where memory is refused its store is as it was.
-pub(crate) fn put(stores: &mut [Option<Store>], keeper: Keeper, frame: Frame) -> Result<(), Memory>
+pub(crate) fn put(
+    stores: &mut [Option<Tracked>],
+    alloc: Global,
+    keeper: Keeper,
+    frame: Frame,
+) -> Result<(), Memory>
     requires below { keeper < length stores.old }
     requires own { (s : StoreView) → store_at stores.old keeper ≡ Some s → answer_to s frame ≢ OtherGuest }
     requires there { (s : StoreView) × (store_at stores.old keeper ≡ Some s) }
@@ -66,7 +72,7 @@ pub(crate) fn put(stores: &mut [Option<Store>], keeper: Keeper, frame: Frame) ->
     let Some(mut store) = taken else {
         unreachable!();
     };
-    let answer = store.put(frame);
+    let answer = store.put(alloc, frame);
     stores[keeper.index()] = Some(store);
     let _put = answer?;
     Ok(())
@@ -74,7 +80,7 @@ pub(crate) fn put(stores: &mut [Option<Store>], keeper: Keeper, frame: Frame) ->
 
 /// The keeper joins the other's store. Neither is lost. Where memory is refused its store is as it was.
 pub(crate) fn join(
-    stores: &mut [Option<Store>],
+    stores: &mut [Option<Tracked>],
     alloc: Global,
     keeper: Keeper,
     other: Keeper,
@@ -97,7 +103,7 @@ pub(crate) fn join(
     let Some(held) = &stores[other.index()] else {
         unreachable!();
     };
-    let joined = store.join(alloc, held);
+    let joined = store.join(alloc, held.store());
     stores[keeper.index()] = Some(store);
     match joined {
         Ok(()) => Ok(()),
@@ -106,7 +112,7 @@ pub(crate) fn join(
 }
 
 /// Whether each of these keepers is there.
-pub(crate) fn are_there(stores: &[Option<Store>], numbers: &[u64]) -> bool
+pub(crate) fn are_there(stores: &[Option<Tracked>], numbers: &[u64]) -> bool
     ensures all { IsTrue result → All (λ k. store_at stores.now k ≢ None) numbers.now }
     ensures missing { (IsTrue result → ⊥) → Any (λ k. store_at stores.now k ≡ None) numbers.now }
 {
@@ -121,7 +127,7 @@ pub(crate) fn are_there(stores: &[Option<Store>], numbers: &[u64]) -> bool
 /// Adds the keeper of this number with its store, where it is among these and is not lost. There is room for one more.
 fn add_if_named<'a>(
     named: &mut Vec<(Keeper, &'a Store)>,
-    stores: &'a [Option<Store>],
+    stores: &'a [Option<Tracked>],
     number: usize,
     numbers: &[u64],
 )
@@ -134,18 +140,18 @@ fn add_if_named<'a>(
     ensures one_more { vec_len named.new ≤ vec_len named.old + 1 }
     ensures capacity { vec_capacity named.new ≡ vec_capacity named.old }
 {
-    let Some(store) = held_by(stores, number as u64) else {
+    let Some(tracked) = held_by(stores, number as u64) else {
         return;
     };
     if numbers.contains(&(number as u64)) {
-        named.push_reserved((Keeper::new(number as u8), store));
+        named.push_reserved((Keeper::new(number as u8), tracked.store()));
     }
 }
 
 /// The stores of these keepers, each once; of those that are not there, none.
 pub(crate) fn stores_named<'a>(
     alloc: Global,
-    stores: &'a [Option<Store>],
+    stores: &'a [Option<Tracked>],
     numbers: &[u64],
 ) -> Result<Vec<(Keeper, &'a Store)>, Memory>
     requires { length stores.now ≤ 5 }

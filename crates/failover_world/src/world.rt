@@ -23,7 +23,6 @@ use crate::gating::{add_released, offer_all};
 use crate::keepers::{are_there, empty_stores, held_by, join, keeper_at, put, stores_named};
 use crate::primary::{Primary, boot, no_limits, tell_primary};
 use crate::released::Released;
-use closed_cut::position;
 use failover_events::{Event, WorldFault};
 use fragment_codec::{Frame, Sealed, cut_pieces};
 use ft_types::{Hart, Memory, Term};
@@ -31,13 +30,13 @@ use go_live::{LiveFault, go_live};
 use guest_image::{Image, Machine};
 use hart_steps::take_step;
 use input_log::Input;
-use log_join::Store;
 use log_streams::TERM as FIRST_TERM;
 use std::alloc::Global;
 use std::marker::Model;
 use std::mem;
 use std::result::Result;
 use term_gate::TermGate;
+use tracked_position::Tracked;
 
 /// Primaries that come one after the other, the keepers of their log, and the gate of the term that was granted last.
 ///
@@ -51,7 +50,7 @@ pub struct World {
     runs: bool,
     stopped: Vec<Primary>,
     sent: Vec<Frame>,
-    stores: Vec<Option<Store>>,
+    stores: Vec<Option<Tracked>>,
     gate: TermGate,
     released: Vec<Released>,
 }
@@ -245,7 +244,7 @@ impl World {
             return Err(WorldFault::NoFrame);
         }
         let copy = self.sent[frame as usize].copy(alloc)?;
-        Ok(put(&mut self.stores, keeper, copy)?)
+        Ok(put(&mut self.stores, alloc, keeper, copy)?)
     }
 
     fn join(&mut self, alloc: Global, keeper: u64, other: u64) -> Result<(), WorldFault>
@@ -263,7 +262,7 @@ impl World {
         Ok(join(&mut self.stores, alloc, keeper, other)?)
     }
 
-    fn acknowledge(&mut self, alloc: Global, keeper: u64) -> Result<(), WorldFault>
+    fn acknowledge(&mut self, keeper: u64) -> Result<(), WorldFault>
         ensures happens { OnOk result (Happens self.old (on.Acknowledge keeper) self.new) }
         ensures refused { IfErr result (λ f. Refuses self.old (on.Acknowledge keeper) f) }
         ensures left { OnErr result (IsLeft self.old self.new) }
@@ -272,11 +271,10 @@ impl World {
         let Some(store) = held_by(&self.stores, keeper) else {
             return Err(WorldFault::NoKeeper);
         };
-        let position = position(alloc, store)?;
         let Some(keeper) = keeper_at(&self.stores, keeper) else {
             return Err(WorldFault::NoKeeper);
         };
-        match self.gate.acknowledge(keeper, &position) {
+        match self.gate.acknowledge(keeper, store.position()) {
             Ok(()) => Ok(()),
             Err(fault) => Err(WorldFault::Ack(fault)),
         }
@@ -404,7 +402,7 @@ impl World {
             Event::Seal => self.seal(alloc),
             Event::Deliver { keeper, frame } => self.deliver(alloc, keeper, frame),
             Event::Join { keeper, other } => self.join(alloc, keeper, other),
-            Event::Acknowledge(keeper) => self.acknowledge(alloc, keeper),
+            Event::Acknowledge(keeper) => self.acknowledge(keeper),
             Event::Release => self.release(alloc),
             Event::Stop => self.stop(),
             Event::Lose(keeper) => self.lose(keeper),

@@ -1,8 +1,8 @@
-use Rattle.std.proofs.Common.{◌≡◌, ℕ, ◌≤◌, ◌<◌, List, length, sym, ap, subst, ◌∙◌, arith, ◌≢◌, Some, slice_get}
-use Rattle.output_gate.specs.Gates.{line_of, offered_of}
+use Rattle.std.proofs.Common.{◌≡◌, sym, ap, subst, ◌∙◌, arith}
+use Rattle.output_gate.specs.Gates.{offered_of}
 use Rattle.go_live.specs.Outputs.{numbered}
 use Rattle.failover_world.specs.Worlds.{said_by, said_at}
-use Rattle.failover_world.proofs.Offers.{AreOfferedTo, offers_on, next_hart, all_offered}
+use Rattle.failover_world.proofs.Offers.{offers_on, next_hart, all_offered}
 use Rattle.failover_world.proofs.gating.offer_all.Goals as goal
 
 pub returns-in_err-offer_hart-clause-more : goal.returns-in_err-offer_hart-clause-more

@@ -1,11 +1,10 @@
-use Rattle.std.proofs.Common.{◌≡◌, ℕ, ◌≤◌, ◌<◌, List, length, take, slice_index_or, get_or, Some, sym, ap, subst, ◌∙◌, arith}
+use Rattle.std.proofs.Common.{◌≤◌, slice_index_or, sym, subst, ◌∙◌, arith}
 use Rattle.std.specs.List.{AllByRecursion}
 use Rattle.std.proofs.lemmas.Option.{slice_get-get_or}
 use Rattle.output_gate.specs.declared.output.Output.{Output}
-use Rattle.output_gate.specs.Gates.{offered_of}
 use Rattle.go_live.specs.Outputs.{numbered}
 use Rattle.failover_world.proofs.Rows.{take_all}
-use Rattle.failover_world.proofs.Offers.{AtNumber, offers_none, numbered_many, next_number, steps_before}
+use Rattle.failover_world.proofs.Offers.{numbered_many, next_number, steps_before}
 use Rattle.failover_world.proofs.gating.offer_hart.Goals as goal
 
 pub offer-requires-clause-steps : goal.offer-requires-clause-steps

@@ -1,4 +1,3 @@
-use Rattle.std.proofs.Common.{◌≡◌, ◌≤◌, length}
 use Rattle.failover_world.proofs.Offers.{AtNumber}
 use Rattle.failover_world.proofs.gating.offer_hart.Given as goal
 

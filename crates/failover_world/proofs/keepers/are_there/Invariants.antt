@@ -1,5 +1,4 @@
 use Rattle.std.proofs.Common.{◌≢◌, None, take}
-use Rattle.std.specs.List.{AllByRecursion}
 use Rattle.std.specs.Prelude.{All}
 use Rattle.failover_world.specs.Worlds.{store_at}
 use Rattle.failover_world.proofs.keepers.are_there.Given as goal

@@ -1,4 +1,4 @@
-use Rattle.std.proofs.Common.{◌≡◌, ◌≢◌, ℕ, true, false, eq-eqb, List, slice_set, get_or, Option, Some, None, refl, sym, ap, subst, ◌∙◌, arith}
+use Rattle.std.proofs.Common.{◌≡◌, ◌≢◌, ℕ, true, false, eq-eqb, List, slice_set, get_or, Option, Some, None, sym, ap, subst, ◌∙◌}
 use Rattle.std.proofs.lemmas.Bool.{eqb-true}
 use Rattle.log_join.specs.Stores.{StoreView, IsJoin}
 use Rattle.failover_world.proofs.Rows.{set_set, set_own, set_elsewhere, whatever, same_some}
@@ -34,7 +34,7 @@ returns-in-Ok-clause-joined c = λ s t is at.
     let held : c.in-Some-stores.held ≡ t = same_some c.in-Some-stores.held t (sym c.in-Some-stores.is ∙ other ∙ at) in (
       c.join-joined.new.self,
       subst (λ (x : StoreView). IsJoin x t c.join-joined.new.self) one
-          (subst (λ (x : StoreView). IsJoin c.in-Some.store x c.join-joined.new.self) held c.in-Ok.ensures.joined),
+          (subst (λ (x : StoreView). IsJoin c.in-Some.store x c.join-joined.new.self) (c.store.ensures ∙ held) c.in-Ok.ensures.joined),
       put_twice c.args.stores.now c.args.keeper c.index.result c.index-3.result c.take-taken.new.self (Some c.join-joined.new.self) c.index.ensures.value
           c.index-3.ensures.value,
     )

@@ -1,8 +1,5 @@
-use Rattle.std.proofs.Common.{◌≡◌, ℕ, List, slice_set, get_or, Option, Some, None, sym, ap, subst, ◌∙◌, arith}
-use Rattle.fragment_codec.specs.declared.frame.Frame.{Frame}
+use Rattle.std.proofs.Common.{◌≡◌, slice_set, get_or, Some, None, sym, ap, subst, ◌∙◌}
 use Rattle.log_join.specs.Stores.{StoreView, IsJoin, alone}
-use Rattle.log_join.specs.Answers.{answer_to}
-use Rattle.log_join.specs.declared.answers.Put.TheVariants.{OtherGuest}
 use Rattle.failover_world.proofs.Rows.{set_set, whatever, same_some}
 use Rattle.failover_world.proofs.keepers.put.Goals as goal
 

@@ -1,4 +1,4 @@
-use Rattle.std.proofs.Common.{sym, subst}
+use Rattle.std.proofs.Common.{subst}
 use Rattle.edge_log.specs.EdgeLog.{Edges, IsLog}
 use Rattle.book_modes.specs.Recordings.{heard_by, HasHonestLog}
 use Rattle.failover_world.proofs.primary.tell_primary.Goals as goal

@@ -1,11 +1,9 @@
-use Rattle.std.proofs.Common.{◌≡◌, ◌≢◌, ℕ, ◌<◌, ◌≤◌, true, false, List, slice_set, slice_get, slice_index_or, get_or, length, Option, Some, None, refl, sym, ap, subst, ◌∙◌, arith}
-use Rattle.std.proofs.lemmas.Option.{slice_get-get_or}
-use Rattle.log_join.specs.Stores.{StoreView, IsJoin, alone}
-use Rattle.failover_world.specs.Worlds.{WorldView, store_at, term_of}
-use Rattle.failover_world.proofs.Rows.{whatever, same_some}
-use Rattle.failover_world.proofs.Parts.{with_rows, with_store, with_gate, with_new_book}
-use Rattle.failover_world.proofs.Keeping.{contained, delivered, joined, lost, acknowledged, stopped}
-use Rattle.failover_world.proofs.Guests.{store_guest, not_foreign, store_rules}
+use Rattle.std.proofs.Common.{◌≡◌, ◌≢◌, ℕ, ◌<◌, slice_set, Some, refl, sym, ap, subst, ◌∙◌, arith}
+use Rattle.log_join.specs.Stores.{StoreView}
+use Rattle.failover_world.specs.Worlds.{WorldView, store_at}
+use Rattle.failover_world.proofs.Parts.{with_gate}
+use Rattle.failover_world.proofs.Keeping.{acknowledged}
+use Rattle.failover_world.proofs.Guests.{store_guest}
 use Rattle.std.proofs.Common.{Result, Ok, Err, OnOk, OnErr, IfErr, length-set}
 use Rattle.ft_types.specs.Counts.{count_at}
 use Rattle.ft_types.specs.declared.guest.Guest.{Guest}
@@ -18,7 +16,7 @@ use Rattle.failover_world.specs.Happenings.{Acknowledges}
 use Rattle.failover_world.specs.Refusals.{CannotAcknowledge}
 use Rattle.failover_world.specs.Tied.{IsWorld}
 use Rattle.failover_world.proofs.Places.{is_below}
-use Rattle.std.proofs.Common.{◌↔◌, ◌⊎◌, inl, inr}
+use Rattle.std.proofs.Common.{◌↔◌, inl, inr}
 use Rattle.guest_image.specs.Image.{guest_of}
 use Rattle.interleaving.proofs.Put.{same_or_not}
 use Rattle.log_join.specs.Stores.{nothing}
@@ -49,7 +47,7 @@ acknowledge-requires-clause-harts c =
     let own = store_guest v c.self.invariant.tied c.self.invariant.parts.guest c.args.keeper c.in-Some.store.now at in
     let few = c.self.invariant.parts.guest.limit in
     let same = ap (λ (g : Guest). g.harts) own in
-    c.in_ok-position.ensures.harts (omega (arith, few, same)) ∙ same ∙ sym c.self.invariant.parts.gate_harts
+    c.position.ensures.harts (omega (arith, few, same)) ∙ same ∙ sym c.self.invariant.parts.gate_harts
 
 acked_world : (v : WorldView) (is : IsWorld v) (keeper : ℕ) (s : StoreView) (p : Position) (gate : TermGateView) (r : Result Unit AckFault) →
     store_at v.stores keeper ≡ Some s → IsPosition s p → OnOk r (gate ≡ record v.gate { acked = slice_set v.gate.acked keeper p.counts }) →
@@ -84,8 +82,8 @@ invariant_of-self c =
     ap (store_at v.stores) c.in-Some-keeper_at.ensures.some
     ∙ ap (λ stores. store_at stores c.args.keeper) (sym c.deref.ensures.value)
     ∙ c.in-Some.ensures.some in
-    acked_world v c.self.invariant c.in-Some-keeper_at.keeper c.in-Some.store.now c.in_ok-position.position c.acknowledge.new.self c.acknowledge.result there
-    c.in_ok-position.ensures.position c.acknowledge.ensures.acked c.acknowledge.ensures.term c.acknowledge.ensures.kept
+    acked_world v c.self.invariant c.in-Some-keeper_at.keeper c.in-Some.store.now c.position.result.now c.acknowledge.new.self c.acknowledge.result there
+    c.position.ensures.position c.acknowledge.ensures.acked c.acknowledge.ensures.term c.acknowledge.ensures.kept
 
 -- the keeper's store
 there : (c : goal.Joined-acknowledge) → store_at c.self.inside.stores.items c.args.keeper ≡ Some c.in-Some.store.now
@@ -137,11 +135,11 @@ returns-clause-happens c =
           (record {
             store = c.in-Some.store.now;
             there = there c;
-            position = c.in_ok-position.position;
-            is_position = c.in_ok-position.ensures.position;
+            position = c.position.result.now;
+            is_position = c.position.ensures.position;
             term = w.in-Ok.ensures.term ∙ c.self.invariant.parts.gate_term;
             rest = ap (λ (g : TermGateView). let x : WorldView = record v { gate = g } in x)
-                (w.in-Ok.ensures.acked ∙ ap (λ k. let g : TermGateView = record v.gate { acked = slice_set v.gate.acked k c.in_ok-position.position.counts } in g)
+                (w.in-Ok.ensures.acked ∙ ap (λ k. let g : TermGateView = record v.gate { acked = slice_set v.gate.acked k c.position.result.now.counts } in g)
                 c.in-Some-keeper_at.ensures.some);
           }))
       | in-Err w ↦
@@ -167,8 +165,8 @@ returns-clause-refused c =
       | in-Err w ↦
           subst (λ r. IfErr r (λ f. Refuses c.args.self.now (on.Acknowledge c.args.keeper) f)) (sym w.result-is)
           (subst (λ x. CannotAcknowledge x c.args.keeper w.in-Err.fault) c.self.view_is
-          (cause v c.self.invariant c.args.keeper c.in-Some.store.now c.in_ok-position.position w.in-Err.fault c.acknowledge.result w.in-Err.is (there c)
-          c.in_ok-position.ensures.position c.acknowledge.ensures.other_term
+          (cause v c.self.invariant c.args.keeper c.in-Some.store.now c.position.result.now w.in-Err.fault c.acknowledge.result w.in-Err.is (there c)
+          c.position.ensures.position c.acknowledge.ensures.other_term
           (λ e. let low = w.in-Err.ensures.lower e in
-          (low.0, subst (λ k. count_at c.in_ok-position.position.counts low.0 < acked_at v.gate k low.0) c.in-Some-keeper_at.ensures.some low.2))))
+          (low.0, subst (λ k. count_at c.position.result.now.counts low.0 < acked_at v.gate k low.0) c.in-Some-keeper_at.ensures.some low.2))))
     ]

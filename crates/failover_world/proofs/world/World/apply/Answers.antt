@@ -1,6 +1,5 @@
 use Rattle.std.specs.Global.{Vec}
-use Rattle.std.proofs.Common.{◌≡◌, ℕ, List, Result, Ok, Err, IfErr, sym, ap, subst}
-use Rattle.failover_events.specs.declared.event.Event.{Event}
+use Rattle.std.proofs.Common.{ℕ, Result, Ok, Err, IfErr, sym, subst}
 use Rattle.failover_events.specs.declared.event.Event.TheVariants as on
 use Rattle.failover_events.specs.declared.fault.WorldFault.{WorldFault}
 use Rattle.failover_events.specs.declared.fault.WorldFault.TheVariants.{NoPrimary, NoKeeper, NoFrame, NotStopped, Step, Live, Ack, Memory}

@@ -1,17 +1,13 @@
-use Rattle.std.proofs.Common.{◌≡◌, ◌≢◌, ℕ, ◌<◌, ◌≤◌, true, false, List, slice_set, slice_get, slice_index_or, get_or, length, Option, Some, None, refl, sym, ap, subst, ◌∙◌, arith}
+use Rattle.std.proofs.Common.{◌≡◌, slice_set, slice_get, length, Some, sym, ap, subst, ◌∙◌, arith}
 use Rattle.std.proofs.lemmas.Option.{slice_get-get_or}
 use Rattle.log_join.specs.Stores.{StoreView, IsJoin, alone}
-use Rattle.failover_world.specs.Worlds.{WorldView, store_at, term_of}
-use Rattle.failover_world.proofs.Rows.{whatever, same_some}
-use Rattle.failover_world.proofs.Parts.{with_rows, with_store, with_gate, with_new_book}
-use Rattle.failover_world.proofs.Keeping.{contained, delivered, joined, lost, acknowledged, stopped}
-use Rattle.failover_world.proofs.Guests.{store_guest, not_foreign, store_rules}
+use Rattle.failover_world.specs.Worlds.{WorldView, store_at}
+use Rattle.failover_world.proofs.Parts.{with_store}
+use Rattle.failover_world.proofs.Keeping.{contained, delivered}
+use Rattle.failover_world.proofs.Guests.{not_foreign}
 use Rattle.std.proofs.Common.{length-set, take, drop, ◌++◌}
 use Rattle.term_gate.proofs.Seats.{put_back_whole}
-use Rattle.fragment_codec.specs.declared.frame.Frame.{Frame}
-use Rattle.log_join.specs.Answers.{answer_to}
-use Rattle.log_join.specs.declared.answers.Put.TheVariants.{OtherGuest}
-use Rattle.failover_world.specs.Happenings.{Delivers, Joins}
+use Rattle.failover_world.specs.Happenings.{Delivers}
 use Rattle.failover_world.specs.Tied.{IsWorld}
 use Rattle.failover_world.proofs.world.World.deliver.Goals as goal
 

@@ -1,11 +1,9 @@
-use Rattle.std.proofs.Common.{◌≡◌, ◌≢◌, ℕ, ◌<◌, ◌≤◌, true, false, List, slice_set, slice_get, slice_index_or, get_or, length, Option, Some, None, refl, sym, ap, subst, ◌∙◌, arith}
-use Rattle.std.proofs.lemmas.Option.{slice_get-get_or}
-use Rattle.log_join.specs.Stores.{StoreView, IsJoin, alone}
-use Rattle.failover_world.specs.Worlds.{WorldView, store_at, term_of}
-use Rattle.failover_world.proofs.Rows.{whatever, same_some}
-use Rattle.failover_world.proofs.Parts.{with_rows, with_store, with_gate, with_new_book}
-use Rattle.failover_world.proofs.Keeping.{contained, delivered, joined, lost, acknowledged, stopped}
-use Rattle.failover_world.proofs.Guests.{store_guest, not_foreign, store_rules}
+use Rattle.std.proofs.Common.{◌≡◌, slice_set, length, Some, refl, sym, ap, subst, ◌∙◌, arith}
+use Rattle.log_join.specs.Stores.{StoreView, IsJoin}
+use Rattle.failover_world.specs.Worlds.{WorldView, store_at}
+use Rattle.failover_world.proofs.Parts.{with_store}
+use Rattle.failover_world.proofs.Keeping.{joined}
+use Rattle.failover_world.proofs.Guests.{store_guest}
 use Rattle.std.proofs.Common.{length-set, take, drop, ◌++◌}
 use Rattle.term_gate.proofs.Seats.{put_back_whole}
 use Rattle.failover_world.specs.Happenings.{Joins}

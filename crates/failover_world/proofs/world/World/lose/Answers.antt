@@ -1,11 +1,7 @@
-use Rattle.std.proofs.Common.{◌≡◌, ◌≢◌, ℕ, ◌<◌, ◌≤◌, true, false, List, slice_set, slice_get, slice_index_or, get_or, length, Option, Some, None, refl, sym, ap, subst, ◌∙◌, arith}
-use Rattle.std.proofs.lemmas.Option.{slice_get-get_or}
-use Rattle.log_join.specs.Stores.{StoreView, IsJoin, alone}
-use Rattle.failover_world.specs.Worlds.{WorldView, store_at, term_of}
-use Rattle.failover_world.proofs.Rows.{whatever, same_some}
-use Rattle.failover_world.proofs.Parts.{with_rows, with_store, with_gate, with_new_book}
-use Rattle.failover_world.proofs.Keeping.{contained, delivered, joined, lost, acknowledged, stopped}
-use Rattle.failover_world.proofs.Guests.{store_guest, not_foreign, store_rules}
+use Rattle.std.proofs.Common.{◌≡◌, Some, None, sym, ap, ◌∙◌}
+use Rattle.failover_world.specs.Worlds.{WorldView, store_at}
+use Rattle.failover_world.proofs.Parts.{with_store}
+use Rattle.failover_world.proofs.Keeping.{lost}
 use Rattle.failover_world.proofs.world.World.lose.Goals as goal
 
 pub invariant_of-self : goal.invariant_of-self

@@ -1,14 +1,11 @@
-use Rattle.std.proofs.Common.{◌≡◌, ◌≢◌, ℕ, ◌<◌, ◌≤◌, true, false, List, [], ◌++◌, append-nil, length, Option, Some, None, refl, sym, ap, subst, ◌∙◌, arith, OnOk, OnErr, IfErr, Result, Ok, Err}
+use Rattle.std.proofs.Common.{◌≡◌, ◌≤◌, [], append-nil, length, sym, ap, subst, ◌∙◌}
 use Rattle.page_book.specs.Books.{BookView}
 use Rattle.page_book.proofs.Tellings.{tells_the_same}
 use Rattle.book_modes.specs.Recordings.{RecordingView}
 use Rattle.book_recorder.specs.TermBooks.{ComesOf}
-use Rattle.hart_replay.specs.Primaries.{IsPrimary}
 use Rattle.failover_world.specs.Worlds.{WorldView}
-use Rattle.failover_world.specs.Tied.{IsWorld}
 use Rattle.failover_world.proofs.Parts.{with_new_book}
-use Rattle.failover_world.proofs.Ties.{with_book, goes_on}
-use Rattle.failover_world.proofs.Onward.{offered_on, more_said}
+use Rattle.failover_world.proofs.Ties.{goes_on}
 use Rattle.guest_image.specs.Machine.{MachineState}
 use Rattle.hart_lease.specs.Runs.{counts_of}
 use Rattle.ft_types.specs.Counts.{count_at}

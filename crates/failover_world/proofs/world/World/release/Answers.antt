@@ -1,16 +1,9 @@
-use Rattle.std.proofs.Common.{◌≡◌, ◌≢◌, ℕ, ◌<◌, ◌≤◌, true, false, List, slice_set, slice_get, slice_index_or, get_or, length, Option, Some, None, refl, sym, ap, subst, ◌∙◌, arith}
-use Rattle.std.proofs.lemmas.Option.{slice_get-get_or}
-use Rattle.log_join.specs.Stores.{StoreView, IsJoin, alone}
-use Rattle.failover_world.specs.Worlds.{WorldView, store_at, term_of}
-use Rattle.failover_world.proofs.Rows.{whatever, same_some}
-use Rattle.failover_world.proofs.Parts.{with_rows, with_store, with_gate, with_new_book}
-use Rattle.failover_world.proofs.Keeping.{contained, delivered, joined, lost, acknowledged, stopped}
-use Rattle.failover_world.proofs.Guests.{store_guest, not_foreign, store_rules}
-use Rattle.std.proofs.Common.{◌++◌, ◌+◌, map, Result, Ok, Err, OnOk, OnErr, IfErr, vec_len, vec_capacity}
-use Rattle.output_gate.specs.declared.output.Output.{Output}
-use Rattle.output_gate.specs.Gates.{GateView, line_of, held_outputs, after_release}
+use Rattle.std.proofs.Common.{◌≡◌, ℕ, ◌≤◌, List, length, refl, sym, ap, subst, ◌∙◌, arith}
+use Rattle.failover_world.specs.Worlds.{WorldView, term_of}
+use Rattle.failover_world.proofs.Parts.{with_rows}
+use Rattle.std.proofs.Common.{◌++◌, ◌+◌, Result, Ok, Err, OnErr, vec_len, vec_capacity}
+use Rattle.output_gate.specs.Gates.{line_of, held_outputs, after_release}
 use Rattle.term_gate.specs.TermGates.{TermGateView, AreAcked}
-use Rattle.guest_image.specs.Machine.{MachineState}
 use Rattle.failover_world.specs.declared.released.Released.{Released}
 use Rattle.failover_world.specs.Gating.{AreRising, AreOffered, AreAllOffered, OffersMore, released_in}
 use Rattle.failover_world.specs.Happenings.{Releases}

@@ -1,6 +1,5 @@
-use Rattle.std.proofs.Common.{rules, ◌≡◌, ◌≢◌, ◌<◌, ◌≤◌, ℕ, map, replicate, List, Option, Some, None, Err, inl, inr, refl, sym, ap, subst, ◌∙◌, arith}
+use Rattle.std.proofs.Common.{◌≡◌, ◌≤◌, ℕ, map, replicate, List, Err, inl, inr, sym, ap, subst, ◌∙◌, arith}
 use Rattle.std.proofs.lemmas.Result.{err_from_is_err_and}
-use Rattle.edge_log.specs.EdgeLog.{IsLog}
 use Rattle.hart_lease.specs.Runs.{counts_of}
 use Rattle.book_modes.specs.Recordings.{heard_by, HasHonestLog, IsUnused}
 use Rattle.fragment_codec.specs.Rules.{OpeningParts}
@@ -10,8 +9,6 @@ use Rattle.ft_types.specs.Counts.{count_at}
 use Rattle.page_book.specs.Books.{BookView}
 use Rattle.book_modes.specs.Recordings.{RecordingView}
 use Rattle.hart_replay.specs.Primaries.{IsPrimary}
-use Rattle.term_gate.specs.TermGates.{TermGateView}
-use Rattle.output_gate.specs.Gates.{line_of}
 use Rattle.go_live.specs.Lives.{IsAtPosition, BeginsFrom}
 use Rattle.go_live.specs.Quorums.{AreEnough, IsNew}
 use Rattle.failover_world.specs.declared.primary.Primary.{Primary}
@@ -20,9 +17,9 @@ use Rattle.failover_world.specs.Worlds.{WorldView, term_of}
 use Rattle.failover_world.specs.Gating.{AreRising, AreAllOffered}
 use Rattle.failover_world.specs.Happenings.{stores_of, GoesLive}
 use Rattle.failover_world.specs.Refusals.{CannotGoLive}
-use Rattle.failover_world.specs.Tied.{IsTied, BeginsTerm}
-use Rattle.failover_world.proofs.Granting.{granted, rising, new_book}
-use Rattle.failover_world.proofs.Reviving.{in_limits, begins_too, unused_too, IsAsked, IsGiven, given, begins_term, own, cannot, none_offered, fresh}
+use Rattle.failover_world.specs.Tied.{BeginsTerm}
+use Rattle.failover_world.proofs.Granting.{rising}
+use Rattle.failover_world.proofs.Reviving.{in_limits, begins_too, unused_too, IsAsked, IsGiven, given, begins_term, cannot, fresh}
 use Rattle.failover_world.proofs.world.World.revived.Goals.{then-term, else-term}
 use Rattle.failover_world.proofs.world.World.revived.Goals as goal
 
@@ -265,7 +262,7 @@ returns-clause-goes c =
       fresh =
           fresh c.in_ok-gate.gate c.offer_all.new.gate c.args.term v.keepers v.need v.image.harts (c.in_ok-gate.ensures.harts ∙ c.harts-harts.ensures.value)
           c.in_ok-gate.ensures.parts.0 c.in_ok-gate.ensures.parts.1 c.in_ok-gate.ensures.parts.2
-          (c.in_ok-gate.ensures.acked ∙ ap (λ n. replicate v.keepers (replicate n 0)) c.harts-harts.ensures.value) c.in_ok-gate.ensures.lines
+          (c.in_ok-gate.ensures.acked ∙ ap (λ n. replicate v.keepers (replicate n 0)) c.harts-harts.ensures.value) c.in_ok-gate.ensures.noted c.in_ok-gate.ensures.lines
           c.offer_all.ensures.more;
       offered = subst (AreAllOffered c.offer_all.new.gate.gate) c.machine.ensures.value c.in_ok-offer_all.ensures.all;
     })

@@ -1,7 +1,7 @@
-use Rattle.std.proofs.Common.{◌≡◌, ℕ, ◌<◌, ◌≤◌, true, false, List, slice_set, slice_get, length, Option, Some, None, refl, sym, ap, subst, ◌∙◌, arith}
+use Rattle.std.proofs.Common.{false}
 use Rattle.failover_world.specs.Worlds.{WorldView}
-use Rattle.failover_world.proofs.Parts.{with_rows, with_store, with_gate, with_new_book}
-use Rattle.failover_world.proofs.Keeping.{delivered, joined, lost, acknowledged, stopped}
+use Rattle.failover_world.proofs.Parts.{with_rows}
+use Rattle.failover_world.proofs.Keeping.{stopped}
 use Rattle.failover_world.proofs.world.World.stop.Goals as goal
 
 pub invariant_of-self : goal.invariant_of-self
