@@ -6,8 +6,6 @@ ghost use Rattle.input_script.specs.Script.{AreOffered};
 use crate::failing_over::fail_over;
 use crate::faults::{CommandFault, status_of, write_fault, write_words_fault, written};
 use crate::files::Files;
-use crate::pairs::{PairOrders, Pairs};
-use crate::quorum::Quorum;
 use crate::words::{NamedFile, Request, Task, WordsFault, read_words};
 use closed_cut::{chain, position};
 use event_script::read_events;
@@ -16,8 +14,8 @@ use guest_image::{Image, read_image};
 use input_script::{Offered, read_script};
 use log_join::Store;
 use log_streams::{
-    frames_of, read_store, replay_streams, run_primary, write_frames, write_position, write_size,
-    write_store,
+    PairOrders, Pairs, Quorum, Replays, frames_of, read_store, replay_streams, run_primary,
+    write_frames, write_position, write_size, write_store,
 };
 use page_book::{Book, Recording};
 use std::alloc::Global;
@@ -117,15 +115,18 @@ fn open_logs<F: Files>(
 }
 
 /// Replays the logs, and writes the text of the machine.
-fn replay_logs<F: Files, W: Sink>(
+fn replay_logs<F: Files, P: Replays, W: Sink>(
     alloc: Global,
     image: &Image,
     names: &[&str],
     files: &mut F,
+    replays: &P,
     out: &mut W,
-) -> Result<(), CommandFault> {
+) -> Result<(), CommandFault>
+    requires { P.may_run replays.now }
+{
     let mut readers = open_logs(alloc, names, files)?;
-    match replay_streams(alloc, image, &mut readers, out) {
+    match replay_streams(alloc, image, &mut readers, replays, out) {
         Ok(()) => Ok(()),
         Err(fault) => Err(CommandFault::Streams(fault)),
     }
@@ -287,7 +288,7 @@ fn run_task<F: Files, P: Pairs, W: Sink>(
     requires { P.may_run pairs.now }
 {
     match &request.task {
-        Task::Replay(logs) => replay_logs(alloc, image, logs, files, out),
+        Task::Replay(logs) => replay_logs(alloc, image, logs, files, pairs, out),
         Task::Join { logs, .. } => join_logs(alloc, image, logs, request, files, out),
         Task::Run { budget, .. } => record(alloc, image, *budget, request, files, out),
         Task::Cut(logs) => cut_logs(alloc, image, logs, files, out),

@@ -5,12 +5,11 @@ ghost use Rattle.failover_events.specs.Events.{MayCome};
 ghost use Rattle.event_script.specs.Events.{MayAllHappen};
 
 use crate::faults::{CommandFault, written};
-use crate::quorum::Quorum;
 use failover_events::{Event, WorldFault};
 use failover_world::{Released, World};
 use ft_types::{Failed, Sink, word_text, write_all};
 use guest_image::Image;
-use log_streams::write_numbered;
+use log_streams::{Quorum, write_numbered};
 use std::alloc::Global;
 
 /// Applies the events, up to the first that is refused.

@@ -6,11 +6,9 @@ mod commands;
 mod failing_over;
 mod faults;
 mod files;
-mod pairs;
-mod quorum;
 mod words;
 
 pub use commands::{command, no_request};
 pub use files::Files;
-pub use pairs::{PairOrders, Pairs};
+pub use log_streams::{PairOrders, Pairs};
 pub use words::WordsFault;

@@ -1,10 +1,9 @@
 //! What the words of the command line ask for.
 
-use crate::pairs::PairOrders;
-use crate::quorum::Quorum;
 use clap::error::ErrorKind;
 use clap::{Arg, ArgAction, ArgMatches, Command, Error};
 use ft_types::read_number;
+use log_streams::{PairOrders, Quorum};
 use std::alloc::{AllocError, Global};
 
 /// The number of steps that a run may ask of each hart, at the most.

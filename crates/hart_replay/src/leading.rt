@@ -35,7 +35,7 @@ fn lead(alloc: Global, start: Machine, leg: &PlannedLeg) -> Result<Book<Replayin
 }
 
 /// The machine, where each of its harts has come to its end; else why not.
-fn come_to(machine: &Machine, counts: Counts, ends: Counts) -> Result<Machine, ReplayFault>
+pub fn come_to(machine: &Machine, counts: Counts, ends: Counts) -> Result<Machine, ReplayFault>
     requires harts { length counts ≡ length machine.now.harts }
     requires counts { (hart : ℕ) → count_at counts hart ≡ counts_of machine.now hart }
     ensures ok { IfOk result (λ m. ComesTo machine.now ends m) }

@@ -14,6 +14,7 @@ pub use laws::{
     honest_failovers, honest_plans, honest_positions, honest_primaries, honest_stores,
     longer_histories,
 };
+pub use leading::come_to;
 pub use plain::replay_plain;
 pub use planning::plan;
 pub use plans::{Plan, PlannedLeg};

@@ -3,4 +3,4 @@
 
 mod rounds;
 
-pub use rounds::{fill, go, go_round};
+pub use rounds::{bring_back, fill, give, go, go_round};

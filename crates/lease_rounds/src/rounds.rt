@@ -15,7 +15,7 @@ use std::alloc::Global;
 use std::result::Result;
 
 /// Gives the one lease a page that its step lacks.
-fn give<M: Mode>(
+pub fn give<M: Mode>(
     book: &mut Book<M>,
     lease: &mut Lease,
     page: PageNo,
@@ -59,7 +59,7 @@ pub fn fill<M: Mode>(book: &mut Book<M>, lease: &mut Lease) -> Result<(), Memory
 }
 
 /// Settles the lease. Its hart keeps the rights that it is told.
-fn bring_back<M: Mode>(book: &mut Book<M>, lease: Lease, keep: Keep) -> Result<(), Memory>
+pub fn bring_back<M: Mode>(book: &mut Book<M>, lease: Lease, keep: Keep) -> Result<(), Memory>
     requires { IsOurs book.old lease }
     ensures back { OnOk result (ComesBack M.Mode keep book.old lease book.new) }
     ensures ends { OnErr result (EndsWithout M.Mode book.old lease book.new) }

@@ -1,19 +1,25 @@
 //! What the commands do with streams of frames: they are read into a store, a store is written, its plan is replayed, and a
-//! primary's run becomes frames.
+//! primary's run becomes frames. And who replays plans and runs pairs, which the commands are handed.
 #![tactic(auto)]
 
 mod faults;
 mod laws;
 mod lines;
+mod pairs;
 mod primary;
+mod quorum;
 mod reading;
+mod replays;
 mod stores;
 mod streams;
 
 pub use faults::StreamsFault;
 pub use laws::honest_runs;
 pub use lines::write_numbered;
+pub use pairs::{PairOrders, Pairs};
 pub use primary::{TERM, begin_run, first_opening, frames_of, run_primary};
+pub use quorum::Quorum;
 pub use reading::read_store;
+pub use replays::{Plainly, Replays};
 pub use stores::{StoreSize, write_frames, write_position, write_size, write_store};
 pub use streams::replay_streams;

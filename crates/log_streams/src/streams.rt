@@ -12,36 +12,45 @@ ghost use Rattle.log_streams.specs.Outcome.{IsOutcome, IsOutcomeOf, WritesTextOf
 
 use crate::faults::StreamsFault;
 use crate::reading::read_store;
+use crate::replays::Replays;
 use closed_cut::position;
 use ft_types::{Sink, Source};
 use guest_image::{Image, Machine};
-use hart_replay::{ReplayFault, plan, replay_plain};
+use hart_replay::{ReplayFault, plan};
 use log_join::Store;
 use std::alloc::Global;
 
 /// The machine that the plan of a store leads to.
-fn replay_store(alloc: Global, image: &Image, store: &Store) -> Result<Machine, ReplayFault>
-    requires { store.now.guest ≡ guest_of image.now }
+fn replay_store<P: Replays>(
+    alloc: Global,
+    image: &Image,
+    store: &Store,
+    replays: &P,
+) -> Result<Machine, ReplayFault>
+    requires may { P.may_run replays.now }
+    requires guest { store.now.guest ≡ guest_of image.now }
     ensures ok { IfOk result (λ m. IsOutcomeOf image.now store.now m) }
     ensures fault { IfErr result (λ f. IsReplayFault image.now store.now f) }
 {
     let position = position(alloc, store)?;
     let plan = plan(alloc, store, &position)?;
-    replay_plain(alloc, image, &plan)
+    replays.replay(alloc, image, &plan)
 }
 
 /// Writes the text of the machine that the plan of a store leads to.
-fn write_replayed<W: Sink>(
+fn write_replayed<P: Replays, W: Sink>(
     alloc: Global,
     image: &Image,
     store: &Store,
+    replays: &P,
     out: &mut W,
 ) -> Result<(), StreamsFault>
-    requires { store.now.guest ≡ guest_of image.now }
+    requires may { P.may_run replays.now }
+    requires guest { store.now.guest ≡ guest_of image.now }
     ensures written { WritesTextOf (IsOutcomeOf image.now store.now) result (W.bytes out.old) (W.bytes out.new) (W.failures out.old) (W.failures out.new) }
     ensures fault { IfErr result (λ f. IsCauseIn image.now store.now f) }
 {
-    match replay_store(alloc, image, store) {
+    match replay_store(alloc, image, store, replays) {
         Ok(machine) => match machine.write_text(out) {
             Ok(()) => Ok(()),
             Err(_) => Err(StreamsFault::Write),
@@ -52,12 +61,16 @@ fn write_replayed<W: Sink>(
 }
 
 /// Writes the text of the machine that the frames of the streams lead to.
-pub fn replay_streams<R: Source, W: Sink>(
+pub fn replay_streams<R: Source, P: Replays, W: Sink>(
     alloc: Global,
     image: &Image,
     readers: &mut [R],
+    replays: &P,
     out: &mut W,
 ) -> Result<(), StreamsFault>
+    // Of threads alone.
+    requires { P.may_run replays.now }
+
     // Nothing is written before the replay is done, and then the text of the machine that the plan of the streams' frames
     // leads to.
     ensures written { OfStreams (map R.left readers.old) (λ streams.
@@ -90,5 +103,5 @@ pub fn replay_streams<R: Source, W: Sink>(
         R.failures later ≡ R.failures reader) }
 {
     let store = read_store(alloc, &image.guest(), readers)?;
-    write_replayed(alloc, image, &store, out)
+    write_replayed(alloc, image, &store, replays, out)
 }

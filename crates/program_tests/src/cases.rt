@@ -4,9 +4,10 @@ use crate::files_in_memory::MemoryFiles;
 use crate::samples::{Part, stream_of};
 use command_line::{PairOrders, Pairs, command};
 use ft_types::{MemorySink, MemorySource, Sink};
-use guest_image::Image;
+use guest_image::{Image, Machine};
+use hart_replay::{Plan, ReplayFault};
 use input_script::Offered;
-use log_streams::StreamsFault;
+use log_streams::{Plainly, Replays, StreamsFault};
 use std::alloc::Global;
 use std::cell::RefCell;
 use std::rc::Rc;
@@ -91,14 +92,20 @@ impl Done {
     }
 }
 
-/// Runs no pair: those that run have tests of their own.
+/// Replays in turn, and runs no pair: replays on threads and those that run have tests of their own.
 struct NoPairs;
 
-impl Pairs for NoPairs {
+impl Replays for NoPairs {
     ghost use Rattle.std.specs.Prelude.{⊤};
 
     ghost may_run = { λ _. ⊤ };
 
+    fn replay(&self, alloc: Global, image: &Image, plan: &Plan) -> Result<Machine, ReplayFault> {
+        Plainly.replay(alloc, image, plan)
+    }
+}
+
+impl Pairs for NoPairs {
     fn run_pair<W: Sink>(
         &self,
         _alloc: Global,

@@ -5,7 +5,7 @@ use fragment_codec::{Frame, Opening, Sealed, cut_pieces, write_frame};
 use ft_types::{Count, Counts, Hart, MemorySink, MemorySource};
 use guest_image::{Image, Machine, read_image};
 use input_log::Input;
-use log_streams::replay_streams;
+use log_streams::{Plainly, replay_streams};
 use page_book::{Book, Keep, Recording};
 use std::alloc::Global;
 use std::test::Fail;
@@ -240,7 +240,7 @@ fn records(frames: &[Frame]) -> usize {
 /// Whether a replay of these streams writes this text.
 fn are_replayed(alloc: Global, image: &Image, readers: &mut [MemorySource], text: &[u8]) -> bool {
     let mut out = MemorySink::new(alloc, 1 << 20);
-    let replayed = replay_streams(alloc, image, readers, &mut out).is_ok();
+    let replayed = replay_streams(alloc, image, readers, &Plainly, &mut out).is_ok();
     replayed && out.bytes() == text
 }
 

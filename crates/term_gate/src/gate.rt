@@ -2,7 +2,7 @@
 
 ghost use Rattle.std.specs.Prelude.{◌≡◌, ◌≢◌, ◌↔◌, ℕ, ◌<◌, ◌≤◌, ◌++◌, ◌∷◌, [], Err, length, replicate, slice_index, slice_set, IfOk, IfErr, OnOk, OnErr};
 ghost use Rattle.std.specs.List.{AllByRecursion};
-ghost use Rattle.output_gate.specs.Gates.{line_of, gone_of, waiting_of, offered_of, waiting_count, held_outputs, after_release};
+ghost use Rattle.output_gate.specs.Gates.{noted_at, line_of, gone_of, waiting_of, offered_of, waiting_count, held_outputs, after_release};
 ghost use Rattle.output_gate.specs.Orders.{RiseByHart};
 ghost use Rattle.term_gate.specs.TermGates.{acked_at, AreAcked};
 
@@ -39,7 +39,7 @@ impl Model for TermGate {
 }
 
 impl TermGate {
-    /// A gate to which nothing was offered, and a board on which nothing was published.
+    /// A gate to which nothing was offered and at which nothing is noted, and a board on which nothing was published.
     pub fn new(
         alloc: Global,
         term: Term,
@@ -52,6 +52,7 @@ impl TermGate {
         ensures harts { IfOk result (λ g. g.harts ≡ harts) }
         ensures parts { IfOk result (λ g. (g.gate.term ≡ term) × (g.gate.keepers ≡ keepers) × (g.gate.need ≡ need)) }
         ensures acked { IfOk result (λ g. g.acked ≡ replicate keepers (replicate harts 0)) }
+        ensures noted { IfOk result (λ g. (keeper hart : ℕ) → noted_at g.gate keeper hart ≡ 0) }
         ensures lines { IfOk result (λ g. (hart : ℕ) → line_of g.gate hart ≡ record { gone = []; waiting = [] }) }
     {
         let (board, seats, gate_seat) = Board::new(alloc, term, harts, keepers)?;

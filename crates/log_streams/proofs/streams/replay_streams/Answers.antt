@@ -37,8 +37,8 @@ returns-clause-exact g c = λ streams f is in_bytes first.
     joined_answer c.args.image.now c.guest.result (map g.R.Source.left c.args.readers.now) c.in_ok-store.store c.write_replayed.result streams f c.guest.ensures
     is c.in_ok-store.ensures.ok in_bytes first
 
-pub write_replayed-requires : goal.write_replayed-requires
-write_replayed-requires g c = c.in_ok-store.ensures.guest ∙ c.guest.ensures
+pub write_replayed-requires-clause-guest : goal.write_replayed-requires-clause-guest
+write_replayed-requires-clause-guest g c = c.in_ok-store.ensures.guest ∙ c.guest.ensures
 
 pub returns-in_err-store-clause-written : goal.returns-in_err-store-clause-written
 returns-in_err-store-clause-written g c =

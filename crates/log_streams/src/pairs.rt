@@ -3,11 +3,12 @@
 ghost use Rattle.std.specs.Prelude.{◌≡◌, ◌<◌, ◌≤◌, ◌↔◌, IsSome, IfSome};
 ghost use Rattle.input_script.specs.Script.{AreOffered};
 
+use crate::faults::StreamsFault;
 use crate::quorum::Quorum;
+use crate::replays::Replays;
 use ft_types::Sink;
 use guest_image::Image;
 use input_script::Offered;
-use log_streams::StreamsFault;
 use std::alloc::Global;
 
 /// How far a pair goes, and how many keepers it has.
@@ -54,11 +55,8 @@ impl PairOrders {
     }
 }
 
-/// Who runs pairs: a primary, its keepers and a gate. How they run is in no contract here.
-pub trait Pairs {
-    /// What has to hold of who runs them.
-    ghost may_run: { Self → Type 0 };
-
+/// Who runs pairs, a primary, its keepers and a gate, beside replays. How pairs run is in no contract here.
+pub trait Pairs: Replays {
     /// Runs a primary of the image from boot, with what the script offers, beside keepers and a gate. Then it writes what went
     /// out, how much did not, and the primary's machine.
     fn run_pair<W: Sink>(
@@ -69,6 +67,6 @@ pub trait Pairs {
         orders: &PairOrders,
         out: &mut W,
     ) -> Result<(), StreamsFault>
-        requires may { may_run self.now }
+        requires may { Self.may_run self.now }
         requires script { AreOffered image.now.harts script.now };
 }
