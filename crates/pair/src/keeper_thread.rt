@@ -2,18 +2,17 @@
 
 ghost use Rattle.pair.specs.Posts.{IsPostOf};
 
-use crate::keeping::{is_due, keep};
+use crate::keeping::keep;
 use crate::messages::{ToGate, ToKeeper, send};
 use crate::posts::Post;
 use ack_core::Board;
 use crossbeam_channel::Receiver;
 use fragment_codec::Frame;
 use ft_types::Memory;
-use log_join::Store;
 use std::alloc::Global;
-use std::mem;
 use std::result::Result;
 use std::sync::Wait;
+use tracked_position::Tracked;
 
 /// Adds the frame of a message. Whether it was the last message.
 fn add(frames: &mut Vec<Frame>, message: ToKeeper) -> Result<bool, Memory> {
@@ -49,13 +48,14 @@ fn hear<R: Wait>(
     Ok(false)
 }
 
-/// A keeper's thread, which ends at the primary's last message. Where it finds no memory, or none comes any more, it gives up.
+/// A keeper's thread, which publishes its position each time it took what came, and ends at the primary's last message. Where it
+/// finds no memory, or none comes any more, it gives up.
 pub(crate) fn serve<R: Wait>(
     rt: &R,
     alloc: Global,
     board: &Board,
     post: Post,
-) -> Result<Store, Memory>
+) -> Result<Tracked, Memory>
     requires { IsPostOf board.now post }
 {
     let Post {
@@ -64,19 +64,14 @@ pub(crate) fn serve<R: Wait>(
         frames: channel,
         gate,
     } = post;
-    let mut held = 0usize;
-    let mut fresh = Vec::new(alloc);
     for _ in rt.forever() {
+        let mut fresh = Vec::new(alloc);
         let ended = hear(rt, &channel, &mut fresh)?;
-        if ended || is_due(held, fresh.len()) {
-            held = held.saturating_add(fresh.len());
-            let frames = mem::replace(&mut fresh, Vec::new(alloc));
-            keep(alloc, board, &mut seat, &mut store, frames)?;
-            if ended {
-                return Ok(store);
-            }
-            send(rt, &gate, ToGate::Published)?;
+        keep(alloc, board, &mut seat, &mut store, fresh)?;
+        if ended {
+            return Ok(store);
         }
+        send(rt, &gate, ToGate::Published)?;
     }
     unreachable!()
 }

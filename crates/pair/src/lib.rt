@@ -14,5 +14,4 @@ mod rounds;
 mod telling;
 mod threads;
 
-pub use keeping::is_due;
 pub use threads::{OnThreads, PairEnd, run_pair};

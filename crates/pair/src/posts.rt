@@ -8,17 +8,17 @@ use crate::messages::{ToGate, ToKeeper};
 use ack_core::{Board, GateSeat, KeeperSeat};
 use crossbeam_channel::{Receiver, Sender, unbounded};
 use ft_types::{Guest, Memory};
-use log_join::Store;
 use output_gate::Gate;
 use page_book::{Book, Recording};
 use std::alloc::Global;
 use std::result::Result;
+use tracked_position::Tracked;
 
 /// What a keeper's thread begins with.
 #[derive(Drop)]
 pub(crate) struct Post {
     pub(crate) seat: KeeperSeat,
-    pub(crate) store: Store,
+    pub(crate) store: Tracked,
     pub(crate) frames: Receiver<ToKeeper, Global>,
     pub(crate) gate: Sender<ToGate, Global>,
 }
@@ -58,7 +58,7 @@ fn new_post(
     ensures { IfOk result (λ r. (r.0.seat ≡ seat) × (r.0.store.guest ≡ guest)) }
 {
     let (sender, frames) = unbounded(alloc)?;
-    let store = Store::new(alloc, guest);
+    let store = Tracked::new(alloc, guest);
     let gate = gate.clone()?;
     let post = Post {
         seat,

@@ -11,20 +11,22 @@ use crate::primary_thread::lead;
 use crate::printing::write_pair;
 use crate::telling::outputs_in_all;
 use ack_core::Board;
-use command_line::{PairOrders, Pairs};
 use crossbeam_channel::unbounded;
 use ft_types::{Memory, Sink};
-use guest_image::Image;
+use guest_image::{Image, Machine};
+use hart_replay::{Plan, ReplayFault};
 use input_script::Offered;
-use log_join::Store;
-use log_streams::{StreamsFault, TERM, begin_run};
+use log_streams::{PairOrders, Pairs, Replays, StreamsFault, TERM, begin_run};
 use output_gate::{Gate, Output};
 use page_book::{Book, Recording};
+use primary_pool::Free;
+use replay_pool::replay;
 use std::alloc::Global;
 use std::result::Result;
 use std::sync::Wait;
 use std::thread;
 use std::thread::Threads;
+use tracked_position::Tracked;
 
 /// What became of a pair.
 #[derive(Drop)]
@@ -37,8 +39,8 @@ pub struct PairEnd {
     pub kept: usize,
     /// The primary's book.
     pub book: Book<Recording>,
-    /// What each keeper holds.
-    pub stores: Vec<Store>,
+    /// What each keeper holds, with its position.
+    pub stores: Vec<Tracked>,
 }
 
 /// A thread for each keeper.
@@ -47,13 +49,13 @@ fn serve_all<R: Threads + Wait + Sync>(
     alloc: Global,
     board: &Board,
     posts: Vec<Post>,
-) -> Result<Vec<Store>, Memory>
+) -> Result<Vec<Tracked>, Memory>
     requires { All (IsPostOf board.now) posts.items }
 {
     let given = thread::map_vec(
         rt,
         posts,
-        &|post| -> Result<Store, Memory>
+        &|post| -> Result<Tracked, Memory>
             requires { IsPostOf board.now post }
         { serve(rt, alloc, board, post) },
     )?;
@@ -71,13 +73,16 @@ fn lead_and_serve<R: Threads + Wait + Sync>(
     board: &Board,
     posts: Vec<Post>,
     primary: Primary,
-) -> (Result<Vec<Store>, Memory>, Result<Book<Recording>, Memory>)
+) -> (
+    Result<Vec<Tracked>, Memory>,
+    Result<Book<Recording>, Memory>,
+)
     requires posts { All (IsPostOf board.now) posts.items }
     requires primary { MayLead primary }
 {
     thread::join(
         rt,
-        move || -> Result<Vec<Store>, Memory>
+        move || -> Result<Vec<Tracked>, Memory>
             requires { All (IsPostOf board.now) posts.items }
         { serve_all(rt, alloc, board, posts) },
         move || -> Result<Book<Recording>, Memory>
@@ -104,7 +109,10 @@ fn run_all<R: Threads + Wait + Sync>(
         move || -> Result<GateEnd, Memory>
             requires { IsWatchOf board.now watch }
         { guard(rt, alloc, board, watch) },
-        move || -> (Result<Vec<Store>, Memory>, Result<Book<Recording>, Memory>)
+        move || -> (
+            Result<Vec<Tracked>, Memory>,
+            Result<Book<Recording>, Memory>,
+        )
             requires { All (IsPostOf board.now) posts.items × MayLead primary }
         { lead_and_serve(rt, alloc, board, posts, primary) },
     );
@@ -112,7 +120,7 @@ fn run_all<R: Threads + Wait + Sync>(
 }
 
 /// What a pair comes to.
-fn end_of(gate: GateEnd, stores: Vec<Store>, book: Book<Recording>) -> PairEnd {
+fn end_of(gate: GateEnd, stores: Vec<Tracked>, book: Book<Recording>) -> PairEnd {
     let GateEnd { released, early } = gate;
     let mut released = released;
     released.sort_unstable_by_key(|output| (output.hart.number(), output.number));
@@ -157,7 +165,7 @@ pub fn run_pair<R: Threads + Wait + Sync>(
     run_all(rt, alloc, &board, watch, posts, primary)
 }
 
-/// Runs pairs on the threads of a runtime.
+/// Runs pairs and replays on the threads of a runtime.
 #[derive(Drop)]
 pub struct OnThreads<'a, R: Threads + Wait + Sync> {
     rt: &'a R,
@@ -170,11 +178,17 @@ impl<'a, R: Threads + Wait + Sync> OnThreads<'a, R> {
     }
 }
 
-impl<R: Threads + Wait + Sync> Pairs for OnThreads<'_, R> {
+impl<R: Threads + Wait + Sync> Replays for OnThreads<'_, R> {
     ghost use Rattle.std.specs.Thread.{IsSync};
 
     ghost may_run = { λ _. IsSync R.row };
 
+    fn replay(&self, alloc: Global, image: &Image, plan: &Plan) -> Result<Machine, ReplayFault> {
+        replay(self.rt, alloc, image, plan, &Free)
+    }
+}
+
+impl<R: Threads + Wait + Sync> Pairs for OnThreads<'_, R> {
     fn run_pair<W: Sink>(
         &self,
         alloc: Global,

@@ -1,5 +1,5 @@
-//! The tests of pairs on threads: what the command prints, that the keepers' stores replay to the primary's machine, and what
-//! comes where memory is refused.
+//! The tests of pairs and replays on threads: what the command prints, that the keepers' stores replay to the primary's machine,
+//! that a log is replayed to the machine that ran, and what comes where memory is refused.
 #![tactic(auto)]
 
 #[cfg(test)]
@@ -8,6 +8,8 @@ mod commands;
 mod guests;
 #[cfg(test)]
 mod refused;
+#[cfg(test)]
+mod replays;
 #[cfg(test)]
 mod rows;
 #[cfg(test)]

@@ -16,6 +16,7 @@ use std::alloc::Global;
 use std::sync::Wait;
 use std::test::Fail;
 use std::thread::Threads;
+use tracked_position::Tracked;
 
 /// The end of a pair of this image.
 fn end_of<R: Threads + Wait + Sync>(
@@ -30,10 +31,10 @@ fn end_of<R: Threads + Wait + Sync>(
 }
 
 /// All that these keepers hold.
-fn joined(alloc: Global, image: &Image, stores: &[Store]) -> Result<Store, Fail> {
+fn joined(alloc: Global, image: &Image, stores: &[Tracked]) -> Result<Store, Fail> {
     let mut all = Store::new(alloc, image.guest());
     for store in stores {
-        all.join(alloc, store).map_err(|_| "join")?;
+        all.join(alloc, store.store()).map_err(|_| "join")?;
     }
     Ok(all)
 }
@@ -48,7 +49,7 @@ fn replayed(alloc: Global, image: &Image, store: &Store) -> Result<Machine, Repl
 fn replay_to(
     alloc: Global,
     image: &Image,
-    stores: &[Store],
+    stores: &[Tracked],
     machine: &Machine,
 ) -> Result<bool, Fail> {
     let all = joined(alloc, image, stores)?;
@@ -132,10 +133,11 @@ fn holders(reached: &[Position], output: &Output) -> usize {
     holders
 }
 
-fn positions(alloc: Global, stores: &[Store]) -> Result<Vec<Position>, Memory> {
+/// The positions of what these keepers hold, found from scratch.
+fn positions(alloc: Global, stores: &[Tracked]) -> Result<Vec<Position>, Memory> {
     let mut reached = Vec::new(alloc);
     for store in stores {
-        reached.push(position(alloc, store)?)?;
+        reached.push(position(alloc, store.store())?)?;
     }
     Ok(reached)
 }

@@ -1,0 +1,59 @@
+//! Replays on threads of what streams tell.
+
+use crate::guests::ADDS;
+use fixtures::image_of;
+use ft_types::{MemorySink, MemorySource};
+use guest_image::{Image, Machine};
+use log_streams::{Replays, frames_of, replay_streams, run_primary, write_frames};
+use page_book::{Book, Recording};
+use pair::OnThreads;
+use std::alloc::Global;
+use std::test::Fail;
+
+/// Room for all that is written.
+const AMPLE: usize = 1_000_000;
+
+/// The stream of a primary's frames.
+fn stream_of(alloc: Global, image: &Image, book: &Book<Recording>) -> Result<MemorySource, Fail> {
+    if book.machine().harts() != image.harts() {
+        return Err("harts".into());
+    }
+    let frames = frames_of(alloc, image, book)?;
+    let mut stream = MemorySink::new(alloc, AMPLE);
+    write_frames(&frames, &mut stream).map_err(|_| "frames")?;
+    Ok(MemorySource::new(stream.bytes().to_vec(alloc)?))
+}
+
+/// Whether a replay of the stream writes the text of this machine.
+fn is_replayed<P: Replays>(
+    alloc: Global,
+    image: &Image,
+    stream: MemorySource,
+    machine: &Machine,
+    replays: &P,
+) -> Result<bool, Fail>
+    requires { P.may_run replays.now }
+{
+    let mut readers = [stream];
+    let mut replayed = MemorySink::new(alloc, AMPLE);
+    replay_streams(alloc, image, &mut readers, replays, &mut replayed).map_err(|_| "replay")?;
+    let mut ran = MemorySink::new(alloc, AMPLE);
+    machine.write_text(&mut ran).map_err(|_| "text")?;
+    Ok(replayed.bytes() == ran.bytes())
+}
+
+/// Whether harts that added in turn are replayed to their machine.
+fn adds_are_replayed<P: Replays>(alloc: Global, replays: &P) -> Result<bool, Fail>
+    requires { P.may_run replays.now }
+{
+    let image = image_of(alloc, ADDS)?;
+    let book = run_primary(alloc, &image, &[], 100_000).map_err(|_| "run")?;
+    let stream = stream_of(alloc, &image, &book)?;
+    is_replayed(alloc, &image, stream, book.machine(), replays)
+}
+
+#[test]
+fn a_log_is_replayed_on_threads(rt: HostRuntime) -> Result<(), Fail> {
+    assert!(rt; adds_are_replayed(rt.alloc(), &OnThreads::new(&rt))?);
+    Ok(())
+}
