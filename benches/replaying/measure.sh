@@ -1,18 +1,22 @@
 #!/bin/sh
-# Counts what running four harts takes and what replaying their log does, what going live from two stores of it does and what
-# joining and replaying these stores does, and what a frame of a long log of small pieces costs to join and to plan, by
-# callgrind. Needs rt and valgrind on the PATH. Works in a folder of its own, which it removes.
+# Counts what running four harts takes and what replaying their log does, in turn and on threads, what feeding a follower that log
+# piece by piece takes, what going live from two stores of it does and what joining and replaying these stores does, and what a
+# frame of a long log of small pieces costs to join and to plan, by callgrind. Needs rt and valgrind on the PATH. Works in a
+# folder of its own, which it removes.
 set -eu
 
 here=$(cd "$(dirname "$0")" && pwd)
 . "$here/../workspace.sh"
 
-workspace replaying_bench "interleaving zaamo ft_types rv32_isa input_log rv32_hart edge_log guest_image crew_pages lease_ledger hart_lease book_modes page_book lease_rounds primary_pool fragment_codec log_join closed_cut hart_replay ack_core output_gate go_live" "ft_types input_log guest_image page_book primary_pool fragment_codec log_join closed_cut hart_replay go_live anyhow" run 1
+workspace replaying_bench "interleaving zaamo ft_types rv32_isa input_log rv32_hart edge_log guest_image crew_pages lease_ledger hart_lease book_modes page_book lease_rounds primary_pool fragment_codec log_join closed_cut hart_replay replay_pool ack_core output_gate go_live" "ft_types input_log guest_image page_book primary_pool fragment_codec log_join closed_cut hart_replay replay_pool go_live anyhow" run 1
 
 "$program" run 1
 "$program" replay 1
 "$program" live 1
 "$program" parts 1
+"$program" threads_run 1
+"$program" threads_replay 1
+"$program" follow 250 1
 
 # What two more rounds cost, each.
 per_round() {
@@ -24,6 +28,24 @@ per_round() {
 a=$(per_round run)
 b=$(per_round replay)
 awk "BEGIN { printf \"run %d, replay %d instructions, ratio %.3f\n\", $a, $b, $b / $a }"
+
+a=$(per_round threads_run)
+b=$(per_round threads_replay)
+awk "BEGIN { printf \"on threads: run %d, replay %d instructions, ratio %.3f\n\", $a, $b, $b / $a }"
+
+# What two more rounds over a log that is cut so often cost, each.
+per_cut_round() {
+    few=$(count "$program" "$1" "$2" 1)
+    many=$(count "$program" "$1" "$2" 3)
+    echo $(((many - few) / 2))
+}
+
+for cuts in 125 250 500; do
+    a=$(per_cut_round whole "$cuts")
+    b=$(per_cut_round follow "$cuts")
+    c=$(per_cut_round plan_each "$cuts")
+    awk "BEGIN { printf \"%-4s pieces: replay of the whole %d, follower %d, planning alone %d instructions, ratio beside planning %.3f\n\", 4 * $cuts, $a, $b, $c, ($b - $c) / $a }"
+done
 
 a=$(per_round parts)
 b=$(per_round live)

@@ -1,9 +1,10 @@
 //! Guests that fall by chance, which run on threads and are replayed on threads.
 
-use crate::logs::{in_turn, on_threads, plan_of, store_of};
+use crate::logs::{in_turn, log_plan, on_threads};
 use fixtures::{Dice, image_of, recorder};
 use ft_types::{Count, Counts, Hart, Memory};
-use guest_image::Image;
+use guest_image::{Image, Machine};
+use hart_replay::{Plan, ReplayFault};
 use input_log::Input;
 use page_book::{Book, Recording};
 use primary_pool::{Free, run};
@@ -84,6 +85,32 @@ fn run_all<R: Threads + Wait + Sync>(
     Ok(run(rt, alloc, book, limits, &Free).map_err(|_| "memory")?)
 }
 
+/// What a guest did on threads, with what is offered by chance.
+fn ran<R: Threads + Wait + Sync>(
+    rt: &R,
+    alloc: Global,
+    image: &Image,
+    dice: &mut Dice,
+) -> Result<Book<Recording>, Fail> {
+    let mut book = recorder(alloc, image, &[150; 8])?;
+    offer_all(&mut book, dice);
+    run_all(rt, alloc, book)
+}
+
+/// Whether the plan leads to this machine, on threads and in turn.
+fn leads_to<R: Threads + Wait + Sync>(
+    rt: &R,
+    alloc: Global,
+    image: &Image,
+    plan: &Plan,
+    machine: &Machine,
+) -> Result<bool, ReplayFault> {
+    if !on_threads(rt, alloc, image, plan, &Free)?.same(machine) {
+        return Ok(false);
+    }
+    Ok(in_turn(alloc, image, plan)?.same(machine))
+}
+
 /// Whether what a guest of so many harts did on threads is what its log leads to, on threads and in turn.
 fn is_replayed<R: Threads + Wait + Sync>(
     rt: &R,
@@ -93,20 +120,17 @@ fn is_replayed<R: Threads + Wait + Sync>(
 ) -> Result<bool, Fail> {
     let mut dice = Dice::new(seed);
     let image = guest(alloc, harts, &mut dice)?;
-    let mut book = recorder(alloc, &image, &[150; 8])?;
-    offer_all(&mut book, &mut dice);
-    let book = run_all(rt, alloc, book)?;
-    let plan = plan_of(alloc, &store_of(alloc, &image, &book)?)?;
-    let replayed = on_threads(rt, alloc, &image, &plan, &Free)?;
-    let reference = in_turn(alloc, &image, &plan)?;
-    Ok(replayed.same(book.machine()) && reference.same(book.machine()))
+    let book = ran(rt, alloc, &image, &mut dice)?;
+    let plan = log_plan(alloc, &image, &book)?;
+    Ok(leads_to(rt, alloc, &image, &plan, book.machine())?)
 }
 
 #[test]
 fn what_runs_by_chance_is_replayed(rt: HostRuntime) -> Result<(), Fail> {
     for harts in 2..9u8 {
         let seed = 0x9e37 + u64::from(harts);
-        assert!(rt; is_replayed(&rt, rt.alloc(), harts, seed)?, "{harts} harts");
+        let replayed = is_replayed(&rt, rt.alloc(), harts, seed)?;
+        assert!(rt; replayed, "{harts} harts");
     }
     Ok(())
 }

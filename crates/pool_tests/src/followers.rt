@@ -3,7 +3,7 @@
 use crate::logs::{in_turn, opened, pieces_of, plan_of, put};
 use fixtures::{Dice, HALTS, image_of, key, opening_of, piece_of, recorder};
 use fragment_codec::{Frame, Sealed};
-use ft_types::{Count, Counts, Hart};
+use ft_types::{Count, Counts, Guest, Hart};
 use guest_image::Image;
 use hart_replay::ReplayFault;
 use log_join::Store;
@@ -19,7 +19,7 @@ static ADDS: &[u8] =
     b"harts 4\npages 2\n800010b7\n06400113\n00100193\n0030a02f\nfff10113\nfe011ce3\nf0000237\n00022a23\n";
 
 /// A follower at boot, asked for again where memory was refused.
-fn follower_of(alloc: Global, image: &Image) -> Result<Follower, Fail> {
+pub fn follower_of(alloc: Global, image: &Image) -> Result<Follower, Fail> {
     match Follower::new(alloc, image) {
         Ok(follower) => Ok(follower),
         Err(_) => Ok(Follower::new(alloc, image)?),
@@ -27,7 +27,7 @@ fn follower_of(alloc: Global, image: &Image) -> Result<Follower, Fail> {
 }
 
 /// Goes to the store's position, again where memory was refused.
-fn advance(alloc: Global, follower: &mut Follower, store: &Store) -> Result<(), ReplayFault> {
+pub fn advance(alloc: Global, follower: &mut Follower, store: &Store) -> Result<(), ReplayFault> {
     match follower.advance(alloc, store) {
         Err(ReplayFault::Memory) => follower.advance(alloc, store),
         answer => answer,
@@ -58,46 +58,122 @@ fn comes_to(
     Ok(stands(follower, term, count, steps))
 }
 
-/// A second opening of term 2 changes the chain, and a second piece at one key takes the position back.
+/// What a follower of a guest with one hart stands by: an empty follower, and a store with the first opening.
+#[derive(Drop)]
+struct Backup {
+    guest: Guest,
+    store: Store,
+    follower: Follower,
+}
+
+fn backup_of(alloc: Global) -> Result<Backup, Fail> {
+    let image = image_of(alloc, HALTS)?;
+    let store = opened(alloc, &image)?;
+    let follower = follower_of(alloc, &image)?;
+    Ok(Backup {
+        guest: image.guest(),
+        store,
+        follower,
+    })
+}
+
+impl Backup {
+    /// Puts an opening of term 2 at this base.
+    fn is_opened(&mut self, alloc: Global, base: Count) -> Result<(), Fail> {
+        let opening = opening_of(self.guest, 2, 1, &[base])?;
+        Ok(put(alloc, &mut self.store, &opening)?)
+    }
+
+    /// Puts such an opening. Whether the follower stands there then.
+    fn opens(
+        &mut self,
+        alloc: Global,
+        base: Count,
+        there: (u32, Count, u64),
+    ) -> Result<bool, Fail> {
+        let opening = opening_of(self.guest, 2, 1, &[base])?;
+        comes_to(alloc, &mut self.follower, &mut self.store, &opening, there)
+    }
+
+    /// Puts a piece of the first term. Whether the follower stands there then.
+    fn goes(
+        &mut self,
+        alloc: Global,
+        (place, from, end): (u32, Count, Count),
+        there: (u32, Count, u64),
+    ) -> Result<bool, Fail> {
+        let piece = piece_of(alloc, self.guest, key(1, 0, place), from, end, &[])?;
+        comes_to(alloc, &mut self.follower, &mut self.store, &piece, there)
+    }
+
+    /// Puts a piece of one step. The fault of the follower, and whether it stands there still.
+    fn refuses(
+        &mut self,
+        alloc: Global,
+        (place, from): (u32, Count),
+        (term, count, steps): (u32, Count, u64),
+    ) -> Result<(Option<ReplayFault>, bool), Fail> {
+        let end = from.saturating_add(1);
+        let piece = piece_of(alloc, self.guest, key(1, 0, place), from, end, &[])?;
+        put(alloc, &mut self.store, &piece)?;
+        let fault = advance(alloc, &mut self.follower, &self.store).err();
+        Ok((fault, stands(&self.follower, term, count, steps)))
+    }
+}
+
+/// Whether a second opening of term 2 changes the chain, and a second piece at one key takes the position back.
+fn begins_anew(alloc: Global) -> Result<bool, Fail> {
+    let mut backup = backup_of(alloc)?;
+    backup.is_opened(alloc, 3)?;
+    Ok(
+        backup.goes(alloc, (0, 0, 4), (2, 3, 3))?
+            && backup.opens(alloc, 4, (1, 4, 4))?
+            && backup.goes(alloc, (0, 0, 2), (1, 0, 0))?,
+    )
+}
+
 #[test]
 fn what_is_begun_anew(rt: HostRuntime) -> Result<(), Fail> {
-    let image = image_of(rt.alloc(), HALTS)?;
-    let guest = image.guest();
-    let mut store = opened(rt.alloc(), &image)?;
-    let mut follower = follower_of(rt.alloc(), &image)?;
-    put(rt.alloc(), &mut store, &opening_of(guest, 2, 1, &[3])?)?;
-    let whole = piece_of(rt.alloc(), guest, key(1, 0, 0), 0, 4, &[])?;
-    let part = piece_of(rt.alloc(), guest, key(1, 0, 0), 0, 2, &[])?;
-    let rows = [
-        (&whole, (2, 3, 3)),
-        (&opening_of(guest, 2, 1, &[4])?, (1, 4, 4)),
-        (&part, (1, 0, 0)),
-    ];
-    for (frame, there) in rows {
-        assert!(rt; comes_to(rt.alloc(), &mut follower, &mut store, frame, there)?);
-    }
+    assert!(rt; begins_anew(rt.alloc())?);
     Ok(())
+}
+
+/// Whether a second piece costs its own steps alone.
+fn goes_on(alloc: Global) -> Result<bool, Fail> {
+    let mut backup = backup_of(alloc)?;
+    Ok(backup.goes(alloc, (0, 0, 3), (1, 3, 3))? && backup.goes(alloc, (1, 3, 4), (1, 4, 1))?)
 }
 
 #[test]
 fn what_is_gone_on_from(rt: HostRuntime) -> Result<(), Fail> {
-    let image = image_of(rt.alloc(), HALTS)?;
-    let guest = image.guest();
-    let mut store = opened(rt.alloc(), &image)?;
-    let mut follower = follower_of(rt.alloc(), &image)?;
-    let first = piece_of(rt.alloc(), guest, key(1, 0, 0), 0, 3, &[])?;
-    let second = piece_of(rt.alloc(), guest, key(1, 0, 1), 3, 4, &[])?;
-    let past_its_halt = piece_of(rt.alloc(), guest, key(1, 0, 2), 4, 5, &[])?;
-    for (frame, there) in [(&first, (1, 3, 3)), (&second, (1, 4, 1))] {
-        assert!(rt; comes_to(rt.alloc(), &mut follower, &mut store, frame, there)?);
+    assert!(rt; goes_on(rt.alloc())?);
+    Ok(())
+}
+
+/// The fault of a piece past the hart's halt, and whether the follower stands where it stood.
+fn past_its_halt(alloc: Global) -> Result<(Option<ReplayFault>, bool), Fail> {
+    let mut backup = backup_of(alloc)?;
+    if !backup.goes(alloc, (0, 0, 4), (1, 4, 4))? {
+        return Err("the halt".into());
     }
-    put(rt.alloc(), &mut store, &past_its_halt)?;
-    let fault = advance(rt.alloc(), &mut follower, &store).err();
-    assert_eq!(rt; fault, Some(ReplayFault::HaltedInside(Hart::new(0), 4)));
-    assert!(rt; stands(&follower, 1, 4, 1));
-    let other = Store::new(rt.alloc(), image_of(rt.alloc(), ADDS)?.guest());
-    let fault = advance(rt.alloc(), &mut follower, &other).err();
-    assert_eq!(rt; fault, Some(ReplayFault::OtherGuest));
+    backup.refuses(alloc, (1, 4), (1, 4, 4))
+}
+
+/// The fault of another guest's store.
+fn of_another_guest(alloc: Global) -> Result<Option<ReplayFault>, Fail> {
+    let mut follower = follower_of(alloc, &image_of(alloc, HALTS)?)?;
+    let other = Store::new(alloc, image_of(alloc, ADDS)?.guest());
+    Ok(advance(alloc, &mut follower, &other).err())
+}
+
+#[test]
+fn what_is_refused(rt: HostRuntime) -> Result<(), Fail> {
+    let beyond = ReplayFault::HaltedInside(Hart::new(0), 4);
+    assert_eq!(rt; past_its_halt(rt.alloc())?, (Some(beyond), true));
+    assert_eq!(rt;
+        of_another_guest(rt.alloc())?,
+        Some(ReplayFault::OtherGuest)
+    );
     Ok(())
 }
 
@@ -149,30 +225,47 @@ fn keeps_up(
     Ok(went && machine.same(follower.machine()))
 }
 
+/// Which piece is put at this turn: one by chance, and in the end each.
+fn number_at(turn: u32, dice: &mut Dice) -> usize {
+    if turn < 80 {
+        usize::from(dice.roll())
+    } else {
+        turn as usize
+    }
+}
+
+/// The first turn at which the follower did not keep up, where these pieces come by chance and in the end all.
+fn first_left_behind(
+    alloc: Global,
+    image: &Image,
+    pieces: &[Frame],
+    follower: &mut Follower,
+) -> Result<Option<u32>, Fail> {
+    let mut dice = Dice::new(0x9e37);
+    let mut store = opened(alloc, image)?;
+    for turn in 0..120u32 {
+        let number = number_at(turn, &mut dice);
+        if let Some(piece) = pieces.get(number % pieces.len().max(1)) {
+            put(alloc, &mut store, piece)?;
+        }
+        if !keeps_up(alloc, image, follower, &store)? {
+            return Ok(Some(turn));
+        }
+    }
+    Ok(None)
+}
+
+/// The first turn at which a follower did not keep up with harts that add, and the steps to where it stands in the end.
+fn followed(alloc: Global) -> Result<(Option<u32>, u64), Fail> {
+    let image = image_of(alloc, ADDS)?;
+    let pieces = many_pieces(alloc, &image)?;
+    let mut follower = follower_of(alloc, &image)?;
+    let behind = first_left_behind(alloc, &image, &pieces, &mut follower)?;
+    Ok((behind, steps_to(&follower)))
+}
+
 #[test]
 fn piece_by_piece_in_any_order(rt: HostRuntime) -> Result<(), Fail> {
-    let image = image_of(rt.alloc(), ADDS)?;
-    let pieces = many_pieces(rt.alloc(), &image)?;
-    let mut dice = Dice::new(0x9e37);
-    let mut store = opened(rt.alloc(), &image)?;
-    let mut follower = follower_of(rt.alloc(), &image)?;
-    for turn in 0..120u32 {
-        let number = if turn < 80 {
-            usize::from(dice.roll())
-        } else {
-            turn as usize
-        };
-        if let Some(piece) = pieces.get(number % pieces.len().max(1)) {
-            put(rt.alloc(), &mut store, piece)?;
-        }
-        assert!(rt;
-            keeps_up(rt.alloc(), &image, &mut follower, &store)?,
-            "turn {turn}"
-        );
-    }
-    assert_eq!(rt;
-        follower.position().counts.as_slice(),
-        [305u64; 4].as_slice()
-    );
+    assert_eq!(rt; followed(rt.alloc())?, (None, 4 * 305));
     Ok(())
 }

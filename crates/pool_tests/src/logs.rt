@@ -92,6 +92,12 @@ pub fn on_threads<R: Threads + Wait + Sync, T: Turnstile + Sync>(
     }
 }
 
+/// The plan of all that a primary recorded from the image's boot.
+pub fn log_plan(alloc: Global, image: &Image, book: &Book<Recording>) -> Result<Plan, Fail> {
+    let store = store_of(alloc, image, book)?;
+    plan_of(alloc, &store)
+}
+
 /// What it comes to on one thread.
 pub fn in_turn(alloc: Global, image: &Image, plan: &Plan) -> Result<Machine, ReplayFault> {
     match replay_plain(alloc, image, plan) {

@@ -1,11 +1,14 @@
 //! A turnstile that holds each hart up until all have come.
 
-use crate::pools::on_threads;
-use ft_types::{Count, Hart, PageNo};
+use crate::pools::{has_added, on_threads};
+use ft_types::{Count, Hart};
 use primary_pool::Turnstile;
+use std::alloc::Global;
+use std::sync::Wait;
 use std::sync::atomic::{AtomicU64, Ordering};
 use std::test::Fail;
 use std::thread;
+use std::thread::Threads;
 
 /// Four harts add 1 to one word 10,000 times each, and halt.
 pub static ADDS_MANY: &[u8] =
@@ -38,13 +41,12 @@ impl Meeting {
         }
     }
 
-    /// Whether each hart saw that all had come.
-    pub fn all_met(&self) -> bool {
-        self.met.load(Ordering::SeqCst) == 4
+    /// Whether each hart saw that all had come, and each hart's last lease was settled at this count.
+    pub fn all_met_and_left_at(&self, count: Count) -> bool {
+        self.met.load(Ordering::SeqCst) == 4 && self.all_left_at(count)
     }
 
-    /// Whether each hart's last lease was settled at this count.
-    pub fn all_left_at(&self, count: Count) -> bool {
+    fn all_left_at(&self, count: Count) -> bool {
         for hart in 0..4usize {
             if self.last[hart].load(Ordering::SeqCst) != count {
                 return false;
@@ -85,14 +87,20 @@ impl Turnstile for Meeting {
     }
 }
 
+/// Whether the harts have added all that they have to add where the turnstile may hold them up.
+fn is_added<R: Threads + Wait + Sync>(
+    rt: &R,
+    alloc: Global,
+    meeting: &Meeting,
+) -> Result<bool, Fail> {
+    let book = on_threads(rt, alloc, ADDS_MANY, 100000, meeting)?;
+    Ok(has_added(book.machine(), 40000))
+}
+
 #[test]
 fn each_hart_goes_on_its_own_thread(rt: HostRuntime) -> Result<(), Fail> {
     let meeting = Meeting::new();
-    let book = on_threads(&rt, rt.alloc(), ADDS_MANY, 100000, &meeting)?;
-    assert!(rt; meeting.all_met());
-    assert!(rt; meeting.all_left_at(30006));
-    let machine = book.machine();
-    assert!(rt; machine.pages() == 2);
-    assert_eq!(rt; machine.page(PageNo::new(1)).read_word(0), 40000);
+    let added = is_added(&rt, rt.alloc(), &meeting)?;
+    assert!(rt; added && meeting.all_met_and_left_at(30006));
     Ok(())
 }

@@ -1,13 +1,19 @@
 //! A book that goes on on threads, or in turn.
 
 use fixtures::{image_of, recorder};
-use ft_types::{Count, Counts};
+use ft_types::{Count, Counts, PageNo};
+use guest_image::Machine;
 use page_book::{Book, Recording};
 use primary_pool::{Turnstile, run, run_plain};
 use std::alloc::Global;
 use std::sync::Wait;
 use std::test::Fail;
 use std::thread::Threads;
+
+/// Whether the harts of the machine have added up to this.
+pub fn has_added(machine: &Machine, sum: u32) -> bool {
+    machine.pages() == 2 && machine.page(PageNo::new(1)).read_word(0) == sum
+}
 
 /// A book of four harts that goes on to this budget of each.
 pub fn on_threads<R: Threads + Wait + Sync, T: Turnstile + Sync>(

@@ -1,12 +1,15 @@
 //! A replay on threads to which memory is refused. Run with each allocation refused in turn.
 
-use crate::logs::{on_threads, plan_of, store_of};
+use crate::logs::{log_plan, on_threads};
 use crate::pools;
 use fixtures::{image_of, recorder};
+use guest_image::Image;
 use page_book::{Book, Recording};
 use primary_pool::{Free, run_plain};
 use std::alloc::Global;
+use std::sync::Wait;
 use std::test::Fail;
+use std::thread::Threads;
 
 /// Four harts add 1 to one word three times each, and halt.
 static ADDS_FEW: &[u8] =
@@ -22,14 +25,27 @@ fn ran_in_turn(alloc: Global) -> Result<Book<Recording>, Fail> {
     pools::in_turn(alloc, ADDS_FEW, 100)
 }
 
+/// Whether each hart of the book has halted, and its log leads to its machine.
+fn is_replayed<R: Threads + Wait + Sync>(
+    rt: &R,
+    alloc: Global,
+    image: &Image,
+    book: &Book<Recording>,
+) -> Result<bool, Fail> {
+    let plan = log_plan(alloc, image, book)?;
+    let machine = on_threads(rt, alloc, image, &plan, &Free)?;
+    Ok(machine.same(book.machine()) && book.counts().as_slice() == [14u64; 4].as_slice())
+}
+
+fn ran_and_replayed<R: Threads + Wait + Sync>(rt: &R, alloc: Global) -> Result<bool, Fail> {
+    let image = image_of(alloc, ADDS_FEW)?;
+    let book = ran_in_turn(alloc)?;
+    is_replayed(rt, alloc, &image, &book)
+}
+
 /// Who is refused memory once comes to the machine that ran when it asks again.
 #[test]
 fn refused_memory(rt: HostRuntime) -> Result<(), Fail> {
-    let image = image_of(rt.alloc(), ADDS_FEW)?;
-    let book = ran_in_turn(rt.alloc())?;
-    let plan = plan_of(rt.alloc(), &store_of(rt.alloc(), &image, &book)?)?;
-    let machine = on_threads(&rt, rt.alloc(), &image, &plan, &Free)?;
-    assert!(rt; machine.same(book.machine()));
-    assert_eq!(rt; book.counts().as_slice(), [14u64; 4].as_slice());
+    assert!(rt; ran_and_replayed(&rt, rt.alloc())?);
     Ok(())
 }

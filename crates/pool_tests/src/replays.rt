@@ -1,17 +1,22 @@
 //! Logs that are replayed on threads.
 
-use crate::logs::{in_turn, on_threads, opened, plan_of, put, store_of};
+use crate::followers::{advance, follower_of};
+use crate::logs::{in_turn, log_plan, on_threads, opened, plan_of, put, store_of};
 use crate::meeting::{ADDS_MANY, Meeting};
 use crate::pools;
 use fixtures::{BOTH_STORE, HALTS, TWO_LOOPS, edge, hart, image_of, key, opening_of, piece_of};
 use fragment_codec::Record;
 use ft_types::{Count, Counts, Hart, MemorySink};
 use guest_image::{Image, Machine};
-use hart_replay::ReplayFault;
+use hart_replay::{Plan, ReplayFault};
 use log_join::Store;
+use page_book::{Book, Recording};
 use primary_pool::Free;
 use std::alloc::Global;
+use std::result::Result;
+use std::sync::Wait;
 use std::test::Fail;
+use std::thread::Threads;
 
 /// The last line of a machine's text in which four harts have added 1 to one word 10,000 times each.
 static ALL_ADDED: &[u8] = b"80001000 00009c40\n";
@@ -24,31 +29,78 @@ fn text_of(alloc: Global, machine: &Machine) -> Result<MemorySink, Fail> {
     }
 }
 
+fn has_text(alloc: Global, machine: &Machine, text: &[u8]) -> Result<bool, Fail> {
+    Ok(text_of(alloc, machine)?.bytes() == text)
+}
+
+/// Whether the plan leads to a machine with this text, on threads and in turn.
+fn leads_to<R: Threads + Wait + Sync>(
+    rt: &R,
+    alloc: Global,
+    image: &Image,
+    plan: &Plan,
+    text: &[u8],
+) -> Result<bool, Fail> {
+    if !has_text(alloc, &on_threads(rt, alloc, image, plan, &Free)?, text)? {
+        return Ok(false);
+    }
+    has_text(alloc, &in_turn(alloc, image, plan)?, text)
+}
+
+/// Whether a follower of the store comes to a machine with this text.
+fn follows_to(alloc: Global, image: &Image, store: &Store, text: &[u8]) -> Result<bool, Fail> {
+    let mut follower = follower_of(alloc, image)?;
+    advance(alloc, &mut follower, store)?;
+    has_text(alloc, follower.machine(), text)
+}
+
+/// Whether the log of the book leads to a machine with this text, by each replay and by a follower.
+fn all_write<R: Threads + Wait + Sync>(
+    rt: &R,
+    alloc: Global,
+    image: &Image,
+    book: &Book<Recording>,
+    text: &[u8],
+) -> Result<bool, Fail> {
+    let store = store_of(alloc, image, book)?;
+    if !follows_to(alloc, image, &store, text)? {
+        return Ok(false);
+    }
+    leads_to(rt, alloc, image, &plan_of(alloc, &store)?, text)
+}
+
+/// Whether harts that added on threads have one text by the run, each replay and a follower.
+fn is_one_text<R: Threads + Wait + Sync>(rt: &R, alloc: Global) -> Result<bool, Fail> {
+    let image = image_of(alloc, ADDS_MANY)?;
+    let book = pools::on_threads(rt, alloc, ADDS_MANY, 100000, &Free)?;
+    let ran = text_of(alloc, book.machine())?;
+    Ok(ran.bytes().ends_with(ALL_ADDED) && all_write(rt, alloc, &image, &book, ran.bytes())?)
+}
+
 #[test]
-fn one_text_by_run_and_both_replays(rt: HostRuntime) -> Result<(), Fail> {
-    let image = image_of(rt.alloc(), ADDS_MANY)?;
-    let book = pools::on_threads(&rt, rt.alloc(), ADDS_MANY, 100000, &Free)?;
-    let plan = plan_of(rt.alloc(), &store_of(rt.alloc(), &image, &book)?)?;
-    let ran = text_of(rt.alloc(), book.machine())?;
-    assert!(rt; ran.bytes().ends_with(ALL_ADDED));
-    let replayed = on_threads(&rt, rt.alloc(), &image, &plan, &Free)?;
-    assert!(rt; text_of(rt.alloc(), &replayed)?.bytes() == ran.bytes());
-    let reference = in_turn(rt.alloc(), &image, &plan)?;
-    assert!(rt; text_of(rt.alloc(), &reference)?.bytes() == ran.bytes());
+fn one_text_by_run_replays_and_follower(rt: HostRuntime) -> Result<(), Fail> {
+    assert!(rt; is_one_text(&rt, rt.alloc())?);
     Ok(())
+}
+
+/// Whether the log of harts that added in turn leads to their machine where the turnstile may hold them up.
+fn is_added<R: Threads + Wait + Sync>(
+    rt: &R,
+    alloc: Global,
+    meeting: &Meeting,
+) -> Result<bool, Fail> {
+    let image = image_of(alloc, ADDS_MANY)?;
+    let book = pools::in_turn(alloc, ADDS_MANY, 100000)?;
+    let plan = log_plan(alloc, &image, &book)?;
+    Ok(on_threads(rt, alloc, &image, &plan, meeting)?.same(book.machine()))
 }
 
 /// Each hart comes to its end by leases of its own thread: nothing is left to do in turn.
 #[test]
 fn each_hart_replays_on_its_own_thread(rt: HostRuntime) -> Result<(), Fail> {
-    let image = image_of(rt.alloc(), ADDS_MANY)?;
-    let book = pools::in_turn(rt.alloc(), ADDS_MANY, 100000)?;
-    let plan = plan_of(rt.alloc(), &store_of(rt.alloc(), &image, &book)?)?;
     let meeting = Meeting::new();
-    let machine = on_threads(&rt, rt.alloc(), &image, &plan, &meeting)?;
-    assert!(rt; meeting.all_met());
-    assert!(rt; meeting.all_left_at(30006));
-    assert!(rt; machine.same(book.machine()));
+    let added = is_added(&rt, rt.alloc(), &meeting)?;
+    assert!(rt; added && meeting.all_met_and_left_at(30006));
     Ok(())
 }
 
@@ -78,61 +130,89 @@ fn has_counts(machine: &Machine, counts: &[Count]) -> bool {
     true
 }
 
+/// What such a store's replay on threads comes to: the fault, or whether the harts have these counts.
+fn come_to<R: Threads + Wait + Sync>(
+    rt: &R,
+    alloc: Global,
+    file: &[u8],
+    rows: &[Row],
+    counts: &[Count],
+) -> Result<Result<bool, ReplayFault>, Fail> {
+    let image = image_of(alloc, file)?;
+    let plan = plan_of(alloc, &one_term(alloc, &image, rows)?)?;
+    match on_threads(rt, alloc, &image, &plan, &Free) {
+        Ok(machine) => Ok(Ok(has_counts(&machine, counts))),
+        Err(fault) => Ok(Err(fault)),
+    }
+}
+
 #[test]
 fn harts_that_wait_for_one_another(rt: HostRuntime) -> Result<(), Fail> {
-    let image = image_of(rt.alloc(), TWO_LOOPS)?;
     let forth = [Record::Edge(edge(0, 2, 1, 3))];
     let back = [Record::Edge(edge(1, 1, 0, 4))];
-    let store = one_term(rt.alloc(), &image, &[(5, &forth), (5, &back)])?;
-    let plan = plan_of(rt.alloc(), &store)?;
+    let rows: [Row; 2] = [(5, &forth), (5, &back)];
     let counts = Counts::from_slice(&[2, 1]).ok_or("counts")?;
-    let fault = on_threads(&rt, rt.alloc(), &image, &plan, &Free).err();
-    assert_eq!(rt; fault, Some(ReplayFault::Cyclic(counts)));
+    let end = come_to(&rt, rt.alloc(), TWO_LOOPS, &rows, &[])?;
+    assert_eq!(rt; end, Err(ReplayFault::Cyclic(counts)));
     Ok(())
 }
 
 #[test]
 fn a_hart_that_halts(rt: HostRuntime) -> Result<(), Fail> {
-    let image = image_of(rt.alloc(), HALTS)?;
-    let beyond = plan_of(rt.alloc(), &one_term(rt.alloc(), &image, &[(5, &[])])?)?;
-    let fault = on_threads(&rt, rt.alloc(), &image, &beyond, &Free).err();
-    assert_eq!(rt; fault, Some(ReplayFault::HaltedInside(hart(0), 4)));
-    let whole = plan_of(rt.alloc(), &one_term(rt.alloc(), &image, &[(4, &[])])?)?;
-    let machine = on_threads(&rt, rt.alloc(), &image, &whole, &Free)?;
-    assert!(rt; has_counts(&machine, &[4]));
+    let beyond = come_to(&rt, rt.alloc(), HALTS, &[(5, &[])], &[])?;
+    assert_eq!(rt; beyond, Err(ReplayFault::HaltedInside(hart(0), 4)));
+    let whole = come_to(&rt, rt.alloc(), HALTS, &[(4, &[])], &[4])?;
+    assert_eq!(rt; whole, Ok(true));
     Ok(())
+}
+
+/// What nothing that was recorded leads to on threads, of this image.
+fn of_nothing<R: Threads + Wait + Sync>(
+    rt: &R,
+    alloc: Global,
+    file: &[u8],
+) -> Result<Result<bool, ReplayFault>, Fail> {
+    let plan = plan_of(
+        alloc,
+        &Store::new(alloc, image_of(alloc, BOTH_STORE)?.guest()),
+    )?;
+    let image = image_of(alloc, file)?;
+    match on_threads(rt, alloc, &image, &plan, &Free) {
+        Ok(machine) => Ok(Ok(has_counts(&machine, &[0, 0]))),
+        Err(fault) => Ok(Err(fault)),
+    }
 }
 
 #[test]
 fn nothing_to_replay_and_a_plan_of_another_guest(rt: HostRuntime) -> Result<(), Fail> {
-    let image = image_of(rt.alloc(), BOTH_STORE)?;
-    let plan = plan_of(rt.alloc(), &Store::new(rt.alloc(), image.guest()))?;
-    let machine = on_threads(&rt, rt.alloc(), &image, &plan, &Free)?;
-    assert!(rt; has_counts(&machine, &[0, 0]));
-    let other = image_of(rt.alloc(), TWO_LOOPS)?;
-    let fault = on_threads(&rt, rt.alloc(), &other, &plan, &Free).err();
-    assert_eq!(rt; fault, Some(ReplayFault::OtherGuest));
+    assert_eq!(rt; of_nothing(&rt, rt.alloc(), BOTH_STORE)?, Ok(true));
+    let other = of_nothing(&rt, rt.alloc(), TWO_LOOPS)?;
+    assert_eq!(rt; other, Err(ReplayFault::OtherGuest));
     Ok(())
 }
 
-/// Hart 1's first term ends before it has stored, and the second goes on from there.
+/// A store in which hart 1's first term ends before it has stored, and the second goes on from there.
+fn two_terms(alloc: Global, image: &Image) -> Result<Store, Fail> {
+    let guest = image.guest();
+    let mut store = one_term(alloc, image, &[(4, &[]), (1, &[])])?;
+    let waits = [Record::Edge(edge(1, 1, 0, 4))];
+    put(alloc, &mut store, &opening_of(guest, 2, 1, &[3, 1])?)?;
+    let first = piece_of(alloc, guest, key(2, 0, 0), 3, 4, &[])?;
+    put(alloc, &mut store, &first)?;
+    let second = piece_of(alloc, guest, key(2, 1, 0), 1, 3, &waits)?;
+    put(alloc, &mut store, &second)?;
+    Ok(store)
+}
+
+fn goes_by_terms<R: Threads + Wait + Sync>(rt: &R, alloc: Global) -> Result<bool, Fail> {
+    let image = image_of(alloc, BOTH_STORE)?;
+    let plan = plan_of(alloc, &two_terms(alloc, &image)?)?;
+    let machine = on_threads(rt, alloc, &image, &plan, &Free)?;
+    Ok(has_counts(&machine, &[4, 3]) && machine.same(&in_turn(alloc, &image, &plan)?))
+}
+
 #[test]
 fn one_term_after_the_other(rt: HostRuntime) -> Result<(), Fail> {
-    let image = image_of(rt.alloc(), BOTH_STORE)?;
-    let guest = image.guest();
-    let mut store = one_term(rt.alloc(), &image, &[(4, &[]), (1, &[])])?;
-    let waits = [Record::Edge(edge(1, 1, 0, 4))];
-    let more = [
-        opening_of(guest, 2, 1, &[3, 1])?,
-        piece_of(rt.alloc(), guest, key(2, 0, 0), 3, 4, &[])?,
-        piece_of(rt.alloc(), guest, key(2, 1, 0), 1, 3, &waits)?,
-    ];
-    for frame in &more {
-        put(rt.alloc(), &mut store, frame)?;
-    }
-    let plan = plan_of(rt.alloc(), &store)?;
-    let machine = on_threads(&rt, rt.alloc(), &image, &plan, &Free)?;
-    assert!(rt; has_counts(&machine, &[4, 3]));
-    assert!(rt; machine.same(&in_turn(rt.alloc(), &image, &plan)?));
+    assert!(rt; goes_by_terms(&rt, rt.alloc())?);
     Ok(())
 }
