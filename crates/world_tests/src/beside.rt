@@ -1,0 +1,109 @@
+//! A world beside a plain one.
+
+ghost use Rattle.std.specs.Prelude.{◌<◌, ◌≤◌};
+
+use crate::acts::Act;
+use crate::plain::PlainWorld;
+use crate::subject::Subject;
+use crate::tally::Tally;
+use failover_world::{Released, WorldFault};
+use fragment_codec::Frame;
+use ft_types::Memory;
+use guest_image::{Image, Machine};
+use log_join::{Put, Store};
+use std::alloc::Global;
+
+/// A world, a plain one to which the same happens, and what happened.
+#[derive(Drop)]
+pub struct Beside {
+    subject: Subject,
+    plain: PlainWorld,
+    tally: Tally,
+}
+
+/// Whether the machine has each of these outputs, at its number.
+fn has_all(machine: &Machine, released: &[Released]) -> bool {
+    released.iter().all(|released| {
+        let output = &released.output;
+        output.hart.number() < machine.harts()
+            && machine
+                .hart(output.hart)
+                .outputs()
+                .get(output.number as usize)
+                == Some(&(output.step, output.word))
+    })
+}
+
+impl Beside {
+    /// Two worlds of the image.
+    pub fn new(alloc: Global, image: &Image, keepers: u8, need: u8) -> Result<Beside, Memory>
+        requires { (0 < need) × (need ≤ keepers) × (keepers ≤ 5) }
+    {
+        Ok(Beside {
+            subject: Subject::new(alloc, image, keepers, need)?,
+            plain: PlainWorld::new(alloc, image, keepers, need)?,
+            tally: Tally::default(),
+        })
+    }
+
+    /// The plain world.
+    pub fn plain(&self) -> &PlainWorld {
+        &self.plain
+    }
+
+    /// The outputs that went out.
+    pub fn released(&self) -> &[Released] {
+        self.subject.world().released()
+    }
+
+    /// What happened.
+    pub fn tally(&self) -> &Tally {
+        &self.tally
+    }
+
+    /// Whether the worlds have the same machine, or none, and it has all that went out.
+    pub fn have_same_machine(&self) -> bool {
+        match (self.subject.world().machine(), self.plain.machine()) {
+            (Some(machine), Some(other)) => {
+                machine.same(other) && has_all(machine, self.released())
+            }
+            (None, None) => true,
+            _ => false,
+        }
+    }
+
+    /// Applies the act to both worlds. Says whether they answer the same, and the same went out.
+    pub fn agree_on(&mut self, alloc: Global, act: Act) -> Result<bool, Memory> {
+        let Some(answer) = self.subject.answer(alloc, act) else {
+            return Ok(false);
+        };
+        let wanted = self.plain.apply(alloc, act);
+        if wanted == Err(WorldFault::Memory) {
+            return Err(Memory);
+        }
+        self.tally.count(act, answer);
+        Ok(answer == wanted && self.released() == self.plain.released())
+    }
+
+    /// Whether the worlds sent the same frames.
+    pub fn sent_the_same(&self, alloc: Global, image: &Image) -> Result<bool, Memory> {
+        let frames = self.subject.world().frames();
+        let sent = self.plain.sent();
+        let mut store = Store::new(alloc, image.guest());
+        Ok(
+            frames.len() == sent.len()
+                && put_all(alloc, &mut store, sent, Put::New)?
+                && put_all(alloc, &mut store, frames, Put::Same)?,
+        )
+    }
+}
+
+/// Puts these frames. Says whether each was answered so.
+fn put_all(alloc: Global, store: &mut Store, frames: &[Frame], put: Put) -> Result<bool, Memory> {
+    for frame in frames {
+        if store.put(frame.copy(alloc)?)? != put {
+            return Ok(false);
+        }
+    }
+    Ok(true)
+}

@@ -1,0 +1,116 @@
+//! Ten thousand lists of 60 events that fall by chance, beside a plain world.
+
+use crate::beside::Beside;
+use crate::chance::{Chance, guest};
+use crate::tally::Tally;
+use fixtures::image_of;
+use ft_types::Memory;
+use guest_image::Image;
+use std::alloc::Global;
+use std::ops::Range;
+use std::test::Fail;
+
+/// How many events a list has.
+const EVENTS: u64 = 60;
+
+/// How many lists a part has.
+const LISTS: u64 = 2_500;
+
+/// What at least happens in a part.
+static LEAST: Tally = Tally {
+    lists: LISTS,
+    steps: 25_000,
+    deliveries: 25_000,
+    acknowledged: 25_000,
+    grants: 2_000,
+    refused: 25_000,
+    released: 2_000,
+    again: 150,
+    spread: 100,
+};
+
+/// Applies a list of events to two worlds, which must agree at each. Says what happened, or `None` where they differ.
+fn apply_list(alloc: Global, image: &Image, chance: &mut Chance) -> Result<Option<Beside>, Memory> {
+    let keepers = chance.number(5).min(chance.number(5));
+    let need = chance.number(keepers);
+    let mut worlds = Beside::new(alloc, image, keepers, need)?;
+    for event in 1..=EVENTS {
+        let act = chance.next(worlds.plain());
+        if !worlds.agree_on(alloc, act)? || event % 10 == 0 && !worlds.have_same_machine() {
+            return Ok(None);
+        }
+    }
+    if worlds.sent_the_same(alloc, image)? {
+        Ok(Some(worlds))
+    } else {
+        Ok(None)
+    }
+}
+
+/// Applies the list of this number, once more where the plain world was refused memory. Says whether the worlds agree.
+fn agree_in(alloc: Global, number: u64, tally: &mut Tally) -> Result<bool, Fail> {
+    let image = image_of(alloc, guest(number))?;
+    let seed = number.wrapping_mul(0x9e37_79b9_7f4a_7c15) | 1;
+    let worlds = match apply_list(alloc, &image, &mut Chance::new(seed)) {
+        Err(Memory) => apply_list(alloc, &image, &mut Chance::new(seed))?,
+        Ok(worlds) => worlds,
+    };
+    match worlds {
+        Some(worlds) => {
+            tally.add(worlds.tally());
+            tally.count_list(worlds.released());
+            Ok(true)
+        }
+        None => Ok(false),
+    }
+}
+
+/// The number of the first of these lists in which the worlds differ.
+fn first_difference(
+    alloc: Global,
+    lists: Range<u64>,
+    tally: &mut Tally,
+) -> Result<Option<u64>, Fail> {
+    for number in lists {
+        if !agree_in(alloc, number, tally)? {
+            return Ok(Some(number));
+        }
+    }
+    Ok(None)
+}
+
+/// The number of the first list of this part in which the worlds differ. In a part in which they do not much happens.
+fn difference_in(alloc: Global, part: u64) -> Result<Option<u64>, Fail> {
+    let mut tally = Tally::default();
+    let first = part.saturating_mul(LISTS);
+    let lists = first..first.saturating_add(LISTS);
+    let difference = first_difference(alloc, lists, &mut tally)?;
+    if difference.is_none() && !tally.is_at_least(&LEAST) {
+        return Err("too little happened".into());
+    }
+    Ok(difference)
+}
+
+#[test]
+fn part_0(rt: HostRuntime) -> Result<(), Fail> {
+    assert_eq!(rt; difference_in(rt.alloc(), 0)?, None);
+    Ok(())
+}
+
+#[test]
+fn part_1(rt: HostRuntime) -> Result<(), Fail> {
+    assert_eq!(rt; difference_in(rt.alloc(), 1)?, None);
+    Ok(())
+}
+
+#[test]
+fn part_2(rt: HostRuntime) -> Result<(), Fail> {
+    assert_eq!(rt; difference_in(rt.alloc(), 2)?, None);
+    Ok(())
+}
+
+#[test]
+fn part_3(rt: HostRuntime) -> Result<(), Fail> {
+    assert_eq!(rt; difference_in(rt.alloc(), 3)?, None);
+    Ok(())
+}

@@ -1,0 +1,391 @@
+//! A plain world, by what events mean: whole lists of what was sent, taken and acknowledged. It keeps no position and no board;
+//! what it is asked it finds in these lists.
+
+use crate::acts::{Act, hart_of};
+use crate::primary::Primary;
+use ack_core::AckFault;
+use closed_cut::{Position, position};
+use failover_world::{Released, WorldFault};
+use fragment_codec::{Frame, Opening};
+use ft_types::{Count, Counts, Hart, Memory, Term};
+use go_live::LiveFault;
+use guest_image::{Image, Machine};
+use input_log::Input;
+use log_join::Store;
+use output_gate::Output;
+use std::alloc::Global;
+use std::mem;
+
+/// What a keeper took: the numbers of frames, in the order in which they came.
+#[derive(Drop)]
+struct Taken {
+    frames: Vec<u64>,
+    lost: bool,
+}
+
+/// A world by whole lists.
+#[derive(Drop)]
+pub struct PlainWorld {
+    image: Image,
+    keepers: u8,
+    need: u8,
+    primary: Primary,
+    runs: bool,
+    /// The primaries of the terms before.
+    past: Vec<Primary>,
+    sent: Vec<Frame>,
+    taken: Vec<Taken>,
+    /// Who acknowledged which counts in the term that was granted last.
+    acknowledged: Vec<(u64, Counts)>,
+    released: Vec<Released>,
+}
+
+/// Keepers that took nothing.
+fn nothing_taken(alloc: Global, keepers: u8) -> Result<Vec<Taken>, Memory> {
+    let mut taken = Vec::new(alloc);
+    for _keeper in 0..keepers {
+        taken.push(Taken {
+            frames: Vec::new(alloc),
+            lost: false,
+        })?;
+    }
+    Ok(taken)
+}
+
+/// The primary of term 1, from boot.
+fn first_primary(alloc: Global, image: &Image) -> Result<Primary, Memory> {
+    let base = Counts::zero(image.harts());
+    let opening = Opening::new(image.guest(), 1, 0, base).ok_or(Memory)?;
+    Primary::begin(alloc, opening, Machine::boot(alloc, image)?)
+}
+
+/// Whether some hart's count is less than before.
+fn are_lower(counts: &Counts, before: &Counts) -> bool {
+    counts
+        .as_slice()
+        .iter()
+        .zip(before.as_slice())
+        .any(|(count, before)| count < before)
+}
+
+/// Whether the hart's count is above the step.
+fn has_inside(counts: &Counts, hart: Hart, step: Count) -> bool {
+    match counts.as_slice().get(hart.index()) {
+        Some(count) => *count > step,
+        None => false,
+    }
+}
+
+impl PlainWorld {
+    /// A primary that runs from boot, whose opening is sent, and keepers that took nothing.
+    pub fn new(alloc: Global, image: &Image, keepers: u8, need: u8) -> Result<PlainWorld, Memory> {
+        let primary = first_primary(alloc, image)?;
+        let mut sent = Vec::new(alloc);
+        sent.push(Frame::Opening(primary.opening().copy()))?;
+        Ok(PlainWorld {
+            image: image.copy()?,
+            keepers,
+            need,
+            primary,
+            runs: true,
+            past: Vec::new(alloc),
+            sent,
+            taken: nothing_taken(alloc, keepers)?,
+            acknowledged: Vec::new(alloc),
+            released: Vec::new(alloc),
+        })
+    }
+
+    /// Whether a primary runs.
+    pub fn runs(&self) -> bool {
+        self.runs
+    }
+
+    /// How many keepers there were at first.
+    pub fn keepers(&self) -> u8 {
+        self.keepers
+    }
+
+    /// The term that was granted last.
+    pub fn term(&self) -> Term {
+        self.primary.term()
+    }
+
+    /// All frames that were sent.
+    pub fn sent(&self) -> &[Frame] {
+        self.sent.as_slice()
+    }
+
+    /// All outputs that went out.
+    pub fn released(&self) -> &[Released] {
+        self.released.as_slice()
+    }
+
+    /// The machine of the primary that runs.
+    pub fn machine(&self) -> Option<&Machine> {
+        if self.runs {
+            Some(self.primary.machine())
+        } else {
+            None
+        }
+    }
+
+    /// The numbers of the frames that a keeper took.
+    fn taken_by(&self, keeper: u64) -> &[u64] {
+        match self.taken.get(keeper as usize) {
+            Some(taken) => taken.frames.as_slice(),
+            None => &[],
+        }
+    }
+
+    /// The number of the first frame that the keeper did not take.
+    pub fn first_missing(&self, keeper: u64) -> Option<u64> {
+        let taken = self.taken_by(keeper);
+        (0..self.sent.len() as u64).find(|number| !taken.contains(number))
+    }
+
+    /// Whether there is a keeper of this number that is not lost.
+    fn has(&self, keeper: u64) -> bool {
+        match self.taken.get(keeper as usize) {
+            Some(taken) => !taken.lost,
+            None => false,
+        }
+    }
+
+    /// The keeper takes frames of these numbers.
+    fn take(&mut self, keeper: u64, frames: &[u64]) -> Result<(), WorldFault> {
+        match self.taken.get_mut(keeper as usize) {
+            Some(taken) => match taken.frames.extend_from_slice(frames) {
+                Ok(()) => Ok(()),
+                Err(_) => Err(WorldFault::Memory),
+            },
+            None => Err(WorldFault::NoKeeper),
+        }
+    }
+
+    fn deliver(&mut self, keeper: u64, frame: u64) -> Result<(), WorldFault> {
+        if !self.has(keeper) {
+            Err(WorldFault::NoKeeper)
+        } else if frame >= self.sent.len() as u64 {
+            Err(WorldFault::NoFrame)
+        } else {
+            self.take(keeper, &[frame])
+        }
+    }
+
+    fn join(&mut self, alloc: Global, keeper: u64, other: u64) -> Result<(), WorldFault> {
+        if !self.has(keeper) || !self.has(other) {
+            return Err(WorldFault::NoKeeper);
+        }
+        match self.taken_by(other).to_vec(alloc) {
+            Ok(frames) => self.take(keeper, &frames),
+            Err(_) => Err(WorldFault::Memory),
+        }
+    }
+
+    fn lose(&mut self, keeper: u64) -> Result<(), WorldFault> {
+        match self.taken.get_mut(keeper as usize) {
+            Some(taken) if !taken.lost => {
+                taken.lost = true;
+                Ok(())
+            }
+            _ => Err(WorldFault::NoKeeper),
+        }
+    }
+
+    /// Puts what the keeper took into the store.
+    fn put_taken(&self, alloc: Global, store: &mut Store, keeper: u64) -> Result<(), Memory> {
+        for number in self.taken_by(keeper) {
+            if let Some(frame) = self.sent.get(*number as usize) {
+                let _put = store.put(frame.copy(alloc)?)?;
+            }
+        }
+        Ok(())
+    }
+
+    /// The position of all that these keepers took.
+    fn position_of(&self, alloc: Global, keepers: &[u64]) -> Result<Position, Memory> {
+        let mut store = Store::new(alloc, self.image.guest());
+        for keeper in keepers {
+            self.put_taken(alloc, &mut store, *keeper)?;
+        }
+        position(alloc, &store)
+    }
+
+    fn acknowledge(&mut self, alloc: Global, keeper: u64) -> Result<(), WorldFault> {
+        if !self.has(keeper) {
+            return Err(WorldFault::NoKeeper);
+        }
+        let position = self.position_of(alloc, &[keeper])?;
+        if position.term != self.term() {
+            return Err(WorldFault::Ack(AckFault::OtherTerm));
+        }
+        let counts = position.counts;
+        if self
+            .acknowledged
+            .iter()
+            .any(|(by, before)| *by == keeper && are_lower(&counts, before))
+        {
+            return Err(WorldFault::Ack(AckFault::Lower));
+        }
+        match self.acknowledged.push((keeper, counts)) {
+            Ok(()) => Ok(()),
+            Err(_) => Err(WorldFault::Memory),
+        }
+    }
+
+    /// Whether the keeper acknowledged counts with the hart's step inside.
+    fn holds(&self, keeper: u64, hart: Hart, step: Count) -> bool {
+        self.acknowledged.iter().any(|(by, counts)| *by == keeper && has_inside(counts, hart, step))
+    }
+
+    /// Whether the output may go out, and did not in this term.
+    fn is_due(&self, released: &Released) -> bool {
+        let output = &released.output;
+        let holders = (0..u64::from(self.keepers))
+            .filter(|keeper| self.holds(*keeper, output.hart, output.step))
+            .count();
+        holders >= usize::from(self.need) && !self.released.contains(released)
+    }
+
+    /// Lets those outputs of the hart go out that are due.
+    fn release_hart(&mut self, hart: Hart, outputs: &[(Count, u32)]) -> Result<(), Memory> {
+        for (number, (step, word)) in outputs.iter().enumerate() {
+            let released = Released {
+                term: self.term(),
+                output: Output {
+                    hart,
+                    number: number as u64,
+                    step: *step,
+                    word: *word,
+                },
+            };
+            if self.is_due(&released) {
+                self.released.push(released)?;
+            }
+        }
+        Ok(())
+    }
+
+    /// What the hart has put out.
+    fn outputs_of(&self, alloc: Global, hart: Hart) -> Result<Vec<(Count, u32)>, Memory> {
+        let machine = self.primary.machine();
+        if hart.number() >= machine.harts() {
+            return Ok(Vec::new(alloc));
+        }
+        Ok(machine.hart(hart).outputs().to_vec(alloc)?)
+    }
+
+    fn release(&mut self, alloc: Global) -> Result<(), WorldFault> {
+        for number in 0..self.image.harts() {
+            let hart = Hart::new(number);
+            let outputs = self.outputs_of(alloc, hart)?;
+            self.release_hart(hart, &outputs)?;
+        }
+        Ok(())
+    }
+
+    fn seal(&mut self, alloc: Global) -> Result<(), WorldFault> {
+        let mut pieces = self.primary.seal(alloc, &self.image)?;
+        match self.sent.append(&mut pieces) {
+            Ok(()) => Ok(()),
+            Err(_) => Err(WorldFault::Memory),
+        }
+    }
+
+    /// How many different keepers these are.
+    fn different(&self, keepers: &[u64]) -> usize {
+        (0..u64::from(self.keepers))
+            .filter(|keeper| keepers.contains(keeper))
+            .count()
+    }
+
+    /// Whether the term may be granted to a primary that begins with the stores of these keepers.
+    fn may_grant(&self, term: Term, keepers: &[u64]) -> Result<(), WorldFault> {
+        let enough = self
+            .different(keepers)
+            .saturating_add(usize::from(self.need));
+        if !keepers.iter().all(|keeper| self.has(*keeper)) {
+            Err(WorldFault::NoKeeper)
+        } else if self.runs {
+            Err(WorldFault::NotStopped)
+        } else if enough <= usize::from(self.keepers) {
+            Err(WorldFault::Live(LiveFault::TooFewStores))
+        } else if term <= self.term() {
+            Err(WorldFault::Live(LiveFault::TermNotNew))
+        } else {
+            Ok(())
+        }
+    }
+
+    /// The machine of a position: what the term's primary had done there, or that of the image before the first step.
+    fn machine_at(&self, alloc: Global, position: &Position) -> Result<Machine, Memory> {
+        let term = position.term;
+        if self.primary.term() == term {
+            return self.primary.machine_at(alloc, position.counts);
+        }
+        match self.past.iter().find(|primary| primary.term() == term) {
+            Some(primary) => primary.machine_at(alloc, position.counts),
+            None => Machine::boot(alloc, &self.image),
+        }
+    }
+
+    /// A primary begins its term, and nothing is acknowledged in it.
+    fn begin(&mut self, alloc: Global, primary: Primary) -> Result<(), Memory> {
+        self.sent.push(Frame::Opening(primary.opening().copy()))?;
+        let before = mem::replace(&mut self.primary, primary);
+        self.past.push(before)?;
+        self.acknowledged = Vec::new(alloc);
+        self.runs = true;
+        Ok(())
+    }
+
+    /// A primary of the term goes live where what these keepers took leads to.
+    fn go_live(&mut self, alloc: Global, term: Term, keepers: &[u64]) -> Result<(), Memory> {
+        let position = self.position_of(alloc, keepers)?;
+        let start = self.machine_at(alloc, &position)?;
+        let guest = self.image.guest();
+        let opening = Opening::new(guest, term, position.term, position.counts).ok_or(Memory)?;
+        let primary = Primary::begin(alloc, opening, start)?;
+        self.begin(alloc, primary)
+    }
+
+    fn grant(&mut self, alloc: Global, term: Term, keepers: &[u64]) -> Result<(), WorldFault> {
+        let answer = self.may_grant(term, keepers);
+        if answer.is_ok() {
+            self.go_live(alloc, term, keepers)?;
+        }
+        answer
+    }
+
+    /// Does what the act of a primary says.
+    fn lead(&mut self, alloc: Global, act: Act) -> Result<(), WorldFault> {
+        let harts = self.image.harts();
+        if !self.runs {
+            return Err(WorldFault::NoPrimary);
+        }
+        match act {
+            Act::Step(hart) => self.primary.step(alloc, hart_of(hart, harts)),
+            Act::Timer(hart) => self.primary.offer(hart_of(hart, harts), Input::Timer),
+            Act::Word(hart, word) => self.primary.offer(hart_of(hart, harts), Input::Word(word)),
+            Act::Seal => self.seal(alloc),
+            Act::Release => self.release(alloc),
+            _ => {
+                self.runs = false;
+                Ok(())
+            }
+        }
+    }
+
+    /// Does what the act says, or says why not.
+    pub fn apply(&mut self, alloc: Global, act: Act) -> Result<(), WorldFault> {
+        match act {
+            Act::Deliver(keeper, frame) => self.deliver(keeper, frame),
+            Act::Join(keeper, other) => self.join(alloc, keeper, other),
+            Act::Ack(keeper) => self.acknowledge(alloc, keeper),
+            Act::Lose(keeper) => self.lose(keeper),
+            Act::Grant(term, keepers) => self.grant(alloc, term, keepers),
+            _ => self.lead(alloc, act),
+        }
+    }
+}

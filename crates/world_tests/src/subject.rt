@@ -1,0 +1,93 @@
+//! The world that is tested.
+
+ghost use Rattle.std.specs.Prelude.{◌≡◌, ◌<◌, ◌≤◌};
+
+use crate::acts::{Act, event_of};
+use failover_world::{World, WorldFault};
+use ft_types::{Hart, Memory, Term};
+use guest_image::{Image, Machine};
+use std::alloc::Global;
+
+/// A world, and how many harts its guest has.
+#[derive(Drop)]
+pub struct Subject {
+    world: World,
+    harts: u8,
+    ghost of_world: { world.image.harts ≡ harts },
+    ghost some: { (0 < harts) × (harts ≤ 8) },
+}
+
+/// What is seen of a world: how many outputs went out and how many frames, the term, how many primaries stopped before, and how
+/// many steps the live one's machine has taken.
+#[derive(Clone, Copy, Debug, PartialEq, Eq)]
+pub struct Outline {
+    released: usize,
+    frames: usize,
+    term: Term,
+    stopped: usize,
+    steps: Option<u64>,
+}
+
+/// How many steps a machine's harts have taken.
+fn steps_of(machine: &Machine) -> u64 {
+    let mut steps = 0u64;
+    for number in 0..machine.harts() {
+        steps = steps.wrapping_add(machine.hart(Hart::new(number)).count());
+    }
+    steps
+}
+
+impl Subject {
+    /// A world of the image.
+    pub fn new(alloc: Global, image: &Image, keepers: u8, need: u8) -> Result<Subject, Memory>
+        requires { (0 < need) × (need ≤ keepers) × (keepers ≤ 5) }
+    {
+        let world = World::new(alloc, image, keepers, need)?;
+        Ok(Subject {
+            world,
+            harts: image.harts(),
+        })
+    }
+
+    /// The world.
+    pub fn world(&self) -> &World {
+        &self.world
+    }
+
+    /// What is seen of it.
+    pub fn outline(&self) -> Outline {
+        Outline {
+            released: self.world.released().len(),
+            frames: self.world.frames().len(),
+            term: self.world.term(),
+            stopped: self.world.stopped().len(),
+            steps: self.world.machine().map(steps_of),
+        }
+    }
+
+    /// What comes of the act.
+    pub fn apply(&mut self, alloc: Global, act: Act) -> Result<(), WorldFault> {
+        let event = event_of(alloc, act, self.harts)?;
+        self.world.apply(alloc, event)
+    }
+
+    /// What comes of the act, which is tried again where memory was refused. `None` where what is seen of a world that refused it
+    /// is not what it was.
+    pub fn answer(&mut self, alloc: Global, act: Act) -> Option<Result<(), WorldFault>> {
+        let before = self.outline();
+        let answer = match self.apply(alloc, act) {
+            Err(WorldFault::Memory) => {
+                if self.outline() != before {
+                    return None;
+                }
+                self.apply(alloc, act)
+            }
+            answer => answer,
+        };
+        if answer.is_err() && self.outline() != before {
+            None
+        } else {
+            Some(answer)
+        }
+    }
+}
