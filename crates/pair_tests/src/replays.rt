@@ -20,7 +20,10 @@ fn stream_of(alloc: Global, image: &Image, book: &Book<Recording>) -> Result<Mem
     }
     let frames = frames_of(alloc, image, book)?;
     let mut stream = MemorySink::new(alloc, AMPLE);
-    write_frames(&frames, &mut stream).map_err(|_| "frames")?;
+    let answer = write_frames(&frames, &mut stream);
+    if answer.is_err() {
+        return Err("frames".into());
+    }
     Ok(MemorySource::new(stream.bytes().to_vec(alloc)?))
 }
 
@@ -36,7 +39,10 @@ fn is_replayed<P: Replays>(
 {
     let mut readers = [stream];
     let mut replayed = MemorySink::new(alloc, AMPLE);
-    replay_streams(alloc, image, &mut readers, replays, &mut replayed).map_err(|_| "replay")?;
+    let answer = replay_streams(alloc, image, &mut readers, replays, &mut replayed);
+    if answer.is_err() {
+        return Err("replay".into());
+    }
     let mut ran = MemorySink::new(alloc, AMPLE);
     machine.write_text(&mut ran).map_err(|_| "text")?;
     Ok(replayed.bytes() == ran.bytes())
