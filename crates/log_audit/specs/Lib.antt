@@ -1,0 +1,6 @@
+pub mod Faults
+pub mod Coverage
+pub mod Marks
+pub mod Befores
+pub mod Covered
+pub mod Turns

@@ -1,0 +1,12 @@
+//! Audits of logs that nobody vouches for: whether each replay leads to one machine, in whatever order its harts go.
+#![tactic(auto)]
+
+mod auditing;
+mod befores;
+mod fault;
+mod harts;
+mod legs;
+mod marked_pages;
+
+pub use auditing::audit;
+pub use fault::AuditFault;
