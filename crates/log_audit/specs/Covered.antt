@@ -29,6 +29,12 @@ pub record HartsView : Type 0 where
 abbrev pub machine_of : HartsView → MachineState
 machine_of v = record { harts = v.harts; pages = v.pages.contents }
 
+-- as many harts and pages as at the start, each hart in its place
+pub record AreHarts (v : HartsView) : Type 0 where
+  pub harts : length v.harts ≡ length v.start.harts
+  pub pages : length v.pages.contents ≡ length v.start.pages
+  pub places : (hart : ℕ) (h : Hart) → slice_get v.harts hart ≡ Some h → (h.number ≡ hart) × (h.harts ≡ length v.start.harts)
+
 -- nothing was done yet
 abbrev pub begun : MachineState → HartsView
 begun m = record { start = m; harts = m.harts; pages = unmarked m.pages; befores = replicate 8 [] }

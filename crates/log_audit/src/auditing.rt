@@ -17,7 +17,8 @@ ghost use Rattle.log_audit.specs.Turns.{IsClash};
 use crate::fault::AuditFault;
 use crate::harts::Clash;
 use crate::legs::{Ended, run_leg};
-use ft_types::{Counts, Guest, Hart, Memory};
+use book_modes::settled_counts;
+use ft_types::{Guest, Memory};
 use guest_image::{Image, Machine};
 use hart_replay::{Plan, PlannedLeg, ReplayFault, come_to};
 use std::alloc::Global;
@@ -27,19 +28,6 @@ fn is_same_guest(guest: &Guest, other: &Guest) -> bool
     ensures { result ≡ same_guest guest.now other.now }
 {
     guest == other
-}
-
-/// The harts' counts.
-fn settled_counts(machine: &Machine) -> Counts
-    ensures harts { length result ≡ length machine.now.harts }
-    ensures counts { (hart : ℕ) → count_at result hart ≡ counts_of machine.now hart }
-{
-    let mut counts = Counts::zero(machine.harts());
-    for number in 0..machine.harts() {
-        let hart = Hart::new(number);
-        counts.set(hart, machine.hart(hart).count());
-    }
-    counts
 }
 
 /// The clash as a fault, the lesser hart first.

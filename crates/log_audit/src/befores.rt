@@ -26,15 +26,14 @@ pub(crate) struct Befores {
     rows: [Vec<Before>; 8],
 }
 
-/// The greater of the counts, hart by hart.
-fn greater(row: Row, other: &Row) -> Row
-    ensures { result ≡ greater row other.now }
+/// Raises each count to the other row's.
+fn raise(row: &mut Row, other: &Row)
+    ensures { row.new ≡ greater row.old other.now }
 {
-    let mut all = row;
+    let before = *row;
     for hart in 0..8usize {
-        all[hart] = row[hart].max(other[hart]);
+        row[hart] = before[hart].max(other[hart]);
     }
-    all
 }
 
 /// What comes before a hart's step of this count.
@@ -70,17 +69,17 @@ impl Befores {
     }
 
     /// With what an edge brings: the steps that it names, and what comes before the last of these.
-    fn brought(&self, steps: Row, edge: &Edge) -> Row
+    fn bring_one(&self, steps: &mut Row, edge: &Edge)
         requires { AreRising self.now }
-        ensures { IsBrought self.now steps edge.now result }
+        ensures { IsBrought self.now steps.old edge.now steps.new }
     {
         if edge.after == 0 {
-            return steps;
+            return;
         }
         let other = edge.other.index();
-        let mut all = greater(steps, &latest(&self.rows[other], edge.after - 1));
-        all[other] = all[other].max(edge.after);
-        all
+        let below = latest(&self.rows[other], edge.after - 1);
+        raise(steps, &below);
+        steps[other] = steps[other].max(edge.after);
     }
 
     /// What comes before the hart's next step, which has this count and these edges.
@@ -98,7 +97,7 @@ impl Befores {
             return Ok(steps);
         }
         for edge in edges {
-            steps = self.brought(steps, edge);
+            self.bring_one(&mut steps, edge);
         }
         let row = &mut self.rows[hart.index()];
         row.push(Before {

@@ -6,7 +6,6 @@ ghost use Rattle.interleaving.specs.Log.{HasUnmet};
 ghost use Rattle.edge_log.specs.EdgeLog.{edges_of};
 ghost use Rattle.rv32_hart.specs.Hart.{Hart as HartRecord};
 ghost use Rattle.hart_lease.specs.Runs.{counts_of};
-ghost use Rattle.guest_image.specs.Machine.{AreInPlace};
 ghost use Rattle.hart_replay.specs.Plans.{IsLeg, log_of};
 ghost use Rattle.log_audit.specs.Marks.{IsMarkedBelow};
 ghost use Rattle.log_audit.specs.Coverage.{AreUncovered};
@@ -57,11 +56,13 @@ pub(crate) struct Harts {
 }
 
 impl Model for Harts {
-    ghost use Rattle.log_audit.specs.Covered.{HartsView};
+    ghost use Rattle.log_audit.specs.Covered.{HartsView, AreHarts};
 
     ghost Value = { HartsView };
 
     ghost view = { λ h. record { start = h.start; harts = h.harts.items; pages = h.pages; befores = h.befores } };
+
+    ghost invariant = { λ h. AreHarts (record { start = h.start; harts = h.harts.items; pages = h.pages; befores = h.befores }) };
 }
 
 fn harts_of(alloc: Global, machine: &Machine) -> Result<Vec<HartState>, Memory>
@@ -223,9 +224,6 @@ impl Harts {
 
     /// The machine as it is now.
     pub(crate) fn end(self) -> Result<Machine, Memory>
-        requires harts { length self.harts ≡ length self.start.harts }
-        requires pages { length self.pages.contents ≡ length self.start.pages }
-        requires places { AreInPlace (length self.harts) 0 self.harts }
         ensures { IfOk result (λ m. m ≡ machine_of self) }
     {
         let Harts {
@@ -247,7 +245,7 @@ impl Harts {
 /// Puts equal harts into the machine.
 fn put_harts(machine: &mut Machine, harts: &[HartState]) -> Result<(), Memory>
     requires many { length harts.now ≡ length machine.old.harts }
-    requires places { AreInPlace (length harts.now) 0 harts.now }
+    requires places { (hart : ℕ) (h : HartRecord) → slice_get harts.now hart ≡ Some h → (h.number ≡ hart) × (h.harts ≡ length harts.now) }
     ensures { OnOk result (machine.new ≡ record machine.old { harts = harts.now }) }
 {
     for number in 0..machine.harts() {
