@@ -1,10 +1,10 @@
 -- Where it is known what the edges put before steps, the order of steps is told by the entries.
-use Rattle.std.proofs.Common.{◌≡◌, ◌≢◌, ◌⊎◌, inl, inr, ℕ, ◌<◌, ◌≤◌, List, slice_index, refl, sym, ap, subst, ◌∙◌, arith, le_trans, Contains}
+use Rattle.std.proofs.Common.{◌≡◌, ◌≢◌, ◌⊎◌, inl, inr, ℕ, ◌<◌, ◌≤◌, List, slice_index, sym, ap, subst, ◌∙◌, arith, le_trans, Contains}
 use Rattle.interleaving.specs.Log.{Edge, Place, Before, Own, Across, Through}
 use Rattle.log_audit.specs.declared.befores.Before.{Before as Entry}
 use Rattle.log_audit.specs.Befores.{row_of}
 use Rattle.log_audit.specs.Covered.{IsKnown, InForce}
-use Rattle.log_audit.proofs.Knowing.{place_at, before_later}
+use Rattle.log_audit.proofs.Gathering.{place_at, before_later}
 
 -- what is in force comes before each step that none of the hart's entries comes after
 pub force_sound : (edges : List Edge) (reach now : ℕ → ℕ) (rows : List (List Entry)) (hart : ℕ) (before : List ℕ) → IsKnown edges reach now rows →

@@ -1,2 +1,5 @@
+pub mod Latest
+pub mod Eights
+pub mod Gathering
 pub mod Knowing
 pub mod KnownBefore
