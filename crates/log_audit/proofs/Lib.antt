@@ -1,1 +1,4 @@
-
+pub mod Appending
+pub mod Covering
+pub mod NextStep
+pub mod Stepping
