@@ -23,7 +23,7 @@ module _ (leg : PlannedLeg) (order : List ℕ) (reach : ℕ → ℕ) (v : HartsV
   pub ran : IsRun (length v.start.pages) v.start (machine_of v) (leg_turns leg order)
   ran = is_run (length v.start.pages) v.start (machine_of v) (leg_turns leg order) refl covered.run
 
-  counts_are : counts (system_of (hardware (length v.start.pages)))
+  pub counts_are : counts (system_of (hardware (length v.start.pages)))
       (run (system_of (hardware (length v.start.pages))) (view (hardware (length v.start.pages)) v.start) (leg_turns leg order)) ≡
       counts_of (machine_of v)
   counts_are =

@@ -1,4 +1,6 @@
 pub mod Appending
 pub mod Covering
 pub mod NextStep
+pub mod NextMarks
 pub mod Stepping
+pub mod Agreeing
