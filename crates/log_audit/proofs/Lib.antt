@@ -5,3 +5,9 @@ pub mod Eights
 pub mod Gathering
 pub mod Knowing
 pub mod KnownBefore
+pub mod Appending
+pub mod Covering
+pub mod NextStep
+pub mod NextMarks
+pub mod Stepping
+pub mod Agreeing
