@@ -1,8 +1,9 @@
-use Rattle.std.proofs.Common.{ℕ, ◌≡◌, suc, ◌-◌, ◌≤◌, ◌<◌, ap, refl, sym, subst, arith, leb, rules, List}
+use Rattle.std.proofs.Common.{ℕ, ◌≡◌, suc, ◌-◌, ◌≤◌, ◌<◌, ap, refl, sym, subst, arith, leb, rules, List, [], length, ◌∙◌}
 use Rattle.std.proofs.lemmas.Bool.{leb-true, leb-false}
 use Rattle.std.proofs.lemmas.List.Sorted.{IsPartitionPoint-from_clause, IsPartitionedBy-leb}
+use Rattle.std.proofs.lemmas.List.{get_or_default}
 use Rattle.log_audit.specs.declared.befores.Before.{Before}
-use Rattle.log_audit.specs.Befores.{IsLatest, steps_in_front}
+use Rattle.log_audit.specs.Befores.{IsLatest, steps_in_front, no_steps}
 use Rattle.log_audit.proofs.Rising.{rising_by}
 use Rattle.log_audit.proofs.befores.latest.Goals as goal
 
@@ -31,6 +32,10 @@ returns-else-place-eq0 c =
       after = λ k d a b. leb-false _ _ (p.1 k d a b);
       steps_are =
           let some = c.if-place-eq0.false in
+          let bound : c.partition_point-place.result ≤ length c.args.row.now = c.partition_point-place.ensures.bound in
           let same : suc (c.partition_point-place.result - 1) ≡ c.partition_point-place.result = omega (arith, some) in
-          ap (steps_in_front c.args.row.now) same;
+          ap (λ (b : Before). b.steps)
+          (get_or_default c.args.row.now (c.partition_point-place.result - 1) (record { since = 0; steps = [] }) (record { since = 0; steps = no_steps })
+          (omega (arith, some, bound)))
+          ∙ ap (steps_in_front c.args.row.now) same;
     }
