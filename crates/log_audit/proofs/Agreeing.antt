@@ -6,7 +6,7 @@ use Rattle.std.proofs.lemmas.List.Elements.{All-contains}
 use Rattle.ft_types.specs.Counts.{count_at}
 use Rattle.interleaving.specs.Machine.{Machine, counts, run}
 use Rattle.interleaving.specs.Log.{Edge, IsClosed, IsHonest, IsSchedule, IsReplayed, IsStuck, Begins, counts_after}
-use Rattle.interleaving.specs.Stored.{system_of, view, run_from}
+use Rattle.interleaving.specs.Stored.{system_of, view}
 use Rattle.interleaving.proofs.Cuts.{start_closed}
 use Rattle.interleaving.proofs.Lists.{runs_stored, one_outcome}
 use Rattle.interleaving.proofs.Replay.{confluence}
@@ -21,7 +21,7 @@ use Rattle.hart_lease.proofs.journals.Sizes.{is_run, as_large}
 use Rattle.hart_replay.specs.declared.plans.PlannedLeg.{PlannedLeg}
 use Rattle.hart_replay.specs.Plans.{IsLeg, log_of}
 use Rattle.hart_replay.specs.Replays.{leg_turns, LegLeads, GetsStuck}
-use Rattle.log_audit.specs.Coverage.{LegAgrees, steps_in}
+use Rattle.log_audit.specs.Coverage.{LegAgrees}
 use Rattle.log_audit.specs.Covered.{HartsView, machine_of, IsCovered, IsOn}
 use Rattle.log_audit.proofs.Appending.{begins_within, steps_given, steps_met}
 use Rattle.log_audit.proofs.Covering.{ran, counts_are}

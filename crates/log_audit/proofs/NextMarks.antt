@@ -1,34 +1,23 @@
 -- What a step leaves of counts and marks.
-use Rattle.std.proofs.Common.{◌≡◌, ◌≢◌, ◌⊎◌, inl, inr, ℕ, ◌+◌, ◌<◌, ◌≤◌, List, [], ◌∷◌, ◌++◌, Some, Contains, length, slice_get, slice_index}
+use Rattle.std.proofs.Common.{◌≡◌, ◌⊎◌, inl, inr, ℕ, ◌+◌, ◌<◌, ◌≤◌, List, [], ◌∷◌, ◌++◌, Contains, length, slice_get}
 use Rattle.std.proofs.Common.{refl, sym, ap, subst, ◌∙◌, arith}
-use Rattle.std.proofs.Math.Path.{fun_ext}
 use Rattle.std.proofs.lemmas.List.Elements.{Contains-append_left, Contains-push}
 use Rattle.std.proofs.lemmas.Option.{slice_get_within}
-use Rattle.ft_types.specs.Counts.{count_at}
-use Rattle.interleaving.specs.Lists.{Each}
 use Rattle.interleaving.specs.Machine.{Writes}
-use Rattle.interleaving.specs.Log.{Place, Before, IsMet, IsOrdered, Conflict, place, bump, counts_after}
-use Rattle.interleaving.specs.Stored.{system_of, stored_after}
-use Rattle.interleaving.proofs.Cuts.{here_or_later}
-use Rattle.interleaving.proofs.Each.{each_at, each_more, each_append, pairs_append}
+use Rattle.interleaving.specs.Log.{bump}
 use Rattle.interleaving.proofs.Lists.{get_set_same, get_set_other}
 use Rattle.interleaving.proofs.Put.{same_or_not, put_same, bump_other}
 use Rattle.input_log.specs.declared.Input.{Input}
 use Rattle.rv32_hart.specs.Hart.{Hart}
-use Rattle.rv32_hart.specs.Hardware.{hardware}
 use Rattle.rv32_hart.specs.Local.{step_counted}
 use Rattle.guest_image.specs.Machine.{MachineState}
-use Rattle.hart_lease.specs.Runs.{run_of, counts_of, steps_taken}
-use Rattle.hart_lease.proofs.journals.Sizes.{IsAsLarge, as_large}
+use Rattle.hart_lease.specs.Runs.{counts_of, steps_taken}
 use Rattle.hart_replay.specs.declared.plans.PlannedLeg.{PlannedLeg}
-use Rattle.hart_replay.specs.Plans.{IsLeg, log_of}
-use Rattle.hart_replay.specs.Replays.{leg_turns}
-use Rattle.log_audit.specs.Marks.{read_mark, written_mark, IsMarkedBelow}
-use Rattle.log_audit.specs.Coverage.{TakenStep, steps_in, place_in, AreUncovered}
-use Rattle.log_audit.specs.Covered.{HartsView, machine_of, IsKnown, IsNoted, IsMarkOf, IsCovered, effect_in, TakesStep, Clashes}
-use Rattle.log_audit.proofs.Appending.{counts_after_more}
-use Rattle.log_audit.proofs.Covering.{taken_touch, taken_of_crew, marks_below}
-use Rattle.log_audit.proofs.NextStep.{lifted_from, lifted_to, step_next, run_more, steps_more, begins_next}
+use Rattle.log_audit.specs.Marks.{read_mark, written_mark}
+use Rattle.log_audit.specs.Coverage.{TakenStep, steps_in}
+use Rattle.log_audit.specs.Covered.{HartsView, machine_of, IsNoted, IsMarkOf, IsCovered, effect_in, TakesStep}
+use Rattle.log_audit.proofs.Covering.{marks_below}
+use Rattle.log_audit.proofs.NextStep.{lifted_from, lifted_to, step_next}
 
 -- a mark that stays, of one of more steps
 still : (m : MachineState) (taken : List TakenStep) (s : TakenStep) (wanted : TakenStep → Type 0) (hart old new : ℕ) → new ≡ old →

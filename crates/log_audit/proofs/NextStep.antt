@@ -1,10 +1,9 @@
 -- The next step of a covered run.
-use Rattle.std.proofs.Common.{◌≡◌, ◌≢◌, ◌⊎◌, inl, inr, ℕ, ◌+◌, ◌<◌, ◌≤◌, List, [], ◌∷◌, ◌++◌, Option, Some, None, Contains, length, slice_get, slice_index}
-use Rattle.std.proofs.Common.{false, refl, sym, ap, subst, ◌∙◌, arith}
+use Rattle.std.proofs.Common.{◌≡◌, ℕ, ◌+◌, ◌<◌, ◌≤◌, List, [], ◌∷◌, ◌++◌, Option, Some, None, length, slice_get}
+use Rattle.std.proofs.Common.{false, refl, sym, ap, ◌∙◌, arith}
 use Rattle.ft_types.specs.Counts.{count_at}
-use Rattle.interleaving.specs.Lists.{Each, EachPair}
-use Rattle.interleaving.specs.Machine.{Turn, Step, Write, Effect, Writes, steps}
-use Rattle.interleaving.specs.Log.{Edge, Begins, IsMet, MayGo, bump, counts_after, turns_of}
+use Rattle.interleaving.specs.Machine.{Turn, Write, Effect, Writes, steps}
+use Rattle.interleaving.specs.Log.{Begins, IsMet, counts_after}
 use Rattle.interleaving.specs.Stored.{lift, effect_of, stored_after, goes, run_from, system_of, view}
 use Rattle.interleaving.proofs.Runs.{steps_append}
 use Rattle.input_log.specs.declared.Input.{Input}
@@ -18,9 +17,9 @@ use Rattle.hart_lease.proofs.journals.Sizes.{is_run}
 use Rattle.hart_replay.specs.declared.plans.PlannedLeg.{PlannedLeg}
 use Rattle.hart_replay.specs.Plans.{log_of}
 use Rattle.hart_replay.specs.Replays.{leg_turns}
-use Rattle.log_audit.specs.Coverage.{TakenStep, steps_in, place_in}
+use Rattle.log_audit.specs.Coverage.{TakenStep, steps_in}
 use Rattle.log_audit.specs.Covered.{HartsView, machine_of, IsCovered, effect_in}
-use Rattle.log_audit.proofs.Appending.{counts_after_more, begins_more, turns_more}
+use Rattle.log_audit.proofs.Appending.{begins_more, turns_more}
 
 -- ---- the writes of a step, lifted or not
 
