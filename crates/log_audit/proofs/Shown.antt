@@ -25,3 +25,10 @@ all_empty n (r ∷ rows) long each =
     ap (λ (l : List Before). l ∷ map items_of rows) (each 0 r (omega arith))
     ∙ ap (λ (l : List (List Before)). [] ∷ l) (all_empty (length rows) rows refl (λ i d lt. each (suc i) d (omega (arith, lt))))
     ∙ ap (λ k. replicate k []) long
+
+-- what was read there
+pub row_read : (rows : List (Vec Before Global)) (shown : List (List Before)) (i hart : ℕ) (row : Vec Before Global) (got : List Before) →
+    got ≡ (slice_index_or rows i row).items → map items_of rows ≡ shown → row ≡ slice_index_or rows i row → i < length rows → i ≡ hart →
+    got ≡ row_of shown hart
+row_read rows shown i hart row got read view is lt at =
+    read ∙ ap items_of (sym is) ∙ row_shown rows shown i row view is lt ∙ ap (row_of shown) at
