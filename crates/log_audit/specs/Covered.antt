@@ -33,6 +33,7 @@ machine_of v = record { harts = v.harts; pages = v.pages.contents }
 pub record AreHarts (v : HartsView) : Type 0 where
   pub harts : length v.harts ≡ length v.start.harts
   pub pages : length v.pages.contents ≡ length v.start.pages
+  pub marks : length v.pages.uses ≡ length v.pages.contents
   pub places : (hart : ℕ) (h : Hart) → slice_get v.harts hart ≡ Some h → (h.number ≡ hart) × (h.harts ≡ length v.start.harts)
 
 -- nothing was done yet

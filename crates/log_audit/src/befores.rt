@@ -4,7 +4,7 @@ ghost use Rattle.std.specs.Prelude.{◌≡◌, ◌<◌, ◌≤◌, ◌^◌, ℕ,
 ghost use Rattle.ft_types.specs.Counts.{greater};
 ghost use Rattle.log_audit.specs.Befores.{row_of, AreRising, IsLatest, IsBrought, Brings};
 
-use crate::marked_pages::Row;
+use crate::marks::Row;
 use edge_log::Edge;
 use ft_types::{Count, Hart, Memory};
 use std::alloc::Global;

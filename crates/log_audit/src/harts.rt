@@ -12,8 +12,9 @@ ghost use Rattle.log_audit.specs.Coverage.{AreUncovered};
 ghost use Rattle.log_audit.specs.Covered.{machine_of, begun, steps_left, InForce, IsOn, IsQuietTo, TakesStep, Clashes};
 ghost use Rattle.log_audit.specs.Turns.{Turns};
 
+use crate::asked_pages::AskedPages;
 use crate::befores::Befores;
-use crate::marked_pages::{MarkedPages, Row};
+use crate::marks::{Marks, Row};
 use edge_log::Edge;
 use ft_types::{Count, Counts, Hart, Memory, PageNo};
 use guest_image::Machine;
@@ -50,7 +51,8 @@ pub(crate) struct Harts {
     /// The machine from which they went.
     start: Machine,
     harts: Vec<HartState>,
-    pages: MarkedPages,
+    pages: AskedPages,
+    marks: Marks,
     befores: Befores,
     decoder: Box<Decoder>,
 }
@@ -60,9 +62,9 @@ impl Model for Harts {
 
     ghost Value = { HartsView };
 
-    ghost view = { λ h. record { start = h.start; harts = h.harts.items; pages = h.pages; befores = h.befores } };
+    ghost view = { λ h. record { start = h.start; harts = h.harts.items; pages = record { contents = h.pages.contents; uses = h.marks }; befores = h.befores } };
 
-    ghost invariant = { λ h. AreHarts (record { start = h.start; harts = h.harts.items; pages = h.pages; befores = h.befores }) };
+    ghost invariant = { λ h. AreHarts (record { start = h.start; harts = h.harts.items; pages = record { contents = h.pages.contents; uses = h.marks }; befores = h.befores }) };
 }
 
 fn harts_of(alloc: Global, machine: &Machine) -> Result<Vec<HartState>, Memory>
@@ -102,11 +104,13 @@ impl Harts {
         ensures { IfOk result (λ h. h ≡ begun start) }
     {
         let harts = harts_of(alloc, &start)?;
-        let pages = MarkedPages::unmarked(alloc, &start)?;
+        let pages = AskedPages::unasked(alloc, &start)?;
+        let marks = Marks::none(alloc, start.pages())?;
         Ok(Harts {
             start,
             harts,
             pages,
+            marks,
             befores: Befores::none(alloc),
             decoder: Box::new(alloc, Decoder::new())?,
         })
@@ -148,17 +152,18 @@ impl Harts {
             (c.one ≡ (hart, h.count)) × Clashes hart h inputs.now before.now self.old c.page c.other)) }
     {
         let count = self.harts[hart.index()].count();
-        self.pages.begin_step(hart, count + 1);
+        self.pages.begin_step();
         loop {
             let state = &mut self.harts[hart.index()];
             match tick_with(state, inputs, &mut *self.decoder, &mut self.pages) {
                 Tick::Done => return Ok(None),
                 Tick::Miss(page, want) => {
-                    if let Some(other) = self.pages.against(page, want, before) {
+                    if let Some(other) = self.marks.against(page, hart, want, before) {
                         let one = (hart, count);
                         return Ok(Some(Clash { page, one, other }));
                     }
-                    self.pages.ask(page, want);
+                    self.marks.note(page, hart, want, count + 1);
+                    self.pages.grant(page, want);
                 }
                 Tick::Halted => unreachable!(),
                 Tick::Memory => return Err(Memory),
@@ -230,9 +235,11 @@ impl Harts {
             start,
             harts,
             pages,
+            marks,
             befores,
             decoder,
         } = self;
+        drop(marks);
         drop(befores);
         drop(decoder);
         let mut machine = start;

@@ -1,5 +1,5 @@
 use Rattle.std.proofs.Common.{◌≡◌, ◌++◌, take, drop}
-use Rattle.log_audit.proofs.marked_pages.MarkedPages.put_into.Given as goal
+use Rattle.log_audit.proofs.asked_pages.AskedPages.put_into.Given as goal
 
 abbrev pub invariant-loop-number : goal.invariant-loop-number
 invariant-loop-number l =

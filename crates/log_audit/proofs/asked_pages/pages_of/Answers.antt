@@ -1,6 +1,6 @@
 use Rattle.std.proofs.Common.{rules, sym, ap, ◌∙◌, ◌++◌, ◌∷◌, []}
 use Rattle.log_audit.proofs.Lists.{take_more}
-use Rattle.log_audit.proofs.marked_pages.pages_of.Goals as goal
+use Rattle.log_audit.proofs.asked_pages.pages_of.Goals as goal
 
 pub loop-number-preserved : goal.loop-number-preserved
 loop-number-preserved c =
