@@ -12,3 +12,8 @@ pub mod NextStep
 pub mod Rising
 pub mod Shown
 pub mod Stepping
+pub mod Asking
+pub mod Wanting
+pub mod AskingOn
+pub mod Stepped
+pub mod StepAnswers

@@ -62,7 +62,8 @@ impl AskedPages {
 
     /// The present step may use the page so.
     pub(crate) fn grant(&mut self, page: PageNo, want: Want)
-        ensures { self.new ≡ granted self.old page want }
+        ensures granted { self.new ≡ granted self.old page want }
+        ensures below { page < 64 }
     {
         self.readable[page.index()] = true;
         match want {

@@ -1,7 +1,7 @@
 //! The steps that used pages last.
 
-ghost use Rattle.std.specs.Prelude.{◌≡◌, ◌<◌, length, replicate, IfOk, IfSome, IfNone};
-ghost use Rattle.log_audit.specs.Marks.{unused, used_by, noted_at, StandsAgainst, IsClear};
+ghost use Rattle.std.specs.Prelude.{◌≡◌, ◌≢◌, ◌<◌, ◌≤◌, ℕ, length, replicate, IfOk, IfSome, IfNone};
+ghost use Rattle.log_audit.specs.Marks.{unused, uses_at, used_by, noted_at, StandsAgainst, IsClear};
 
 use ft_types::{Count, HART_LIMIT, Hart, Memory, PageNo, Want};
 use std::alloc::Global;
@@ -95,7 +95,8 @@ impl Marks {
     /// A step of this hart, with this mark, uses the page.
     pub(crate) fn note(&mut self, page: PageNo, hart: Hart, want: Want, mark: Count)
         requires { page < length self.old }
-        ensures { self.new ≡ noted_at self.old page hart want mark }
+        ensures noted { self.new ≡ noted_at self.old page hart want mark }
+        ensures rows { (length (uses_at self.old page).read ≡ 8) × (length (uses_at self.old page).written ≡ 8) }
     {
         let uses = &mut self.uses[page.index()];
         match want {
