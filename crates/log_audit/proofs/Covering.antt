@@ -46,7 +46,7 @@ module _ (leg : PlannedLeg) (order : List ℕ) (reach : ℕ → ℕ) (v : HartsV
       steps_of_crew (system_of (hardware (length v.start.pages))) (log_of leg).edges (count_at leg.ends) (log_of leg).inputs many is_leg.no_others order
       (log_of leg).start (view (hardware (length v.start.pages)) v.start) covered.begins
 
-  mark_below : (wanted : TakenStep → Type 0) (hart mark : ℕ) → IsMarkOf v.start (steps_in leg v.start order) wanted hart mark →
+  pub mark_below : (wanted : TakenStep → Type 0) (hart mark : ℕ) → IsMarkOf v.start (steps_in leg v.start order) wanted hart mark →
       mark ≤ counts_of (machine_of v) hart
   mark_below wanted hart mark (s, taken, own, is, rest) =
       let less : (place_in v.start s).step < counts_of (machine_of v) s.hart =

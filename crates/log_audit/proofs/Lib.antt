@@ -17,3 +17,4 @@ pub mod Wanting
 pub mod AskingOn
 pub mod Stepped
 pub mod StepAnswers
+pub mod Going

@@ -111,6 +111,7 @@ harts_still b c hart after are lt same start harts contents uses =
     let first : length c.start.harts ≡ length b.start.harts = ap (λ (m : MachineState). length m.harts) start in
     let pages : length c.start.pages ≡ length b.start.pages = ap (λ (m : MachineState). length m.pages) start in
     record {
+      few = omega (arith, first, are.few);
       harts = ap length harts ∙ length-set b.harts hart after ∙ are.harts ∙ sym first;
       pages = contents ∙ are.pages ∙ sym pages;
       marks = uses ∙ are.marks ∙ sym contents;

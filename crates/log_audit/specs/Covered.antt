@@ -31,6 +31,7 @@ machine_of v = record { harts = v.harts; pages = v.pages.contents }
 
 -- as many harts and pages as at the start, each hart in its place
 pub record AreHarts (v : HartsView) : Type 0 where
+  pub few : length v.start.harts ≤ 8
   pub harts : length v.harts ≡ length v.start.harts
   pub pages : length v.pages.contents ≡ length v.start.pages
   pub marks : length v.pages.uses ≡ length v.pages.contents

@@ -186,7 +186,7 @@ impl Harts {
         requires before { InForce self.old.befores hart before.now }
         requires quiet { IsQuietTo leg.now hart (counts_of (machine_of self.old) hart) stop }
         ensures on { IfOk result (λ clash. IfNone clash (IsOn leg.now self.new)) }
-        ensures start { self.new.start ≡ self.old.start }
+        ensures start { IfOk result (λ clash. IfNone clash (self.new.start ≡ self.old.start)) }
         ensures no_more { IfOk result (λ clash. IfNone clash (steps_left leg.now.ends self.new.harts ≤ steps_left leg.now.ends self.old.harts)) }
         ensures clash { IfOk result (λ clash. IfSome clash (λ c. AreUncovered leg.now self.old.start c.page c.one c.other)) }
     {
