@@ -11,3 +11,5 @@ pub mod NextStep
 pub mod NextMarks
 pub mod Stepping
 pub mod Agreeing
+pub mod Rounds
+pub mod Beginning
