@@ -13,3 +13,4 @@ pub mod Stepping
 pub mod Agreeing
 pub mod Rounds
 pub mod Beginning
+pub mod Ending
