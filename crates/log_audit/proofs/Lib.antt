@@ -14,3 +14,4 @@ pub mod Agreeing
 pub mod Rounds
 pub mod Beginning
 pub mod Ending
+pub mod Walking
