@@ -1,5 +1,5 @@
 -- Where the run of a leg begins.
-use Rattle.std.proofs.Common.{◌≡◌, inl, inr, ℕ, ◌<◌, ◌≤◌, List, [], All, Contains, length, replicate, slice_index, slice_index_or, refl, ap, subst, ◌∙◌, arith}
+use Rattle.std.proofs.Common.{◌≡◌, inl, inr, ℕ, ◌≤◌, List, [], All, Contains, length, replicate, slice_index, slice_index_or, refl, ap, subst, ◌∙◌, arith}
 use Rattle.std.proofs.lemmas.Bool.{cases_lt}
 use Rattle.std.proofs.lemmas.List.{get_or-replicate, get_or_past, length-replicate}
 use Rattle.ft_types.specs.Counts.{count_at}
@@ -10,8 +10,8 @@ use Rattle.hart_lease.specs.Runs.{counts_of}
 use Rattle.hart_replay.specs.declared.plans.PlannedLeg.{PlannedLeg}
 use Rattle.hart_replay.specs.Plans.{IsLeg, log_of}
 use Rattle.log_audit.specs.declared.marked_pages.Uses.{Uses}
-use Rattle.log_audit.specs.Marks.{unmarked, unused, uses_at, read_mark, written_mark}
-use Rattle.log_audit.specs.Covered.{HartsView, IsCovered, IsOn, begun}
+use Rattle.log_audit.specs.Marks.{unmarked, unused, read_mark, written_mark}
+use Rattle.log_audit.specs.Covered.{IsCovered, IsOn, begun}
 use Rattle.log_audit.proofs.Agreeing.{from_start}
 use Rattle.log_audit.proofs.Knowing.{known_none}
 

@@ -1,5 +1,5 @@
 -- From hart to hart in a round, and from round to round.
-use Rattle.std.proofs.Common.{◌≡◌, ℕ, ◌+◌, ◌<◌, ◌≤◌, length, refl, sym, ap, subst, ◌∙◌, inl, inr, arith}
+use Rattle.std.proofs.Common.{◌≡◌, ℕ, ◌+◌, ◌<◌, length, refl, sym, ap, subst, ◌∙◌, inl, inr, arith}
 use Rattle.std.proofs.lemmas.Bool.{cases_lt}
 use Rattle.hart_replay.specs.declared.plans.PlannedLeg.{PlannedLeg}
 use Rattle.guest_image.specs.Machine.{MachineState}
@@ -8,7 +8,7 @@ use Rattle.log_audit.specs.declared.harts.Clash.{Clash}
 use Rattle.log_audit.specs.declared.harts.Turn.{Turn}
 use Rattle.log_audit.specs.declared.harts.Turn.TheVariants.{Held, Went, Clashed}
 use Rattle.log_audit.specs.declared.legs.Ended.TheVariants.{Stopped}
-use Rattle.log_audit.specs.Covered.{HartsView, machine_of, begun, GoesOn, IsHeld, IsOn, steps_left}
+use Rattle.log_audit.specs.Covered.{HartsView, machine_of, begun, GoesOn, IsHeld, IsOn}
 use Rattle.log_audit.specs.Turns.{IsClash, Turns, TurnsOf, HasStopped, Ends}
 
 -- the first harts had their turns, and none clashed
