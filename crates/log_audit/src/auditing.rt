@@ -18,7 +18,7 @@ use crate::fault::AuditFault;
 use crate::harts::Clash;
 use crate::legs::{Ended, run_leg};
 use book_modes::settled_counts;
-use ft_types::{Guest, Memory};
+use ft_types::{Guest, Hart, Memory};
 use guest_image::{Image, Machine};
 use hart_replay::{Plan, PlannedLeg, ReplayFault, come_to};
 use std::alloc::Global;
@@ -49,6 +49,8 @@ fn audit_leg(alloc: Global, start: Machine, leg: &PlannedLeg) -> Result<Machine,
     ensures agrees { IfOk result (λ m. LegAgrees leg.now start m) }
     ensures fault { IfErr result (λ fault. IsLegFault leg.now start fault) }
 {
+    // No edge of the log is of a step before its start.
+    let _rules = leg.edges.at(Hart::new(0), 0);
     let machine = match run_leg(alloc, start, leg) {
         Ok(Ended::Stopped(machine)) => machine,
         Ok(Ended::Clashed(clash)) => return Err(uncovered(clash)),

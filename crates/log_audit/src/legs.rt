@@ -1,6 +1,6 @@
 //! Legs that are audited.
 
-ghost use Rattle.std.specs.Prelude.{◌≡◌, ◌<◌, ℕ, length, IfOk, IfSome, IfNone};
+ghost use Rattle.std.specs.Prelude.{◌≡◌, ◌<◌, ◌≤◌, ℕ, length, IfOk, IfSome, IfNone};
 ghost use Rattle.hart_replay.specs.Plans.{IsLeg};
 ghost use Rattle.log_audit.specs.Covered.{IsOn};
 ghost use Rattle.log_audit.specs.Turns.{TurnsOf, HasStopped, IsClash, Ends};
@@ -25,6 +25,7 @@ pub(crate) enum Ended {
 /// Lets each hart go on in turn, where it may, until one's step clashes.
 fn go_round(harts: &mut Harts, leg: &PlannedLeg, many: u8) -> Result<Turn, Memory>
     requires many { many ≡ length harts.old.harts }
+    requires few { many ≤ 8 }
     requires leg { IsLeg (length harts.old.start.harts) leg.now }
     requires on { IsOn leg.now harts.old }
     ensures turns { IfOk result (λ turn. TurnsOf leg.now many harts.old turn harts.new) }
@@ -43,6 +44,7 @@ fn go_round(harts: &mut Harts, leg: &PlannedLeg, many: u8) -> Result<Turn, Memor
 /// Lets the harts go on until none can, or one's step clashes.
 fn go_on(harts: &mut Harts, leg: &PlannedLeg, many: u8) -> Result<Option<Clash>, Memory>
     requires many { many ≡ length harts.old.harts }
+    requires few { many ≤ 8 }
     requires leg { IsLeg (length harts.old.start.harts) leg.now }
     requires on { IsOn leg.now harts.old }
     ensures stopped { IfOk result (λ clash. IfNone clash (HasStopped leg.now many harts.old harts.new)) }
@@ -63,6 +65,8 @@ pub(crate) fn run_leg(alloc: Global, start: Machine, leg: &PlannedLeg) -> Result
     requires base { (hart : ℕ) → count_at leg.now.base hart ≡ counts_of start hart }
     ensures { IfOk result (Ends leg.now start) }
 {
+    // No edge of the log is of a step before its start.
+    let _rules = leg.edges.at(Hart::new(0), 0);
     let mut harts = Harts::begin(alloc, start)?;
     let many = harts.many();
     match go_on(&mut harts, leg, many)? {
