@@ -9,7 +9,7 @@ use Rattle.guest_image.specs.Machine.{MachineState}
 use Rattle.hart_lease.specs.Runs.{counts_of}
 use Rattle.hart_replay.specs.declared.plans.PlannedLeg.{PlannedLeg}
 use Rattle.hart_replay.specs.Plans.{IsLeg, log_of}
-use Rattle.log_audit.specs.declared.marked_pages.Uses.{Uses}
+use Rattle.log_audit.specs.declared.marks.Uses.{Uses}
 use Rattle.log_audit.specs.Marks.{unmarked, unused, read_mark, written_mark}
 use Rattle.log_audit.specs.Covered.{IsCovered, IsOn, begun}
 use Rattle.log_audit.proofs.Agreeing.{from_start}

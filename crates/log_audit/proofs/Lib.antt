@@ -22,3 +22,4 @@ pub mod Stepped
 pub mod Stepping
 pub mod Walking
 pub mod Wanting
+pub mod Wholes

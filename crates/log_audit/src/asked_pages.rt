@@ -44,6 +44,7 @@ impl AskedPages {
     pub(crate) fn unasked(alloc: Global, machine: &Machine) -> Result<AskedPages, Memory>
         ensures { IfOk result (λ p. p.contents ≡ machine.now.pages) }
     {
+        let _whole = machine.pages();
         let pages = pages_of(alloc, machine)?;
         Ok(AskedPages {
             pages,
