@@ -1,0 +1,6 @@
+use Rattle.std.proofs.Common.{take}
+use Rattle.log_audit.specs.Befores.{AreBrought, IsLatest, row_of}
+use Rattle.log_audit.proofs.befores.Befores.bring.Given as goal
+
+abbrev pub invariant-loop-edge : goal.invariant-loop-edge
+invariant-loop-edge l = AreBrought l.fn.self l.initial.steps (take l.edge-index l.edges) l.steps

@@ -1,0 +1,7 @@
+pub mod Faults
+pub mod Coverage
+pub mod Marks
+pub mod Asking
+pub mod Befores
+pub mod Covered
+pub mod Turns
