@@ -9,13 +9,15 @@ use crate::files::Files;
 use crate::words::{NamedFile, Request, Task, WordsFault, read_words};
 use closed_cut::{chain, position};
 use event_script::read_events;
-use ft_types::{Sink, Source};
-use guest_image::{Image, read_image};
+use ft_types::{Sink, Source, write_all};
+use guest_image::{Image, Machine, read_image};
+use hart_replay::plan;
 use input_script::{Offered, read_script};
+use log_audit::audit;
 use log_join::Store;
 use log_streams::{
-    PairOrders, Pairs, Quorum, Replays, frames_of, read_store, replay_streams, run_primary,
-    write_frames, write_position, write_size, write_store,
+    PairOrders, Pairs, Quorum, Replays, StreamsFault, frames_of, read_store, replay_streams,
+    run_primary, write_frames, write_position, write_size, write_store,
 };
 use page_book::{Book, Recording};
 use std::alloc::Global;
@@ -189,6 +191,29 @@ fn cut_logs<F: Files, W: Sink>(
     tell_position(alloc, &store, out)
 }
 
+/// The machine to which the plan of a store leads by every schedule.
+fn audit_store(alloc: Global, image: &Image, store: &Store) -> Result<Machine, CommandFault> {
+    let position = position(alloc, store)?;
+    match plan(alloc, store, &position) {
+        Ok(plan) => Ok(audit(alloc, image, &plan)?),
+        Err(fault) => Err(CommandFault::Streams(StreamsFault::Replay(fault))),
+    }
+}
+
+/// Tells whether the logs lead to one machine by every schedule, and writes its text.
+fn audit_logs<F: Files, W: Sink>(
+    alloc: Global,
+    image: &Image,
+    names: &[&str],
+    files: &mut F,
+    out: &mut W,
+) -> Result<(), CommandFault> {
+    let store = read_logs(alloc, image, names, files)?;
+    let machine = audit_store(alloc, image, &store)?;
+    written(write_all(out, b"audit yes\n"))?;
+    written(machine.write_text(out))
+}
+
 /// Runs a primary with what the request's script offers.
 fn run_script<F: Files>(
     alloc: Global,
@@ -292,6 +317,7 @@ fn run_task<F: Files, P: Pairs, W: Sink>(
         Task::Join { logs, .. } => join_logs(alloc, image, logs, request, files, out),
         Task::Run { budget, .. } => record(alloc, image, *budget, request, files, out),
         Task::Cut(logs) => cut_logs(alloc, image, logs, files, out),
+        Task::Audit(logs) => audit_logs(alloc, image, logs, files, out),
         Task::Pair { orders, .. } => pair_script(alloc, image, orders, request, files, pairs, out),
         Task::FailOver { quorum, .. } => apply_events(alloc, image, *quorum, request, files, out),
     }

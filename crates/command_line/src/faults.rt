@@ -5,10 +5,11 @@ ghost use Rattle.std.specs.Prelude.{◌≡◌, ◌≢◌};
 use crate::words::{NamedFile, Request, WordsFault};
 use event_script::EventsFault;
 use failover_events::WorldFault;
-use ft_types::{Failed, Memory, Sink, write_all};
+use ft_types::{Count, Failed, Hart, Memory, PageNo, Sink, write_all};
 use guest_image::ImageFault;
 use hart_replay::ReplayFault;
 use input_script::ScriptFault;
+use log_audit::AuditFault;
 use log_streams::{StreamsFault, write_numbered};
 
 /// Why a command failed.
@@ -26,6 +27,8 @@ pub enum CommandFault {
     Events(u64),
     /// The line of the event, from 1, that was refused, and why.
     World(u64, WorldFault),
+    /// The page, and the two steps that touch it and that nothing orders.
+    Uncovered(PageNo, (Hart, Count), (Hart, Count)),
     /// What is wrong with the logs, their replay or the output.
     Streams(StreamsFault),
     /// A growth was refused.
@@ -67,6 +70,15 @@ impl From<EventsFault> for CommandFault {
         match fault {
             EventsFault::BadLine(line) => CommandFault::Events(line),
             EventsFault::Memory => CommandFault::Memory,
+        }
+    }
+}
+
+impl From<AuditFault> for CommandFault {
+    fn from(fault: AuditFault) -> CommandFault {
+        match fault {
+            AuditFault::Uncovered(page, one, other) => CommandFault::Uncovered(page, one, other),
+            AuditFault::Replay(fault) => CommandFault::Streams(StreamsFault::Replay(fault)),
         }
     }
 }
@@ -142,6 +154,20 @@ fn write_streams_fault<W: Sink>(fault: StreamsFault, out: &mut W) -> Result<(), 
     }
 }
 
+fn write_uncovered<W: Sink>(
+    page: PageNo,
+    one: (Hart, Count),
+    other: (Hart, Count),
+    out: &mut W,
+) -> Result<(), Failed> {
+    write_numbered(b"fault audit 1 page ", u64::from(page.number()), b"", out)?;
+    for (hart, step) in [one, other] {
+        write_numbered(b" hart ", u64::from(hart.number()), b" step ", out)?;
+        write_numbered(b"", step, b"", out)?;
+    }
+    write_all(out, b"\n")
+}
+
 /// Writes the line that says what went wrong with a request.
 pub fn write_fault<W: Sink>(
     fault: &CommandFault,
@@ -162,6 +188,7 @@ pub fn write_fault<W: Sink>(
             write_numbered(b"fault events line ", *line, b" world ", out)?;
             write_numbered(b"", u64::from(fault.number()), b"\n", out)
         }
+        CommandFault::Uncovered(page, one, other) => write_uncovered(*page, *one, *other, out),
         CommandFault::Streams(fault) => write_streams_fault(*fault, out),
         CommandFault::Memory => write_all(out, b"fault memory\n"),
     }

@@ -29,6 +29,8 @@ pub enum Task<'a> {
     },
     /// Tell how far these logs reach.
     Cut(Vec<&'a str>),
+    /// Tell whether these logs lead to one machine by every schedule.
+    Audit(Vec<&'a str>),
     /// Run a primary, and write its frames to a file.
     Run {
         script: &'a str,
@@ -81,6 +83,7 @@ impl<'a> Task<'a> {
             Task::Replay(logs) => name_at(logs, number),
             Task::Join { logs, .. } => name_at(logs, number),
             Task::Cut(logs) => name_at(logs, number),
+            Task::Audit(logs) => name_at(logs, number),
             _ => "",
         }
     }
@@ -162,7 +165,7 @@ struct Form {
     has_logs: bool,
 }
 
-static FORMS: [Form; 6] = [
+static FORMS: [Form; 7] = [
     Form {
         name: "replay",
         words: &["image"],
@@ -175,6 +178,11 @@ static FORMS: [Form; 6] = [
     },
     Form {
         name: "cut",
+        words: &["image"],
+        has_logs: true,
+    },
+    Form {
+        name: "audit",
         words: &["image"],
         has_logs: true,
     },
@@ -293,6 +301,7 @@ fn task_of<'a>(
         "replay" => Ok(Task::Replay(logs_of(alloc, matches)?)),
         "join" => join_of(alloc, matches),
         "cut" => Ok(Task::Cut(logs_of(alloc, matches)?)),
+        "audit" => Ok(Task::Audit(logs_of(alloc, matches)?)),
         "run" => run_of(matches),
         "pair" => pair_of(matches),
         "failover" => fail_over_of(matches),

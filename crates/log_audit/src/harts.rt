@@ -137,6 +137,7 @@ impl Harts {
     }
 
     /// One step of a hart, before which come these steps.
+    #[inline(always)]
     fn step(&mut self, hart: Hart, inputs: &[Input], before: &Row) -> Result<Option<Clash>, Memory>
         requires hart { hart < length self.old.harts }
         requires few { length inputs.now ≤ 8 }

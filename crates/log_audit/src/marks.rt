@@ -35,15 +35,20 @@ impl Uses {
 #[derive(Drop)]
 pub(crate) struct Marks {
     uses: Vec<Uses>,
+    /// Whether any step asked to write a page: most pages are code that none writes.
+    is_written: [bool; 64],
 }
 
 impl Model for Marks {
     ghost use Rattle.std.specs.Prelude.{List};
     ghost use Rattle.log_audit.specs.declared.marks.Uses.{Uses};
+    ghost use Rattle.log_audit.specs.Marks.{AreUnwritten};
 
     ghost Value = { List Uses };
 
     ghost view = { λ m. m.uses.items };
+
+    ghost invariant = { λ m. AreUnwritten m.uses.items m.is_written };
 }
 
 fn no_uses(alloc: Global, pages: u8) -> Result<Vec<Uses>, Memory>
@@ -65,7 +70,10 @@ impl Marks {
         ensures { IfOk result (λ m. m ≡ replicate pages unused) }
     {
         let uses = no_uses(alloc, pages)?;
-        Ok(Marks { uses })
+        Ok(Marks {
+            uses,
+            is_written: [false; 64],
+        })
     }
 
     /// The last step of another hart, by its hart and count, that stands against such a use of the page by this one: the use
@@ -81,6 +89,9 @@ impl Marks {
         ensures some { IfSome result (λ other. StandsAgainst self.now page hart want before.now other) }
         ensures none { IfNone result (IsClear self.now page hart want before.now) }
     {
+        if want == Want::Read && !self.is_written[page.index()] {
+            return None;
+        }
         let uses = &self.uses[page.index()];
         for number in 0..HART_LIMIT {
             let other = Hart::new(number);
@@ -101,7 +112,10 @@ impl Marks {
         let uses = &mut self.uses[page.index()];
         match want {
             Want::Read => uses.read[hart.index()] = mark,
-            Want::Write => uses.written[hart.index()] = mark,
+            Want::Write => {
+                uses.written[hart.index()] = mark;
+                self.is_written[page.index()] = true;
+            }
         }
     }
 }

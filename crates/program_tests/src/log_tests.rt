@@ -139,7 +139,7 @@ static OF_NO_FORM: [&[&str]; 11] = [
     &["-V"],
     &["replay", "--", "image", "log"],
     &["replay", "-image", "log"],
-    &["audit", "image", "log"],
+    &["audit", "image"],
 ];
 
 #[test]
