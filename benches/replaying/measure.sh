@@ -35,16 +35,25 @@ awk "BEGIN { printf \"on threads: run %d, replay %d instructions, ratio %.3f\n\"
 
 # What two more rounds over a log that is cut so often cost, each.
 per_cut_round() {
-    few=$(count "$program" "$1" "$2" 1)
-    many=$(count "$program" "$1" "$2" 3)
+    few=$(count "$program" "$1" "$2" 1 ${3:+"$3"})
+    many=$(count "$program" "$1" "$2" 3 ${3:+"$3"})
     echo $(((many - few) / 2))
 }
 
-for cuts in 125 250 500; do
-    a=$(per_cut_round whole "$cuts")
-    b=$(per_cut_round follow "$cuts")
-    c=$(per_cut_round plan_each "$cuts")
-    awk "BEGIN { printf \"%-4s pieces: replay of the whole %d, follower %d, planning alone %d instructions, ratio beside planning %.3f\n\", 4 * $cuts, $a, $b, $c, ($b - $c) / $a }"
+# What finding positions and plans costs in one of two more rounds of a follower of a log that is cut so often.
+inside() {
+    for rounds in 1 3; do
+        valgrind --tool=callgrind --callgrind-out-file="$work/calls" "$program" follow "$1" "$rounds" ${2:+"$2"} > "$work/said" 2>&1
+        callgrind_annotate --inclusive=yes --threshold=100 "$work/calls" |
+            awk '/closed_cut::walk::position |hart_replay::planning::plan / { gsub(",", "", $1); sum += $1 } END { printf "%.0f\n", sum }'
+    done | awk 'NR == 1 { few = $1 } NR == 2 { printf "%.0f\n", ($1 - few) / 2 }'
+}
+
+for cuts in 125 250 500 "250 often"; do
+    a=$(per_cut_round whole $cuts)
+    b=$(per_cut_round follow $cuts)
+    c=$(inside $cuts)
+    echo "cut $cuts: replay of the whole $a, follower $b, of which planning $c instructions, ratio beside planning $(awk "BEGIN { printf \"%.3f\", ($b - $c) / $a }")"
 done
 
 a=$(per_round parts)
