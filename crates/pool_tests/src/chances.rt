@@ -1,6 +1,6 @@
-//! Guests that fall by chance, which run on threads and are replayed on threads.
+//! Guests that fall by chance, which run on threads, are replayed on threads and audited.
 
-use crate::logs::{in_turn, log_plan, on_threads};
+use crate::logs::{audited, in_turn, log_plan, on_threads};
 use fixtures::{Dice, image_of, recorder};
 use ft_types::{Count, Counts, Hart, Memory};
 use guest_image::{Image, Machine};
@@ -111,7 +111,16 @@ fn leads_to<R: Threads + Wait + Sync>(
     Ok(in_turn(alloc, image, plan)?.same(machine))
 }
 
-/// Whether what a guest of so many harts did on threads is what its log leads to, on threads and in turn.
+/// Whether the audit of the plan comes to this machine.
+fn is_covered(alloc: Global, image: &Image, plan: &Plan, machine: &Machine) -> bool {
+    let answer = audited(alloc, image, plan);
+    match answer {
+        Ok(found) => found.same(machine),
+        Err(_) => false,
+    }
+}
+
+/// Whether what a guest of so many harts did on threads is what its log leads to, on threads and in turn, and by its audit.
 fn is_replayed<R: Threads + Wait + Sync>(
     rt: &R,
     alloc: Global,
@@ -122,6 +131,9 @@ fn is_replayed<R: Threads + Wait + Sync>(
     let image = guest(alloc, harts, &mut dice)?;
     let book = ran(rt, alloc, &image, &mut dice)?;
     let plan = log_plan(alloc, &image, &book)?;
+    if !is_covered(alloc, &image, &plan, book.machine()) {
+        return Ok(false);
+    }
     Ok(leads_to(rt, alloc, &image, &plan, book.machine())?)
 }
 

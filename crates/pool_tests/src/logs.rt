@@ -6,6 +6,7 @@ use fragment_codec::{Frame, Sealed, cut_pieces};
 use ft_types::{Counts, Memory};
 use guest_image::{Image, Machine};
 use hart_replay::{Plan, ReplayFault, plan, replay_plain};
+use log_audit::{AuditFault, audit};
 use log_join::Store;
 use page_book::{Book, Recording};
 use primary_pool::Turnstile;
@@ -103,5 +104,13 @@ pub fn in_turn(alloc: Global, image: &Image, plan: &Plan) -> Result<Machine, Rep
     match replay_plain(alloc, image, plan) {
         Err(ReplayFault::Memory) => replay_plain(alloc, image, plan),
         outcome => outcome,
+    }
+}
+
+/// What an audit of it says.
+pub fn audited(alloc: Global, image: &Image, plan: &Plan) -> Result<Machine, AuditFault> {
+    match audit(alloc, image, plan) {
+        Err(AuditFault::Replay(ReplayFault::Memory)) => audit(alloc, image, plan),
+        answer => answer,
     }
 }
