@@ -1,12 +1,12 @@
 -- One step more of a hart whose edges are known.
-use Rattle.std.proofs.Common.{◌≡◌, ◌≢◌, ◌⊎◌, inl, inr, ℕ, zero, suc, slice_set, ◌+◌, ◌<◌, ◌≤◌, List, [], ◌∷◌, ◌++◌, length, slice_get, slice_index, Some, Contains, refl, ap, sym, subst, ◌∙◌, arith}
+use Rattle.std.proofs.Common.{◌≡◌, inl, inr, ℕ, zero, suc, slice_set, ◌+◌, ◌<◌, ◌≤◌, List, [], ◌∷◌, ◌++◌, length, slice_get, slice_index, Some, Contains, refl, ap, sym, subst, ◌∙◌, arith}
 use Rattle.std.proofs.lemmas.Bool.{cases_lt}
 use Rattle.std.proofs.lemmas.Option.{slice_get_within}
 use Rattle.interleaving.proofs.Lists.{get_set_same}
 use Rattle.rv32_hart.specs.Local.{step_counted}
 use Rattle.ft_types.specs.Counts.{count_at}
 use Rattle.interleaving.specs.Machine.{Writes}
-use Rattle.interleaving.specs.Log.{Edge, Before, IsMet, bump}
+use Rattle.interleaving.specs.Log.{Before, IsMet, bump}
 use Rattle.interleaving.proofs.Put.{same_or_not, put_same, bump_other}
 use Rattle.input_log.specs.declared.Input.{Input}
 use Rattle.rv32_hart.specs.Hart.{Hart}
@@ -16,7 +16,6 @@ use Rattle.hart_replay.specs.declared.plans.PlannedLeg.{PlannedLeg}
 use Rattle.hart_replay.specs.Plans.{IsLeg, log_of}
 use Rattle.log_audit.specs.declared.befores.Before.{Before as Entry}
 use Rattle.log_audit.specs.Marks.{read_mark, written_mark}
-use Rattle.log_audit.specs.Befores.{row_of}
 use Rattle.log_audit.specs.Coverage.{TakenStep, AreUncovered}
 use Rattle.log_audit.specs.Covered.{HartsView, machine_of, steps_left, effect_in, IsOn, IsCovered, IsKnown, InForce, IsQuietTo, TakesStep, Clashes}
 use Rattle.log_audit.proofs.Covering.{mark_below}

@@ -1,7 +1,7 @@
 -- A step's parts, as its loop has them.
-use Rattle.std.proofs.Common.{◌≡◌, ℕ, zero, suc, ◌+◌, ◌<◌, ◌≤◌, ◌^◌, ◌-◌, Bool, true, false, List, [], ◌∷◌, length, length-set, slice_get, slice_set, slice_index_or, Option, Some, None, inl, inr}
+use Rattle.std.proofs.Common.{◌≡◌, ℕ, zero, suc, ◌+◌, ◌<◌, ◌≤◌, Bool, true, false, List, [], ◌∷◌, length, length-set, slice_get, slice_set, slice_index_or, Option, Some, None, inl, inr}
 use Rattle.std.proofs.Common.{refl, ap, sym, subst, ◌∙◌, arith}
-use Rattle.interleaving.specs.Machine.{Effect, Writes, Write as MachineWrite}
+use Rattle.interleaving.specs.Machine.{Write as MachineWrite}
 use Rattle.interleaving.specs.Stored.{written_in}
 use Rattle.interleaving.proofs.Lists.{get_set_same, get_set_other}
 use Rattle.interleaving.proofs.Put.{same_or_not}
@@ -10,14 +10,14 @@ use Rattle.ft_types.specs.declared.names.Want.{Want}
 use Rattle.ft_types.specs.declared.names.Want.TheVariants.{Read, Write}
 use Rattle.input_log.specs.declared.Input.{Input}
 use Rattle.rv32_hart.specs.Hart.{Hart}
-use Rattle.rv32_hart.specs.Ram.{Ram, may_read, may_write}
-use Rattle.rv32_hart.specs.Step.{IsTaken, IsMissing, has_right, effect_on}
+use Rattle.rv32_hart.specs.Ram.{Ram}
+use Rattle.rv32_hart.specs.Step.{IsTaken, IsMissing, effect_on}
 use Rattle.rv32_hart.proofs.Wanted.{missing_there}
 use Rattle.log_audit.specs.declared.marks.Uses.{Uses}
 use Rattle.log_audit.specs.Marks.{uses_at, noted_at, IsMarkedBelow, IsClear, StandsAgainst}
 use Rattle.log_audit.specs.Asking.{granted}
 use Rattle.log_audit.specs.Covered.{HartsView, AreHarts, TakesStep, Clashes}
-use Rattle.log_audit.proofs.Asking.{IsAsking, lacking, step_on}
+use Rattle.log_audit.proofs.Asking.{IsAsking, lacking}
 use Rattle.log_audit.proofs.AskingOn.{asked_to_read, asked_to_write}
 use Rattle.log_audit.proofs.Stepped.{step_taken, step_clashes, lacked_touches, lacked_writes}
 

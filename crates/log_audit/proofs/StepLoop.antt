@@ -1,6 +1,5 @@
 -- A step's loop, from what its code has.
-use Rattle.std.proofs.Common.{◌≡◌, ℕ, ◌+◌, ◌<◌, ◌≤◌, ◌^◌, ◌-◌, false, List, length, slice_get, slice_set, slice_index_or, Some, refl, ap, sym, subst, ◌∙◌, arith}
-use Rattle.guest_image.specs.Machine.{MachineState}
+use Rattle.std.proofs.Common.{◌≡◌, ℕ, ◌+◌, ◌<◌, ◌^◌, ◌-◌, false, List, length, slice_get, slice_set, slice_index_or, Some, ap, sym, subst, ◌∙◌, arith}
 use Rattle.ft_types.specs.declared.names.Want.{Want}
 use Rattle.input_log.specs.declared.Input.{Input}
 use Rattle.rv32_hart.specs.Hart.{Hart}

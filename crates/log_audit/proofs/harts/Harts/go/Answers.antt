@@ -1,4 +1,4 @@
-use Rattle.std.proofs.Common.{◌≡◌, inl, inr, ℕ, ◌+◌, ◌<◌, ◌≤◌, List, length, Contains, ◌==◌, slice_index_or, slice_get, Some, IfNone, IfSome, refl, ap, sym, subst, ◌∙◌, arith, true≢false, rules}
+use Rattle.std.proofs.Common.{◌≡◌, inr, ℕ, ◌+◌, List, length, Contains, ◌==◌, slice_index_or, slice_get, Some, IfSome, refl, ap, sym, subst, ◌∙◌, arith, true≢false, rules}
 use Rattle.std.proofs.lemmas.List.{get_or_default}
 use Rattle.edge_log.specs.declared.Edge.{Edge}
 use Rattle.edge_log.specs.EdgeLog.{row_of}
@@ -8,7 +8,7 @@ use Rattle.guest_image.specs.Machine.{MachineState}
 use Rattle.hart_lease.specs.Runs.{counts_of}
 use Rattle.log_audit.specs.Coverage.{AreUncovered}
 use Rattle.log_audit.specs.Marks.{IsMarkedBelow}
-use Rattle.log_audit.specs.Covered.{HartsView, machine_of, steps_left, IsOn, IsQuietTo}
+use Rattle.log_audit.specs.Covered.{HartsView, machine_of}
 use Rattle.log_audit.proofs.Covering.{marks_below}
 use Rattle.log_audit.proofs.Bringing.{of_filter}
 use Rattle.log_audit.proofs.Turning.{held_unmet, may_step, stop_within, turn_clashed, turn_gone, quiet_on, went_along}
@@ -53,9 +53,9 @@ pub returns-in-Some : goal.returns-in-Some
 returns-in-Some c =
     record {
       turns = turn_clashed c.args.leg.now _ c.args.self.now c.self.view_is c.args.hart c.requires.hart c.index.result c.index.ensures.value c.index.ensures.below
-    c.index-state.result.now c.index-state.ensures c.count-count.result c.count-count.ensures.value c.count_of.result c.count_of.ensures.value
-    c.if-count_of-count.false c.requires.on c.at-edges.ensures.rules c.at-edges.result.now c.at-edges.ensures.value
-    (c.are_met.ensures.0 (search rules)) c.at.result.now c.at.ensures.value c.in_ok-before.before c.bring.new.self c.in_ok-before.ensures
+          c.index-state.result.now c.index-state.ensures c.count-count.result c.count-count.ensures.value c.count_of.result c.count_of.ensures.value
+          c.if-count_of-count.false c.requires.on c.at-edges.ensures.rules c.at-edges.result.now c.at-edges.ensures.value
+          (c.are_met.ensures.0 (search rules)) c.at.result.now c.at.ensures.value c.in_ok-before.before c.bring.new.self c.in_ok-before.ensures
           _ c.in-Some.clash c.in-Some.is c.in_ok-clash.ensures.clash;
     }
 

@@ -1,4 +1,3 @@
-use Rattle.std.proofs.Common.{◌≡◌, refl}
 use Rattle.hart_lease.specs.Runs.{counts_of}
 use Rattle.log_audit.specs.Covered.{machine_of}
 use Rattle.log_audit.proofs.Covering.{marks_below}

@@ -1,4 +1,4 @@
-use Rattle.std.proofs.Common.{◌≡◌, refl, sym, ◌∙◌, true≢false}
+use Rattle.std.proofs.Common.{refl, sym, ◌∙◌, true≢false}
 use Rattle.log_audit.proofs.Asking.{asking_begins}
 use Rattle.log_audit.proofs.StepLoop.{step_runs, put_back, stays_taken, stays_kept, step_done, page_marked, fewer_rights, step_clash, asked_next}
 use Rattle.log_audit.proofs.harts.Harts.step.Goals as goal
@@ -79,15 +79,15 @@ loop-page-preserved c =
       start = c.loop-page.invariant.start;
       harts =
           put_back c.args.hart c.args.inputs.now c.args.before.now _ c.args.self.now c.self.view_is c.requires.hart c.loop-page.self-inside.harts.items
-    c.loop-page.invariant.harts c.index-in-loop-page.result c.index-in-loop-page.ensures.value c.index_mut-state.result.now c.index_mut-state.ensures.value
+          c.loop-page.invariant.harts c.index-in-loop-page.result c.index-in-loop-page.ensures.value c.index_mut-state.result.now c.index_mut-state.ensures.value
           c.tick_with.new.state c.in-Miss.ensures.hart_kept;
       befores = c.loop-page.invariant.befores;
       asking =
           asked_next c.args.hart c.args.inputs.now c.args.before.now _ c.args.self.now c.self.view_is c.requires.hart c.loop-page.self-inside.harts.items
-    c.loop-page.invariant.harts c.index-in-loop-page.result c.index-in-loop-page.ensures.value c.index_mut-state.result.now c.index_mut-state.ensures.value
-    c.requires.marks c.begin_step.new.self c.begin_step.ensures c.loop-page.self-inside.pages c.loop-page.self-inside.marks c.loop-page.invariant.asking
-    c.in-Miss.page c.in-Miss.want c.in-Miss.ensures.miss
-    c.index.result c.index.ensures.value c.index-2.result.now c.index-2.ensures c.count-count.result c.count-count.ensures.value
+          c.loop-page.invariant.harts c.index-in-loop-page.result c.index-in-loop-page.ensures.value c.index_mut-state.result.now c.index_mut-state.ensures.value
+          c.requires.marks c.begin_step.new.self c.begin_step.ensures c.loop-page.self-inside.pages c.loop-page.self-inside.marks c.loop-page.invariant.asking
+          c.in-Miss.page c.in-Miss.want c.in-Miss.ensures.miss
+          c.index.result c.index.ensures.value c.index-2.result.now c.index-2.ensures c.count-count.result c.count-count.ensures.value
           c.tick_with.new.pages c.grant.new.self c.note.new.self c.self.invariant c.index.ensures.below c.in-Miss.ensures.pages_kept c.grant.ensures.granted
           c.note.ensures.noted c.note.ensures.rows c.in_default.ensures.none;
     }
