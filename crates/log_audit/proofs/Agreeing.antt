@@ -4,7 +4,7 @@ use Rattle.std.proofs.Math.Path.{fun_ext}
 use Rattle.std.proofs.lemmas.Bool.{cases_lt}
 use Rattle.std.proofs.lemmas.List.Elements.{All-contains}
 use Rattle.ft_types.specs.Counts.{count_at}
-use Rattle.interleaving.specs.Machine.{Machine, counts, run}
+use Rattle.interleaving.specs.Machine.{Machine, counts}
 use Rattle.interleaving.specs.Log.{Edge, IsClosed, IsHonest, IsSchedule, IsReplayed, IsStuck, Begins, counts_after}
 use Rattle.interleaving.specs.Stored.{system_of, view}
 use Rattle.interleaving.proofs.Cuts.{start_closed}

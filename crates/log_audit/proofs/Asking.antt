@@ -1,6 +1,6 @@
 -- What a step asks for, as it goes.
-use Rattle.std.proofs.Common.{◌≡◌, ◌≢◌, ◌⊎◌, inl, inr, ℕ, zero, suc, ◌+◌, ◌<◌, ◌≤◌, Bool, true, false, List, [], ◌∷◌, length, replicate, slice_get, slice_set, slice_index, slice_index_or}
-use Rattle.std.proofs.Common.{Contains, refl, ap, sym, subst, ◌∙◌, arith}
+use Rattle.std.proofs.Common.{◌≡◌, ◌≢◌, ◌⊎◌, inl, ℕ, zero, suc, ◌+◌, Bool, true, false, List, [], ◌∷◌, length, replicate, slice_get, slice_index, slice_index_or}
+use Rattle.std.proofs.Common.{Contains, refl}
 use Rattle.interleaving.specs.Machine.{Effect, Writes}
 use Rattle.ft_types.specs.declared.names.Want.TheVariants.{Read, Write}
 use Rattle.input_log.specs.declared.Input.{Input}
@@ -8,8 +8,8 @@ use Rattle.rv32_hart.specs.Hart.{Hart}
 use Rattle.rv32_hart.specs.Ram.{Ram, may_read, may_write}
 use Rattle.rv32_hart.specs.Step.{effect}
 use Rattle.log_audit.specs.declared.marks.Uses.{Uses}
-use Rattle.log_audit.specs.Marks.{MarkedView, read_mark, written_mark, uses_at, used_by, IsClear, IsMarkedBelow}
-use Rattle.log_audit.specs.Asking.{no_rights, granted}
+use Rattle.log_audit.specs.Marks.{uses_at, IsClear}
+use Rattle.log_audit.specs.Asking.{no_rights}
 
 -- how many of these rights are lacking
 abbrev pub lacking : List Bool → ℕ

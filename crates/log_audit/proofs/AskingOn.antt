@@ -1,7 +1,7 @@
 -- What a step asks for in addition.
-use Rattle.std.proofs.Common.{◌≡◌, ◌≢◌, ◌⊎◌, inl, inr, ℕ, ◌+◌, ◌<◌, ◌≤◌, Bool, true, false, List, length, slice_get, slice_set, slice_index, slice_index_or, Some}
-use Rattle.std.proofs.Common.{Contains, refl, ap, sym, subst, ◌∙◌, arith, length-set, get_or-set_same, get_or-set_other}
-use Rattle.interleaving.specs.Machine.{Effect, Writes}
+use Rattle.std.proofs.Common.{◌≡◌, ◌≢◌, ◌⊎◌, inl, inr, ℕ, ◌+◌, ◌<◌, true, false, List, length, slice_set, slice_index}
+use Rattle.std.proofs.Common.{Contains, ap, sym, subst, ◌∙◌, arith, length-set, get_or-set_same, get_or-set_other}
+use Rattle.interleaving.specs.Machine.{Writes}
 use Rattle.interleaving.proofs.Put.{same_or_not}
 use Rattle.ft_types.specs.declared.names.Want.{Want}
 use Rattle.ft_types.specs.declared.names.Want.TheVariants.{Read, Write}
@@ -9,7 +9,7 @@ use Rattle.input_log.specs.declared.Input.{Input}
 use Rattle.rv32_hart.specs.Hart.{Hart}
 use Rattle.rv32_hart.specs.Ram.{Ram, may_read, may_write}
 use Rattle.log_audit.specs.declared.marks.Uses.{Uses}
-use Rattle.log_audit.specs.Marks.{uses_at, unused, used_by, noted, noted_at, IsClear}
+use Rattle.log_audit.specs.Marks.{uses_at, unused, noted, noted_at, IsClear}
 use Rattle.log_audit.specs.Asking.{granted}
 use Rattle.log_audit.proofs.Asking.{IsAsking, step_on}
 

@@ -1,18 +1,18 @@
 -- A hart's turn, once its edges are brought.
-use Rattle.std.proofs.Common.{◌≡◌, ◌≢◌, inl, inr, ℕ, zero, suc, ◌+◌, ◌<◌, ◌≤◌, ◌==◌, Bool, true, false, List, [], ◌∷◌, length, filter, All, Contains, if◌then◌else◌, refl, ap, sym, subst, ◌∙◌, arith}
+use Rattle.std.proofs.Common.{◌≡◌, inl, inr, ℕ, zero, suc, ◌<◌, ◌≤◌, ◌==◌, Bool, true, false, List, [], ◌∷◌, length, filter, All, Contains, if◌then◌else◌, refl, ap, sym, subst, ◌∙◌, arith}
 use Rattle.std.proofs.lemmas.Bool.{cases_lt}
 use Rattle.std.proofs.lemmas.Bool.Decides.{eqb_tells}
 use Rattle.std.proofs.lemmas.List.Elements.{All-contains}
 use Rattle.interleaving.specs.Log.{Edge as TheoryEdge, IsMet, HasUnmet, bump}
 use Rattle.edge_log.specs.declared.Edge.{Edge}
-use Rattle.edge_log.specs.EdgeLog.{IsLog, row_of as edges_at, edges_of, edge_as}
+use Rattle.edge_log.specs.EdgeLog.{IsLog, row_of as edges_at, edge_as}
 use Rattle.edge_log.proofs.Logs.{in_row, of_row, to_edges}
 use Rattle.hart_lease.specs.Runs.{counts_of}
 use Rattle.hart_replay.specs.declared.plans.PlannedLeg.{PlannedLeg}
 use Rattle.hart_replay.specs.Plans.{log_of}
 use Rattle.log_audit.specs.declared.befores.Before.{Before as Entry}
-use Rattle.log_audit.specs.Befores.{row_of, Brings}
-use Rattle.log_audit.specs.Covered.{HartsView, machine_of, IsCovered, IsKnown, InForce}
+use Rattle.log_audit.specs.Befores.{Brings}
+use Rattle.log_audit.specs.Covered.{HartsView, machine_of, IsCovered, InForce}
 use Rattle.log_audit.proofs.Knowing.{known_brought}
 use Rattle.log_audit.proofs.Eights.{brought_eight}
 

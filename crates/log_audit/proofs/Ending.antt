@@ -1,5 +1,5 @@
--- Where the audit of a leg ends: at the leg's ends, stuck, or at two steps that clash.
-use Rattle.std.proofs.Common.{◌≡◌, ◌≢◌, ◌⊎◌, inl, inr, ℕ, zero, suc, ◌<◌, ◌≤◌, List, [], ◌∷◌, All, length, true, Some, slice_get}
+-- Where the audit of a leg ends: at the leg's ends, or stuck.
+use Rattle.std.proofs.Common.{◌≡◌, ◌⊎◌, inl, inr, ℕ, zero, suc, ◌<◌, ◌≤◌, List, [], ◌∷◌, All, length, true, Some, slice_get}
 use Rattle.std.proofs.Common.{refl, sym, ap, subst, ◌∙◌, arith}
 use Rattle.std.proofs.Math.Path.{fun_ext}
 use Rattle.std.proofs.lemmas.Bool.{cases_lt}
@@ -17,8 +17,8 @@ use Rattle.hart_replay.specs.declared.fault.ReplayFault.TheVariants.{Cyclic, Hal
 use Rattle.hart_replay.specs.Plans.{IsLeg, log_of}
 use Rattle.hart_replay.specs.Replays.{is_halted, GetsStuck}
 use Rattle.hart_replay.specs.Leading.{IsBelow, ComesTo, ComesShort}
-use Rattle.log_audit.specs.declared.fault.AuditFault.TheVariants.{Uncovered, Replay}
-use Rattle.log_audit.specs.Coverage.{AreUncovered, LegAgrees}
+use Rattle.log_audit.specs.declared.fault.AuditFault.TheVariants.{Replay}
+use Rattle.log_audit.specs.Coverage.{LegAgrees}
 use Rattle.log_audit.specs.Covered.{HartsView, machine_of, IsCovered, IsHeld, IsOn}
 use Rattle.log_audit.specs.Faults.{IsLegFault}
 use Rattle.log_audit.proofs.Agreeing.{leg_agrees, leg_start_closed}
@@ -27,37 +27,6 @@ hart_at : (harts : List Hart) (hart : ℕ) → hart < length harts → (h : Hart
 hart_at [] hart lt = absurd (omega arith)
 hart_at (h ∷ harts) zero lt = (h, refl)
 hart_at (h ∷ harts) (suc hart) lt = hart_at harts hart (omega arith)
-
--- ---- steps that clash
-
-pub swapped : (leg : PlannedLeg) (m : MachineState) (page : ℕ) (one other : ℕ × ℕ) → AreUncovered leg m page one other → AreUncovered leg m page other one
-swapped leg m page one other u =
-    record {
-      order = u.order;
-      begins = u.begins;
-      machine = u.machine;
-      run = u.run;
-      apart = λ e. u.apart (sym e);
-      first = u.second;
-      first_taken = u.second_taken;
-      first_is = u.second_is;
-      second = u.first;
-      second_taken = u.first_taken;
-      second_is = u.first_is;
-      first_touches = u.second_touches;
-      second_touches = u.first_touches;
-      writes = elim u.writes [ inl first ↦ inr first | inr second ↦ inl second ];
-      not_before = u.not_after;
-      not_after = u.not_before;
-    }
-
-pub uncovered_so : (leg : PlannedLeg) (m : MachineState) (page : ℕ) (one other : ℕ × ℕ) → AreUncovered leg m page one other → one.0 < other.0 →
-    IsLegFault leg m (Uncovered page one other)
-uncovered_so leg m page one other u less = (less, u)
-
-pub uncovered_swapped : (leg : PlannedLeg) (m : MachineState) (page : ℕ) (one other : ℕ × ℕ) → AreUncovered leg m page one other → other.0 ≤ one.0 →
-    IsLegFault leg m (Uncovered page other one)
-uncovered_swapped leg m page one other u le = (let apart : one.0 ≢ other.0 = u.apart in omega (arith, le, apart), swapped leg m page one other u)
 
 -- ---- a leg that cannot go on
 

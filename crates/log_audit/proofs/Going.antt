@@ -1,23 +1,23 @@
 -- One step more of a hart whose edges are known.
-use Rattle.std.proofs.Common.{◌≡◌, ◌≢◌, ◌⊎◌, inl, inr, ℕ, zero, suc, slice_set, ◌+◌, ◌<◌, ◌≤◌, List, [], ◌∷◌, ◌++◌, length, slice_get, slice_index, Some, Contains, refl, ap, sym, subst, ◌∙◌, arith}
+use Rattle.std.proofs.Common.{◌≡◌, inl, inr, ℕ, zero, suc, slice_set, ◌+◌, ◌<◌, ◌≤◌, List, [], ◌∷◌, ◌++◌, length, slice_get, slice_index, Some, Contains, refl, ap, sym, subst, ◌∙◌, arith}
 use Rattle.std.proofs.lemmas.Bool.{cases_lt}
 use Rattle.std.proofs.lemmas.Option.{slice_get_within}
 use Rattle.interleaving.proofs.Lists.{get_set_same}
 use Rattle.rv32_hart.specs.Local.{step_counted}
 use Rattle.ft_types.specs.Counts.{count_at}
 use Rattle.interleaving.specs.Machine.{Writes}
-use Rattle.interleaving.specs.Log.{Edge, Before, IsMet, bump}
+use Rattle.interleaving.specs.Log.{Before, IsMet, bump}
 use Rattle.interleaving.proofs.Put.{same_or_not, put_same, bump_other}
 use Rattle.input_log.specs.declared.Input.{Input}
 use Rattle.rv32_hart.specs.Hart.{Hart}
+use Rattle.guest_image.specs.Machine.{MachineState}
 use Rattle.hart_lease.specs.Runs.{counts_of, steps_taken}
 use Rattle.hart_replay.specs.declared.plans.PlannedLeg.{PlannedLeg}
 use Rattle.hart_replay.specs.Plans.{IsLeg, log_of}
 use Rattle.log_audit.specs.declared.befores.Before.{Before as Entry}
 use Rattle.log_audit.specs.Marks.{read_mark, written_mark}
-use Rattle.log_audit.specs.Befores.{row_of}
 use Rattle.log_audit.specs.Coverage.{TakenStep, AreUncovered}
-use Rattle.log_audit.specs.Covered.{HartsView, machine_of, steps_left, effect_in, IsCovered, IsKnown, InForce, IsQuietTo, TakesStep, Clashes}
+use Rattle.log_audit.specs.Covered.{HartsView, machine_of, steps_left, effect_in, IsOn, IsCovered, IsKnown, InForce, IsQuietTo, TakesStep, Clashes}
 use Rattle.log_audit.proofs.Covering.{mark_below}
 use Rattle.log_audit.proofs.NextMarks.{counts_next}
 use Rattle.log_audit.proofs.Knowing.{known_later, known_further}
@@ -34,6 +34,40 @@ bump_grows now hart g =
       | inr ne ↦ let stays = bump_other now hart g ne in omega (arith, stays)
     ]
 
+-- a hart that goes on has fewer steps to go
+fewer_left : (ends : List ℕ) (harts : List Hart) (hart : ℕ) (h after : Hart) → slice_get harts hart ≡ Some h → h.count < after.count →
+    h.count < count_at ends hart → steps_left ends (slice_set harts hart after) < steps_left ends harts
+fewer_left [] harts hart h after there lt le = absurd (omega arith)
+fewer_left (end ∷ ends) [] hart h after there lt le = cc
+fewer_left (end ∷ ends) (x ∷ harts) zero h after there lt le =
+    let same : x ≡ h = cc in omega (arith, ap (λ (y : Hart). y.count) same)
+fewer_left (end ∷ ends) (x ∷ harts) (suc hart) h after there lt le =
+    let rest = fewer_left ends harts hart h after there lt le in omega (arith, rest)
+
+took_fewer : (ends : List ℕ) (hart : ℕ) (h : Hart) (inputs : List Input) (before : List ℕ) (b c : HartsView) → TakesStep hart h inputs before b c →
+    h.count < count_at ends hart → steps_left ends c.harts < steps_left ends b.harts
+took_fewer ends hart h inputs before b c took below =
+    let counted = step_counted (length b.pages.contents) h inputs (slice_get b.pages.contents) in
+    let less = fewer_left ends b.harts hart h (effect_in b h inputs).hart took.found (omega (arith, counted)) below in
+    subst (λ (hs : List Hart). steps_left ends hs < steps_left ends b.harts) (sym took.harts) less
+
+pub took_counted : (hart : ℕ) (h : Hart) (inputs : List Input) (before : List ℕ) (b c : HartsView) → TakesStep hart h inputs before b c →
+    counts_of (machine_of c) hart ≡ h.count + 1
+took_counted hart h inputs before b c took =
+    ap (λ (hs : List Hart). steps_taken (slice_get hs hart)) took.harts
+    ∙ ap steps_taken (get_set_same b.harts hart (effect_in b h inputs).hart (slice_get_within b.harts hart h took.found))
+    ∙ step_counted (length b.pages.contents) h inputs (slice_get b.pages.contents)
+
+-- a hart took its step, and can go on
+pub record HasGone (leg : PlannedLeg) (hart count : ℕ) (before : List ℕ) (b c : HartsView) : Type 0 where
+  pub start : c.start ≡ b.start
+  pub there : hart < length c.harts
+  pub leg_is : IsLeg (length c.start.harts) leg
+  pub on : IsOn leg c
+  pub force : InForce c.befores hart before
+  pub next : counts_of (machine_of c) hart ≡ count + 1
+  pub fewer : steps_left leg.ends c.harts < steps_left leg.ends b.harts
+
 module _ (leg : PlannedLeg) (order : List ℕ) (b : HartsView) (hart : ℕ) (h : Hart) (found : slice_get b.harts hart ≡ Some h)
     (covered : IsCovered leg order (bump (counts_of (machine_of b)) hart) b) (inputs : List Input) (given : inputs ≡ (log_of leg).inputs hart h.count)
     (below : h.count < count_at leg.ends hart) (met : IsMet (log_of leg).edges (counts_of (machine_of b)) hart) (before : List ℕ)
@@ -44,7 +78,7 @@ module _ (leg : PlannedLeg) (order : List ℕ) (b : HartsView) (hart : ℕ) (h :
   reach_is : bump (counts_of (machine_of b)) hart hart ≡ h.count + 1
   reach_is = let own = bump_own (counts_of (machine_of b)) hart in omega (arith, own, now_is)
 
-  pub went_on : (c : HartsView) → TakesStep hart h inputs before b c → IsLeg (length b.start.harts) leg → length b.start.harts ≤ 8 →
+  went_on : (c : HartsView) → TakesStep hart h inputs before b c → IsLeg (length b.start.harts) leg → length b.start.harts ≤ 8 →
       IsCovered leg (order ++ hart ∷ []) (counts_of (machine_of c)) c × InForce c.befores hart before
   went_on c took is_leg few =
       let next = counts_next leg order (bump (counts_of (machine_of b)) hart) b covered hart h inputs before c took in
@@ -63,6 +97,24 @@ module _ (leg : PlannedLeg) (order : List ℕ) (b : HartsView) (hart : ℕ) (h :
         covered_stepped leg order (bump (counts_of (machine_of b)) hart) b covered hart h inputs given below met before c took is_leg few sound known,
         subst (λ (rows : List (List Entry)). InForce rows hart before) (sym took.befores) force,
       )
+
+  pub has_gone : (c : HartsView) → TakesStep hart h inputs before b c → IsLeg (length b.start.harts) leg → length b.start.harts ≤ 8 →
+      HasGone leg hart h.count before b c
+  has_gone c took is_leg few =
+      let went = went_on c took is_leg few in
+      let harts : length c.harts ≡ length c.start.harts = went.0.harts in
+      let as_many : length b.harts ≡ length b.start.harts = covered.harts in
+      let same : length c.start.harts ≡ length b.start.harts = ap (λ (m : MachineState). length m.harts) took.start in
+      let lt = slice_get_within b.harts hart h found in
+      record {
+        start = took.start;
+        there = omega (arith, harts, as_many, same, lt);
+        leg_is = subst (λ (m : MachineState). IsLeg (length m.harts) leg) (sym took.start) is_leg;
+        on = (order ++ hart ∷ [], went.0);
+        force = went.1;
+        next = took_counted hart h inputs before b c took;
+        fewer = took_fewer leg.ends hart h inputs before b c took below;
+      }
 
   taken_there : (page : ℕ) (other : ℕ × ℕ) → Clashes hart h inputs before b page other → other.1 < counts_of (machine_of b) other.0
   taken_there page other clashes =
@@ -134,27 +186,3 @@ quiet_later leg hart count later stop le quiet =
       edges = λ e has own at. quiet.edges e has own (omega (arith, le, at));
       inputs = λ n from lt. quiet.inputs n (omega (arith, le, from)) lt;
     }
-
--- a hart that goes on has fewer steps to go
-fewer_left : (ends : List ℕ) (harts : List Hart) (hart : ℕ) (h after : Hart) → slice_get harts hart ≡ Some h → h.count < after.count →
-    h.count < count_at ends hart → steps_left ends (slice_set harts hart after) < steps_left ends harts
-fewer_left [] harts hart h after there lt le = absurd (omega arith)
-fewer_left (end ∷ ends) [] hart h after there lt le = cc
-fewer_left (end ∷ ends) (x ∷ harts) zero h after there lt le =
-    let same : x ≡ h = cc in omega (arith, ap (λ (y : Hart). y.count) same)
-fewer_left (end ∷ ends) (x ∷ harts) (suc hart) h after there lt le =
-    let rest = fewer_left ends harts hart h after there lt le in omega (arith, rest)
-
-pub took_fewer : (ends : List ℕ) (hart : ℕ) (h : Hart) (inputs : List Input) (before : List ℕ) (b c : HartsView) → TakesStep hart h inputs before b c →
-    h.count < count_at ends hart → steps_left ends c.harts < steps_left ends b.harts
-took_fewer ends hart h inputs before b c took below =
-    let counted = step_counted (length b.pages.contents) h inputs (slice_get b.pages.contents) in
-    let less = fewer_left ends b.harts hart h (effect_in b h inputs).hart took.found (omega (arith, counted)) below in
-    subst (λ (hs : List Hart). steps_left ends hs < steps_left ends b.harts) (sym took.harts) less
-
-pub took_counted : (hart : ℕ) (h : Hart) (inputs : List Input) (before : List ℕ) (b c : HartsView) → TakesStep hart h inputs before b c →
-    counts_of (machine_of c) hart ≡ h.count + 1
-took_counted hart h inputs before b c took =
-    ap (λ (hs : List Hart). steps_taken (slice_get hs hart)) took.harts
-    ∙ ap steps_taken (get_set_same b.harts hart (effect_in b h inputs).hart (slice_get_within b.harts hart h took.found))
-    ∙ step_counted (length b.pages.contents) h inputs (slice_get b.pages.contents)

@@ -25,3 +25,5 @@ pub mod Wanting
 pub mod Wholes
 pub mod Stops
 pub mod Bringing
+pub mod Turning
+pub mod StepLoop

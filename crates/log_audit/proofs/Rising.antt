@@ -1,5 +1,5 @@
 -- Rows whose counts rise.
-use Rattle.std.proofs.Common.{◌≡◌, ℕ, ◌≤◌, List, AllPairs, get_or, inl, inr, subst, arith, le_refl}
+use Rattle.std.proofs.Common.{◌≡◌, ◌≤◌, List, AllPairs, get_or, inl, inr, subst, arith, le_refl}
 use Rattle.std.proofs.lemmas.Bool.{cases_lt}
 use Rattle.std.specs.List.Sorted.{IsNonDecreasingBy}
 use Rattle.log_audit.specs.declared.befores.Before.{Before}

@@ -100,11 +100,6 @@ module _ (leg : PlannedLeg) (n : ℕ) (b : HartsView) (turn : Turn) (c d : Harts
 
 -- ---- rounds
 
-pub round_held : (leg : PlannedLeg) (many : ℕ) (b c d : HartsView) → c.start ≡ b.start → IsOn leg c → TurnsOf leg many c Held d →
-    HasStopped leg many b d
-round_held leg many b c d start on (same, held) =
-    subst (λ (v : HartsView). HasStopped leg many b v) (sym same) (record { start = start; on = on; held = held })
-
 pub round_went : (leg : PlannedLeg) (b c d : HartsView) → c.start ≡ b.start → GoesOn leg c d → (d.start ≡ b.start) × IsOn leg d
 round_went leg b c d start goes = (goes.start ∙ start, goes.on)
 

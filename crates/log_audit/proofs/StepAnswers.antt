@@ -1,7 +1,7 @@
 -- A step's parts, as its loop has them.
-use Rattle.std.proofs.Common.{◌≡◌, ℕ, zero, suc, ◌+◌, ◌<◌, ◌≤◌, ◌^◌, ◌-◌, Bool, true, false, List, [], ◌∷◌, length, length-set, slice_get, slice_set, slice_index_or, Option, Some, None, inl, inr}
+use Rattle.std.proofs.Common.{◌≡◌, ℕ, zero, suc, ◌+◌, ◌<◌, ◌≤◌, Bool, true, false, List, [], ◌∷◌, length, length-set, slice_get, slice_set, slice_index_or, Option, Some, None, inl, inr}
 use Rattle.std.proofs.Common.{refl, ap, sym, subst, ◌∙◌, arith}
-use Rattle.interleaving.specs.Machine.{Effect, Writes, Write as MachineWrite}
+use Rattle.interleaving.specs.Machine.{Write as MachineWrite}
 use Rattle.interleaving.specs.Stored.{written_in}
 use Rattle.interleaving.proofs.Lists.{get_set_same, get_set_other}
 use Rattle.interleaving.proofs.Put.{same_or_not}
@@ -10,19 +10,19 @@ use Rattle.ft_types.specs.declared.names.Want.{Want}
 use Rattle.ft_types.specs.declared.names.Want.TheVariants.{Read, Write}
 use Rattle.input_log.specs.declared.Input.{Input}
 use Rattle.rv32_hart.specs.Hart.{Hart}
-use Rattle.rv32_hart.specs.Ram.{Ram, may_read, may_write}
-use Rattle.rv32_hart.specs.Step.{IsTaken, IsMissing, has_right, effect_on}
+use Rattle.rv32_hart.specs.Ram.{Ram}
+use Rattle.rv32_hart.specs.Step.{IsTaken, IsMissing, effect_on}
 use Rattle.rv32_hart.proofs.Wanted.{missing_there}
 use Rattle.log_audit.specs.declared.marks.Uses.{Uses}
 use Rattle.log_audit.specs.Marks.{uses_at, noted_at, IsMarkedBelow, IsClear, StandsAgainst}
 use Rattle.log_audit.specs.Asking.{granted}
 use Rattle.log_audit.specs.Covered.{HartsView, AreHarts, TakesStep, Clashes}
-use Rattle.log_audit.proofs.Asking.{IsAsking, lacking, step_on}
+use Rattle.log_audit.proofs.Asking.{IsAsking, lacking}
 use Rattle.log_audit.proofs.AskingOn.{asked_to_read, asked_to_write}
 use Rattle.log_audit.proofs.Stepped.{step_taken, step_clashes, lacked_touches, lacked_writes}
 
 -- what stands at a place where something was found
-pub found_there : {A : Type 0} (xs : List A) (i : ℕ) (x d : A) → slice_get xs i ≡ Some x → slice_index_or xs i d ≡ x
+found_there : {A : Type 0} (xs : List A) (i : ℕ) (x d : A) → slice_get xs i ≡ Some x → slice_index_or xs i d ≡ x
 found_there [] i x d e = cc
 found_there (y ∷ ys) zero x d e = cc
 found_there (y ∷ ys) (suc i) x d e = found_there ys i x d e
@@ -32,15 +32,21 @@ there_below [] i lt = absurd (omega arith)
 there_below (y ∷ ys) zero lt = (y, refl)
 there_below (y ∷ ys) (suc i) lt = there_below ys i (omega arith)
 
+-- the state of a hart that was found there, as it was read
+pub read_state : (harts now : List Hart) (hart index : ℕ) (state : Hart) → harts ≡ now → index ≡ hart → state ≡ slice_index_or harts index state →
+    (k : Hart) → slice_get now hart ≡ Some k → state ≡ k
+read_state harts now hart index state harts_are index_is state_is k there =
+    state_is ∙ found_there harts index k state (ap (λ (hs : List Hart). slice_get hs index) harts_are ∙ (ap (slice_get now) index_is ∙ there))
+
 -- one right more, one fewer lacking
-pub one_fewer : (rights : List Bool) (i : ℕ) → i < length rights → slice_index_or rights i false ≡ false → lacking (slice_set rights i true) + 1 ≡ lacking rights
+one_fewer : (rights : List Bool) (i : ℕ) → i < length rights → slice_index_or rights i false ≡ false → lacking (slice_set rights i true) + 1 ≡ lacking rights
 one_fewer [] i lt e = absurd (omega arith)
 one_fewer (true ∷ rest) zero lt e = cc
 one_fewer (false ∷ rest) zero lt e = refl
 one_fewer (true ∷ rest) (suc i) lt e = one_fewer rest i (omega arith) e
 one_fewer (false ∷ rest) (suc i) lt e = let less = one_fewer rest i (omega arith) e in omega (arith, less)
 
-pub no_more : (rights : List Bool) (i : ℕ) → lacking (slice_set rights i true) ≤ lacking rights
+no_more : (rights : List Bool) (i : ℕ) → lacking (slice_set rights i true) ≤ lacking rights
 no_more [] i = omega arith
 no_more (true ∷ rest) zero = omega arith
 no_more (false ∷ rest) zero = omega arith

@@ -1,5 +1,5 @@
 -- A step that asked for all that it needs, and one that clashes.
-use Rattle.std.proofs.Common.{◌≡◌, ◌≢◌, ◌⊎◌, inl, inr, ℕ, ◌+◌, ◌<◌, ◌≤◌, max, Bool, true, false, List, length, slice_get, slice_set, slice_index, slice_index_or, Some, None}
+use Rattle.std.proofs.Common.{◌≡◌, ◌≢◌, ◌⊎◌, inl, inr, ℕ, ◌+◌, ◌<◌, ◌≤◌, max, false, List, slice_get, slice_set, slice_index, Some, None}
 use Rattle.std.proofs.Common.{Contains, refl, ap, sym, subst, ◌∙◌, arith}
 use Rattle.std.proofs.lemmas.Bool.{cases_lt}
 use Rattle.interleaving.specs.Machine.{Effect, Writes}
@@ -8,12 +8,12 @@ use Rattle.ft_types.specs.declared.names.Want.{Want}
 use Rattle.ft_types.specs.declared.names.Want.TheVariants.{Read, Write}
 use Rattle.input_log.specs.declared.Input.{Input}
 use Rattle.rv32_hart.specs.Hart.{Hart}
-use Rattle.rv32_hart.specs.Ram.{Ram, may_read, may_write}
-use Rattle.rv32_hart.specs.Step.{IsTaken, IsMissing, effect_on, missing_on}
+use Rattle.rv32_hart.specs.Ram.{Ram}
+use Rattle.rv32_hart.specs.Step.{IsMissing, effect_on, missing_on}
 use Rattle.rv32_hart.proofs.Rights.{touched_right, written_right}
 use Rattle.log_audit.specs.declared.marks.Uses.{Uses}
-use Rattle.log_audit.specs.Marks.{MarkedView, uses_at, used_by, read_mark, written_mark, IsMarkedBelow, IsClear, StandsAgainst}
-use Rattle.log_audit.specs.Covered.{HartsView, TakesStep, Clashes, effect_in}
+use Rattle.log_audit.specs.Marks.{uses_at, used_by, read_mark, written_mark, IsMarkedBelow, IsClear, StandsAgainst}
+use Rattle.log_audit.specs.Covered.{HartsView, TakesStep, Clashes}
 use Rattle.log_audit.proofs.Asking.{IsAsking, step_on}
 use Rattle.log_audit.proofs.Wanting.{missing_used}
 
@@ -26,10 +26,6 @@ module _ (hart : ℕ) (h : Hart) (inputs : List Input) (before : List ℕ) (b : 
   -- on these rights the step does what it does on the pages
   same_step : effect_on r h inputs ≡ step_on b.pages.contents h inputs
   same_step = ap (λ (c : List (List ℕ)). step_on c h inputs) asking.same
-
-  new_mark : (old next : ℕ) (P : Type 0) → old < h.count + 1 → (next ≡ old) ⊎ ((next ≡ h.count + 1) × P) → next ≡ h.count + 1 → P
-  new_mark old next P lt (inl same) is = absurd (omega (arith, lt, same, is))
-  new_mark old next P lt (inr new) is = new.1
 
   module _ (granted : missing_on r h inputs ≡ None) where
     touched : (page : ℕ) → Contains (step_on b.pages.contents h inputs).touched page →

@@ -1,6 +1,6 @@
 -- Where a hart has no edges and inputs.
-use Rattle.std.proofs.Common.{◌≡◌, ◌⊎◌, inl, inr, ℕ, zero, suc, ◌+◌, ◌<◌, ◌≤◌, ◌==◌, min, Bool, true, false, List, [], ◌∷◌, length, map, filter, All, Option, Some, None, IfSome, IfNone}
-use Rattle.std.proofs.Common.{unwrap_or, refl, ap, sym, subst, ◌∙◌, arith, Contains}
+use Rattle.std.proofs.Common.{◌≡◌, inl, inr, ℕ, ◌<◌, ◌≤◌, min, List, [], ◌∷◌, All, Option, Some, None, IfSome, IfNone}
+use Rattle.std.proofs.Common.{unwrap_or, refl, ap, subst, arith, Contains}
 use Rattle.std.proofs.lemmas.Bool.Decides.{eqb_tells}
 use Rattle.std.proofs.lemmas.List.Elements.{All-head, All-tail, All-contains}
 use Rattle.ft_types.specs.Counts.{count_at}
@@ -11,7 +11,6 @@ use Rattle.edge_log.proofs.Logs.{in_row}
 use Rattle.input_log.specs.declared.Input.{Input}
 use Rattle.input_log.specs.Inputs.{inputs_of, inputs_at}
 use Rattle.hart_replay.specs.declared.plans.PlannedLeg.{PlannedLeg}
-use Rattle.hart_replay.specs.Plans.{log_of}
 use Rattle.log_audit.specs.Covered.{IsQuietTo}
 
 -- the first count from this one on that the list has, or the end, is no later than each that it has

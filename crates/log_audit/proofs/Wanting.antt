@@ -1,7 +1,7 @@
 -- What a step lacks, it uses.
-use Rattle.std.proofs.Common.{◌≡◌, ℕ, ◌<◌, List, [], ◌∷◌, length, map, Bool, true, false, Option, None, Some, MatchOption, slice_get, Contains, option_map, refl, ap, sym}
+use Rattle.std.proofs.Common.{◌≡◌, ℕ, List, [], ◌∷◌, length, map, Bool, true, false, Option, None, Some, MatchOption, slice_get, Contains, option_map, refl, ap, sym}
 use Rattle.std.proofs.Common.{subst, ◌∙◌, arith, if◌then◌else◌}
-use Rattle.interleaving.specs.Machine.{Effect, Write, Writes}
+use Rattle.interleaving.specs.Machine.{Write}
 use Rattle.ft_types.specs.declared.names.Want.{Want}
 use Rattle.ft_types.specs.declared.names.Want.TheVariants.{Read, Write as WriteRight}
 use Rattle.input_log.specs.declared.Input.{Input}

@@ -1,5 +1,5 @@
 -- Parts of whole machines.
-use Rattle.std.proofs.Common.{◌≡◌, ℕ, zero, suc, ◌+◌, ◌<◌, ◌≤◌, List, [], ◌∷◌, length, slice_get, slice_index_or, Some, false, true, replicate, refl, ap, sym, ◌∙◌, arith}
+use Rattle.std.proofs.Common.{◌≡◌, ℕ, zero, suc, ◌+◌, ◌<◌, List, [], ◌∷◌, length, slice_get, slice_index_or, Some, false, true, replicate, ap, sym, ◌∙◌, arith}
 use Rattle.std.specs.List.{AllByRecursion}
 use Rattle.rv32_hart.specs.Hart.{Hart}
 use Rattle.guest_image.specs.Machine.{AreInPlace}

@@ -1,5 +1,5 @@
 -- What edges put before steps: private words.
-use Rattle.std.specs.Prelude.{ℕ, ◌≡◌, ◌<◌, ◌≤◌, ◌+◌, ◌-◌, zero, suc, max, List, [], ◌∷◌, ◌++◌, length, replicate, slice_index, slice_index_or, slice_set, AllPairs}
+use Rattle.std.specs.Prelude.{ℕ, ◌≡◌, ◌<◌, ◌≤◌, ◌-◌, zero, suc, max, List, [], ◌∷◌, ◌++◌, length, replicate, slice_index, slice_index_or, slice_set, AllPairs}
 use Rattle.std.specs.List.{AllWithin}
 use Rattle.ft_types.specs.Counts.{greater}
 use Rattle.edge_log.specs.declared.Edge.{Edge}

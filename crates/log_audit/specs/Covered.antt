@@ -1,9 +1,9 @@
 -- A run of a leg whose conflicts are covered: private words.
-use Rattle.std.specs.Prelude.{ℕ, ◌≡◌, ◌≢◌, ◌<◌, ◌≤◌, ◌+◌, ◌-◌, ◌⊎◌, true, false, List, [], ◌∷◌, ◌++◌, length, Option, Some, slice_get, slice_set, slice_index, replicate, Contains, AllPairs}
+use Rattle.std.specs.Prelude.{ℕ, ◌≡◌, ◌≢◌, ◌<◌, ◌≤◌, ◌+◌, ◌-◌, ◌⊎◌, true, false, List, [], ◌∷◌, length, Some, slice_get, slice_set, slice_index, replicate, Contains, AllPairs}
 use Rattle.ft_types.specs.Counts.{count_at}
 use Rattle.interleaving.specs.Lists.{Each}
 use Rattle.interleaving.specs.Machine.{Writes, Effect}
-use Rattle.interleaving.specs.Log.{Edge, Before, Begins, IsOrdered, HasUnmet, bump, counts_after}
+use Rattle.interleaving.specs.Log.{Edge, Before, Begins, IsOrdered, HasUnmet, counts_after}
 use Rattle.interleaving.specs.Stored.{system_of, written_in}
 use Rattle.input_log.specs.declared.Input.{Input}
 use Rattle.rv32_hart.specs.Hart.{Hart}

@@ -1,9 +1,9 @@
-use Rattle.std.proofs.Common.{ℕ, ◌≡◌, suc, ◌-◌, ◌≤◌, ◌<◌, ap, refl, sym, subst, arith, leb, rules, List, [], length, ◌∙◌}
+use Rattle.std.proofs.Common.{◌≡◌, suc, ◌-◌, ◌≤◌, ap, sym, arith, leb, rules, [], length, ◌∙◌}
 use Rattle.std.proofs.lemmas.Bool.{leb-true, leb-false}
 use Rattle.std.proofs.lemmas.List.Sorted.{IsPartitionPoint-from_clause, IsPartitionedBy-leb}
 use Rattle.std.proofs.lemmas.List.{get_or_default}
 use Rattle.log_audit.specs.declared.befores.Before.{Before}
-use Rattle.log_audit.specs.Befores.{IsLatest, steps_in_front, no_steps}
+use Rattle.log_audit.specs.Befores.{steps_in_front, no_steps}
 use Rattle.log_audit.proofs.Rising.{rising_by}
 use Rattle.log_audit.proofs.befores.latest.Goals as goal
 

@@ -1,4 +1,3 @@
-use Rattle.std.proofs.Common.{◌∙◌, sym}
 use Rattle.log_audit.proofs.Stops.{stop_quiet}
 use Rattle.log_audit.proofs.harts.stop_of.Goals as goal
 

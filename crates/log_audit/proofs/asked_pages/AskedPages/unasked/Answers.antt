@@ -1,4 +1,3 @@
-use Rattle.std.proofs.Common.{rules, ap, sym, ◌∙◌}
 use Rattle.log_audit.proofs.Wholes.{whole_pages, no_right}
 use Rattle.log_audit.proofs.asked_pages.AskedPages.unasked.Goals as goal
 

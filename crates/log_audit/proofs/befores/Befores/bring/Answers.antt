@@ -1,4 +1,4 @@
-use Rattle.std.proofs.Common.{◌≡◌, ◌≤◌, ◌<◌, ◌++◌, ◌∷◌, [], ℕ, refl, ap, sym, subst, ◌∙◌, arith, AllPairs, List, length, take, slice_set, slice_index_or, true≢false, ◌==◌, rules}
+use Rattle.std.proofs.Common.{◌≡◌, ◌≤◌, ◌++◌, ◌∷◌, [], refl, ap, sym, subst, ◌∙◌, arith, AllPairs, List, length, slice_set, slice_index_or, true≢false, ◌==◌, rules}
 use Rattle.edge_log.specs.declared.Edge.{Edge}
 use Rattle.log_audit.specs.declared.befores.Before.{Before}
 use Rattle.log_audit.specs.Befores.{row_of, IsLatest, AreBrought, NoneYet, Next}

@@ -1,4 +1,4 @@
-use Rattle.std.proofs.Common.{◌≡◌, ◌≤◌, ◌-◌, refl, sym, subst, arith, AllPairs, List, length}
+use Rattle.std.proofs.Common.{◌≡◌, ◌≤◌, ◌-◌, refl, sym, subst, arith, AllPairs, List}
 use Rattle.log_audit.specs.declared.befores.Before.{Before}
 use Rattle.log_audit.specs.Befores.{row_of, IsLatest, More}
 use Rattle.log_audit.proofs.Shown.{row_read}
