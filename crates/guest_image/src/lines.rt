@@ -59,7 +59,7 @@ pub(super) fn read_words(alloc: Global, pages: u8, bytes: &[u8]) -> Result<Vec<u
     let mut rest = bytes;
     while rest.len() > 0 {
         match read_word_line(rest) {
-            None => return Err(ImageFault::BadLine(words.len() + 3)),
+            None => return Err(ImageFault::BadLine(words.len() as u64 + 3)),
             Some((word, behind)) => {
                 if words.len() >= room {
                     return Err(ImageFault::TooLarge);
