@@ -17,7 +17,7 @@ ghost use Rattle.book_modes.specs.Modes.{Fact, IsAsking, IsGiven, IsSettling, Is
 use crate::keep::Keep;
 use crate::settled::{count_of, steps_taken};
 use edge_log::{Edge, EdgeLog};
-use ft_types::{Count, Counts, Hart, HartSet, Memory, PageNo, Want};
+use ft_types::{Count, Counts, HART_LIMIT, Hart, HartSet, Memory, PageNo, Want};
 use guest_image::Machine;
 use hart_lease::{Asked, Lease, Lent, OpenLease, Taken};
 use input_log::InputLog;
@@ -306,11 +306,12 @@ impl Mode for Replaying {
 
     fn holders(&self, leases: &[Option<OpenLease>; 8], asked: &Asked) -> HartSet {
         let mut harts = HartSet::new();
-        for number in 0..8u8 {
-            if number != asked.hart.number()
-                && stands_in_the_way(held_by(&leases[number as usize], asked.page), asked.want)
+        for number in 0..HART_LIMIT {
+            let hart = Hart::new(number);
+            if hart != asked.hart
+                && stands_in_the_way(held_by(&leases[hart.index()], asked.page), asked.want)
             {
-                harts = harts.with(number);
+                harts = harts.with(hart);
             }
         }
         harts

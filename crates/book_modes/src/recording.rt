@@ -126,7 +126,7 @@ fn right_yielded(right: PageRight, settled: &Counts, asked: &Asked) -> PageRight
     let mut right = right;
     for number in 0..HART_LIMIT {
         let other = Hart::new(number);
-        if right.against(asked.hart, asked.want).contains(number) {
+        if right.against(asked.hart, asked.want).contains(other) {
             right.give_up(other, count_of(*settled, other));
         }
     }
@@ -358,9 +358,7 @@ impl Recording {
             return false;
         }
         let right = self.rights[asked.page.index()];
-        right
-            .against(asked.hart, asked.want)
-            .contains(other.number())
+        right.against(asked.hart, asked.want).contains(other)
     }
 
     /// What the asker is answered, once nobody is in its way: the page's right from then on, and the edges that it owes.
@@ -458,8 +456,9 @@ impl Mode for Recording {
     fn holders(&self, leases: &[Option<OpenLease>; 8], asked: &Asked) -> HartSet {
         let mut harts = HartSet::new();
         for number in 0..HART_LIMIT {
-            if self.is_taker(leases, asked, Hart::new(number)) {
-                harts = harts.with(number);
+            let hart = Hart::new(number);
+            if self.is_taker(leases, asked, hart) {
+                harts = harts.with(hart);
             }
         }
         harts

@@ -64,8 +64,9 @@ fn without(set: HartSet, hart: Hart) -> HartSet
 {
     let mut others = HartSet::new();
     for number in 0..HART_LIMIT {
-        if number != hart.number() && set.contains(number) {
-            others = others.with(number);
+        let other = Hart::new(number);
+        if other != hart && set.contains(other) {
+            others = others.with(other);
         }
     }
     others
@@ -139,7 +140,7 @@ impl PageRight {
         ensures { result ≡ holds (right_of self.now) hart }
     {
         match *self {
-            PageRight::Shared { readers, .. } => readers.contains(hart.number()),
+            PageRight::Shared { readers, .. } => readers.contains(hart),
             PageRight::Exclusive { owner, .. } => owner == hart,
         }
     }
@@ -173,10 +174,7 @@ impl PageRight {
                 Want::Read => HartSet::new(),
                 Want::Write => without(readers, hart),
             },
-            PageRight::Exclusive { owner, .. } => without(
-                HartSet::new().with(owner.number()),
-                hart,
-            ),
+            PageRight::Exclusive { owner, .. } => without(HartSet::new().with(owner), hart),
         }
     }
 
@@ -220,7 +218,7 @@ impl PageRight {
             } => match want {
                 Want::Read => PageRight::Shared {
                     since,
-                    readers: readers.with(hart.number()),
+                    readers: readers.with(hart),
                     left,
                 },
                 Want::Write => PageRight::Exclusive {
@@ -273,7 +271,7 @@ impl PageRight {
         requires { owns (right_of self.old) hart ≡ true }
         ensures { right_of self.new ≡ lower (right_of self.old) hart count }
     {
-        let readers = HartSet::new().with(hart.number());
+        let readers = HartSet::new().with(hart);
         *self = self.lowered(readers, count);
     }
 

@@ -22,5 +22,5 @@ pub use names::{
     COUNT_LIMIT, Count, HART_LIMIT, Hart, KEEPER_LIMIT, Keeper, PAGE_BYTES, PAGE_LIMIT, PageNo,
     Term, Want,
 };
-pub use sets::{HartSet, KeeperSet, NumberSet};
+pub use sets::{HartSet, KeeperSet};
 pub use text::{first_line, read_number, read_word, word_text};

@@ -5,7 +5,7 @@ ghost use Rattle.ft_types.specs.Counts.{count_at};
 ghost use Rattle.ft_types.specs.Sets.{IsMember};
 ghost use Rattle.output_gate.specs.Gates.{holder_count};
 
-use ft_types::{Count, Hart, KeeperSet};
+use ft_types::{Count, Hart, KEEPER_LIMIT, Keeper, KeeperSet};
 
 /// How many keepers are noted above this step of the hart.
 pub(crate) fn keepers_above(noted: &[[Count; 8]; 5], hart: Hart, step: Count) -> usize
@@ -28,8 +28,9 @@ pub(crate) fn keepers_counted(noted: &[[Count; 8]; 5], hart: Hart, step: Count) 
 {
     let column = hart.index();
     let mut set = KeeperSet::new();
-    for keeper in 0..5u8 {
-        if noted[keeper as usize][column] > step {
+    for number in 0..KEEPER_LIMIT {
+        let keeper = Keeper::new(number);
+        if noted[keeper.index()][column] > step {
             set = set.with(keeper);
         }
     }

@@ -122,7 +122,7 @@ fn leave<M: Mode, R: Wait>(rt: &R, desk: &Mutex<Desk<M>>, calls: &Calls, hart: u
 fn every_hart() -> HartSet {
     let mut harts = HartSet::new();
     for number in 0..HART_LIMIT {
-        harts = harts.with(number);
+        harts = harts.with(Hart::new(number));
     }
     harts
 }
@@ -130,8 +130,9 @@ fn every_hart() -> HartSet {
 /// Wakes these harts.
 fn call(calls: &Calls, harts: HartSet) {
     for number in 0..HART_LIMIT {
-        if harts.contains(number) {
-            calls[number as usize].notify_all();
+        let hart = Hart::new(number);
+        if harts.contains(hart) {
+            calls[hart.index()].notify_all();
         }
     }
 }

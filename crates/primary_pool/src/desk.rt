@@ -224,11 +224,12 @@ impl<M: Mode> Desk<M> {
     pub(crate) fn called(&self) -> HartSet {
         let mut harts = self.queue.called();
         for number in 0..HART_LIMIT {
-            if self.ahead[number as usize] && !self.is_ahead(Hart::new(number)) {
-                harts = harts.with(number);
+            let hart = Hart::new(number);
+            if self.ahead[hart.index()] && !self.is_ahead(hart) {
+                harts = harts.with(hart);
             }
-            if self.freed[number as usize] {
-                harts = harts.with(number);
+            if self.freed[hart.index()] {
+                harts = harts.with(hart);
             }
         }
         harts

@@ -107,8 +107,9 @@ impl Queue {
     pub(crate) fn called(&self) -> HartSet {
         let mut harts = HartSet::new();
         for number in 0..HART_LIMIT {
-            if self.is_waiting(number as usize) && self.is_called(Hart::new(number)) {
-                harts = harts.with(number);
+            let hart = Hart::new(number);
+            if self.is_waiting(hart.index()) && self.is_called(hart) {
+                harts = harts.with(hart);
             }
         }
         harts
