@@ -78,7 +78,8 @@ impl HartSet {
 
     /// The set with this hart too.
     pub fn with(self, hart: Hart) -> HartSet
-        ensures { result ≡ slice_set self hart true }
+        ensures value { result ≡ slice_set self hart true }
+        ensures below { hart < 8 }
     {
         HartSet {
             members: with_member(self.members, hart.index()),
@@ -120,7 +121,8 @@ impl KeeperSet {
 
     /// The set with this keeper too.
     pub fn with(self, keeper: Keeper) -> KeeperSet
-        ensures { result ≡ slice_set self keeper true }
+        ensures value { result ≡ slice_set self keeper true }
+        ensures below { keeper < 5 }
     {
         KeeperSet {
             members: with_member(self.members, keeper.index()),
