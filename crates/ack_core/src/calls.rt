@@ -37,8 +37,8 @@ impl Board {
         harts: u8,
         keepers: u8,
     ) -> Result<(Board, Vec<KeeperSeat>, GateSeat), Memory>
-        requires harts { (0 < harts) × (harts ≤ 8) }
-        requires keepers { (0 < keepers) × (keepers ≤ 5) }
+        requires harts { (0 < harts) × (harts ≤ HART_LIMIT) }
+        requires keepers { (0 < keepers) × (keepers ≤ KEEPER_LIMIT) }
         ensures board { IfOk result (λ r. (term_of r.0 ≡ term) × (harts_of r.0 ≡ harts) × (keepers_of r.0 ≡ keepers)) }
         ensures seats { IfOk result (λ r. length r.1.items ≡ keepers) }
         ensures keepers { IfOk result (λ r. (k : ℕ) (d : KeeperSeat) → k < keepers → IsDealt r.0 (slice_index_or r.1.items k d) k) }
@@ -183,7 +183,7 @@ impl Board {
     /// The number of harts.
     pub fn harts(&self) -> u8
         ensures value { result ≡ harts_of self.now }
-        ensures limit { result ≤ 8 }
+        ensures limit { result ≤ HART_LIMIT }
     {
         self.harts
     }
@@ -191,7 +191,7 @@ impl Board {
     /// The number of keepers.
     pub fn keepers(&self) -> u8
         ensures value { result ≡ keepers_of self.now }
-        ensures limit { result ≤ 5 }
+        ensures limit { result ≤ KEEPER_LIMIT }
     {
         self.keepers
     }

@@ -8,6 +8,7 @@ use Rattle.hart_lease.specs.declared.taken.Taken.{Taken}
 use Rattle.hart_lease.specs.OpenLeases.{OpenView, LentView, open_at, given_more, nothing_taken}
 use Rattle.hart_lease.specs.Leases.{LeaseView, laid, IsLentBy}
 use Rattle.ft_types.specs.Counts.{count_at}
+use Rattle.ft_types.specs.declared.names.TheConstants.{COUNT_LIMIT}
 use Rattle.interleaving.specs.Log.{counts_after}
 use Rattle.hart_lease.specs.Runs.{Heard, IsLease, counts_of, harts_of, added, HearsOn}
 
@@ -26,7 +27,7 @@ pub record IsAsking (keeps : Fact) (machine : MachineState) (leases : List (Opti
   pub count : asked.count ≡ asker.present.count
   pub page : asked.page < length machine.pages
   pub row : asked.page < length asker.taken
-  pub limit : asked.count < 2 ^ 48
+  pub limit : asked.count < COUNT_LIMIT
   pub kept : keeps start machine journal leases
 
 -- it asks for one that no open lease holds, where the harts have settled these counts

@@ -7,6 +7,7 @@ use Rattle.interleaving.specs.Log.{Log}
 use Rattle.interleaving.specs.Cuts.{IsEnough}
 use Rattle.interleaving.specs.Stored.{view}
 use Rattle.ft_types.specs.Counts.{count_at}
+use Rattle.ft_types.specs.declared.names.TheConstants.{HART_LIMIT, HART_ROW, INPUT_LIMIT}
 use Rattle.input_log.specs.declared.Input.{Input}
 use Rattle.input_log.specs.declared.WaitingBell.{WaitingBell}
 use Rattle.input_log.specs.Inputs.{IsInputOf, but_bells, inputs_of, AreAddedTo, HearsMore}
@@ -155,7 +156,7 @@ pub record TakesFromDesk (r : RecordingView) (hart count : ℕ) (new : Recording
   pub row : hart < length r.due
   pub rest : new ≡ record r { due = new.due; desk = new.desk }
   pub due : new.due ≡ slice_set r.due hart (due_from hart count (bells_of r.desk hart) (others_of r.desk hart))
-  pub bells : bells_of new.desk hart ≡ drop 8 (bells_of r.desk hart)
+  pub bells : bells_of new.desk hart ≡ drop INPUT_LIMIT (bells_of r.desk hart)
   pub others : others_of new.desk hart ≡ others_staying count (room_beside (bells_of r.desk hart)) (others_of r.desk hart)
   pub bells_of_others : (other : ℕ) → other ≢ hart → bells_of new.desk other ≡ bells_of r.desk other
   pub others_of_others : (other : ℕ) → other ≢ hart → others_of new.desk other ≡ others_of r.desk other
@@ -188,9 +189,9 @@ inputs_offered r hart =
 
 -- it has a row for each hart of these
 pub record HasRows (r : RecordingView) : Type 0 where
-  pub inputs : length r.inputs ≡ 8
-  pub due : length r.due ≡ 8
-  pub desk : length r.desk ≡ 8
+  pub inputs : length r.inputs ≡ HART_ROW
+  pub due : length r.due ≡ HART_ROW
+  pub desk : length r.desk ≡ HART_ROW
 
 -- The hart, which had settled this count, was given more from there on alone, and of what was offered to it none is lost, made or
 -- put before another.
@@ -224,7 +225,7 @@ pub record AreInputs (harts : ℕ) (log : List (List (ℕ × Input))) (dues : Li
 
 -- the machine has as many harts and pages as the start, and not more harts than a book has rows
 pub record IsAsBig (start machine : MachineState) : Type 0 where
-  pub few : length start.harts ≤ 8
+  pub few : length start.harts ≤ HART_LIMIT
   pub harts : length machine.harts ≡ length start.harts
   pub pages : length machine.pages ≡ length start.pages
 
@@ -250,7 +251,7 @@ pub record AreRights (held : ℕ → Right) (pages : ℕ) (rights : List PageRig
 
 -- each hart's edges that are due are of its settled count, and its open lease has what is due to it
 pub record AreDue (machine : MachineState) (leases : List (Option OpenView)) (due : List DueView) : Type 0 where
-  pub many : length due ≡ 8
+  pub many : length due ≡ HART_ROW
   pub edges : (hart : ℕ) → All (IsDueEdge machine hart) (due_at due hart).edges
   pub given : (hart : ℕ) (lent : OpenView) → open_at leases hart ≡ Some lent → lent.inputs ≡ (due_at due hart).inputs
   pub given_edges : (hart : ℕ) (lent : OpenView) → open_at leases hart ≡ Some lent → (e : Edge) → Contains (due_at due hart).edges e → Contains lent.edges e
@@ -297,10 +298,10 @@ pub record IsBetween (machine : MachineState) (hart : ℕ) (e : Edge) : Type 0 w
 pub record IsUnused (r : RecordingView) (start : MachineState) (limits : List ℕ) : Type 0 where
   pub limits_are : r.limits ≡ limits
   pub inputs : (hart : ℕ) → inputs_of r.inputs hart ≡ []
-  pub due : r.due ≡ replicate 8 nothing_due
+  pub due : r.due ≡ replicate HART_ROW nothing_due
   pub bells : (hart : ℕ) → bells_of r.desk hart ≡ unheard_bells start hart
   pub others : (hart : ℕ) → others_of r.desk hart ≡ []
-  pub few : length start.harts ≤ 8
+  pub few : length start.harts ≤ HART_LIMIT
   pub edges : edges_of r.edges ≡ []
   pub log : IsLog r.edges.start r.edges.rows
   pub log_harts : length r.edges.start ≡ length start.harts

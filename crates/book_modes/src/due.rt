@@ -5,37 +5,43 @@ ghost use Rattle.book_modes.specs.Words.{HasRoomFor, lent_with, small_vec_len};
 ghost use Rattle.book_modes.specs.Dues.{DueView, nothing_due, bell_edges, is_silent};
 
 use edge_log::Edge;
-use ft_types::{Count, Hart};
+use ft_types::{Count, HART_ROW, Hart, INPUT_LIMIT};
 use hart_lease::Lent;
 use input_log::{Input, WaitingBell};
 use smallvec::SmallVec;
 use std::alloc::Global;
 use std::marker::Model;
 
-/// What a hart's next step is given, until it is settled: its inputs, and the edges from the harts whose bells it hears. At
-/// most eight of each.
+/// What a hart's next step is given, until it is settled: its inputs, and the edges from the harts whose bells it hears:
+/// `INPUT_LIMIT` inputs at most, and an edge for each hart.
 #[derive(Drop)]
 pub struct Due {
-    inputs: SmallVec<Input, 8>,
-    edges: SmallVec<Edge, 8>,
+    inputs: SmallVec<Input, INPUT_LIMIT>,
+    edges: SmallVec<Edge, HART_ROW>,
 }
 
 impl Model for Due {
     ghost use Rattle.std.specs.Prelude.{◌≤◌, length};
     ghost use Rattle.book_modes.specs.Dues.{DueView};
+    ghost use Rattle.ft_types.specs.declared.names.TheConstants.{HART_ROW, INPUT_LIMIT};
 
     ghost Value = { DueView };
 
     ghost view = { λ d. record { inputs = d.inputs.items; edges = d.edges.items } };
 
-    ghost invariant = { λ d. (length d.inputs.items ≤ 8) × (length d.edges.items ≤ 8) };
+    ghost invariant = { λ d. (length d.inputs.items ≤ INPUT_LIMIT) × (length d.edges.items ≤ HART_ROW) };
 }
 
 /// The edges from harts whose bells this hart hears at this count.
-fn edges_of(alloc: Global, hart: Hart, count: Count, bells: &[WaitingBell]) -> SmallVec<Edge, 8>
-    requires { length bells.now ≤ 8 }
+fn edges_of(
+    alloc: Global,
+    hart: Hart,
+    count: Count,
+    bells: &[WaitingBell],
+) -> SmallVec<Edge, HART_ROW>
+    requires { length bells.now ≤ INPUT_LIMIT }
     ensures value { result.items ≡ bell_edges hart count bells.now }
-    ensures few { length result.items ≤ 8 }
+    ensures few { length result.items ≤ HART_ROW }
 {
     let mut edges = SmallVec::new(alloc);
     for bell in bells {
@@ -67,11 +73,11 @@ impl Due {
         alloc: Global,
         hart: Hart,
         count: Count,
-        inputs: SmallVec<Input, 8>,
+        inputs: SmallVec<Input, INPUT_LIMIT>,
         bells: &[WaitingBell],
     ) -> Due
-        requires inputs { length inputs.items ≤ 8 }
-        requires bells { length bells.now ≤ 8 }
+        requires inputs { length inputs.items ≤ INPUT_LIMIT }
+        requires bells { length bells.now ≤ INPUT_LIMIT }
         ensures { result ≡ record { inputs = inputs.items; edges = bell_edges hart count bells.now } }
     {
         let edges = edges_of(alloc, hart, count, bells);

@@ -17,7 +17,9 @@ ghost use Rattle.book_modes.specs.Modes.{Fact, IsAsking, IsGiven, IsSettling, Is
 use crate::keep::Keep;
 use crate::settled::{count_of, steps_taken};
 use edge_log::{Edge, EdgeLog};
-use ft_types::{Count, Counts, Hart, HartSet, Memory, PageNo, Want};
+use ft_types::{
+    COUNT_LIMIT, Count, Counts, HART_LIMIT, HART_ROW, Hart, HartSet, Memory, PAGE_ROW, PageNo, Want,
+};
 use guest_image::Machine;
 use hart_lease::{Asked, Lease, Lent, OpenLease, Taken};
 use input_log::InputLog;
@@ -73,7 +75,7 @@ impl Leg {
     pub fn stop(&self, hart: Hart, count: Count) -> Count
         requires { count < count_at self.now.ends hart }
         ensures value { IsStop (edges_of self.now.edges) (heard_in self.now.inputs) (count_at self.now.ends hart) hart count result }
-        ensures limit { result < 2 ^ 48 }
+        ensures limit { result < COUNT_LIMIT }
     {
         let end = count_of(self.ends, hart);
         let next_edge = self.edges.next(hart, count + 1);
@@ -134,7 +136,7 @@ pub trait Mode: Drop {
     /// The count that the hart does not go past.
     fn limit(&self, hart: Hart) -> Count
         ensures value { result ≡ count_at (stops self.now) hart }
-        ensures limit { result < 2 ^ 48 };
+        ensures limit { result < COUNT_LIMIT };
 
     /// Whether an edge of the hart's next step waits for steps that the machine has not taken.
     fn is_open(&self, hart: Hart, machine: &Machine) -> bool
@@ -149,17 +151,17 @@ pub trait Mode: Drop {
         ensures obeyed { obeyed self.new ≡ obeyed self.old }
         ensures heard { heard self.new ≡ heard self.old }
         ensures within { result.stop ≤ count_at (stops self.old) hart }
-        ensures limit { result.stop < 2 ^ 48 }
+        ensures limit { result.stop < COUNT_LIMIT }
         ensures unhindered { (now : ℕ → ℕ) → now hart ≡ count → (HasUnmet (obeyed self.old) now hart → ⊥) → MayGoTo (obeyed self.old) now hart result.stop }
         ensures kept { KeepsLending (keeps self.old) (keeps self.new) hart count result };
 
     /// The other harts whose open leases are in the asker's way.
-    fn holders(&self, leases: &[Option<OpenLease>; 8], asked: &Asked) -> HartSet
+    fn holders(&self, leases: &[Option<OpenLease>; HART_ROW], asked: &Asked) -> HartSet
         requires { (machine : MachineState) × IsAsking (keeps self.now) machine leases.now asked.now }
         ensures { (g : ℕ) → IsMember result g ↔ is_holder self.now leases.now asked.now g };
 
     /// The edges that the asker's next step owes, where no open lease is in its way.
-    fn edges_owed(&self, alloc: Global, settled: &Counts, asked: &Asked) -> SmallVec<Edge, 8>
+    fn edges_owed(&self, alloc: Global, settled: &Counts, asked: &Asked) -> SmallVec<Edge, HART_ROW>
         requires { IsGiven (keeps self.now) (is_holder self.now) settled.now asked.now }
         ensures { owes self.now (count_at settled.now) asked.now result.items };
 
@@ -185,7 +187,7 @@ pub trait Mode: Drop {
         ensures err { OnErr result (self.new ≡ self.old) };
 
     /// Gives up what a lease of the hart took, which ends without its steps, at the hart's settled count.
-    fn end(&mut self, hart: Hart, count: Count, taken: &[Option<Taken>; 64])
+    fn end(&mut self, hart: Hart, count: Count, taken: &[Option<Taken>; PAGE_ROW])
         requires { IsEnding (keeps self.old) hart count taken.now }
         ensures ended { ends self.old hart count taken.now self.new }
         ensures stops { stops self.new ≡ stops self.old }
@@ -304,19 +306,25 @@ impl Mode for Replaying {
         Lent::new(stop, inputs, SmallVec::new(alloc))
     }
 
-    fn holders(&self, leases: &[Option<OpenLease>; 8], asked: &Asked) -> HartSet {
+    fn holders(&self, leases: &[Option<OpenLease>; HART_ROW], asked: &Asked) -> HartSet {
         let mut harts = HartSet::new();
-        for number in 0..8u8 {
-            if number != asked.hart.number()
-                && stands_in_the_way(held_by(&leases[number as usize], asked.page), asked.want)
+        for number in 0..HART_LIMIT {
+            let hart = Hart::new(number);
+            if hart != asked.hart
+                && stands_in_the_way(held_by(&leases[hart.index()], asked.page), asked.want)
             {
-                harts = harts.with(number);
+                harts = harts.with(hart);
             }
         }
         harts
     }
 
-    fn edges_owed(&self, alloc: Global, _settled: &Counts, _asked: &Asked) -> SmallVec<Edge, 8> {
+    fn edges_owed(
+        &self,
+        alloc: Global,
+        _settled: &Counts,
+        _asked: &Asked,
+    ) -> SmallVec<Edge, HART_ROW> {
         SmallVec::new(alloc)
     }
 
@@ -326,5 +334,5 @@ impl Mode for Replaying {
         Ok(())
     }
 
-    fn end(&mut self, _hart: Hart, _count: Count, _taken: &[Option<Taken>; 64]) {}
+    fn end(&mut self, _hart: Hart, _count: Count, _taken: &[Option<Taken>; PAGE_ROW]) {}
 }

@@ -23,7 +23,9 @@ use crate::settled::{count_of, settled_counts};
 use crate::unheard::desk_of;
 use crew_pages::{Ask, PageRight};
 use edge_log::{Edge, EdgeLog};
-use ft_types::{Count, Counts, HART_LIMIT, Hart, HartSet, Memory, PageNo};
+use ft_types::{
+    COUNT_LIMIT, Count, Counts, HART_LIMIT, HART_ROW, Hart, HartSet, Memory, PAGE_ROW, PageNo,
+};
 use guest_image::Machine;
 use hart_lease::{Asked, Lease, Lent, OpenLease, Taken};
 use input_log::{Desk, Input, InputLog, Offered, WaitingBell};
@@ -40,7 +42,7 @@ pub struct Recording {
     edges: EdgeLog,
     inputs: InputLog,
     /// What each hart's next step is given.
-    due: [Due; 8],
+    due: [Due; HART_ROW],
     /// What waits for later steps.
     desk: Desk,
 }
@@ -62,8 +64,8 @@ fn unused_rights(alloc: Global, pages: u8) -> Result<Vec<PageRight>, Memory>
     Ok(rights)
 }
 
-fn nothing_due(alloc: Global) -> [Due; 8]
-    ensures { result ≡ replicate 8 nothing_due }
+fn nothing_due(alloc: Global) -> [Due; HART_ROW]
+    ensures { result ≡ replicate HART_ROW nothing_due }
 {
     [
         Due::nothing(alloc),
@@ -83,7 +85,7 @@ fn rights_copied(rights: &Vec<PageRight>) -> Result<Vec<PageRight>, Memory>
     Ok(rights.clone()?)
 }
 
-fn dues_copied(alloc: Global, due: &[Due; 8]) -> [Due; 8]
+fn dues_copied(alloc: Global, due: &[Due; HART_ROW]) -> [Due; HART_ROW]
     ensures { result ≡ due.now }
 {
     [
@@ -121,12 +123,12 @@ fn takes(lease: &Option<OpenLease>, page: PageNo) -> bool
 
 /// The right, once each hart that stands in the asker's way has given it up.
 fn right_yielded(right: PageRight, settled: &Counts, asked: &Asked) -> PageRight
-    ensures { right_of result ≡ yielded asked.now (count_at settled.now) 8 (right_of right) }
+    ensures { right_of result ≡ yielded asked.now (count_at settled.now) HART_LIMIT (right_of right) }
 {
     let mut right = right;
     for number in 0..HART_LIMIT {
         let other = Hart::new(number);
-        if right.against(asked.hart, asked.want).contains(number) {
+        if right.against(asked.hart, asked.want).contains(other) {
             right.give_up(other, count_of(*settled, other));
         }
     }
@@ -158,7 +160,7 @@ impl Recording {
     /// Nobody has used a page.
     pub fn new(alloc: Global, start: &Machine, limits: Counts) -> Result<Recording, Memory>
         ensures unused { IfOk result (λ r. IsUnused r start.now limits) }
-        ensures rows { OnOk result ((hart : ℕ) (h : HartRecord) → slice_get start.now.harts hart ≡ Some h → length h.received.heard ≡ 8) }
+        ensures rows { OnOk result ((hart : ℕ) (h : HartRecord) → slice_get start.now.harts hart ≡ Some h → length h.received.heard ≡ HART_ROW) }
     {
         let rights = unused_rights(alloc, start.pages())?;
         let edges = EdgeLog::new(alloc, settled_counts(start));
@@ -350,7 +352,7 @@ impl Recording {
     }
 
     /// Whether the hart's right stands in the asker's way, and its open lease has taken the page.
-    fn is_taker(&self, leases: &[Option<OpenLease>; 8], asked: &Asked, other: Hart) -> bool
+    fn is_taker(&self, leases: &[Option<OpenLease>; HART_ROW], asked: &Asked, other: Hart) -> bool
         requires { asked.now.page < length self.now.rights }
         ensures { IsTrue result ↔ IsTaker self.now leases.now asked.now other }
     {
@@ -358,9 +360,7 @@ impl Recording {
             return false;
         }
         let right = self.rights[asked.page.index()];
-        right
-            .against(asked.hart, asked.want)
-            .contains(other.number())
+        right.against(asked.hart, asked.want).contains(other)
     }
 
     /// What the asker is answered, once nobody is in its way: the page's right from then on, and the edges that it owes.
@@ -369,11 +369,11 @@ impl Recording {
         alloc: Global,
         settled: &Counts,
         asked: &Asked,
-    ) -> (PageRight, SmallVec<Edge, 8>)
+    ) -> (PageRight, SmallVec<Edge, HART_ROW>)
         requires page { asked.now.page < length self.now.rights }
         requires hart { asked.now.hart < length settled.now }
-        requires count { asked.now.count < 2 ^ 48 }
-        requires few { (other : ℕ) → holds (right_at self.now.rights asked.now.page) other ≡ true → other < 8 }
+        requires count { asked.now.count < COUNT_LIMIT }
+        requires few { (other : ℕ) → holds (right_at self.now.rights asked.now.page) other ≡ true → other < HART_LIMIT }
         requires free { IsFree (right_met self.now (count_at settled.now) asked.now) asked.now.hart asked.now.want }
         ensures right { right_of result.0 ≡ given (right_met self.now (count_at settled.now) asked.now) asked.now.hart asked.now.want asked.now.count }
         ensures edges { (e : edge_found) → Contains result.1.items e ↔ IsOwed (right_met self.now (count_at settled.now) asked.now) asked.now.hart
@@ -455,17 +455,23 @@ impl Mode for Recording {
         self.due[hart.index()].lent(alloc, stop)
     }
 
-    fn holders(&self, leases: &[Option<OpenLease>; 8], asked: &Asked) -> HartSet {
+    fn holders(&self, leases: &[Option<OpenLease>; HART_ROW], asked: &Asked) -> HartSet {
         let mut harts = HartSet::new();
         for number in 0..HART_LIMIT {
-            if self.is_taker(leases, asked, Hart::new(number)) {
-                harts = harts.with(number);
+            let hart = Hart::new(number);
+            if self.is_taker(leases, asked, hart) {
+                harts = harts.with(hart);
             }
         }
         harts
     }
 
-    fn edges_owed(&self, alloc: Global, settled: &Counts, asked: &Asked) -> SmallVec<Edge, 8> {
+    fn edges_owed(
+        &self,
+        alloc: Global,
+        settled: &Counts,
+        asked: &Asked,
+    ) -> SmallVec<Edge, HART_ROW> {
         self.answer(alloc, settled, asked).1
     }
 
@@ -486,8 +492,8 @@ impl Mode for Recording {
         Ok(())
     }
 
-    fn end(&mut self, hart: Hart, count: Count, taken: &[Option<Taken>; 64]) {
-        for page in 0..self.rights.len().min(64) {
+    fn end(&mut self, hart: Hart, count: Count, taken: &[Option<Taken>; PAGE_ROW]) {
+        for page in 0..self.rights.len().min(PAGE_ROW) {
             if taken[page].is_some() {
                 self.rights[page].give_up(hart, count);
             }

@@ -3,7 +3,7 @@
 ghost use Rattle.std.specs.Prelude.{◌≡◌, ◌<◌, ◌≤◌, ◌^◌, ℕ, length, slice_index};
 ghost use Rattle.book_modes.specs.Words.{count_at, counts_of};
 
-use ft_types::{Count, Counts, Hart};
+use ft_types::{COUNT_LIMIT, Count, Counts, HART_LIMIT, Hart};
 use guest_image::Machine;
 
 /// How many steps the hart has taken: none where the machine has no such hart.
@@ -22,7 +22,7 @@ pub fn settled_counts(machine: &Machine) -> Counts
     ensures harts { length result ≡ length machine.now.harts }
     ensures value { (hart : ℕ) → hart < length result → slice_index result hart ≡ counts_of machine.now hart }
     ensures all { (hart : ℕ) → count_at result hart ≡ counts_of machine.now hart }
-    ensures few { length machine.now.harts ≤ 8 }
+    ensures few { length machine.now.harts ≤ HART_LIMIT }
 {
     let mut counts = Counts::zero(machine.harts());
     for number in 0..machine.harts() {
@@ -35,7 +35,7 @@ pub fn settled_counts(machine: &Machine) -> Counts
 /// The count of a hart in a row: 0 where the row has no such hart.
 pub(crate) fn count_of(counts: Counts, hart: Hart) -> Count
     ensures value { result ≡ count_at counts hart }
-    ensures limit { result < 2 ^ 48 }
+    ensures limit { result < COUNT_LIMIT }
 {
     if hart.number() < counts.harts() {
         counts.get(hart)

@@ -2,7 +2,7 @@
 
 use crate::starts::{has_edges, obeying, recording, replaying, same_machine, stands_at};
 use fixtures::{Act, BOTH_STORE, Crew, Said, edge, given, hart, held_by, image_of, recorder};
-use ft_types::{Counts, Hart, NumberSet, PageNo, Want};
+use ft_types::{Counts, Hart, HartSet, PageNo, Want};
 use page_book::{Book, BookFault, Keep, Lease, Need, Recording, Replaying};
 use std::alloc::Global;
 use std::mem;
@@ -151,7 +151,7 @@ fn two_schedules_of_a_log_end_alike(rt: HostRuntime) -> Result<(), Fail> {
 fn what_an_open_lease_has_taken_is_waited_for(rt: HostRuntime) -> Result<(), Fail> {
     let (first, second, third) = (hart(0), hart(1), hart(2));
     let (one, two) = (PageNo::new(1), PageNo::new(2));
-    let by_both = Need::HeldBy(NumberSet::new().with(0).with(2));
+    let by_both = Need::HeldBy(HartSet::new().with(first).with(third));
     let script = [
         (Act::Lend(first), Said::Done),
         (Act::Lend(second), Said::Done),

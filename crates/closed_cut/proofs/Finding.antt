@@ -18,7 +18,7 @@ use Rattle.fragment_codec.specs.Rules.{IsRecordOf}
 use Rattle.ft_types.specs.Counts.{IsCount}
 use Rattle.log_join.specs.Stores.{IsStore}
 use Rattle.ft_types.specs.Counts.{count_at}
-use Rattle.ft_types.specs.declared.guest.Guest.{Guest}
+use Rattle.ft_types.specs.Guests.{GuestParts}
 use Rattle.fragment_codec.specs.declared.types.Key.{Key}
 use Rattle.fragment_codec.specs.Rules.{FragmentParts, OpeningParts}
 use Rattle.log_join.specs.Cells.{Cell, Absent, One, Clash}
@@ -126,11 +126,11 @@ formed_of s rules =
       row =
           λ term o hart one over.
           let f = rules.openings term o one in
-          get_or_past o.base hart 0 (let a : length o.base ≡ s.guest.harts = f.rules.base ∙ ap (λ (g : Guest). g.harts) f.same_guest in omega arith);
+          get_or_past o.base hart 0 (let a : length o.base ≡ s.guest.harts = f.rules.base ∙ ap (λ (g : GuestParts). g.harts) f.same_guest in omega arith);
       few =
           λ term hart place x one.
           let f = rules.fragments (record { term = term; hart = hart; place = place }) x one in (
-            subst (λ (g : Guest). hart < g.harts) f.same_guest (subst (λ (k : Key). k.hart < x.guest.harts) f.same_key f.rules.key.hart),
+            subst (λ (g : GuestParts). hart < g.harts) f.same_guest (subst (λ (k : Key). k.hart < x.guest.harts) f.same_key f.rules.key.hart),
             subst (λ (k : Key). k.place < 2 ^ 32) f.same_key f.rules.key.place,
           );
       rises = λ term hart place x one. (rules.fragments (record { term = term; hart = hart; place = place }) x one).rules.some;

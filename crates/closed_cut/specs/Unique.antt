@@ -2,7 +2,7 @@
 use Rattle.std.specs.Prelude.{ℕ, ◌≡◌, List, length}
 use Rattle.std.specs.List.{AllByRecursion}
 use Rattle.ft_types.specs.Counts.{count_at, IsCount}
-use Rattle.ft_types.specs.declared.guest.Guest.{Guest}
+use Rattle.ft_types.specs.Guests.{GuestParts}
 use Rattle.fragment_codec.specs.declared.frame.Frame.{Frame}
 use Rattle.log_join.specs.Coming.{Gathers, SameFrames}
 use Rattle.log_join.specs.Stores.{StoreView, IsStore}
@@ -26,5 +26,5 @@ OnePosition = (store : StoreView) → IsStore store → (p q : Position) → IsP
 
 -- whoever took or joined the same frames, in whatever order and however often, has one position
 abbrev pub OrderKeepsThePosition : Type 0
-OrderKeepsThePosition = (guest : Guest) (first second : List Frame) (a b : StoreView) → Gathers guest first a → Gathers guest second b →
+OrderKeepsThePosition = (guest : GuestParts) (first second : List Frame) (a b : StoreView) → Gathers guest first a → Gathers guest second b →
     SameFrames first second → IsStore a → (p q : Position) → IsPosition a p → IsPosition b q → IsSamePosition p q

@@ -3,20 +3,21 @@
 ghost use Rattle.std.specs.Prelude.{◌≡◌, ◌≢◌, ℕ, ◌-◌, ◌<◌, ◌≤◌, List, All, Contains, map, length, slice_index, IfSome, IfNone};
 ghost use Rattle.std.specs.List.{AllWithin, HoldsAt};
 ghost use Rattle.std.specs.List.Sorted.{IsNonDecreasingBy};
+ghost use Rattle.ft_types.specs.declared.names.TheConstants.{HART_LIMIT};
 ghost use Rattle.ft_types.specs.Counts.{count_at};
 ghost use Rattle.interleaving.specs.Cuts.{IsGreatest};
 ghost use Rattle.edge_log.specs.EdgeLog.{edge_as};
 ghost use Rattle.closed_cut.specs.Lowering.{AreOf, IsLoweredTo};
 
 use edge_log::Edge;
-use ft_types::{Counts, Hart};
+use ft_types::{Counts, HART_ROW, Hart};
 use std::option::Option;
 
 /// A hart with an edge before its end that asks for more of its steps than the counts have.
-fn unmet_hart(edges: &[Edge], ends: &[usize; 8], cut: Counts) -> Option<Hart>
+fn unmet_hart(edges: &[Edge], ends: &[usize; HART_ROW], cut: Counts) -> Option<Hart>
     requires sorted { IsNonDecreasingBy (λ e. e.after) edges.now }
     requires ends { (hart : ℕ) → slice_index ends.now hart ≤ length edges.now }
-    ensures limit { length cut ≤ 8 }
+    ensures limit { length cut ≤ HART_LIMIT }
     ensures hart { IfSome result (λ hart. hart < length cut) }
     ensures some { IfSome result (λ hart. 0 < slice_index ends.now hart) }
     ensures unmet { IfSome result (λ hart. HoldsAt (λ e. count_at cut hart < e.after) edges.now (slice_index ends.now hart - 1)) }
@@ -77,7 +78,7 @@ fn lowered(edges: &[Edge], bound: Counts) -> Counts
     ensures greatest { IsGreatest (map edge_as edges.now) (count_at bound) (count_at result) }
 {
     let mut cut = bound;
-    let mut ends = [edges.len(); 8];
+    let mut ends = [edges.len(); HART_ROW];
     while let Some(hart) = unmet_hart(edges, &ends, cut) {
         let index = hart.index();
         ends[index] = fall(edges, &mut cut, hart, ends[index]);

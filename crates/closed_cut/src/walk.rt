@@ -14,7 +14,7 @@ use crate::answer::Position;
 use crate::gathering::gather;
 use crate::lowering::greatest_closed;
 use fragment_codec::Opening;
-use ft_types::{Counts, HART_LIMIT, Hart, Memory, Term};
+use ft_types::{Counts, Hart, Memory, Term};
 use log_join::Store;
 use std::alloc::Global;
 use std::option::Option;
@@ -98,14 +98,13 @@ fn walk(
 /// The store's position: where the walk along its chain stops.
 pub fn position(alloc: Global, store: &Store) -> Result<Position, Memory>
     ensures position { IfOk result (λ p. IsPosition store.now p) }
-    // A guest has 1 to 8 harts.
-    ensures harts { store.now.guest.harts ≤ 8 → IfOk result (λ p. length p.counts ≡ store.now.guest.harts) }
+    ensures harts { IfOk result (λ p. length p.counts ≡ store.now.guest.harts) }
 {
     let terms = chain(alloc, store)?;
     let Some((first, rest)) = terms.as_slice().split_first() else {
         return Ok(Position {
             term: 0,
-            counts: Counts::zero(store.guest().harts.min(HART_LIMIT)),
+            counts: Counts::zero(store.guest().harts()),
             top: 0,
         });
     };

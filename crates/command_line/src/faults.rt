@@ -104,9 +104,7 @@ pub fn status_of(fault: &CommandFault) -> u8
 
 fn write_image_fault<W: Sink>(fault: ImageFault, out: &mut W) -> Result<(), Failed> {
     match fault {
-        ImageFault::BadLine(line) => {
-            write_numbered(b"fault image 1 line ", line as u64, b"\n", out)
-        }
+        ImageFault::BadLine(line) => write_numbered(b"fault image 1 line ", line, b"\n", out),
         ImageFault::TooLarge => write_all(out, b"fault image 2\n"),
         ImageFault::NoHarts => write_all(out, b"fault image 3\n"),
         ImageFault::Memory => write_all(out, b"fault memory\n"),

@@ -1,6 +1,7 @@
 -- Histories of one page: harts ask for its right, take steps, give the right up and lower it, in any order.
 use Rattle.std.specs.Prelude.{ℕ, ◌≡◌, ◌≢◌, ◌<◌, ◌≤◌, ◌⊎◌, Bool, true, false, List, [], ◌∷◌, ◌++◌, Contains}
 use Rattle.ft_types.specs.declared.names.Want.{Want}
+use Rattle.ft_types.specs.declared.names.TheConstants.{HART_LIMIT}
 use Rattle.interleaving.specs.Lists.{EachPair}
 use Rattle.interleaving.specs.Log.{Edge, Place, Before, bump}
 use Rattle.crew_pages.specs.Rights.{Right, unused, holds, owns, IsFree, IsOwed, given, give_up, lower}
@@ -66,4 +67,4 @@ pub record IsOrdered (crew : ℕ) (s : History) : Type 0 where
 
 -- in every history
 abbrev pub KeepsOrder : Type 0
-KeepsOrder = (crew : ℕ) (s : History) → crew ≤ 8 → Reached crew s → IsOrdered crew s
+KeepsOrder = (crew : ℕ) (s : History) → crew ≤ HART_LIMIT → Reached crew s → IsOrdered crew s

@@ -1,6 +1,7 @@
 -- What a page's right says of the steps that used the page, and that asking, giving up and lowering keep it.
 use Rattle.std.specs.Prelude.{ℕ, ◌≡◌, ◌≢◌, ◌<◌, ◌≤◌, ◌⊎◌, true, false, List, [], Option, Some, Contains}
 use Rattle.ft_types.specs.declared.names.Want.{Want}
+use Rattle.ft_types.specs.declared.names.TheConstants.{HART_LIMIT}
 use Rattle.interleaving.specs.Log.{Edge, Place, Before}
 use Rattle.crew_pages.specs.declared.right.LastWriter.{LastWriter}
 use Rattle.crew_pages.specs.Rights.{Right, Shared, Exclusive, unused, holds, owns, IsFree, has_it, IsOwed, given, give_up, lower}
@@ -121,7 +122,7 @@ KeepsLowering =
 -- the hart takes the right at its count n: nobody's right stands against it, it has the edges that it owes, and if the right
 -- is new to it, n is its count for reading, or within the bound of that for writing
 pub record Takes (s : Scene) (r : Right) (h : ℕ) (want : Want) (n : ℕ) : Type 0 where
-  pub few : s.crew ≤ 8
+  pub few : s.crew ≤ HART_LIMIT
   pub is_hart : h < s.crew
   pub free : IsFree r h want
   pub owed : (e : Edge) → IsOwed r h want n e → Contains (s.own h) e

@@ -3,6 +3,7 @@
 use Rattle.std.specs.Prelude.{ℕ, ◌≡◌, ◌≢◌, ◌<◌, ◌==◌, ◌&&◌, not, nat_lt, max, Bool, true, false, Option, Some, None, if◌then◌else◌, slice_index_or}
 use Rattle.ft_types.specs.declared.names.Want.{Want}
 use Rattle.ft_types.specs.declared.names.Want.TheVariants.{Read, Write}
+use Rattle.ft_types.specs.declared.names.TheConstants.{HART_LIMIT}
 use Rattle.interleaving.specs.Lists.{put}
 use Rattle.interleaving.specs.Log.{Edge}
 use Rattle.crew_pages.specs.declared.right.LastWriter.{LastWriter}
@@ -80,7 +81,7 @@ pub record IsOwed (right : Right) (hart : ℕ) (want : Want) (n : ℕ) (e : Edge
   pub own : e.hart ≡ hart
   pub at : e.step ≡ n
   pub other : e.other ≢ hart
-  pub is_hart : e.other < 8
+  pub is_hart : e.other < HART_LIMIT
   pub after : after_count right want e.other ≡ Some e.count
 
 -- the right, once the hart was given what it asked for at its count n

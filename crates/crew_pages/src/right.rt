@@ -10,7 +10,7 @@ ghost use Rattle.crew_pages.specs.Rights.{nobody, Shared};
 ghost use Rattle.crew_pages.specs.Answers.{OnHeldBy, OnGiven, IfHeldBy, IfGiven};
 
 use edge_log::Edge;
-use ft_types::{Count, Counts, HART_LIMIT, Hart, HartSet, Want};
+use ft_types::{Count, Counts, HART_LIMIT, HART_ROW, Hart, HartSet, Want};
 use smallvec::SmallVec;
 use std::alloc::Global;
 use std::option::Option;
@@ -34,7 +34,7 @@ pub enum PageRight {
         /// The harts that may read.
         readers: HartSet,
         /// For each hart that read since then and left, its count on leaving.
-        left: [Option<Count>; 8],
+        left: [Option<Count>; HART_ROW],
     },
     /// One hart may read and write.
     Exclusive {
@@ -45,7 +45,7 @@ pub enum PageRight {
         /// The last writer before it.
         since: Option<LastWriter>,
         /// For each hart that read since that one and left, its count on leaving.
-        left: [Option<Count>; 8],
+        left: [Option<Count>; HART_ROW],
     },
 }
 
@@ -55,7 +55,7 @@ pub enum Ask {
     /// These harts hold a right that stands against it.
     HeldBy(HartSet),
     /// It has the right, and its next step owes these edges, by rising other hart.
-    Given(SmallVec<Edge, 8>),
+    Given(SmallVec<Edge, HART_ROW>),
 }
 
 /// The set without this hart.
@@ -64,8 +64,9 @@ fn without(set: HartSet, hart: Hart) -> HartSet
 {
     let mut others = HartSet::new();
     for number in 0..HART_LIMIT {
-        if number != hart.number() && set.contains(number) {
-            others = others.with(number);
+        let other = Hart::new(number);
+        if other != hart && set.contains(other) {
+            others = others.with(other);
         }
     }
     others
@@ -99,7 +100,11 @@ fn greater_count(one: Option<Count>, other: Option<Count>) -> Option<Count>
 }
 
 /// The counts on leaving, with this hart's.
-fn with_count(left: [Option<Count>; 8], hart: Hart, count: Count) -> [Option<Count>; 8]
+fn with_count(
+    left: [Option<Count>; HART_ROW],
+    hart: Hart,
+    count: Count,
+) -> [Option<Count>; HART_ROW]
     ensures { result ≡ slice_set left hart (Some count) }
 {
     let mut counts = left;
@@ -110,7 +115,7 @@ fn with_count(left: [Option<Count>; 8], hart: Hart, count: Count) -> [Option<Cou
 /// The count of another hart that an asker for a shared page comes after.
 fn count_before(
     since: &Option<LastWriter>,
-    left: &[Option<Count>; 8],
+    left: &[Option<Count>; HART_ROW],
     want: Want,
     other: Hart,
 ) -> Option<Count>
@@ -130,7 +135,7 @@ impl PageRight {
         PageRight::Shared {
             since: None,
             readers: HartSet::new(),
-            left: [None; 8],
+            left: [None; HART_ROW],
         }
     }
 
@@ -139,7 +144,7 @@ impl PageRight {
         ensures { result ≡ holds (right_of self.now) hart }
     {
         match *self {
-            PageRight::Shared { readers, .. } => readers.contains(hart.number()),
+            PageRight::Shared { readers, .. } => readers.contains(hart),
             PageRight::Exclusive { owner, .. } => owner == hart,
         }
     }
@@ -173,19 +178,22 @@ impl PageRight {
                 Want::Read => HartSet::new(),
                 Want::Write => without(readers, hart),
             },
-            PageRight::Exclusive { owner, .. } => without(
-                HartSet::new().with(owner.number()),
-                hart,
-            ),
+            PageRight::Exclusive { owner, .. } => without(HartSet::new().with(owner), hart),
         }
     }
 
     /// The edges that the hart owes, which lacks what it wants.
-    fn edges_owed(&self, alloc: Global, hart: Hart, want: Want, at: Count) -> SmallVec<Edge, 8>
+    fn edges_owed(
+        &self,
+        alloc: Global,
+        hart: Hart,
+        want: Want,
+        at: Count,
+    ) -> SmallVec<Edge, HART_ROW>
         requires { has_it (right_of self.now) hart want ≡ false }
         ensures exact { (e : Edge) → Contains result.items e ↔ IsOwed (right_of self.now) hart want at (edge_as e) }
         ensures rising { AllPairs (λ a b. a.other < b.other) result.items }
-        ensures inline { result.capacity ≡ 8 }
+        ensures inline { result.capacity ≡ HART_ROW }
     {
         let mut edges = SmallVec::new(alloc);
         let PageRight::Shared { since, left, .. } = *self else {
@@ -220,7 +228,7 @@ impl PageRight {
             } => match want {
                 Want::Read => PageRight::Shared {
                     since,
-                    readers: readers.with(hart.number()),
+                    readers: readers.with(hart),
                     left,
                 },
                 Want::Write => PageRight::Exclusive {
@@ -245,7 +253,7 @@ impl PageRight {
         ensures edges { IfGiven result (λ edges. (e : Edge) → Contains edges.items e ↔ IsOwed (right_of self.old) hart want (slice_index counts.now hart)
             (edge_as e)) }
         ensures rising { IfGiven result (λ edges. AllPairs (λ a b. a.other < b.other) edges.items) }
-        ensures inline { IfGiven result (λ edges. edges.capacity ≡ 8) }
+        ensures inline { IfGiven result (λ edges. edges.capacity ≡ HART_ROW) }
     {
         let against = self.against(hart, want);
         if !against.is_empty() {
@@ -273,7 +281,7 @@ impl PageRight {
         requires { owns (right_of self.old) hart ≡ true }
         ensures { right_of self.new ≡ lower (right_of self.old) hart count }
     {
-        let readers = HartSet::new().with(hart.number());
+        let readers = HartSet::new().with(hart);
         *self = self.lowered(readers, count);
     }
 
@@ -342,7 +350,7 @@ impl PageRight {
         PageRight::Shared {
             since: Some(LastWriter { hart, count }),
             readers,
-            left: [None; 8],
+            left: [None; HART_ROW],
         }
     }
 }

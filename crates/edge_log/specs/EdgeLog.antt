@@ -2,6 +2,7 @@
 use Rattle.std.specs.Prelude.{ℕ, ◌≡◌, ◌≢◌, ◌<◌, ◌≤◌, List, [], ◌∷◌, length, slice_index_or, map, All}
 use Rattle.std.specs.List.{flat_map}
 use Rattle.ft_types.specs.Counts.{count_at}
+use Rattle.ft_types.specs.declared.names.TheConstants.{HART_LIMIT, HART_ROW}
 use Rattle.interleaving.specs.Log as theory
 use Rattle.interleaving.specs.Cuts.{IsImplied}
 use Rattle.edge_log.specs.declared.Edge.{Edge}
@@ -62,8 +63,8 @@ abbrev pub IsLater : List ℕ → Edge → Type 0
 IsLater start e = count_at start e.other < e.after
 
 pub record IsLog (start : List ℕ) (rows : List (List Edge)) : Type 0 where
-  pub harts : length start ≤ 8
-  pub eight : length rows ≡ 8
+  pub harts : length start ≤ HART_LIMIT
+  pub eight : length rows ≡ HART_ROW
   pub own : (hart : ℕ) → All (IsOfHart start hart) (slice_index_or rows hart [])
   pub later : (hart : ℕ) → All (IsLater start) (slice_index_or rows hart [])
 

@@ -2,6 +2,7 @@
 use Rattle.std.specs.Prelude.{ℕ, ◌≡◌, ◌<◌, ◌≤◌, ◌⊎◌, List, [], ◌∷◌, ◌++◌, length, slice_index, All, AllPairs, Any, Contains, filter, nat_lt}
 use Rattle.std.specs.List.{HoldsAt}
 use Rattle.ft_types.specs.Counts.{count_at}
+use Rattle.ft_types.specs.declared.names.TheConstants.{HART_LIMIT, HART_ROW}
 use Rattle.edge_log.specs.declared.Edge.{Edge}
 
 -- a's step is no later than b's, and at the same step a's other hart is lower
@@ -74,9 +75,9 @@ pub record AsksFor (hart count : ℕ) (edge : Edge) : Type 0 where
   pub after : edge.after ≡ count
 
 pub record IsRow (edges : List Edge) (reached : List ℕ) : Type 0 where
-  pub harts : length reached ≡ 8
+  pub harts : length reached ≡ HART_ROW
   pub rising : AllPairs ComesBefore edges
-  pub others : All (λ e. e.other < 8) edges
+  pub others : All (λ e. e.other < HART_LIMIT) edges
   pub most : All (λ e. e.after ≤ slice_index reached e.other) edges
-  pub asked : (hart : ℕ) → hart < 8 → 0 < slice_index reached hart →
+  pub asked : (hart : ℕ) → hart < HART_LIMIT → 0 < slice_index reached hart →
       (e : Edge) × Contains edges e × AsksFor hart (slice_index reached hart) e

@@ -10,7 +10,7 @@ ghost use Rattle.edge_log.specs.EdgeLog.{row_of, edge_as, edges_of, start_of, Ma
 
 use crate::row::Row;
 use crate::{Added, Edge};
-use ft_types::{Count, Counts, Hart, Memory};
+use ft_types::{Count, Counts, HART_LIMIT, HART_ROW, Hart, Memory};
 use std::alloc::Global;
 use std::array;
 use std::marker::Model;
@@ -23,7 +23,7 @@ use std::result::Result;
 #[derive(Drop)]
 pub struct EdgeLog {
     start: Counts,
-    rows: [Row; 8],
+    rows: [Row; HART_ROW],
 }
 
 impl Model for EdgeLog {
@@ -43,10 +43,10 @@ fn same_counts(counts: &[Count], others: &[Count]) -> bool
     counts == others
 }
 
-fn same_rows(rows: &[Row; 8], others: &[Row; 8]) -> bool
+fn same_rows(rows: &[Row; HART_ROW], others: &[Row; HART_ROW]) -> bool
     ensures { IsTrue result ↔ (map (λ r. r.edges) rows.now ≡ map (λ r. r.edges) others.now) }
 {
-    for hart in 0..8usize {
+    for hart in 0..HART_ROW {
         if !rows[hart].has_edges_of(&others[hart]) {
             return false;
         }
@@ -65,11 +65,11 @@ fn count_of(counts: &Counts, hart: u8) -> Count
     }
 }
 
-fn rows_say_on(rows: &[Row; 8], settled: &Counts, before: &[Row; 8]) -> bool
+fn rows_say_on(rows: &[Row; HART_ROW], settled: &Counts, before: &[Row; HART_ROW]) -> bool
     ensures { IsTrue result ↔ ((hart : ℕ) → SayOn (slice_index_or (map (λ r. r.edges) before.now) hart []) (count_at settled.now hart) (slice_index_or
         (map (λ r. r.edges) rows.now) hart [])) }
 {
-    for hart in 0..8u8 {
+    for hart in 0..HART_LIMIT {
         if !rows[hart as usize].says_on(count_of(settled, hart), &before[hart as usize]) {
             return false;
         }

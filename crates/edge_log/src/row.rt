@@ -8,7 +8,7 @@ ghost use Rattle.std.specs.List.Sorted.{IsNonDecreasingBy};
 ghost use Rattle.edge_log.specs.Rows.{ComesBefore, AsksAsMuch, SayOn, IsPut, SaysAsMuch, CannotComeBefore, TwinStands, IsRow, Takes, TakesAll};
 
 use crate::{Added, Edge};
-use ft_types::{Count, Counts, Memory};
+use ft_types::{Count, Counts, HART_ROW, Memory};
 use std::alloc::Global;
 use std::marker::Model;
 use std::option::Option;
@@ -19,7 +19,7 @@ use std::result::Result;
 pub(crate) struct Row {
     edges: Vec<Edge>,
     // The greatest `after` of the edges to each hart, 0 where there is none.
-    reached: [Count; 8],
+    reached: [Count; HART_ROW],
 }
 
 impl Model for Row {
@@ -83,14 +83,14 @@ fn put(edges: &mut Vec<Edge>, edge: Edge)
 }
 
 /// Whether an edge to the same hart has asked for as much.
-fn is_reached(reached: &[Count; 8], edge: &Edge) -> bool
+fn is_reached(reached: &[Count; HART_ROW], edge: &Edge) -> bool
     ensures { IsTrue result ↔ edge.now.after ≤ slice_index reached.now edge.now.other }
 {
     edge.after <= reached[edge.other.index()]
 }
 
 /// Puts an edge that none of them implies in its place, where there is room for one more.
-fn put_new(edges: &mut Vec<Edge>, reached: &mut [Count; 8], edge: Edge)
+fn put_new(edges: &mut Vec<Edge>, reached: &mut [Count; HART_ROW], edge: Edge)
     requires row { IsRow edges.old.items reached.old }
     requires last { All (λ e. e.at ≤ edge.at) edges.old.items }
     requires more { slice_index reached.old edge.other < edge.after }
@@ -107,7 +107,7 @@ fn put_new(edges: &mut Vec<Edge>, reached: &mut [Count; 8], edge: Edge)
 }
 
 /// Adds an edge, where there is room for one more, unless the start or one of them implies it.
-fn add_one(edges: &mut Vec<Edge>, reached: &mut [Count; 8], start: &Counts, edge: Edge)
+fn add_one(edges: &mut Vec<Edge>, reached: &mut [Count; HART_ROW], start: &Counts, edge: Edge)
     requires row { IsRow edges.old.items reached.old }
     requires other { edge.other < length start.now }
     requires last { All (λ e. e.at ≤ edge.at) edges.old.items }
@@ -123,7 +123,7 @@ fn add_one(edges: &mut Vec<Edge>, reached: &mut [Count; 8], start: &Counts, edge
 }
 
 /// Adds edges in their order, where there is room for all, but those that the start or one of them implies.
-fn add_each(edges: &mut Vec<Edge>, reached: &mut [Count; 8], start: &Counts, more: &[Edge])
+fn add_each(edges: &mut Vec<Edge>, reached: &mut [Count; HART_ROW], start: &Counts, more: &[Edge])
     requires row { IsRow edges.old.items reached.old }
     requires others { All (λ e. e.other < length start.now) more.now }
     requires last { All (λ e. All (λ x. x.at ≤ e.at) edges.old.items) more.now }
@@ -205,7 +205,7 @@ impl Row {
     {
         Row {
             edges: Vec::new(alloc),
-            reached: [0; 8],
+            reached: [0; HART_ROW],
         }
     }
 

@@ -6,10 +6,9 @@ use Rattle.std.proofs.lemmas.Bool.{ltb-true}
 use Rattle.std.proofs.lemmas.List.Elements.{Contains-append_right}
 use Rattle.interleaving.specs.Lists.{put}
 use Rattle.interleaving.proofs.Cuts.{here}
-use Rattle.fragment_codec.specs.Rules.{IsGuest}
 use Rattle.log_join.specs.Stores.{IsStore}
 use Rattle.ft_types.specs.Counts.{count_at}
-use Rattle.ft_types.specs.declared.guest.Guest.{Guest}
+use Rattle.ft_types.specs.Guests.{GuestParts, IsGuest}
 use Rattle.log_join.specs.Stores.{StoreView, alone}
 use Rattle.closed_cut.specs.Position.{base_of, IsPosition, NoTop, Top}
 use Rattle.closed_cut.specs.declared.answer.Position.{Position}
@@ -34,7 +33,7 @@ in_list [] i x is = some_none is refl
 in_list (y ∷ xs) zero x is = subst (λ x. Contains (y ∷ xs) x) (some_same refl is) (here y xs)
 in_list (y ∷ xs) (suc i) x is = Contains-append_right (y ∷ []) xs x (in_list xs i x is)
 
-module _ {Book Fact Input : Type 0} (recorder : Recorder Book Fact) (guest : Guest) (tools : Tools recorder guest Input) (quorum : Quorum)
+module _ {Book Fact Input : Type 0} (recorder : Recorder Book Fact) (guest : GuestParts) (tools : Tools recorder guest Input) (quorum : Quorum)
     (rules : IsGuest guest) where
   joined_of : (stores : ℕ → Option StoreView) (chosen : ℕ → Bool) (n : ℕ) → all_there stores chosen n ≡ true →
       Joined guest stores chosen n (all_of recorder guest tools quorum stores chosen n)
@@ -202,7 +201,7 @@ module _ {Book Fact Input : Type 0} (recorder : Recorder Book Fact) (guest : Gue
   comes_all w c [] = c
   comes_all w c (e ∷ events) = comes_all (apply recorder guest tools quorum w e) (Then c (happens w c e)) events
 
-pub after_events : {Book Fact Input : Type 0} (recorder : Recorder Book Fact) (guest : Guest) (quorum : Quorum) → AfterEvents recorder guest Input quorum
+pub after_events : {Book Fact Input : Type 0} (recorder : Recorder Book Fact) (guest : GuestParts) (quorum : Quorum) → AfterEvents recorder guest Input quorum
 after_events recorder guest quorum rules tools events =
     failover recorder guest quorum (apply_all recorder guest tools quorum (first_world guest tools.boot) events)
     (comes_all recorder guest tools quorum rules (first_world guest tools.boot) (Begins tools.boot tools.boots) events)

@@ -10,7 +10,7 @@ use Rattle.interleaving.specs.Log.{Edge}
 use Rattle.interleaving.proofs.Put.{put_same}
 use Rattle.interleaving.proofs.Cuts.{here_or_later, here}
 use Rattle.edge_log.specs.EdgeLog.{edge_as}
-use Rattle.ft_types.specs.declared.guest.Guest.{Guest}
+use Rattle.ft_types.specs.Guests.{GuestParts}
 use Rattle.fragment_codec.specs.declared.types.Key.{Key}
 use Rattle.fragment_codec.specs.Rules.{FragmentParts}
 use Rattle.fragment_codec.specs.Pieces.{Facts, mark_behind, is_between, edge_in}
@@ -94,7 +94,7 @@ module _ {Book Fact : Type 0} (recorder : Recorder Book Fact) where
       same : filter_map edge_in x.records ≡ filter (λ e. is_between x.from x.to e.at) log.facts.edges
       same = ap (λ (f : Facts). f.edges) piece.exact
 
-  module _ (guest : Guest) (quorum : Quorum) where
+  module _ (guest : GuestParts) (quorum : Quorum) where
     pub seals_pieces : SealsPieces recorder guest quorum
     seals_pieces w p log old new [] comes runs is of_guest of_term of_book marked pieces = comes
     seals_pieces w p log old new (x ∷ xs) comes runs is of_guest of_term of_book marked (piece, rest) =

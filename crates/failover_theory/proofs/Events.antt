@@ -6,7 +6,7 @@ use Rattle.std.specs.Prelude.{slice_get}
 use Rattle.std.proofs.lemmas.Bool.{cases_lt}
 use Rattle.std.proofs.lemmas.List.Elements.{Contains-append_cases}
 use Rattle.ft_types.specs.Counts.{count_at}
-use Rattle.ft_types.specs.declared.guest.Guest.{Guest}
+use Rattle.ft_types.specs.Guests.{GuestParts}
 use Rattle.fragment_codec.specs.declared.types.Key.{Key}
 use Rattle.fragment_codec.specs.declared.frame.Frame.{Frame}
 use Rattle.fragment_codec.specs.declared.frame.Frame.TheVariants.{Log, Opening}
@@ -64,7 +64,7 @@ piece_at : {Book : Type 0} (terms : ℕ → Option (Past Book)) (p : Past Book) 
     slice_get (p.pieces k.hart) k.place ≡ Some x → OfFamily terms (Log x)
 piece_at terms p x k e is at = piece_granted terms x.key p x (ap (λ (k : Key). terms k.term) e ∙ is) (ap (λ (k : Key). slice_get (p.pieces k.hart) k.place) e ∙ at)
 
-module _ {Book Fact : Type 0} (recorder : Recorder Book Fact) (guest : Guest) (quorum : Quorum) where
+module _ {Book Fact : Type 0} (recorder : Recorder Book Fact) (guest : GuestParts) (quorum : Quorum) where
   own_of : (w : World Book) → Invariant recorder quorum w → (p : Past Book) → w.terms w.now ≡ Some p → Own recorder p
   own_of w v p is = let h = v.family.honest w.now p is in record { start = h.start; no_gap = h.no_gap; cut_from = h.cut_from }
 

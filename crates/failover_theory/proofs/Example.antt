@@ -15,9 +15,8 @@ use Rattle.interleaving.proofs.Cuts.{here}
 use Rattle.log_join.specs.Stores.{IsFragmentOf}
 use Rattle.log_join.proofs.Joins.{keys_total}
 use Rattle.closed_cut.proofs.Chains.{zero_row}
-use Rattle.fragment_codec.specs.Rules.{IsGuest}
 use Rattle.ft_types.specs.Counts.{count_at}
-use Rattle.ft_types.specs.declared.guest.Guest.{Guest}
+use Rattle.ft_types.specs.Guests.{GuestParts, IsGuest}
 use Rattle.fragment_codec.specs.declared.frame.Frame.{Frame}
 use Rattle.fragment_codec.specs.declared.frame.Frame.TheVariants.{Log, Opening}
 use Rattle.fragment_codec.specs.Rules.{FragmentParts}
@@ -47,7 +46,7 @@ one_there {K} {X} {R} total k x =
     (map.get-insert total map.empty k (Some x) k ∙
     ap (λ b. cond b (Some (Some x)) (map.get (map.empty {X = Option X} {R = R}) k)) ((eq_by_cmp_equiv total).refl k))
 
-module _ {Book Fact : Type 0} (recorder : Recorder Book Fact) (guest : Guest) (rules : IsGuest guest) (boot b : Book) (o : Output)
+module _ {Book Fact : Type 0} (recorder : Recorder Book Fact) (guest : GuestParts) (rules : IsGuest guest) (boot b : Book) (o : Output)
     (boots : IsBoot recorder boot)
     (goes : GoesTo recorder boot b) (out : slice_get (recorder.outputs b 0) 0 ≡ Some o) (at_0 : o.step ≡ 0) (one : 0 < recorder.counts b 0)
     (no_edges : (e : Edge) → Contains (recorder.edges b) e → ⊥) (lives : CanLive recorder) where

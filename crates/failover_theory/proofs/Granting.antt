@@ -3,8 +3,8 @@ use Rattle.std.proofs.Common.{◌≡◌, inl, inr, ℕ, zero, suc, ◌<◌, ◌�
 use Rattle.std.specs.List.{All, AllByRecursion}
 use Rattle.std.proofs.lemmas.Grind.{get_or_default_zero}
 use Rattle.ft_types.specs.Counts.{count_at, IsCount}
-use Rattle.ft_types.specs.declared.guest.Guest.{Guest}
-use Rattle.fragment_codec.specs.Rules.{IsGuest, IsOpening}
+use Rattle.ft_types.specs.Guests.{GuestParts, IsGuest}
+use Rattle.fragment_codec.specs.Rules.{IsOpening}
 use Rattle.log_join.specs.Stores.{StoreView, IsJoin, nothing}
 use Rattle.log_join.proofs.Told.{openings_told, fragments_told}
 use Rattle.log_join.proofs.Cells.{cells_join}
@@ -25,7 +25,7 @@ pub a_join : (a b : StoreView) → (c : StoreView) × IsJoin a b c
 a_join a b = (one_join (cells_join openings_told) (cells_join fragments_told) a b).there
 
 -- the chosen keepers' stores have a join
-pub all_joined : (guest : Guest) (stores : ℕ → Option StoreView) (chosen : ℕ → Bool) (n : ℕ) →
+pub all_joined : (guest : GuestParts) (stores : ℕ → Option StoreView) (chosen : ℕ → Bool) (n : ℕ) →
     ((keeper : ℕ) → keeper < n → chosen keeper ≡ true → (s : StoreView) × (stores keeper ≡ Some s)) →
     (all : StoreView) × Joined guest stores chosen n all
 all_joined guest stores chosen zero has = (nothing guest, NoneYet)
@@ -42,7 +42,7 @@ all_joined guest stores chosen (suc n) has =
 all_zero : (row : List ℕ) → ((h : ℕ) → count_at row h ≡ 0) → All (λ n. n ≡ 0) row
 all_zero row zeros k d less = get_or_default_zero row k d less ∙ zeros k
 
-module _ {Book Fact : Type 0} (recorder : Recorder Book Fact) (guest : Guest) (quorum : Quorum) where
+module _ {Book Fact : Type 0} (recorder : Recorder Book Fact) (guest : GuestParts) (quorum : Quorum) where
   -- a later term's opening at a position of a join of keepers' stores keeps the rules
   pub opening_right : IsGuest guest → (w : World Book) → Comes recorder guest quorum w → (chosen : ℕ → Bool) (all : StoreView) →
       Joined guest w.stores chosen quorum.keepers all →
@@ -55,7 +55,7 @@ module _ {Book Fact : Type 0} (recorder : Recorder Book Fact) (guest : Guest) (q
         granted = omega arith;
         term = low;
         parent = let o : p.term ≤ w.now = old in omega arith;
-        base = many ∙ ap (λ (g : Guest). g.harts) (right.joined_guests chosen quorum.keepers all j);
+        base = many ∙ ap (λ (g : GuestParts). g.harts) (right.joined_guests chosen quorum.keepers all j);
         counts = counts;
         boot = boot;
       }

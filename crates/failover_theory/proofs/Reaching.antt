@@ -4,7 +4,7 @@ use Rattle.log_join.specs.Families.{Past}
 use Rattle.std.proofs.lemmas.Bool.{cases_lt}
 use Rattle.interleaving.specs.Log.{IsClosed}
 use Rattle.ft_types.specs.Counts.{count_at}
-use Rattle.ft_types.specs.declared.guest.Guest.{Guest}
+use Rattle.ft_types.specs.Guests.{GuestParts}
 use Rattle.log_join.specs.Stores.{StoreView}
 use Rattle.closed_cut.specs.Position.{IsReached, base_of, IsPosition}
 use Rattle.closed_cut.specs.declared.answer.Position.{Position}
@@ -45,7 +45,7 @@ growth {Book} {Fact} recorder terms s r term p limit before family honest_s hone
             )
             (λ hart. omega arith)
 
-module _ {Book Fact : Type 0} (recorder : Recorder Book Fact) (guest : Guest) (quorum : Quorum) where
+module _ {Book Fact : Type 0} (recorder : Recorder Book Fact) (guest : GuestParts) (quorum : Quorum) where
   pub lower : (w : World Book) → Comes recorder guest quorum w → (keeper : ℕ) (s : StoreView) (p : Position) → w.stores keeper ≡ Some s → IsPosition s p →
       p.term ≡ w.now →
       (hart : ℕ) → w.acked keeper hart ≤ (count_at p.counts) hart
@@ -70,5 +70,5 @@ module _ {Book Fact : Type 0} (recorder : Recorder Book Fact) (guest : Guest) (q
                 ]
           ]
 
-pub never_lower : {Book Fact : Type 0} (recorder : Recorder Book Fact) (guest : Guest) (quorum : Quorum) → NeverLower recorder guest quorum
+pub never_lower : {Book Fact : Type 0} (recorder : Recorder Book Fact) (guest : GuestParts) (quorum : Quorum) → NeverLower recorder guest quorum
 never_lower recorder guest quorum w c = lower recorder guest quorum w c

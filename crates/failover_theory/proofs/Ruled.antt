@@ -9,8 +9,8 @@ use Rattle.std.proofs.lemmas.List.Elements.{All-replicate}
 use Rattle.interleaving.specs.Lists.{put}
 use Rattle.interleaving.proofs.Put.{same_or_not, put_same, put_other}
 use Rattle.ft_types.specs.Counts.{IsCount}
-use Rattle.ft_types.specs.declared.guest.Guest.{Guest}
-use Rattle.fragment_codec.specs.Rules.{FragmentParts, OpeningParts, IsGuest}
+use Rattle.ft_types.specs.Guests.{GuestParts, IsGuest}
+use Rattle.fragment_codec.specs.Rules.{FragmentParts, OpeningParts}
 use Rattle.log_join.specs.Stores.{StoreView, IsOpeningOf, IsFragmentOf, IsStore}
 use Rattle.failover_theory.specs.Recorders.{Recorder}
 use Rattle.failover_theory.specs.Worlds.{World, Quorum, Joined, NoneYet, Skip, Take, first_opening, first_term, new_term, Happens, Idle, Step, Seal, Deliver, Join, Acknowledge, Release, Stop, Lose, Grant, Comes, Begins, Then}
@@ -21,27 +21,27 @@ use Rattle.failover_theory.proofs.Invariant.{Invariant}
 use Rattle.failover_theory.proofs.Events.{always}
 
 -- the frames of the family are of this guest and keep the rules
-pub record IsRuled {Book : Type 0} (guest : Guest) (terms : ℕ → Option (Past Book)) : Type 0 where
+pub record IsRuled {Book : Type 0} (guest : GuestParts) (terms : ℕ → Option (Past Book)) : Type 0 where
   pub openings : (term : ℕ) (p : Past Book) → terms term ≡ Some p → IsOpeningOf guest term p.opening
   pub pieces : (term : ℕ) (p : Past Book) (hart place : ℕ) (x : FragmentParts) → terms term ≡ Some p → slice_get (p.pieces hart) place ≡ Some x →
       IsFragmentOf guest (record { term = term; hart = hart; place = place }) x
 
-pub honest_is_store : {Book : Type 0} (guest : Guest) (terms : ℕ → Option (Past Book)) (s : StoreView) → IsRuled guest terms → HonestStore terms s →
+pub honest_is_store : {Book : Type 0} (guest : GuestParts) (terms : ℕ → Option (Past Book)) (s : StoreView) → IsRuled guest terms → HonestStore terms s →
     s.guest ≡ guest → IsStore s
 honest_is_store guest terms s ruled honest of_guest =
     record {
       openings =
           λ term o one.
           let (p, is, e) = an_opening terms s term o honest one in
-          subst (λ (g : Guest). IsOpeningOf g term o) (sym of_guest) (subst (λ (o : OpeningParts). IsOpeningOf guest term o) e (ruled.openings term p is));
+          subst (λ (g : GuestParts). IsOpeningOf g term o) (sym of_guest) (subst (λ (o : OpeningParts). IsOpeningOf guest term o) e (ruled.openings term p is));
       fragments =
           λ k x one.
           let (p, is, at) = a_piece terms s k.term k.hart k.place x honest one in
-          subst (λ (g : Guest). IsFragmentOf g k x) (sym of_guest) (ruled.pieces k.term p k.hart k.place x is at);
+          subst (λ (g : GuestParts). IsFragmentOf g k x) (sym of_guest) (ruled.pieces k.term p k.hart k.place x is at);
     }
 
 -- one term changes
-ruled_put : {Book : Type 0} (guest : Guest) (terms : ℕ → Option (Past Book)) (u : ℕ) (new : Past Book) → IsRuled guest terms → IsOpeningOf guest u new.opening →
+ruled_put : {Book : Type 0} (guest : GuestParts) (terms : ℕ → Option (Past Book)) (u : ℕ) (new : Past Book) → IsRuled guest terms → IsOpeningOf guest u new.opening →
     ((hart place : ℕ) (x : FragmentParts) → slice_get (new.pieces hart) place ≡ Some x →
     IsFragmentOf guest (record { term = u; hart = hart; place = place }) x) → IsRuled guest (put terms u (Some new))
 ruled_put {Book} guest terms u new ruled opening pieces =
@@ -80,7 +80,7 @@ zeros_are_counts : (n : ℕ) → AllByRecursion IsCount (replicate n 0)
 zeros_are_counts zero = tt
 zeros_are_counts (suc n) = (omega arith, zeros_are_counts n)
 
-pub first_rules : (guest : Guest) → IsGuest guest → IsOpeningOf guest 1 (first_opening guest)
+pub first_rules : (guest : GuestParts) → IsGuest guest → IsOpeningOf guest 1 (first_opening guest)
 first_rules guest rules =
     record {
       rules =
@@ -97,7 +97,7 @@ first_rules guest rules =
       same_term = refl;
     }
 
-module _ {Book Fact : Type 0} (recorder : Recorder Book Fact) (guest : Guest) (quorum : Quorum) where
+module _ {Book Fact : Type 0} (recorder : Recorder Book Fact) (guest : GuestParts) (quorum : Quorum) where
   -- of a world
   pub record IsOfRules (w : World Book) : Type 0 where
     pub terms : IsRuled guest w.terms

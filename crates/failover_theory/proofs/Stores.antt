@@ -5,7 +5,7 @@ use Rattle.log_join.specs.FamilyLaws.{IsHonestJoin}
 use Rattle.std.specs.Prelude.{slice_get}
 use Rattle.std.proofs.lemmas.Bool.{cases_lt}
 use Rattle.interleaving.specs.Lists.{Each, EachPair}
-use Rattle.ft_types.specs.declared.guest.Guest.{Guest}
+use Rattle.ft_types.specs.Guests.{GuestParts}
 use Rattle.log_join.specs.Stores.{StoreView, IsJoin}
 use Rattle.log_join.proofs.Families.{joins_honest, honest_nothing}
 use Rattle.failover_theory.specs.Lists.{how_many}
@@ -33,7 +33,7 @@ module _ {Book : Type 0} (terms : ℕ → Option (Past Book)) where
     pub honest : HonestStore terms all
     pub has : (keeper : ℕ) → keeper < n → chosen keeper ≡ true → (s : StoreView) × (stores keeper ≡ Some s) × Below s all
 
-  pub honest_joined : (guest : Guest) (stores : ℕ → Option StoreView) (chosen : ℕ → Bool) → HonestStores stores → {n : ℕ} {all : StoreView} →
+  pub honest_joined : (guest : GuestParts) (stores : ℕ → Option StoreView) (chosen : ℕ → Bool) → HonestStores stores → {n : ℕ} {all : StoreView} →
       Joined guest stores chosen n all →
       HonestJoined stores chosen n all
   honest_joined guest stores chosen honest NoneYet = record { honest = honest_nothing terms guest; has = λ keeper less is. absurd (omega arith) }

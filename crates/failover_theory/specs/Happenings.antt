@@ -5,9 +5,9 @@ use Rattle.std.specs.Prelude.{slice_get}
 use Rattle.std.specs.List.{AllByRecursion}
 use Rattle.interleaving.specs.Lists.{put}
 use Rattle.ft_types.specs.Counts.{count_at, IsCount}
-use Rattle.ft_types.specs.declared.guest.Guest.{Guest}
+use Rattle.ft_types.specs.Guests.{GuestParts, IsGuest}
 use Rattle.fragment_codec.specs.declared.types.Key.{Key}
-use Rattle.fragment_codec.specs.Rules.{FragmentParts, IsGuest}
+use Rattle.fragment_codec.specs.Rules.{FragmentParts}
 use Rattle.log_join.specs.Stores.{StoreView, IsStore, IsFragmentOf, IsJoin, nothing, alone}
 use Rattle.closed_cut.specs.Position.{base_of, IsPosition}
 use Rattle.closed_cut.specs.declared.answer.Position.{Position}
@@ -34,7 +34,7 @@ abbrev pub all_there : (ℕ → Option StoreView) → (ℕ → Bool) → ℕ →
 all_there stores chosen zero = true
 all_there stores chosen (suc n) = cond (chosen n) (option (stores n) false (λ s. all_there stores chosen n)) (all_there stores chosen n)
 
-module _ {Book Fact : Type 0} (recorder : Recorder Book Fact) (guest : Guest) where
+module _ {Book Fact : Type 0} (recorder : Recorder Book Fact) (guest : GuestParts) where
   -- what begins books, takes steps, joins stores, finds positions, and cuts pieces or can't
   pub record Tools (Input : Type 0) : Type 0 where
     pub boot : Book

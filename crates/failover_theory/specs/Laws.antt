@@ -4,10 +4,10 @@ use Rattle.log_join.specs.Families.{Past, OfFamily, HonestStore, Below}
 use Rattle.std.specs.Prelude.{slice_get}
 use Rattle.std.specs.List.{AllByRecursion}
 use Rattle.ft_types.specs.Counts.{count_at, IsCount}
-use Rattle.ft_types.specs.declared.guest.Guest.{Guest}
+use Rattle.ft_types.specs.Guests.{GuestParts, IsGuest}
 use Rattle.interleaving.specs.Log.{Edge}
 use Rattle.fragment_codec.specs.declared.frame.Frame.{Frame}
-use Rattle.fragment_codec.specs.Rules.{IsGuest, IsOpening}
+use Rattle.fragment_codec.specs.Rules.{IsOpening}
 use Rattle.log_join.specs.Cells.{One}
 use Rattle.log_join.specs.Stores.{StoreView, IsStore, opening_at}
 use Rattle.closed_cut.specs.Position.{base_of, IsReached, IsPosition}
@@ -31,7 +31,7 @@ Growth {Book} {Fact} recorder =
 -- ---- failover
 
 -- the chosen keepers' stores have a join, with a position from which a later term can begin
-pub record CanGo {Book : Type 0} (quorum : Quorum) (guest : Guest) (w : World Book) (chosen : ℕ → Bool) : Type 0 where
+pub record CanGo {Book : Type 0} (quorum : Quorum) (guest : GuestParts) (w : World Book) (chosen : ℕ → Bool) : Type 0 where
   pub all : StoreView
   pub position : Position
   pub joined : Joined guest w.stores chosen quorum.keepers all
@@ -69,28 +69,28 @@ module _ {Book Fact : Type 0} (recorder : Recorder Book Fact) where
     pub current : (r : Released) (p : Past Book) → Contains w.released r → w.terms w.now ≡ Some p →
         slice_get (recorder.outputs p.told r.hart) r.number ≡ Some r.output
 
-  abbrev pub Failover : Guest → Quorum → Type 0
+  abbrev pub Failover : GuestParts → Quorum → Type 0
   Failover guest quorum = (w : World Book) → Comes recorder guest quorum w → IsFailover quorum w
 
   -- no acknowledgement of the term is below one before it
-  abbrev pub NeverLower : Guest → Quorum → Type 0
+  abbrev pub NeverLower : GuestParts → Quorum → Type 0
   NeverLower guest quorum =
       (w : World Book) → Comes recorder guest quorum w →
       (keeper : ℕ) (s : StoreView) (p : Position) → w.stores keeper ≡ Some s → IsPosition s p → p.term ≡ w.now → (hart : ℕ) →
       w.acked keeper hart ≤ count_at p.counts hart
 
   -- the stores of keepers, and their joins, are stores of the guest that keep all rules
-  pub record AreStores (guest : Guest) (w : World Book) : Type 0 where
+  pub record AreStores (guest : GuestParts) (w : World Book) : Type 0 where
     pub keepers : (keeper : ℕ) (s : StoreView) → w.stores keeper ≡ Some s → IsStore s
     pub guests : (keeper : ℕ) (s : StoreView) → w.stores keeper ≡ Some s → s.guest ≡ guest
     pub joined : (chosen : ℕ → Bool) (n : ℕ) (all : StoreView) → Joined guest w.stores chosen n all → IsStore all
     pub joined_guests : (chosen : ℕ → Bool) (n : ℕ) (all : StoreView) → Joined guest w.stores chosen n all → all.guest ≡ guest
 
-  abbrev pub StoresAreRight : Guest → Quorum → Type 0
+  abbrev pub StoresAreRight : GuestParts → Quorum → Type 0
   StoresAreRight guest quorum = IsGuest guest → (w : World Book) → Comes recorder guest quorum w → AreStores guest w
 
   -- nobody is stuck for want of a position: a term can begin from any keepers that have stores
-  abbrev pub CanGrant : Guest → Quorum → Type 0
+  abbrev pub CanGrant : GuestParts → Quorum → Type 0
   CanGrant guest quorum =
       IsGuest guest → (w : World Book) → Comes recorder guest quorum w → (chosen : ℕ → Bool) →
       ((keeper : ℕ) → keeper < quorum.keepers → chosen keeper ≡ true → (s : StoreView) × (w.stores keeper ≡ Some s)) → CanGo quorum guest w chosen
@@ -98,7 +98,7 @@ module _ {Book Fact : Type 0} (recorder : Recorder Book Fact) where
   -- there is a world where an output was released by a keeper's acknowledgement and a second term is live
   abbrev pub Reaches : Type 0
   Reaches =
-      (guest : Guest) → IsGuest guest → (boot b : Book) (o : Output) → IsBoot recorder boot → GoesTo recorder boot b →
+      (guest : GuestParts) → IsGuest guest → (boot b : Book) (o : Output) → IsBoot recorder boot → GoesTo recorder boot b →
       slice_get (recorder.outputs b 0) 0 ≡ Some o → o.step ≡ 0 → 0 < recorder.counts b 0 → ((e : Edge) → Contains (recorder.edges b) e → ⊥) →
       CanLive recorder →
       (w : World Book) × Comes recorder guest (record { keepers = 1; need = 1 }) w × (w.now ≡ 2) × ((r : Released) × Contains w.released r × (r.output ≡ o))

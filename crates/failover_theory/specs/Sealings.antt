@@ -4,7 +4,7 @@ use Rattle.log_join.specs.Families.{Past, end_of}
 use Rattle.interleaving.specs.Lists.{put}
 use Rattle.interleaving.specs.Log.{Edge}
 use Rattle.edge_log.specs.EdgeLog.{edge_as}
-use Rattle.ft_types.specs.declared.guest.Guest.{Guest}
+use Rattle.ft_types.specs.Guests.{GuestParts}
 use Rattle.fragment_codec.specs.Rules.{FragmentParts}
 use Rattle.fragment_codec.specs.Pieces.{HartLog, Mark, IsPiece, ArePieces}
 use Rattle.closed_cut.specs.Position.{base_of}
@@ -26,7 +26,7 @@ module _ {Book Fact : Type 0} (recorder : Recorder Book Fact) where
   abbrev pub PiecesAreCuts : Type 0
   PiecesAreCuts = (b : Book) (log : HartLog) (mark : Mark) (x : FragmentParts) → IsLogOf b log → IsPiece log mark x → IsCutFrom recorder b log.hart x
 
-  module _ (guest : Guest) (quorum : Quorum) where
+  module _ (guest : GuestParts) (quorum : Quorum) where
     abbrev pub sealed_all : World Book → Past Book → ℕ → List FragmentParts → World Book
     sealed_all w p hart [] = w
     sealed_all w p hart (x ∷ xs) = sealed_all (sealed w p hart x) (with_piece p hart x) hart xs

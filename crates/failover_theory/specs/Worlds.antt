@@ -4,7 +4,7 @@ use Rattle.log_join.specs.Families.{Past, end_of}
 use Rattle.std.specs.Prelude.{slice_get}
 use Rattle.interleaving.specs.Lists.{put}
 use Rattle.ft_types.specs.Counts.{count_at}
-use Rattle.ft_types.specs.declared.guest.Guest.{Guest}
+use Rattle.ft_types.specs.Guests.{GuestParts}
 use Rattle.fragment_codec.specs.declared.frame.Frame.{Frame}
 use Rattle.fragment_codec.specs.declared.frame.Frame.TheVariants.{Log, Opening}
 use Rattle.fragment_codec.specs.Rules.{FragmentParts, OpeningParts, IsOpening}
@@ -37,23 +37,23 @@ pub record Quorum : Type 0 where
   pub need : ℕ
 
 -- the store is the join of those of the chosen keepers below n, each of which has one
-pub data Joined (guest : Guest) (stores : ℕ → Option StoreView) (chosen : ℕ → Bool) : ℕ → StoreView → Type 0 where
+pub data Joined (guest : GuestParts) (stores : ℕ → Option StoreView) (chosen : ℕ → Bool) : ℕ → StoreView → Type 0 where
   NoneYet : Joined guest stores chosen 0 (nothing guest)
   Skip : {n : ℕ} {s : StoreView} → chosen n ≡ false → Joined guest stores chosen n s → Joined guest stores chosen (suc n) s
   Take : {n : ℕ} {s t : StoreView} (r : StoreView) → chosen n ≡ true → stores n ≡ Some r → Joined guest stores chosen n s → IsJoin r s t →
       Joined guest stores chosen (suc n) t
 
 -- the opening of a term that goes live at a position
-abbrev pub new_opening : Guest → ℕ → Position → OpeningParts
+abbrev pub new_opening : GuestParts → ℕ → Position → OpeningParts
 new_opening guest u p = record { guest = guest; term = u; parent = p.term; base = p.counts }
 
-abbrev pub first_opening : Guest → OpeningParts
+abbrev pub first_opening : GuestParts → OpeningParts
 first_opening guest = record { guest = guest; term = 1; parent = 0; base = replicate guest.harts 0 }
 
-abbrev pub first_term : {Book : Type 0} → Guest → Book → Past Book
+abbrev pub first_term : {Book : Type 0} → GuestParts → Book → Past Book
 first_term guest b = record { opening = first_opening guest; told = b; pieces = λ hart. [] }
 
-abbrev pub first_world : {Book : Type 0} → Guest → Book → World Book
+abbrev pub first_world : {Book : Type 0} → GuestParts → Book → World Book
 first_world guest b =
     record {
       now = 1;
@@ -66,7 +66,7 @@ first_world guest b =
     }
 
 -- the term that goes live at a position, with this book
-abbrev pub new_term : {Book : Type 0} → Guest → ℕ → Position → Book → Past Book
+abbrev pub new_term : {Book : Type 0} → GuestParts → ℕ → Position → Book → Past Book
 new_term guest u p b = record { opening = new_opening guest u p; told = b; pieces = λ hart. [] }
 
 abbrev pub stepped : {Book : Type 0} → World Book → Past Book → Book → World Book
@@ -82,7 +82,7 @@ sealed w p hart x =
 abbrev pub held : {Book : Type 0} → World Book → ℕ → StoreView → World Book
 held w keeper s = record w { stores = put w.stores keeper (Some s) }
 
-abbrev pub granted : {Book : Type 0} → Guest → World Book → ℕ → Position → Book → World Book
+abbrev pub granted : {Book : Type 0} → GuestParts → World Book → ℕ → Position → Book → World Book
 granted guest w u p b =
     record w {
       now = u;
@@ -98,7 +98,7 @@ module _ {Book Fact : Type 0} (recorder : Recorder Book Fact) where
     AtBoot : terms p.term ≡ None → IsBoot recorder b → BeginsAt terms p b
     AtCut : (q : Past Book) → terms p.term ≡ Some q → LivesOn recorder q.told (count_at p.counts) b → BeginsAt terms p b
 
-module _ {Book Fact : Type 0} (recorder : Recorder Book Fact) (guest : Guest) (quorum : Quorum) where
+module _ {Book Fact : Type 0} (recorder : Recorder Book Fact) (guest : GuestParts) (quorum : Quorum) where
   -- what may happen next
   pub data Happens (w : World Book) : World Book → Type 0 where
     -- an input is offered, which only waits, or an event is refused

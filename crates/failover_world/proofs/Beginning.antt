@@ -16,7 +16,8 @@ use Rattle.guest_image.specs.Machine.{MachineState, boot_machine}
 use Rattle.hart_lease.specs.Runs.{counts_of, steps_taken}
 use Rattle.fragment_codec.specs.declared.frame.Frame.{Frame}
 use Rattle.fragment_codec.specs.declared.frame.Frame.TheVariants.{Opening}
-use Rattle.fragment_codec.specs.Rules.{OpeningParts, IsGuest}
+use Rattle.ft_types.specs.Guests.{IsGuest}
+use Rattle.fragment_codec.specs.Rules.{OpeningParts}
 use Rattle.log_join.specs.Families.{Past, Family, no_terms}
 use Rattle.log_join.specs.Stores.{StoreView, nothing}
 use Rattle.closed_cut.proofs.Chains.{zero_row}

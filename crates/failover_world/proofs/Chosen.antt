@@ -7,7 +7,7 @@ use Rattle.std.proofs.Math.Path.{fun_ext}
 use Rattle.interleaving.specs.Lists.{put}
 use Rattle.interleaving.proofs.Put.{same_or_not, put_same, put_other}
 use Rattle.guest_image.specs.Image.{guest_of}
-use Rattle.fragment_codec.specs.Rules.{IsGuest}
+use Rattle.ft_types.specs.Guests.{IsGuest}
 use Rattle.log_join.specs.Families.{Past, opening_of, piece_of, HonestStore}
 use Rattle.log_join.specs.Stores.{StoreView, nothing}
 use Rattle.hart_replay.specs.Images.{GuestHistory, IsHistoryOf}

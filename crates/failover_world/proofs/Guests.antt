@@ -1,10 +1,9 @@
 -- Stores and frames of one guest.
 use Rattle.std.proofs.Common.{◌≡◌, ◌≢◌, ℕ, Bool, true, false, Contains, Some, sym, ap, subst, ◌∙◌, if◌then◌else◌}
-use Rattle.ft_types.specs.declared.guest.Guest.{Guest}
+use Rattle.ft_types.specs.Guests.{GuestParts, IsGuest}
 use Rattle.guest_image.specs.Image.{guest_of}
 use Rattle.fragment_codec.specs.declared.frame.Frame.{Frame}
 use Rattle.fragment_codec.specs.declared.frame.Frame.TheVariants.{Log, Opening}
-use Rattle.fragment_codec.specs.Rules.{IsGuest}
 use Rattle.log_join.specs.declared.answers.Put.TheVariants.{Same, Clash as Clashes, OtherGuest}
 use Rattle.log_join.specs.Cells.{Cell, Absent, One, Clash}
 use Rattle.log_join.specs.Tests.{same_guest, same_opening, same_fragment}
@@ -42,11 +41,11 @@ not_other same Absent x = λ e. cc
 not_other same (One y) x = same_or_clash (same y x)
 not_other same Clash x = λ e. cc
 
-is_own : (a b : Guest) → a ≡ b → same_guest a b ≡ true
+is_own : (a b : GuestParts) → a ≡ b → same_guest a b ≡ true
 is_own a b same = (guests_told a b).1 same
 
 -- whose frame it is
-abbrev guest_in : Frame → Guest
+abbrev guest_in : Frame → GuestParts
 guest_in (Opening o) = o.guest
 guest_in (Log x) = x.guest
 

@@ -6,7 +6,8 @@ use Rattle.guest_image.specs.Image.{guest_of}
 use Rattle.hart_lease.specs.Runs.{LeadsTo}
 use Rattle.book_modes.specs.Recordings.{heard_by}
 use Rattle.fragment_codec.specs.declared.frame.Frame.TheVariants.{Opening}
-use Rattle.fragment_codec.specs.Rules.{OpeningParts, IsGuest}
+use Rattle.ft_types.specs.Guests.{IsGuest}
+use Rattle.fragment_codec.specs.Rules.{OpeningParts}
 use Rattle.log_join.specs.Families.{Past}
 use Rattle.closed_cut.specs.declared.answer.Position.{Position}
 use Rattle.failover_world.specs.declared.released.Released.{Released}

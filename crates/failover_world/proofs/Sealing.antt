@@ -9,7 +9,7 @@ use Rattle.interleaving.specs.Lists.{put}
 use Rattle.interleaving.specs.Log.{Edge, Log as EdgesAndInputs}
 use Rattle.interleaving.proofs.Put.{same_or_not, put_same, put_other}
 use Rattle.ft_types.specs.Counts.{count_at}
-use Rattle.ft_types.specs.declared.guest.Guest.{Guest}
+use Rattle.ft_types.specs.Guests.{GuestParts}
 use Rattle.page_book.specs.Books.{BookView}
 use Rattle.book_modes.specs.Recordings.{RecordingView}
 use Rattle.edge_log.specs.EdgeLog.{edge_as, row_of, edges_of}
@@ -73,7 +73,7 @@ module _ (book : BookView RecordingView) (hart from : ℕ) where
     pub tell : (place : ℕ) (x : FragmentParts) → slice_get xs place ≡ Some x → IsPieceOf book hart x
     pub at_mark : mark ≡ record { place = length xs; count = end_of from xs }
 
-  one_more : (guest : Guest) (term : ℕ) (xs : List FragmentParts) (x : FragmentParts) (mark : Mark) → StandAt xs mark →
+  one_more : (guest : GuestParts) (term : ℕ) (xs : List FragmentParts) (x : FragmentParts) (mark : Mark) → StandAt xs mark →
       IsPiece (book_log guest term book hart) mark x → StandAt (xs ++ x ∷ []) (mark_behind x)
   one_more guest term xs x mark stand piece =
       let own : x.key.hart ≡ hart = ap (λ (k : Key). k.hart) piece.key in
@@ -88,7 +88,7 @@ module _ (book : BookView RecordingView) (hart from : ℕ) where
         at_mark = λ i. record { place = place i; count = sym (end_more from xs x) i };
       }
 
-  more_stand : (guest : Guest) (term : ℕ) (xs more : List FragmentParts) (old new : Mark) → StandAt xs old →
+  more_stand : (guest : GuestParts) (term : ℕ) (xs more : List FragmentParts) (old new : Mark) → StandAt xs old →
       ArePieces (book_log guest term book hart) old more new → StandAt (xs ++ more) new
   more_stand guest term xs [] old new stand same =
       subst (λ ys. StandAt ys new) (sym (append-nil xs)) (subst (StandAt xs) (sym same) stand)

@@ -1,6 +1,7 @@
 -- What each event does to the world.
 use Rattle.std.specs.Prelude.{ℕ, ◌≡◌, ◌≢◌, ◌<◌, ◌++◌, ◌∷◌, ◌==◌, [], List, true, false, map, replicate, slice_get, slice_set, Option, Some, None, All, if◌then◌else◌}
 use Rattle.std.specs.List.{list_any, flat_map, enumerate_from}
+use Rattle.ft_types.specs.declared.names.TheConstants.{HART_LIMIT}
 use Rattle.input_log.specs.declared.Input.{Input}
 use Rattle.guest_image.specs.Image.{guest_of}
 use Rattle.book_modes.specs.Recordings.{IsOffered, IsUnused}
@@ -78,7 +79,7 @@ pub record Releases (v : WorldView) (w : WorldView) : Type 0 where
   pub more : OffersMore v.gate offered
   pub all : AreAllOffered offered.gate v.primary.book.machine
   pub acked : AreAcked v.gate w.gate.gate.noted
-  pub lines : (hart : ℕ) → hart < 8 → line_of w.gate.gate hart ≡ after_release v.need w.gate.gate.noted (line_of offered.gate hart)
+  pub lines : (hart : ℕ) → hart < HART_LIMIT → line_of w.gate.gate hart ≡ after_release v.need w.gate.gate.noted (line_of offered.gate hart)
   pub gate : w.gate ≡ record v.gate { gate = record v.gate.gate { noted = w.gate.gate.noted; lines = w.gate.gate.lines } }
   pub rest : w ≡ record v {
     gate = w.gate;

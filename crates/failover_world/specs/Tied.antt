@@ -1,7 +1,8 @@
 -- What ties the world to the theory of failover. Machinery: nothing here needs to be believed.
 use Rattle.std.specs.Prelude.{ℕ, ◌≡◌, ◌<◌, ◌≤◌, List, length, map, Contains, slice_index_or, Option, Some, None}
+use Rattle.ft_types.specs.declared.names.TheConstants.{KEEPER_LIMIT}
 use Rattle.ft_types.specs.Counts.{count_at}
-use Rattle.ft_types.specs.declared.guest.Guest.{Guest}
+use Rattle.ft_types.specs.Guests.{GuestParts, IsGuest}
 use Rattle.interleaving.specs.Lists.{put}
 use Rattle.interleaving.specs.Stored.{system_of}
 use Rattle.rv32_hart.specs.Hardware.{hardware}
@@ -9,7 +10,7 @@ use Rattle.guest_image.specs.Image.{guest_of}
 use Rattle.page_book.specs.Books.{BookView}
 use Rattle.book_modes.specs.Recordings.{RecordingView}
 use Rattle.fragment_codec.specs.declared.frame.Frame.TheVariants.{Opening}
-use Rattle.fragment_codec.specs.Rules.{FragmentParts, IsGuest, IsOpening}
+use Rattle.fragment_codec.specs.Rules.{FragmentParts, IsOpening}
 use Rattle.log_join.specs.Families.{Past, Family}
 use Rattle.log_join.specs.Stores.{nothing}
 use Rattle.hart_replay.specs.Images.{GuestTerm, GuestHistory, boot_of}
@@ -60,7 +61,7 @@ module _ (pages : ℕ) (is : AreTheory pages) where
   told_as t = is.book t.book t.is
 
   -- the world, as the theory has it
-  abbrev pub theory_world : Guest → WorldView → Family (TermBook pages) → List theory.Released → theory.World Books
+  abbrev pub theory_world : GuestParts → WorldView → Family (TermBook pages) → List theory.Released → theory.World Books
   theory_world guest v terms released =
       record {
         now = term_of v;
@@ -82,7 +83,7 @@ live_book v pieces is = record { opening = v.primary.opening; pieces = pieces; t
 -- the parts of the world fit together
 pub record AreParts (v : WorldView) : Type 0 where
   pub guest : IsGuest (guest_of v.image)
-  pub quorum : (0 < v.need) × (v.need ≤ v.keepers) × (v.keepers ≤ 5)
+  pub quorum : (0 < v.need) × (v.need ≤ v.keepers) × (v.keepers ≤ KEEPER_LIMIT)
   pub stores : length v.stores ≡ v.keepers
   pub idle : IsIdle v.primary.book
   pub within : (hart : ℕ) → counts_of v.primary.book.machine hart ≤ count_at v.primary.book.mode.limits hart

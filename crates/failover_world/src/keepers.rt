@@ -2,6 +2,7 @@
 
 ghost use Rattle.std.specs.Prelude.{◌≡◌, ◌≢◌, ◌<◌, ◌≤◌, ℕ, length, map, replicate, slice_set, None, Some, IsTrue, IfOk, OnOk, OnErr, IfSome, IfNone, All, ◌↔◌, ◌+◌, ◌++◌, vec_len, vec_capacity};
 ghost use Rattle.std.specs.List.{Any};
+ghost use Rattle.ft_types.specs.declared.names.TheConstants.{KEEPER_LIMIT};
 ghost use Rattle.log_join.specs.Stores.{StoreView, IsJoin, alone, nothing};
 ghost use Rattle.log_join.specs.Answers.{answer_to};
 ghost use Rattle.log_join.specs.declared.answers.Put.TheVariants.{OtherGuest};
@@ -44,7 +45,7 @@ pub(crate) fn held_by(stores: &[Option<Tracked>], number: u64) -> Option<&Tracke
 
 /// The keeper of this number, where there is one that is not lost.
 pub(crate) fn keeper_at(stores: &[Option<Tracked>], number: u64) -> Option<Keeper>
-    requires { length stores.now ≤ 5 }
+    requires { length stores.now ≤ KEEPER_LIMIT }
     ensures some { IfSome result (λ k. k ≡ number) }
     ensures below { IfSome result (λ k. number < length stores.now) }
     ensures there { IfSome result (λ k. (s : StoreView) × (store_at stores.now number ≡ Some s)) }
@@ -131,7 +132,7 @@ fn add_if_named<'a>(
     number: usize,
     numbers: &[u64],
 )
-    requires few { number < 5 }
+    requires few { number < KEEPER_LIMIT }
     requires room { vec_len named.old < vec_capacity named.old }
     ensures keepers { map (λ s. s.0) named.new.items
         ≡ map (λ s. s.0) named.old.items ++ map (λ s. s.0) (if_named numbers.now number (store_at stores.now number)) }
@@ -154,7 +155,7 @@ pub(crate) fn stores_named<'a>(
     stores: &'a [Option<Tracked>],
     numbers: &[u64],
 ) -> Result<Vec<(Keeper, &'a Store)>, Memory>
-    requires { length stores.now ≤ 5 }
+    requires { length stores.now ≤ KEEPER_LIMIT }
     ensures keepers { IfOk result (λ named. map (λ s. s.0) named.items ≡ map (λ s. s.0) (stores_of stores.now numbers.now)) }
     ensures stores { IfOk result (λ named. map (λ s. s.1.now) named.items ≡ map (λ s. s.1) (stores_of stores.now numbers.now)) }
 {

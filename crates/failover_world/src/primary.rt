@@ -1,7 +1,8 @@
 //! A primary of the world: its term's opening, its book, and how far its log went out.
 
 ghost use Rattle.std.specs.Prelude.{◌≡◌, ◌≤◌, IfOk};
-ghost use Rattle.fragment_codec.specs.Rules.{IsGuest};
+ghost use Rattle.ft_types.specs.declared.names.TheConstants.{HART_LIMIT};
+ghost use Rattle.ft_types.specs.Guests.{IsGuest};
 ghost use Rattle.guest_image.specs.Image.{guest_of};
 ghost use Rattle.hart_lease.specs.Runs.{LeadsTo};
 ghost use Rattle.book_modes.specs.Recordings.{heard_by};
@@ -26,7 +27,7 @@ pub struct Primary {
 
 /// The greatest limit, for each hart.
 pub(crate) fn no_limits(harts: u8) -> Counts
-    requires { harts ≤ 8 }
+    requires { harts ≤ HART_LIMIT }
     ensures { result ≡ greatest_limits harts }
 {
     let mut limits = Counts::zero(harts);

@@ -1,6 +1,7 @@
 //! The world: a primary, the terms before it, what was sent, what keepers hold, and what went out.
 
 ghost use Rattle.std.specs.Prelude.{◌≡◌, ◌≢◌, ◌<◌, ◌≤◌, ◌++◌, ◌∷◌, [], ℕ, true, false, length, replicate, slice_get, slice_set, None, Some, IfOk, IfErr, OnOk, OnErr, IfSome, IfNone};
+ghost use Rattle.ft_types.specs.declared.names.TheConstants.{KEEPER_LIMIT};
 ghost use Rattle.log_join.specs.Stores.{StoreView, nothing};
 ghost use Rattle.guest_image.specs.Image.{guest_of};
 ghost use Rattle.input_log.specs.declared.Input.{Input as input_of_specs};
@@ -98,7 +99,7 @@ impl World {
     /// A primary of term 1 that runs from boot, one to five keepers to which nothing came, of whom `need` hold whatever goes out,
     /// and its opening sent as frame 0.
     pub fn new(alloc: Global, image: &Image, keepers: u8, need: u8) -> Result<World, Memory>
-        requires quorum { (0 < need) × (need ≤ keepers) × (keepers ≤ 5) }
+        requires quorum { (0 < need) × (need ≤ keepers) × (keepers ≤ KEEPER_LIMIT) }
         ensures image { IfOk result (λ w. w.image ≡ image.now) }
         ensures quorum { IfOk result (λ w. (w.keepers ≡ keepers) × (w.need ≡ need)) }
         ensures primary { IfOk result (λ w. IsBooted image.now w.primary) }
@@ -115,7 +116,7 @@ impl World {
         sent.push(Frame::Opening(primary.opening.copy()))?;
         let own = image.copy()?;
         let stores = empty_stores(alloc, guest, keepers)?;
-        let gate = TermGate::new(alloc, FIRST_TERM, guest.harts, keepers, need)?;
+        let gate = TermGate::new(alloc, FIRST_TERM, guest.harts(), keepers, need)?;
         Ok(World {
             image: own,
             keepers,

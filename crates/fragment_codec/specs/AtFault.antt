@@ -3,6 +3,7 @@ use Rattle.std.specs.Prelude.{◌≡◌, ◌≢◌, ◌<◌, ◌≤◌, ◌+◌,
 use Rattle.fragment_codec.specs.declared.fault.FrameFault.{FrameFault}
 use Rattle.fragment_codec.specs.declared.fault.FrameFault.TheVariants.{Magic, Version, Kind, Length, Digest, Body, Memory}
 use Rattle.fragment_codec.specs.declared.frame.Frame.{Frame}
+use Rattle.fragment_codec.specs.declared.types.TheConstants.{FRAME_VERSION, BODY_LIMIT, OPENING_LIMIT}
 use Rattle.fragment_codec.specs.Streams.{spelling, IsFrame, body_len, HasDigest, HasFault}
 
 -- the byte at i is there, and is this one
@@ -13,19 +14,19 @@ Has bytes i byte = (i < length bytes) × (slice_index bytes i ≡ byte)
 abbrev pub HasOther : List ℕ → ℕ → ℕ → Type 0
 HasOther bytes i byte = (i < length bytes) × (slice_index bytes i ≢ byte)
 
--- a log body has 60 to 4,668 bytes, an opening body 49 to 105
+-- a log body has 60 bytes at least, an opening body 49
 abbrev pub IsBodyLen : ℕ → ℕ → Type 0
-IsBodyLen kind n = ((kind ≡ 1) × (60 ≤ n) × (n ≤ 4668)) ⊎ ((kind ≡ 2) × (49 ≤ n) × (n ≤ 105))
+IsBodyLen kind n = ((kind ≡ 1) × (60 ≤ n) × (n ≤ BODY_LIMIT)) ⊎ ((kind ≡ 2) × (49 ≤ n) × (n ≤ OPENING_LIMIT))
 
--- the three bytes of a frame of version 1
-pub record IsVersion1 (bytes : List ℕ) : Type 0 where
+-- the three bytes that a frame of the version begins with
+pub record HasVersion (bytes : List ℕ) : Type 0 where
   pub first : Has bytes 0 0x56
   pub second : Has bytes 1 0x46
-  pub version : Has bytes 2 1
+  pub version : Has bytes 2 FRAME_VERSION
 
 -- they, the kind and the length of the body are there, and right as far as the kind
 pub record TellsLen (bytes : List ℕ) : Type 0 where
-  pub version : IsVersion1 bytes
+  pub version : HasVersion bytes
   pub kind : Has bytes 3 1 ⊎ Has bytes 3 2
   pub there : 8 ≤ length bytes
 
@@ -39,8 +40,8 @@ pub record IsAllThere (bytes : List ℕ) (n : ℕ) : Type 0 where
 -- each fault, as soon as its bytes are there
 abbrev pub IsAtFault : List ℕ → FrameFault → Type 0
 IsAtFault bytes Magic = HasOther bytes 0 0x56 ⊎ HasOther bytes 1 0x46
-IsAtFault bytes Version = Has bytes 0 0x56 × Has bytes 1 0x46 × HasOther bytes 2 1
-IsAtFault bytes Kind = IsVersion1 bytes × HasOther bytes 3 1 × HasOther bytes 3 2
+IsAtFault bytes Version = Has bytes 0 0x56 × Has bytes 1 0x46 × HasOther bytes 2 FRAME_VERSION
+IsAtFault bytes Kind = HasVersion bytes × HasOther bytes 3 1 × HasOther bytes 3 2
 IsAtFault bytes Length = TellsLen bytes × (IsBodyLen (slice_index bytes 3) (body_len bytes) → ⊥)
 IsAtFault bytes Digest = (n : ℕ) × IsAllThere bytes n × (HasDigest (take n bytes) → ⊥)
 IsAtFault bytes Body = (n : ℕ) × IsAllThere bytes n × HasDigest (take n bytes) × ((f : Frame) → IsFrame f → take n bytes ≢ spelling f)

@@ -3,24 +3,27 @@ use Rattle.std.specs.Prelude.{◌≡◌, ◌≢◌, ℕ, ◌≤◌, ◌<◌, ◌
 use Rattle.std.specs.List.{AllByRecursion}
 use Rattle.edge_log.specs.declared.Edge.{Edge as OwnedEdge}
 use Rattle.input_log.specs.declared.Input.{Input as HartInput}
+use Rattle.ft_types.specs.declared.names.TheConstants.{HART_ROW, INPUT_LIMIT}
+use Rattle.fragment_codec.specs.declared.types.TheConstants.{RECORD_LIMIT}
 use Rattle.fragment_codec.specs.declared.types.Record.{Record}
 use Rattle.fragment_codec.specs.declared.types.Record.TheVariants.{Edge as EdgeRecord, Input as InputRecord}
 use Rattle.fragment_codec.specs.declared.frame.Frame.{Frame}
 use Rattle.fragment_codec.specs.declared.frame.Frame.TheVariants.{Log}
-use Rattle.fragment_codec.specs.Rules.{count_of, FragmentParts, IsFactOf, AreInOrder, is_input_at, IsGuest}
+use Rattle.ft_types.specs.Guests.{IsGuest}
+use Rattle.fragment_codec.specs.Rules.{count_of, FragmentParts, IsFactOf, AreInOrder, is_input_at}
 use Rattle.fragment_codec.specs.Pieces.{HartLog, Mark, SealedView, mark_of, told_by, IsHartCut}
 use Rattle.fragment_codec.specs.declared.cutting.Origin.{Origin}
 
 -- a next place for each of eight harts
 pub record ArePlaces (places : List ℕ) : Type 0 where
-  pub eight : length places ≡ 8
+  pub eight : length places ≡ HART_ROW
   pub below : AllByRecursion (λ place. place ≤ 2 ^ 32) places
 
 -- records of a hart, of any number, that keep all other rules
 pub record AreLogged (harts hart : ℕ) (records : List Record) : Type 0 where
   pub each : AllByRecursion (IsFactOf harts hart) records
   pub order : AreInOrder records
-  pub inputs : (count : ℕ) → count_by (is_input_at count) records ≤ 8
+  pub inputs : (count : ℕ) → count_by (is_input_at count) records ≤ INPUT_LIMIT
 
 -- records stand at these counts
 abbrev pub StandBetween : ℕ → ℕ → List Record → Type 0
@@ -32,7 +35,7 @@ end_at None settled = settled
 end_at (Some fact) settled = count_of fact
 
 abbrev pub end_of : List Record → ℕ → ℕ
-end_of records settled = end_at (slice_get records 256) settled
+end_of records settled = end_at (slice_get records RECORD_LIMIT) settled
 
 -- the records, as a hart's log
 abbrev pub log_of_records : Origin → List Record → HartLog

@@ -3,7 +3,7 @@ use Rattle.std.specs.Prelude.{◌≡◌, ℕ, ◌+◌, ◌<◌, ◌^◌, Bool, �
 use Rattle.std.specs.Prelude.{All, Option, Some, None, ◌⊎◌}
 use Rattle.std.specs.List.{filter_map, flat_map}
 use Rattle.ft_types.specs.Counts.{count_at}
-use Rattle.ft_types.specs.declared.guest.Guest.{Guest}
+use Rattle.ft_types.specs.Guests.{GuestParts}
 use Rattle.edge_log.specs.declared.Edge.{Edge as OwnedEdge}
 use Rattle.edge_log.specs.EdgeLog.{Edges, row_of}
 use Rattle.input_log.specs.declared.Input.{Input as HartInput}
@@ -11,6 +11,7 @@ use Rattle.input_log.specs.Inputs.{inputs_of}
 use Rattle.page_book.specs.Books.{BookView}
 use Rattle.book_modes.specs.Recordings.{RecordingView}
 use Rattle.hart_lease.specs.Runs.{counts_of}
+use Rattle.fragment_codec.specs.declared.types.TheConstants.{RECORD_LIMIT}
 use Rattle.fragment_codec.specs.declared.types.Record.{Record}
 use Rattle.fragment_codec.specs.declared.types.Record.TheVariants.{Edge as EdgeRecord, Input as InputRecord}
 use Rattle.fragment_codec.specs.declared.frame.Frame.{Frame}
@@ -62,7 +63,7 @@ number_of facts = length facts.edges + length facts.inputs
 
 -- a hart's log, in a term of a guest, that is settled up to a count
 pub record HartLog : Type 0 where
-  pub guest : Guest
+  pub guest : GuestParts
   pub term : ℕ
   pub hart : ℕ
   pub settled : ℕ
@@ -74,14 +75,14 @@ pub record Mark : Type 0 where
   pub count : ℕ
 
 -- The piece of the log that begins at the mark: its records, in the order that fragments have, are exactly the log's facts
--- between its counts, and it goes to the settled count, or so far that with one count more it would have more than 256 records.
+-- between its counts, and it goes to the settled count, or so far that with one count more it would have more records than a piece may have.
 pub record IsPiece (log : HartLog) (mark : Mark) (piece : FragmentParts) : Type 0 where
   pub rules : IsFragment piece
   pub same_guest : piece.guest ≡ log.guest
   pub key : piece.key ≡ record { term = log.term; hart = log.hart; place = mark.place }
   pub begins : piece.from ≡ mark.count
   pub exact : told_by piece.records ≡ facts_between piece.from piece.to log.facts
-  pub far : (piece.to ≡ log.settled) ⊎ ((piece.to < log.settled) × (256 < number_of (facts_between piece.from (piece.to + 1) log.facts)))
+  pub far : (piece.to ≡ log.settled) ⊎ ((piece.to < log.settled) × (RECORD_LIMIT < number_of (facts_between piece.from (piece.to + 1) log.facts)))
 
 -- where the piece behind this one begins
 abbrev pub mark_behind : FragmentParts → Mark
@@ -108,7 +109,7 @@ abbrev pub mark_of : SealedView → ℕ → Mark
 mark_of seals hart = record { place = slice_index seals.places hart; count = count_at seals.reached hart }
 
 -- the log of a hart, out of those of all harts
-abbrev pub hart_log : Guest → ℕ → Edges → List (List (ℕ × HartInput)) → List ℕ → ℕ → HartLog
+abbrev pub hart_log : GuestParts → ℕ → Edges → List (List (ℕ × HartInput)) → List ℕ → ℕ → HartLog
 hart_log guest term edges inputs settled hart =
     record {
       guest = guest;
@@ -119,7 +120,7 @@ hart_log guest term edges inputs settled hart =
     }
 
 -- the log of a hart of a recording book
-abbrev pub book_log : Guest → ℕ → BookView RecordingView → ℕ → HartLog
+abbrev pub book_log : GuestParts → ℕ → BookView RecordingView → ℕ → HartLog
 book_log guest term book hart =
     record {
       guest = guest;

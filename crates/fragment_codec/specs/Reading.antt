@@ -1,7 +1,8 @@
 -- Reading a body from left to right: private words, which the laws in proofs/ tie to the spelling.
 use Rattle.std.specs.Prelude.{◌≡◌, ℕ, zero, suc, List, [], ◌∷◌, length, take, drop, Option, Some, None, Result, Ok, Err, nat_lt, ◌==◌, if◌then◌else◌}
 use Rattle.std.specs.Int.{Width, w16, w32, w64, byte_len, from_le_bytes}
-use Rattle.ft_types.specs.declared.guest.Guest.{Guest}
+use Rattle.ft_types.specs.declared.names.TheConstants.{HART_LIMIT}
+use Rattle.ft_types.specs.Guests.{GuestParts}
 use Rattle.fragment_codec.specs.declared.types.Key.{Key}
 use Rattle.input_log.specs.declared.Input.{Input as HartInput}
 use Rattle.input_log.specs.declared.Input.TheVariants.{Timer, Word, Bell}
@@ -51,7 +52,7 @@ unfoldable pub input_of : ℕ → ℕ → Option HartInput
 input_of kind value =
     if kind == 0 then (if value == 0 then Some Timer else None)
     else if kind == 1 then Some (Word value)
-    else if kind == 2 then (if nat_lt value 8 then Some (Bell value) else None)
+    else if kind == 2 then (if nat_lt value HART_LIMIT then Some (Bell value) else None)
     else None
 
 unfoldable pub edge_at : ℕ → List ℕ → Option (Record × List ℕ)
@@ -59,7 +60,7 @@ edge_at hart bytes = do
   at ← number_at w64 bytes
   other ← byte_at at.1
   after ← number_at w64 other.1
-  if nat_lt other.0 8 then Some (EdgeRecord (record { hart = hart; at = at.0; other = other.0; after = after.0 }), after.1) else None
+  if nat_lt other.0 HART_LIMIT then Some (EdgeRecord (record { hart = hart; at = at.0; other = other.0; after = after.0 }), after.1) else None
 
 unfoldable pub heard_at : List ℕ → Option (Record × List ℕ)
 heard_at bytes = do
@@ -82,18 +83,24 @@ many item (suc n) bytes = do
   others ← many item n first.1
   Some (first.0 ∷ others.0, others.1)
 
--- the guest and the key that a log body begins with
-unfoldable pub place_at : List ℕ → Option (Guest × Key × List ℕ)
-place_at bytes = do
+-- the guest that a body begins with, which has as many harts as a guest may have
+unfoldable pub guest_at : List ℕ → Option (GuestParts × List ℕ)
+guest_at bytes = do
   digest ← digest_at bytes
   harts ← byte_at digest.1
-  hart ← byte_at harts.1
+  if nat_lt harts.0 1 then None else if nat_lt HART_LIMIT harts.0 then None else Some (record { digest = digest.0; harts = harts.0 }, harts.1)
+
+-- the guest and the key that a log body begins with
+unfoldable pub place_at : List ℕ → Option (GuestParts × Key × List ℕ)
+place_at bytes = do
+  guest ← guest_at bytes
+  hart ← byte_at guest.1
   term ← number_at w32 hart.1
   place ← number_at w32 term.1
-  if nat_lt hart.0 8 then Some (record { digest = digest.0; harts = harts.0 }, record { term = term.0; hart = hart.0; place = place.0 }, place.1) else None
+  if nat_lt hart.0 HART_LIMIT then Some (guest.0, record { term = term.0; hart = hart.0; place = place.0 }, place.1) else None
 
 -- what stands behind them
-unfoldable pub rest_of : Guest → Key → List ℕ → Option FragmentParts
+unfoldable pub rest_of : GuestParts → Key → List ℕ → Option FragmentParts
 rest_of guest key bytes = do
   from ← number_at w64 bytes
   to ← number_at w64 from.1
@@ -110,18 +117,11 @@ log_of bytes = do
 -- the whole of an opening body
 unfoldable pub opening_of : List ℕ → Option OpeningParts
 opening_of bytes = do
-  digest ← digest_at bytes
-  harts ← byte_at digest.1
-  term ← number_at w32 harts.1
+  guest ← guest_at bytes
+  term ← number_at w32 guest.1
   parent ← number_at w32 term.1
-  if nat_lt 8 harts.0 then None else (do
-    base ← many (number_at w64) harts.0 parent.1
-    if length base.1 == 0 then Some (record {
-      guest = record { digest = digest.0; harts = harts.0 };
-      term = term.0;
-      parent = parent.0;
-      base = base.0;
-    }) else None)
+  base ← many (number_at w64) guest.0.harts parent.1
+  if length base.1 == 0 then Some (record { guest = guest.0; term = term.0; parent = parent.0; base = base.0 }) else None
 
 -- the whole of a body of this kind
 unfoldable pub frame_of : ℕ → List ℕ → Option Frame

@@ -1,25 +1,16 @@
--- What a fragment and an opening are: the rules of frames, version 1.
+-- What a fragment and an opening are: the rules of frames.
 use Rattle.std.specs.Prelude.{◌≡◌, ◌≢◌, ℕ, ◌<◌, ◌≤◌, ◌^◌, Bool, false, ◌==◌, List, [], ◌∷◌, length, slice_index, All, count_by, ◌⊎◌}
 use Rattle.std.specs.List.{AllByRecursion}
 use Rattle.ft_types.specs.Counts.{IsCount}
-use Rattle.ft_types.specs.declared.guest.Guest.{Guest}
+use Rattle.ft_types.specs.Guests.{GuestParts, IsGuest}
 use Rattle.input_log.specs.Inputs.{IsInputOf}
+use Rattle.ft_types.specs.declared.names.TheConstants.{INPUT_LIMIT}
+use Rattle.fragment_codec.specs.declared.types.TheConstants.{RECORD_LIMIT}
 use Rattle.fragment_codec.specs.declared.types.Key.{Key}
 use Rattle.fragment_codec.specs.declared.types.Record.{Record}
 use Rattle.fragment_codec.specs.declared.types.Record.TheVariants.{Edge as EdgeRecord, Input as InputRecord}
 
--- ---- guests and keys
-
--- a digest has 32 bytes
-pub record IsDigest (digest : List ℕ) : Type 0 where
-  pub len : length digest ≡ 32
-  pub bytes : (i : ℕ) → slice_index digest i < 256
-
--- a guest has 1 to 8 harts
-pub record IsGuest (guest : Guest) : Type 0 where
-  pub digest : IsDigest guest.digest
-  pub some : 1 ≤ guest.harts
-  pub limit : guest.harts ≤ 8
+-- ---- keys
 
 -- a key of a guest with so many harts: terms count from 1, and term and place have 32 bits
 pub record IsKey (harts : ℕ) (key : Key) : Type 0 where
@@ -62,17 +53,17 @@ abbrev pub is_input_at : ℕ → Record → Bool
 is_input_at count (EdgeRecord edge) = false
 is_input_at count (InputRecord at input) = at == count
 
--- the records of a fragment: at most 256, each right by itself, in order, with at most 8 inputs at one count
+-- the records of a fragment: not too many, each right by itself, in order, and not too many inputs at one count
 pub record AreRecords (harts hart from to : ℕ) (records : List Record) : Type 0 where
-  pub limit : length records ≤ 256
+  pub limit : length records ≤ RECORD_LIMIT
   pub each : AllByRecursion (IsRecordOf harts hart from to) records
   pub order : AreInOrder records
-  pub inputs : (count : ℕ) → count_by (is_input_at count) records ≤ 8
+  pub inputs : (count : ℕ) → count_by (is_input_at count) records ≤ INPUT_LIMIT
 
 -- ---- fragments and openings
 
 pub record FragmentParts : Type 0 where
-  pub guest : Guest
+  pub guest : GuestParts
   pub key : Key
   pub from : ℕ
   pub to : ℕ
@@ -87,7 +78,7 @@ pub record IsFragment (f : FragmentParts) : Type 0 where
   pub records : AreRecords f.guest.harts f.key.hart f.from f.to f.records
 
 pub record OpeningParts : Type 0 where
-  pub guest : Guest
+  pub guest : GuestParts
   pub term : ℕ
   pub parent : ℕ
   pub base : List ℕ

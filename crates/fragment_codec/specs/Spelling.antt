@@ -1,4 +1,4 @@
--- The one spelling of a frame, version 1: its fields in the order of the tables, each number with its lowest byte first.
+-- The one spelling of a frame in a version: its fields in the order of the tables, each number with its lowest byte first.
 use Rattle.std.specs.Prelude.{ℕ, List, ◌∷◌, ◌++◌, length}
 use Rattle.std.specs.List.{flat_map}
 use Rattle.std.specs.Int.{Width, w16, w32, w64, to_le_bytes}
@@ -35,8 +35,8 @@ unfoldable pub opening_body : OpeningParts → List ℕ
 opening_body o = o.guest.digest ++ (o.guest.harts ∷ (number w32 o.term ++ (number w32 o.parent ++ flat_map (number w64) o.base)))
 
 -- magic, version, kind, the body's length, the body
-unfoldable pub headed : ℕ → List ℕ → List ℕ
-headed kind body = 0x56 ∷ 0x46 ∷ 1 ∷ kind ∷ (number w32 (length body) ++ body)
+unfoldable pub headed : ℕ → ℕ → List ℕ → List ℕ
+headed version kind body = 0x56 ∷ 0x46 ∷ version ∷ kind ∷ (number w32 (length body) ++ body)
 
 -- and the digest of all before it: SHA-256 of FIPS 180-4, section 6.2
 unfoldable pub sealed : List ℕ → List ℕ

@@ -2,7 +2,7 @@
 
 ghost use Rattle.std.specs.Prelude.{◌≡◌, ℕ, ◌≤◌, ◌<◌, length, filter, nat_lt, nat_le, IfOk, OnOk, OnErr};
 ghost use Rattle.ft_types.specs.Counts.{IsWithin, count_at};
-ghost use Rattle.fragment_codec.specs.Rules.{count_of, AreInOrder, IsGuest, IsFragment};
+ghost use Rattle.fragment_codec.specs.Rules.{count_of, AreInOrder, IsFragment};
 ghost use Rattle.fragment_codec.specs.Pieces.{AreEdgesOf, AreInputsOf, IsCut, hart_log, book_log, mark_of};
 ghost use Rattle.hart_lease.specs.Runs.{counts_of};
 ghost use Rattle.fragment_codec.specs.Cutting.{MayCut, CutsHart, end_of, log_of_records};
@@ -10,15 +10,12 @@ ghost use Rattle.fragment_codec.specs.Cutting.{MayCut, CutsHart, end_of, log_of_
 use crate::frame::{Fragment, Frame, count};
 use crate::merging::records_between;
 use crate::sealed::Sealed;
-use crate::types::{Key, Record};
+use crate::types::{Key, RECORD_LIMIT, Record};
 use edge_log::EdgeLog;
 use ft_types::{Count, Counts, Guest, Hart, Memory, Term};
 use input_log::InputLog;
 use page_book::{Book, Recording};
 use std::alloc::Global;
-
-/// The number of records in a piece, at the most.
-const RECORD_LIMIT: usize = 256;
 
 /// Whose pieces are cut, and up to which count.
 #[derive(Clone, Copy)]
@@ -120,7 +117,6 @@ pub fn cut_logs(
     term: Term,
     sealed: &mut Sealed,
 ) -> Result<Vec<Frame>, Memory>
-    requires guest { IsGuest guest.now }
     requires granted { 1 ≤ term }
     requires settled_harts { length settled.now ≡ guest.now.harts }
     requires sealed_harts { length sealed.old.reached ≡ guest.now.harts }
@@ -132,7 +128,7 @@ pub fn cut_logs(
 {
     let mut frames = Vec::new(alloc);
     let mut next = *sealed;
-    for number in 0..guest.harts {
+    for number in 0..guest.harts() {
         let hart = Hart::new(number);
         let origin = Origin {
             guest: *guest,
@@ -157,7 +153,6 @@ pub fn cut_pieces(
     term: Term,
     sealed: &mut Sealed,
 ) -> Result<Vec<Frame>, Memory>
-    requires guest { IsGuest guest.now }
     requires granted { 1 ≤ term }
     requires book_harts { length book.now.machine.harts ≡ guest.now.harts }
     requires sealed_harts { length sealed.old.reached ≡ guest.now.harts }

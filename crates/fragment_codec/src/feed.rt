@@ -12,14 +12,12 @@ use crate::fault::FrameFault;
 use crate::frame::Frame;
 use crate::front::Front;
 use crate::reading::{BodyError, read_log, read_opening};
+use crate::types::{BODY_LIMIT, FRAME_LIMIT, FRAME_VERSION, OPENING_LIMIT};
 use byteorder::{ByteOrder, LittleEndian};
 use ft_types::Memory;
 use sha2::{Digest, Sha256};
 use std::alloc::{AllocError, Global};
 use std::marker::Model;
-
-/// The most bytes in a frame.
-const FRAME_LIMIT: usize = 4708;
 
 fn differs_at(bytes: &[u8], i: usize, byte: u8) -> bool
     ensures { result ≡ is_other bytes.now i byte }
@@ -31,9 +29,9 @@ fn is_right_len(kind: u8, len: u32) -> bool
     ensures { result ≡ is_body_len kind len }
 {
     if kind == 1 {
-        60 <= len && len <= 4668
+        60 <= len && len as usize <= BODY_LIMIT
     } else {
-        49 <= len && len <= 105
+        49 <= len && len as usize <= OPENING_LIMIT
     }
 }
 
@@ -44,7 +42,7 @@ fn head(bytes: &[u8]) -> Result<Option<usize>, FrameFault>
     if differs_at(bytes, 0, 0x56) || differs_at(bytes, 1, 0x46) {
         return Err(FrameFault::Magic);
     }
-    if differs_at(bytes, 2, 1) {
+    if differs_at(bytes, 2, FRAME_VERSION) {
         return Err(FrameFault::Version);
     }
     if differs_at(bytes, 3, 1) && differs_at(bytes, 3, 2) {
@@ -232,6 +230,7 @@ pub struct Feed {
 }
 
 impl Model for Feed {
+    ghost use Rattle.fragment_codec.specs.declared.types.TheConstants.{FRAME_LIMIT};
     ghost use Rattle.std.specs.Prelude.{◌≡◌, ◌≤◌, None, vec_capacity};
     ghost use Rattle.fragment_codec.specs.Streams.{Unread, IsPartial};
 
@@ -239,7 +238,7 @@ impl Model for Feed {
 
     ghost view = { λ a. record { rest = a.held.items; fault = a.fault } };
 
-    ghost invariant = { λ a. (4708 ≤ vec_capacity a.held) × (a.fault ≡ None → IsPartial a.held.items) };
+    ghost invariant = { λ a. (FRAME_LIMIT ≤ vec_capacity a.held) × (a.fault ≡ None → IsPartial a.held.items) };
 }
 
 impl Feed {

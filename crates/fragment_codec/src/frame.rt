@@ -1,11 +1,11 @@
 //! A piece of a hart's log, and the opening of a term.
 
 ghost use Rattle.std.specs.Prelude.{◌≡◌, ◌↔◌, ℕ, ◌<◌, ◌≤◌, Option, Some, None, length, List, All, IsTrue, IsSome, IfSome, IfOk};
-ghost use Rattle.fragment_codec.specs.Rules.{IsDigest, IsGuest, IsKey, AreRecords, FragmentParts, OpeningParts, IsFragment, IsOpening, count_of};
+ghost use Rattle.fragment_codec.specs.Rules.{IsKey, AreRecords, FragmentParts, OpeningParts, IsFragment, IsOpening, count_of};
 ghost use Rattle.fragment_codec.specs.Slots.{is_source, slot_after};
 
-use crate::types::{Key, Record};
-use ft_types::{COUNT_LIMIT, Count, Counts, Guest, Hart, Memory, Term};
+use crate::types::{Key, RECORD_LIMIT, Record};
+use ft_types::{COUNT_LIMIT, Count, Counts, Guest, HART_LIMIT, Hart, Memory, Term};
 use input_log::Input;
 use std::alloc::Global;
 use std::marker::Model;
@@ -56,18 +56,6 @@ pub enum Frame {
     Log(Fragment),
     /// The opening of a term.
     Opening(Opening),
-}
-
-fn is_digest(digest: &[u8]) -> bool
-    ensures { IsTrue result ↔ IsDigest digest.now }
-{
-    digest.len() == 32
-}
-
-fn is_guest(guest: &Guest) -> bool
-    ensures { IsTrue result ↔ IsGuest guest.now }
-{
-    is_digest(&guest.digest) && 1 <= guest.harts && guest.harts <= 8
 }
 
 fn is_key(harts: u8, key: &Key) -> bool
@@ -132,10 +120,10 @@ fn next_slot(harts: u8, hart: Hart, to: Count, at: Count, slot: u8, fact: &Recor
 
 #[tactic(auto, unfolding(crate::specs::Slots::are_right))]
 fn are_records(records: &[Record], harts: u8, hart: Hart, from: Count, to: Count) -> bool
-    requires { harts ≤ 8 }
+    requires { harts ≤ HART_LIMIT }
     ensures { IsTrue result ↔ AreRecords harts hart from to records.now }
 {
-    if records.len() > 256 {
+    if records.len() > RECORD_LIMIT {
         return false;
     }
     let mut at = from;
@@ -162,19 +150,18 @@ fn is_fragment(guest: &Guest, key: &Key, from: Count, to: Count, records: &[Reco
     ensures { let parts : FragmentParts = record { guest = guest.now; key = key.now; from = from; to = to; records = records.now } in
         IsTrue result ↔ IsFragment parts }
 {
-    is_guest(guest)
-        && is_key(guest.harts, key)
+    let harts = guest.harts();
+    is_key(harts, key)
         && from < to
         && to < COUNT_LIMIT
-        && are_records(records, guest.harts, key.hart, from, to)
+        && are_records(records, harts, key.hart, from, to)
 }
 
 fn is_opening(guest: &Guest, term: Term, parent: Term, base: Counts) -> bool
     ensures { let parts : OpeningParts = record { guest = guest.now; term = term; parent = parent; base = base } in
         IsTrue result ↔ IsOpening parts }
 {
-    is_guest(guest)
-        && base.harts() == guest.harts
+    base.harts() == guest.harts()
         && 1 <= term
         && parent < term
         && (parent != 0 || are_zero(base.as_slice()))

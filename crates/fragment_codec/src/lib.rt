@@ -23,5 +23,5 @@ pub use laws::{
     any_cutting, faults_by_bytes, lasting_fault, one_fault, one_reading, one_spelling, short_rest,
 };
 pub use sealed::Sealed;
-pub use types::{Key, Record};
+pub use types::{FRAME_LIMIT, FRAME_VERSION, Key, RECORD_LIMIT, Record};
 pub use writing::write_frame;

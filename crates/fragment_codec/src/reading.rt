@@ -3,7 +3,7 @@
 ghost use Rattle.std.specs.Prelude.{◌≡◌, ◌≤◌, List, length, Option, Some, None};
 ghost use Rattle.fragment_codec.specs.Rules.{OpeningParts, IsFragment, IsOpening};
 ghost use Rattle.std.specs.Int.{w16, w32, w64};
-ghost use Rattle.fragment_codec.specs.Reading.{Gives, Makes, number_at, byte_at, digest_at, input_of, edge_at, heard_at, record_at, many, place_at, rest_of};
+ghost use Rattle.fragment_codec.specs.Reading.{Gives, Makes, number_at, byte_at, digest_at, guest_at, input_of, edge_at, heard_at, record_at, many, place_at, rest_of};
 ghost use Rattle.fragment_codec.specs.Reading.{log_of, opening_of};
 
 use crate::frame::{Fragment, Opening};
@@ -11,7 +11,7 @@ use crate::types::{Key, Record};
 use arrayvec::ArrayVec;
 use byteorder::{ByteOrder, LittleEndian};
 use edge_log::Edge;
-use ft_types::{Counts, Guest, Hart, Term};
+use ft_types::{Counts, Guest, HART_LIMIT, HART_ROW, Hart, Term};
 use input_log::Input;
 use std::alloc::{AllocError, AllocFailed, Global};
 
@@ -107,7 +107,7 @@ fn make_input(kind: u8, value: u32) -> Result<Input, BodyError>
     match kind {
         0 if value == 0 => Ok(Input::Timer),
         1 => Ok(Input::Word(value)),
-        2 if value < 8 => Ok(Input::Bell(Hart::new(value as u8))),
+        2 if value < u32::from(HART_LIMIT) => Ok(Input::Bell(Hart::new(value as u8))),
         _ => Err(BodyError::Broken),
     }
 }
@@ -119,7 +119,7 @@ fn read_edge(hart: Hart, bytes: &[u8]) -> Result<(Record, &[u8]), BodyError>
     let (at, rest) = u64_at(bytes)?;
     let (other, rest) = u8_at(rest)?;
     let (after, rest) = u64_at(rest)?;
-    if other < 8 {
+    if other < HART_LIMIT {
         let edge = Edge {
             hart,
             at,
@@ -177,8 +177,8 @@ fn read_records(
     Ok((records, rest))
 }
 
-fn read_counts(count: u8, bytes: &[u8]) -> Result<(ArrayVec<u64, 8>, &[u8]), BodyError>
-    requires { count ≤ 8 }
+fn read_counts(count: u8, bytes: &[u8]) -> Result<(ArrayVec<u64, HART_ROW>, &[u8]), BodyError>
+    requires { count ≤ HART_LIMIT }
     ensures { Gives (λ x. (x.0.items, x.1.now)) result (many (number_at w64) count bytes.now) }
 {
     let mut counts = ArrayVec::new();
@@ -191,18 +191,32 @@ fn read_counts(count: u8, bytes: &[u8]) -> Result<(ArrayVec<u64, 8>, &[u8]), Bod
     Ok((counts, rest))
 }
 
+#[tactic(auto, unfolding(crate::specs::Reading::guest_at))]
+fn read_guest(bytes: &[u8]) -> Result<(Guest, &[u8]), BodyError>
+    ensures { Gives (λ x. (x.0, x.1.now)) result (guest_at bytes.now) }
+{
+    let (digest, rest) = digest_of(bytes)?;
+    let (harts, rest) = u8_at(rest)?;
+    match Guest::new(digest, harts) {
+        Some(guest) => Ok((guest, rest)),
+        None => Err(BodyError::Broken),
+    }
+}
+
 #[tactic(auto, unfolding(crate::specs::Reading::place_at))]
 fn read_place(bytes: &[u8]) -> Result<(Guest, Key, &[u8]), BodyError>
     ensures { Gives (λ x. (x.0, x.1, x.2.now)) result (place_at bytes.now) }
 {
-    let (digest, rest) = digest_of(bytes)?;
-    let (harts, rest) = u8_at(rest)?;
+    let (guest, rest) = match read_guest(bytes) {
+        Ok(read) => read,
+        Err(error) => return Err(error),
+    };
     let (hart, rest) = u8_at(rest)?;
     let (term, rest) = u32_at(rest)?;
     let (place, rest) = u32_at(rest)?;
-    if hart < 8 {
+    if hart < HART_LIMIT {
         let hart = Hart::new(hart);
-        Ok((Guest { digest, harts }, Key { term, hart, place }, rest))
+        Ok((guest, Key { term, hart, place }, rest))
     } else {
         Err(BodyError::Broken)
     }
@@ -256,16 +270,15 @@ fn make_opening(guest: Guest, term: Term, parent: Term, base: &[u64]) -> Result<
 pub fn read_opening(body: &[u8]) -> Result<Opening, BodyError>
     ensures { Makes IsOpening result (opening_of body.now) }
 {
-    let (digest, rest) = digest_of(body)?;
-    let (harts, rest) = u8_at(rest)?;
+    let (guest, rest) = match read_guest(body) {
+        Ok(read) => read,
+        Err(error) => return Err(error),
+    };
     let (term, rest) = u32_at(rest)?;
     let (parent, rest) = u32_at(rest)?;
-    if harts > 8 {
-        return Err(BodyError::Broken);
-    }
-    let (base, rest) = read_counts(harts, rest)?;
+    let (base, rest) = read_counts(guest.harts(), rest)?;
     if !rest.is_empty() {
         return Err(BodyError::Broken);
     }
-    make_opening(Guest { digest, harts }, term, parent, &base)
+    make_opening(guest, term, parent, &base)
 }

@@ -4,13 +4,13 @@ ghost use Rattle.std.specs.Prelude.{◌≡◌, ℕ, ◌+◌, ◌<◌, ◌≤◌,
 ghost use Rattle.ft_types.specs.Counts.{count_at, IsWithin};
 ghost use Rattle.fragment_codec.specs.Pieces.{mark_of};
 
-use ft_types::{Count, Counts, Hart};
+use ft_types::{Count, Counts, HART_ROW, Hart};
 use std::marker::Model;
 
 /// For each hart of a guest, the place of its next piece and the count that its pieces reach.
 #[derive(Clone, Copy, Debug, PartialEq, Eq)]
 pub struct Sealed {
-    places: [u64; 8],
+    places: [u64; HART_ROW],
     reached: Counts,
 }
 
@@ -34,7 +34,7 @@ impl Sealed {
         ensures marks { (hart : ℕ) → mark_of result hart ≡ record { place = 0; count = count_at counts hart } }
     {
         Sealed {
-            places: [0; 8],
+            places: [0; HART_ROW],
             reached: counts,
         }
     }
@@ -71,7 +71,7 @@ impl Sealed {
         requires count { to < 2 ^ 48 }
         ensures places { self.new.places ≡ slice_set self.old.places hart (slice_index self.old.places hart + 1) }
         ensures reached { self.new.reached ≡ slice_set self.old.reached hart to }
-        ensures eight { length self.new.places ≡ 8 }
+        ensures eight { length self.new.places ≡ HART_ROW }
     {
         self.places[hart.index()] += 1;
         self.reached.set(hart, to);

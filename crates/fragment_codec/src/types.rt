@@ -1,8 +1,23 @@
 //! What a fragment of a log speaks of.
 
 use edge_log::Edge;
-use ft_types::{Count, Hart, Term};
+use ft_types::{Count, HART_ROW, Hart, Term};
 use input_log::Input;
+
+/// The version in which frames are written, and which is read.
+pub const FRAME_VERSION: u8 = 1;
+
+/// The number of records of a fragment at the most.
+pub const RECORD_LIMIT: usize = 256;
+
+/// The number of bytes of a log body at the most, in which each record is an edge.
+pub const BODY_LIMIT: usize = 60 + 18 * RECORD_LIMIT;
+
+/// The number of bytes of an opening body at the most, which has a count for each hart.
+pub const OPENING_LIMIT: usize = 41 + 8 * HART_ROW;
+
+/// The number of bytes of a frame at the most: head, body and digest.
+pub const FRAME_LIMIT: usize = 8 + BODY_LIMIT + 32;
 
 /// Which fragment it is.
 #[derive(Clone, Copy, Debug, PartialEq, Eq)]

@@ -8,20 +8,17 @@ ghost use Rattle.ft_types.specs.Devices.{Writes};
 ghost use Rattle.fragment_codec.specs.Streams.{spelling, Splits};
 
 use crate::frame::{Fragment, Frame, Opening};
-use crate::types::{Key, Record};
+use crate::types::{BODY_LIMIT, FRAME_VERSION, Key, Record};
 use arrayvec::ArrayVec;
 use byteorder::{ByteOrder, LittleEndian};
 use ft_types::{Failed, Guest, Sink, write_all};
 use input_log::Input;
 use sha2::{Digest, Sha256};
 
-/// The most bytes in a body.
-const BODY_LIMIT: usize = 4668;
-
-type Body = ArrayVec<u8, 4668>;
+type Body = ArrayVec<u8, BODY_LIMIT>;
 
 fn put(out: &mut Body, bytes: &[u8])
-    requires { length out.old.items + length bytes.now ≤ 4668 }
+    requires { length out.old.items + length bytes.now ≤ BODY_LIMIT }
     ensures items { out.new.items ≡ out.old.items ++ bytes.now }
     ensures len { length out.new.items ≡ length out.old.items + length bytes.now }
 {
@@ -30,7 +27,7 @@ fn put(out: &mut Body, bytes: &[u8])
 
 #[tactic(auto, unfolding(crate::specs::Spelling::number))]
 fn put_u16(out: &mut Body, value: u16)
-    requires { length out.old.items + 2 ≤ 4668 }
+    requires { length out.old.items + 2 ≤ BODY_LIMIT }
     ensures items { out.new.items ≡ out.old.items ++ number w16 value }
     ensures len { length out.new.items ≡ length out.old.items + 2 }
 {
@@ -41,7 +38,7 @@ fn put_u16(out: &mut Body, value: u16)
 
 #[tactic(auto, unfolding(crate::specs::Spelling::number))]
 fn put_u32(out: &mut Body, value: u32)
-    requires { length out.old.items + 4 ≤ 4668 }
+    requires { length out.old.items + 4 ≤ BODY_LIMIT }
     ensures items { out.new.items ≡ out.old.items ++ number w32 value }
     ensures len { length out.new.items ≡ length out.old.items + 4 }
 {
@@ -52,7 +49,7 @@ fn put_u32(out: &mut Body, value: u32)
 
 #[tactic(auto, unfolding(crate::specs::Spelling::number))]
 fn put_u64(out: &mut Body, value: u64)
-    requires { length out.old.items + 8 ≤ 4668 }
+    requires { length out.old.items + 8 ≤ BODY_LIMIT }
     ensures items { out.new.items ≡ out.old.items ++ number w64 value }
     ensures len { length out.new.items ≡ length out.old.items + 8 }
 {
@@ -63,7 +60,7 @@ fn put_u64(out: &mut Body, value: u64)
 
 #[tactic(auto, unfolding(crate::specs::Spelling::input_bytes, crate::specs::Spelling::number))]
 fn put_input(out: &mut Body, input: Input)
-    requires { length out.old.items + 5 ≤ 4668 }
+    requires { length out.old.items + 5 ≤ BODY_LIMIT }
     ensures items { out.new.items ≡ out.old.items ++ input_bytes input }
     ensures len { length out.new.items ≡ length out.old.items + 5 }
 {
@@ -78,7 +75,7 @@ fn put_input(out: &mut Body, input: Input)
 
 #[tactic(auto, unfolding(crate::specs::Spelling::record_bytes, crate::specs::Spelling::number))]
 fn put_record(out: &mut Body, record: &Record)
-    requires { length out.old.items + 18 ≤ 4668 }
+    requires { length out.old.items + 18 ≤ BODY_LIMIT }
     ensures items { out.new.items ≡ out.old.items ++ record_bytes record.now }
     ensures len { length out.new.items ≤ length out.old.items + 18 }
 {
@@ -99,13 +96,13 @@ fn put_record(out: &mut Body, record: &Record)
 
 #[tactic(auto, unfolding(crate::specs::Spelling::number))]
 fn put_place(out: &mut Body, guest: &Guest, key: &Key)
-    requires { length out.old.items + 42 ≤ 4668 }
+    requires { length out.old.items + 42 ≤ BODY_LIMIT }
     ensures items { out.new.items ≡ out.old.items ++ (guest.now.digest ++ (guest.now.harts ∷ key.now.hart ∷ (number w32 key.now.term ++
         number w32 key.now.place))) }
     ensures len { length out.new.items ≡ length out.old.items + 42 }
 {
-    put(out, &guest.digest);
-    put(out, &[guest.harts, key.hart.number()]);
+    put(out, &guest.digest());
+    put(out, &[guest.harts(), key.hart.number()]);
     put_u32(out, key.term);
     put_u32(out, key.place);
 }
@@ -135,8 +132,8 @@ fn opening_bytes(opening: &Opening) -> Body
     let base = opening.base();
     let guest = opening.guest();
     let mut out = Body::new();
-    put(&mut out, &guest.digest);
-    put(&mut out, &[guest.harts]);
+    put(&mut out, &guest.digest());
+    put(&mut out, &[guest.harts()]);
     put_u32(&mut out, opening.term());
     put_u32(&mut out, opening.parent());
     for count in base.as_slice() {
@@ -147,16 +144,16 @@ fn opening_bytes(opening: &Opening) -> Body
 
 #[tactic(auto, unfolding(crate::specs::Spelling::headed, crate::specs::Spelling::number))]
 fn head_of_body(kind: u8, len: u32) -> [u8; 8]
-    ensures { (body : List ℕ) → length body ≡ len → result ++ body ≡ headed kind body }
+    ensures { (body : List ℕ) → length body ≡ len → result ++ body ≡ headed FRAME_VERSION kind body }
 {
-    let mut head = [0x56, 0x46, 1, kind, 0, 0, 0, 0];
+    let mut head = [0x56, 0x46, FRAME_VERSION, kind, 0, 0, 0, 0];
     LittleEndian::write_u32(&mut head[4..], len);
     head
 }
 
 fn write_sealed<W: Sink>(sink: &mut W, kind: u8, body: &[u8]) -> Result<(), Failed>
     requires { length body.now < 2 ^ 32 }
-    ensures { Writes result (W.bytes sink.old) (W.bytes sink.new) (W.failures sink.old) (W.failures sink.new) (sealed (headed kind body.now)) }
+    ensures { Writes result (W.bytes sink.old) (W.bytes sink.new) (W.failures sink.old) (W.failures sink.new) (sealed (headed FRAME_VERSION kind body.now)) }
 {
     let head = head_of_body(kind, body.len() as u32);
     let mut hasher = Sha256::new();

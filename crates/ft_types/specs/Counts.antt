@@ -1,13 +1,14 @@
 -- Rows of one count per hart, and their order.
-use Rattle.std.specs.Prelude.{ℕ, ◌^◌, ◌<◌, ◌≤◌, List, [], ◌∷◌, slice_index_or, min, max}
+use Rattle.std.specs.Prelude.{ℕ, ◌<◌, ◌≤◌, List, [], ◌∷◌, slice_index_or, min, max}
+use Rattle.ft_types.specs.declared.names.TheConstants.{COUNT_LIMIT}
 
 -- the count of a hart, 0 where the row has none
 abbrev pub count_at : List ℕ → ℕ → ℕ
 count_at row hart = slice_index_or row hart 0
 
--- a count is below 2 ^ 48
+-- a count is below COUNT_LIMIT
 abbrev pub IsCount : ℕ → Type 0
-IsCount n = n < 2 ^ 48
+IsCount n = n < COUNT_LIMIT
 
 -- f of each two that stand at one place
 abbrev pub zipped : (ℕ → ℕ → ℕ) → List ℕ → List ℕ → List ℕ

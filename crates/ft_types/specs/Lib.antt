@@ -4,3 +4,4 @@ pub mod Devices
 pub mod Sets
 pub mod Text
 pub mod MemoryDevices
+pub mod Guests

@@ -4,18 +4,19 @@ ghost use Rattle.std.specs.Prelude.{◌≡◌, ◌<◌, ◌≤◌, ◌^◌, ◌�
 ghost use Rattle.std.specs.List.{AllByRecursion};
 ghost use Rattle.ft_types.specs.Counts.{IsCount, lesser, greater, zipped, IsWithin};
 
-use crate::names::{COUNT_LIMIT, Count, Hart};
+use crate::names::{COUNT_LIMIT, Count, HART_LIMIT, HART_ROW, Hart};
 use std::marker::Model;
 
 /// One count per hart. Contracts see the list of the counts, by rising hart.
 #[derive(Clone, Copy, Debug, PartialEq, Eq)]
 pub struct Counts {
-    row: [u64; 8],
+    row: [u64; HART_ROW],
     harts: u8,
 }
 
 impl Model for Counts {
     ghost use Rattle.std.specs.Prelude.{ℕ, List, take, length, ◌-◌, ◌++◌, replicate, refl};
+    ghost use Rattle.ft_types.specs.declared.names.TheConstants.{HART_ROW};
     ghost use Rattle.ft_types.specs.Rows.{IsRow, words_of_view, length_of_view};
 
     ghost Value = { List ℕ };
@@ -24,26 +25,26 @@ impl Model for Counts {
 
     ghost invariant = { λ c. IsRow c.row c.harts };
 
-    ghost inverse = { λ xs. record { row = xs ++ replicate (8 - length xs) 0; harts = length xs } };
+    ghost inverse = { λ xs. record { row = xs ++ replicate (HART_ROW - length xs) 0; harts = length xs } };
 
     ghost inverse_ok = { λ a h. Prim.rw (words_of_view a.row a.harts h, length_of_view a.row a.harts h) refl };
 }
 
-fn least(row: [u64; 8], other: [u64; 8]) -> [u64; 8]
+fn least(row: [u64; HART_ROW], other: [u64; HART_ROW]) -> [u64; HART_ROW]
     ensures { result ≡ lesser row other }
 {
     let mut least = row;
-    for i in 0..8usize {
+    for i in 0..HART_ROW {
         least[i] = row[i].min(other[i]);
     }
     least
 }
 
-fn greatest(row: [u64; 8], other: [u64; 8]) -> [u64; 8]
+fn greatest(row: [u64; HART_ROW], other: [u64; HART_ROW]) -> [u64; HART_ROW]
     ensures { result ≡ greater row other }
 {
     let mut greatest = row;
-    for i in 0..8usize {
+    for i in 0..HART_ROW {
         greatest[i] = row[i].max(other[i]);
     }
     greatest
@@ -52,21 +53,24 @@ fn greatest(row: [u64; 8], other: [u64; 8]) -> [u64; 8]
 impl Counts {
     /// All counts 0.
     pub fn zero(harts: u8) -> Counts
-        requires { harts ≤ 8 }
+        requires { harts ≤ HART_LIMIT }
         ensures { result ≡ replicate harts 0 }
     {
-        Counts { row: [0; 8], harts }
+        Counts {
+            row: [0; HART_ROW],
+            harts,
+        }
     }
 
-    /// The counts of these harts: `None` where there are more than 8 or one is no count.
+    /// The counts of these harts: `None` where there are more than `HART_LIMIT` or one is no count.
     pub fn from_slice(counts: &[u64]) -> Option<Counts>
         ensures value { IfSome result (λ c. c ≡ counts.now) }
-        ensures exact { IsSome result ↔ ((length counts.now ≤ 8) × AllByRecursion IsCount counts.now) }
+        ensures exact { IsSome result ↔ ((length counts.now ≤ HART_LIMIT) × AllByRecursion IsCount counts.now) }
     {
-        if counts.len() > 8 {
+        if counts.len() > HART_ROW {
             return None;
         }
-        let mut row = [0; 8];
+        let mut row = [0; HART_ROW];
         for (i, count) in counts.iter().enumerate() {
             if *count >= COUNT_LIMIT {
                 return None;
@@ -82,7 +86,7 @@ impl Counts {
     /// The number of harts.
     pub fn harts(&self) -> u8
         ensures value { result ≡ length self.now }
-        ensures limit { result ≤ 8 }
+        ensures limit { result ≤ HART_LIMIT }
     {
         self.harts
     }
@@ -90,7 +94,7 @@ impl Counts {
     /// The counts, by rising hart.
     pub fn as_slice(&self) -> &[Count]
         ensures value { result.now ≡ self.now }
-        ensures limit { length result.now ≤ 8 }
+        ensures limit { length result.now ≤ HART_LIMIT }
         ensures counts { AllByRecursion IsCount result.now }
     {
         &self.row[..self.harts as usize]
@@ -100,7 +104,7 @@ impl Counts {
     pub fn get(&self, hart: Hart) -> Count
         requires { hart < length self.now }
         ensures value { result ≡ slice_index self.now hart }
-        ensures limit { result < 2 ^ 48 }
+        ensures limit { result < COUNT_LIMIT }
     {
         self.row[hart.index()]
     }
@@ -141,7 +145,7 @@ impl Counts {
         requires { length self ≡ length other }
         ensures { IsTrue result ↔ IsWithin self other }
     {
-        for i in 0..8usize {
+        for i in 0..HART_ROW {
             if self.row[i] > other.row[i] {
                 return false;
             }

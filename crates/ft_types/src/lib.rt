@@ -19,8 +19,8 @@ pub use guest::Guest;
 pub use line_buffer::LineBuffer;
 pub use memory_device::{MemorySink, MemorySource};
 pub use names::{
-    COUNT_LIMIT, Count, HART_LIMIT, Hart, KEEPER_LIMIT, Keeper, PAGE_BYTES, PAGE_LIMIT, PageNo,
-    Term, Want,
+    COUNT_LIMIT, Count, HART_LIMIT, HART_ROW, Hart, INPUT_LIMIT, KEEPER_LIMIT, KEEPER_ROW, Keeper,
+    LEASE_STEPS, PAGE_BYTES, PAGE_LIMIT, PAGE_ROW, PageNo, Term, Want,
 };
-pub use sets::{HartSet, KeeperSet, NumberSet};
+pub use sets::{HartSet, KeeperSet};
 pub use text::{first_line, read_number, read_word, word_text};

@@ -1,17 +1,33 @@
 //! Harts, keepers, pages, terms and counts.
 
 ghost use Rattle.std.specs.Prelude.{◌≡◌, ◌<◌, ℕ};
+ghost use Rattle.ft_types.specs.declared.names.TheConstants.{HART_LIMIT, KEEPER_LIMIT, PAGE_LIMIT};
 
 use std::marker::Model;
 
 /// The number of harts that a machine has at the most.
 pub const HART_LIMIT: u8 = 8;
 
+/// The length of a row with a place for each hart.
+pub const HART_ROW: usize = HART_LIMIT as usize;
+
 /// The number of keepers that there are at the most.
 pub const KEEPER_LIMIT: u8 = 5;
 
+/// The length of a row with a place for each keeper.
+pub const KEEPER_ROW: usize = KEEPER_LIMIT as usize;
+
 /// The number of pages that a machine has at the most.
 pub const PAGE_LIMIT: u8 = 64;
+
+/// The length of a row with a place for each page.
+pub const PAGE_ROW: usize = PAGE_LIMIT as usize;
+
+/// The number of inputs that a hart takes at one count at the most.
+pub const INPUT_LIMIT: usize = 8;
+
+/// The number of steps of a lease at the most.
+pub const LEASE_STEPS: u64 = 1024;
 
 /// The number of bytes of a page.
 pub const PAGE_BYTES: usize = 4096;
@@ -36,7 +52,7 @@ impl Model for Hart {
 
     ghost view = { λ h. h.number };
 
-    ghost invariant = { λ h. h.number < 8 };
+    ghost invariant = { λ h. h.number < HART_LIMIT };
 
     ghost inverse = { λ n. record { number = n } };
 }
@@ -55,7 +71,7 @@ impl Hart {
     #[inline(always)]
     pub fn number(self) -> u8
         ensures value { result ≡ self }
-        ensures below { result < 8 }
+        ensures below { result < HART_LIMIT }
     {
         self.number
     }
@@ -64,7 +80,7 @@ impl Hart {
     #[inline(always)]
     pub fn index(self) -> usize
         ensures value { result ≡ self }
-        ensures below { result < 8 }
+        ensures below { result < HART_LIMIT }
     {
         self.number as usize
     }
@@ -81,7 +97,7 @@ impl Model for Keeper {
 
     ghost view = { λ k. k.number };
 
-    ghost invariant = { λ k. k.number < 5 };
+    ghost invariant = { λ k. k.number < KEEPER_LIMIT };
 
     ghost inverse = { λ n. record { number = n } };
 }
@@ -98,7 +114,7 @@ impl Keeper {
     /// The keeper's number, below `KEEPER_LIMIT`.
     pub fn number(self) -> u8
         ensures value { result ≡ self }
-        ensures below { result < 5 }
+        ensures below { result < KEEPER_LIMIT }
     {
         self.number
     }
@@ -106,7 +122,7 @@ impl Keeper {
     /// The keeper's number, as the index of a row.
     pub fn index(self) -> usize
         ensures value { result ≡ self }
-        ensures below { result < 5 }
+        ensures below { result < KEEPER_LIMIT }
     {
         self.number as usize
     }
@@ -123,7 +139,7 @@ impl Model for PageNo {
 
     ghost view = { λ p. p.number };
 
-    ghost invariant = { λ p. p.number < 64 };
+    ghost invariant = { λ p. p.number < PAGE_LIMIT };
 
     ghost inverse = { λ n. record { number = n } };
 }
@@ -142,7 +158,7 @@ impl PageNo {
     #[inline(always)]
     pub fn number(self) -> u8
         ensures value { result ≡ self }
-        ensures below { result < 64 }
+        ensures below { result < PAGE_LIMIT }
     {
         self.number
     }
@@ -151,7 +167,7 @@ impl PageNo {
     #[inline(always)]
     pub fn index(self) -> usize
         ensures value { result ≡ self }
-        ensures below { result < 64 }
+        ensures below { result < PAGE_LIMIT }
     {
         self.number as usize
     }

@@ -29,9 +29,9 @@ fn two_of_three_release(rt: HostRuntime) -> Result<(), Fail> {
     assert_eq!(rt; [again.len(), gate.kept()], [0, 0]);
     let counted = gate.counted(hart, 9);
     let members = [
-        counted.contains(0),
-        counted.contains(1),
-        counted.contains(2),
+        counted.contains(Keeper::new(0)),
+        counted.contains(Keeper::new(1)),
+        counted.contains(Keeper::new(2)),
     ];
     assert_eq!(rt; members, [true, false, true]);
     assert_eq!(rt; counted.len(), 2);

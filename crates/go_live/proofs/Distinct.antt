@@ -56,7 +56,7 @@ distinct_more (m ∷ ns) n =
 
 -- the flags are set at the list's numbers, and as many as it has different ones
 pub record IsCounted (ns : List ℕ) (flags : List Bool) : Type 0 where
-  pub sized : length flags ≡ 8
+  pub sized : length flags ≡ 5
   pub members : (n : ℕ) → get_or flags n false ≡ list_any (λ m. m == n) ns
   pub many : count_by (λ member. member) flags ≡ distinct ns
 
@@ -71,7 +71,7 @@ flag_more flags n within =
     of true e = omega (arith, e)
     of false e = omega (arith, e)
 
-pub counted_more : (ns : List ℕ) (n : ℕ) (flags : List Bool) → n < 8 → IsCounted ns flags → IsCounted (ns ++ n ∷ []) (slice_set flags n true)
+pub counted_more : (ns : List ℕ) (n : ℕ) (flags : List Bool) → n < 5 → IsCounted ns flags → IsCounted (ns ++ n ∷ []) (slice_set flags n true)
 counted_more ns n flags below is =
     record {
       sized = length-set flags n true ∙ is.sized;
@@ -109,5 +109,5 @@ no_flags [] none = refl
 no_flags (true ∷ flags) none = absurd (none 0 refl)
 no_flags (false ∷ flags) none = no_flags flags (λ n. none (suc n))
 
-pub counted_none : (flags : List Bool) → length flags ≡ 8 → ((n : ℕ) → get_or flags n false ≡ true → ⊥) → IsCounted [] flags
+pub counted_none : (flags : List Bool) → length flags ≡ 5 → ((n : ℕ) → get_or flags n false ≡ true → ⊥) → IsCounted [] flags
 counted_none flags sized none = record { sized = sized; members = λ n. none_of (get_or flags n false) (none n); many = no_flags flags none }

@@ -4,7 +4,7 @@ use Rattle.std.specs.Prelude.{All}
 use Rattle.std.specs.FinMap as finite
 use Rattle.std.specs.Ordering.{nat_cmp}
 use Rattle.std.proofs.lemmas.List.Elements.{All-head, All-tail}
-use Rattle.ft_types.specs.declared.guest.Guest.{Guest}
+use Rattle.ft_types.specs.Guests.{GuestParts}
 use Rattle.fragment_codec.specs.Rules.{OpeningParts}
 use Rattle.log_join.specs.Cells.{Cell, One, Absent, Clash, cell_of, join_cell}
 use Rattle.log_join.specs.Tests.{same_opening}
@@ -45,7 +45,7 @@ opens_below term a b c join first second other some =
       | inr there ↦ second other there
     ]
 
-pub joined_below : (guest : Guest) (stores : List StoreView) (term : ℕ) (joined : StoreView) → IsNew stores term → AreJoined guest stores joined →
+pub joined_below : (guest : GuestParts) (stores : List StoreView) (term : ℕ) (joined : StoreView) → IsNew stores term → AreJoined guest stores joined →
     (other : ℕ) (o : OpeningParts) → opening_at joined other ≡ One o → other < term
 joined_below guest stores term joined new are other o one =
     joined_keep (OpensBelow term) (opens_below term) (nothing guest) stores joined

@@ -5,7 +5,7 @@ use Rattle.std.proofs.lemmas.List.{length-map, get_or-map}
 use Rattle.log_join.specs.Stores.{StoreView, IsLastTerm}
 use Rattle.log_join.specs.Tests.{same_guest}
 use Rattle.log_join.proofs.Told.{guests_told}
-use Rattle.ft_types.specs.declared.guest.Guest.{Guest}
+use Rattle.ft_types.specs.Guests.{GuestParts}
 use Rattle.go_live.specs.Quorums.{HasTerm, IsNew, IsOld}
 
 pub is_later : (store : StoreView) (last term : ℕ) → IsLastTerm store last → last < term → (other : ℕ) → HasTerm store other → other < term
@@ -28,10 +28,10 @@ any_made f P xs i x within is holds =
     (i, f x, rw (length-map xs f) within, get_or-map f xs i x (f x) within ∙ ap f (sym is), holds)
 
 -- what it says that two guests differ, or that they do not
-pub differ : (a b : Guest) → not (same_guest a b) ≡ true → a ≢ b
+pub differ : (a b : GuestParts) → not (same_guest a b) ≡ true → a ≢ b
 differ a b told e = let no : false ≡ true = rw ((guests_told a b).1 e) at told in cc
 
-pub agree : (a b : Guest) → not (same_guest a b) ≡ false → a ≡ b
+pub agree : (a b : GuestParts) → not (same_guest a b) ≡ false → a ≡ b
 agree a b told = of (same_guest a b) refl told
   where
     of : (t : Bool) → same_guest a b ≡ t → not t ≡ false → a ≡ b

@@ -5,8 +5,8 @@ use Rattle.std.specs.Prelude.{All}
 use Rattle.std.proofs.lemmas.List.{get_or_default}
 use Rattle.std.proofs.Math.Path.{fun_ext}
 use Rattle.ft_types.specs.Counts.{count_at, IsCount}
-use Rattle.ft_types.specs.declared.guest.Guest.{Guest}
-use Rattle.fragment_codec.specs.Rules.{OpeningParts, IsDigest, IsOpening}
+use Rattle.ft_types.specs.Guests.{GuestParts, IsGuest}
+use Rattle.fragment_codec.specs.Rules.{OpeningParts, IsOpening}
 use Rattle.log_join.specs.Cells.{One}
 use Rattle.log_join.specs.Stores.{StoreView, opening_at, IsStore}
 use Rattle.closed_cut.specs.Position.{IsPosition, NoTop, Top}
@@ -67,12 +67,12 @@ zeros : (row : List ℕ) → ((hart : ℕ) → count_at row hart ≡ 0) → All 
 zeros row none k d within = get_or_default row k d 0 within ∙ none k
 
 -- an opening that goes on from a position keeps the rules
-pub opening_fits : (guest : Guest) (term : ℕ) (position : Position) → IsDigest guest.digest → 1 ≤ guest.harts → guest.harts ≤ 8 → term < 2 ^ 32 →
+pub opening_fits : (guest : GuestParts) (term : ℕ) (position : Position) → IsGuest guest → term < 2 ^ 32 →
     length position.counts ≡ guest.harts → position.term < term → AllByRecursion IsCount position.counts →
     (position.term ≡ 0 → (hart : ℕ) → count_at position.counts hart ≡ 0) → IsOpening (opening_from guest term position)
-opening_fits guest term position digest some limit fits harts later counts boot =
+opening_fits guest term position rules fits harts later counts boot =
     record {
-      guest = record { digest = digest; some = some; limit = limit };
+      guest = rules;
       granted = omega (arith, later);
       term = fits;
       parent = later;

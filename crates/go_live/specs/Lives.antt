@@ -1,7 +1,8 @@
 -- Where a primary goes on that goes live.
 use Rattle.std.specs.Prelude.{ℕ, ◌≡◌, ◌≢◌, List, [], replicate, None}
+use Rattle.ft_types.specs.declared.names.TheConstants.{HART_ROW}
 use Rattle.ft_types.specs.Counts.{count_at}
-use Rattle.ft_types.specs.declared.guest.Guest.{Guest}
+use Rattle.ft_types.specs.Guests.{GuestParts}
 use Rattle.fragment_codec.specs.Rules.{OpeningParts}
 use Rattle.log_join.specs.Stores.{StoreView, IsStore}
 use Rattle.closed_cut.specs.Position.{IsPosition}
@@ -28,12 +29,12 @@ pub record IsReplayed (image : ImageContents) (store : StoreView) (position : Po
   pub counts : (hart : ℕ) → counts_of machine hart ≡ count_at position.counts hart
 
 -- the opening of a term that goes on from the position
-abbrev pub opening_from : Guest → ℕ → Position → OpeningParts
+abbrev pub opening_from : GuestParts → ℕ → Position → OpeningParts
 opening_from guest term position = record { guest = guest; term = term; parent = position.term; base = position.counts }
 
 -- a book that begins with the machine: no step is settled, and no lease is open
 abbrev pub BeginsFrom : MachineState → BookView RecordingView → Type 0
-BeginsFrom machine book = book ≡ record { start = machine; machine = machine; journal = []; leases = replicate 8 None; mode = book.mode }
+BeginsFrom machine book = book ≡ record { start = machine; machine = machine; journal = []; leases = replicate HART_ROW None; mode = book.mode }
 
 -- the machine is where the join of the stores leads to, and the opening goes on from there
 pub record IsAtPosition (image : ImageContents) (stores : List StoreView) (term : ℕ) (machine : MachineState) (opening : OpeningParts) : Type 0 where

@@ -2,6 +2,7 @@
 
 ghost use Rattle.std.specs.Prelude.{◌≡◌, ◌≢◌, ◌<◌, ◌≤◌, ◌+◌, ◌-◌, ◌↔◌, ℕ, map, length, slice_index, Err, All, IfOk, IfErr, OnOk};
 ghost use Rattle.std.specs.List.{Any};
+ghost use Rattle.ft_types.specs.declared.names.TheConstants.{KEEPER_LIMIT};
 ghost use Rattle.input_log.specs.Waiting.{bells_of};
 ghost use Rattle.book_modes.specs.Silences.{unheard_bells};
 ghost use Rattle.ft_types.specs.Counts.{count_at};
@@ -50,10 +51,8 @@ fn replay_to(
     requires { store.now.guest ≡ guest_of image.now }
     ensures replayed { IfOk result (λ p. IsReplayed image.now store.now p.0 p.1) }
     ensures harts { IfOk result (λ p. (length p.0.counts ≡ image.now.harts) × (length p.1.harts ≡ image.now.harts)) }
-    ensures guest { (1 ≤ image.now.harts) × (image.now.harts ≤ 8) }
     ensures fault { IfErr result (λ fault. fault ≢ ReplayFault.Memory → HasNoMachine image.now store.now fault) }
 {
-    let _few = image.harts();
     let _rules = store.guest();
     let position = position(alloc, store)?;
     let plan = plan(alloc, store, &position)?;
@@ -61,22 +60,14 @@ fn replay_to(
     Ok((position, machine))
 }
 
-/// What the type of bytes says of each.
-fn bytes_fit(_bytes: &[u8])
-    ensures { (i : ℕ) → slice_index _bytes.now i < 256 }
-{}
-
 /// The opening of a term that goes on from the position.
 fn opening_of(guest: Guest, term: Term, position: &Position) -> Opening
-    requires some { 1 ≤ guest.harts }
-    requires limit { guest.harts ≤ 8 }
     requires harts { length position.now.counts ≡ guest.harts }
     requires later { position.now.term < term }
     requires boot { position.now.term ≡ 0 → (hart : ℕ) → count_at position.now.counts hart ≡ 0 }
     ensures { result ≡ opening_from guest term position.now }
 {
-    let digest = guest.digest;
-    bytes_fit(&digest);
+    let _rules = guest.harts();
     let base = position.counts;
     let _counts = base.as_slice();
     Opening::new(guest, term, position.term, base).unwrap()
@@ -108,7 +99,7 @@ pub fn go_live(
     need: u8,
     term: Term,
 ) -> Result<Live, LiveFault>
-    requires quorum { (0 < need) × (need ≤ keepers) × (keepers ≤ 5) }
+    requires quorum { (0 < need) × (need ≤ keepers) × (keepers ≤ KEEPER_LIMIT) }
 
     // The book begins with the machine at the position of the joined stores, and nothing is settled in it; the opening names
     // that position.

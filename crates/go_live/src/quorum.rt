@@ -14,7 +14,7 @@ fn keepers_of(stores: &[(Keeper, &Store)]) -> usize
 {
     let mut keepers = KeeperSet::new();
     for (keeper, _) in stores {
-        keepers = keepers.with(keeper.number());
+        keepers = keepers.with(*keeper);
     }
     keepers.len()
 }

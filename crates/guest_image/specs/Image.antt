@@ -3,7 +3,8 @@ use Rattle.std.specs.Prelude.{◌≡◌, ℕ, ◌+◌, ◌*◌, ◌^◌, ◌<◌
 use Rattle.std.specs.List.{flat_map, AllByRecursion}
 use Rattle.ft_types.specs.Text.{line, word}
 use Rattle.sha2.specs.Sha256.{sha256}
-use Rattle.ft_types.specs.declared.guest.Guest.{Guest}
+use Rattle.ft_types.specs.Guests.{GuestParts}
+use Rattle.ft_types.specs.declared.names.TheConstants.{HART_LIMIT, PAGE_LIMIT}
 use Rattle.guest_image.specs.declared.fault.ImageFault.{ImageFault}
 use Rattle.guest_image.specs.declared.fault.ImageFault.TheVariants.{BadLine, TooLarge, NoHarts, Memory}
 
@@ -37,15 +38,15 @@ abbrev pub AreWords : List ℕ → Type 0
 AreWords ws = AllByRecursion (λ w. w < 2 ^ 32) ws
 
 -- SHA-256 of the file's bytes (FIPS 180-4), and the number of harts
-abbrev pub guest_of : ImageContents → Guest
+abbrev pub guest_of : ImageContents → GuestParts
 guest_of i = record { digest = sha256 (image_text i); harts = i.harts }
 
 -- what an image file may say
 pub record Fits (i : ImageContents) : Type 0 where
   pub some_harts : 0 < i.harts
-  pub harts : i.harts ≤ 8
+  pub harts : i.harts ≤ HART_LIMIT
   pub some_pages : 0 < i.pages
-  pub pages : i.pages ≤ 64
+  pub pages : i.pages ≤ PAGE_LIMIT
   pub words : AreWords i.words
   pub room : length i.words ≤ i.pages * 1024
 
@@ -69,11 +70,11 @@ WordsThen pages bytes words rest = AreWords words × (length words ≤ pages * 1
 
 -- line 1 is right, and rest stands behind it
 abbrev pub AfterHarts : List ℕ → List ℕ → Type 0
-AfterHarts bytes rest = (n : ℕ) × (n ≤ 8) × Sets bytes harts_name n rest
+AfterHarts bytes rest = (n : ℕ) × (n ≤ HART_LIMIT) × Sets bytes harts_name n rest
 
 -- lines 1 and 2 are right, and rest stands behind them
 abbrev pub AfterPages : List ℕ → ℕ → List ℕ → Type 0
-AfterPages bytes pages rest = (behind : List ℕ) × AfterHarts bytes behind × (pages ≤ 64) × Sets behind pages_name pages rest
+AfterPages bytes pages rest = (behind : List ℕ) × AfterHarts bytes behind × (pages ≤ PAGE_LIMIT) × Sets behind pages_name pages rest
 
 -- the fault of the lines from line 3 on, the first one from the left
 abbrev pub IsWordFault : ℕ → List ℕ → ImageFault → Type 0
@@ -87,14 +88,14 @@ IsWordFault pages bytes Memory = Unit {0}
 -- line 2 is at fault
 abbrev pub IsPagesFault : List ℕ → ImageFault → Type 0
 IsPagesFault bytes (BadLine k) = (k ≡ 2) × LacksSetting bytes pages_name
-IsPagesFault bytes TooLarge = (n : ℕ) × (rest : List ℕ) × (64 < n) × Sets bytes pages_name n rest
+IsPagesFault bytes TooLarge = (n : ℕ) × (rest : List ℕ) × (PAGE_LIMIT < n) × Sets bytes pages_name n rest
 IsPagesFault bytes NoHarts = ⊥
 IsPagesFault bytes Memory = ⊥
 
 -- line 1 is at fault
 abbrev pub IsHartsFault : List ℕ → ImageFault → Type 0
 IsHartsFault bytes (BadLine k) = ⊥
-IsHartsFault bytes TooLarge = (n : ℕ) × (rest : List ℕ) × (8 < n) × Sets bytes harts_name n rest
+IsHartsFault bytes TooLarge = (n : ℕ) × (rest : List ℕ) × (HART_LIMIT < n) × Sets bytes harts_name n rest
 IsHartsFault bytes NoHarts = LacksSetting bytes harts_name
 IsHartsFault bytes Memory = ⊥
 

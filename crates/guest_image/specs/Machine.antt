@@ -2,6 +2,7 @@
 use Rattle.std.specs.Prelude.{◌≡◌, ℕ, zero, suc, ◌+◌, ◌-◌, ◌*◌, ◌<◌, ◌≤◌, List, [], ◌∷◌, ◌++◌, length, take, drop, map, replicate, slice_set}
 use Rattle.std.specs.Int.{to_le_bytes, from_le_bytes, w32}
 use Rattle.std.specs.List.{flat_map, range_with_len, AllByRecursion}
+use Rattle.ft_types.specs.declared.names.TheConstants.{HART_LIMIT, PAGE_LIMIT}
 use Rattle.interleaving.specs.Stored.{Store}
 use Rattle.guest_image.specs.Image.{ImageContents}
 use Rattle.rv32_hart.specs.Hart.{Hart, boot_hart}
@@ -18,10 +19,10 @@ AreInPlace harts place (h ∷ rest) = (h.number ≡ place) × (h.harts ≡ harts
 -- what every machine keeps
 pub record IsMachine (m : MachineState) : Type 0 where
   pub some_harts : 0 < length m.harts
-  pub harts : length m.harts ≤ 8
+  pub harts : length m.harts ≤ HART_LIMIT
   pub places : AreInPlace (length m.harts) 0 m.harts
   pub some_pages : 0 < length m.pages
-  pub pages : length m.pages ≤ 64
+  pub pages : length m.pages ≤ PAGE_LIMIT
   pub bytes : AllByRecursion (λ page. length page ≡ 4096) m.pages
 
 -- the machine with a hart in this place

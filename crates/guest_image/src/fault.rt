@@ -4,7 +4,7 @@
 #[derive(Clone, Copy, Debug, PartialEq, Eq)]
 pub enum ImageFault {
     /// The line of this number, from 1, has another form.
-    BadLine(usize),
+    BadLine(u64),
     /// There are too many harts, pages or words.
     TooLarge,
     /// The first line isn't one of a number of harts.

@@ -7,7 +7,7 @@ ghost use Rattle.guest_image.specs.declared.fault.ImageFault.{ImageFault};
 
 use crate::fault::ImageFault;
 use crate::lines::{read_setting, read_words};
-use ft_types::{Guest, Memory};
+use ft_types::{Guest, HART_LIMIT, Memory, PAGE_LIMIT};
 use sha2::{Digest, Sha256};
 use std::alloc::Global;
 use std::marker::Model;
@@ -36,20 +36,20 @@ impl Model for Image {
 }
 
 impl Image {
-    /// The number of harts, 1 to 8.
+    /// The number of harts, 1 to `HART_LIMIT`.
     pub fn harts(&self) -> u8
         ensures value { result ≡ self.now.harts }
         ensures some { 0 < result }
-        ensures limit { result ≤ 8 }
+        ensures limit { result ≤ HART_LIMIT }
     {
         self.harts
     }
 
-    /// The number of pages, 1 to 64.
+    /// The number of pages, 1 to `PAGE_LIMIT`.
     pub fn pages(&self) -> u8
         ensures value { result ≡ self.now.pages }
         ensures some { 0 < result }
-        ensures limit { result ≤ 64 }
+        ensures limit { result ≤ PAGE_LIMIT }
     {
         self.pages
     }
@@ -73,10 +73,7 @@ impl Image {
     pub fn guest(&self) -> Guest
         ensures { result ≡ guest_of self.now }
     {
-        Guest {
-            digest: self.digest(),
-            harts: self.harts(),
-        }
+        Guest::new(self.digest(), self.harts()).unwrap()
     }
 
     /// An equal image.
@@ -102,13 +99,13 @@ fn read_parts(alloc: Global, bytes: &[u8]) -> Result<Image, ImageFault>
     match read_setting(b"harts ", bytes) {
         None => Err(ImageFault::NoHarts),
         Some((harts, behind)) => {
-            if harts > 8 {
+            if harts > u64::from(HART_LIMIT) {
                 return Err(ImageFault::TooLarge);
             }
             match read_setting(b"pages ", behind) {
                 None => Err(ImageFault::BadLine(2)),
                 Some((pages, behind)) => {
-                    if pages > 64 {
+                    if pages > u64::from(PAGE_LIMIT) {
                         return Err(ImageFault::TooLarge);
                     }
                     match read_words(alloc, pages as u8, behind) {

@@ -5,7 +5,7 @@ ghost use Rattle.std.specs.List.{AllByRecursion};
 ghost use Rattle.guest_image.specs.Image.{Sets, LacksSetting, StartsWithWord, LacksWord, WordsThen, IsWordFault};
 
 use crate::fault::ImageFault;
-use ft_types::{first_line, read_number, read_word};
+use ft_types::{PAGE_LIMIT, first_line, read_number, read_word};
 use std::alloc::Global;
 use std::option::Option;
 use std::vec::Vec;
@@ -50,7 +50,7 @@ fn read_word_line(bytes: &[u8]) -> Option<(u32, &[u8])>
 
 /// The words of all lines.
 pub(super) fn read_words(alloc: Global, pages: u8, bytes: &[u8]) -> Result<Vec<u32>, ImageFault>
-    requires { pages ≤ 64 }
+    requires { pages ≤ PAGE_LIMIT }
     ensures found { IfOk result (λ v. WordsThen pages bytes.now v.items []) }
     ensures fault { IfErr result (λ e. IsWordFault pages bytes.now e) }
 {
@@ -59,7 +59,7 @@ pub(super) fn read_words(alloc: Global, pages: u8, bytes: &[u8]) -> Result<Vec<u
     let mut rest = bytes;
     while rest.len() > 0 {
         match read_word_line(rest) {
-            None => return Err(ImageFault::BadLine(words.len() + 3)),
+            None => return Err(ImageFault::BadLine(words.len() as u64 + 3)),
             Some((word, behind)) => {
                 if words.len() >= room {
                     return Err(ImageFault::TooLarge);

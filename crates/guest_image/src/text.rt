@@ -6,7 +6,7 @@ ghost use Rattle.guest_image.specs.Text.{numbered, status, spaced, hart_line, cs
 ghost use Rattle.guest_image.specs.Text.{heard_name, hart_lines, bell_lines, hart_tables, hart_text, ram_line};
 ghost use Rattle.guest_image.specs.Machine.{words_of};
 
-use ft_types::{Failed, LineBuffer, Sink};
+use ft_types::{Failed, LineBuffer, PAGE_LIMIT, Sink};
 use rv32_hart::HartState;
 
 fn status_text(halted: bool) -> &'static [u8]
@@ -216,7 +216,7 @@ pub(crate) fn write_hart<W: Sink>(hart: &HartState, out: &mut W) -> Result<(), F
 
 /// Writes the lines of a page's words.
 pub(crate) fn write_page<W: Sink>(number: u32, bytes: &[u8], out: &mut W) -> Result<(), Failed>
-    requires number { number < 64 }
+    requires number { number < PAGE_LIMIT }
     requires size { length bytes.now ≤ 4096 }
     ensures { Writes result (W.bytes out.old) (W.bytes out.new) (W.failures out.old) (W.failures out.new) (numbered ram_line (number * 1024)
         (words_of bytes.now)) }

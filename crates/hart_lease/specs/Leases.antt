@@ -3,6 +3,7 @@ use Rattle.std.specs.Prelude.{◌≡◌, ◌≢◌, ◌≤◌, ◌<◌, ◌⊎�
 use Rattle.std.specs.Prelude.{slice_index_or, true, Option, Some, None}
 use Rattle.ft_types.specs.declared.names.Want.{Want}
 use Rattle.ft_types.specs.declared.names.Want.TheVariants.{Read, Write}
+use Rattle.ft_types.specs.declared.names.TheConstants.{LEASE_STEPS, PAGE_ROW}
 use Rattle.rv32_hart.specs.Hart.{Hart, with_earlier}
 use Rattle.rv32_hart.specs.Step.{IsTaken, IsMissing, IsOutput}
 use Rattle.rv32_hart.specs.declared.outcome.Tick.{Tick}
@@ -41,7 +42,7 @@ fresh hart state pages lent =
       inputs = lent.inputs;
       bases = replicate pages None;
       slots = replicate pages Missing;
-      taken = replicate 64 None;
+      taken = replicate PAGE_ROW None;
       edges = lent.edges;
       steps = 0;
       stop = lent.stop;
@@ -64,9 +65,9 @@ whole_in m l = whole (outputs_of (slice_get m.harts l.hart)) l
 abbrev pub base_at : LeaseView → ℕ → Option (List ℕ)
 base_at l page = base_of (slot_at l.slots page) (slice_index_or l.bases page None)
 
--- after 1,024 steps, at its stop, and after a step that halts or rings
+-- after LEASE_STEPS steps, at its stop, and after a step that halts or rings
 abbrev pub IsFull : LeaseView → Type 0
-IsFull l = (1024 ≤ l.steps) ⊎ ((l.stop ≤ l.present.count) ⊎ ((l.present.halted ≡ true) ⊎ (l.present.rung ≢ l.base.rung)))
+IsFull l = (LEASE_STEPS ≤ l.steps) ⊎ ((l.stop ≤ l.present.count) ⊎ ((l.present.halted ≡ true) ⊎ (l.present.rung ≢ l.base.rung)))
 
 -- the bell that waits for whomever the lease rang, which it did at its last step
 abbrev pub rung_bell : LeaseView → WaitingBell

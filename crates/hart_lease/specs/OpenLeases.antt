@@ -6,6 +6,7 @@ use Rattle.input_log.specs.declared.Input.{Input}
 use Rattle.hart_lease.specs.declared.taken.Taken.{Taken}
 use Rattle.hart_lease.specs.Taken.{taken_at, right_of_taken, taking}
 use Rattle.ft_types.specs.declared.names.Want.TheVariants.{Read, Write}
+use Rattle.ft_types.specs.declared.names.TheConstants.{PAGE_ROW}
 
 pub record OpenView : Type 0 where
   pub stop : ℕ  -- the count that it does not go past
@@ -32,7 +33,7 @@ idle = record { stop = 0; inputs = []; edges = [] }
 
 -- a lease of no page
 abbrev pub nothing_taken : LentView → OpenView
-nothing_taken lent = record { stop = lent.stop; inputs = lent.inputs; taken = replicate 64 None; edges = lent.edges }
+nothing_taken lent = record { stop = lent.stop; inputs = lent.inputs; taken = replicate PAGE_ROW None; edges = lent.edges }
 
 -- the right that an open lease has on a page
 abbrev pub right_of : Option OpenView → ℕ → Option Want

@@ -5,6 +5,7 @@ use Rattle.interleaving.specs.Machine.{Turn}
 use Rattle.interleaving.specs.Stored.{run_from}
 use Rattle.interleaving.specs.Log.{Edge, IsMet, Begins, turns_of}
 use Rattle.ft_types.specs.Counts.{count_at}
+use Rattle.ft_types.specs.declared.names.TheConstants.{COUNT_LIMIT, INPUT_LIMIT}
 use Rattle.input_log.specs.declared.Input.{Input}
 use Rattle.input_log.specs.Inputs.{inputs_of, inputs_at}
 use Rattle.rv32_hart.specs.Hart.{Hart}
@@ -35,8 +36,8 @@ IsRunOf l = (m : MachineState) → StandsIn m l → run_of m (turns_from l.input
 -- what every lease keeps: its steps are those of its hart, one after the other, on every machine that its hart and pages
 -- stand in, and each uses only pages that it had taken by then; and it rang one hart at most
 pub record IsLease (l : LeaseView) : Type 0 where
-  pub stop : l.stop < 2 ^ 48
-  pub few : length l.inputs ≤ 8
+  pub stop : l.stop < COUNT_LIMIT
+  pub few : length l.inputs ≤ INPUT_LIMIT
   pub as_many : length l.bases ≡ length l.slots
   pub rights : (page : ℕ) → want_of (slot_at l.slots page) ≡ right_of_taken (taken_at l.taken page)
   pub number : l.present.number ≡ l.base.number

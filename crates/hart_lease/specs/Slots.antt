@@ -2,6 +2,7 @@
 use Rattle.std.specs.Prelude.{◌≡◌, ◌≤◌, ◌<◌, ℕ, List, length, map, replicate, slice_index_or, Bool, true, false, Option, Some, None}
 use Rattle.ft_types.specs.declared.names.Want.{Want}
 use Rattle.ft_types.specs.declared.names.Want.TheVariants.{Read, Write}
+use Rattle.ft_types.specs.declared.names.TheConstants.{PAGE_LIMIT}
 use Rattle.rv32_hart.specs.Ram.{Ram}
 use Rattle.hart_lease.specs.declared.lease_pages.Slot.{Slot}
 use Rattle.hart_lease.specs.declared.lease_pages.Slot.TheVariants.{Missing, Readable, Writable}
@@ -39,9 +40,9 @@ present_bytes (Writable page) = page
 abbrev pub ram_of : List Slot → Ram
 ram_of slots = record { contents = map present_bytes slots; readable = map is_readable slots; writable = map is_writable slots }
 
--- at most 64 pages, each of 4,096 bytes
+-- at most PAGE_LIMIT pages, each of 4,096 bytes
 pub record AreSlots (slots : List Slot) : Type 0 where
-  pub pages : length slots ≤ 64
+  pub pages : length slots ≤ PAGE_LIMIT
   pub bytes : (page : ℕ) → page < length slots → length (present_bytes (slot_at slots page)) ≡ 4096
 
 -- the page as it was lent, from what the slot has and, where it is writable, from the copy that was kept

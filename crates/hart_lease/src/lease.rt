@@ -3,6 +3,7 @@
 ghost use Rattle.std.specs.Cmp.Lexicographic.{pointwise};
 ghost use Rattle.std.specs.Prelude.{◌≡◌, ◌==◌, ◌&&◌, ◌≢◌, ◌<◌, ◌≤◌, ◌^◌, ◌⊎◌, ◌+◌, ◌-◌, ◌↔◌, ℕ, List, [], length, replicate, map, slice_set, slice_index_or};
 ghost use Rattle.std.specs.Prelude.{Option, Some, None, ◌∷◌, true, false, IfOk, IfSome, IfNone, OnOk, OnErr, IsTrue};
+ghost use Rattle.ft_types.specs.declared.names.TheConstants.{LEASE_STEPS};
 ghost use Rattle.rv32_hart.specs.Hart.{without_outputs};
 ghost use Rattle.guest_image.specs.Machine.{MachineState};
 ghost use Rattle.hart_lease.specs.Slots.{slot_at, want_of, base_of, is_writable};
@@ -18,16 +19,16 @@ use crate::lease_pages::{LeasePages, Slot};
 use crate::lent::Lent;
 use crate::taken::{Taken, TakenPages};
 use edge_log::Edge;
-use ft_types::{Count, HART_LIMIT, Hart, Memory, PageNo, Want};
+use ft_types::{
+    COUNT_LIMIT, Count, HART_LIMIT, HART_ROW, Hart, INPUT_LIMIT, LEASE_STEPS, Memory, PAGE_LIMIT,
+    PAGE_ROW, PageNo, Want,
+};
 use guest_image::{Machine, Page};
 use input_log::{Input, WaitingBell};
 use rv32_hart::{Decoder, HartState, Tick, run_quietly, tick, tick_running};
 use smallvec::SmallVec;
 use std::alloc::Global;
 use std::marker::Model;
-
-/// The most steps of one lease.
-pub const LEASE_STEPS: u64 = 1024;
 
 /// One hart's state and some pages, on loan. Whoever has it may give it pages, and has to spend or waste it: so a book hands
 /// its own out inside a type that the book alone takes apart.
@@ -38,21 +39,21 @@ pub struct Lease {
     /// The hart at present, with the outputs of the lease's steps alone.
     present: HartState,
     /// The inputs of its first step.
-    inputs: SmallVec<Input, 8>,
+    inputs: SmallVec<Input, INPUT_LIMIT>,
     /// The contents that each page to be written had when it came.
     bases: Vec<Option<Page>>,
     pages: LeasePages,
     /// The counts at which it took each page.
     taken: TakenPages,
     /// The edges found, which wait until it is settled.
-    edges: SmallVec<Edge, 8>,
+    edges: SmallVec<Edge, HART_ROW>,
     stop: Count,
-    /// The count at which it is full, if not before: its stop, or that after 1,024 steps.
+    /// The count at which it is full, if not before: its stop, or that after `LEASE_STEPS` steps.
     last: Count,
     decoder: Box<Decoder>,
     ghost last_stops: { last ≤ stop },
-    ghost last_ends: { last ≤ base.count + 1024 },
-    ghost last_is_one: { last < stop → base.count + 1024 ≤ last },
+    ghost last_ends: { last ≤ base.count + LEASE_STEPS },
+    ghost last_is_one: { last < stop → base.count + LEASE_STEPS ≤ last },
 }
 
 impl Model for Lease {
@@ -125,7 +126,7 @@ fn same_inputs(inputs: &[Input], others: &[Input]) -> bool
 impl Lease {
     /// A lease of a hart in this state but for its outputs, without steps and pages, which may not take any yet.
     pub fn fresh(alloc: Global, hart: Hart, state: &HartState, pages: u8) -> Result<Lease, Memory>
-        requires pages { pages ≤ 64 }
+        requires pages { pages ≤ PAGE_LIMIT }
         ensures { IfOk result (λ l. l ≡ fresh hart (without_outputs state.now) pages idle) }
     {
         let base = state.without_outputs();
@@ -152,7 +153,7 @@ impl Lease {
     /// Sends the lease out with this.
     pub fn go_out(&mut self, lent: Lent)
         requires idle { self.old ≡ fresh self.old.hart self.old.base (length self.old.slots) idle }
-        requires stop { lent.stop < 2 ^ 48 }
+        requires stop { lent.stop < COUNT_LIMIT }
         ensures { self.new ≡ record self.old { stop = lent.stop; inputs = lent.inputs; edges = lent.edges } }
     {
         let stop = lent.stop();
@@ -196,7 +197,7 @@ impl Lease {
     /// What its first step is given.
     pub fn inputs(&self) -> &[Input]
         ensures value { result.now ≡ self.now.inputs }
-        ensures few { length result.now ≤ 8 }
+        ensures few { length result.now ≤ INPUT_LIMIT }
     {
         self.inputs.as_slice()
     }
@@ -211,7 +212,7 @@ impl Lease {
     /// What it asks for, when it asks for a right on a page.
     pub fn asks(&self, page: PageNo, want: Want) -> Asked
         ensures value { result ≡ asked_by self.now page want }
-        ensures count { result.count < 2 ^ 48 }
+        ensures count { result.count < COUNT_LIMIT }
         ensures kept { IsBareLease self.now }
     {
         Asked {
@@ -223,7 +224,7 @@ impl Lease {
     }
 
     /// Puts these edges in place of those that wait.
-    pub fn wait_with(&mut self, edges: SmallVec<Edge, 8>)
+    pub fn wait_with(&mut self, edges: SmallVec<Edge, HART_ROW>)
         ensures { self.new ≡ record self.old { edges = edges.items } }
     {
         self.edges = edges;
@@ -252,7 +253,7 @@ impl Lease {
         self.pages.right(page)
     }
 
-    /// Whether it takes no further step: it has 1,024, its last one halted or rang, or it is at its stop.
+    /// Whether it takes no further step: it has `LEASE_STEPS`, its last one halted or rang, or it is at its stop.
     #[inline(always)]
     pub fn full(&self) -> bool
         ensures { IsTrue result ↔ IsFull self.now }
@@ -381,7 +382,7 @@ impl Lease {
 
     /// Whether the lease's hart and pages were lent by the machine, the pages at these counts.
     #[tactic(auto, using(crate::proofs::steps::EarlierOutputs::lent_whole, crate::proofs::steps::EarlierOutputs::lent_bare))]
-    pub fn is_lent(&self, machine: &Machine, taken: &[Option<Taken>; 64]) -> bool
+    pub fn is_lent(&self, machine: &Machine, taken: &[Option<Taken>; PAGE_ROW]) -> bool
         requires { self.now.hart < length machine.now.harts }
         ensures { IsTrue result ↔ IsLent machine.now taken.now (whole_in machine.now self.now) }
     {
@@ -406,7 +407,7 @@ impl Lease {
     }
 
     /// Whether it took its pages at these counts.
-    fn took(&self, taken: &[Option<Taken>; 64]) -> bool
+    fn took(&self, taken: &[Option<Taken>; PAGE_ROW]) -> bool
         ensures { IsTrue result ↔ (self.now.taken ≡ taken.now) }
     {
         self.taken.same(taken)
@@ -448,7 +449,7 @@ impl Lease {
 
     /// The hart that the lease rang, which it did at its last step. It rang one at most.
     pub fn rung(&self) -> Option<Hart>
-        ensures some { IfSome result (λ t. (t < 8) × (bells_rung self.now t ≡ rung_bell self.now ∷ []) ×
+        ensures some { IfSome result (λ t. (t < HART_LIMIT) × (bells_rung self.now t ≡ rung_bell self.now ∷ []) ×
             ((other : ℕ) → other ≢ t → bells_rung self.now other ≡ [])) }
         ensures none { IfNone result ((target : ℕ) → bells_rung self.now target ≡ []) }
     {

@@ -3,36 +3,41 @@
 ghost use Rattle.std.specs.Prelude.{◌≡◌, ◌≤◌, length};
 
 use edge_log::Edge;
-use ft_types::Count;
+use ft_types::{Count, HART_ROW, INPUT_LIMIT};
 use input_log::Input;
 use smallvec::SmallVec;
 use std::marker::Model;
 
 /// What a hart that is lent goes out with: the count that its lease does not go past, the inputs of its next step, and the
-/// edges that this step owes whatever page it uses. At most eight of each.
+/// edges that this step owes whatever page it uses. At most `INPUT_LIMIT` inputs, and an edge for each hart.
 #[derive(Drop)]
 pub struct Lent {
     stop: Count,
-    inputs: SmallVec<Input, 8>,
-    edges: SmallVec<Edge, 8>,
+    inputs: SmallVec<Input, INPUT_LIMIT>,
+    edges: SmallVec<Edge, HART_ROW>,
 }
 
 impl Model for Lent {
     ghost use Rattle.std.specs.Prelude.{◌≤◌, ◌<◌, ◌^◌, length};
     ghost use Rattle.hart_lease.specs.OpenLeases.{LentView};
+    ghost use Rattle.ft_types.specs.declared.names.TheConstants.{HART_ROW, INPUT_LIMIT};
 
     ghost Value = { LentView };
 
     ghost view = { λ l. record { stop = l.stop; inputs = l.inputs.items; edges = l.edges.items } };
 
-    ghost invariant = { λ l. (length l.inputs.items ≤ 8) × (length l.edges.items ≤ 8) };
+    ghost invariant = { λ l. (length l.inputs.items ≤ INPUT_LIMIT) × (length l.edges.items ≤ HART_ROW) };
 }
 
 impl Lent {
     /// So far, with these inputs and edges.
-    pub fn new(stop: Count, inputs: SmallVec<Input, 8>, edges: SmallVec<Edge, 8>) -> Lent
-        requires inputs { length inputs.items ≤ 8 }
-        requires edges { length edges.items ≤ 8 }
+    pub fn new(
+        stop: Count,
+        inputs: SmallVec<Input, INPUT_LIMIT>,
+        edges: SmallVec<Edge, HART_ROW>,
+    ) -> Lent
+        requires inputs { length inputs.items ≤ INPUT_LIMIT }
+        requires edges { length edges.items ≤ HART_ROW }
         ensures { result ≡ record { stop = stop; inputs = inputs.items; edges = edges.items } }
     {
         Lent {
@@ -52,7 +57,7 @@ impl Lent {
     /// The inputs of its first step.
     pub(crate) fn inputs(&self) -> &[Input]
         ensures value { result.now ≡ self.now.inputs }
-        ensures few { length result.now ≤ 8 }
+        ensures few { length result.now ≤ INPUT_LIMIT }
     {
         self.inputs.as_slice()
     }
@@ -60,16 +65,16 @@ impl Lent {
     /// The edges of its first step.
     pub(crate) fn edges(&self) -> &[Edge]
         ensures value { result.now ≡ self.now.edges }
-        ensures few { length result.now ≤ 8 }
+        ensures few { length result.now ≤ HART_ROW }
     {
         self.edges.as_slice()
     }
 
     /// The inputs, and the edges.
-    pub(crate) fn into_parts(self) -> (SmallVec<Input, 8>, SmallVec<Edge, 8>)
+    pub(crate) fn into_parts(self) -> (SmallVec<Input, INPUT_LIMIT>, SmallVec<Edge, HART_ROW>)
         ensures inputs { result.0.items ≡ self.inputs }
         ensures edges { result.1.items ≡ self.edges }
-        ensures few { length self.inputs ≤ 8 }
+        ensures few { length self.inputs ≤ INPUT_LIMIT }
     {
         (self.inputs, self.edges)
     }

@@ -8,7 +8,7 @@ use crate::asked::Asked;
 use crate::lent::Lent;
 use crate::taken::{self, Taken, TakenPages};
 use edge_log::Edge;
-use ft_types::{Count, PageNo, Want};
+use ft_types::{Count, HART_ROW, INPUT_LIMIT, PAGE_ROW, PageNo, Want};
 use input_log::Input;
 use smallvec::SmallVec;
 use std::alloc::Global;
@@ -19,26 +19,27 @@ use std::marker::Model;
 #[derive(Drop)]
 pub struct OpenLease {
     stop: Count,
-    inputs: SmallVec<Input, 8>,
+    inputs: SmallVec<Input, INPUT_LIMIT>,
     taken: TakenPages,
-    edges: SmallVec<Edge, 8>,
+    edges: SmallVec<Edge, HART_ROW>,
 }
 
 impl Model for OpenLease {
     ghost use Rattle.std.specs.Prelude.{◌≡◌, length};
     ghost use Rattle.hart_lease.specs.OpenLeases.{OpenView};
+    ghost use Rattle.ft_types.specs.declared.names.TheConstants.{PAGE_ROW};
 
     ghost Value = { OpenView };
 
     ghost view = { λ l. record { stop = l.stop; inputs = l.inputs.items; taken = l.taken; edges = l.edges.items } };
 
-    ghost invariant = { λ l. length l.taken ≡ 64 };
+    ghost invariant = { λ l. length l.taken ≡ PAGE_ROW };
 }
 
 impl OpenLease {
     /// A lease of no page.
     pub fn new(alloc: Global, lent: &Lent, taken: TakenPages) -> OpenLease
-        requires { taken ≡ replicate 64 None }
+        requires { taken ≡ replicate PAGE_ROW None }
         ensures { result ≡ nothing_taken lent.now }
     {
         let inputs = SmallVec::from_slice(alloc, lent.inputs()).unwrap();
@@ -66,9 +67,9 @@ impl OpenLease {
     }
 
     /// Since when it has each page.
-    pub fn taken(&self) -> &[Option<Taken>; 64]
+    pub fn taken(&self) -> &[Option<Taken>; PAGE_ROW]
         ensures value { result.now ≡ self.now.taken }
-        ensures row { length result.now ≡ 64 }
+        ensures row { length result.now ≡ PAGE_ROW }
     {
         self.taken.row()
     }
@@ -88,7 +89,7 @@ impl OpenLease {
     }
 
     /// Writes down that it was given a right, and which edges wait in it now.
-    pub fn take(&mut self, asked: &Asked, waiting: SmallVec<Edge, 8>)
+    pub fn take(&mut self, asked: &Asked, waiting: SmallVec<Edge, HART_ROW>)
         ensures { self.new ≡ record self.old {
           taken = slice_set self.old.taken asked.now.page
               (Some (taking (taken_at self.old.taken asked.now.page) asked.now.want asked.now.count));

@@ -3,7 +3,7 @@
 ghost use Rattle.std.specs.Prelude.{◌≡◌, ◌<◌, ◌↔◌, length, replicate, slice_set, None, Some, IfOk, IsTrue};
 ghost use Rattle.hart_lease.specs.Taken.{right_of_taken, taken_at, taking};
 
-use ft_types::{Count, Memory, PageNo, Want};
+use ft_types::{Count, Memory, PAGE_ROW, PageNo, Want};
 use std::alloc::Global;
 use std::marker::Model;
 
@@ -48,7 +48,7 @@ pub(crate) fn with_taken(held: Option<Taken>, want: Want, count: Count) -> Taken
     Taken { read_at, write_at }
 }
 
-fn same_row(row: &[Option<Taken>; 64], other: &[Option<Taken>; 64]) -> bool
+fn same_row(row: &[Option<Taken>; PAGE_ROW], other: &[Option<Taken>; PAGE_ROW]) -> bool
     ensures { IsTrue result ↔ (row.now ≡ other.now) }
 {
     row == other
@@ -57,26 +57,27 @@ fn same_row(row: &[Option<Taken>; 64], other: &[Option<Taken>; 64]) -> bool
 /// Since when a lease has each page. The row lies apart, so that a lease is small to move.
 #[derive(Drop)]
 pub struct TakenPages {
-    row: Box<[Option<Taken>; 64]>,
+    row: Box<[Option<Taken>; PAGE_ROW]>,
 }
 
 impl Model for TakenPages {
     ghost use Rattle.std.specs.Prelude.{◌≡◌, List, Option, length};
     ghost use Rattle.hart_lease.specs.declared.taken.Taken.{Taken};
+    ghost use Rattle.ft_types.specs.declared.names.TheConstants.{PAGE_ROW};
 
     ghost Value = { List (Option Taken) };
 
     ghost view = { λ t. t.row.value };
 
-    ghost invariant = { λ t. length t.row.value ≡ 64 };
+    ghost invariant = { λ t. length t.row.value ≡ PAGE_ROW };
 }
 
 impl TakenPages {
     /// No page.
     pub fn none(alloc: Global) -> Result<TakenPages, Memory>
-        ensures { IfOk result (λ t. t ≡ replicate 64 None) }
+        ensures { IfOk result (λ t. t ≡ replicate PAGE_ROW None) }
     {
-        let row = Box::new(alloc, [None; 64])?;
+        let row = Box::new(alloc, [None; PAGE_ROW])?;
         Ok(TakenPages { row })
     }
 
@@ -90,15 +91,15 @@ impl TakenPages {
     }
 
     /// The row, by rising page.
-    pub(crate) fn row(&self) -> &[Option<Taken>; 64]
+    pub(crate) fn row(&self) -> &[Option<Taken>; PAGE_ROW]
         ensures value { result.now ≡ self.now }
-        ensures pages { length result.now ≡ 64 }
+        ensures pages { length result.now ≡ PAGE_ROW }
     {
         &*self.row
     }
 
     /// Whether each page was taken as in this row.
-    pub(crate) fn same(&self, row: &[Option<Taken>; 64]) -> bool
+    pub(crate) fn same(&self, row: &[Option<Taken>; PAGE_ROW]) -> bool
         ensures { IsTrue result ↔ (self.now ≡ row.now) }
     {
         same_row(&*self.row, row)

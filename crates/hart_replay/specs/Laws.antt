@@ -11,7 +11,7 @@ use Rattle.closed_cut.specs.declared.answer.Position.{Position}
 use Rattle.hart_replay.specs.declared.plans.PlannedLeg.{PlannedLeg}
 use Rattle.hart_replay.specs.Facts.{EndsInside, HasEdges, HasInputs}
 use Rattle.hart_replay.specs.Plans.{terms_of, BeginsAtBase, EndAt, log_of}
-use Rattle.ft_types.specs.declared.guest.Guest.{Guest}
+use Rattle.ft_types.specs.Guests.{GuestParts}
 use Rattle.fragment_codec.specs.declared.frame.Frame.{Frame}
 use Rattle.log_join.specs.Coming.{Gathers}
 use Rattle.hart_replay.specs.Histories.{TermHistory, History, InTerm, machine_at, AreHonest, IsHonestStore}
@@ -70,7 +70,7 @@ module _ {Hart Page : Type 0} (system : System Hart Page (List Input)) where
   -- honest frames come together as a store of honest frames
   abbrev pub HonestFramesGather : Type 0
   HonestFramesGather =
-      (boot : Machine Hart Page) (history : History Hart Page) (guest : Guest) (frames : List Frame) (store : StoreView) →
+      (boot : Machine Hart Page) (history : History Hart Page) (guest : GuestParts) (frames : List Frame) (store : StoreView) →
       Gathers guest frames store → AreHonest system boot history frames → IsHonestStore system boot history store
 
   -- and the join of two such stores is one

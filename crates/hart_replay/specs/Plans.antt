@@ -1,7 +1,7 @@
 -- Plans, as contracts see them.
 use Rattle.std.specs.Prelude.{ℕ, ◌≡◌, ◌≤◌, List, [], ◌∷◌, All, map, length}
 use Rattle.ft_types.specs.Counts.{count_at}
-use Rattle.ft_types.specs.declared.guest.Guest.{Guest}
+use Rattle.ft_types.specs.Guests.{GuestParts}
 use Rattle.interleaving.specs.Log.{Log, IsCut}
 use Rattle.edge_log.specs.EdgeLog.{edges_of}
 use Rattle.input_log.specs.declared.Input.{Input}
@@ -13,7 +13,7 @@ use Rattle.hart_replay.specs.declared.plans.PlannedLeg.{PlannedLeg}
 
 -- whose plan it is, and its legs, the oldest term first
 pub record PlanView : Type 0 where
-  pub guest : Guest
+  pub guest : GuestParts
   pub legs : List PlannedLeg
 
 -- the terms of the legs
@@ -55,6 +55,6 @@ GoOn now [] = Unit {0}
 GoOn now (leg ∷ legs) = ((hart : ℕ) → count_at leg.base hart ≡ now hart) × GoOn (count_at leg.ends) legs
 
 -- what every plan keeps: its legs are cuts, and lead on from boot
-pub record IsPlan (guest : Guest) (legs : List PlannedLeg) : Type 0 where
+pub record IsPlan (guest : GuestParts) (legs : List PlannedLeg) : Type 0 where
   pub each : All (IsLeg guest.harts) legs
   pub on : GoOn (λ hart. 0) legs

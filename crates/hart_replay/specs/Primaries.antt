@@ -1,7 +1,7 @@
 -- What a recording book, its opening and its pieces tell of a term.
 use Rattle.std.specs.Prelude.{ℕ, ◌≡◌, ◌<◌, ◌≤◌, ◌++◌, List, [], length, Option, Some, Contains}
 use Rattle.ft_types.specs.Counts.{count_at}
-use Rattle.ft_types.specs.declared.guest.Guest.{Guest}
+use Rattle.ft_types.specs.Guests.{GuestParts}
 use Rattle.interleaving.specs.Lists.{put}
 use Rattle.interleaving.specs.Stored.{view}
 use Rattle.edge_log.specs.EdgeLog.{IsLog, row_of}
@@ -55,7 +55,7 @@ pub record IsTermOfBook (book : BookView RecordingView) (past : GuestTerm) : Typ
 -- each frame that is cut of a book is such a piece
 abbrev pub CutsArePieces : Type 0
 CutsArePieces =
-    (guest : Guest) (term : ℕ) (book : BookView RecordingView) (old new : SealedView) (frames : List Frame) (piece : FragmentParts) →
+    (guest : GuestParts) (term : ℕ) (book : BookView RecordingView) (old new : SealedView) (frames : List Frame) (piece : FragmentParts) →
     AreCut (book_log guest term book) guest.harts old frames new → Contains frames (Log piece) → IsPieceOf book piece.key.hart piece
 
 -- which it is still of each book that goes on from there
@@ -98,7 +98,7 @@ pub record SealsMore (number : ℕ) (book : BookView RecordingView) (past : Gues
 
 abbrev pub CutsSealMore : Type 0
 CutsSealMore =
-    (guest : Guest) (number : ℕ) (book : BookView RecordingView) (past : GuestTerm) (old new : SealedView) (frames : List Frame) →
+    (guest : GuestParts) (number : ℕ) (book : BookView RecordingView) (past : GuestTerm) (old new : SealedView) (frames : List Frame) →
     IsTermOfBook book past → IsSealedTo past old → AreCut (book_log guest number book) guest.harts old frames new → SealsMore number book past frames new
 
 -- a book that goes on has the frames that it had

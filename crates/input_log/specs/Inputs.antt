@@ -1,6 +1,7 @@
 -- Inputs at counts.
 use Rattle.std.specs.Prelude.{ℕ, ◌≡◌, ◌≢◌, ◌<◌, ◌≤◌, ◌==◌, ◌++◌, ◌^◌, Bool, true, false, not, List, [], map, filter, zip, length, slice_index_or, All}
 use Rattle.std.specs.List.Sorted.{IsNonDecreasing}
+use Rattle.ft_types.specs.declared.names.TheConstants.{HART_ROW, INPUT_LIMIT}
 use Rattle.input_log.specs.declared.Input.{Input}
 use Rattle.input_log.specs.declared.Input.TheVariants as input
 
@@ -28,20 +29,20 @@ inputs_of log hart = slice_index_or log hart []
 abbrev pub inputs_at : List (ℕ × Input) → ℕ → List Input
 inputs_at row n = map (λ x. x.1) (filter (λ x. x.0 == n) row)
 
--- an input at this count may be added: none is at a later one, and fewer than 8 are at it
+-- an input at this count may be added: none is at a later one, and fewer than INPUT_LIMIT are at it
 pub record MayFollow (row : List (ℕ × Input)) (n : ℕ) : Type 0 where
   pub last : All (λ x. x.0 ≤ n) row
-  pub room : length (inputs_at row n) < 8
+  pub room : length (inputs_at row n) < INPUT_LIMIT
 
--- a row: each input has a count, the counts rise, and 8 are at each at the most
+-- a row: each input has a count, the counts rise, and INPUT_LIMIT are at each at the most
 pub record IsRow (counts : List ℕ) (inputs : List Input) : Type 0 where
   pub paired : length inputs ≡ length counts
   pub rising : IsNonDecreasing counts
-  pub few : (n : ℕ) → length (inputs_at (zip counts inputs) n) ≤ 8
+  pub few : (n : ℕ) → length (inputs_at (zip counts inputs) n) ≤ INPUT_LIMIT
 
 -- a log is another one, with these behind the others of a hart
 pub record AreAddedTo (before : List (List (ℕ × Input))) (hart : ℕ) (added : List (ℕ × Input)) (log : List (List (ℕ × Input))) : Type 0 where
-  pub harts : length before ≡ 8
+  pub harts : length before ≡ HART_ROW
   pub row : inputs_of log hart ≡ inputs_of before hart ++ added
   pub others : (other : ℕ) → other ≢ hart → inputs_of log other ≡ inputs_of before other
 

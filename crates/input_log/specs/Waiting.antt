@@ -1,6 +1,7 @@
 -- Inputs that wait.
 use Rattle.std.specs.Prelude.{ℕ, ◌≡◌, ◌≢◌, ◌-◌, ◌++◌, false, List, [], ◌∷◌, Option, Some, None, map, take, drop, take_while, nat_le, length, slice_index_or}
 use Rattle.std.specs.Prelude.{All}
+use Rattle.ft_types.specs.declared.names.TheConstants.{HART_ROW, INPUT_LIMIT}
 use Rattle.input_log.specs.declared.Input.{Input}
 use Rattle.input_log.specs.declared.Input.TheVariants.{Bell}
 use Rattle.input_log.specs.declared.WaitingBell.{WaitingBell}
@@ -25,11 +26,11 @@ others_of desk hart = (slice_index_or desk hart empty).others
 
 -- the bells that go next
 abbrev pub bells_going : List WaitingBell → List WaitingBell
-bells_going bells = take 8 bells
+bells_going bells = take INPUT_LIMIT bells
 
 -- the room that they leave
 abbrev pub room_beside : List WaitingBell → ℕ
-room_beside bells = 8 - length (bells_going bells)
+room_beside bells = INPUT_LIMIT - length (bells_going bells)
 
 -- the others that go at count n: from the front while they may, and as many as there is room for
 abbrev pub others_going : ℕ → ℕ → List WaitingInput → List WaitingInput
@@ -55,7 +56,7 @@ AreOthers others = All (λ w. is_bell w.input ≡ false) others
 
 -- a desk is another one, with this bell behind the others of a hart
 pub record IsBellAddedTo (before : List Queues) (hart : ℕ) (bell : WaitingBell) (desk : List Queues) : Type 0 where
-  pub harts : length before ≡ 8
+  pub harts : length before ≡ HART_ROW
   pub bells : bells_of desk hart ≡ bells_of before hart ++ bell ∷ []
   pub others : others_of desk hart ≡ others_of before hart
   pub bells_of_others : (other : ℕ) → other ≢ hart → bells_of desk other ≡ bells_of before other

@@ -7,7 +7,7 @@ ghost use Rattle.input_log.specs.Waiting.{Queues, bells_of, others_of, bells_goi
 
 use crate::queue::Queue;
 use crate::{Input, WaitingBell, WaitingInput};
-use ft_types::{Count, Hart, Memory};
+use ft_types::{Count, HART_ROW, Hart, INPUT_LIMIT, Memory};
 use smallvec::SmallVec;
 use std::alloc::Global;
 use std::array;
@@ -21,18 +21,19 @@ use std::result::Result;
 /// Contracts see the two lists of each hart, the first to go at the front.
 #[derive(Drop)]
 pub struct Desk {
-    queues: [Queue; 8],
+    queues: [Queue; HART_ROW],
 }
 
 impl Model for Desk {
     ghost use Rattle.std.specs.Prelude.{◌≡◌, List, length};
     ghost use Rattle.input_log.specs.Waiting.{Queues};
+    ghost use Rattle.ft_types.specs.declared.names.TheConstants.{HART_ROW};
 
     ghost Value = { List Queues };
 
     ghost view = { λ d. d.queues };
 
-    ghost invariant = { λ d. length d.queues ≡ 8 };
+    ghost invariant = { λ d. length d.queues ≡ HART_ROW };
 }
 
 impl Desk {
@@ -58,7 +59,7 @@ impl Desk {
     /// The inputs but bells that wait for the hart.
     pub(crate) fn others(&self, hart: Hart) -> &VecDeque<WaitingInput>
         ensures value { result.now.items ≡ others_of self.now hart }
-        ensures rows { length self.now ≡ 8 }
+        ensures rows { length self.now ≡ HART_ROW }
     {
         self.queues[hart.index()].others()
     }
@@ -70,7 +71,7 @@ impl Desk {
         ensures bells_of_others { (other : ℕ) → other ≢ hart → bells_of self.new other ≡ bells_of self.old other }
         ensures others_of_others { (other : ℕ) → other ≢ hart → others_of self.new other ≡ others_of self.old other }
         ensures kept { OnErr result (self.new ≡ self.old) }
-        ensures harts { length self.old ≡ 8 }
+        ensures harts { length self.old ≡ HART_ROW }
     {
         let queue = &mut self.queues[hart.index()];
         queue.put_bell(WaitingBell { source, after })
@@ -103,23 +104,23 @@ impl Desk {
     }
 
     /// The bells that the next take of the hart gives, in their order. Takes no memory.
-    pub fn bells_next(&self, hart: Hart) -> SmallVec<WaitingBell, 8>
+    pub fn bells_next(&self, hart: Hart) -> SmallVec<WaitingBell, INPUT_LIMIT>
         ensures value { result.items ≡ bells_going (bells_of self.now hart) }
-        ensures inline { result.capacity ≡ 8 }
+        ensures inline { result.capacity ≡ INPUT_LIMIT }
     {
         self.queues[hart.index()].bells_next()
     }
 
     /// Takes what the hart is given at this count: bells first, then others from the front while they may be given, eight
     /// in all. Takes no memory.
-    pub fn take(&mut self, hart: Hart, count: Count) -> SmallVec<Input, 8>
+    pub fn take(&mut self, hart: Hart, count: Count) -> SmallVec<Input, INPUT_LIMIT>
         ensures taken { result.items ≡ going count (bells_of self.old hart) (others_of self.old hart) }
-        ensures few { small_vec_len result ≤ 8 }
-        ensures bells_stay { bells_of self.new hart ≡ drop 8 (bells_of self.old hart) }
+        ensures few { small_vec_len result ≤ INPUT_LIMIT }
+        ensures bells_stay { bells_of self.new hart ≡ drop INPUT_LIMIT (bells_of self.old hart) }
         ensures others_stay { others_of self.new hart ≡ others_staying count (room_beside (bells_of self.old hart)) (others_of self.old hart) }
         ensures bells_of_others { (other : ℕ) → other ≢ hart → bells_of self.new other ≡ bells_of self.old other }
         ensures others_of_others { (other : ℕ) → other ≢ hart → others_of self.new other ≡ others_of self.old other }
-        ensures inline { result.capacity ≡ 8 }
+        ensures inline { result.capacity ≡ INPUT_LIMIT }
     {
         let queue = &mut self.queues[hart.index()];
         queue.take(count)

@@ -7,7 +7,7 @@ ghost use Rattle.input_log.specs.Inputs.{inputs_of, inputs_at, HearsMore, MayFol
 
 use crate::Input;
 use crate::row::Row;
-use ft_types::{Count, Hart, Memory};
+use ft_types::{Count, HART_ROW, Hart, INPUT_LIMIT, Memory};
 use std::alloc::Global;
 use std::array;
 use std::marker::Model;
@@ -19,18 +19,19 @@ use std::result::Result;
 /// Contracts see, for each hart, the list of its counts and inputs, by rising count.
 #[derive(Drop)]
 pub struct InputLog {
-    rows: [Row; 8],
+    rows: [Row; HART_ROW],
 }
 
 impl Model for InputLog {
     ghost use Rattle.std.specs.Prelude.{◌≡◌, ℕ, List, length};
     ghost use Rattle.input_log.specs.declared.Input.{Input};
+    ghost use Rattle.ft_types.specs.declared.names.TheConstants.{HART_ROW};
 
     ghost Value = { List (List (ℕ × Input)) };
 
     ghost view = { λ l. l.rows };
 
-    ghost invariant = { λ l. length l.rows ≡ 8 };
+    ghost invariant = { λ l. length l.rows ≡ HART_ROW };
 }
 
 impl InputLog {
@@ -56,7 +57,7 @@ impl InputLog {
     pub fn same(&self, other: &InputLog) -> bool
         ensures { IsTrue result ↔ (self.now ≡ other.now) }
     {
-        for hart in 0..8usize {
+        for hart in 0..HART_ROW {
             if !self.rows[hart].same(&other.rows[hart]) {
                 return false;
             }
@@ -76,8 +77,8 @@ impl InputLog {
         ensures value { zip result.0.now result.1.now ≡ inputs_of self.now hart }
         ensures paired { length result.1.now ≡ length result.0.now }
         ensures rising { IsNonDecreasing result.0.now }
-        ensures few { (n : ℕ) → length (inputs_at (inputs_of self.now hart) n) ≤ 8 }
-        ensures rows { length self.now ≡ 8 }
+        ensures few { (n : ℕ) → length (inputs_at (inputs_of self.now hart) n) ≤ INPUT_LIMIT }
+        ensures rows { length self.now ≡ HART_ROW }
     {
         self.rows[hart.index()].columns()
     }
@@ -85,7 +86,7 @@ impl InputLog {
     /// The inputs of a hart at a count, in their order.
     pub fn at(&self, hart: Hart, count: Count) -> &[Input]
         ensures value { result.now ≡ inputs_at (inputs_of self.now hart) count }
-        ensures few { length result.now ≤ 8 }
+        ensures few { length result.now ≤ INPUT_LIMIT }
     {
         self.rows[hart.index()].at(count)
     }
@@ -99,7 +100,7 @@ impl InputLog {
         self.rows[hart.index()].next(count)
     }
 
-    /// Whether an input may be added: at no count before that of the hart's last, and where fewer than 8 are.
+    /// Whether an input may be added: at no count before that of the hart's last, and where fewer than `INPUT_LIMIT` are.
     pub fn may_add(&self, hart: Hart, count: Count) -> bool
         ensures { IsTrue result ↔ MayFollow (inputs_of self.now hart) count }
     {
@@ -120,11 +121,11 @@ impl InputLog {
     /// Adds inputs at one count, in their order, behind the others of their hart, or none of them.
     pub fn add_all(&mut self, hart: Hart, count: Count, inputs: &[Input]) -> Result<(), Memory>
         requires last { All (λ x. x.0 ≤ count) (inputs_of self.old hart) }
-        requires room { length (inputs_at (inputs_of self.old hart) count) + length inputs.now ≤ 8 }
+        requires room { length (inputs_at (inputs_of self.old hart) count) + length inputs.now ≤ INPUT_LIMIT }
         ensures added { OnOk result (inputs_of self.new hart ≡ inputs_of self.old hart ++ map (λ i. (count, i)) inputs.now) }
         ensures others_kept { (other : ℕ) → other ≢ hart → inputs_of self.new other ≡ inputs_of self.old other }
         ensures kept { OnErr result (self.new ≡ self.old) }
-        ensures harts { length self.old ≡ 8 }
+        ensures harts { length self.old ≡ HART_ROW }
     {
         let row = &mut self.rows[hart.index()];
         row.add_all(count, inputs)

@@ -7,7 +7,7 @@ ghost use Rattle.input_log.specs.Inputs.{but_bells, inputs_of};
 ghost use Rattle.input_log.specs.Waiting.{others_of};
 
 use crate::{Desk, Input, InputLog, WaitingInput};
-use ft_types::Hart;
+use ft_types::{HART_ROW, Hart};
 use std::collections::VecDeque;
 use std::marker::Model;
 
@@ -54,8 +54,8 @@ fn pop<'a>(inputs: &mut &'a [Input]) -> Option<Input>
 impl<'a> Offered<'a> {
     /// Those of a log, those that are due and those of a desk.
     pub fn new(log: &'a InputLog, due: &'a [Input], desk: &'a Desk, hart: Hart) -> Offered<'a>
-        ensures log_rows { length log.now ≡ 8 }
-        ensures desk_rows { length desk.now ≡ 8 }
+        ensures log_rows { length log.now ≡ HART_ROW }
+        ensures desk_rows { length desk.now ≡ HART_ROW }
         ensures value { result ≡ map (λ x. x.1) (inputs_of log.now hart) ++ (due.now ++ map (λ w. w.input) (others_of desk.now hart)) }
     {
         let (_, given) = log.of_hart(hart);

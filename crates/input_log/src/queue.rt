@@ -7,16 +7,13 @@ ghost use Rattle.input_log.specs.Inputs.{is_bell};
 ghost use Rattle.input_log.specs.Waiting.{bells_going, room_beside, others_going, others_staying, going, next_going, empty};
 
 use crate::{Input, WaitingBell, WaitingInput};
-use ft_types::{Count, Memory};
+use ft_types::{Count, INPUT_LIMIT, Memory};
 use smallvec::SmallVec;
 use std::alloc::Global;
 use std::collections::VecDeque;
 use std::marker::Model;
 use std::option::Option;
 use std::result::Result;
-
-/// The number of inputs that are taken at once, at the most.
-const INPUT_LIMIT: usize = 8;
 
 /// What waits for one hart.
 #[derive(Drop)]
@@ -35,11 +32,11 @@ impl Model for Queue {
     ghost invariant = { λ q. AreOthers q.others.items };
 }
 
-/// Takes bells from the front, eight at the most.
-fn take_bells(bells: &mut VecDeque<WaitingBell>) -> SmallVec<Input, 8>
+/// Takes bells from the front, `INPUT_LIMIT` at the most.
+fn take_bells(bells: &mut VecDeque<WaitingBell>) -> SmallVec<Input, INPUT_LIMIT>
     ensures taken { result.items ≡ map (λ b. Input.Bell b.source) (bells_going bells.old.items) }
-    ensures stay { bells.new.items ≡ drop 8 bells.old.items }
-    ensures inline { result.capacity ≡ 8 }
+    ensures stay { bells.new.items ≡ drop INPUT_LIMIT bells.old.items }
+    ensures inline { result.capacity ≡ INPUT_LIMIT }
 {
     let mut inputs = SmallVec::new(*bells.allocator());
     for _ in 0..INPUT_LIMIT {
@@ -74,12 +71,16 @@ fn pop_going(others: &mut VecDeque<WaitingInput>, count: Count) -> Option<Waitin
 }
 
 /// Takes others from the front, while they may be given at this count and there is room.
-fn take_others(others: &mut VecDeque<WaitingInput>, count: Count, inputs: &mut SmallVec<Input, 8>)
-    requires few { small_vec_len inputs.old ≤ 8 }
-    requires inline { inputs.old.capacity ≡ 8 }
-    ensures taken { inputs.new.items ≡ inputs.old.items ++ map (λ w. w.input) (others_going count (8 - small_vec_len inputs.old) others.old.items) }
-    ensures stay { others.new.items ≡ others_staying count (8 - small_vec_len inputs.old) others.old.items }
-    ensures inline { inputs.new.capacity ≡ 8 }
+fn take_others(
+    others: &mut VecDeque<WaitingInput>,
+    count: Count,
+    inputs: &mut SmallVec<Input, INPUT_LIMIT>,
+)
+    requires few { small_vec_len inputs.old ≤ INPUT_LIMIT }
+    requires inline { inputs.old.capacity ≡ INPUT_LIMIT }
+    ensures taken { inputs.new.items ≡ inputs.old.items ++ map (λ w. w.input) (others_going count (INPUT_LIMIT - small_vec_len inputs.old) others.old.items) }
+    ensures stay { others.new.items ≡ others_staying count (INPUT_LIMIT - small_vec_len inputs.old) others.old.items }
+    ensures inline { inputs.new.capacity ≡ INPUT_LIMIT }
 {
     let room = INPUT_LIMIT - inputs.len();
     for _ in 0..room {
@@ -155,9 +156,9 @@ impl Queue {
     }
 
     /// The bells that the next take gives.
-    pub(crate) fn bells_next(&self) -> SmallVec<WaitingBell, 8>
+    pub(crate) fn bells_next(&self) -> SmallVec<WaitingBell, INPUT_LIMIT>
         ensures value { result.items ≡ bells_going self.now.bells }
-        ensures inline { result.capacity ≡ 8 }
+        ensures inline { result.capacity ≡ INPUT_LIMIT }
     {
         let mut bells = SmallVec::new(*self.bells.allocator());
         for place in 0..INPUT_LIMIT {
@@ -169,11 +170,11 @@ impl Queue {
     }
 
     /// Takes what may be given at this count.
-    pub(crate) fn take(&mut self, count: Count) -> SmallVec<Input, 8>
+    pub(crate) fn take(&mut self, count: Count) -> SmallVec<Input, INPUT_LIMIT>
         ensures taken { result.items ≡ going count self.old.bells self.old.others }
-        ensures bells { self.new.bells ≡ drop 8 self.old.bells }
+        ensures bells { self.new.bells ≡ drop INPUT_LIMIT self.old.bells }
         ensures others { self.new.others ≡ others_staying count (room_beside self.old.bells) self.old.others }
-        ensures inline { result.capacity ≡ 8 }
+        ensures inline { result.capacity ≡ INPUT_LIMIT }
     {
         let mut inputs = take_bells(&mut self.bells);
         take_others(&mut self.others, count, &mut inputs);

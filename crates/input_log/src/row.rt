@@ -9,14 +9,11 @@ ghost use Rattle.input_log.specs.Alike.{same_input};
 ghost use Rattle.input_log.specs.Inputs.{inputs_at, HearsMore, MayFollow};
 
 use crate::Input;
-use ft_types::{Count, Memory};
+use ft_types::{Count, INPUT_LIMIT, Memory};
 use std::alloc::Global;
 use std::marker::Model;
 use std::option::Option;
 use std::result::Result;
-
-/// The number of inputs at one count, at the most.
-const INPUT_LIMIT: usize = 8;
 
 /// The inputs of one hart, by rising count.
 #[derive(Drop)]
@@ -188,7 +185,7 @@ impl Row {
         ensures value { zip result.0.now result.1.now ≡ self.now }
         ensures paired { length result.1.now ≡ length result.0.now }
         ensures rising { IsNonDecreasing result.0.now }
-        ensures few { (n : ℕ) → length (inputs_at self.now n) ≤ 8 }
+        ensures few { (n : ℕ) → length (inputs_at self.now n) ≤ INPUT_LIMIT }
     {
         (self.counts.as_slice(), self.inputs.as_slice())
     }
@@ -196,7 +193,7 @@ impl Row {
     /// The inputs of a count.
     pub(crate) fn at(&self, count: Count) -> &[Input]
         ensures value { result.now ≡ inputs_at self.now count }
-        ensures few { length result.now ≤ 8 }
+        ensures few { length result.now ≤ INPUT_LIMIT }
     {
         let (counts, inputs) = self.columns();
         let first = first_from(counts, count);
@@ -250,7 +247,7 @@ impl Row {
     /// Adds inputs of one count at the back, or none of them.
     pub(crate) fn add_all(&mut self, count: Count, inputs: &[Input]) -> Result<(), Memory>
         requires last { All (λ x. x.0 ≤ count) self.old }
-        requires room { length (inputs_at self.old count) + length inputs.now ≤ 8 }
+        requires room { length (inputs_at self.old count) + length inputs.now ≤ INPUT_LIMIT }
         ensures ok { OnOk result (self.new ≡ self.old ++ map (λ i. (count, i)) inputs.now) }
         ensures err { OnErr result (self.new ≡ self.old) }
     {

@@ -2,6 +2,7 @@
 use Rattle.std.specs.Prelude.{◌≡◌, ℕ, ◌+◌, ◌^◌, ◌<◌, List, [], ◌∷◌, ◌++◌, length, codes, decimal}
 use Rattle.std.specs.List.{flat_map, AllByRecursion}
 use Rattle.ft_types.specs.Text.{line, word}
+use Rattle.ft_types.specs.declared.names.TheConstants.{COUNT_LIMIT, HART_LIMIT}
 use Rattle.input_log.specs.declared.Input.{Input}
 use Rattle.input_log.specs.declared.Input.TheVariants as input
 use Rattle.input_script.specs.declared.fault.ScriptFault.{ScriptFault}
@@ -24,14 +25,14 @@ input_text input.Timer = codes "timer"
 input_text (input.Word w) = codes "word " ++ word w
 input_text (input.Bell source) = []
 
--- a hart below this number of harts, and below 8
+-- a hart below this number of harts, and below HART_LIMIT
 abbrev pub IsHart : ℕ → ℕ → Type 0
-IsHart harts hart = (hart < harts) × (hart < 8)
+IsHart harts hart = (hart < harts) × (hart < HART_LIMIT)
 
 -- what a line may offer, for this number of harts
 pub record MayBeOffered (harts : ℕ) (o : Offered) : Type 0 where
   pub hart : IsHart harts o.hart
-  pub count : o.not_before < 2 ^ 48
+  pub count : o.not_before < COUNT_LIMIT
   pub input : IsWaited o.input
 
 abbrev pub AreOffered : ℕ → List Offered → Type 0

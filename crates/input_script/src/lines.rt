@@ -1,6 +1,6 @@
 //! The lines of a script.
 
-ghost use Rattle.std.specs.Prelude.{◌≡◌, ℕ, ◌<◌, ◌^◌, ◌++◌, ◌∷◌, decimal, IfSome, IfNone};
+ghost use Rattle.std.specs.Prelude.{◌≡◌, ℕ, ◌<◌, ◌++◌, ◌∷◌, decimal, IfSome, IfNone};
 ghost use Rattle.input_log.specs.declared.Input.{Input as input_of_specs};
 ghost use Rattle.input_script.specs.declared.script.Offered.{Offered as offered_of_specs};
 ghost use Rattle.input_script.specs.Script.{HasNone, IsHart, IsWaited, MayBeOffered, input_text, offered_text, BeginsWith, LacksLine};
@@ -41,8 +41,8 @@ fn read_hart(harts: u8, text: &[u8]) -> Option<Hart>
 
 /// The count that the text is.
 fn read_count(text: &[u8]) -> Option<Count>
-    ensures found { IfSome result (λ n. (n < 2 ^ 48) × (text.now ≡ decimal n)) }
-    ensures none { IfNone result ((n : ℕ) → n < 2 ^ 48 → text.now ≡ decimal n → ⊥) }
+    ensures found { IfSome result (λ n. (n < COUNT_LIMIT) × (text.now ≡ decimal n)) }
+    ensures none { IfNone result ((n : ℕ) → n < COUNT_LIMIT → text.now ≡ decimal n → ⊥) }
 {
     match read_number(text) {
         None => None,

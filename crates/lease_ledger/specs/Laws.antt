@@ -2,6 +2,7 @@
 use Rattle.std.specs.Prelude.{ℕ, ◌≡◌, ◌≢◌, ◌≤◌, ◌<◌, ◌↔◌, is_some, true, false, List, [], ◌∷◌, ◌++◌, Option, Some, None, Contains, length}
 use Rattle.ft_types.specs.declared.names.Want.{Want}
 use Rattle.ft_types.specs.Counts.{count_at}
+use Rattle.ft_types.specs.declared.names.TheConstants.{HART_LIMIT}
 use Rattle.interleaving.specs.Lists.{put, EachPair}
 use Rattle.interleaving.specs.Machine.{Writes, System, Machine, Turn, after, step_of, counts, steps, Runs, run}
 use Rattle.interleaving.specs.Log.{Edge, Log, HasInputs, IsHonest}
@@ -43,7 +44,7 @@ module _ {Hart Page Input : Type 0} (system : System Hart Page Input) where
 
   abbrev pub KeepsLedger : Type 0
   KeepsLedger =
-      (crew : ℕ) (start : Machine Hart Page) (b : Ledger Hart Page Input) → crew ≤ 8 → Reached system crew start b → IsKept start b
+      (crew : ℕ) (start : Machine Hart Page) (b : Ledger Hart Page Input) → crew ≤ HART_LIMIT → Reached system crew start b → IsKept start b
 
   -- the ledger's log, with the inputs of the journal's steps
   abbrev pub log_of : Input → Machine Hart Page → Ledger Hart Page Input → Log Input
@@ -58,13 +59,13 @@ module _ {Hart Page Input : Type 0} (system : System Hart Page Input) where
   -- so there is an honest log
   abbrev pub HasHonestLog : Type 0
   HasHonestLog =
-      (idle : Input) (crew : ℕ) (start : Machine Hart Page) (b : Ledger Hart Page Input) → crew ≤ 8 → Reached system crew start b →
+      (idle : Input) (crew : ℕ) (start : Machine Hart Page) (b : Ledger Hart Page Input) → crew ≤ HART_LIMIT → Reached system crew start b →
       IsHonest system (log_of idle start b) start b.journal
 
   -- the steps that a settle adds are those that the lease took on what it was lent
   abbrev pub AddsItsSteps : Type 0
   AddsItsSteps =
-      (crew : ℕ) (start : Machine Hart Page) (b : Ledger Hart Page Input) (l : Lease Hart Page Input) → crew ≤ 8 →
+      (crew : ℕ) (start : Machine Hart Page) (b : Ledger Hart Page Input) (l : Lease Hart Page Input) → crew ≤ HART_LIMIT →
       Reached system crew start b → IsLease system l → IsOurs b l →
       steps system start (b.journal ++ l.turns) ≡ steps system start b.journal ++ steps system (lent l) l.turns
 
@@ -104,7 +105,7 @@ module _ {Hart Page Input : Type 0} (system : System Hart Page Input) where
 
   abbrev pub KeepsOrder : Type 0
   KeepsOrder =
-      (crew : ℕ) (start : Machine Hart Page) (b : Ledger Hart Page Input) → crew ≤ 8 → Reached system crew start b → HasItsOrder crew start b
+      (crew : ℕ) (start : Machine Hart Page) (b : Ledger Hart Page Input) → crew ≤ HART_LIMIT → Reached system crew start b → HasItsOrder crew start b
 
   -- While a settle adds a lease's edges one after another: the log stands for the ledger's and those already added.
   pub record IsAdding (crew : ℕ) (start : Machine Hart Page) (b : Ledger Hart Page Input) (before : List Edge) (log : Edges) : Type 0 where
@@ -117,7 +118,7 @@ module _ {Hart Page Input : Type 0} (system : System Hart Page Input) where
   abbrev pub MayAddNext : Type 0
   MayAddNext =
       (crew : ℕ) (start : Machine Hart Page) (b : Ledger Hart Page Input) (l : Lease Hart Page Input) (before after : List Edge)
-      (next : declared.Edge) (log : Edges) → crew ≤ 8 → Reached system crew start b → IsLease system l → IsOurs b l →
+      (next : declared.Edge) (log : Edges) → crew ≤ HART_LIMIT → Reached system crew start b → IsLease system l → IsOurs b l →
       l.stub.edges ≡ before ++ edge_as next ∷ after → IsAdding crew start b before log → MayAdd log next
 
   -- Who holds what.
@@ -133,7 +134,7 @@ module _ {Hart Page Input : Type 0} (system : System Hart Page Input) where
 
   abbrev pub KeepsRights : Type 0
   KeepsRights =
-      (crew : ℕ) (start : Machine Hart Page) (b : Ledger Hart Page Input) → crew ≤ 8 → Reached system crew start b → HasItsRights crew b
+      (crew : ℕ) (start : Machine Hart Page) (b : Ledger Hart Page Input) → crew ≤ HART_LIMIT → Reached system crew start b → HasItsRights crew b
 
   -- those in the way of an asker are the harts that stood against it and whose open leases have taken the page
   abbrev pub HeldByTakers : Type 0
@@ -178,7 +179,7 @@ module _ {Hart Page Input : Type 0} (system : System Hart Page Input) where
 
   abbrev pub LeasesGoOn : Type 0
   LeasesGoOn =
-      (crew : ℕ) (start : Machine Hart Page) (b : Ledger Hart Page Input) → crew ≤ 8 → Reached system crew start b → GoesOn b
+      (crew : ℕ) (start : Machine Hart Page) (b : Ledger Hart Page Input) → crew ≤ HART_LIMIT → Reached system crew start b → GoesOn b
 
   -- The ledgers of callers who change their leases by the calls alone, with the leases that are out, by hart.
   pub data Played (crew : ℕ) (start : Machine Hart Page) : Ledger Hart Page Input → (ℕ → Option (Lease Hart Page Input)) → Type 0 where
@@ -206,7 +207,7 @@ module _ {Hart Page Input : Type 0} (system : System Hart Page Input) where
   -- then no call refuses a lease as foreign
   abbrev pub NoneIsForeign : Type 0
   NoneIsForeign =
-      (crew : ℕ) (start : Machine Hart Page) (b : Ledger Hart Page Input) (out : ℕ → Option (Lease Hart Page Input)) → crew ≤ 8 →
+      (crew : ℕ) (start : Machine Hart Page) (b : Ledger Hart Page Input) (out : ℕ → Option (Lease Hart Page Input)) → crew ≤ HART_LIMIT →
       Played crew start b out → Reached system crew start b × ((hart : ℕ) (l : Lease Hart Page Input) → out hart ≡ Some l → IsOut b hart l)
 
   -- What the lease has at present: a tick goes on from there, and a page that is new to it comes from the ledger's machine.
@@ -232,6 +233,6 @@ module _ {Hart Page Input : Type 0} (hardware : Hardware Hart Page Input) where
   -- the journal's steps lead from the store at the start to the ledger's
   abbrev pub RunsInLists : Type 0
   RunsInLists =
-      (crew : ℕ) (start now : Store Hart Page) (b : Ledger (Option Hart) (Option Page) Input) → crew ≤ 8 →
+      (crew : ℕ) (start now : Store Hart Page) (b : Ledger (Option Hart) (Option Page) Input) → crew ≤ HART_LIMIT →
       Reached (system_of hardware) crew (view hardware start) b → b.machine ≡ view hardware now →
       run_from hardware (Some start) b.journal ≡ Some now

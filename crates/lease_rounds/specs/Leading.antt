@@ -3,6 +3,7 @@ use Rattle.std.specs.Prelude.{◌≡◌, ◌≢◌, ◌<◌, ◌≤◌, ◌+◌,
 use Rattle.ft_types.specs.Counts.{count_at}
 use Rattle.ft_types.specs.declared.names.Want.{Want}
 use Rattle.ft_types.specs.declared.names.Want.TheVariants.{Read, Write}
+use Rattle.ft_types.specs.declared.names.TheConstants.{HART_ROW}
 use Rattle.interleaving.specs.Log.{IsMet, HasUnmet}
 use Rattle.rv32_hart.specs.Hart.{Hart, without_outputs}
 use Rattle.rv32_hart.specs.declared.outcome.Tick.TheVariants.{Done}
@@ -19,13 +20,13 @@ use Rattle.hart_lease.specs.Slots.{slot_at, want_of}
 
 -- no lease is open
 abbrev pub IsIdle : {M : Type 0} → BookView M → Type 0
-IsIdle b = b.leases ≡ replicate 8 None
+IsIdle b = b.leases ≡ replicate HART_ROW None
 
 -- the lease is the book's, and no other is open
 pub record IsAlone {M : Type 0} (b : BookView M) (l : LeaseView) : Type 0 where
   pub ours : IsOurs b l
   pub alone : (hart : ℕ) → hart ≢ l.hart → open_at b.leases hart ≡ None
-  pub rows : length b.leases ≡ 8
+  pub rows : length b.leases ≡ HART_ROW
 
 -- how many rights on pages the lease lacks
 abbrev pub rights_short : Option Want → ℕ

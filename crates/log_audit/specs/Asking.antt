@@ -1,5 +1,6 @@
 -- Pages, and what a step asked for: private words.
 use Rattle.std.specs.Prelude.{ℕ, ◌≡◌, List, replicate, slice_set, true, false}
+use Rattle.ft_types.specs.declared.names.TheConstants.{PAGE_ROW}
 use Rattle.ft_types.specs.declared.names.Want.{Want}
 use Rattle.ft_types.specs.declared.names.Want.TheVariants.{Read, Write}
 use Rattle.rv32_hart.specs.Ram.{Ram, IsRam, may_read, may_write}
@@ -11,7 +12,7 @@ pub record AreAsked (r : Ram) : Type 0 where
 
 -- these pages, with no right on any
 abbrev pub no_rights : List (List ℕ) → Ram
-no_rights contents = record { contents = contents; readable = replicate 64 false; writable = replicate 64 false }
+no_rights contents = record { contents = contents; readable = replicate PAGE_ROW false; writable = replicate PAGE_ROW false }
 
 -- the right on a page in addition
 abbrev pub granted : Ram → ℕ → Want → Ram

@@ -1,6 +1,7 @@
 -- What edges put before steps: private words.
 use Rattle.std.specs.Prelude.{ℕ, ◌≡◌, ◌<◌, ◌≤◌, ◌-◌, zero, suc, max, List, [], ◌∷◌, ◌++◌, length, replicate, slice_index, slice_index_or, slice_set, AllPairs}
 use Rattle.std.specs.List.{AllWithin}
+use Rattle.ft_types.specs.declared.names.TheConstants.{HART_ROW}
 use Rattle.ft_types.specs.Counts.{greater}
 use Rattle.edge_log.specs.declared.Edge.{Edge}
 use Rattle.log_audit.specs.declared.befores.Before.{Before}
@@ -10,7 +11,7 @@ abbrev pub row_of : List (List Before) → ℕ → List Before
 row_of rows hart = slice_index_or rows hart []
 
 abbrev pub no_steps : List ℕ
-no_steps = replicate 8 0
+no_steps = replicate HART_ROW 0
 
 -- what the entry in front of this place has
 abbrev pub steps_in_front : List Before → ℕ → List ℕ

@@ -1,5 +1,6 @@
 -- A run of a leg whose conflicts are covered: private words.
 use Rattle.std.specs.Prelude.{ℕ, ◌≡◌, ◌≢◌, ◌<◌, ◌≤◌, ◌+◌, ◌-◌, ◌⊎◌, true, false, List, [], ◌∷◌, length, Some, slice_get, slice_set, slice_index, replicate, Contains, AllPairs}
+use Rattle.ft_types.specs.declared.names.TheConstants.{HART_LIMIT, HART_ROW}
 use Rattle.ft_types.specs.Counts.{count_at}
 use Rattle.interleaving.specs.Lists.{Each}
 use Rattle.interleaving.specs.Machine.{Writes, Effect}
@@ -31,7 +32,7 @@ machine_of v = record { harts = v.harts; pages = v.pages.contents }
 
 -- as many harts and pages as at the start, each hart in its place
 pub record AreHarts (v : HartsView) : Type 0 where
-  pub few : length v.start.harts ≤ 8
+  pub few : length v.start.harts ≤ HART_LIMIT
   pub harts : length v.harts ≡ length v.start.harts
   pub pages : length v.pages.contents ≡ length v.start.pages
   pub marks : length v.pages.uses ≡ length v.pages.contents
@@ -39,14 +40,14 @@ pub record AreHarts (v : HartsView) : Type 0 where
 
 -- nothing was done yet
 abbrev pub begun : MachineState → HartsView
-begun m = record { start = m; harts = m.harts; pages = unmarked m.pages; befores = replicate 8 [] }
+begun m = record { start = m; harts = m.harts; pages = unmarked m.pages; befores = replicate HART_ROW [] }
 
 -- ---- what the edges put before steps
 
 -- Of the edges of steps below `reach`, by hart, where so many steps were taken: the rows tell all that they put before a step, and
 -- nothing else.
 pub record IsKnown (edges : List Edge) (reach now : ℕ → ℕ) (rows : List (List BeforeEntry)) : Type 0 where
-  pub eight : length rows ≡ 8
+  pub eight : length rows ≡ HART_ROW
   pub rising : AreRising rows
   pub growing : (hart : ℕ) → AllPairs (λ a b. (g : ℕ) → slice_index a.steps g ≤ slice_index b.steps g) (row_of rows hart)
   pub since : (hart : ℕ) (b : BeforeEntry) → Contains (row_of rows hart) b → b.since < reach hart
@@ -93,7 +94,7 @@ pub record IsCovered (leg : PlannedLeg) (order : List ℕ) (reach : ℕ → ℕ)
       IsMarkOf v.start (steps_in leg v.start order) (λ s. Contains s.effect.touched page) hart (read_mark v.pages page hart)
   pub written_marks : (page hart : ℕ) → (written_mark v.pages page hart ≡ 0) ⊎
       IsMarkOf v.start (steps_in leg v.start order) (λ s. Writes s.effect page) hart (written_mark v.pages page hart)
-  pub eights : (hart : ℕ) (b : BeforeEntry) → Contains (row_of v.befores hart) b → length b.steps ≡ 8
+  pub eights : (hart : ℕ) (b : BeforeEntry) → Contains (row_of v.befores hart) b → length b.steps ≡ HART_ROW
   pub known : IsKnown (log_of leg).edges reach (counts_of (machine_of v)) v.befores
 
 -- in some order
@@ -124,9 +125,9 @@ pub record TakesStep (hart : ℕ) (h : Hart) (inputs : List Input) (before : Lis
   pub touches : (page : ℕ) → Contains (effect_in b h inputs).touched page →
       (read_mark c.pages page hart ≡ h.count + 1) ⊎ (written_mark c.pages page hart ≡ h.count + 1)
   pub writes : (page : ℕ) → Writes (effect_in b h inputs) page → written_mark c.pages page hart ≡ h.count + 1
-  pub clear : (page other : ℕ) → Contains (effect_in b h inputs).touched page → other < 8 → other ≢ hart →
+  pub clear : (page other : ℕ) → Contains (effect_in b h inputs).touched page → other < HART_LIMIT → other ≢ hart →
       written_mark b.pages page other ≤ slice_index before other
-  pub clear_to_write : (page other : ℕ) → Writes (effect_in b h inputs) page → other < 8 → other ≢ hart →
+  pub clear_to_write : (page other : ℕ) → Writes (effect_in b h inputs) page → other < HART_LIMIT → other ≢ hart →
       read_mark b.pages page other ≤ slice_index before other
 
 -- the hart's next step and this one of another conflict on the page, and the other's is none of those that come before
@@ -135,7 +136,7 @@ pub record Clashes (hart : ℕ) (h : Hart) (inputs : List Input) (before : List 
   pub running : h.halted ≡ false
   pub touches : Contains (effect_in b h inputs).touched page
   pub on_other : other.0 ≢ hart
-  pub there : other.0 < 8
+  pub there : other.0 < HART_LIMIT
   pub unordered : slice_index before other.0 ≤ other.1
   pub last : (written_mark b.pages page other.0 ≡ other.1 + 1) ⊎
       ((read_mark b.pages page other.0 ≡ other.1 + 1) × Writes (effect_in b h inputs) page)

@@ -1,5 +1,6 @@
 -- Pages with the steps that used them last: private words.
 use Rattle.std.specs.Prelude.{ℕ, Bool, false, ◌≡◌, ◌≢◌, ◌<◌, ◌≤◌, ◌+◌, max, List, length, replicate, slice_index, slice_index_or, slice_set}
+use Rattle.ft_types.specs.declared.names.TheConstants.{HART_LIMIT, HART_ROW, PAGE_LIMIT, PAGE_ROW}
 use Rattle.ft_types.specs.declared.names.Want.{Want}
 use Rattle.ft_types.specs.declared.names.Want.TheVariants.{Read, Write}
 use Rattle.log_audit.specs.declared.marks.Uses.{Uses}
@@ -11,7 +12,7 @@ pub record MarkedView : Type 0 where
 
 -- no step used the page
 abbrev pub unused : Uses
-unused = record { read = replicate 8 0; written = replicate 8 0 }
+unused = record { read = replicate HART_ROW 0; written = replicate HART_ROW 0 }
 
 abbrev pub uses_at : List Uses → ℕ → Uses
 uses_at uses page = slice_index_or uses page unused
@@ -42,20 +43,20 @@ noted_at uses page hart want mark = slice_set uses page (noted hart want mark (u
 
 -- no step asked to write a page that has no such flag
 pub record AreUnwritten (uses : List Uses) (flags : List Bool) : Type 0 where
-  pub many : length flags ≡ 64
-  pub unwritten : (page : ℕ) → page < 64 → slice_index_or flags page false ≡ false → (uses_at uses page).written ≡ replicate 8 0
+  pub many : length flags ≡ PAGE_ROW
+  pub unwritten : (page : ℕ) → page < PAGE_LIMIT → slice_index_or flags page false ≡ false → (uses_at uses page).written ≡ replicate HART_ROW 0
 
 -- a step of another hart, by its hart and count, stands against this use: it conflicts with it, and it is none of the first steps
 -- that come before
 pub record StandsAgainst (uses : List Uses) (page hart : ℕ) (want : Want) (before : List ℕ) (other : ℕ × ℕ) : Type 0 where
   pub on_other : other.0 ≢ hart
-  pub there : other.0 < 8
+  pub there : other.0 < HART_LIMIT
   pub last : used_by (uses_at uses page) want other.0 ≡ other.1 + 1
   pub unordered : slice_index before other.0 ≤ other.1
 
 -- each step of another that conflicts with the use of the page is among those that come before
 abbrev pub IsClear : List Uses → ℕ → ℕ → Want → List ℕ → Type 0
-IsClear uses page hart want before = (other : ℕ) → other < 8 → other ≢ hart → used_by (uses_at uses page) want other ≤ slice_index before other
+IsClear uses page hart want before = (other : ℕ) → other < HART_LIMIT → other ≢ hart → used_by (uses_at uses page) want other ≤ slice_index before other
 
 -- the hart's marks are below this one
 abbrev pub IsMarkedBelow : MarkedView → ℕ → ℕ → Type 0

@@ -1,10 +1,11 @@
 //! Pages, and what a step asked for.
 
 ghost use Rattle.std.specs.Prelude.{◌≡◌, ◌<◌, ◌≤◌, ◌^◌, ℕ, List, length, replicate, slice_set, false, true, IfOk, OnOk};
+ghost use Rattle.ft_types.specs.declared.names.TheConstants.{PAGE_LIMIT};
 ghost use Rattle.rv32_hart.specs.Ram.{may_read, may_write};
 ghost use Rattle.log_audit.specs.Asking.{granted, no_rights};
 
-use ft_types::{Memory, PageNo, Want};
+use ft_types::{Memory, PAGE_ROW, PageNo, Want};
 use guest_image::{Machine, Page};
 use rv32_hart::Pages;
 use std::alloc::Global;
@@ -14,8 +15,8 @@ use std::marker::Model;
 #[derive(Drop)]
 pub(crate) struct AskedPages {
     pages: Vec<Page>,
-    readable: [bool; 64],
-    writable: [bool; 64],
+    readable: [bool; PAGE_ROW],
+    writable: [bool; PAGE_ROW],
 }
 
 impl Model for AskedPages {
@@ -48,8 +49,8 @@ impl AskedPages {
         let pages = pages_of(alloc, machine)?;
         Ok(AskedPages {
             pages,
-            readable: [false; 64],
-            writable: [false; 64],
+            readable: [false; PAGE_ROW],
+            writable: [false; PAGE_ROW],
         })
     }
 
@@ -57,14 +58,14 @@ impl AskedPages {
     pub(crate) fn begin_step(&mut self)
         ensures { self.new ≡ no_rights self.old.contents }
     {
-        self.readable = [false; 64];
-        self.writable = [false; 64];
+        self.readable = [false; PAGE_ROW];
+        self.writable = [false; PAGE_ROW];
     }
 
     /// The present step may use the page so.
     pub(crate) fn grant(&mut self, page: PageNo, want: Want)
         ensures granted { self.new ≡ granted self.old page want }
-        ensures below { page < 64 }
+        ensures below { page < PAGE_LIMIT }
     {
         self.readable[page.index()] = true;
         match want {

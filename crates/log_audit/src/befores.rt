@@ -6,7 +6,7 @@ ghost use Rattle.log_audit.specs.Befores.{row_of, AreRising, IsLatest, IsBrought
 
 use crate::marks::Row;
 use edge_log::Edge;
-use ft_types::{Count, Hart, Memory};
+use ft_types::{Count, HART_ROW, Hart, Memory};
 use std::alloc::Global;
 use std::array;
 use std::marker::Model;
@@ -23,7 +23,7 @@ pub(crate) struct Before {
 /// For each hart, what comes before its steps, by rising count.
 #[derive(Drop)]
 pub(crate) struct Befores {
-    rows: [Vec<Before>; 8],
+    rows: [Vec<Before>; HART_ROW],
 }
 
 /// Raises each count to the other row's.
@@ -43,7 +43,7 @@ fn latest(row: &[Before], count: Count) -> Row
 {
     let place = row.partition_point(|before| before.since <= count);
     if place == 0 {
-        [0; 8]
+        [0; HART_ROW]
     } else {
         row[place - 1].steps
     }
@@ -61,7 +61,7 @@ impl Model for Befores {
 impl Befores {
     /// Nothing comes before any step.
     pub(crate) fn none(alloc: Global) -> Befores
-        ensures { result ≡ replicate 8 [] }
+        ensures { result ≡ replicate HART_ROW [] }
     {
         Befores {
             rows: array::from_fn(|_| Vec::new(alloc)),

@@ -1,6 +1,7 @@
 //! Harts that go step by step, each step with what it asks for.
 
 ghost use Rattle.std.specs.Prelude.{◌≡◌, ◌≢◌, ◌<◌, ◌≤◌, ◌^◌, ◌+◌, ◌-◌, ◌↔◌, ℕ, [], All, false, length, slice_get, Some, IfOk, OnOk, IfSome, IfNone, IsTrue};
+ghost use Rattle.ft_types.specs.declared.names.TheConstants.{INPUT_LIMIT};
 ghost use Rattle.ft_types.specs.Counts.{count_at};
 ghost use Rattle.interleaving.specs.Log.{HasUnmet};
 ghost use Rattle.edge_log.specs.EdgeLog.{edges_of};
@@ -140,7 +141,7 @@ impl Harts {
     #[inline(always)]
     fn step(&mut self, hart: Hart, inputs: &[Input], before: &Row) -> Result<Option<Clash>, Memory>
         requires hart { hart < length self.old.harts }
-        requires few { length inputs.now ≤ 8 }
+        requires few { length inputs.now ≤ INPUT_LIMIT }
         requires runs { (h : HartRecord) → slice_get self.old.harts hart ≡ Some h → (h.halted ≡ false) × (h.count < 2 ^ 48 - 1) }
         requires marks { (h : HartRecord) → slice_get self.old.harts hart ≡ Some h → IsMarkedBelow self.old.pages hart (h.count + 1) }
         ensures taken { IfOk result (λ clash. IfNone clash ((h : HartRecord) → slice_get self.old.harts hart ≡ Some h →

@@ -1,6 +1,7 @@
 //! Legs that are audited.
 
 ghost use Rattle.std.specs.Prelude.{◌≡◌, ◌<◌, ◌≤◌, ℕ, length, IfOk, IfSome, IfNone};
+ghost use Rattle.ft_types.specs.declared.names.TheConstants.{HART_LIMIT};
 ghost use Rattle.hart_replay.specs.Plans.{IsLeg};
 ghost use Rattle.log_audit.specs.Covered.{IsOn};
 ghost use Rattle.log_audit.specs.Turns.{TurnsOf, HasStopped, IsClash, Ends};
@@ -25,7 +26,7 @@ pub(crate) enum Ended {
 /// Lets each hart go on in turn, where it may, until one's step clashes.
 fn go_round(harts: &mut Harts, leg: &PlannedLeg, many: u8) -> Result<Turn, Memory>
     requires many { many ≡ length harts.old.harts }
-    requires few { many ≤ 8 }
+    requires few { many ≤ HART_LIMIT }
     requires leg { IsLeg (length harts.old.start.harts) leg.now }
     requires on { IsOn leg.now harts.old }
     ensures turns { IfOk result (λ turn. TurnsOf leg.now many harts.old turn harts.new) }
@@ -44,7 +45,7 @@ fn go_round(harts: &mut Harts, leg: &PlannedLeg, many: u8) -> Result<Turn, Memor
 /// Lets the harts go on until none can, or one's step clashes.
 fn go_on(harts: &mut Harts, leg: &PlannedLeg, many: u8) -> Result<Option<Clash>, Memory>
     requires many { many ≡ length harts.old.harts }
-    requires few { many ≤ 8 }
+    requires few { many ≤ HART_LIMIT }
     requires leg { IsLeg (length harts.old.start.harts) leg.now }
     requires on { IsOn leg.now harts.old }
     ensures stopped { IfOk result (λ clash. IfNone clash (HasStopped leg.now many harts.old harts.new)) }

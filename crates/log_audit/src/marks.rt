@@ -3,12 +3,12 @@
 ghost use Rattle.std.specs.Prelude.{◌≡◌, ◌≢◌, ◌<◌, ◌≤◌, ℕ, length, replicate, IfOk, IfSome, IfNone};
 ghost use Rattle.log_audit.specs.Marks.{unused, uses_at, used_by, noted_at, StandsAgainst, IsClear};
 
-use ft_types::{Count, HART_LIMIT, Hart, Memory, PageNo, Want};
+use ft_types::{Count, HART_LIMIT, HART_ROW, Hart, Memory, PAGE_ROW, PageNo, Want};
 use std::alloc::Global;
 use std::marker::Model;
 
 /// One count per hart.
-pub(crate) type Row = [Count; 8];
+pub(crate) type Row = [Count; HART_ROW];
 
 /// For each hart, the last step that asked to read a page and the last that asked to write it, as one more than that step's
 /// count; 0 where there is none.
@@ -36,7 +36,7 @@ impl Uses {
 pub(crate) struct Marks {
     uses: Vec<Uses>,
     /// Whether any step asked to write a page: most pages are code that none writes.
-    is_written: [bool; 64],
+    is_written: [bool; PAGE_ROW],
 }
 
 impl Model for Marks {
@@ -57,8 +57,8 @@ fn no_uses(alloc: Global, pages: u8) -> Result<Vec<Uses>, Memory>
     let mut uses = Vec::with_capacity(alloc, pages as usize)?;
     for _page in 0..pages {
         uses.push(Uses {
-            read: [0; 8],
-            written: [0; 8],
+            read: [0; HART_ROW],
+            written: [0; HART_ROW],
         })?;
     }
     Ok(uses)
@@ -72,7 +72,7 @@ impl Marks {
         let uses = no_uses(alloc, pages)?;
         Ok(Marks {
             uses,
-            is_written: [false; 64],
+            is_written: [false; PAGE_ROW],
         })
     }
 
@@ -107,7 +107,7 @@ impl Marks {
     pub(crate) fn note(&mut self, page: PageNo, hart: Hart, want: Want, mark: Count)
         requires { page < length self.old }
         ensures noted { self.new ≡ noted_at self.old page hart want mark }
-        ensures rows { (length (uses_at self.old page).read ≡ 8) × (length (uses_at self.old page).written ≡ 8) }
+        ensures rows { (length (uses_at self.old page).read ≡ HART_ROW) × (length (uses_at self.old page).written ≡ HART_ROW) }
     {
         let uses = &mut self.uses[page.index()];
         match want {

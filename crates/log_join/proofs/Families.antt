@@ -8,7 +8,7 @@ use Rattle.std.specs.declared.cmp.Ordering.TheVariants.{Equal}
 use Rattle.std.specs.Cmp.{IsTotalOrder, nat_cmp_total, Equal-is}
 use Rattle.std.proofs.lemmas.Map.Lookups.{exact_unsigned}
 use Rattle.std.specs.FinMap as map
-use Rattle.ft_types.specs.declared.guest.Guest.{Guest}
+use Rattle.ft_types.specs.Guests.{GuestParts}
 use Rattle.fragment_codec.specs.declared.types.Key.{Key}
 use Rattle.fragment_codec.specs.declared.frame.Frame.{Frame}
 use Rattle.fragment_codec.specs.declared.frame.Frame.TheVariants.{Log, Opening}
@@ -203,7 +203,7 @@ honest_alone terms (Log piece) its =
       ];
     }
 
-pub honest_nothing : {Told : Type 0} (terms : Family Told) (guest : Guest) → HonestStore terms (nothing guest)
+pub honest_nothing : {Told : Type 0} (terms : Family Told) (guest : GuestParts) → HonestStore terms (nothing guest)
 honest_nothing terms guest =
     record {
       openings = λ term. inl (ap cell_of (map.get-empty nat_cmp term));

@@ -9,7 +9,7 @@ use Rattle.std.specs.Cmp.{IsTotalOrder, nat_cmp_total, Equal-is}
 use Rattle.std.proofs.lemmas.Map.Lookups.{exact_unsigned}
 use Rattle.std.specs.Prelude.{Some, if◌then◌else◌}
 use Rattle.std.specs.FinMap as finite
-use Rattle.ft_types.specs.declared.guest.Guest.{Guest}
+use Rattle.ft_types.specs.Guests.{GuestParts}
 use Rattle.fragment_codec.specs.declared.types.Key.{Key}
 use Rattle.fragment_codec.specs.declared.frame.Frame.{Frame}
 use Rattle.fragment_codec.specs.declared.frame.Frame.TheVariants.{Log, Opening}
@@ -67,7 +67,7 @@ module _ {X : Type 0} (same : X → X → Bool) (laws : CellsJoin same) where
       ∙ all_absorbed bring first second (λ f. (frames f).0)
 
   -- a cell that follows joins, of a store that frames were gathered in
-  pub gathered_cell : (guest : Guest) (at : StoreView → Cell X) → at (nothing guest) ≡ Absent →
+  pub gathered_cell : (guest : GuestParts) (at : StoreView → Cell X) → at (nothing guest) ≡ Absent →
       ((a b c : StoreView) → IsJoin a b c → at c ≡ join_cell same (at a) (at b)) → (frames : List Frame) (store : StoreView) → Gathers guest frames store →
       at store ≡ all_of (map (λ f. at (alone f)) frames)
   gathered_cell guest at empty joins frames store (Nothing none is) = ap at is ∙ empty ∙ sym (ap (λ fs. all_of (map (λ f. at (alone f)) fs)) none)
@@ -89,7 +89,7 @@ module _ {X : Type 0} (same : X → X → Bool) (laws : CellsJoin same) where
       ∙ ap all_of (sym (map-append bring first second))
       ∙ ap (λ fs. all_of (map bring fs)) (sym are)
 
-  pub same_cell : (guest : Guest) (at : StoreView → Cell X) → at (nothing guest) ≡ Absent →
+  pub same_cell : (guest : GuestParts) (at : StoreView → Cell X) → at (nothing guest) ≡ Absent →
       ((a b c : StoreView) → IsJoin a b c → at c ≡ join_cell same (at a) (at b)) → (first second : List Frame) (a b : StoreView) →
       Gathers guest first a → Gathers guest second b → SameFrames first second → at a ≡ at b
   same_cell guest at empty joins first second a b one two frames =
@@ -121,7 +121,7 @@ module _ {X : Type 0} (same : X → X → Bool) (laws : CellsJoin same) where
       ]
 
   -- one content of a store was brought by a frame
-  pub one_brought : (guest : Guest) (at : StoreView → Cell X) → at (nothing guest) ≡ Absent →
+  pub one_brought : (guest : GuestParts) (at : StoreView → Cell X) → at (nothing guest) ≡ Absent →
       ((a b c : StoreView) → IsJoin a b c → at c ≡ join_cell same (at a) (at b)) → (frames : List Frame) (store : StoreView) → Gathers guest frames store →
       (x : X) → at store ≡ One x → (frame : Frame) × Contains frames frame × (at (alone frame) ≡ One x)
   one_brought guest at empty joins frames store gathers x one =
@@ -157,7 +157,7 @@ alone_fragment (Opening p) key f e = absurd (nothing_at key_cmp key f e)
 
 -- ---- stores
 
-of_guest : (guest : Guest) (frames : List Frame) (store : StoreView) → Gathers guest frames store → store.guest ≡ guest
+of_guest : (guest : GuestParts) (frames : List Frame) (store : StoreView) → Gathers guest frames store → store.guest ≡ guest
 of_guest guest frames store (Nothing none is) = ap (λ (s : StoreView). s.guest) is
 of_guest guest frames store (Put earlier frame old before joined are) = joined.guest ∙ of_guest guest earlier old before
 of_guest guest frames store (Join first second a b one two joined are) = joined.guest ∙ of_guest guest first a one
@@ -170,7 +170,7 @@ one_gathered os fs guest first second a b one two frames =
     (λ key. same_cell same_fragment fs guest (λ s. fragment_at s key) (ap cell_of (finite.get-empty key_cmp key)) (λ x y z j. j.fragments key)
     first second a b one two frames)
 
-gathers_more : (guest : Guest) (earlier frames : List Frame) (old new : StoreView) → Gathers guest earlier old → Come old frames new →
+gathers_more : (guest : GuestParts) (earlier frames : List Frame) (old new : StoreView) → Gathers guest earlier old → Come old frames new →
     Gathers guest (earlier ++ frames) new
 gathers_more guest earlier [] old new before is = subst (λ (s : StoreView). Gathers guest (earlier ++ []) s) (sym is) (rw append-nil before)
 gathers_more guest earlier (frame ∷ frames) old new before (next, joined, rest) =

@@ -11,7 +11,7 @@ use Rattle.std.proofs.Math.Nat.{le-max_left, le-max_right, max-le}
 use Rattle.std.proofs.lemmas.Bool.{cases_lt}
 use Rattle.std.proofs.lemmas.Cmp.{on_total}
 use Rattle.std.proofs.lemmas.Map.Lookups.{exact_unsigned}
-use Rattle.ft_types.specs.declared.guest.Guest.{Guest}
+use Rattle.ft_types.specs.Guests.{GuestParts}
 use Rattle.ft_types.specs.declared.errors.Memory.{Memory}
 use Rattle.fragment_codec.specs.declared.types.Key.{Key}
 use Rattle.fragment_codec.specs.declared.frame.Frame.{Frame}
@@ -63,7 +63,7 @@ places_exact a b h = ap place_of (keys_exact (key_of a) (key_of b) h)
 
 -- ---- what a store keeps
 
-pub is_store : (guest : Guest) (s : Shelves) → Fits guest s → IsStore (view_of guest s)
+pub is_store : (guest : GuestParts) (s : Shelves) → Fits guest s → IsStore (view_of guest s)
 is_store guest s fits = record {
   openings = λ t o e. one_fits opening_part (IsOpeningOf guest t) (get nat_cmp s.openings t) o (fits.terms t)
       (sym (cell_shown nat_cmp_total (λ (z : ℕ). z) opening_part s.openings t) ∙ e);
@@ -71,13 +71,13 @@ is_store guest s fits = record {
       (sym (cell_shown keys_total key_of fragment_part s.fragments (place_of k)) ∙ e);
 }
 
-pub same_view : (guest : Guest) (s n : Shelves) → IsKept s n → view_of guest n ≡ view_of guest s
+pub same_view : (guest : GuestParts) (s n : Shelves) → IsKept s n → view_of guest n ≡ view_of guest s
 same_view guest s n kept =
     one_store (view_of guest n) (view_of guest s) refl
     (λ t. same_shown nat_cmp_total (λ (z : ℕ). z) opening_part s.openings n.openings kept.terms t)
     (λ k. same_shown keys_total key_of fragment_part s.fragments n.fragments kept.places (place_of k))
 
-pub met_view : (guest : Guest) (s other n : Shelves) → Fits guest s → Fits guest other → IsMet s other n → IsJoin (view_of guest s) (view_of guest other)
+pub met_view : (guest : GuestParts) (s other n : Shelves) → Fits guest s → Fits guest other → IsMet s other n → IsJoin (view_of guest s) (view_of guest other)
     (view_of guest n)
 met_view guest s other n fits others meets = record {
   guest = refl;
@@ -87,7 +87,7 @@ met_view guest s other n fits others meets = record {
       n.fragments fits.places others.places meets.places (place_of k);
 }
 
-pub met_fits : (guest : Guest) (s other n : Shelves) → Fits guest s → Fits guest other → IsMet s other n → Fits guest n
+pub met_fits : (guest : GuestParts) (s other n : Shelves) → Fits guest s → Fits guest other → IsMet s other n → Fits guest n
 met_fits guest s other n fits others meets = record {
   terms = λ t. subst (FitsAt opening_part (IsOpeningOf guest t)) (sym (meets.terms t)) (fits_met opening_part (IsOpeningOf guest t) (get nat_cmp s.openings t)
       (get nat_cmp other.openings t) (fits.terms t) (others.terms t));
@@ -138,10 +138,10 @@ nothing_else : {K X : Type 0} {R : K → K → Ordering} (same : X → X → Boo
     (cell_of (finite.get m q)) (cell_of (finite.get (finite.empty {X = Option X} {R = R}) q))
 nothing_else {K} {X} {R} same m q = sym (ap (λ c. join_cell same (cell_of (finite.get m q)) (cell_of c)) (finite.get-empty R q) ∙ join_absent same _)
 
-is_of_guest : (a b : Guest) → a ≡ b → same_guest a b ≡ true
+is_of_guest : (a b : GuestParts) → a ≡ b → same_guest a b ≡ true
 is_of_guest a b e = (guests_told a b).1 e
 
-pub puts_opening : (guest : Guest) (s : Shelves) (n : BTreeMap ℕ Content) (o : OpeningParts) (result : Result Put Memory) → Fits guest s → o.guest ≡ guest →
+pub puts_opening : (guest : GuestParts) (s : Shelves) (n : BTreeMap ℕ Content) (o : OpeningParts) (result : Result Put Memory) → Fits guest s → o.guest ≡ guest →
     IsTaken nat_cmp s.openings n o.term (Opening o) result → Puts (view_of guest s) (Opening o) result (view_of guest (record s { openings = n }))
 puts_opening guest s n o (Ok p) fits own h =
     let here = get nat_cmp s.openings o.term in
@@ -177,7 +177,7 @@ puts_opening guest s n o (Err x) fits own h =
       err = same_view guest s (record s { openings = n }) (record { terms = h.keeps; places = λ _. refl });
     }
 
-pub puts_fragment : (guest : Guest) (s : Shelves) (n : BTreeMap Place Content) (f : FragmentParts) (result : Result Put Memory) → Fits guest s →
+pub puts_fragment : (guest : GuestParts) (s : Shelves) (n : BTreeMap Place Content) (f : FragmentParts) (result : Result Put Memory) → Fits guest s →
     f.guest ≡ guest →
     IsTaken place_cmp s.fragments n (place_of f.key) (Log f) result → Puts (view_of guest s) (Log f) result (view_of guest (record s { fragments = n }))
 puts_fragment guest s n f (Ok p) fits own h =
@@ -216,7 +216,7 @@ puts_fragment guest s n f (Err x) fits own h =
     }
 
 -- what stands at keys still fits after a frame came
-pub opening_fits : (guest : Guest) (s : Shelves) (n : BTreeMap ℕ Content) (o : OpeningParts) (result : Result Put Memory) → Fits guest s →
+pub opening_fits : (guest : GuestParts) (s : Shelves) (n : BTreeMap ℕ Content) (o : OpeningParts) (result : Result Put Memory) → Fits guest s →
     IsOpeningOf guest o.term o →
     IsTaken nat_cmp s.openings n o.term (Opening o) result → Fits guest (record s { openings = n })
 opening_fits guest s n o (Ok p) fits own h = record {
@@ -228,7 +228,7 @@ opening_fits guest s n o (Err x) fits own h = record {
   places = fits.places;
 }
 
-pub fragment_fits : (guest : Guest) (s : Shelves) (n : BTreeMap Place Content) (f : FragmentParts) (result : Result Put Memory) → Fits guest s →
+pub fragment_fits : (guest : GuestParts) (s : Shelves) (n : BTreeMap Place Content) (f : FragmentParts) (result : Result Put Memory) → Fits guest s →
     IsFragmentOf guest f.key f →
     IsTaken place_cmp s.fragments n (place_of f.key) (Log f) result → Fits guest (record s { fragments = n })
 fragment_fits guest s n f (Ok p) fits own h = record {
@@ -269,7 +269,7 @@ tells_fragment (FindsOne r) c P e h =
 
 -- ---- copies
 
-pub from_nothing : (guest : Guest) (a c : StoreView) → guest ≡ a.guest → IsJoin (nothing guest) a c → c ≡ a
+pub from_nothing : (guest : GuestParts) (a c : StoreView) → guest ≡ a.guest → IsJoin (nothing guest) a c → c ≡ a
 from_nothing guest a c g h =
     one_store c a (h.guest ∙ g)
     (λ t. h.openings t ∙ ap (λ x. join_cell same_opening (cell_of x) (opening_at a t)) (finite.get-empty nat_cmp t))
@@ -289,7 +289,7 @@ one_of_two m n =
     (λ (h : n ≤ m). let up : max m n ≤ m = max-le (omega arith) (omega arith) in inl (omega (arith, up, le-max_left m n)))
     (cases_lt m n)
 
-pub last_is : (guest : Guest) (s : Shelves) (opened logged : ℕ) →
+pub last_is : (guest : GuestParts) (s : Shelves) (opened logged : ℕ) →
     ((t : ℕ) → IsSome (get nat_cmp s.openings t) → t ≤ opened) → (opened ≡ 0) ⊎ IsSome (get nat_cmp s.openings opened) →
     ((p : Place) → IsSome (get place_cmp s.fragments p) → p.term ≤ logged) → (logged ≡ 0) ⊎ ((p : Place) × (p.term ≡ logged) ×
     IsSome (get place_cmp s.fragments p)) →

@@ -4,7 +4,7 @@ use Rattle.std.specs.Prelude.{◌==◌, ◌&&◌}
 use Rattle.std.specs.Bool.{Decides}
 use Rattle.std.proofs.lemmas.Bool.Decides.{Decides-and, Decides-eqb, Decides-like}
 use Rattle.std.proofs.lemmas.Slice.Eq.{slice_eq-Decides, bytes_eq-Decides}
-use Rattle.ft_types.specs.declared.guest.Guest.{Guest}
+use Rattle.ft_types.specs.Guests.{GuestParts}
 use Rattle.input_log.specs.Alike.{same_input}
 use Rattle.input_log.proofs.Told.{inputs_told}
 use Rattle.edge_log.specs.declared.Edge.{Edge as OwnedEdge}
@@ -14,9 +14,9 @@ use Rattle.fragment_codec.specs.declared.types.Record.TheVariants.{Edge as EdgeR
 use Rattle.fragment_codec.specs.Rules.{FragmentParts, OpeningParts}
 use Rattle.log_join.specs.Tests.{same_guest, same_key, same_edge, same_record, same_opening, same_fragment}
 
-pub guests_told : (a b : Guest) → Decides (same_guest a b) (a ≡ b)
+pub guests_told : (a b : GuestParts) → Decides (same_guest a b) (a ≡ b)
 guests_told a b =
-    Decides-like (same_guest a b) (λ p i. record { digest = p.0 i; harts = p.1 i }) (λ e. (ap (λ (g : Guest). g.digest) e, ap (λ (g : Guest). g.harts) e))
+    Decides-like (same_guest a b) (λ p i. record { digest = p.0 i; harts = p.1 i }) (λ e. (ap (λ (g : GuestParts). g.digest) e, ap (λ (g : GuestParts). g.harts) e))
     (Decides-and _ _ (bytes_eq-Decides a.digest b.digest) (Decides-eqb a.harts b.harts))
 
 keys_told : (a b : Key) → Decides (same_key a b) (a ≡ b)

@@ -2,7 +2,7 @@
 use Rattle.std.specs.Prelude.{◌≡◌, ℕ, List, ◌⊎◌, Option, Some, None, refl}
 use Rattle.std.specs.Coded.{Coded, code_by, coded×, coded⊎, coded_ℕ, coded_list, coded_option}
 use mathlib.Core.Logic.{inl, inr}
-use Rattle.ft_types.specs.declared.guest.Guest.{Guest}
+use Rattle.ft_types.specs.Guests.{GuestParts}
 use Rattle.input_log.specs.declared.Input.{Input as HartInput}
 use Rattle.input_log.specs.declared.Input.TheVariants.{Timer, Word, Bell}
 use Rattle.edge_log.specs.declared.Edge.{Edge as OwnedEdge}
@@ -11,7 +11,7 @@ use Rattle.fragment_codec.specs.declared.types.Record.{Record}
 use Rattle.fragment_codec.specs.declared.types.Record.TheVariants.{Edge as EdgeRecord, Input as InputRecord}
 use Rattle.fragment_codec.specs.Rules.{FragmentParts, OpeningParts}
 
-abbrev pub coded_guest : Coded Guest
+abbrev pub coded_guest : Coded GuestParts
 coded_guest = code_by (List ℕ × ℕ) (coded× (coded_list coded_ℕ) coded_ℕ) (λ g. (g.digest, g.harts)) (λ p. record { digest = p.0; harts = p.1 }) (λ _. refl)
 
 abbrev pub coded_key : Coded Key
@@ -63,14 +63,14 @@ coded_record = code_by (OwnedEdge ⊎ (ℕ × HartInput)) (coded⊎ coded_edge (
 
 abbrev pub coded_opening : Coded OpeningParts
 coded_opening =
-    code_by (Guest × (ℕ × (ℕ × List ℕ))) (coded× coded_guest (coded× coded_ℕ (coded× coded_ℕ (coded_list coded_ℕ))))
+    code_by (GuestParts × (ℕ × (ℕ × List ℕ))) (coded× coded_guest (coded× coded_ℕ (coded× coded_ℕ (coded_list coded_ℕ))))
     (λ o. (o.guest, (o.term, (o.parent, o.base))))
     (λ p. record { guest = p.0; term = p.1.0; parent = p.1.1.0; base = p.1.1.1 })
     (λ _. refl)
 
 abbrev pub coded_fragment : Coded FragmentParts
 coded_fragment =
-    code_by (Guest × (Key × (ℕ × (ℕ × List Record)))) (coded× coded_guest (coded× coded_key (coded× coded_ℕ (coded× coded_ℕ (coded_list coded_record)))))
+    code_by (GuestParts × (Key × (ℕ × (ℕ × List Record)))) (coded× coded_guest (coded× coded_key (coded× coded_ℕ (coded× coded_ℕ (coded_list coded_record)))))
     (λ f. (f.guest, (f.key, (f.from, (f.to, f.records)))))
     (λ p. record { guest = p.0; key = p.1.0; from = p.1.1.0; to = p.1.1.1.0; records = p.1.1.1.1 })
     (λ _. refl)

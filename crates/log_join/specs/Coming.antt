@@ -1,6 +1,6 @@
 -- What came to a store: frames that were put, and stores that were joined.
 use Rattle.std.specs.Prelude.{ℕ, ◌≡◌, List, [], ◌∷◌, ◌++◌, ◌↔◌, Contains}
-use Rattle.ft_types.specs.declared.guest.Guest.{Guest}
+use Rattle.ft_types.specs.Guests.{GuestParts}
 use Rattle.fragment_codec.specs.declared.frame.Frame.{Frame}
 use Rattle.fragment_codec.specs.declared.frame.Frame.TheVariants.{Log, Opening}
 use Rattle.fragment_codec.specs.declared.types.Key.{Key}
@@ -14,11 +14,11 @@ Come old [] new = new ≡ old
 Come old (frame ∷ frames) new = (next : StoreView) × IsJoin old (alone frame) next × Come next frames new
 
 -- the join of these frames of the guest
-abbrev pub IsJoinOf : Guest → List Frame → StoreView → Type 0
+abbrev pub IsJoinOf : GuestParts → List Frame → StoreView → Type 0
 IsJoinOf guest frames store = Come (nothing guest) frames store
 
 -- these frames, and no others, were put into the store, or into stores that were joined to it, and so on
-pub data Gathers (guest : Guest) : List Frame → StoreView → Type 0 where
+pub data Gathers (guest : GuestParts) : List Frame → StoreView → Type 0 where
   Nothing : {frames : List Frame} {store : StoreView} → frames ≡ [] → store ≡ nothing guest → Gathers guest frames store
   Put : {frames : List Frame} {store : StoreView} (earlier : List Frame) (frame : Frame) (old : StoreView) → Gathers guest earlier old →
       IsJoin old (alone frame) store →

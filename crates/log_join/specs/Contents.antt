@@ -6,7 +6,7 @@ use Rattle.std.specs.Ordering.{nat_cmp, eq_by_cmp}
 use Rattle.std.specs.declared.cmp.Ordering.{Ordering}
 use Rattle.std.specs.BTreeMap.{BTreeMap, get}
 use Rattle.std.specs.FinMap as finite
-use Rattle.ft_types.specs.declared.guest.Guest.{Guest}
+use Rattle.ft_types.specs.Guests.{GuestParts}
 use Rattle.fragment_codec.specs.declared.types.Key.{Key}
 use Rattle.fragment_codec.specs.declared.frame.Frame.{Frame}
 use Rattle.fragment_codec.specs.declared.frame.Frame.TheVariants.{Log, Opening}
@@ -119,11 +119,11 @@ abbrev pub place_cmp : Place → Place → Ordering
 place_cmp a b = key_cmp (key_of a) (key_of b)
 
 -- each opening and each fragment stands at its key
-pub record Fits (guest : Guest) (s : Shelves) : Type 0 where
+pub record Fits (guest : GuestParts) (s : Shelves) : Type 0 where
   pub terms : (term : ℕ) → FitsAt opening_part (IsOpeningOf guest term) (get nat_cmp s.openings term)
   pub places : (place : Place) → FitsAt fragment_part (IsFragmentOf guest (key_of place)) (get place_cmp s.fragments place)
 
-abbrev pub view_of : Guest → Shelves → StoreView
+abbrev pub view_of : GuestParts → Shelves → StoreView
 view_of guest s = record {
   guest = guest;
   openings = shown nat_cmp (λ term. term) opening_part s.openings;

@@ -1,6 +1,6 @@
 -- What holds of stores of one family's frames.
 use Rattle.std.specs.Prelude.{List, Contains}
-use Rattle.ft_types.specs.declared.guest.Guest.{Guest}
+use Rattle.ft_types.specs.Guests.{GuestParts}
 use Rattle.fragment_codec.specs.declared.frame.Frame.{Frame}
 use Rattle.log_join.specs.Stores.{StoreView, IsJoin}
 use Rattle.log_join.specs.Coming.{Gathers}
@@ -21,7 +21,7 @@ HonestAgree Told = (terms : Family Told) (store : StoreView) → HonestStore ter
 
 -- a store that gathered the family's frames is honest
 abbrev pub HonestGather : Type 0 → Type 0
-HonestGather Told = (terms : Family Told) (guest : Guest) (frames : List Frame) (store : StoreView) → Gathers guest frames store →
+HonestGather Told = (terms : Family Told) (guest : GuestParts) (frames : List Frame) (store : StoreView) → Gathers guest frames store →
     ((frame : Frame) → Contains frames frame → OfFamily terms frame) → HonestStore terms store
 
 -- and so it stays when the family grows

@@ -1,6 +1,6 @@
 -- The laws of joins, over all stores.
 use Rattle.std.specs.Prelude.{◌≡◌, Bool, ◌↔◌, IsTrue, List, Contains}
-use Rattle.ft_types.specs.declared.guest.Guest.{Guest}
+use Rattle.ft_types.specs.Guests.{GuestParts}
 use Rattle.fragment_codec.specs.declared.frame.Frame.{Frame}
 use Rattle.log_join.specs.Cells.{Cell, Absent, join_cell}
 use Rattle.log_join.specs.Stores.{StoreView, IsStore, IsJoin, nothing as nothing_came, guest_of}
@@ -41,24 +41,24 @@ abbrev pub Idempotent : Type 0
 Idempotent = (a joined : StoreView) → IsJoin a a joined → joined ≡ a
 
 abbrev pub HasUnit : Type 0
-HasUnit = (a joined : StoreView) (guest : Guest) → IsJoin a (nothing_came guest) joined → joined ≡ a
+HasUnit = (a joined : StoreView) (guest : GuestParts) → IsJoin a (nothing_came guest) joined → joined ≡ a
 
 -- ---- order and repetition
 
 -- whoever took the same frames, alone or in stores, in whatever order and however often, holds one store
 abbrev pub OrderMakesNoDifference : Type 0
-OrderMakesNoDifference = (guest : Guest) (first second : List Frame) (a b : StoreView) → Gathers guest first a → Gathers guest second b →
+OrderMakesNoDifference = (guest : GuestParts) (first second : List Frame) (a b : StoreView) → Gathers guest first a → Gathers guest second b →
     SameFrames first second → a ≡ b
 
 -- frames that came one after the other were gathered
 abbrev pub ComeGathers : Type 0
-ComeGathers = (guest : Guest) (frames : List Frame) (store : StoreView) → IsJoinOf guest frames store → Gathers guest frames store
+ComeGathers = (guest : GuestParts) (frames : List Frame) (store : StoreView) → IsJoinOf guest frames store → Gathers guest frames store
 
 -- what stands in a store was gathered
 abbrev pub OnlyGathered : Type 0
-OnlyGathered = (guest : Guest) (frames : List Frame) (store : StoreView) → Gathers guest frames store → HasOnly frames store
+OnlyGathered = (guest : GuestParts) (frames : List Frame) (store : StoreView) → Gathers guest frames store → HasOnly frames store
 
 -- a store that gathered right frames of its guest keeps what every store keeps
 abbrev pub GatheredIsStore : Type 0
-GatheredIsStore = (guest : Guest) (frames : List Frame) (store : StoreView) → Gathers guest frames store →
+GatheredIsStore = (guest : GuestParts) (frames : List Frame) (store : StoreView) → Gathers guest frames store →
     ((frame : Frame) → Contains frames frame → IsFrame frame) → ((frame : Frame) → Contains frames frame → guest_of frame ≡ guest) → IsStore store

@@ -5,7 +5,7 @@ use Rattle.std.specs.declared.cmp.Ordering.{Ordering}
 use Rattle.std.specs.List.Sorted.{IsStrictlySortedBy}
 use Rattle.std.specs.Coded.{Coded, code_by, coded×, coded_option, coded_ℕ}
 use Rattle.std.specs.FinMap as map
-use Rattle.ft_types.specs.declared.guest.Guest.{Guest}
+use Rattle.ft_types.specs.Guests.{GuestParts}
 use Rattle.fragment_codec.specs.declared.types.Key.{Key}
 use Rattle.fragment_codec.specs.declared.frame.Frame.{Frame}
 use Rattle.fragment_codec.specs.declared.frame.Frame.TheVariants.{Log, Opening}
@@ -20,13 +20,13 @@ key_cmp a b = ordering_then (nat_cmp a.term b.term) (ordering_then (nat_cmp a.ha
 
 -- finite maps of what came, with None where contents clash
 pub record StoreView : Type 0 where
-  pub guest : Guest
+  pub guest : GuestParts
   pub openings : map.FinMap nat_cmp (Option OpeningParts)  -- by term
   pub fragments : map.FinMap key_cmp (Option FragmentParts)
 
 abbrev pub coded_store : Coded StoreView
 coded_store =
-    code_by (Guest × (map.FinMap nat_cmp (Option OpeningParts) × map.FinMap key_cmp (Option FragmentParts)))
+    code_by (GuestParts × (map.FinMap nat_cmp (Option OpeningParts) × map.FinMap key_cmp (Option FragmentParts)))
     (coded× coded_guest (coded× (map.code coded_ℕ (coded_option coded_opening)) (map.code coded_key (coded_option coded_fragment))))
     (λ s. (s.guest, (s.openings, s.fragments)))
     (λ p. record { guest = p.0; openings = p.1.0; fragments = p.1.1 })
@@ -41,13 +41,13 @@ abbrev pub fragment_at : StoreView → Key → Cell FragmentParts
 fragment_at s key = cell_of (map.get s.fragments key)
 
 -- an opening of this guest's term, which keeps the rules
-pub record IsOpeningOf (guest : Guest) (term : ℕ) (o : OpeningParts) : Type 0 where
+pub record IsOpeningOf (guest : GuestParts) (term : ℕ) (o : OpeningParts) : Type 0 where
   pub rules : IsOpening o
   pub same_guest : o.guest ≡ guest
   pub same_term : o.term ≡ term
 
 -- the fragment of this guest's log at this key, which keeps the rules
-pub record IsFragmentOf (guest : Guest) (key : Key) (f : FragmentParts) : Type 0 where
+pub record IsFragmentOf (guest : GuestParts) (key : Key) (f : FragmentParts) : Type 0 where
   pub rules : IsFragment f
   pub same_guest : f.guest ≡ guest
   pub same_key : f.key ≡ key
@@ -66,10 +66,10 @@ pub record IsJoin (a b c : StoreView) : Type 0 where
   pub fragments : (key : Key) → fragment_at c key ≡ join_cell same_fragment (fragment_at a key) (fragment_at b key)
 
 -- the store to which nothing came
-abbrev pub nothing : Guest → StoreView
+abbrev pub nothing : GuestParts → StoreView
 nothing guest = record { guest = guest; openings = map.empty; fragments = map.empty }
 
-abbrev pub guest_of : Frame → Guest
+abbrev pub guest_of : Frame → GuestParts
 guest_of (Log f) = f.guest
 guest_of (Opening o) = o.guest
 

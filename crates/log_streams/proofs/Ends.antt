@@ -13,7 +13,7 @@ use Rattle.std.proofs.lemmas.List.Elements.{Contains-append_cases, Contains-appe
 use Rattle.interleaving.specs.Log.{Edge, IsClosed}
 use Rattle.interleaving.proofs.Cuts.{here, here_or_later}
 use Rattle.ft_types.specs.Counts.{count_at}
-use Rattle.ft_types.specs.declared.guest.Guest.{Guest}
+use Rattle.ft_types.specs.Guests.{GuestParts}
 use Rattle.edge_log.specs.EdgeLog.{edge_as, edges_of, row_of}
 use Rattle.edge_log.proofs.Logs.{map_contains, contains_map, to_edges}
 use Rattle.hart_lease.specs.Runs.{counts_of}
@@ -196,7 +196,7 @@ module _ {K X : Type 0} (R : K → K → Ordering) (total : IsTotalOrder R) (exa
 
 -- ---- the frames of a book, in a store
 
-module _ (guest : Guest) (b : BookView RecordingView) (frames : List Frame) (are : AreFramesOf guest b frames) (store : StoreView)
+module _ (guest : GuestParts) (b : BookView RecordingView) (frames : List Frame) (are : AreFramesOf guest b frames) (store : StoreView)
     (gathers : Gathers guest frames store) where
   abbrev opening : OpeningParts
   opening = record { guest = guest; term = 1; parent = 0; base = replicate guest.harts 0 }
@@ -428,6 +428,6 @@ module _ (guest : Guest) (b : BookView RecordingView) (frames : List Frame) (are
         let s = stops_at closed position.top position.term (count_at position.counts) w.root w.stops in
         record { term = s.0; top = one_sound position.top w.top.sound; counts = s.1 }
 
-pub reach_its_end : (guest : Guest) (b : BookView RecordingView) (frames : List Frame) → AreFramesOf guest b frames →
+pub reach_its_end : (guest : GuestParts) (b : BookView RecordingView) (frames : List Frame) → AreFramesOf guest b frames →
     IsClosed (edges_of b.mode.edges) (counts_of b.machine) → ReachItsEnd guest b frames
 reach_its_end guest b frames are closed leaves store position gathers is = ends guest b frames are store gathers leaves closed position is

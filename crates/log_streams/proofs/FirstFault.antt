@@ -1,7 +1,7 @@
 -- Streams have at most one first fault, and none where they are right.
 use Rattle.std.proofs.Common.{◌≡◌, ℕ, ◌+◌, List, [], ◌∷◌, ◌++◌, Some, None, Result, Err, refl, sym, ap, subst, ◌∙◌, inl, inr, append_assoc}
 use Rattle.std.specs.List.{flat_map, AllByRecursion}
-use Rattle.ft_types.specs.declared.guest.Guest.{Guest as GuestName}
+use Rattle.ft_types.specs.Guests.{GuestParts}
 use Rattle.fragment_codec.specs.declared.frame.Frame.{Frame as LogFrame}
 use Rattle.fragment_codec.specs.declared.fault.FrameFault.{FrameFault}
 use Rattle.fragment_codec.specs.Streams.{spelling, IsFrame, IsStuck, Follows}
@@ -19,7 +19,7 @@ regroup : (f : LogFrame) (fs : List LogFrame) (r : List ℕ) → flat_map spelli
 regroup f fs r = append_assoc (spelling f) (flat_map spelling fs) r
 
 -- behind frames of the guest that no frame follows, no other frame stands
-no_other : (guest : GuestName) (fs before : List LogFrame) (frame : LogFrame) (r q : List ℕ) → AllByRecursion IsFrame fs → AllByRecursion IsFrame (before ++
+no_other : (guest : GuestParts) (fs before : List LogFrame) (frame : LogFrame) (r q : List ℕ) → AllByRecursion IsFrame fs → AllByRecursion IsFrame (before ++
     frame ∷ []) →
     AllByRecursion (IsOf guest) fs → (IsOf guest frame → ⊥) → IsStuck r → flat_map spelling fs ++ r ≡ flat_map spelling (before ++ frame ∷ []) ++ q → ⊥
 no_other guest [] [] frame r q a b own bad stuck e = not_stuck frame ([] ++ q) b.0 (subst IsStuck (e ∙ regroup frame [] q) stuck)
@@ -34,7 +34,7 @@ no_other guest (x ∷ fs) (y ∷ before) frame r q a b own bad stuck e =
     no_other guest fs before frame r q a.1 b.1 own.1 bad stuck same.1
 
 -- behind frames of the guest one other frame stands first
-one_other : (guest : GuestName) (before others : List LogFrame) (frame other : LogFrame) (r q : List ℕ) → AllByRecursion IsFrame (before ++ frame ∷ []) →
+one_other : (guest : GuestParts) (before others : List LogFrame) (frame other : LogFrame) (r q : List ℕ) → AllByRecursion IsFrame (before ++ frame ∷ []) →
     AllByRecursion IsFrame (others ++ other ∷ []) →
     AllByRecursion (IsOf guest) before → AllByRecursion (IsOf guest) others → (IsOf guest frame → ⊥) → (IsOf guest other → ⊥) →
     flat_map spelling (before ++ frame ∷ []) ++ r ≡ flat_map spelling (others ++ other ∷ []) ++ q → frame ≡ other
@@ -53,7 +53,7 @@ one_other guest (x ∷ before) (y ∷ others) frame other r q a b p o bad worse 
     (sym (regroup x (before ++ frame ∷ []) r) ∙ e ∙ regroup y (others ++ other ∷ []) q) in
     one_other guest before others frame other r q a.1 b.1 p.1 o.1 bad worse same.1
 
-module _ (guest : GuestName) (stream : List ℕ) where
+module _ (guest : GuestParts) (stream : List ℕ) where
   says_feed : (frames : List LogFrame) (s : Says guest stream frames) → Follows stream frames (record { rest = s.rest; fault = None })
   says_feed frames s = record { rest = s.rest; splits = s.splits; keeps = (refl, s.partial) }
 
@@ -114,7 +114,7 @@ module _ (guest : GuestName) (stream : List ℕ) where
 -- ---- several streams
 
 -- right streams have no fault
-pub right_streams : (number : ℕ) (guest : GuestName) (streams : List (List ℕ)) (frames : List LogFrame) (f : StreamsFault) → SayAll guest streams frames →
+pub right_streams : (number : ℕ) (guest : GuestParts) (streams : List (List ℕ)) (frames : List LogFrame) (f : StreamsFault) → SayAll guest streams frames →
     StandsInBytes f →
     IsFirstFault number guest streams f → ⊥
 right_streams number guest [] frames f s in_bytes h = h
@@ -124,7 +124,7 @@ right_streams number guest (stream ∷ streams) frames f s in_bytes h = elim h [
 ]
 
 -- and streams have one first fault
-one_first : (number : ℕ) (guest : GuestName) (streams : List (List ℕ)) (f g : StreamsFault) → StandsInBytes f → StandsInBytes g →
+one_first : (number : ℕ) (guest : GuestParts) (streams : List (List ℕ)) (f g : StreamsFault) → StandsInBytes f → StandsInBytes g →
     IsFirstFault number guest streams f →
     IsFirstFault number guest streams g → f ≡ g
 one_first number guest [] f g a b h k = absurd h
@@ -140,14 +140,14 @@ one_first number guest (stream ∷ streams) f g a b h k = elim h [
 ]
 
 -- a fault of a replay or of the writer is none of a stream's
-pub no_replay : (number : ℕ) (guest : GuestName) (streams : List (List ℕ)) (x : ReplayFault) → IsFirstFault number guest streams (Replay x) → ⊥
+pub no_replay : (number : ℕ) (guest : GuestParts) (streams : List (List ℕ)) (x : ReplayFault) → IsFirstFault number guest streams (Replay x) → ⊥
 no_replay number guest [] x h = h
 no_replay number guest (stream ∷ streams) x h = elim h [
   | inl here ↦ here
   | inr there ↦ no_replay (number + 1) guest streams x there.2
 ]
 
-pub no_write : (number : ℕ) (guest : GuestName) (streams : List (List ℕ)) → IsFirstFault number guest streams Write → ⊥
+pub no_write : (number : ℕ) (guest : GuestParts) (streams : List (List ℕ)) → IsFirstFault number guest streams Write → ⊥
 no_write number guest [] h = h
 no_write number guest (stream ∷ streams) h = elim h [
   | inl here ↦ here

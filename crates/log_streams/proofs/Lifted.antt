@@ -8,7 +8,7 @@ use Rattle.std.proofs.lemmas.Bool.{cases_eq}
 use Rattle.std.proofs.lemmas.Option.{get_or_from_slice_get}
 use Rattle.std.proofs.Math.Seq.{drop-cons, take-suc}
 use Rattle.interleaving.proofs.Lists.{get_set_same, get_set_other}
-use Rattle.ft_types.specs.declared.guest.Guest.{Guest as GuestName}
+use Rattle.ft_types.specs.Guests.{GuestParts}
 use Rattle.fragment_codec.specs.declared.frame.Frame.{Frame as LogFrame}
 use Rattle.fragment_codec.specs.declared.fault.FrameFault.{FrameFault}
 use Rattle.fragment_codec.specs.Streams.{spelling, HasFault, Splits}
@@ -30,7 +30,7 @@ longer stream frames rest more s = record {
   each = s.each;
 }
 
-breaks_longer : (guest : GuestName) (stream more : List ℕ) (f : FrameFault) → Lasts → Breaks guest stream f → Breaks guest (stream ++ more) f
+breaks_longer : (guest : GuestParts) (stream more : List ℕ) (f : FrameFault) → Lasts → Breaks guest stream f → Breaks guest (stream ++ more) f
 breaks_longer guest stream more f lasts b = record {
   frames = b.frames;
   rest = b.rest ++ more;
@@ -39,7 +39,7 @@ breaks_longer guest stream more f lasts b = record {
   fault = lasts b.rest more f b.fault;
 }
 
-goes_longer : (guest : GuestName) (stream more : List ℕ) (frame : LogFrame) → GoesOnWith guest stream frame → GoesOnWith guest (stream ++ more) frame
+goes_longer : (guest : GuestParts) (stream more : List ℕ) (frame : LogFrame) → GoesOnWith guest stream frame → GoesOnWith guest (stream ++ more) frame
 goes_longer guest stream more frame g = record {
   frames = g.frames;
   rest = g.rest ++ more;
@@ -48,7 +48,7 @@ goes_longer guest stream more frame g = record {
 }
 
 -- the first fault of a beginning of a stream is the stream's
-fault_longer : (number : ℕ) (guest : GuestName) (stream more : List ℕ) (f : StreamsFault) → Lasts → IsFaultOfStream number guest stream f →
+fault_longer : (number : ℕ) (guest : GuestParts) (stream more : List ℕ) (f : StreamsFault) → Lasts → IsFaultOfStream number guest stream f →
     IsFaultOfStream number guest (stream ++ more) f
 fault_longer number guest stream more (Frame i g) lasts h = (h.0, breaks_longer guest stream more g lasts h.1)
 fault_longer number guest stream more (Guest i) lasts h = (h.0, (h.1.0, goes_longer guest stream more h.1.0 h.1.1, h.1.2))
@@ -133,7 +133,7 @@ streams_known P (stream ∷ streams) h = streams_known (λ others. P (stream ∷
 
 -- ---- one stream more
 
-say_more : (guest : GuestName) (streams : List (List ℕ)) (stream : List ℕ) (frames more : List LogFrame) → SayAll guest streams frames →
+say_more : (guest : GuestParts) (streams : List (List ℕ)) (stream : List ℕ) (frames more : List LogFrame) → SayAll guest streams frames →
     Says guest stream more →
     SayAll guest (streams ++ stream ∷ []) (frames ++ more)
 say_more guest [] stream frames more h s = (more, [], s, refl, ap (λ (x : List LogFrame). x ++ more) h ∙ sym (append-nil more))
@@ -146,7 +146,7 @@ say_more guest (first ∷ streams) stream frames more h s = (
 )
 
 -- behind streams without a fault stands the first one
-first_behind : (number i : ℕ) (guest : GuestName) (streams : List (List ℕ)) (stream : List ℕ) (others : List (List ℕ)) (frames : List LogFrame)
+first_behind : (number i : ℕ) (guest : GuestParts) (streams : List (List ℕ)) (stream : List ℕ) (others : List (List ℕ)) (frames : List LogFrame)
     (f : StreamsFault) →
     SayAll guest streams frames → i ≡ number + length streams → IsFaultOfStream i guest stream f → IsFirstFault number guest (streams ++ stream ∷ others) f
 first_behind number i guest [] stream others frames f h e fault =
@@ -158,7 +158,7 @@ first_behind number i guest (first ∷ streams) stream others frames f h e fault
 -- ---- the readers
 
 -- the first readers were read to their ends, and their frames came to the store
-pub record IsRead {R : Type 0} (left : R → Option (List ℕ)) (failures : R → ℕ) (guest : GuestName) (olds nows : List R) (i : ℕ) (store : StoreView) : Type 0
+pub record IsRead {R : Type 0} (left : R → Option (List ℕ)) (failures : R → ℕ) (guest : GuestParts) (olds nows : List R) (i : ℕ) (store : StoreView) : Type 0
   where
     pub joined : OfStreams (map left (take i olds)) (λ streams. AreJoined guest streams store)
     pub own : store.guest ≡ guest
@@ -167,7 +167,7 @@ pub record IsRead {R : Type 0} (left : R → Option (List ℕ)) (failures : R �
     pub kept : (j : ℕ) (reader later : R) → slice_get olds j ≡ Some reader → slice_get nows j ≡ Some later → failures later ≡ failures reader
 
 -- nothing was read
-pub none_read : {R : Type 0} (left : R → Option (List ℕ)) (failures : R → ℕ) (guest : GuestName) (readers : List R) (store : StoreView) →
+pub none_read : {R : Type 0} (left : R → Option (List ℕ)) (failures : R → ℕ) (guest : GuestParts) (readers : List R) (store : StoreView) →
     store ≡ nothing guest →
     IsRead left failures guest readers readers 0 store
 none_read left failures guest readers store is = record {
@@ -179,12 +179,12 @@ none_read left failures guest readers store is = record {
 }
 
 -- what a stream's frames add to the store
-joined_more : (guest : GuestName) (streams : List (List ℕ)) (stream : List ℕ) (old new : StoreView) (frames : List LogFrame) → old.guest ≡ guest →
+joined_more : (guest : GuestParts) (streams : List (List ℕ)) (stream : List ℕ) (old new : StoreView) (frames : List LogFrame) → old.guest ≡ guest →
     AreJoined guest streams old →
     Says old.guest stream frames → Takes old frames new → AreJoined guest (streams ++ stream ∷ []) new
 joined_more guest streams stream old new frames own j says takes = record {
   frames = j.frames ++ frames;
-  say = say_more guest streams stream j.frames frames j.say (subst (λ (g : GuestName). Says g stream frames) own says);
+  say = say_more guest streams stream j.frames frames j.say (subst (λ (g : GuestParts). Says g stream frames) own says);
   joined = come_more (nothing guest) old new j.frames frames j.joined takes.come;
 }
 
@@ -196,7 +196,7 @@ count_set (y ∷ xs) (suc i) x = ap suc (count_set xs i x)
 same_place : {A : Type 0} (xs : List A) (i j : ℕ) (x y : A) → slice_get xs i ≡ Some x → i ≡ j → slice_get xs j ≡ Some y → x ≡ y
 same_place xs i j x y a e b = let s : Some x ≡ Some y = sym a ∙ ap (slice_get xs) e ∙ b in cc
 
-module _ {R : Type 0} (left : R → Option (List ℕ)) (failures : R → ℕ) (guest : GuestName) (olds nows : List R) (i : ℕ) (reader later : R) where
+module _ {R : Type 0} (left : R → Option (List ℕ)) (failures : R → ℕ) (guest : GuestParts) (olds nows : List R) (i : ℕ) (reader later : R) where
   split_here : slice_get olds i ≡ Some reader → i < length olds → map left olds ≡ map left (take i olds) ++ left reader ∷ map left (drop (suc i) olds)
   split_here is lt =
       let here : olds ≡ take i olds ++ reader ∷ drop (suc i) olds =
@@ -257,11 +257,11 @@ module _ {R : Type 0} (left : R → Option (List ℕ)) (failures : R → ℕ) (g
       (left later) refused.read refused.consumed
       (λ more. some_streams (λ others. Behind (front ++ (refused.read ++ more) ∷ others)) (map left (drop (suc i) olds))
       (λ others. first_behind 0 i guest front (refused.read ++ more) others j.1.frames f j.1.say (at_length front (j.0 ∙ many))
-      (fault_longer i guest refused.read more f lasts (subst (λ (g : GuestName). IsFaultOfStream i g refused.read f) r.own refused.fault)))))
+      (fault_longer i guest refused.read more f lasts (subst (λ (g : GuestParts). IsFaultOfStream i g refused.read f) r.own refused.fault)))))
       (streams_counted (λ streams. AreJoined guest streams store) (map left (take i olds)) r.joined)))
 
   -- those behind it are as they were
-  pub behind_same : (store : StoreView) (f : StreamsFault) (g : GuestName) → IsRead left failures guest olds nows i store → Refused i g (left reader)
+  pub behind_same : (store : StoreView) (f : StreamsFault) (g : GuestParts) → IsRead left failures guest olds nows i store → Refused i g (left reader)
       (left later) f →
       (j : ℕ) → IsBehind f j → slice_get (slice_set nows i later) j ≡ slice_get olds j
   behind_same store f g r refused j behind =
@@ -277,7 +277,7 @@ module _ {R : Type 0} (left : R → Option (List ℕ)) (failures : R → ℕ) (g
       is_above Write h j b = absurd b
       is_above Memory h j b = absurd b
 
-  others_fail : (f : StreamsFault) (g : GuestName) (read : List ℕ) (j a b : ℕ) → IsFaultOfStream i g read f → i ≢ j → b ≡ a → Fails j a b f
+  others_fail : (f : StreamsFault) (g : GuestParts) (read : List ℕ) (j a b : ℕ) → IsFaultOfStream i g read f → i ≢ j → b ≡ a → Fails j a b f
   others_fail (Read k) g read j a b h n e = inr (λ m. n (sym h ∙ m), e)
   others_fail (Frame k x) g read j a b h n e = e
   others_fail (Guest k) g read j a b h n e = e
@@ -286,7 +286,7 @@ module _ {R : Type 0} (left : R → Option (List ℕ)) (failures : R → ℕ) (g
   others_fail Memory g read j a b h n e = e
 
   -- and the readers failed where the fault says so
-  pub one_failed : (store : StoreView) (f : StreamsFault) (g : GuestName) → i < length nows → slice_get nows i ≡ Some reader →
+  pub one_failed : (store : StoreView) (f : StreamsFault) (g : GuestParts) → i < length nows → slice_get nows i ≡ Some reader →
       IsRead left failures guest olds nows i store → Refused i g (left reader) (left later) f →
       Fails i (failures reader) (failures later) f →
       (j : ℕ) (before after : R) → slice_get olds j ≡ Some before → slice_get (slice_set nows i later) j ≡ Some after → Fails j (failures before)
@@ -315,4 +315,4 @@ module _ {R : Type 0} (left : R → Option (List ℕ)) (failures : R → ℕ) (g
       let second : later ≡ after = same_place (slice_set nows i later) i j later after (get_set_same nows i later lt) (sym same) b in
       subst (λ (x : R). GaveRight guest (left x) (left after)) first
       (subst (λ (y : R). GaveRight guest (left reader) (left y)) second
-      (subst (λ (g : GuestName). GaveRight g (left reader) (left later)) r.own (right (is_read ∙ ap (λ n. Read n) same))))
+      (subst (λ (g : GuestParts). GaveRight g (left reader) (left later)) r.own (right (is_read ∙ ap (λ n. Read n) same))))

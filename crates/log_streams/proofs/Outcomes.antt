@@ -1,6 +1,6 @@
 -- From the store of the streams' frames to what a replay of the streams gives.
 use Rattle.std.proofs.Common.{◌≡◌, ◌≢◌, ℕ, List, map, Option, Some, Result, Ok, Err, IfErr, refl, subst}
-use Rattle.ft_types.specs.declared.guest.Guest.{Guest as GuestName}
+use Rattle.ft_types.specs.Guests.{GuestParts}
 use Rattle.log_join.specs.Stores.{StoreView}
 use Rattle.guest_image.specs.Image.{ImageContents, guest_of}
 use Rattle.guest_image.specs.Machine.{MachineState}
@@ -37,14 +37,14 @@ writes_other P Q (Err Memory) old new f g to w = w
 writes_other P Q (Err (Replay x)) old new f g to w = w
 
 -- what is written of a joined store is the streams' text
-pub joined_written : {A : Type 0} (image : ImageContents) (guest : GuestName) (lefts : List (Option (List ℕ))) (store : StoreView) (r : Result A StreamsFault)
+pub joined_written : {A : Type 0} (image : ImageContents) (guest : GuestParts) (lefts : List (Option (List ℕ))) (store : StoreView) (r : Result A StreamsFault)
     (old new : Option (List ℕ)) (f g : ℕ) →
     guest ≡ guest_of image → OfStreams lefts (λ streams. AreJoined guest streams store) → WritesTextOf (IsOutcomeOf image store) r old new f g →
     OfStreams lefts (λ streams. WritesTextOf (IsOutcome image streams) r old new f g)
 joined_written image guest lefts store r old new f g is h w =
     streams_to (λ streams. AreJoined guest streams store) (λ streams. WritesTextOf (IsOutcome image streams) r old new f g) lefts
     (λ streams j. writes_other (IsOutcomeOf image store) (IsOutcome image streams) r old new f g
-    (λ m o. (store, subst (λ (x : GuestName). AreJoined x streams store) is j, o)) w) h
+    (λ m o. (store, subst (λ (x : GuestParts). AreJoined x streams store) is j, o)) w) h
 
 cause_of : (image : ImageContents) (streams : List (List ℕ)) (store : StoreView) (f : StreamsFault) → AreJoined (guest_of image) streams store →
     IsCauseIn image store f → IsCause image streams f
@@ -56,12 +56,12 @@ cause_of image streams store (Frame i x) j h = absurd h
 cause_of image streams store (Guest i) j h = absurd h
 
 -- and its fault is the streams'
-pub joined_cause : (image : ImageContents) (guest : GuestName) (lefts : List (Option (List ℕ))) (store : StoreView) (f : StreamsFault) →
+pub joined_cause : (image : ImageContents) (guest : GuestParts) (lefts : List (Option (List ℕ))) (store : StoreView) (f : StreamsFault) →
     guest ≡ guest_of image → OfStreams lefts (λ streams. AreJoined guest streams store) → IsCauseIn image store f →
     OfStreams lefts (λ streams. IsCause image streams f)
 joined_cause image guest lefts store f is h cause =
     streams_to (λ streams. AreJoined guest streams store) (λ streams. IsCause image streams f) lefts
-    (λ streams j. cause_of image streams store f (subst (λ (x : GuestName). AreJoined x streams store) is j) cause) h
+    (λ streams j. cause_of image streams store f (subst (λ (x : GuestParts). AreJoined x streams store) is j) cause) h
 
 first_cause : (image : ImageContents) (streams : List (List ℕ)) (f : StreamsFault) → IsFirstFault 0 (guest_of image) streams f → IsCause image streams f
 first_cause image streams (Frame i g) h = h
@@ -72,34 +72,34 @@ first_cause image streams (Replay x) h = absurd (no_replay 0 (guest_of image) st
 first_cause image streams Write h = tt
 
 -- a fault of reading is the streams'
-pub read_cause : (image : ImageContents) (guest : GuestName) (lefts : List (Option (List ℕ))) (f : StreamsFault) → guest ≡ guest_of image →
+pub read_cause : (image : ImageContents) (guest : GuestParts) (lefts : List (Option (List ℕ))) (f : StreamsFault) → guest ≡ guest_of image →
     OfStreams lefts (λ streams. IsFirstFault 0 guest streams f) → OfStreams lefts (λ streams. IsCause image streams f)
 read_cause image guest lefts f is h =
     streams_to (λ streams. IsFirstFault 0 guest streams f) (λ streams. IsCause image streams f) lefts
-    (λ streams k. first_cause image streams f (subst (λ (x : GuestName). IsFirstFault 0 x streams f) is k)) h
+    (λ streams k. first_cause image streams f (subst (λ (x : GuestParts). IsFirstFault 0 x streams f) is k)) h
 
 -- where the streams have a fault, they are not joined
-pub joined_answer : {A : Type 0} (image : ImageContents) (guest : GuestName) (lefts : List (Option (List ℕ))) (store : StoreView) (r : Result A StreamsFault)
+pub joined_answer : {A : Type 0} (image : ImageContents) (guest : GuestParts) (lefts : List (Option (List ℕ))) (store : StoreView) (r : Result A StreamsFault)
     (streams : List (List ℕ)) (f : StreamsFault) →
     guest ≡ guest_of image → lefts ≡ map Some streams → OfStreams lefts (λ streams. AreJoined guest streams store) → StandsInBytes f →
     IsFirstFault 0 (guest_of image) streams f → AnswersOnly r f
 joined_answer image guest lefts store r streams f is known h in_bytes first =
     let j : AreJoined guest streams store = streams_known (λ x. AreJoined guest x store) streams (subst (λ x. OfStreams x (λ y. AreJoined guest y store)) known
     h) in
-    joined_only image streams f in_bytes first r store (subst (λ (x : GuestName). AreJoined x streams store) is j)
+    joined_only image streams f in_bytes first r store (subst (λ (x : GuestParts). AreJoined x streams store) is j)
 
 -- and the fault of reading is that one
-pub read_answer : (image : ImageContents) (guest : GuestName) (lefts : List (Option (List ℕ))) (e : StreamsFault) (streams : List (List ℕ)) (f : StreamsFault) →
+pub read_answer : (image : ImageContents) (guest : GuestParts) (lefts : List (Option (List ℕ))) (e : StreamsFault) (streams : List (List ℕ)) (f : StreamsFault) →
     guest ≡ guest_of image → lefts ≡ map Some streams → OfStreams lefts (λ streams. IsFirstFault 0 guest streams e) → StandsInBytes f →
     IsFirstFault 0 (guest_of image) streams f →
     AnswersOnly (let r : Result (Unit {0}) StreamsFault = Err e in r) f
 read_answer image guest lefts e streams f is known h in_bytes first =
     let k : IsFirstFault 0 guest streams e = streams_known (λ x. IsFirstFault 0 guest x e) streams (subst (λ x. OfStreams x (λ y. IsFirstFault 0 guest y e))
     known h) in
-    fault_only image streams f in_bytes first e (subst (λ (x : GuestName). IsFirstFault 0 x streams e) is k)
+    fault_only image streams f in_bytes first e (subst (λ (x : GuestParts). IsFirstFault 0 x streams e) is k)
 
 -- and nothing is written
-pub read_unwritten : (image : ImageContents) (guest : GuestName) (lefts : List (Option (List ℕ))) (e : StreamsFault) (old : Option (List ℕ)) (f : ℕ) →
+pub read_unwritten : (image : ImageContents) (guest : GuestParts) (lefts : List (Option (List ℕ))) (e : StreamsFault) (old : Option (List ℕ)) (f : ℕ) →
     OfStreams lefts (λ streams. IsFirstFault 0 guest streams e) → OfStreams lefts (λ streams. WritesTextOf (IsOutcome image streams)
     (let r : Result (Unit {0}) StreamsFault = Err e in r) old old f f)
 read_unwritten image guest lefts (Frame i x) old f h = some_streams (λ streams. WritesTextOf {A = Unit {0}} (IsOutcome image streams) (Err (Frame i x)) old old

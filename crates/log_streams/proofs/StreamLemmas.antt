@@ -5,7 +5,7 @@ use Rattle.std.specs.List.{flat_map, AllByRecursion}
 use Rattle.std.specs.Io.KnownBytes.{Consumes, IsAtEnd}
 use Rattle.std.proofs.lemmas.List.{append-nil}
 use Rattle.std.proofs.lemmas.Grind.{flat_map-append}
-use Rattle.ft_types.specs.declared.guest.Guest.{Guest as GuestName}
+use Rattle.ft_types.specs.Guests.{GuestParts}
 use Rattle.fragment_codec.specs.declared.frame.Frame.{Frame as LogFrame}
 use Rattle.fragment_codec.specs.declared.fault.FrameFault.{FrameFault}
 use Rattle.fragment_codec.specs.declared.fault.FrameFault.TheVariants.{Magic, Version, Kind, Length, Digest, Body, Memory as NoMemory}
@@ -45,7 +45,7 @@ respell text rest all front back e s =
     append_assoc (flat_map spelling front) (flat_map spelling back) rest
 
 -- the frame that is at fault stands behind frames of the guest
-goes_on : (guest : GuestName) (text : List ℕ) (given frames before : List LogFrame) (frame : LogFrame) (after : List LogFrame) (rest : List ℕ) →
+goes_on : (guest : GuestParts) (text : List ℕ) (given frames before : List LogFrame) (frame : LogFrame) (after : List LogFrame) (rest : List ℕ) →
     Splits text (given ++ frames) rest → frames ≡ before ++ frame ∷ after → AllByRecursion (IsOf guest) given → AllByRecursion (IsOf guest) before →
     GoesOnWith guest text frame
 goes_on guest text given frames before frame after rest s e own more =
@@ -60,7 +60,7 @@ goes_on guest text given frames before frame after rest s e own more =
       own = all_append (IsOf guest) given before own more;
     }
 
-among_push : (number : ℕ) (guest : GuestName) (text : List ℕ) (given frames : List LogFrame) (feed : Unread) →
+among_push : (number : ℕ) (guest : GuestParts) (text : List ℕ) (given frames : List LogFrame) (feed : Unread) →
     Follows text (given ++ frames) feed → AllByRecursion (IsOf guest) given → (f : StoreFault) → IsFaultAmong guest frames f → IsPushFault number guest text
     (fault_at number f)
 among_push number guest text given frames feed follows own OtherGuest h =
@@ -68,7 +68,7 @@ among_push number guest text given frames feed follows own OtherGuest h =
 among_push number guest text given frames feed follows own NoRoom h = tt
 
 -- a frame behind frames of the guest is at fault
-to_among : (guest : GuestName) (frames before : List LogFrame) (frame : LogFrame) (after : List LogFrame) (f : StoreFault) → frames ≡ before ++ frame ∷ after →
+to_among : (guest : GuestParts) (frames before : List LogFrame) (frame : LogFrame) (after : List LogFrame) (f : StoreFault) → frames ≡ before ++ frame ∷ after →
     AllByRecursion (IsOf guest) before → IsFaultOf guest frame f → IsFaultAmong guest frames f
 to_among guest frames before frame after OtherGuest parts own fault =
     record {
@@ -109,10 +109,10 @@ pub taken_among : (first : StoreView) (given : List LogFrame) (store : StoreView
     frames ≡ before ++ frame ∷ after → Takes first (given ++ before) store → IsFaultOf store.guest frame f → IsFaultAmong first.guest frames f
 taken_among first given store frames before frame after f parts t fault =
     to_among first.guest frames before frame after f parts (all_back (IsOf first.guest) given before t.own)
-    (subst (λ (g : GuestName). IsFaultOf g frame f) (same_guest_comes first store (given ++ before) t.come) fault)
+    (subst (λ (g : GuestParts). IsFaultOf g frame f) (same_guest_comes first store (given ++ before) t.come) fault)
 
 -- a feed's fault is the stream's
-pub feed_fault : (number : ℕ) (guest : GuestName) (text : List ℕ) (given : List LogFrame) (feed : Unread) (f : FrameFault) →
+pub feed_fault : (number : ℕ) (guest : GuestParts) (text : List ℕ) (given : List LogFrame) (feed : Unread) (f : FrameFault) →
     Follows text given feed → feed.fault ≡ Some f → AllByRecursion (IsOf guest) given → IsPushFault number guest text (Frame number f)
 feed_fault number guest text given feed f follows is own = (
   refl,
@@ -125,7 +125,7 @@ feed_fault number guest text given feed f follows is own = (
   },
 )
 
-pub feed_faults : (number : ℕ) (guest : GuestName) (text : List ℕ) (given : List LogFrame) (feed : Unread) (f : FrameFault) →
+pub feed_faults : (number : ℕ) (guest : GuestParts) (text : List ℕ) (given : List LogFrame) (feed : Unread) (f : FrameFault) →
     (f ≢ NoMemory → Follows text given feed) → (f ≢ NoMemory → feed.fault ≡ Some f) → AllByRecursion (IsOf guest) given → IsPushFault number guest text
     (fault_in number f)
 feed_faults number guest text given feed Magic a b own = (let ne : Magic ≢ NoMemory = λ e. cc in feed_fault number guest text given feed Magic (a ne)
@@ -165,7 +165,7 @@ push_fault number items piece old new p f failed follows = λ first read given g
     among_push number first.guest (read ++ piece) given items new (follows read given g) h.own f (failed first given h)
 
 -- what a push may answer is the first fault
-pub push_first : (number : ℕ) (guest : GuestName) (text : List ℕ) (f : StreamsFault) → IsPushFault number guest text f → IsFaultOfStream number guest text f
+pub push_first : (number : ℕ) (guest : GuestParts) (text : List ℕ) (f : StreamsFault) → IsPushFault number guest text f → IsFaultOfStream number guest text f
 push_first number guest text (Frame i g) h = h
 push_first number guest text (Guest i) h = h
 push_first number guest text Memory h = tt
@@ -174,7 +174,7 @@ push_first number guest text (Replay r) h = absurd h
 push_first number guest text Write h = absurd h
 
 -- and the reader did not fail
-pub push_fails : (number f g : ℕ) (guest : GuestName) (text : List ℕ) (x : StreamsFault) → g ≡ f → IsPushFault number guest text x → Fails number f g x
+pub push_fails : (number f g : ℕ) (guest : GuestParts) (text : List ℕ) (x : StreamsFault) → g ≡ f → IsPushFault number guest text x → Fails number f g x
 push_fails number f g guest text (Frame i y) e h = e
 push_fails number f g guest text (Guest i) e h = e
 push_fails number f g guest text Memory e h = e
@@ -303,7 +303,7 @@ told first old now next feed later p q got whole e r taken end h =
 
 -- ---- what was given so far
 
-pub nothing_wrong : (guest : GuestName) (left : Option (List ℕ)) → GaveRight guest left left
+pub nothing_wrong : (guest : GuestParts) (left : Option (List ℕ)) → GaveRight guest left left
 nothing_wrong guest left =
     record {
       read = [];
@@ -324,7 +324,7 @@ still_right first old now next feed later p q got whole e r taken h =
     }
 
 -- a push does not say that a reader failed
-pub not_read : (number i : ℕ) (guest : GuestName) (text : List ℕ) (f : StreamsFault) → IsPushFault number guest text f → f ≡ Read i → ⊥
+pub not_read : (number i : ℕ) (guest : GuestParts) (text : List ℕ) (f : StreamsFault) → IsPushFault number guest text f → f ≡ Read i → ⊥
 not_read number i guest text (Frame j g) h e = cc
 not_read number i guest text (Guest j) h e = cc
 not_read number i guest text Memory h e = cc

@@ -2,7 +2,7 @@
 use Rattle.std.proofs.Common.{◌≡◌, ◌⊎◌, ℕ, zero, suc, List, [], ◌∷◌, Option, inl, inr, Result, Ok, Err, ◌++◌, sym, ap, subst, ◌∙◌, Contains, arith}
 use Rattle.std.specs.List.{AllByRecursion}
 use Rattle.std.proofs.lemmas.List.Elements.{Contains-append_cases}
-use Rattle.ft_types.specs.declared.guest.Guest.{Guest as GuestName}
+use Rattle.ft_types.specs.Guests.{GuestParts}
 use Rattle.fragment_codec.specs.declared.frame.Frame.{Frame as LogFrame}
 use Rattle.fragment_codec.specs.Streams.{IsFrame}
 use Rattle.fragment_codec.proofs.streams.Readings.{one_stream}
@@ -35,14 +35,14 @@ each_one P (x ∷ xs) all frame (zero, lt, is) = subst P is all.0
 each_one P (x ∷ xs) all frame (suc k, lt, is) = each_one P xs all.1 frame (k, omega (arith, lt), is)
 
 -- streams say one list of frames
-pub said_once : (guest : GuestName) (streams : List (List ℕ)) (fs gs : List LogFrame) → SayAll guest streams fs → SayAll guest streams gs → fs ≡ gs
+pub said_once : (guest : GuestParts) (streams : List (List ℕ)) (fs gs : List LogFrame) → SayAll guest streams fs → SayAll guest streams gs → fs ≡ gs
 said_once guest [] fs gs none nothing = none ∙ sym nothing
 said_once guest (stream ∷ streams) fs gs (front, back, says, rest, are) (before, after, tells, others, is) =
     let one = (one_stream stream front before says.rest tells.rest says.splits tells.splits (inl says.partial) (inl tells.partial)).0 in
     are ∙ ap (λ (xs : List LogFrame). xs ++ back) one ∙ ap (λ (xs : List LogFrame). before ++ xs) (said_once guest streams back after rest others) ∙ sym is
 
 -- they are right, and of the guest
-each_said : (guest : GuestName) (streams : List (List ℕ)) (frames : List LogFrame) → SayAll guest streams frames → (frame : LogFrame) →
+each_said : (guest : GuestParts) (streams : List (List ℕ)) (frames : List LogFrame) → SayAll guest streams frames → (frame : LogFrame) →
     Contains frames frame → IsFrame frame × (frame_guest frame ≡ guest)
 each_said guest [] frames none frame in_it =
     let c : Contains [] frame = subst (λ (fs : List LogFrame). Contains fs frame) none in_it in absurd (omega (arith, c.1))
@@ -113,7 +113,7 @@ module _ (image : ImageContents) (history : GuestHistory) (streams : List (List 
   devices_only (Guest i) cause truly = right_streams 0 (guest_of image) streams truly.frames (Guest i) truly.say tt cause
 
 -- a fault of reading, with which nothing is written
-pub unwritten_history : (image : ImageContents) (history : GuestHistory) (guest : GuestName) (lefts : List (Option (List ℕ))) (e : StreamsFault)
+pub unwritten_history : (image : ImageContents) (history : GuestHistory) (guest : GuestParts) (lefts : List (Option (List ℕ))) (e : StreamsFault)
     (old : Option (List ℕ)) (f : ℕ) → OfStreams lefts (λ streams. IsFirstFault 0 guest streams e) →
     OfStreams lefts (λ streams. TellTruly image history streams → WritesTextOf (IsOfHistory image history streams)
     (let r : Result (Unit {0}) StreamsFault = Err e in r) old old f f)

@@ -1,7 +1,7 @@
 -- Where the frames of a primary's whole log end.
 use Rattle.std.specs.Prelude.{◌≡◌, ◌<◌, ◌+◌, ◌^◌, ℕ, List, Contains}
 use Rattle.ft_types.specs.Counts.{count_at}
-use Rattle.ft_types.specs.declared.guest.Guest.{Guest}
+use Rattle.ft_types.specs.Guests.{GuestParts}
 use Rattle.fragment_codec.specs.declared.frame.Frame.{Frame}
 use Rattle.fragment_codec.specs.declared.frame.Frame.TheVariants.{Log}
 use Rattle.fragment_codec.specs.Rules.{FragmentParts}
@@ -24,6 +24,6 @@ abbrev pub LeavePlaces : List Frame → Type 0
 LeavePlaces frames = (piece : FragmentParts) → Contains frames (Log piece) → piece.key.place + 1 < 2 ^ 32
 
 -- whoever gathered the frames, in whatever order and however often, has its position at the book's settled counts
-abbrev pub ReachItsEnd : Guest → BookView RecordingView → List Frame → Type 0
+abbrev pub ReachItsEnd : GuestParts → BookView RecordingView → List Frame → Type 0
 ReachItsEnd guest b frames =
     LeavePlaces frames → (store : StoreView) (position : Position) → Gathers guest frames store → IsPosition store position → IsEndOf b position

@@ -1,7 +1,7 @@
 -- Which fault streams have.
 use Rattle.std.specs.Prelude.{◌≡◌, ◌≢◌, ◌<◌, ◌+◌, ℕ, List, [], ◌∷◌, ◌⊎◌, Option, Result, Ok, Err}
 use Rattle.std.specs.Io.KnownBytes.{Consumes}
-use Rattle.ft_types.specs.declared.guest.Guest.{Guest as GuestName}
+use Rattle.ft_types.specs.Guests.{GuestParts}
 use Rattle.ft_types.specs.Devices.{IsOneMore}
 use Rattle.fragment_codec.specs.declared.frame.Frame.{Frame as LogFrame}
 use Rattle.log_streams.specs.declared.faults.StreamsFault.{StreamsFault}
@@ -9,7 +9,7 @@ use Rattle.log_streams.specs.declared.faults.StreamsFault.TheVariants.{Read, Fra
 use Rattle.log_streams.specs.Streams.{Says, Breaks, HasForeign}
 
 -- a fault of the stream of this number, which is the first one that stands in it
-abbrev pub IsFaultOfStream : ℕ → GuestName → List ℕ → StreamsFault → Type 0
+abbrev pub IsFaultOfStream : ℕ → GuestParts → List ℕ → StreamsFault → Type 0
 IsFaultOfStream number guest stream (Frame i fault) = (i ≡ number) × Breaks guest stream fault
 IsFaultOfStream number guest stream (Guest i) = (i ≡ number) × HasForeign guest stream
 IsFaultOfStream number guest stream (Read i) = i ≡ number
@@ -18,7 +18,7 @@ IsFaultOfStream number guest stream (Replay fault) = ⊥
 IsFaultOfStream number guest stream Write = ⊥
 
 -- the first fault of the streams, which are counted from this number on: the streams before it have none
-abbrev pub IsFirstFault : ℕ → GuestName → List (List ℕ) → StreamsFault → Type 0
+abbrev pub IsFirstFault : ℕ → GuestParts → List (List ℕ) → StreamsFault → Type 0
 IsFirstFault number guest [] f = ⊥
 IsFirstFault number guest (stream ∷ streams) f =
     IsFaultOfStream number guest stream f ⊎ ((frames : List LogFrame) × Says guest stream frames × IsFirstFault (number + 1) guest streams f)
@@ -49,7 +49,7 @@ Fails number f g (Read i) = ((i ≡ number) × IsOneMore f g) ⊎ ((i ≢ number
 Fails number f g _ = g ≡ f
 
 -- what the reader gave, whose bytes are these before and after, is frames of the guest, and behind them stands no whole frame and no fault
-pub record GaveRight (guest : GuestName) (old new : Option (List ℕ)) : Type 0 where
+pub record GaveRight (guest : GuestParts) (old new : Option (List ℕ)) : Type 0 where
   pub read : List ℕ
   pub consumed : Consumes old new read
   pub frames : List LogFrame

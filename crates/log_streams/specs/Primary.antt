@@ -1,6 +1,6 @@
 -- A primary's run of an image in term 1, and the frames that tell of it.
 use Rattle.std.specs.Prelude.{◌≡◌, ℕ, ◌==◌, List, [], ◌∷◌, ◌++◌, map, filter, replicate}
-use Rattle.ft_types.specs.declared.guest.Guest.{Guest}
+use Rattle.ft_types.specs.Guests.{GuestParts}
 use Rattle.input_log.specs.declared.WaitingInput.{WaitingInput}
 use Rattle.input_log.specs.Inputs.{inputs_of}
 use Rattle.input_log.specs.Waiting.{bells_of, others_of}
@@ -50,7 +50,7 @@ pub record IsRunOf (image : ImageContents) (script : List Offered) (limit : ℕ)
   pub through : AreThrough b
 
 -- The opening of term 1, from boot, and behind it the pieces of the book's log, each hart's from count 0 and place 0 on.
-pub record AreFramesOf (guest : Guest) (b : BookView RecordingView) (frames : List Frame) : Type 0 where
+pub record AreFramesOf (guest : GuestParts) (b : BookView RecordingView) (frames : List Frame) : Type 0 where
   pub pieces : List Frame
   pub opened : frames ≡ Opening (record { guest = guest; term = 1; parent = 0; base = replicate guest.harts 0 }) ∷ pieces
   pub uncut : SealedView

@@ -2,7 +2,7 @@
 use Rattle.std.specs.Prelude.{◌≡◌, ◌≢◌, ℕ, List, ◌∷◌, ◌++◌, Option}
 use Rattle.std.specs.List.{AllByRecursion}
 use Rattle.std.specs.Io.KnownBytes.{Consumes, IsAtEnd}
-use Rattle.ft_types.specs.declared.guest.Guest.{Guest as GuestName}
+use Rattle.ft_types.specs.Guests.{GuestParts}
 use Rattle.fragment_codec.specs.declared.frame.Frame.{Frame as LogFrame}
 use Rattle.fragment_codec.specs.declared.fault.FrameFault.{FrameFault}
 use Rattle.fragment_codec.specs.declared.fault.FrameFault.TheVariants.{Memory as NoMemory}
@@ -21,12 +21,12 @@ pub record Takes (first : StoreView) (frames : List LogFrame) (store : StoreView
   pub come : Come first frames store
 
 -- why the frame was not taken
-abbrev pub IsFaultOf : GuestName → LogFrame → StoreFault → Type 0
+abbrev pub IsFaultOf : GuestParts → LogFrame → StoreFault → Type 0
 IsFaultOf guest frame OtherGuest = guest_of frame ≢ guest
 IsFaultOf guest frame NoRoom = Unit {0}
 
 -- the frame stands among these behind frames of the guest, and is of another
-pub record HasOther (guest : GuestName) (frames : List LogFrame) : Type 0 where
+pub record HasOther (guest : GuestParts) (frames : List LogFrame) : Type 0 where
   pub before : List LogFrame
   pub frame : LogFrame
   pub after : List LogFrame
@@ -35,7 +35,7 @@ pub record HasOther (guest : GuestName) (frames : List LogFrame) : Type 0 where
   pub other : guest_of frame ≢ guest
 
 -- why one of these frames was not taken
-abbrev pub IsFaultAmong : GuestName → List LogFrame → StoreFault → Type 0
+abbrev pub IsFaultAmong : GuestParts → List LogFrame → StoreFault → Type 0
 IsFaultAmong guest frames OtherGuest = HasOther guest frames
 IsFaultAmong guest frames NoRoom = Unit {0}
 
@@ -50,7 +50,7 @@ fault_in number NoMemory = Memory
 fault_in number fault = Frame number fault
 
 -- what a call that only takes frames may answer
-abbrev pub IsPushFault : ℕ → GuestName → List ℕ → StreamsFault → Type 0
+abbrev pub IsPushFault : ℕ → GuestParts → List ℕ → StreamsFault → Type 0
 IsPushFault number guest stream (Frame i fault) = (i ≡ number) × Breaks guest stream fault
 IsPushFault number guest stream (Guest i) = (i ≡ number) × HasForeign guest stream
 IsPushFault number guest stream Memory = Unit {0}
@@ -66,7 +66,7 @@ pub record Told (first : StoreView) (old new : Option (List ℕ)) (store : Store
   pub takes : Takes first frames store
 
 -- the fault of what the reader gave
-pub record Refused (number : ℕ) (guest : GuestName) (old new : Option (List ℕ)) (f : StreamsFault) : Type 0 where
+pub record Refused (number : ℕ) (guest : GuestParts) (old new : Option (List ℕ)) (f : StreamsFault) : Type 0 where
   pub read : List ℕ
   pub consumed : Consumes old new read
   pub fault : IsFaultOfStream number guest read f

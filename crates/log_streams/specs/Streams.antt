@@ -1,7 +1,7 @@
 -- What streams of frames say of a guest.
 use Rattle.std.specs.Prelude.{◌≡◌, ◌≢◌, ℕ, List, [], ◌∷◌, ◌++◌, Option, None, Some}
 use Rattle.std.specs.List.{AllByRecursion}
-use Rattle.ft_types.specs.declared.guest.Guest.{Guest}
+use Rattle.ft_types.specs.Guests.{GuestParts}
 use Rattle.fragment_codec.specs.declared.fault.FrameFault.{FrameFault}
 use Rattle.fragment_codec.specs.declared.frame.Frame.{Frame}
 use Rattle.fragment_codec.specs.Streams.{IsPartial, HasFault, Splits}
@@ -11,18 +11,18 @@ use Rattle.log_join.specs.Coming.{IsJoinOf}
 -- ---- a stream
 
 -- a frame of the guest
-abbrev pub IsOf : Guest → Frame → Type 0
+abbrev pub IsOf : GuestParts → Frame → Type 0
 IsOf guest frame = guest_of frame ≡ guest
 
 -- the stream is these frames of the guest, and behind them stands no whole frame and no fault
-pub record Says (guest : Guest) (stream : List ℕ) (frames : List Frame) : Type 0 where
+pub record Says (guest : GuestParts) (stream : List ℕ) (frames : List Frame) : Type 0 where
   pub rest : List ℕ
   pub splits : Splits stream frames rest
   pub partial : IsPartial rest
   pub own : AllByRecursion (IsOf guest) frames
 
 -- behind frames of the guest stands this fault
-pub record Breaks (guest : Guest) (stream : List ℕ) (f : FrameFault) : Type 0 where
+pub record Breaks (guest : GuestParts) (stream : List ℕ) (f : FrameFault) : Type 0 where
   pub frames : List Frame
   pub rest : List ℕ
   pub splits : Splits stream frames rest
@@ -30,20 +30,20 @@ pub record Breaks (guest : Guest) (stream : List ℕ) (f : FrameFault) : Type 0 
   pub fault : HasFault rest f
 
 -- behind frames of the guest stands this one
-pub record GoesOnWith (guest : Guest) (stream : List ℕ) (frame : Frame) : Type 0 where
+pub record GoesOnWith (guest : GuestParts) (stream : List ℕ) (frame : Frame) : Type 0 where
   pub frames : List Frame
   pub rest : List ℕ
   pub splits : Splits stream (frames ++ frame ∷ []) rest
   pub own : AllByRecursion (IsOf guest) frames
 
 -- behind frames of the guest stands one of another guest
-abbrev pub HasForeign : Guest → List ℕ → Type 0
+abbrev pub HasForeign : GuestParts → List ℕ → Type 0
 HasForeign guest stream = (frame : Frame) × GoesOnWith guest stream frame × (guest_of frame ≢ guest)
 
 -- ---- several streams
 
 -- the streams are these frames of the guest, one stream's behind the other's
-abbrev pub SayAll : Guest → List (List ℕ) → List Frame → Type 0
+abbrev pub SayAll : GuestParts → List (List ℕ) → List Frame → Type 0
 SayAll guest [] frames = frames ≡ []
 SayAll guest (stream ∷ streams) frames =
     (front : List Frame) × (back : List Frame) × Says guest stream front × SayAll guest streams back × (frames ≡ front ++ back)
@@ -61,7 +61,7 @@ OfStreams (left ∷ others) P = OfStream left (λ stream. OfStreams others (λ s
 -- ---- the store of frames
 
 -- the store is the join of the streams' frames
-pub record AreJoined (guest : Guest) (streams : List (List ℕ)) (store : StoreView) : Type 0 where
+pub record AreJoined (guest : GuestParts) (streams : List (List ℕ)) (store : StoreView) : Type 0 where
   pub frames : List Frame
   pub say : SayAll guest streams frames
   pub joined : IsJoinOf guest frames store

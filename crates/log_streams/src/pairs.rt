@@ -1,6 +1,7 @@
 //! What a pair is asked for, and who runs it.
 
 ghost use Rattle.std.specs.Prelude.{◌≡◌, ◌<◌, ◌≤◌, ◌↔◌, IsSome, IfSome};
+ghost use Rattle.ft_types.specs.declared.names.TheConstants.{KEEPER_LIMIT};
 ghost use Rattle.input_script.specs.Script.{AreOffered};
 
 use crate::faults::StreamsFault;
@@ -22,7 +23,7 @@ impl PairOrders {
     /// The orders of a pair whose harts may each go to the budget, with 1 to 5 keepers, of whom 1 to all must hold an output:
     /// `None` for other numbers.
     pub fn new(budget: u32, keepers: u64, need: u64) -> Option<PairOrders>
-        ensures exact { IsSome result ↔ ((0 < need) × (need ≤ keepers) × (keepers ≤ 5)) }
+        ensures exact { IsSome result ↔ ((0 < need) × (need ≤ keepers) × (keepers ≤ KEEPER_LIMIT)) }
         ensures parts { IfSome result (λ o. (o.budget ≡ budget) × (o.quorum.keepers ≡ keepers) × (o.quorum.need ≡ need)) }
     {
         let quorum = Quorum::new(keepers, need)?;
@@ -40,7 +41,7 @@ impl PairOrders {
     pub fn keepers(&self) -> u8
         ensures value { result ≡ self.now.quorum.keepers }
         ensures some { 0 < result }
-        ensures limit { result ≤ 5 }
+        ensures limit { result ≤ KEEPER_LIMIT }
     {
         self.quorum.keepers()
     }

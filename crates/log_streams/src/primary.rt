@@ -1,8 +1,9 @@
 //! A primary's run of a guest, in term 1.
 
 ghost use Rattle.std.specs.Prelude.{◌≡◌, ◌<◌, ◌≤◌, ◌^◌, ℕ, length, replicate, slice_index, IfOk, OnOk};
+ghost use Rattle.ft_types.specs.declared.names.TheConstants.{HART_LIMIT};
 ghost use Rattle.guest_image.specs.Image.{guest_of};
-ghost use Rattle.fragment_codec.specs.Rules.{IsGuest};
+ghost use Rattle.ft_types.specs.Guests.{IsGuest};
 ghost use Rattle.input_script.specs.Script.{AreOffered};
 ghost use Rattle.log_streams.specs.Primary.{AreOfferedTo, IsReady, IsRunOf, AreFramesOf};
 ghost use Rattle.log_streams.specs.Ends.{ReachItsEnd};
@@ -20,7 +21,7 @@ pub const TERM: Term = 1;
 
 /// One limit for all harts.
 fn limits_of(harts: u8, limit: u32) -> Counts
-    requires { harts ≤ 8 }
+    requires { harts ≤ HART_LIMIT }
     ensures { result ≡ replicate harts limit }
 {
     let mut limits = Counts::zero(harts);
@@ -77,21 +78,12 @@ pub fn run_primary(
     }
 }
 
-/// What the type of bytes says of each.
-fn bytes_fit(_bytes: &[u8])
-    ensures { (i : ℕ) → slice_index _bytes.now i < 256 }
-{}
-
 /// The opening of the term, from boot.
 pub fn first_opening(guest: Guest) -> Opening
-    requires some { 1 ≤ guest.harts }
-    requires limit { guest.harts ≤ 8 }
     ensures opening { result ≡ record { guest = guest; term = 1; parent = 0; base = replicate guest.harts 0 } }
     ensures guest { IsGuest guest }
 {
-    let digest = guest.digest;
-    bytes_fit(&digest);
-    let base = Counts::zero(guest.harts);
+    let base = Counts::zero(guest.harts());
     Opening::new(guest, TERM, 0, base).unwrap()
 }
 

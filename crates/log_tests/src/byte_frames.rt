@@ -1,6 +1,6 @@
 //! Frames as bytes, worked out by hand from the format. Digests are those of `sha256sum`.
 
-use fixtures::{edge, key, opening_of, piece_of};
+use fixtures::{edge, guest_with, key, opening_of, piece_of};
 use fragment_codec::{Feed, Frame, FrameFault, Record, write_frame};
 use ft_types::{Failed, Guest, MemorySink};
 use input_log::Input;
@@ -54,10 +54,7 @@ const EDGES_SEAL: [u8; 32] = [
 ];
 
 fn guest(harts: u8) -> Guest {
-    Guest {
-        digest: IMAGE,
-        harts,
-    }
+    guest_with(IMAGE, harts)
 }
 
 fn opening() -> Result<Frame, Fail> {

@@ -1,6 +1,6 @@
 //! Stores that frames came to. What memory is refused once is asked for once more.
 
-use fixtures::{opening_of, piece_of};
+use fixtures::{guest_with, opening_of, piece_of};
 use fragment_codec::{Frame, Key, Record};
 use ft_types::{Count, Counts, Guest, Memory, Term};
 use input_log::Input;
@@ -50,10 +50,7 @@ pub fn row(counts: &[Count]) -> Counts {
 
 /// A guest of so many harts.
 pub fn guest_of(harts: u8) -> Guest {
-    Guest {
-        digest: [7; 32],
-        harts,
-    }
+    guest_with([7; 32], harts)
 }
 
 /// The frame of a guest.

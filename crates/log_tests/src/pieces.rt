@@ -2,7 +2,7 @@
 
 ghost use Rattle.std.specs.Prelude.{◌≡◌, ◌<◌, IfOk};
 ghost use Rattle.fragment_codec.specs.declared.types.Record.TheVariants.{Edge as EdgeRecord};
-ghost use Rattle.fragment_codec.specs.Rules.{IsGuest, IsFactOf};
+ghost use Rattle.fragment_codec.specs.Rules.{IsFactOf};
 ghost use Rattle.fragment_codec.specs.Pieces.{AreEdgesOf, AreInputsOf};
 
 use edge_log::{Edge, EdgeLog};
@@ -17,13 +17,9 @@ use std::test::Fail;
 pub type Shape = (u8, u32, Count, Count, usize);
 
 pub fn two_harts() -> Guest
-    ensures guest { IsGuest result }
-    ensures two { result.harts ≡ 2 }
+    ensures { result.harts ≡ 2 }
 {
-    Guest {
-        digest: [7; 32],
-        harts: 2,
-    }
+    Guest::new([7; 32], 2).unwrap()
 }
 
 /// An edge of a hart to the other, which no edge at a lower count implies.

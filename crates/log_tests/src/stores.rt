@@ -1,7 +1,7 @@
 //! Stores that frames come to, and their joins.
 
 use crate::filled::{Come, come_so, comes, frame_of, put, row, store_of, told};
-use fixtures::key;
+use fixtures::{guest_with, key};
 use fragment_codec::{Frame, Key, Record};
 use ft_types::{Count, Guest, Memory, Term};
 use input_log::Input;
@@ -13,7 +13,7 @@ use std::test::Fail;
 fn guest(first: u8) -> Guest {
     let mut digest = [7; 32];
     digest[0] = first;
-    Guest { digest, harts: 2 }
+    guest_with(digest, 2)
 }
 
 /// A timer at the first count.

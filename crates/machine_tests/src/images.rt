@@ -105,8 +105,8 @@ fn the_digest_of_a_file(rt: HostRuntime) -> Result<(), Fail> {
     ];
     let guest = image.guest();
     assert_eq!(rt; image.digest(), digest);
-    assert_eq!(rt; guest.digest, digest);
-    assert_eq!(rt; (guest.harts, image.pages()), (1, 1));
+    assert_eq!(rt; guest.digest(), digest);
+    assert_eq!(rt; (guest.harts(), image.pages()), (1, 1));
     assert_eq!(rt;
         image.words(),
         [0xf00000b7, 0x02a00113, 0x0020a423, 0x0000aa23].as_slice()

@@ -1,8 +1,8 @@
 //! Rows of counts, sets, devices in memory, and the texts of numbers and words.
 
 use ft_types::{
-    COUNT_LIMIT, Count, Counts, Failed, LineBuffer, MemorySink, MemorySource, NumberSet, Source,
-    read_number, read_word, write_all,
+    COUNT_LIMIT, Count, Counts, Failed, Hart, HartSet, Keeper, KeeperSet, LineBuffer, MemorySink,
+    MemorySource, Source, read_number, read_word, write_all,
 };
 use std::test::Fail;
 
@@ -30,12 +30,22 @@ fn rows_that_are_too_long_or_high(rt: HostRuntime) {
 }
 
 #[test]
-fn sets_of_numbers(rt: HostRuntime) {
-    let set = NumberSet::new().with(3).with(0).with(3);
-    assert!(rt; set.contains(0) && set.contains(3));
-    assert!(rt; !set.contains(1) && !set.contains(8));
+fn sets_of_harts(rt: HostRuntime) {
+    let (first, last) = (Hart::new(0), Hart::new(7));
+    let set = HartSet::new().with(last).with(first).with(last);
+    assert!(rt; set.contains(first) && set.contains(last));
+    assert!(rt; !set.contains(Hart::new(1)) && !set.contains(Hart::new(6)));
     assert_eq!(rt; set.len(), 2);
-    assert!(rt; !set.is_empty() && NumberSet::new().is_empty());
+    assert!(rt; !set.is_empty() && HartSet::new().is_empty());
+}
+
+#[test]
+fn sets_of_keepers(rt: HostRuntime) {
+    let (first, last) = (Keeper::new(0), Keeper::new(4));
+    let set = KeeperSet::new().with(last).with(first).with(last);
+    assert!(rt; set.contains(first) && set.contains(last));
+    assert!(rt; !set.contains(Keeper::new(1)) && !set.contains(Keeper::new(3)));
+    assert_eq!(rt; set.len(), 2);
 }
 
 #[test]

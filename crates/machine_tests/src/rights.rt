@@ -111,6 +111,6 @@ fn harts_that_stand_against_it(rt: HostRuntime) {
     assert_eq!(rt; plays(rt.alloc(), &mut right, &calls), calls.len());
     let before = right;
     let others = in_the_way(rt.alloc(), &mut right, 5, Want::Write);
-    assert_eq!(rt; others, Some(HartSet::new().with(0)));
+    assert_eq!(rt; others, Some(HartSet::new().with(hart(0))));
     assert_eq!(rt; right, before);
 }

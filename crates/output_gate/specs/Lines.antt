@@ -1,6 +1,7 @@
 -- What the type of a gate keeps, and what is released of one hart.
 use Rattle.std.specs.Prelude.{◌≡◌, ℕ, ◌<◌, ◌≤◌, List, length, take, drop, slice_index_or}
 use Rattle.std.specs.List.{AllByRecursion, filter}
+use Rattle.ft_types.specs.declared.names.TheConstants.{HART_LIMIT, HART_ROW, KEEPER_LIMIT, KEEPER_ROW}
 use Rattle.output_gate.specs.declared.output.Output.{Output}
 use Rattle.output_gate.specs.Gates.{LineView, is_held, is_not_held}
 use Rattle.output_gate.specs.Orders.{IsLineOf}
@@ -13,10 +14,10 @@ pub record IsFront (need : ℕ) (noted : List (List ℕ)) (count : ℕ) (waiting
 
 -- what holds of a gate's parts
 pub record IsGate (keepers need : ℕ) (noted : List (List ℕ)) (lines : List LineView) : Type 0 where
-  pub few : keepers ≤ 5
+  pub few : keepers ≤ KEEPER_LIMIT
   pub some : 0 < need
   pub enough : need ≤ keepers
-  pub rows : length noted ≡ 5
-  pub wide : AllByRecursion (λ row. length row ≡ 8) noted
-  pub harts : length lines ≡ 8
-  pub each : (hart : ℕ) (other : LineView) → hart < 8 → IsLineOf hart (slice_index_or lines hart other)
+  pub rows : length noted ≡ KEEPER_ROW
+  pub wide : AllByRecursion (λ row. length row ≡ HART_ROW) noted
+  pub harts : length lines ≡ HART_ROW
+  pub each : (hart : ℕ) (other : LineView) → hart < HART_LIMIT → IsLineOf hart (slice_index_or lines hart other)

@@ -1,6 +1,7 @@
 -- The order of outputs.
 use Rattle.std.specs.Prelude.{◌≡◌, ◌⊎◌, ℕ, ◌<◌, ◌≤◌, ◌++◌, List, [], ◌∷◌, length}
 use Rattle.std.specs.List.{AllByRecursion}
+use Rattle.ft_types.specs.declared.names.TheConstants.{HART_LIMIT}
 use Rattle.output_gate.specs.declared.output.Output.{Output}
 use Rattle.output_gate.specs.Gates.{LineView, GateView, waiting_of}
 
@@ -39,4 +40,4 @@ AreLaterThan given outputs = AllByRecursion (λ o. o.hart ≡ given.hart → giv
 
 -- each of the outputs that are given has an earlier step than whatever waits of its hart
 abbrev pub AreEarlier : List Output → GateView → Type 0
-AreEarlier given gate = (hart : ℕ) → hart < 8 → AllByRecursion (λ o. AreLaterThan o (waiting_of gate hart)) given
+AreEarlier given gate = (hart : ℕ) → hart < HART_LIMIT → AllByRecursion (λ o. AreLaterThan o (waiting_of gate hart)) given

@@ -3,6 +3,7 @@
 ghost use Rattle.std.specs.Prelude.{◌≡◌, ◌≢◌, ◌↔◌, ◌⊎◌, ℕ, ◌+◌, ◌<◌, ◌≤◌, ◌++◌, ◌∷◌, [], max, take, drop, count_by, length, slice_index, slice_index_or, IfOk};
 ghost use Rattle.std.specs.Prelude.{OnOk, OnErr};
 ghost use Rattle.std.specs.List.{AllByRecursion};
+ghost use Rattle.ft_types.specs.declared.names.TheConstants.{HART_LIMIT, KEEPER_LIMIT};
 ghost use Rattle.ft_types.specs.Sets.{IsMember};
 ghost use Rattle.output_gate.specs.Gates.{LineView, noted_at, line_of, gone_of, waiting_of, offered_of, holder_count, after_release, held_outputs};
 ghost use Rattle.output_gate.specs.Gates.{waiting_count};
@@ -12,7 +13,7 @@ ghost use Rattle.output_gate.specs.Lines.{IsFront};
 use crate::line::Line;
 use crate::notes::keepers_counted;
 use crate::output::Output;
-use ft_types::{Count, Hart, Keeper, KeeperSet, Memory, Term};
+use ft_types::{Count, HART_ROW, Hart, KEEPER_ROW, Keeper, KeeperSet, Memory, Term};
 use std::alloc::Global;
 use std::marker::Model;
 use std::result::Result;
@@ -26,8 +27,8 @@ pub struct Gate {
     term: Term,
     keepers: u8,
     need: u8,
-    noted: [[Count; 8]; 5],
-    lines: [Line; 8],
+    noted: [[Count; HART_ROW]; KEEPER_ROW],
+    lines: [Line; HART_ROW],
 }
 
 impl Model for Gate {
@@ -42,7 +43,7 @@ impl Model for Gate {
 }
 
 /// How many outputs wait.
-fn kept_in(lines: &[Line; 8]) -> usize
+fn kept_in(lines: &[Line; HART_ROW]) -> usize
     ensures { result ≡ waiting_count lines.now }
 {
     let mut kept = 0usize;
@@ -55,16 +56,16 @@ fn kept_in(lines: &[Line; 8]) -> usize
 /// Adds the outputs that are held, by hart, then number, and says how many they are of each hart.
 fn give_all(
     need: u8,
-    noted: &[[Count; 8]; 5],
-    lines: &[Line; 8],
+    noted: &[[Count; HART_ROW]; KEEPER_ROW],
+    lines: &[Line; HART_ROW],
     given: &mut Vec<Output>,
-) -> Result<[usize; 8], Memory>
-    requires { (hart : ℕ) (other : LineView) → hart < 8 → AreInLine (slice_index_or lines.now hart other).waiting }
+) -> Result<[usize; HART_ROW], Memory>
+    requires { (hart : ℕ) (other : LineView) → hart < HART_LIMIT → AreInLine (slice_index_or lines.now hart other).waiting }
     ensures given { OnOk result (given.new.items ≡ given.old.items ++ held_outputs need noted.now lines.now) }
-    ensures front { IfOk result (λ held. (hart : ℕ) (other : LineView) → hart < 8 →
+    ensures front { IfOk result (λ held. (hart : ℕ) (other : LineView) → hart < HART_LIMIT →
         IsFront need noted.now (slice_index held hart) (slice_index_or lines.now hart other).waiting) }
 {
-    let mut held = [0usize; 8];
+    let mut held = [0usize; HART_ROW];
     for hart in 0..8usize {
         held[hart] = lines[hart].give(need, noted, given)?;
     }
@@ -72,10 +73,10 @@ fn give_all(
 }
 
 /// The first outputs of each hart wait no more: they went out.
-fn advance_all(lines: &mut [Line; 8], held: [usize; 8])
-    requires { (hart : ℕ) (other : LineView) → hart < 8 → slice_index held hart ≤ length (slice_index_or lines.old hart other).waiting }
-    ensures harts { length lines.new ≡ 8 }
-    ensures each { (hart : ℕ) (other : LineView) → hart < 8 → slice_index_or lines.new hart other
+fn advance_all(lines: &mut [Line; HART_ROW], held: [usize; HART_ROW])
+    requires { (hart : ℕ) (other : LineView) → hart < HART_LIMIT → slice_index held hart ≤ length (slice_index_or lines.old hart other).waiting }
+    ensures harts { length lines.new ≡ HART_ROW }
+    ensures each { (hart : ℕ) (other : LineView) → hart < HART_LIMIT → slice_index_or lines.new hart other
         ≡ record {
           gone = (slice_index_or lines.old hart other).gone ++ take (slice_index held hart) (slice_index_or lines.old hart other).waiting;
           waiting = drop (slice_index held hart) (slice_index_or lines.old hart other).waiting;
@@ -87,9 +88,9 @@ fn advance_all(lines: &mut [Line; 8], held: [usize; 8])
 }
 
 /// Puts an output behind the others of its hart.
-fn offer_in(lines: &mut [Line; 8], output: Output) -> Result<(), Memory>
-    ensures hart { output.hart < 8 }
-    ensures harts { length lines.new ≡ 8 }
+fn offer_in(lines: &mut [Line; HART_ROW], output: Output) -> Result<(), Memory>
+    ensures hart { output.hart < HART_LIMIT }
+    ensures harts { length lines.new ≡ HART_ROW }
     ensures line { OnOk result ((other : LineView) → slice_index_or lines.new output.hart other
         ≡ record { gone = (slice_index_or lines.old output.hart other).gone; waiting = (slice_index_or lines.old output.hart other).waiting ++ output ∷ [] }) }
     ensures others { (hart : ℕ) (other : LineView) → hart ≢ output.hart → slice_index_or lines.new hart other ≡ slice_index_or lines.old hart other }
@@ -101,7 +102,7 @@ fn offer_in(lines: &mut [Line; 8], output: Output) -> Result<(), Memory>
 impl Gate {
     /// A gate of a term with so many keepers, of which so many must hold an output. Nothing is noted and nothing waits.
     pub fn new(alloc: Global, term: Term, keepers: u8, need: u8) -> Gate
-        requires { (0 < need) × (need ≤ keepers) × (keepers ≤ 5) }
+        requires { (0 < need) × (need ≤ keepers) × (keepers ≤ KEEPER_LIMIT) }
         ensures parts { (result.term ≡ term) × (result.keepers ≡ keepers) × (result.need ≡ need) }
         ensures noted { (keeper hart : ℕ) → noted_at result keeper hart ≡ 0 }
         ensures lines { (hart : ℕ) → line_of result hart ≡ record { gone = []; waiting = [] } }
@@ -110,7 +111,7 @@ impl Gate {
             term,
             keepers,
             need,
-            noted: [[0; 8]; 5],
+            noted: [[0; HART_ROW]; KEEPER_ROW],
             lines: [
                 Line::new(alloc),
                 Line::new(alloc),
@@ -140,7 +141,7 @@ impl Gate {
     /// How many outputs of the hart were offered.
     pub fn offered(&self, hart: Hart) -> usize
         ensures number { result ≡ length (offered_of self.now hart) }
-        ensures harts { length self.now.lines ≡ 8 }
+        ensures harts { length self.now.lines ≡ HART_ROW }
     {
         self.lines[hart.index()].offered()
     }
@@ -174,8 +175,8 @@ impl Gate {
 
     /// Each hart's outputs are in line: those that went out, and behind them those that wait.
     pub(crate) fn tell_lines(&self)
-        ensures harts { length self.now.lines ≡ 8 }
-        ensures each { (hart : ℕ) → hart < 8 → IsLineOf hart (line_of self.now hart) }
+        ensures harts { length self.now.lines ≡ HART_ROW }
+        ensures each { (hart : ℕ) → hart < HART_LIMIT → IsLineOf hart (line_of self.now hart) }
     {
         let _lines = &self.lines;
     }
@@ -184,8 +185,8 @@ impl Gate {
     fn release_held(&mut self, alloc: Global) -> Result<Vec<Output>, Memory>
         ensures given { IfOk result (λ given. given.items ≡ held_outputs self.old.need self.old.noted self.old.lines) }
         ensures rising { IfOk result (λ given. RiseByHart given.items) }
-        ensures lines { OnOk result ((hart : ℕ) → hart < 8 → line_of self.new hart ≡ after_release self.old.need self.old.noted (line_of self.old hart)) }
-        ensures offered { OnOk result ((hart : ℕ) → hart < 8 → offered_of self.new hart ≡ offered_of self.old hart) }
+        ensures lines { OnOk result ((hart : ℕ) → hart < HART_LIMIT → line_of self.new hart ≡ after_release self.old.need self.old.noted (line_of self.old hart)) }
+        ensures offered { OnOk result ((hart : ℕ) → hart < HART_LIMIT → offered_of self.new hart ≡ offered_of self.old hart) }
         ensures rest { self.new ≡ record self.old { lines = self.new.lines } }
         ensures err { OnErr result (self.new ≡ self.old) }
     {
@@ -199,8 +200,8 @@ impl Gate {
     pub fn release(&mut self, alloc: Global) -> Result<Vec<Output>, Memory>
         ensures given { IfOk result (λ given. given.items ≡ held_outputs self.old.need self.old.noted self.old.lines) }
         ensures rising { IfOk result (λ given. RiseByHart given.items) }
-        ensures lines { OnOk result ((hart : ℕ) → hart < 8 → line_of self.new hart ≡ after_release self.old.need self.old.noted (line_of self.old hart)) }
-        ensures offered { OnOk result ((hart : ℕ) → hart < 8 → offered_of self.new hart ≡ offered_of self.old hart) }
+        ensures lines { OnOk result ((hart : ℕ) → hart < HART_LIMIT → line_of self.new hart ≡ after_release self.old.need self.old.noted (line_of self.old hart)) }
+        ensures offered { OnOk result ((hart : ℕ) → hart < HART_LIMIT → offered_of self.new hart ≡ offered_of self.old hart) }
         // What still waits has a later step than what is given of its hart.
         ensures earlier { IfOk result (λ given. AreEarlier given.items self.new) }
         ensures rest { self.new ≡ record self.old { lines = self.new.lines } }

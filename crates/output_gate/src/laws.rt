@@ -1,6 +1,7 @@
 //! In which order outputs go out.
 
 ghost use Rattle.std.specs.Prelude.{ℕ, ◌<◌};
+ghost use Rattle.ft_types.specs.declared.names.TheConstants.{HART_LIMIT};
 ghost use Rattle.output_gate.specs.Gates.{gone_of, waiting_of};
 ghost use Rattle.output_gate.specs.Orders.{AreInLine, NoneIsBefore};
 
@@ -9,8 +10,8 @@ use crate::gate::Gate;
 /// Whatever calls led to a gate, the outputs of a hart went out in the order of their numbers and steps, and none that still
 /// waits comes before one that went out.
 pub fn outputs_go_in_order(gate: &Gate)
-    ensures gone { (hart : ℕ) → hart < 8 → AreInLine (gone_of gate.now hart) }
-    ensures waiting { (hart : ℕ) → hart < 8 → NoneIsBefore (waiting_of gate.now hart) (gone_of gate.now hart) }
+    ensures gone { (hart : ℕ) → hart < HART_LIMIT → AreInLine (gone_of gate.now hart) }
+    ensures waiting { (hart : ℕ) → hart < HART_LIMIT → NoneIsBefore (waiting_of gate.now hart) (gone_of gate.now hart) }
 {
     gate.tell_lines();
 }

@@ -7,7 +7,7 @@ ghost use Rattle.output_gate.specs.Lines.{IsFront};
 
 use crate::notes::keepers_above;
 use crate::output::Output;
-use ft_types::{Count, Memory};
+use ft_types::{Count, HART_ROW, KEEPER_ROW, Memory};
 use std::alloc::Global;
 use std::marker::Model;
 use std::result::Result;
@@ -32,7 +32,7 @@ impl Model for Line {
 }
 
 /// How many of the outputs that wait are held. As they are in line, these are the first.
-fn held_front(need: u8, noted: &[[Count; 8]; 5], waiting: &[Output]) -> usize
+fn held_front(need: u8, noted: &[[Count; HART_ROW]; KEEPER_ROW], waiting: &[Output]) -> usize
     requires { AreInLine waiting.now }
     ensures { IsFront need noted.now result waiting.now }
 {
@@ -84,7 +84,7 @@ impl Line {
     pub(crate) fn give(
         &self,
         need: u8,
-        noted: &[[Count; 8]; 5],
+        noted: &[[Count; HART_ROW]; KEEPER_ROW],
         given: &mut Vec<Output>,
     ) -> Result<usize, Memory>
         requires { AreInLine self.now.waiting }

@@ -4,15 +4,15 @@ ghost use Rattle.std.specs.Prelude.{◌≡◌, ◌<◌, ◌++◌, ℕ, List, len
 ghost use Rattle.page_book.specs.Words.{base_at, given_more, OpenView, with_page};
 
 use edge_log::Edge;
-use ft_types::{Memory, PageNo, Want};
+use ft_types::{HART_ROW, Memory, PageNo, Want};
 use guest_image::Page;
 use hart_lease::{Asked, OpenLease};
 use smallvec::SmallVec;
 use std::alloc::Global;
 
 /// No hart has an open lease.
-pub(crate) fn no_leases() -> [Option<OpenLease>; 8]
-    ensures { result ≡ replicate 8 None }
+pub(crate) fn no_leases() -> [Option<OpenLease>; HART_ROW]
+    ensures { result ≡ replicate HART_ROW None }
 {
     [None, None, None, None, None, None, None, None]
 }
@@ -22,7 +22,7 @@ pub(crate) fn with_edges(
     alloc: Global,
     waiting: &[Edge],
     found: &[Edge],
-) -> Result<SmallVec<Edge, 8>, Memory>
+) -> Result<SmallVec<Edge, HART_ROW>, Memory>
     ensures { IfOk result (λ all. all.items ≡ waiting.now ++ found.now) }
 {
     let mut all = SmallVec::from_slice(alloc, waiting)?;
@@ -69,7 +69,7 @@ pub(crate) fn note_taken(
     lease: &mut Option<OpenLease>,
     asked: &Asked,
     _found: &[Edge],
-    waiting: SmallVec<Edge, 8>,
+    waiting: SmallVec<Edge, HART_ROW>,
 )
     requires { (lent : OpenView) → lease.old ≡ Some lent → waiting.items ≡ lent.edges ++ _found.now }
     ensures { lease.new ≡ given_more lease.old asked.now.page asked.now.want asked.now.count _found.now }

@@ -5,7 +5,7 @@ ghost use Rattle.std.specs.Vec.{vec_len, vec_capacity};
 ghost use Rattle.page_book.specs.Words.{added, IsBareLease, laid, laid_pages, with_slot};
 ghost use Rattle.rv32_hart.specs.Hart.{Hart as HartRecord, with_outputs_of, without_outputs};
 
-use ft_types::{Hart, PageNo};
+use ft_types::{Hart, PAGE_LIMIT, PageNo};
 use guest_image::Machine;
 use hart_lease::{Slot, Stretch};
 
@@ -24,7 +24,7 @@ fn lay_slot(machine: &mut Machine, page: PageNo, slot: Slot)
 /// Writes the pages that were written into the machine.
 fn lay(machine: &mut Machine, slots: Vec<Slot>)
     requires same { length slots.items ≡ length machine.old.pages }
-    requires limit { length slots.items ≤ 64 }
+    requires limit { length slots.items ≤ PAGE_LIMIT }
     ensures { machine.new ≡ record machine.old { pages = laid_pages machine.old.pages slots.items } }
 {
     let mut number = 0u8;

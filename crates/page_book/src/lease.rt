@@ -4,7 +4,7 @@ ghost use Rattle.std.specs.Prelude.{◌≡◌, ◌<◌, ◌≤◌, ◌↔◌, �
 ghost use Rattle.page_book.specs.Words.{IsBareLease, IsFull, IsLent, LeaseView, MachineState, Runs, slot_at, Taken, Ticks, want_of, whole};
 
 use edge_log::Edge;
-use ft_types::{Count, Hart, PageNo, Want};
+use ft_types::{Count, Hart, INPUT_LIMIT, PageNo, Want};
 use input_log::Input;
 use rv32_hart::Tick;
 use std::marker::Model;
@@ -49,7 +49,7 @@ impl Lease {
     /// The inputs of its first step.
     pub fn inputs(&self) -> &[Input]
         ensures value { result.now ≡ self.now.inputs }
-        ensures few { length result.now ≤ 8 }
+        ensures few { length result.now ≤ INPUT_LIMIT }
     {
         self.own.inputs()
     }
@@ -77,7 +77,7 @@ impl Lease {
         self.own.right(page)
     }
 
-    /// Whether the lease takes no further step: after 1,024 steps, after a step that halts or rings, and at its stop.
+    /// Whether the lease takes no further step: after `LEASE_STEPS` steps, after a step that halts or rings, and at its stop.
     #[inline(always)]
     pub fn full(&self) -> bool
         ensures { IsTrue result ↔ IsFull self.now }

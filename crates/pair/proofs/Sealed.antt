@@ -1,6 +1,6 @@
 -- What was cut is settled.
 use Rattle.std.proofs.Common.{◌≡◌, ◌<◌, ◌≤◌, ◌⊎◌, ⊎_elim, ℕ, ◌+◌, List, [], ◌∷◌, length, slice_index_or, ap, arith, OnOk, Result, Ok, Err, IfOk}
-use Rattle.ft_types.specs.declared.guest.Guest.{Guest}
+use Rattle.ft_types.specs.Guests.{GuestParts}
 use Rattle.ft_types.specs.Counts.{count_at}
 use Rattle.fragment_codec.specs.declared.frame.Frame.{Frame}
 use Rattle.fragment_codec.specs.Rules.{FragmentParts}
@@ -18,7 +18,7 @@ pieces_within log old (piece ∷ pieces) new le at =
     at.0.far in
     pieces_within log (mark_behind piece) pieces new to at.1
 
-pub cut_within : (guest : Guest) (book : BookView RecordingView) (old : SealedView) (frames : List Frame) (new : SealedView) →
+pub cut_within : (guest : GuestParts) (book : BookView RecordingView) (old : SealedView) (frames : List Frame) (new : SealedView) →
     ((hart : ℕ) → count_at old.reached hart ≤ counts_of book.machine hart) → IsCut (book_log guest 1 book) guest.harts old frames new →
     (hart : ℕ) → count_at new.reached hart ≤ counts_of book.machine hart
 cut_within guest book old frames new within cut hart =

@@ -1,6 +1,7 @@
 -- What a gate's thread keeps.
 use Rattle.std.specs.Prelude.{◌≡◌, ◌≢◌, ◌++◌, ◌∷◌, [], ◌<◌, ◌≤◌, ℕ, List, length, slice_index}
 use Rattle.std.specs.List.{AllByRecursion}
+use Rattle.ft_types.specs.declared.names.TheConstants.{HART_LIMIT}
 use Rattle.ack_core.specs.declared.board.Board.{Board}
 use Rattle.ack_core.specs.declared.seats.GateSeat.{GateSeat}
 use Rattle.ack_core.specs.Seats.{term_of, keepers_of, IsGateOf}
@@ -12,7 +13,7 @@ use Rattle.pair.specs.declared.messages.ToGate.TheVariants.{Offer, Published, En
 
 -- of each hart, the least step that none of its offered outputs is behind
 abbrev pub AreLast : GateView → List ℕ → Type 0
-AreLast gate steps = (hart : ℕ) → hart < 8 → AllByRecursion (λ o. o.step ≤ slice_index steps hart) (offered_of gate hart)
+AreLast gate steps = (hart : ℕ) → hart < HART_LIMIT → AllByRecursion (λ o. o.step ≤ slice_index steps hart) (offered_of gate hart)
     × ((step : ℕ) → AllByRecursion (λ o. o.step ≤ step) (offered_of gate hart) → slice_index steps hart ≤ step)
 
 -- the gate is one of the board's term and keepers, the seat is the board's, and no count is noted that it has not seen

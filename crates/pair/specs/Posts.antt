@@ -1,5 +1,6 @@
 -- What the threads of a pair begin with.
 use Rattle.std.specs.Prelude.{◌≡◌, ℕ, ◌<◌, ◌≤◌, List, [], length, slice_index_or}
+use Rattle.ft_types.specs.declared.names.TheConstants.{HART_LIMIT}
 use Rattle.ack_core.specs.declared.board.Board.{Board}
 use Rattle.ack_core.specs.declared.seats.KeeperSeat.{KeeperSeat}
 use Rattle.ack_core.specs.Seats.{harts_of, IsKeeperOf}
@@ -21,11 +22,9 @@ IsPostOf board post = IsKeeperOf board post.seat × (post.store.guest.harts ≡ 
 -- the board's gate, to which nothing was offered
 pub record IsWatchOf (board : Board) (watch : Watch) : Type 0 where
   pub place : IsAtBoard board watch.gate watch.seat
-  pub empty : (hart : ℕ) → hart < 8 → offered_of watch.gate hart ≡ []
+  pub empty : (hart : ℕ) → hart < HART_LIMIT → offered_of watch.gate hart ≡ []
 
 -- a primary that no lease holds up, and whose guest has the book's harts
 pub record MayLead (primary : Primary) : Type 0 where
   pub idle : IsIdle primary.book
-  pub some : 1 ≤ primary.guest.harts
-  pub limit : primary.guest.harts ≤ 8
   pub harts : length primary.book.machine.harts ≡ primary.guest.harts

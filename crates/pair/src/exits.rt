@@ -2,6 +2,7 @@
 
 ghost use Rattle.std.specs.Prelude.{◌≡◌, ◌↔◌, ◌++◌, ◌<◌, ℕ, List, slice_index, IfOk, IsTrue, OnOk};
 ghost use Rattle.std.specs.List.{AllByRecursion};
+ghost use Rattle.ft_types.specs.declared.names.TheConstants.{HART_LIMIT};
 ghost use Rattle.ack_core.specs.Seats.{harts_of, keepers_of, seen};
 ghost use Rattle.output_gate.specs.Gates.{noted_at, held_outputs};
 ghost use Rattle.output_gate.specs.Looks.{IsInside};
@@ -10,19 +11,19 @@ ghost use Rattle.pair.specs.declared.messages.ToGate.TheVariants.{Offer, End};
 
 use crate::messages::ToGate;
 use ack_core::{Board, GateSeat};
-use ft_types::{Count, Memory};
+use ft_types::{Count, HART_ROW, Memory};
 use output_gate::{Gate, Output};
 use std::alloc::Global;
 use std::result::Result;
 
 /// Of each hart, the step of its last output that was offered, or 0.
-pub(crate) type LastSteps = [Count; 8];
+pub(crate) type LastSteps = [Count; HART_ROW];
 
 /// No output yet.
 pub(crate) fn no_steps() -> LastSteps
-    ensures { (hart : ℕ) → hart < 8 → slice_index result hart ≡ 0 }
+    ensures { (hart : ℕ) → hart < HART_LIMIT → slice_index result hart ≡ 0 }
 {
-    [0; 8]
+    [0; HART_ROW]
 }
 
 /// Whether the output is its hart's next, of no earlier step than the last.

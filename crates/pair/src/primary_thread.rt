@@ -3,7 +3,6 @@
 ghost use Rattle.std.specs.Prelude.{◌≡◌, ◌≤◌, ℕ, length, IfOk, OnOk};
 ghost use Rattle.ft_types.specs.Counts.{count_at};
 ghost use Rattle.fragment_codec.specs.Pieces.{IsCut, book_log};
-ghost use Rattle.fragment_codec.specs.Rules.{IsGuest};
 ghost use Rattle.hart_lease.specs.Runs.{counts_of};
 ghost use Rattle.primary_pool.specs.Running.{IsIdle};
 ghost use Rattle.pair.specs.Posts.{MayLead};
@@ -14,7 +13,7 @@ use crate::rounds::{are_at_end, round_end};
 use crate::telling::{new_outputs, outputs_told};
 use crossbeam_channel::Sender;
 use fragment_codec::{Frame, Sealed, cut_pieces};
-use ft_types::{Guest, Memory};
+use ft_types::{Guest, HART_ROW, Memory};
 use guest_image::Machine;
 use log_streams::{TERM, first_opening};
 use page_book::{Book, Recording};
@@ -42,7 +41,7 @@ fn send_outputs<R: Wait>(
     rt: &R,
     alloc: Global,
     machine: &Machine,
-    told: &[usize; 8],
+    told: &[usize; HART_ROW],
     gate: &Sender<ToGate, Global>,
 ) -> Result<(), Memory> {
     for output in new_outputs(alloc, machine, told)? {
@@ -77,7 +76,6 @@ fn new_pieces(
     guest: &Guest,
     sealed: &mut Sealed,
 ) -> Result<Vec<Frame>, Memory>
-    requires guest { IsGuest guest.now }
     requires harts { length book.now.machine.harts ≡ guest.now.harts }
     requires sealed { length sealed.old.reached ≡ guest.now.harts }
     requires within { (hart : ℕ) → count_at sealed.old.reached hart ≤ counts_of book.now.machine hart }

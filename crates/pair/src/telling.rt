@@ -4,7 +4,7 @@ ghost use Rattle.std.specs.Prelude.{◌≡◌, ◌+◌, ◌++◌, ◌<◌, ◌^�
 ghost use Rattle.rv32_hart.specs.Hart.{Hart as HartRecord};
 ghost use Rattle.pair.specs.Telling.{numbered_from, outputs_since};
 
-use ft_types::{Count, Hart, Memory};
+use ft_types::{Count, HART_ROW, Hart, Memory};
 use guest_image::Machine;
 use output_gate::Output;
 use std::alloc::Global;
@@ -41,7 +41,7 @@ fn untold(said: &[(Count, u32)], told: usize) -> &[(Count, u32)]
 /// Adds the outputs of a hart, but for so many of each hart that were told.
 fn add_untold(
     hart: Hart,
-    told: &[usize; 8],
+    told: &[usize; HART_ROW],
     said: &[(Count, u32)],
     outputs: &mut Vec<Output>,
 ) -> Result<(), Memory>
@@ -56,7 +56,7 @@ fn add_untold(
 pub(crate) fn new_outputs(
     alloc: Global,
     machine: &Machine,
-    told: &[usize; 8],
+    told: &[usize; HART_ROW],
 ) -> Result<Vec<Output>, Memory>
     ensures { IfOk result (λ outputs. outputs.items ≡ outputs_since told.now machine.now) }
 {
@@ -69,10 +69,10 @@ pub(crate) fn new_outputs(
 }
 
 /// How many outputs each hart has.
-pub(crate) fn outputs_told(machine: &Machine) -> [usize; 8]
+pub(crate) fn outputs_told(machine: &Machine) -> [usize; HART_ROW]
     ensures { (hart : ℕ) (h : HartRecord) → slice_get machine.now.harts hart ≡ Some h → slice_index result hart ≡ length h.outputs }
 {
-    let mut told = [0usize; 8];
+    let mut told = [0usize; HART_ROW];
     for number in 0..machine.harts() {
         let hart = Hart::new(number);
         told[hart.index()] = machine.hart(hart).outputs().len();

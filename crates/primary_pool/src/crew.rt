@@ -2,7 +2,7 @@
 
 use crate::desk::{Answer, Desk, Pace, Turn};
 use crate::turnstile::Turnstile;
-use ft_types::{Count, Counts, HART_LIMIT, Hart, HartSet, PageNo, Want};
+use ft_types::{Count, Counts, HART_LIMIT, HART_ROW, Hart, HartSet, PageNo, Want};
 use page_book::{Book, Lease, Mode};
 use rv32_hart::Tick;
 use std::alloc::Global;
@@ -14,7 +14,7 @@ use std::{hint, thread};
 const TURNS: u32 = 256;
 
 /// One for each hart, which is called when it may ask again.
-type Calls = [Condvar; 8];
+type Calls = [Condvar; HART_ROW];
 
 fn no_calls() -> Calls {
     [
@@ -122,7 +122,7 @@ fn leave<M: Mode, R: Wait>(rt: &R, desk: &Mutex<Desk<M>>, calls: &Calls, hart: u
 fn every_hart() -> HartSet {
     let mut harts = HartSet::new();
     for number in 0..HART_LIMIT {
-        harts = harts.with(number);
+        harts = harts.with(Hart::new(number));
     }
     harts
 }
@@ -130,8 +130,9 @@ fn every_hart() -> HartSet {
 /// Wakes these harts.
 fn call(calls: &Calls, harts: HartSet) {
     for number in 0..HART_LIMIT {
-        if harts.contains(number) {
-            calls[number as usize].notify_all();
+        let hart = Hart::new(number);
+        if harts.contains(hart) {
+            calls[hart.index()].notify_all();
         }
     }
 }

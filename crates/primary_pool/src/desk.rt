@@ -3,7 +3,7 @@
 ghost use Rattle.std.specs.Prelude.{◌≡◌};
 
 use crate::queue::{PageMask, Queue};
-use ft_types::{Count, HART_LIMIT, Hart, HartSet, PageNo, Want};
+use ft_types::{Count, HART_LIMIT, HART_ROW, Hart, HartSet, PageNo, Want};
 use page_book::{Book, BookFault, Keep, Lease, Mode, Need};
 use std::alloc::Global;
 
@@ -46,19 +46,19 @@ pub(crate) struct Desk<M: Mode> {
     /// The steps of the last hart when harts last had to do with each other.
     quiet_from: u64,
     /// Which harts cannot go on before another has settled, and which are done.
-    stuck: [bool; 8],
+    stuck: [bool; HART_ROW],
     /// Which harts waited for others to settle, when one last did.
-    freed: [bool; 8],
+    freed: [bool; HART_ROW],
     /// How many steps each hart has settled here; `u64::MAX` for one that is done.
-    steps: [u64; 8],
+    steps: [u64; HART_ROW],
     /// Which harts wait for others to come near.
-    ahead: [bool; 8],
+    ahead: [bool; HART_ROW],
 }
 
 impl<M: Mode> Desk<M> {
     /// A book whose harts all go on.
     pub(crate) fn new(book: Book<M>, pace: Pace) -> Desk<M> {
-        let mut steps = [u64::MAX; 8];
+        let mut steps = [u64::MAX; HART_ROW];
         for number in 0..book.machine().harts() {
             steps[number as usize] = 0;
         }
@@ -67,10 +67,10 @@ impl<M: Mode> Desk<M> {
             queue: Queue::new(),
             pace,
             quiet_from: 0,
-            stuck: [false; 8],
-            freed: [false; 8],
+            stuck: [false; HART_ROW],
+            freed: [false; HART_ROW],
             steps,
-            ahead: [false; 8],
+            ahead: [false; HART_ROW],
         }
     }
 
@@ -91,7 +91,7 @@ impl<M: Mode> Desk<M> {
     /// The steps of the hart that has the fewest here, of those that go on.
     fn fewest(&self) -> u64 {
         let mut fewest = u64::MAX;
-        for number in 0..8usize {
+        for number in 0..HART_ROW {
             fewest = fewest.min(self.steps[number]);
         }
         fewest
@@ -196,7 +196,7 @@ impl<M: Mode> Desk<M> {
         if steps > 0 {
             self.queue.forget(hart);
             self.freed = self.stuck;
-            self.stuck = [false; 8];
+            self.stuck = [false; HART_ROW];
         }
     }
 
@@ -224,11 +224,12 @@ impl<M: Mode> Desk<M> {
     pub(crate) fn called(&self) -> HartSet {
         let mut harts = self.queue.called();
         for number in 0..HART_LIMIT {
-            if self.ahead[number as usize] && !self.is_ahead(Hart::new(number)) {
-                harts = harts.with(number);
+            let hart = Hart::new(number);
+            if self.ahead[hart.index()] && !self.is_ahead(hart) {
+                harts = harts.with(hart);
             }
-            if self.freed[number as usize] {
-                harts = harts.with(number);
+            if self.freed[hart.index()] {
+                harts = harts.with(hart);
             }
         }
         harts

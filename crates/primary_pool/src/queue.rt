@@ -1,6 +1,6 @@
 //! Who waits for which page.
 
-use ft_types::{HART_LIMIT, Hart, HartSet, PageNo, Want};
+use ft_types::{HART_LIMIT, HART_ROW, Hart, HartSet, PageNo, Want};
 
 /// Pages, by number: those to be read, and those to be written.
 #[derive(Clone, Copy, Debug, PartialEq, Eq)]
@@ -50,11 +50,11 @@ impl PageMask {
 /// The pages that open leases have, and what waits for them.
 #[derive(Clone, Copy, Debug)]
 pub(crate) struct Queue {
-    held: [PageMask; 8],
+    held: [PageMask; HART_ROW],
     /// What each hart waits for.
-    wishes: [PageMask; 8],
+    wishes: [PageMask; HART_ROW],
     /// Since when; 0 where it does not wait.
-    since: [u64; 8],
+    since: [u64; HART_ROW],
     next: u64,
 }
 
@@ -62,30 +62,30 @@ impl Queue {
     /// Nobody has or waits for a page.
     pub(crate) fn new() -> Queue {
         Queue {
-            held: [PageMask::none(); 8],
-            wishes: [PageMask::none(); 8],
-            since: [0; 8],
+            held: [PageMask::none(); HART_ROW],
+            wishes: [PageMask::none(); HART_ROW],
+            since: [0; HART_ROW],
             next: 1,
         }
     }
 
     /// Whether the hart waits.
     pub(crate) fn is_waiting(&self, hart: usize) -> bool {
-        hart < 8 && self.since[hart] != 0
+        hart < HART_ROW && self.since[hart] != 0
     }
 
     /// Whether the other hart waits, and has waited for longer.
     fn is_earlier(&self, other: usize, hart: usize) -> bool {
         self.is_waiting(other)
-            && hart < 8
-            && other < 8
+            && hart < HART_ROW
+            && other < HART_ROW
             && (self.since[hart] == 0 || self.since[other] < self.since[hart])
     }
 
     /// Whether what another hart's open lease has, or has waited for longer, stands in the way of these pages.
     pub(crate) fn is_barred(&self, hart: Hart, pages: PageMask) -> bool {
         let hart = hart.index();
-        for other in 0..8usize {
+        for other in 0..HART_ROW {
             if other != hart {
                 if self.held[other].is_against(pages) {
                     return true;
@@ -107,8 +107,9 @@ impl Queue {
     pub(crate) fn called(&self) -> HartSet {
         let mut harts = HartSet::new();
         for number in 0..HART_LIMIT {
-            if self.is_waiting(number as usize) && self.is_called(Hart::new(number)) {
-                harts = harts.with(number);
+            let hart = Hart::new(number);
+            if self.is_waiting(hart.index()) && self.is_called(hart) {
+                harts = harts.with(hart);
             }
         }
         harts

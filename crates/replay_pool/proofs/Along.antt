@@ -4,7 +4,7 @@ use Rattle.std.proofs.Common.{sym, ap, subst, ◌∙◌, arith, add-one, append-
 use Rattle.std.proofs.Math.Seq.{get_or-append_seam}
 use Rattle.std.proofs.lemmas.List.{take_all, take_more, take-append-drop}
 use Rattle.std.proofs.lemmas.List.Elements.{All-contains}
-use Rattle.ft_types.specs.declared.guest.Guest.{Guest}
+use Rattle.ft_types.specs.Guests.{GuestParts}
 use Rattle.edge_log.specs.EdgeLog.{IsLog}
 use Rattle.guest_image.specs.Image.{ImageContents, guest_of}
 use Rattle.guest_image.specs.Machine.{MachineState, boot_machine}
@@ -171,7 +171,7 @@ next_is old new on first leg many within is =
     let both : Some on.next ≡ Some leg = sym here ∙ at_place new first leg within is in
     cc
 
-pub follows_at : (image : ImageContents) (old new was planned : List PlannedLeg) (now machine : MachineState) (guest : Guest) → KeepsUp image old now →
+pub follows_at : (image : ImageContents) (old new was planned : List PlannedLeg) (now machine : MachineState) (guest : GuestParts) → KeepsUp image old now →
     IsPlan guest new → guest ≡ guest_of image → GoOnFrom old new → was ≡ old → planned ≡ new → machine ≡ now → (leg : PlannedLeg) →
     leg ≡ get_or planned (length was - 1) leg → IsLog leg.edges.start leg.edges.rows → IsAt image planned (length was - 1) machine
 follows_at image old new was planned now machine guest kept plan same on w p e leg is log =
@@ -187,7 +187,7 @@ follows_at image old new was planned now machine guest kept plan same on w p e l
     subst (λ (xs : List PlannedLeg). IsAt image planned (length xs - 1) machine) (sym w)
     (subst (λ (xs : List PlannedLeg). IsAt image xs (length old - 1) machine) (sym p)
     (subst (λ (x : MachineState). IsAt image new (length old - 1) x) (sym e)
-    (goes_on_from image old new now kept (subst (λ (g : Guest). IsPlan g new) same plan) on
+    (goes_on_from image old new now kept (subst (λ (g : GuestParts). IsPlan g new) same plan) on
     (subst (λ (l : PlannedLeg). IsLog l.edges.start l.edges.rows) (sym next) log) (length old - 1) many)))
 
 -- ---- whether a plan goes on from another

@@ -1,5 +1,6 @@
 -- A backup that keeps up with a store.
 use Rattle.std.specs.Prelude.{◌≡◌, ◌<◌, ◌≤◌, ◌⊎◌, ◌++◌, ◌∷◌, ℕ, List, [], Option, Some, None, Result, MatchResult}
+use Rattle.ft_types.specs.declared.names.TheConstants.{HART_LIMIT}
 use Rattle.ft_types.specs.Counts.{count_at}
 use Rattle.edge_log.specs.EdgeLog.{AddsLater}
 use Rattle.input_log.specs.Inputs.{HearsMore, inputs_of}
@@ -41,9 +42,9 @@ pub record KeepsUp (image : ImageContents) (legs : List PlannedLeg) (machine : M
 pub record BeginsLeg (leg later : PlannedLeg) : Type 0 where
   pub term : later.term ≡ leg.term
   pub base : later.base ≡ leg.base
-  pub ends : (hart : ℕ) → hart < 8 → count_at leg.ends hart ≤ count_at later.ends hart
+  pub ends : (hart : ℕ) → hart < HART_LIMIT → count_at leg.ends hart ≤ count_at later.ends hart
   pub edges : AddsLater leg.edges (count_at leg.ends) later.edges
-  pub inputs : (hart : ℕ) → hart < 8 → HearsMore (inputs_of leg.inputs hart) (count_at leg.ends hart) (inputs_of later.inputs hart)
+  pub inputs : (hart : ℕ) → hart < HART_LIMIT → HearsMore (inputs_of leg.inputs hart) (count_at leg.ends hart) (inputs_of later.inputs hart)
 
 -- the first legs begin the second
 abbrev pub IsFront : List PlannedLeg → List PlannedLeg → Type 0

@@ -1,6 +1,7 @@
 //! One leg on threads.
 
 ghost use Rattle.std.specs.Prelude.{◌≡◌, ◌<◌, ℕ, [], length, replicate, None, IfOk, IfErr};
+ghost use Rattle.ft_types.specs.declared.names.TheConstants.{HART_ROW};
 ghost use Rattle.ft_types.specs.Counts.{count_at};
 ghost use Rattle.hart_lease.specs.Runs.{counts_of};
 ghost use Rattle.page_book.specs.Reclaims.{GoesOnFrom};
@@ -26,7 +27,7 @@ pub(crate) fn begin(
     start: Machine,
     leg: &PlannedLeg,
 ) -> Result<Book<Replaying>, Memory>
-    ensures { IfOk result (λ b. b ≡ record { start = start; machine = start; journal = []; leases = replicate 8 None; mode = leg_of leg.now }) }
+    ensures { IfOk result (λ b. b ≡ record { start = start; machine = start; journal = []; leases = replicate HART_ROW None; mode = leg_of leg.now }) }
 {
     let obeyed = Leg {
         ends: leg.ends,

@@ -43,7 +43,7 @@ fn begin_legs(first: &[PlannedLeg], second: &[PlannedLeg]) -> bool
 
 /// Whether no hart's end is above the other leg's.
 fn ends_within(leg: &PlannedLeg, later: &PlannedLeg) -> bool
-    ensures { IsTrue result ↔ ((hart : ℕ) → hart < 8 → count_at leg.now.ends hart ≤ count_at later.now.ends hart) }
+    ensures { IsTrue result ↔ ((hart : ℕ) → hart < HART_LIMIT → count_at leg.now.ends hart ≤ count_at later.now.ends hart) }
 {
     for number in 0..HART_LIMIT {
         let hart = Hart::new(number);
@@ -56,7 +56,7 @@ fn ends_within(leg: &PlannedLeg, later: &PlannedLeg) -> bool
 
 /// Whether each hart of the second leg is given what it was given in the first, and the rest at that one's ends or later.
 fn hear_more(leg: &PlannedLeg, later: &PlannedLeg) -> bool
-    ensures { IsTrue result ↔ ((hart : ℕ) → hart < 8 →
+    ensures { IsTrue result ↔ ((hart : ℕ) → hart < HART_LIMIT →
         HearsMore (inputs_of leg.now.inputs hart) (count_at leg.now.ends hart) (inputs_of later.now.inputs hart)) }
 {
     for number in 0..HART_LIMIT {

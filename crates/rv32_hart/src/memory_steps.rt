@@ -9,7 +9,7 @@ use super::hart_core::HartCore;
 use super::outcome::Tick;
 use super::pages::Pages;
 use super::steps::{go_on, set_register_step};
-use ft_types::{Hart, PageNo, Want};
+use ft_types::{COUNT_LIMIT, Hart, PAGE_LIMIT, PageNo, Want};
 use rv32_isa::{LoadKind, Reg, StoreKind};
 use zaamo::{AmoOp, amo};
 
@@ -47,7 +47,7 @@ pub(crate) fn load_value<P: Pages>(kind: LoadKind, page: PageNo, offset: u32, pa
 #[inline(always)]
 pub(crate) fn is_in_ram<P: Pages>(address: u32, pages: &P) -> bool
     ensures value { result ≡ in_ram (length (P.ram pages.now).contents) address }
-    ensures limit { result ≡ true → page_at address < 64 }
+    ensures limit { result ≡ true → page_at address < PAGE_LIMIT }
 {
     address.wrapping_sub(0x8000_0000) >> 12 < pages.count()
 }
@@ -56,7 +56,7 @@ pub(crate) fn is_in_ram<P: Pages>(address: u32, pages: &P) -> bool
 #[inline(always)]
 pub(crate) fn page_number(address: u32) -> PageNo
     requires ram { 0x8000_0000 ≤ address }
-    requires limit { page_at address < 64 }
+    requires limit { page_at address < PAGE_LIMIT }
     ensures { result ≡ page_at address }
 {
     PageNo::new(((address - 0x8000_0000) >> 12) as u8)
@@ -70,9 +70,9 @@ fn load_from_ram<P: Pages>(
     address: u32,
     pages: &P,
 ) -> Tick
-    requires count { core.old.count < 2 ^ 48 - 1 }
+    requires count { core.old.count < COUNT_LIMIT - 1 }
     requires ram { in_ram (length (P.ram pages.now).contents) address ≡ true }
-    requires limit { page_at address < 64 }
+    requires limit { page_at address < PAGE_LIMIT }
     requires aligned { address % load_width kind ≡ 0 }
     ensures { Goes result core.old (P.ram pages.now) core.new (P.ram pages.now)
         (granted (load_access kind rd address (length (P.ram pages.now).contents) core.old) core.old (P.ram pages.now)) }
@@ -87,7 +87,7 @@ fn load_from_ram<P: Pages>(
 }
 
 fn load_from_device(core: &mut HartCore, kind: LoadKind, rd: Reg, address: u32)
-    requires { core.old.count < 2 ^ 48 - 1 }
+    requires { core.old.count < COUNT_LIMIT - 1 }
     ensures { core.new ≡ load_device kind rd address core.old }
 {
     if kind == LoadKind::Word && address == 0xf000_0000 {
@@ -120,7 +120,7 @@ pub(crate) fn load<P: Pages>(
     address: u32,
     pages: &P,
 ) -> Tick
-    requires { core.old.count < 2 ^ 48 - 1 }
+    requires { core.old.count < COUNT_LIMIT - 1 }
     ensures { Goes result core.old (P.ram pages.now) core.new (P.ram pages.now)
         (granted (load_access kind rd address (length (P.ram pages.now).contents) core.old) core.old (P.ram pages.now)) }
 {
@@ -164,9 +164,9 @@ fn store_to_ram<P: Pages>(
     value: u32,
     pages: &mut P,
 ) -> Tick
-    requires count { core.old.count < 2 ^ 48 - 1 }
+    requires count { core.old.count < COUNT_LIMIT - 1 }
     requires ram { in_ram (length (P.ram pages.old).contents) address ≡ true }
-    requires limit { page_at address < 64 }
+    requires limit { page_at address < PAGE_LIMIT }
     requires aligned { address % store_width kind ≡ 0 }
     ensures { Goes result core.old (P.ram pages.old) core.new (P.ram pages.new) (granted (store_access kind address value (length (P.ram pages.old).contents)
         core.old) core.old (P.ram pages.old)) }
@@ -192,7 +192,7 @@ pub(crate) fn is_store_aligned(kind: StoreKind, address: u32) -> bool
 }
 
 fn store_to_device(core: &mut HartCore, address: u32, value: u32) -> Tick
-    requires { core.old.count < 2 ^ 48 - 1 }
+    requires { core.old.count < COUNT_LIMIT - 1 }
     ensures { GoesAlone result core.old core.new (device_step address value core.old) }
 {
     match address {
@@ -230,7 +230,7 @@ pub(crate) fn store<P: Pages>(
     value: u32,
     pages: &mut P,
 ) -> Tick
-    requires { core.old.count < 2 ^ 48 - 1 }
+    requires { core.old.count < COUNT_LIMIT - 1 }
     ensures { Goes result core.old (P.ram pages.old) core.new (P.ram pages.new) (granted (store_access kind address value (length (P.ram pages.old).contents)
         core.old) core.old (P.ram pages.old)) }
 {
@@ -257,9 +257,9 @@ fn atomic_in_ram<P: Pages>(
     value: u32,
     pages: &mut P,
 ) -> Tick
-    requires count { core.old.count < 2 ^ 48 - 1 }
+    requires count { core.old.count < COUNT_LIMIT - 1 }
     requires ram { in_ram (length (P.ram pages.old).contents) address ≡ true }
-    requires limit { page_at address < 64 }
+    requires limit { page_at address < PAGE_LIMIT }
     requires aligned { address % 4 ≡ 0 }
     ensures { Goes result core.old (P.ram pages.old) core.new (P.ram pages.new) (granted (amo_access op rd address value (length (P.ram pages.old).contents)
         core.old) core.old (P.ram pages.old)) }
@@ -284,7 +284,7 @@ pub(crate) fn atomic<P: Pages>(
     value: u32,
     pages: &mut P,
 ) -> Tick
-    requires { core.old.count < 2 ^ 48 - 1 }
+    requires { core.old.count < COUNT_LIMIT - 1 }
     ensures { Goes result core.old (P.ram pages.old) core.new (P.ram pages.new) (granted (amo_access op rd address value (length (P.ram pages.old).contents)
         core.old) core.old (P.ram pages.old)) }
 {

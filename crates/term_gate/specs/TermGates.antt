@@ -1,5 +1,6 @@
 -- The gate of one term with its board, and what it gives.
 use Rattle.std.specs.Prelude.{◌≡◌, ◌<◌, ◌≤◌, ℕ, List, [], length, slice_get, slice_index_or, Some}
+use Rattle.ft_types.specs.declared.names.TheConstants.{HART_LIMIT}
 use Rattle.ft_types.specs.Counts.{count_at}
 use Rattle.ack_core.specs.declared.board.Board.{Board}
 use Rattle.ack_core.specs.declared.seats.KeeperSeat.{KeeperSeat}
@@ -28,7 +29,7 @@ pub record IsTermGate (board : Board) (seats : List KeeperSeat) (gate_seat : Gat
   pub term : term_of board ≡ gate.term
   pub keepers : keepers_of board ≡ gate.keepers
   pub some : 0 < harts_of board
-  pub few : harts_of board ≤ 8
+  pub few : harts_of board ≤ HART_LIMIT
   pub at_board : AreSeats board seats
   pub at_gate : IsGateOf board gate_seat
   pub seen : IsSeen board gate gate_seat

@@ -2,6 +2,7 @@
 
 ghost use Rattle.std.specs.Prelude.{◌≡◌, ◌≢◌, ◌↔◌, ℕ, ◌<◌, ◌≤◌, ◌++◌, ◌∷◌, [], Err, length, replicate, slice_index, slice_set, IfOk, IfErr, OnOk, OnErr};
 ghost use Rattle.std.specs.List.{AllByRecursion};
+ghost use Rattle.ft_types.specs.declared.names.TheConstants.{HART_LIMIT, HART_ROW, KEEPER_LIMIT};
 ghost use Rattle.output_gate.specs.Gates.{noted_at, line_of, gone_of, waiting_of, offered_of, waiting_count, held_outputs, after_release};
 ghost use Rattle.output_gate.specs.Orders.{RiseByHart};
 ghost use Rattle.term_gate.specs.TermGates.{acked_at, AreAcked};
@@ -47,8 +48,8 @@ impl TermGate {
         keepers: u8,
         need: u8,
     ) -> Result<TermGate, Memory>
-        requires harts { (0 < harts) × (harts ≤ 8) }
-        requires quorum { (0 < need) × (need ≤ keepers) × (keepers ≤ 5) }
+        requires harts { (0 < harts) × (harts ≤ HART_LIMIT) }
+        requires quorum { (0 < need) × (need ≤ keepers) × (keepers ≤ KEEPER_LIMIT) }
         ensures harts { IfOk result (λ g. g.harts ≡ harts) }
         ensures parts { IfOk result (λ g. (g.gate.term ≡ term) × (g.gate.keepers ≡ keepers) × (g.gate.need ≡ need)) }
         ensures acked { IfOk result (λ g. g.acked ≡ replicate keepers (replicate harts 0)) }
@@ -84,7 +85,7 @@ impl TermGate {
     /// How many outputs of the hart were offered.
     pub fn offered(&self, hart: Hart) -> usize
         ensures number { result ≡ length (offered_of self.now.gate hart) }
-        ensures harts { length self.now.gate.lines ≡ 8 }
+        ensures harts { length self.now.gate.lines ≡ HART_ROW }
     {
         self.gate.offered(hart)
     }
@@ -114,7 +115,7 @@ impl TermGate {
         ensures acked { AreAcked self.old self.new.gate.noted }
         ensures given { IfOk result (λ given. given.items ≡ held_outputs self.old.gate.need self.new.gate.noted self.old.gate.lines) }
         ensures rising { IfOk result (λ given. RiseByHart given.items) }
-        ensures lines { OnOk result ((hart : ℕ) → hart < 8 →
+        ensures lines { OnOk result ((hart : ℕ) → hart < HART_LIMIT →
             line_of self.new.gate hart ≡ after_release self.old.gate.need self.new.gate.noted (line_of self.old.gate hart)) }
         ensures rest { self.new ≡ record self.old {
           gate = record self.old.gate { noted = self.new.gate.noted; lines = self.new.gate.lines };

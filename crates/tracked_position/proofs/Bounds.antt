@@ -15,7 +15,7 @@ use Rattle.tracked_position.specs.Walks.{cursor_at, IsMetFrom, IsOver, AreOver}
 use Rattle.tracked_position.specs.declared.walk.Cursor.{Cursor}
 use Rattle.tracked_position.specs.declared.walk.Ahead.TheVariants.{Unseen}
 use Rattle.interleaving.specs.Lists as theory
-use Rattle.ft_types.specs.declared.guest.Guest.{Guest}
+use Rattle.ft_types.specs.Guests.{GuestParts}
 use Rattle.tracked_position.proofs.Stops.{over_more}
 use Rattle.tracked_position.specs.Waits.{IsHeld, Free, Behind, IsWaiting, room, limited_to}
 use Rattle.std.specs.Option.{option_map}
@@ -229,4 +229,4 @@ pub few_harts : (s : StoreView) → IsStore s → (o : OpeningParts) → opening
 few_harts s rules o opens =
     let fits = rules.openings o.term o opens in
     let limit : o.guest.harts ≤ 8 = fits.rules.guest.limit in
-    let same : o.guest.harts ≡ s.guest.harts = ap (λ (g : Guest). g.harts) fits.same_guest in omega arith
+    let same : o.guest.harts ≡ s.guest.harts = ap (λ (g : GuestParts). g.harts) fits.same_guest in omega arith

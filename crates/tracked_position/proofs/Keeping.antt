@@ -6,7 +6,7 @@ use Rattle.std.proofs.lemmas.List.{length-replicate}
 use Rattle.std.specs.FinMap as finite
 use Rattle.std.specs.Ordering.{nat_cmp}
 use Rattle.ft_types.specs.Counts.{count_at}
-use Rattle.ft_types.specs.declared.guest.Guest.{Guest}
+use Rattle.ft_types.specs.Guests.{GuestParts}
 use Rattle.ft_types.specs.declared.errors.Memory.{Memory}
 use Rattle.fragment_codec.specs.declared.types.Key.{Key}
 use Rattle.fragment_codec.specs.declared.frame.Frame.TheVariants.{Log}
@@ -37,9 +37,9 @@ use Rattle.tracked_position.proofs.Positions.{position_here}
 not_one : {X : Type 0} (c : Cell X) (x : X) → c ≡ Absent → c ≡ One x → ⊥
 not_one c x absent one = cc
 
-pub nothing_tracked : (guest : Guest) (harts : ℕ) (cursors : List Cursor) → (guest.harts ≤ 8 → harts ≡ guest.harts) →
-    IsTracked (nothing guest) (record { term = 0; counts = replicate harts 0; top = 0 }) cursors
-nothing_tracked guest harts cursors same =
+pub nothing_tracked : (guest : GuestParts) (cursors : List Cursor) →
+    IsTracked (nothing guest) (record { term = 0; counts = replicate guest.harts 0; top = 0 }) cursors
+nothing_tracked guest cursors =
     record {
       rules =
           record {
@@ -50,8 +50,8 @@ nothing_tracked guest harts cursors same =
           NoTop
           (λ term sound.
           let (o, one) = sound_opens (nothing guest) term sound in not_one (opening_at (nothing guest) term) o (none term) one) refl
-          (λ h. zero_row harts h) refl;
-      harts = λ few. let zero : ℕ = 0 in length-replicate harts zero ∙ same few;
+          (λ h. zero_row guest.harts h) refl;
+      harts = let zero : ℕ = 0 in length-replicate guest.harts zero;
       over = λ o one. absurd (not_one (opening_at (nothing guest) 0) o (none 0) one);
     }
   where
@@ -73,8 +73,7 @@ taken old new f (Ok p) is answer joined err = inr (put_more old new f p is answe
 taken old new f (Err e) is answer joined err = inl err
 
 -- a position that was found anew
-pub found_tracked : (s : StoreView) (p : Position) (cursors : List Cursor) → IsStore s → IsPosition s p → (s.guest.harts ≤ 8 → length p.counts ≡
-    s.guest.harts) →
+pub found_tracked : (s : StoreView) (p : Position) (cursors : List Cursor) → IsStore s → IsPosition s p → length p.counts ≡ s.guest.harts →
     ((o : OpeningParts) (cut : ℕ → ℕ) → opening_at s p.term ≡ One o → AreOver s p.term (base_of o) cut cursors) → IsTracked s p cursors
 found_tracked s p cursors rules position harts over =
     record { rules = rules; position = position; harts = harts; over = λ o. over o (count_at p.counts) }
@@ -184,7 +183,7 @@ module _ (old new : StoreView) (f : FragmentParts) (rules : IsStore old) (grown 
       record {
         rules = grown;
         position = position;
-        harts = λ few. is.harts (subst (λ (g : Guest). g.harts ≤ 8) more.guest few) ∙ ap (λ (g : Guest). g.harts) (sym more.guest);
+        harts = is.harts ∙ ap (λ (g : GuestParts). g.harts) (sym more.guest);
         over = λ o one. over o (sym (more.openings p.term) ∙ one);
       }
 
@@ -237,8 +236,6 @@ module _ (old new : StoreView) (f : FragmentParts) (rules : IsStore old) (grown 
       record {
         rules = grown;
         position = position_here old new rules grown more.openings more.kept p q top o one stops is.position;
-        harts =
-            λ few.
-            long ∙ (is.harts (subst (λ (g : Guest). g.harts ≤ 8) more.guest few) ∙ ap (λ (g : Guest). g.harts) (sym more.guest));
+        harts = long ∙ (is.harts ∙ ap (λ (g : GuestParts). g.harts) (sym more.guest));
         over = over;
       }

@@ -18,7 +18,7 @@ use Rattle.tracked_position.specs.Walks.{AreOver}
 pub record IsTracked (store : StoreView) (p : Position) (cursors : List Cursor) : Type 0 where
   pub rules : IsStore store
   pub position : IsPosition store p
-  pub harts : store.guest.harts ≤ 8 → length p.counts ≡ store.guest.harts
+  pub harts : length p.counts ≡ store.guest.harts
   pub over : (o : OpeningParts) → opening_at store p.term ≡ One o → AreOver store p.term (base_of o) (count_at p.counts) cursors
 
 -- a frame came

@@ -1,5 +1,6 @@
 -- A walk that goes on from where an earlier one stopped: private words.
 use Rattle.std.specs.Prelude.{ℕ, ◌≡◌, ◌<◌, ◌≤◌, ◌^◌, List, Contains, slice_index_or, Option, Some, None}
+use Rattle.ft_types.specs.declared.names.TheConstants.{HART_LIMIT}
 use Rattle.edge_log.specs.declared.Edge.{Edge}
 use Rattle.fragment_codec.specs.declared.types.Key.{Key}
 use Rattle.fragment_codec.specs.Rules.{FragmentParts}
@@ -83,7 +84,7 @@ IsApart cursors key from = (cursor_at cursors key.hart).ahead ≡ End → key.pl
 
 -- this holds of each hart
 abbrev pub AreOver : StoreView → ℕ → (ℕ → ℕ) → (ℕ → ℕ) → List Cursor → Type 0
-AreOver store term base cut cursors = (hart : ℕ) → hart < 8 → IsOver (pieces_of store term hart) (base hart) cut (cursor_at cursors hart)
+AreOver store term base cut cursors = (hart : ℕ) → hart < HART_LIMIT → IsOver (pieces_of store term hart) (base hart) cut (cursor_at cursors hart)
 
 -- the edges of the hart's walk from this place on forbid none of its steps
 abbrev pub IsMetFrom : StoreView → ℕ → (ℕ → ℕ) → (ℕ → ℕ) → ℕ → ℕ → Type 0

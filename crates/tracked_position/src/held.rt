@@ -3,7 +3,7 @@
 ghost use Rattle.std.specs.Prelude.{◌≡◌, ◌↔◌, ℕ, true, All, IsTrue};
 ghost use Rattle.tracked_position.specs.Waits.{IsHeld};
 
-use ft_types::{HART_LIMIT, Hart};
+use ft_types::{HART_LIMIT, HART_ROW, Hart};
 use std::option::Option;
 
 /// Whether each flag is set.
@@ -14,10 +14,10 @@ fn are_set(flags: &[bool]) -> bool
 }
 
 /// Whether the chain of those for whom it waits ends, for each hart: none then waits for itself in a circle.
-pub(crate) fn all_held(waits: &[Option<Hart>; 8]) -> bool
+pub(crate) fn all_held(waits: &[Option<Hart>; HART_ROW]) -> bool
     ensures { IsTrue result → (hart : ℕ) → IsHeld waits.now hart }
 {
-    let mut held = [false; 8];
+    let mut held = [false; HART_ROW];
     for turn in 0..64u8 {
         let index = Hart::new(turn % HART_LIMIT).index();
         let waits_for = waits[index];

@@ -13,7 +13,7 @@ ghost use Rattle.tracked_position.specs.Waits.{total};
 use crate::raising::limited;
 use crate::walk::{Cursor, walk_on};
 use fragment_codec::Opening;
-use ft_types::{Counts, Hart};
+use ft_types::{Counts, HART_ROW, Hart};
 use log_join::Store;
 use std::option::Option;
 
@@ -22,7 +22,7 @@ fn ends(
     store: &Store,
     opening: &Opening,
     limit: &Option<Counts>,
-    cursors: &[Cursor; 8],
+    cursors: &[Cursor; HART_ROW],
     cut: &Counts,
 ) -> Counts
     requires rules { IsStore store.now }
@@ -72,7 +72,12 @@ fn lower_hart(
 }
 
 /// Lowers each hart once. Tells whether one was.
-fn lower_each(store: &Store, opening: &Opening, cursors: &[Cursor; 8], high: &mut Counts) -> bool
+fn lower_each(
+    store: &Store,
+    opening: &Opening,
+    cursors: &[Cursor; HART_ROW],
+    high: &mut Counts,
+) -> bool
     requires rules { IsStore store.now }
     requires goes { (hart : ℕ) → hart < length high.old → Goes (pieces_of store.now opening.now.term hart) (base_of opening.now hart) (cursor_at
         cursors.now hart).place
@@ -98,7 +103,7 @@ pub(crate) fn lower(
     store: &Store,
     opening: &Opening,
     limit: &Option<Counts>,
-    cursors: &[Cursor; 8],
+    cursors: &[Cursor; HART_ROW],
     cut: &mut Counts,
 )
     requires rules { IsStore store.now }

@@ -15,7 +15,7 @@ use crate::held::all_held;
 use crate::lowering::lower;
 use crate::walk::{Cursor, walk_further};
 use fragment_codec::Opening;
-use ft_types::{Count, Counts, Hart};
+use ft_types::{Count, Counts, HART_ROW, Hart};
 use log_join::Store;
 use std::option::Option;
 
@@ -30,7 +30,7 @@ struct Raised {
 #[derive(Clone, Copy)]
 struct Swept {
     rose: bool,
-    waits: [Option<Hart>; 8],
+    waits: [Option<Hart>; HART_ROW],
 }
 
 /// The count, or the hart's limit where that is less.
@@ -85,7 +85,7 @@ fn sweep(
     store: &Store,
     opening: &Opening,
     limit: &Option<Counts>,
-    cursors: &mut [Cursor; 8],
+    cursors: &mut [Cursor; HART_ROW],
     cut: &mut Counts,
 ) -> Swept
     requires rules { IsStore store.now }
@@ -103,7 +103,7 @@ fn sweep(
         (slice_index_or result.waits hart None) }
 {
     let mut rose = false;
-    let mut waits = [None; 8];
+    let mut waits = [None; HART_ROW];
     for number in 0..cut.harts() {
         let hart = Hart::new(number);
         let mut cursor = cursors[hart.index()];
@@ -120,9 +120,9 @@ fn raise(
     store: &Store,
     opening: &Opening,
     limit: &Option<Counts>,
-    cursors: &mut [Cursor; 8],
+    cursors: &mut [Cursor; HART_ROW],
     cut: &mut Counts,
-) -> [Option<Hart>; 8]
+) -> [Option<Hart>; HART_ROW]
     requires rules { IsStore store.now }
     requires opening { opening_at store.now opening.now.term ≡ One opening.now }
     requires harts { length cut.old ≡ length opening.now.base }
@@ -148,7 +148,7 @@ pub(crate) fn reach(
     store: &Store,
     opening: &Opening,
     limit: &Option<Counts>,
-    cursors: &mut [Cursor; 8],
+    cursors: &mut [Cursor; HART_ROW],
     cut: &mut Counts,
 )
     requires rules { IsStore store.now }

@@ -9,11 +9,11 @@ ghost use Rattle.tracked_position.specs.Walks.{AreOver};
 
 use crate::walk::{Ahead, Cursor};
 use closed_cut::opening_of;
-use ft_types::{Hart, Term};
+use ft_types::{HART_ROW, Hart, Term};
 use log_join::Store;
 
 /// Cursors at the base of a term, where it is opened.
-pub(crate) fn start(store: &Store, term: Term) -> [Cursor; 8]
+pub(crate) fn start(store: &Store, term: Term) -> [Cursor; HART_ROW]
     ensures rules { IsStore store.now }
     ensures over { (o : OpeningParts) (cut : ℕ → ℕ) → opening_at store.now term ≡ One o → AreOver store.now term (base_of o) cut result }
 {
@@ -21,7 +21,7 @@ pub(crate) fn start(store: &Store, term: Term) -> [Cursor; 8]
         place: 0,
         end: 0,
         ahead: Ahead::Unseen,
-    }; 8];
+    }; HART_ROW];
     let Some(opening) = opening_of(store, term) else {
         return cursors;
     };

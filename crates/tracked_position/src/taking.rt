@@ -2,6 +2,7 @@
 
 ghost use Rattle.std.specs.Prelude.{◌≡◌, ◌≢◌, ◌<◌, ℕ, List, Option, Some, None, false, length, IfSome, IfNone};
 ghost use Rattle.std.specs.Option.{option_map};
+ghost use Rattle.ft_types.specs.declared.names.TheConstants.{HART_LIMIT};
 ghost use Rattle.ft_types.specs.Counts.{count_at};
 ghost use Rattle.fragment_codec.specs.Rules.{OpeningParts};
 ghost use Rattle.fragment_codec.specs.declared.frame.Frame.{Frame as frame_of_specs};
@@ -20,7 +21,7 @@ use crate::starting::start;
 use crate::walk::{Ahead, Cursor};
 use closed_cut::{Position, opening_of};
 use fragment_codec::{Fragment, Frame, Key, Opening};
-use ft_types::{Count, Counts, Memory, Term};
+use ft_types::{Count, Counts, HART_ROW, Memory, Term};
 use log_join::{Put, Store};
 use std::option::Option;
 use std::result::Result;
@@ -58,7 +59,7 @@ fn go_on(
     store: &Store,
     top: Term,
     opening: &Opening,
-    cursors: &mut [Cursor; 8],
+    cursors: &mut [Cursor; HART_ROW],
     counts: &mut Counts,
 ) -> Term
     requires rules { IsStore store.now }
@@ -94,7 +95,7 @@ fn go_on(
 pub(crate) fn take_elsewhere(
     store: &mut Store,
     position: &Position,
-    cursors: &[Cursor; 8],
+    cursors: &[Cursor; HART_ROW],
     fragment: Fragment,
 ) -> Result<Put, Memory>
     requires new { answer_to store.old (frame_of_specs.Log fragment) ≡ Put.New }
@@ -110,8 +111,8 @@ pub(crate) fn take_elsewhere(
 
 /// Whether a piece that comes may let harts go on: not where the walk over its hart has ended elsewhere. Where it begins at that
 /// end, what is ahead is no longer seen.
-fn may_go_on(cursors: &mut [Cursor; 8], key: Key, from: Count) -> bool
-    ensures hart { key.hart < 8 }
+fn may_go_on(cursors: &mut [Cursor; HART_ROW], key: Key, from: Count) -> bool
+    ensures hart { key.hart < HART_LIMIT }
     ensures apart { IsApart cursors.new key from }
     ensures over { (store : StoreView) (term : ℕ) (base cut : ℕ → ℕ) → AreOver store term base cut cursors.old → AreOver store term base cut cursors.new }
     ensures ended { result ≡ false → (cursor_at cursors.new key.hart).ahead ≡ Ahead.End }
@@ -136,7 +137,7 @@ fn may_go_on(cursors: &mut [Cursor; 8], key: Key, from: Count) -> bool
 pub(crate) fn take_here(
     store: &mut Store,
     position: &mut Position,
-    cursors: &mut [Cursor; 8],
+    cursors: &mut [Cursor; HART_ROW],
     opening: &Opening,
     fragment: Fragment,
 ) -> Result<Put, Memory>

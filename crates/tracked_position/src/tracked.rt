@@ -13,7 +13,7 @@ use crate::taking::{take_elsewhere, take_here};
 use crate::walk::{Ahead, Cursor};
 use closed_cut::{Position, opening_of, position};
 use fragment_codec::{Fragment, Frame};
-use ft_types::{Counts, Guest, HART_LIMIT, Memory};
+use ft_types::{Counts, Guest, HART_ROW, Memory};
 use log_join::{Put, Store, StoreFault};
 use std::alloc::Global;
 use std::marker::Model;
@@ -25,7 +25,7 @@ use std::result::Result;
 pub struct Tracked {
     store: Store,
     position: Position,
-    cursors: [Cursor; 8],
+    cursors: [Cursor; HART_ROW],
 }
 
 impl Model for Tracked {
@@ -51,14 +51,14 @@ impl Tracked {
             store: Store::new(alloc, guest),
             position: Position {
                 term: 0,
-                counts: Counts::zero(guest.harts.min(HART_LIMIT)),
+                counts: Counts::zero(guest.harts()),
                 top: 0,
             },
             cursors: [Cursor {
                 place: 0,
                 end: 0,
                 ahead: Ahead::Unseen,
-            }; 8],
+            }; HART_ROW],
         }
     }
 
@@ -72,8 +72,7 @@ impl Tracked {
     /// The store's position.
     pub fn position(&self) -> &Position
         ensures position { IsPosition self.now result.now }
-        // A guest has 1 to 8 harts.
-        ensures harts { self.now.guest.harts ≤ 8 → length result.now.counts ≡ self.now.guest.harts }
+        ensures harts { length result.now.counts ≡ self.now.guest.harts }
     {
         &self.position
     }

@@ -1,7 +1,7 @@
 //! Tracked stores that frames come to. What memory is refused once is asked for once more, and must have changed nothing.
 
 use closed_cut::{Position, position};
-use fixtures::{key, opening_of, piece_of};
+use fixtures::{guest_with, key, opening_of, piece_of};
 use fragment_codec::{Frame, Record};
 use ft_types::{Count, Guest, Memory, Term};
 use input_log::Input;
@@ -13,10 +13,7 @@ use tracked_position::Tracked;
 
 /// A guest of so many harts.
 pub fn guest_of(harts: u8) -> Guest {
-    Guest {
-        digest: [9; 32],
-        harts,
-    }
+    guest_with([9; 32], harts)
 }
 
 /// The position of a store, asked for again where memory was refused.

@@ -5,7 +5,7 @@ use Rattle.std.specs.Int.{w16, w32, w64}
 use Rattle.std.specs.List.{flat_map, AllByRecursion}
 use Rattle.std.proofs.lemmas.Bool.{le-ltb, ltb-true, lt-ltb, eqb-true}
 use Rattle.std.proofs.lemmas.List.{append-nil, nil_from_length}
-use Rattle.ft_types.specs.declared.guest.Guest.{Guest}
+use Rattle.ft_types.specs.Guests.{GuestParts, IsGuest}
 use Rattle.fragment_codec.specs.declared.types.Key.{Key}
 use Rattle.input_log.specs.declared.Input.{Input as HartInput}
 use Rattle.input_log.specs.declared.Input.TheVariants.{Timer, Word, Bell}
@@ -13,9 +13,9 @@ use Rattle.fragment_codec.specs.declared.types.Record.{Record}
 use Rattle.fragment_codec.specs.declared.types.Record.TheVariants.{Edge as EdgeRecord, Input as InputRecord}
 use Rattle.fragment_codec.specs.Rules.{FragmentParts, OpeningParts, IsFragment, IsOpening}
 use Rattle.fragment_codec.specs.Spelling.{log_body, opening_body, number, input_bytes, record_bytes}
-use Rattle.fragment_codec.specs.Reading.{number_at, byte_at, digest_at, input_of, edge_at, heard_at, record_at, many, place_at, rest_of, log_of, opening_of}
+use Rattle.fragment_codec.specs.Reading.{number_at, byte_at, guest_at, input_of, edge_at, heard_at, record_at, many, place_at, rest_of, log_of, opening_of}
 use Rattle.fragment_codec.proofs.records.Rules.{FitsInput, FitsRecord, records_fit, counts_fit}
-use Rattle.fragment_codec.proofs.bytes.Fields.{IsBytes, bind_some, chosen_some, chosen, some_is, Reads, reads_byte, reads_digest, reads16, reads32, reads64}
+use Rattle.fragment_codec.proofs.bytes.Fields.{IsBytes, bind_some, chosen_some, chosen, some_is, Reads, reads_byte, reads_guest, reads16, reads32, reads64}
 use Rattle.fragment_codec.proofs.bytes.Fields.{many_all, many_again}
 
 input_of_is : (kind value : ℕ) (i : HartInput) → value < 2 ^ 32 → input_of kind value ≡ Some i → (kind ∷ number w32 value ≡ input_bytes i) × FitsInput i
@@ -136,38 +136,38 @@ reads_record hart = record {
 
 -- ---- the two bodies
 
-guard_then : {A : Type 0} (b : Bool) (o : Option A) (y : A) → cond b None o ≡ Some y → (b ≡ false) × (o ≡ Some y)
-guard_then true o y e = absurd cc
-guard_then false o y e = (refl, e)
-
 many_whole : {X : Type 0} (item : List ℕ → Option (X × List ℕ)) (text : X → List ℕ) (Fits : X → Type 0) (r : Reads item text Fits) (xs : List X) →
     AllByRecursion Fits xs → many item (length xs) (flat_map text xs) ≡ Some (xs, [])
 many_whole item text Fits r xs h = ap (many item (length xs)) (sym (append-nil (flat_map text xs))) ∙ many_again item text Fits r xs [] h
 
-pub record GotPlace (bytes : List ℕ) (g : Guest) (k : Key) (rest : List ℕ) : Type 0 where
+guest_then : (bytes : List ℕ) (guest : GuestParts) (rest : List ℕ) → IsBytes bytes → guest_at bytes ≡ Some (guest, rest) →
+    bytes ≡ guest.digest ++ (guest.harts ∷ rest)
+guest_then bytes guest rest fits e = reads_guest.parts bytes guest rest fits e ∙ append_assoc guest.digest (guest.harts ∷ []) rest
+
+guest_back : (guest : GuestParts) (rest : List ℕ) → IsGuest guest → guest_at (guest.digest ++ (guest.harts ∷ rest)) ≡ Some (guest, rest)
+guest_back guest rest h = ap guest_at (sym (append_assoc guest.digest (guest.harts ∷ []) rest)) ∙ reads_guest.again guest rest h
+
+pub record GotPlace (bytes : List ℕ) (g : GuestParts) (k : Key) (rest : List ℕ) : Type 0 where
   pub parts : bytes ≡ g.digest ++ (g.harts ∷ k.hart ∷ (number w32 k.term ++ (number w32 k.place ++ rest)))
   pub rest_fits : IsBytes rest
 
-place_all : (bytes : List ℕ) (x : Guest × Key × List ℕ) → IsBytes bytes → place_at bytes ≡ Some x → GotPlace bytes x.0 x.1 x.2
+place_all : (bytes : List ℕ) (x : GuestParts × Key × List ℕ) → IsBytes bytes → place_at bytes ≡ Some x → GotPlace bytes x.0 x.1 x.2
 unfolding place_at
 place_all bytes x fits e =
-    let d = bind_some (digest_at bytes) _ x e in
-    let h = bind_some (byte_at d.0.1) _ x d.2 in
-    let k = bind_some (byte_at h.0.1) _ x h.2 in
+    let g = bind_some (guest_at bytes) _ x e in
+    let k = bind_some (byte_at g.0.1) _ x g.2 in
     let t = bind_some (number_at w32 k.0.1) _ x k.2 in
     let p = bind_some (number_at w32 t.0.1) _ x t.2 in
-    let fd = reads_digest.rest bytes d.0.0 d.0.1 fits d.1 in
-    let fh = reads_byte.rest d.0.1 h.0.0 h.0.1 fd h.1 in
-    let fk = reads_byte.rest h.0.1 k.0.0 k.0.1 fh k.1 in
+    let fg = reads_guest.rest bytes g.0.0 g.0.1 fits g.1 in
+    let fk = reads_byte.rest g.0.1 k.0.0 k.0.1 fg k.1 in
     let ft = reads32.rest k.0.1 t.0.0 t.0.1 fk t.1 in
-    let made : Guest × Key × List ℕ = (record { digest = d.0.0; harts = h.0.0 }, record { term = t.0.0; hart = k.0.0; place = p.0.0 }, p.0.1) in
-    let g = chosen_some (ltb k.0.0 8) (Some made) x p.2 in
-    subst (λ (y : Guest × Key × List ℕ). GotPlace bytes y.0 y.1 y.2) (some_is made x g.1) (record {
-      parts = reads_digest.parts bytes d.0.0 d.0.1 fits d.1 ∙ ap (λ (x : List ℕ). d.0.0 ++ x) (
-          reads_byte.parts d.0.1 h.0.0 h.0.1 fd h.1 ∙ ap (λ (x : List ℕ). h.0.0 ∷ x) (
-          reads_byte.parts h.0.1 k.0.0 k.0.1 fh k.1 ∙ ap (λ (x : List ℕ). k.0.0 ∷ x) (
+    let made : GuestParts × Key × List ℕ = (g.0.0, record { term = t.0.0; hart = k.0.0; place = p.0.0 }, p.0.1) in
+    let few = chosen_some (ltb k.0.0 8) (Some made) x p.2 in
+    subst (λ (y : GuestParts × Key × List ℕ). GotPlace bytes y.0 y.1 y.2) (some_is made x few.1) (record {
+      parts = guest_then bytes g.0.0 g.0.1 fits g.1 ∙ ap (λ (x : List ℕ). g.0.0.digest ++ (g.0.0.harts ∷ x)) (
+          reads_byte.parts g.0.1 k.0.0 k.0.1 fg k.1 ∙ ap (λ (x : List ℕ). k.0.0 ∷ x) (
           reads32.parts k.0.1 t.0.0 t.0.1 fk t.1 ∙ ap (λ (x : List ℕ). number w32 t.0.0 ++ x) (
-          reads32.parts t.0.1 p.0.0 p.0.1 ft p.1))));
+          reads32.parts t.0.1 p.0.0 p.0.1 ft p.1)));
       rest_fits = reads32.rest t.0.1 p.0.0 p.0.1 ft p.1;
     })
 
@@ -204,7 +204,7 @@ log_again f h =
     let limit = h.records.limit in
     let hart : f.key.hart < 8 = omega (arith, h.key.hart, h.guest.limit) in
     rw (
-      reads_digest.again f.guest.digest _ h.guest.digest,
+      guest_back f.guest _ h.guest,
       reads32.again f.key.term _ h.key.term,
       reads32.again f.key.place _ h.key.place,
       lt-ltb f.key.hart 8 hart,
@@ -217,44 +217,33 @@ log_again f h =
 pub opening_all : (bytes : List ℕ) (o : OpeningParts) → IsBytes bytes → opening_of bytes ≡ Some o → bytes ≡ opening_body o
 unfolding opening_of opening_body
 opening_all bytes o fits e =
-    let d = bind_some (digest_at bytes) _ o e in
-    let h = bind_some (byte_at d.0.1) _ o d.2 in
-    let t = bind_some (number_at w32 h.0.1) _ o h.2 in
+    let g = bind_some (guest_at bytes) _ o e in
+    let t = bind_some (number_at w32 g.0.1) _ o g.2 in
     let p = bind_some (number_at w32 t.0.1) _ o t.2 in
-    let q = guard_then (ltb 8 h.0.0) _ o p.2 in
-    let r = bind_some (many (number_at w64) h.0.0 p.0.1) _ o q.1 in
-    let parts : OpeningParts = record {
-      guest = record { digest = d.0.0; harts = h.0.0 };
-      term = t.0.0;
-      parent = p.0.0;
-      base = r.0.0;
-    } in
+    let r = bind_some (many (number_at w64) g.0.0.harts p.0.1) _ o p.2 in
+    let parts : OpeningParts = record { guest = g.0.0; term = t.0.0; parent = p.0.0; base = r.0.0 } in
     let g0 = chosen_some (eqb (length r.0.1) 0) (Some parts) o r.2 in
-    let fd = reads_digest.rest bytes d.0.0 d.0.1 fits d.1 in
-    let fh = reads_byte.rest d.0.1 h.0.0 h.0.1 fd h.1 in
-    let ft = reads32.rest h.0.1 t.0.0 t.0.1 fh t.1 in
+    let fg = reads_guest.rest bytes g.0.0 g.0.1 fits g.1 in
+    let ft = reads32.rest g.0.1 t.0.0 t.0.1 fg t.1 in
     let fp = reads32.rest t.0.1 p.0.0 p.0.1 ft p.1 in
-    let m = many_all (number_at w64) (number w64) (λ n. n < 2 ^ 64) reads64 h.0.0 p.0.1 r.0.0 r.0.1 fp r.1 in
+    let m = many_all (number_at w64) (number w64) (λ n. n < 2 ^ 64) reads64 g.0.0.harts p.0.1 r.0.0 r.0.1 fp r.1 in
     let nothing : r.0.1 ≡ [] = nil_from_length r.0.1 (eqb-true _ _ g0.0) in
     let last : p.0.1 ≡ flat_map (number w64) r.0.0 = m.0 ∙ ap (λ (x : List ℕ). flat_map (number w64) r.0.0 ++ x) nothing ∙
     append-nil (flat_map (number w64) r.0.0) in
     let whole : bytes ≡ opening_body parts =
-    reads_digest.parts bytes d.0.0 d.0.1 fits d.1 ∙ ap (λ (x : List ℕ). d.0.0 ++ x) (
-    reads_byte.parts d.0.1 h.0.0 h.0.1 fd h.1 ∙ ap (λ (x : List ℕ). h.0.0 ∷ x) (
-    reads32.parts h.0.1 t.0.0 t.0.1 fh t.1 ∙ ap (λ (x : List ℕ). number w32 t.0.0 ++ x) (
-    reads32.parts t.0.1 p.0.0 p.0.1 ft p.1 ∙ ap (λ (x : List ℕ). number w32 p.0.0 ++ x) last))) in
+    guest_then bytes g.0.0 g.0.1 fits g.1 ∙ ap (λ (x : List ℕ). g.0.0.digest ++ (g.0.0.harts ∷ x)) (
+    reads32.parts g.0.1 t.0.0 t.0.1 fg t.1 ∙ ap (λ (x : List ℕ). number w32 t.0.0 ++ x) (
+    reads32.parts t.0.1 p.0.0 p.0.1 ft p.1 ∙ ap (λ (x : List ℕ). number w32 p.0.0 ++ x) last)) in
     subst (λ (y : OpeningParts). bytes ≡ opening_body y) (some_is parts o g0.1) whole
 
 pub opening_again : (o : OpeningParts) → IsOpening o → opening_of (opening_body o) ≡ Some o
 unfolding opening_of opening_body byte_at
 opening_again o h =
-    let low : ltb 8 o.guest.harts ≡ false = le-ltb 8 o.guest.harts h.guest.limit in
     let base : many (number_at w64) o.guest.harts (flat_map (number w64) o.base) ≡ Some (o.base, []) = ap (λ (n : ℕ). many (number_at w64) n
     (flat_map (number w64) o.base)) (sym h.base) ∙ many_whole (number_at w64) (number w64) (λ n. n < 2 ^ 64) reads64 o.base (counts_fit o h) in
     rw (
-      reads_digest.again o.guest.digest _ h.guest.digest,
+      guest_back o.guest _ h.guest,
       reads32.again o.term _ h.term,
       reads32.again o.parent _ (omega (arith, h.parent, h.term)),
-      low,
       base,
     ) refl

@@ -6,9 +6,9 @@ use Rattle.std.specs.List.{flat_map, AllByRecursion}
 use Rattle.std.proofs.lemmas.Bool.{cases_lt, ltb-false, le-ltb}
 use Rattle.std.proofs.lemmas.List.{take_at, drop_at, take-append-drop, length-append, length-take, get_or-drop, get_or-take, get_or_past}
 use Rattle.std.proofs.lemmas.Nat.{le_bytes_2, le_bytes_4, le_bytes_8, from_le_bytes-to_le_bytes_2, from_le_bytes-to_le_bytes_4, from_le_bytes-to_le_bytes_8}
-use Rattle.fragment_codec.specs.Rules.{IsDigest}
+use Rattle.ft_types.specs.Guests.{GuestParts, IsDigest, IsGuest}
 use Rattle.fragment_codec.specs.Spelling.{number}
-use Rattle.fragment_codec.specs.Reading.{◌>>=◌, number_at, byte_at, digest_at, many}
+use Rattle.fragment_codec.specs.Reading.{◌>>=◌, number_at, byte_at, digest_at, guest_at, many}
 
 abbrev pub IsBytes : List ℕ → Type 0
 IsBytes bytes = (i : ℕ) → slice_index bytes i < 256
@@ -34,6 +34,10 @@ guard_some false x y e = (refl, cc)
 pub chosen_some : {A : Type 0} (b : Bool) (o : Option A) (y : A) → cond b o None ≡ Some y → (b ≡ true) × (o ≡ Some y)
 chosen_some true o y e = (refl, e)
 chosen_some false o y e = absurd cc
+
+pub guard_then : {A : Type 0} (b : Bool) (o : Option A) (y : A) → cond b None o ≡ Some y → (b ≡ false) × (o ≡ Some y)
+guard_then true o y e = absurd cc
+guard_then false o y e = (refl, e)
 
 pub chosen : {A : Type 0} (b : Bool) (x y z : A) → cond b x y ≡ z → ((b ≡ true) × (x ≡ z)) ⊎ ((b ≡ false) × (y ≡ z))
 chosen true x y z e = inl (refl, e)
@@ -177,6 +181,56 @@ reads_digest = record {
     bytes = IsBytes-take 32 bytes fits;
   });
   again = λ d rest h. digest_again d rest h.len;
+}
+
+-- ---- guests
+
+abbrev pub guest_text : GuestParts → List ℕ
+guest_text guest = guest.digest ++ (guest.harts ∷ [])
+
+-- what is found where a guest is read
+record GotGuest (bytes : List ℕ) (guest : GuestParts) (rest : List ℕ) : Type 0 where
+  pub parts : bytes ≡ guest_text guest ++ rest
+  pub rest_fits : IsBytes rest
+  pub fits : IsGuest guest
+
+guest_found : (bytes : List ℕ) (guest : GuestParts) (rest : List ℕ) → IsBytes bytes → guest_at bytes ≡ Some (guest, rest) → GotGuest bytes guest rest
+unfolding guest_at
+guest_found bytes guest rest fits e =
+    let d = bind_some (digest_at bytes) _ (guest, rest) e in
+    let h = bind_some (byte_at d.0.1) _ (guest, rest) d.2 in
+    let some = guard_then (ltb h.0.0 1) _ (guest, rest) h.2 in
+    let limit = guard_then (ltb 8 h.0.0) _ (guest, rest) some.1 in
+    let made : GuestParts = record { digest = d.0.0; harts = h.0.0 } in
+    let fd = reads_digest.rest bytes d.0.0 d.0.1 fits d.1 in
+    let text : bytes ≡ d.0.0 ++ (h.0.0 ∷ h.0.1) = reads_digest.parts bytes d.0.0 d.0.1 fits d.1 ∙ ap (λ (x : List ℕ). d.0.0 ++ x)
+    (reads_byte.parts d.0.1 h.0.0 h.0.1 fd h.1) in
+    subst (λ (y : GuestParts × List ℕ). GotGuest bytes y.0 y.1) (some_is (made, h.0.1) (guest, rest) limit.1) (record {
+      parts = text ∙ sym (append_assoc d.0.0 (h.0.0 ∷ []) h.0.1);
+      rest_fits = reads_byte.rest d.0.1 h.0.0 h.0.1 fd h.1;
+      fits = record {
+        digest = reads_digest.fits bytes d.0.0 d.0.1 fits d.1;
+        some = ltb-false h.0.0 1 some.0;
+        limit = ltb-false 8 h.0.0 limit.0;
+      };
+    })
+
+guest_again : (guest : GuestParts) (rest : List ℕ) → IsGuest guest → guest_at (guest_text guest ++ rest) ≡ Some (guest, rest)
+unfolding guest_at byte_at
+guest_again guest rest h =
+    rw (
+      append_assoc guest.digest (guest.harts ∷ []) rest,
+      reads_digest.again guest.digest (guest.harts ∷ rest) h.digest,
+      le-ltb guest.harts 1 h.some,
+      le-ltb 8 guest.harts h.limit,
+    ) refl
+
+pub reads_guest : Reads guest_at guest_text IsGuest
+reads_guest = record {
+  parts = λ bytes guest rest fits e. (guest_found bytes guest rest fits e).parts;
+  rest = λ bytes guest rest fits e. (guest_found bytes guest rest fits e).rest_fits;
+  fits = λ bytes guest rest fits e. (guest_found bytes guest rest fits e).fits;
+  again = λ guest rest h. guest_again guest rest h;
 }
 
 -- ---- so many of one kind

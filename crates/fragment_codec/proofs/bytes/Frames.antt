@@ -7,6 +7,7 @@ use Rattle.std.proofs.lemmas.List.{take_at, take-append-drop, length-append, len
 use Rattle.std.proofs.lemmas.Nat.{le_bytes_4}
 use Rattle.sha2.specs.Sha256.{sha256}
 use Rattle.sha2.proofs.Facts256.{length-sha256}
+use Rattle.fragment_codec.specs.declared.types.TheConstants.{FRAME_VERSION}
 use Rattle.fragment_codec.specs.declared.frame.Frame.{Frame}
 use Rattle.fragment_codec.specs.declared.frame.Frame.TheVariants.{Log, Opening}
 use Rattle.fragment_codec.specs.Spelling.{number, headed, sealed, log_body, opening_body}
@@ -20,7 +21,7 @@ made : (a b c d : ℕ) (r four wide : List ℕ) → a ≡ 0x56 → b ≡ 0x46 �
 made a b c d r four wide p q s w = rw (p, q, s, w) refl
 
 -- the text of a head and a body
-text_is : (t more : List ℕ) (n : ℕ) → 8 ≤ length t → IsHead (t ++ more) n → IsBytes (t ++ more) → length t + 32 ≡ n → t ≡ headed (slice_index (t ++ more) 3)
+text_is : (t more : List ℕ) (n : ℕ) → 8 ≤ length t → IsHead (t ++ more) n → IsBytes (t ++ more) → length t + 32 ≡ n → t ≡ headed FRAME_VERSION (slice_index (t ++ more) 3)
     (drop 8 t)
 unfolding headed number
 text_is [] more n lt h fits len = absurd (omega arith)
@@ -38,36 +39,36 @@ text_is (a ∷ b ∷ c ∷ d ∷ e ∷ f ∷ g ∷ k ∷ r) more n lt h fits len
     (IsBytes-drop 4 (a ∷ b ∷ c ∷ d ∷ e ∷ f ∷ g ∷ k ∷ (r ++ more)) fits)) body in
     made a b c d r four (to_le_bytes w32 (length r)) h.magic h.magic2 h.version back
 
-third : (kind : ℕ) (body digest more : List ℕ) → slice_index ((headed kind body ++ digest) ++ more) 3 ≡ kind
+third : (kind : ℕ) (body digest more : List ℕ) → slice_index ((headed FRAME_VERSION kind body ++ digest) ++ more) 3 ≡ kind
 unfolding headed
 third kind body digest more = refl
 
-behind : (kind : ℕ) (body : List ℕ) → drop 8 (headed kind body) ≡ body
+behind : (kind : ℕ) (body : List ℕ) → drop 8 (headed FRAME_VERSION kind body) ≡ body
 unfolding headed number
 behind kind body = refl
 
 -- what a sealed text has in its places
-pub unseal : (kind : ℕ) (body whole more text : List ℕ) → whole ≡ sealed (headed kind body) → text ≡ take (length whole - 32) whole →
+pub unseal : (kind : ℕ) (body whole more text : List ℕ) → whole ≡ sealed (headed FRAME_VERSION kind body) → text ≡ take (length whole - 32) whole →
     (slice_index (whole ++ more) 3 ≡ kind) × (drop 8 text ≡ body)
 unfolding sealed
 unseal kind body whole more text w t =
-    let x : List ℕ = headed kind body in
+    let x : List ℕ = headed FRAME_VERSION kind body in
     let len : length whole - 32 ≡ length x = omega (arith, ap length w, length-append x (sha256 x), length-sha256 x) in
     let text-is : text ≡ x = t ∙ ap (λ (n : ℕ). take n whole) len ∙ ap (take (length x)) w ∙ take_at x (sha256 x) (length x) refl in
     (ap (λ (y : List ℕ). slice_index (y ++ more) 3) w ∙ third kind body (sha256 x) more, ap (drop 8) text-is ∙ behind kind body)
 
 frame_all : (kind : ℕ) (body : List ℕ) (f : Frame) → (kind ≡ 1) ⊎ (kind ≡ 2) → IsBytes body → frame_of kind body ≡ Some f →
-    sealed (headed kind body) ≡ spelling f
+    sealed (headed FRAME_VERSION kind body) ≡ spelling f
 unfolding frame_of
 frame_all kind body f k fits e =
     elim (chosen (eqb kind 1) _ _ _ e) [
       | inl h ↦
           let a = bind_some (log_of body) _ f h.1 in
-          rw (← some_is (Log a.0) f a.2, eqb-true kind 1 h.0) (ap (λ (x : List ℕ). sealed (headed 1 x)) (log_all body a.0 fits a.1))
+          rw (← some_is (Log a.0) f a.2, eqb-true kind 1 h.0) (ap (λ (x : List ℕ). sealed (headed FRAME_VERSION 1 x)) (log_all body a.0 fits a.1))
       | inr h ↦
           let a = bind_some (opening_of body) _ f h.1 in
           let two : kind ≡ 2 = elim k [ inl p ↦ absurd (eqb-false kind 1 h.0 p) | inr p ↦ p ] in
-          rw (← some_is (Opening a.0) f a.2, two) (ap (λ (x : List ℕ). sealed (headed 2 x)) (opening_all body a.0 fits a.1))
+          rw (← some_is (Opening a.0) f a.2, two) (ap (λ (x : List ℕ). sealed (headed FRAME_VERSION 2 x)) (opening_all body a.0 fits a.1))
     ]
 
 pub frame_again : (f : Frame) (whole more text : List ℕ) → IsFrame f → whole ≡ spelling f → text ≡ take (length whole - 32) whole →
@@ -101,8 +102,8 @@ frame_found bytes n whole text body f fits c digest b e =
     ∙ ap (λ (x : List ℕ). x ++ drop n bytes) (take-append-drop (n - 32) whole)
     ∙ ap (λ (x : List ℕ). x ++ drop n bytes) c.whole-is ∙ take-append-drop n bytes in
     let t = text_is text more n (omega (arith, text-len)) (subst (λ (x : List ℕ). IsHead x n) (sym split) h) (subst IsBytes (sym split) fits) text-len in
-    let t2 : text ≡ headed (slice_index bytes 3) body = t ∙ ap (λ (x : List ℕ). headed (slice_index x 3) (drop 8 text)) split ∙
-    ap (headed (slice_index bytes 3)) (sym b) in
+    let t2 : text ≡ headed FRAME_VERSION (slice_index bytes 3) body = t ∙ ap (λ (x : List ℕ). headed FRAME_VERSION (slice_index x 3) (drop 8 text)) split ∙
+    ap (headed FRAME_VERSION (slice_index bytes 3)) (sym b) in
     let body-fits : IsBytes body = subst IsBytes (sym b) (IsBytes-drop 8 text (subst IsBytes (sym c.text-is) (IsBytes-take (n - 32) whole
     (subst IsBytes (sym c.whole-is) (IsBytes-take n bytes fits))))) in
     let g = frame_all (slice_index bytes 3) body f h.kind body-fits e in

@@ -1,12 +1,13 @@
 -- A frame is its head, its body and its digest.
 use Rattle.std.proofs.Common.{◌≡◌, ℕ, ◌-◌, List, [], ◌++◌, length, take, drop, refl, sym, ap, ◌∙◌}
 use Rattle.std.proofs.lemmas.List.{drop_at}
+use Rattle.fragment_codec.specs.declared.types.TheConstants.{FRAME_VERSION}
 use Rattle.fragment_codec.specs.Streams.{HasDigest}
 use Rattle.sha2.specs.Sha256.{sha256}
 use Rattle.fragment_codec.specs.Spelling.{headed, sealed}
 
-pub sealed_parts : (head slice body digest : List ℕ) (kind : ℕ) → head ++ body ≡ headed kind body → slice ≡ head → digest ≡ sha256 (([] ++ slice) ++ body) →
-    (head ++ body) ++ digest ≡ sealed (headed kind body)
+pub sealed_parts : (head slice body digest : List ℕ) (kind : ℕ) → head ++ body ≡ headed FRAME_VERSION kind body → slice ≡ head → digest ≡ sha256 (([] ++ slice) ++ body) →
+    (head ++ body) ++ digest ≡ sealed (headed FRAME_VERSION kind body)
 unfolding sealed
 sealed_parts head slice body digest kind h s d =
     ap (λ (x : List ℕ). (head ++ body) ++ x) (d ∙ ap (λ (x : List ℕ). sha256 (x ++ body)) s) ∙ ap (λ (x : List ℕ). x ++ sha256 x) h

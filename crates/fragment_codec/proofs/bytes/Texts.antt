@@ -4,7 +4,7 @@ use Rattle.std.proofs.lemmas.List.{append-nil, take_more}
 use Rattle.std.proofs.lemmas.List.Concat.{flat_map-append}
 use Rattle.std.specs.Int.{w16, w32, w64}
 use Rattle.edge_log.specs.declared.Edge.{Edge}
-use Rattle.ft_types.specs.declared.guest.Guest.{Guest}
+use Rattle.ft_types.specs.Guests.{GuestParts}
 use Rattle.fragment_codec.specs.declared.types.Key.{Key}
 use Rattle.std.specs.List.{flat_map}
 use Rattle.input_log.specs.declared.Input.{Input as HartInput}
@@ -76,7 +76,7 @@ log_more f rs i d lt = log_front-append f (flat_map record_bytes (take i rs)) (r
     ap (log_front f) (sym (ap (flat_map record_bytes) (take_more rs i d lt) ∙ flat_map-append record_bytes (take i rs) (get_or rs i d ∷ []) ∙
     ap (λ (x : List ℕ). flat_map record_bytes (take i rs) ++ x) (append-nil (record_bytes (get_or rs i d)))))
 
-pub log_started : (f : FragmentParts) (g : Guest) (k : Key) (o0 o1 o2 o3 o4 : List ℕ) (from to n : ℕ) → o0 ≡ []
+pub log_started : (f : FragmentParts) (g : GuestParts) (k : Key) (o0 o1 o2 o3 o4 : List ℕ) (from to n : ℕ) → o0 ≡ []
     → o1 ≡ o0 ++ (g.digest ++ (g.harts ∷ k.hart ∷ (number w32 k.term ++ number w32 k.place))) → o2 ≡ o1 ++ number w64 from → o3 ≡ o2 ++ number w64 to →
     o4 ≡ o3 ++ number w16 n
     → g ≡ f.guest → k ≡ f.key → from ≡ f.from → to ≡ f.to → n ≡ length f.records → o4 ≡ log_front f []

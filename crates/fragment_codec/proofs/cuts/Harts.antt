@@ -6,7 +6,7 @@ use Rattle.std.proofs.lemmas.List.{map-append, get_or_append_left, get_or_past, 
 use Rattle.std.proofs.lemmas.List.Elements.{filter_agree}
 use Rattle.std.proofs.lemmas.List.Concat.{flat_map-append}
 use Rattle.ft_types.specs.Counts.{count_at}
-use Rattle.ft_types.specs.declared.guest.Guest.{Guest}
+use Rattle.ft_types.specs.Guests.{GuestParts}
 use Rattle.edge_log.specs.declared.Edge.{Edge}
 use Rattle.edge_log.specs.EdgeLog.{Edges, row_of}
 use Rattle.input_log.specs.declared.Input.{Input as HartInput}
@@ -82,7 +82,7 @@ pieces_of_whole from log old (piece ∷ pieces) new low row = (
 )
 
 -- the records of a hart, as its log
-pub log_is : (guest : Guest) (term : ℕ) (edges : Edges) (inputs : List (List (ℕ × HartInput))) (settled : List ℕ) (seals : SealedView)
+pub log_is : (guest : GuestParts) (term : ℕ) (edges : Edges) (inputs : List (List (ℕ × HartInput))) (settled : List ℕ) (seals : SealedView)
     (number hart from end : ℕ) (facts : List Record) →
     hart ≡ number → from ≡ (mark_of seals hart).count → end ≡ count_at settled hart →
     told_by facts ≡ facts_between from end (record { edges = row_of edges hart; inputs = inputs_of inputs hart }) →

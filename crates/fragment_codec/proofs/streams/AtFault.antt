@@ -6,7 +6,7 @@ use Rattle.std.proofs.lemmas.Bool.Decides.{nat_tests}
 use Rattle.fragment_codec.specs.declared.fault.FrameFault.{FrameFault}
 use Rattle.fragment_codec.specs.declared.fault.FrameFault.TheVariants.{Magic, Version, Kind, Length, Digest, Body, Memory}
 use Rattle.fragment_codec.specs.Streams.{is_other, body_len, is_body_len, head_of, IsWhole}
-use Rattle.fragment_codec.specs.AtFault.{Has, HasOther, IsBodyLen, IsVersion1, IsAllThere, IsAtFault, FaultsByBytes}
+use Rattle.fragment_codec.specs.AtFault.{Has, HasOther, IsBodyLen, HasVersion, IsAllThere, IsAtFault, FaultsByBytes}
 use Rattle.fragment_codec.proofs.bytes.Heads.{head_is, head_from}
 
 -- which test of a head has failed
@@ -133,7 +133,7 @@ version_back bytes (first, second, other) = rw (it_is bytes 0 0x56 first, it_is 
 
 module _ (bytes : List ℕ) where
   -- the bytes of version 1 are there, where the fourth byte is
-  version1 : 3 < length bytes → (is_other bytes 0 0x56 || is_other bytes 1 0x46) ≡ false → is_other bytes 2 1 ≡ false → IsVersion1 bytes
+  version1 : 3 < length bytes → (is_other bytes 0 0x56 || is_other bytes 1 0x46) ≡ false → is_other bytes 2 1 ≡ false → HasVersion bytes
   version1 there none same =
       let m = neither (is_other bytes 0 0x56) (is_other bytes 1 0x46) none in
       record {

@@ -8,6 +8,7 @@ use Rattle.std.proofs.lemmas.List.{take_at, drop_at, length-append}
 use Rattle.std.proofs.lemmas.Nat.{from_le_bytes-to_le_bytes_4}
 use Rattle.sha2.specs.Sha256.{sha256}
 use Rattle.sha2.proofs.Facts256.{length-sha256}
+use Rattle.fragment_codec.specs.declared.types.TheConstants.{FRAME_VERSION}
 use Rattle.fragment_codec.specs.declared.frame.Frame.{Frame}
 use Rattle.fragment_codec.specs.declared.frame.Frame.TheVariants.{Log, Opening}
 use Rattle.fragment_codec.specs.declared.types.Record.{Record}
@@ -70,7 +71,7 @@ opening_right n a b = grind (arith, nat_tests)
 -- ---- the head of a spelling
 
 sealed_head : (kind : ℕ) (body more : List ℕ) → (kind ≡ 1) ⊎ (kind ≡ 2) → length body < 2 ^ 32 → is_body_len kind (length body) ≡ true →
-    IsHead (sealed (headed kind body) ++ more) (length (sealed (headed kind body)))
+    IsHead (sealed (headed FRAME_VERSION kind body) ++ more) (length (sealed (headed FRAME_VERSION kind body)))
 unfolding sealed headed number
 sealed_head kind body more k fits right =
     let same = from_le_bytes-to_le_bytes_4 (length body) fits in

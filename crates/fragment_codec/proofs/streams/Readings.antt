@@ -5,6 +5,7 @@ use Rattle.std.specs.List.{flat_map, AllByRecursion}
 use Rattle.std.proofs.lemmas.List.{take_at, length-append}
 use Rattle.sha2.specs.Sha256.{sha256}
 use Rattle.sha2.proofs.Facts256.{length-sha256}
+use Rattle.fragment_codec.specs.declared.types.TheConstants.{FRAME_VERSION}
 use Rattle.fragment_codec.specs.declared.fault.FrameFault.{FrameFault}
 use Rattle.fragment_codec.specs.declared.fault.FrameFault.TheVariants.{Magic, Version, Kind, Length, Digest, Body, Memory}
 use Rattle.fragment_codec.specs.declared.frame.Frame.{Frame}
@@ -22,8 +23,8 @@ sealed_digest x =
     ap (λ (y : List ℕ). y ++ sha256 y) (sym front)
 
 spelling_digest : (f : Frame) → HasDigest (spelling f)
-spelling_digest (Log g) = sealed_digest (headed 1 (log_body g))
-spelling_digest (Opening o) = sealed_digest (headed 2 (opening_body o))
+spelling_digest (Log g) = sealed_digest (headed FRAME_VERSION 1 (log_body g))
+spelling_digest (Opening o) = sealed_digest (headed FRAME_VERSION 2 (opening_body o))
 
 -- a fault of the head, or one behind it
 abbrev Seen : List ℕ → FrameFault → Type 0

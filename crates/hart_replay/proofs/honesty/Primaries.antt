@@ -8,7 +8,7 @@ use Rattle.interleaving.specs.Log as theory
 use Rattle.interleaving.specs.Log.{IsCut}
 use Rattle.interleaving.specs.Stored.{view}
 use Rattle.interleaving.proofs.Cuts.{here, here_or_later}
-use Rattle.ft_types.specs.declared.guest.Guest.{Guest}
+use Rattle.ft_types.specs.Guests.{GuestParts}
 use Rattle.edge_log.specs.declared.Edge.{Edge}
 use Rattle.edge_log.specs.EdgeLog.{edge_as, edges_of}
 use Rattle.edge_log.proofs.Logs.{contains_map, map_contains, to_edges, in_row, of_row}
@@ -108,7 +108,7 @@ piece_in log old (p ∷ pieces) new row piece h =
       | inr later ↦ piece_in log (mark_behind p) pieces new row.1 piece later
     ]
 
-pub is_piece : (guest : Guest) (term : ℕ) (book : BookView RecordingView) (hart : ℕ) (mark : Mark) (piece : FragmentParts) →
+pub is_piece : (guest : GuestParts) (term : ℕ) (book : BookView RecordingView) (hart : ℕ) (mark : Mark) (piece : FragmentParts) →
     IsPiece (book_log guest term book hart) mark piece → IsPieceOf book piece.key.hart piece
 is_piece guest term book hart mark piece p =
     subst (λ h. IsPieceOf book h piece) (sym (ap (λ k. k.hart) p.key))

@@ -8,7 +8,7 @@ use Rattle.interleaving.specs.Lists.{put}
 use Rattle.interleaving.proofs.Put.{put_same}
 use Rattle.edge_log.proofs.Logs.{map_contains}
 use Rattle.ft_types.specs.Counts.{count_at}
-use Rattle.ft_types.specs.declared.guest.Guest.{Guest}
+use Rattle.ft_types.specs.Guests.{GuestParts}
 use Rattle.hart_lease.specs.Runs.{counts_of}
 use Rattle.page_book.specs.Books.{BookView}
 use Rattle.book_modes.specs.Recordings.{RecordingView}
@@ -109,7 +109,7 @@ terms_go_on b c past its start tells =
       pieces = record { no_gap = its.pieces.no_gap; tell = λ hart place piece at. pieces_last b c hart piece tells (its.pieces.tell hart place piece at) };
     }
 
-module _ (guest : Guest) (number : ℕ) (book : BookView RecordingView) (past : GuestTerm) (old new : SealedView) (frames : List Frame)
+module _ (guest : GuestParts) (number : ℕ) (book : BookView RecordingView) (past : GuestTerm) (old new : SealedView) (frames : List Frame)
     (its : IsTermOfBook book past) (marks : IsSealedTo past old) (cut : AreCut (book_log guest number book) guest.harts old frames new) where
   abbrev more : ℕ → List FragmentParts
   more hart = slice_index_or cut.pieces hart []

@@ -12,7 +12,7 @@ returns-in_default-clause-position c =
     NoTop
     (no_chain c.args.store.now c.in_ok-terms.terms.items c.guest.ensures.rules c.in_ok-terms.ensures
     (rw c.as_slice.ensures.value at c.in_default.ensures.cases))
-    refl (λ h. rw c.zero.ensures (zero_row c.min.result h)) refl
+    refl (λ h. rw c.zero.ensures (zero_row c.harts.result h)) refl
 
 -- the chain, as it is walked
 line : (c : goal.In-Some-opening_of) → IsLine c.args.store.now c.in-Some.first.now c.in-Some.rest.now c.last_of-top.result

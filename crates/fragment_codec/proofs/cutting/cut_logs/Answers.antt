@@ -10,7 +10,7 @@ pub cut_hart-requires-clause-may : goal.cut_hart-requires-clause-may
 cut_hart-requires-clause-may c =
     let kept = ap (λ m. m.count) (c.loop-number.invariant.kept c.new-hart.result (omega (arith, c.new-hart.ensures))) in
     record {
-      guest = c.requires.guest;
+      guest = c.harts-number-end.ensures.rules;
       own = omega (arith, c.new-hart.ensures);
       granted = c.requires.granted;
       fits = omega arith;

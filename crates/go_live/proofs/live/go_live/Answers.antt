@@ -1,7 +1,7 @@
 use Rattle.std.proofs.Common.{◌≡◌, ◌≢◌, map, refl, sym, ap, subst, ◌∙◌}
 use Rattle.std.specs.List.{Any}
 use Rattle.std.proofs.lemmas.Result.{err_from_is_err_and}
-use Rattle.ft_types.specs.declared.guest.Guest.{Guest}
+use Rattle.ft_types.specs.Guests.{GuestParts}
 use Rattle.log_join.specs.Stores.{StoreView, nothing}
 use Rattle.guest_image.specs.Image.{guest_of}
 use Rattle.guest_image.specs.Machine.{MachineState}
@@ -37,7 +37,7 @@ returns-then-not-are_of-clause-other_guest c = (
   λ e. (
     c.if-not-are_enough.ensures.0 refl,
     c.if-not-is_new.ensures.new refl,
-    subst (λ (guest : Guest). Any (λ (store : StoreView). store.guest ≢ guest) (map (λ s. s.1.now) c.args.stores.now)) c.guest-guest.ensures
+    subst (λ (guest : GuestParts). Any (λ (store : StoreView). store.guest ≢ guest) (map (λ s. s.1.now) c.args.stores.now)) c.guest-guest.ensures
         (c.if-not-are_of.ensures.foreign (λ t. cc)),
   ),
   λ x. refl,
@@ -68,7 +68,7 @@ returns-in_err-position-clause-replay c =
     let p = err_from_is_err_and c.from_residual-in_err-position.result c.from_residual-in_err-position.ensures.1 in
     let stores = map (λ s. s.1.now) c.args.stores.now in
     let joined : AreJoined (guest_of c.args.image.now) stores c.in_ok-joined.joined =
-    subst (λ (guest : Guest). AreJoined guest stores c.in_ok-joined.joined) c.guest-guest.ensures c.in_ok-joined.ensures in
+    subst (λ (guest : GuestParts). AreJoined guest stores c.in_ok-joined.joined) c.guest-guest.ensures c.in_ok-joined.ensures in
     rw (p.1, p.2)
     (replay_told (λ f. f ≢ OtherGuest → LeadNowhere c.args.image.now stores f) c.in_err-position.field-0.0
     (λ ne own. (c.in_ok-joined.joined, joined, c.in_err-position.ensures.fault ne)))
@@ -78,7 +78,7 @@ returns-in_err-position-clause-history_ends c =
     let p = err_from_is_err_and c.from_residual-in_err-position.result c.from_residual-in_err-position.ensures.1 in
     let stores = map (λ s. s.1.now) c.args.stores.now in
     let joined : AreJoined (guest_of c.args.image.now) stores c.in_ok-joined.joined =
-    subst (λ (guest : Guest). AreJoined guest stores c.in_ok-joined.joined) c.guest-guest.ensures c.in_ok-joined.ensures in
+    subst (λ (guest : GuestParts). AreJoined guest stores c.in_ok-joined.joined) c.guest-guest.ensures c.in_ok-joined.ensures in
     rw (p.1, p.2)
     (replay_told (λ f. (history : GuestHistory) → AreOfHistory c.args.image.now history stores → f ≡ OtherGuest) c.in_err-position.field-0.0
     (λ ne history honest. absurd (never_nowhere c.args.image.now history stores honest c.in_err-position.field-0.0
@@ -107,12 +107,12 @@ returns-clause-position c =
     let stores = map (λ s. s.1.now) c.args.stores.now in
     record {
       joined = c.in_ok-joined.joined;
-      are_joined = subst (λ (guest : Guest). AreJoined guest stores c.in_ok-joined.joined) c.guest-guest.ensures c.in_ok-joined.ensures;
+      are_joined = subst (λ (guest : GuestParts). AreJoined guest stores c.in_ok-joined.joined) c.guest-guest.ensures c.in_ok-joined.ensures;
       position = c.in_ok-position.position;
       replayed =
           subst (λ (m : MachineState). IsReplayed c.args.image.now c.in_ok-joined.joined c.in_ok-position.position m)
           (sym (ap (λ (b : BookView RecordingView). b.start) c.in_ok-begin.ensures.book)) c.in_ok-position.ensures.replayed;
-      opened = c.in_ok-begin.ensures.opening ∙ c.opening_of-opening.ensures ∙ ap (λ (guest : Guest). opening_from guest c.args.term c.in_ok-position.position)
+      opened = c.in_ok-begin.ensures.opening ∙ c.opening_of-opening.ensures ∙ ap (λ (guest : GuestParts). opening_from guest c.args.term c.in_ok-position.position)
           c.guest-guest.ensures;
     }
 

@@ -1,5 +1,5 @@
 use Rattle.std.proofs.Common.{subst, ap, ◌∙◌}
-use Rattle.ft_types.specs.declared.guest.Guest.{Guest}
+use Rattle.ft_types.specs.Guests.{GuestParts}
 use Rattle.hart_replay.specs.Plans.{PlanView, IsPlan}
 use Rattle.hart_replay.specs.Laws.{ArePlanned}
 use Rattle.go_live.proofs.Places.{has_counts, has_harts}
@@ -20,13 +20,13 @@ returns-clause-replayed c =
           has_counts c.args.image.now c.args.store.now c.in_ok-position.position c.in_ok-plan.plan.legs c.in_ok-machine.machine
           c.guest-rules.ensures.rules c.in_ok-position.ensures.position
           planned
-          (subst (λ (guest : Guest). IsPlan guest c.in_ok-plan.plan.legs) (plan.guest ∙ c.requires)
+          (subst (λ (guest : GuestParts). IsPlan guest c.in_ok-plan.plan.legs) (plan.guest ∙ c.requires)
           (subst (λ (p : PlanView). IsPlan p.guest p.legs) c.plan-2.view_is c.plan-2.invariant))
           c.in_ok-machine.ensures.outcome;
     }
 
 pub returns-clause-harts : goal.returns-clause-harts
 returns-clause-harts c = (
-  c.in_ok-position.ensures.harts (rw c.requires (rw c.harts-few.ensures.value at c.harts-few.ensures.limit)) ∙ ap (λ (guest : Guest). guest.harts) c.requires,
+  c.in_ok-position.ensures.harts ∙ ap (λ (guest : GuestParts). guest.harts) c.requires,
   has_harts c.args.image.now c.in_ok-plan.plan.legs c.in_ok-machine.machine c.in_ok-machine.ensures.outcome,
 )

@@ -5,7 +5,7 @@ use Rattle.go_live.proofs.Distinct.{counted_none, counted_more}
 use Rattle.go_live.proofs.quorum.keepers_of.Goals as goal
 
 pub loop-keeper-init : goal.loop-keeper-init
-loop-keeper-init c = let sized : length c.new-keepers.result ≡ 8 = search rules in counted_none c.new-keepers.result sized c.new-keepers.ensures
+loop-keeper-init c = let sized : length c.new-keepers.result ≡ 5 = search rules in counted_none c.new-keepers.result sized c.new-keepers.ensures
 
 pub loop-keeper-preserved : goal.loop-keeper-preserved
 loop-keeper-preserved c =
@@ -13,12 +13,12 @@ loop-keeper-preserved c =
     let i = c.loop-keeper.keeper-index in
     let item = c.loop-keeper-item.result in
     let within : i < length stores = omega arith in
-    let below = c.number.ensures.below in
+    let below = c.with-keepers.ensures.below in
     let one =
     take_more (map (λ s. s.0) stores) i item.0 (rw length-map within)
     ∙ ap (λ (n : ℕ). take i (map (λ s. s.0) stores) ++ n ∷ [])
     (get_or-map (λ s. s.0) stores i item item.0 within ∙ ap (λ s. s.0) (sym c.loop-keeper-item.is)) in
-    rw (one, c.with-keepers.ensures, c.number.ensures.value)
+    rw (one, c.with-keepers.ensures.value)
     (counted_more (take i (map (λ s. s.0) stores)) item.0 c.loop-keeper.keepers (omega arith) c.loop-keeper.invariant)
 
 pub returns : goal.returns

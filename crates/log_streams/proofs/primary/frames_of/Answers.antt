@@ -1,6 +1,6 @@
 use Rattle.std.proofs.Common.{subst, arith, length}
 use Rattle.std.proofs.lemmas.Grind.{common_steps}
-use Rattle.ft_types.specs.declared.guest.Guest.{Guest}
+use Rattle.ft_types.specs.Guests.{GuestParts}
 use Rattle.fragment_codec.specs.Pieces.{book_log, IsCut}
 use Rattle.interleaving.specs.Stored.{view}
 use Rattle.interleaving.proofs.Beginnings.{ends_are_cuts}
@@ -15,7 +15,7 @@ pub returns-clause-frames : goal.returns-clause-frames
 returns-clause-frames c =
     let book = c.args.book.now in
     let pieces = c.in_ok-frames.frames.items in
-    let P : Guest → Type 0 = λ g. IsCut (book_log g 1 book) g.harts c.new-sealed.result pieces c.cut_pieces.new.sealed in
+    let P : GuestParts → Type 0 = λ g. IsCut (book_log g 1 book) g.harts c.new-sealed.result pieces c.cut_pieces.new.sealed in
     record {
       pieces = pieces;
       opened = grind (arith, common_steps);

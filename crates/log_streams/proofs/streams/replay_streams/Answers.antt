@@ -2,7 +2,7 @@ use Rattle.std.proofs.Common.{map, ◌∙◌, subst}
 use Rattle.std.proofs.lemmas.Result.{err_from_is_err_and, IfErr-weaker}
 use Rattle.log_streams.specs.Outcome.{IsCauseIn}
 use Rattle.log_streams.proofs.Outcomes.{joined_written, joined_cause, read_cause, joined_answer, read_answer, read_unwritten, no_reader}
-use Rattle.ft_types.specs.declared.guest.Guest.{Guest as GuestName}
+use Rattle.ft_types.specs.Guests.{GuestParts}
 use Rattle.log_streams.specs.Faults.{GaveRight}
 use Rattle.log_streams.proofs.Lifted.{streams_to}
 use Rattle.log_streams.proofs.Truthful.{writes_history, devices_only, unwritten_history}
@@ -77,7 +77,7 @@ pub returns-in_err-store-clause-right : goal.returns-in_err-store-clause-right
 returns-in_err-store-clause-right g c =
     let p = err_from_is_err_and c.from_residual.result c.from_residual.ensures.1 in
     rw (p.1, p.2) (λ i reader later is before after.
-    subst (λ (x : GuestName). GaveRight x (g.R.Source.left reader) (g.R.Source.left later)) c.guest.ensures
+    subst (λ (x : GuestParts). GaveRight x (g.R.Source.left reader) (g.R.Source.left later)) c.guest.ensures
     (c.in_err-store.ensures.right i reader later (cc) before after))
 
 pub returns-clause-right : goal.returns-clause-right

@@ -1,7 +1,7 @@
 use Rattle.std.proofs.Common.{◌≡◌, [], ◌∷◌, ◌++◌, All, List, ap, sym, subst, append_assoc, ◌∙◌}
 use Rattle.std.proofs.lemmas.List.Elements.{All-append}
 use Rattle.std.specs.Vec.Iter.{into_iter_items}
-use Rattle.ft_types.specs.declared.guest.Guest.{Guest}
+use Rattle.ft_types.specs.Guests.{GuestParts}
 use Rattle.ack_core.specs.declared.seats.KeeperSeat.{KeeperSeat}
 use Rattle.ack_core.specs.Seats.{IsKeeperOf}
 use Rattle.pair.specs.declared.posts.Post.{Post}
@@ -22,7 +22,7 @@ loop-seat-preserved c =
     (subst (λ (xs : List KeeperSeat). AreKeepersOf board xs) parts c.requires.seats) in
     let posted : IsPostOf board post = (
       subst (λ (s : KeeperSeat). IsKeeperOf board s) (sym c.in_ok-post.ensures.0) own,
-      ap (λ (g : Guest). g.harts) c.in_ok-post.ensures.1 ∙ c.requires.harts,
+      ap (λ (g : GuestParts). g.harts) c.in_ok-post.ensures.1 ∙ c.requires.harts,
     ) in
     record {
       posts = subst (λ (xs : List Post). All (IsPostOf board) xs) (sym c.in_ok-push.ensures.items)

@@ -1,5 +1,5 @@
 use Rattle.std.proofs.Common.{◌≡◌, ◌≤◌, ℕ, List, Option, ◌∙◌, refl, sym, ap, subst}
-use Rattle.ft_types.specs.declared.guest.Guest.{Guest}
+use Rattle.ft_types.specs.Guests.{GuestParts}
 use Rattle.std.specs.Option.{option_map}
 use Rattle.ft_types.specs.Counts.{count_at}
 use Rattle.log_join.specs.Cells.{One}
@@ -101,5 +101,5 @@ returns-then-not-may_go_on-clause-tracked c =
 pub go_on-position-requires-clause-harts : goal.go_on-position-requires-clause-harts
 go_on-position-requires-clause-harts c =
     let fits = c.requires.tracked.rules.openings c.args.position.now.term c.args.opening.now c.requires.opening in
-    let same = ap (λ (g : Guest). g.harts) fits.same_guest in
-    c.requires.tracked.harts (subst (λ (n : ℕ). n ≤ 8) same fits.rules.guest.limit) ∙ sym (fits.rules.base ∙ same)
+    let same = ap (λ (g : GuestParts). g.harts) fits.same_guest in
+    c.requires.tracked.harts ∙ sym (fits.rules.base ∙ same)

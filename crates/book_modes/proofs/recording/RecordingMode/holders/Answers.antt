@@ -9,7 +9,7 @@ loop-number-preserved c =
     let taker = IsTaker c.args.self.now c.args.leases.now c.args.asked.now in
     elim c.if-is_taker.branch [
       | then-is_taker w ↦
-          rw (w.harts-is, w.with-harts.ensures)
+          rw (w.harts-is, w.with-harts.ensures.value, c.new-hart.ensures)
           (one_more taker c.loop-number.harts c.loop-number.number (search rules) (search rules) c.loop-number.invariant)
       | else-is_taker w ↦ rw (w.harts-is) (none_more taker c.loop-number.harts c.loop-number.number (search rules) c.loop-number.invariant)
     ]

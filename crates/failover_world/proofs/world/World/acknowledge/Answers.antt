@@ -6,7 +6,7 @@ use Rattle.failover_world.proofs.Keeping.{acknowledged}
 use Rattle.failover_world.proofs.Guests.{store_guest}
 use Rattle.std.proofs.Common.{Result, Ok, Err, OnOk, OnErr, IfErr, length-set}
 use Rattle.ft_types.specs.Counts.{count_at}
-use Rattle.ft_types.specs.declared.guest.Guest.{Guest}
+use Rattle.ft_types.specs.Guests.{GuestParts}
 use Rattle.closed_cut.specs.Position.{IsPosition}
 use Rattle.closed_cut.specs.declared.answer.Position.{Position}
 use Rattle.ack_core.specs.declared.board.AckFault.{AckFault}
@@ -45,9 +45,8 @@ acknowledge-requires-clause-harts c =
     let at : store_at v.stores c.args.keeper ≡ Some c.in-Some.store.now =
     ap (λ stores. store_at stores c.args.keeper) (sym c.deref.ensures.value) ∙ c.in-Some.ensures.some in
     let own = store_guest v c.self.invariant.tied c.self.invariant.parts.guest c.args.keeper c.in-Some.store.now at in
-    let few = c.self.invariant.parts.guest.limit in
-    let same = ap (λ (g : Guest). g.harts) own in
-    c.position.ensures.harts (omega (arith, few, same)) ∙ same ∙ sym c.self.invariant.parts.gate_harts
+    let same = ap (λ (g : GuestParts). g.harts) own in
+    c.position.ensures.harts ∙ same ∙ sym c.self.invariant.parts.gate_harts
 
 acked_world : (v : WorldView) (is : IsWorld v) (keeper : ℕ) (s : StoreView) (p : Position) (gate : TermGateView) (r : Result Unit AckFault) →
     store_at v.stores keeper ≡ Some s → IsPosition s p → OnOk r (gate ≡ record v.gate { acked = slice_set v.gate.acked keeper p.counts }) →

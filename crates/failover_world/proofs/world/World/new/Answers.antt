@@ -1,9 +1,9 @@
-use Rattle.std.proofs.Common.{◌≡◌, true, List, [], ◌∷◌, ◌++◌, replicate, Some, refl, sym, ap, subst, ◌∙◌}
-use Rattle.ft_types.specs.declared.guest.Guest.{Guest}
+use Rattle.std.proofs.Common.{◌≡◌, ℕ, true, List, [], ◌∷◌, ◌++◌, replicate, Some, refl, sym, ap, subst, ◌∙◌}
+use Rattle.ft_types.specs.Guests.{GuestParts, IsGuest}
 use Rattle.guest_image.specs.Image.{ImageContents, guest_of}
 use Rattle.edge_log.specs.EdgeLog.{Edges}
 use Rattle.book_modes.specs.Recordings.{heard_by, HasHonestLog}
-use Rattle.fragment_codec.specs.Rules.{IsGuest, OpeningParts}
+use Rattle.fragment_codec.specs.Rules.{OpeningParts}
 use Rattle.fragment_codec.specs.declared.frame.Frame.{Frame}
 use Rattle.fragment_codec.specs.declared.frame.Frame.TheVariants.{Opening}
 use Rattle.log_join.specs.Stores.{nothing}
@@ -28,6 +28,7 @@ invariant_of-result c =
     } in
     let own : c.args.image.now ≡ v.image = sym c.in_ok-own.ensures in
     let guest : c.guest-guest.result ≡ guest_of v.image = c.guest-guest.ensures ∙ ap guest_of own in
+    let harts : c.harts.result ≡ (guest_of v.image).harts = c.harts.ensures.value ∙ ap (λ (g : GuestParts). g.harts) guest in
     let booted : IsBooted v.image v.primary = subst (λ (i : ImageContents). IsBooted i v.primary) own c.in_ok-primary.ensures.booted in
     let book = v.primary.book in
     let parts = c.in_ok-gate.ensures.parts in
@@ -46,12 +47,12 @@ invariant_of-result c =
           c.in_ok-push.ensures.items
           ∙ ap (λ (fs : List Frame). fs ++ Opening c.copy.result ∷ []) c.new-sent.ensures.items
           ∙ ap (λ (o : OpeningParts). Opening o ∷ []) c.copy.ensures;
-      stores = c.in_ok-stores.ensures ∙ ap (λ (g : Guest). replicate c.args.keepers (Some (nothing g))) guest;
+      stores = c.in_ok-stores.ensures ∙ ap (λ (g : GuestParts). replicate c.args.keepers (Some (nothing g))) guest;
       released = c.new-3.ensures.items;
       gate_term = parts.0;
       gate_keepers = parts.1;
       gate_need = parts.2;
-      gate_harts = c.in_ok-gate.ensures.harts ∙ ap (λ (g : Guest). g.harts) guest;
-      acked = c.in_ok-gate.ensures.acked ∙ ap (λ (g : Guest). replicate c.args.keepers (replicate g.harts 0)) guest;
+      gate_harts = c.in_ok-gate.ensures.harts ∙ harts;
+      acked = c.in_ok-gate.ensures.acked ∙ ap (λ (n : ℕ). let zero : ℕ = 0 in replicate c.args.keepers (replicate n zero)) harts;
       lines = c.in_ok-gate.ensures.lines;
     })

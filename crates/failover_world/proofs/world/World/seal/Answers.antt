@@ -1,7 +1,7 @@
 use Rattle.std.proofs.Common.{◌≡◌, ℕ, ◌++◌, Bool, not, List, if◌then◌else◌, sym, ap, subst, ◌∙◌}
 use Rattle.guest_image.specs.Image.{guest_of}
 use Rattle.fragment_codec.specs.declared.frame.Frame.{Frame}
-use Rattle.ft_types.specs.declared.guest.Guest.{Guest}
+use Rattle.ft_types.specs.Guests.{GuestParts}
 use Rattle.fragment_codec.specs.Pieces.{IsCut, book_log}
 use Rattle.failover_world.specs.Tied.{IsTied}
 use Rattle.failover_world.specs.Worlds.{WorldView}
@@ -45,7 +45,7 @@ invariant_of-self-2 c =
     IsCut (book_log (guest_of c.self.inside.image) c.self.inside.primary.opening.term c.self.inside.primary.book) (guest_of c.self.inside.image).harts
     c.self.inside.primary.sealed c.in_ok-pieces.pieces.items c.cut_pieces.new.sealed =
     subst
-    (λ (g : Guest). IsCut (book_log g c.self.inside.primary.opening.term c.self.inside.primary.book) g.harts c.self.inside.primary.sealed
+    (λ (g : GuestParts). IsCut (book_log g c.self.inside.primary.opening.term c.self.inside.primary.book) g.harts c.self.inside.primary.sealed
     c.in_ok-pieces.pieces.items c.cut_pieces.new.sealed) c.guest-guest.ensures
     (subst
     (λ (t : ℕ). IsCut (book_log c.guest-guest.result t c.self.inside.primary.book) c.guest-guest.result.harts c.self.inside.primary.sealed

@@ -1,5 +1,5 @@
 use Rattle.std.proofs.Common.{◌≡◌, ◌-◌, List, length, sym, ap, subst, ◌∙◌}
-use Rattle.ft_types.specs.declared.guest.Guest.{Guest}
+use Rattle.ft_types.specs.Guests.{GuestParts}
 use Rattle.edge_log.specs.EdgeLog.{IsLog}
 use Rattle.guest_image.specs.Image.{ImageContents, guest_of}
 use Rattle.guest_image.specs.Machine.{boot_machine}
@@ -31,5 +31,5 @@ lead_all-requires-2-clause-at c =
     subst (λ (i : ImageContents). IsAt i planned 0 c.in_ok-machine-2.machine) (sym same)
     (boots_at f.image planned
     (subst (λ (legs : List PlannedLeg). IsPlan (guest_of f.image) legs) (sym c.legs-planned.ensures.legs)
-    (subst (λ (g : Guest). IsPlan g plan.legs) c.requires.guest c.legs-planned.ensures.rules)) c.in_ok-machine-2.machine
+    (subst (λ (g : GuestParts). IsPlan g plan.legs) c.requires.guest c.legs-planned.ensures.rules)) c.in_ok-machine-2.machine
     (c.in_ok-machine-2.ensures.machine ∙ ap boot_machine same))

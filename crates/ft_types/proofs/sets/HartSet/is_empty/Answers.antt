@@ -1,6 +1,6 @@
 use Rattle.std.proofs.Common.{eqb-true, eq-eqb, sym, ◌∙◌}
 use Rattle.ft_types.proofs.Flags.{counted_none, none_counted}
-use Rattle.ft_types.proofs.sets.NumberSet.is_empty.Goals as goal
+use Rattle.ft_types.proofs.sets.HartSet.is_empty.Goals as goal
 
 pub returns-clause-none : goal.returns-clause-none
 returns-clause-none c = (
