@@ -1,6 +1,6 @@
 //! The pieces of a hart that go on without a gap, and their edges.
 
-ghost use Rattle.std.specs.Prelude.{◌≡◌, ◌≢◌, ◌<◌, ◌≤◌, ◌^◌, ◌++◌, IfOk, OnOk, IfSome, IfNone};
+ghost use Rattle.std.specs.Prelude.{◌≡◌, ◌≢◌, ◌<◌, ◌≤◌, ◌++◌, IfOk, OnOk, IfSome, IfNone};
 ghost use Rattle.std.specs.List.{filter_map};
 ghost use Rattle.fragment_codec.specs.Rules.{FragmentParts};
 ghost use Rattle.log_join.specs.Cells.{One};
@@ -11,7 +11,7 @@ ghost use Rattle.closed_cut.specs.Walks.{IsGathered};
 
 use edge_log::Edge;
 use fragment_codec::{Fragment, Frame, Key, Record};
-use ft_types::{Count, Hart, Memory, Term};
+use ft_types::{COUNT_LIMIT, Count, Hart, Memory, Term};
 use log_join::{Found, Store};
 use std::option::Option;
 use std::result::Result;
@@ -64,9 +64,9 @@ pub(crate) fn gather(
     from: Count,
     edges: &mut Vec<Edge>,
 ) -> Result<Count, Memory>
-    requires { from < 2 ^ 48 }
+    requires { from < COUNT_LIMIT }
     ensures gathered { IfOk result (λ end. IsGathered (pieces_of store.now term hart) from edges.old.items end edges.new.items) }
-    ensures limit { IfOk result (λ end. end < 2 ^ 48) }
+    ensures limit { IfOk result (λ end. end < COUNT_LIMIT) }
 {
     let mut end = from;
     for place in 0..=u32::MAX {

@@ -5,8 +5,8 @@ ghost use Rattle.failover_events.specs.Events.{MayCome};
 ghost use Rattle.event_script.specs.Events.{MayAllHappen};
 
 use crate::faults::{CommandFault, written};
-use failover_events::{Event, WorldFault};
-use failover_world::{Released, World};
+use failover_events::Event;
+use failover_world::{Released, World, WorldFault};
 use ft_types::{Failed, Sink, word_text, write_all};
 use guest_image::Image;
 use log_streams::{Quorum, write_numbered};

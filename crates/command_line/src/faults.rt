@@ -4,7 +4,7 @@ ghost use Rattle.std.specs.Prelude.{◌≡◌, ◌≢◌};
 
 use crate::words::{NamedFile, Request, WordsFault};
 use event_script::EventsFault;
-use failover_events::WorldFault;
+use failover_world::WorldFault;
 use ft_types::{Count, Failed, Hart, Memory, PageNo, Sink, write_all};
 use guest_image::ImageFault;
 use hart_replay::ReplayFault;

@@ -2,6 +2,7 @@
 use Rattle.std.specs.Prelude.{◌≡◌, ℕ, ◌+◌, ◌^◌, ◌<◌, List, [], ◌∷◌, ◌++◌, length, codes, decimal}
 use Rattle.std.specs.List.{flat_map, AllByRecursion}
 use Rattle.ft_types.specs.Text.{line, word}
+use Rattle.ft_types.specs.declared.names.TheConstants.{COUNT_LIMIT}
 use Rattle.input_log.specs.declared.Input.{Input}
 use Rattle.input_log.specs.declared.Input.TheVariants as input
 use Rattle.input_script.specs.Script.{IsHart, IsWaited}
@@ -66,19 +67,19 @@ event_text e = name_of e ++ (spaced_numbers (numbers_of e) ++ spaced_words (word
 -- ---- which events there are
 
 abbrev pub AreNumbers : List ℕ → Type 0
-AreNumbers ns = AllByRecursion (λ n. n < 2 ^ 48) ns
+AreNumbers ns = AllByRecursion (λ n. n < COUNT_LIMIT) ns
 
 -- what may be said for this number of harts
 abbrev pub MayHappen : ℕ → Event → Type 0
 MayHappen harts (Step hart) = IsHart harts hart
 MayHappen harts (Offer hart i) = IsHart harts hart × IsWaited i
 MayHappen harts Seal = Unit {0}
-MayHappen harts (Deliver keeper frame) = (keeper < 2 ^ 48) × (frame < 2 ^ 48)
-MayHappen harts (Join keeper other) = (keeper < 2 ^ 48) × (other < 2 ^ 48)
-MayHappen harts (Acknowledge keeper) = keeper < 2 ^ 48
+MayHappen harts (Deliver keeper frame) = (keeper < COUNT_LIMIT) × (frame < COUNT_LIMIT)
+MayHappen harts (Join keeper other) = (keeper < COUNT_LIMIT) × (other < COUNT_LIMIT)
+MayHappen harts (Acknowledge keeper) = keeper < COUNT_LIMIT
 MayHappen harts Release = Unit {0}
 MayHappen harts Stop = Unit {0}
-MayHappen harts (Lose keeper) = keeper < 2 ^ 48
+MayHappen harts (Lose keeper) = keeper < COUNT_LIMIT
 MayHappen harts (Grant term keepers) = (term < 2 ^ 32) × AreNumbers keepers.items × (0 < length keepers.items)
 
 abbrev pub MayAllHappen : ℕ → List Event → Type 0

@@ -1,6 +1,6 @@
 //! Numbers that stand one after the other in a line.
 
-ghost use Rattle.std.specs.Prelude.{◌≡◌, ℕ, List, ◌<◌, ◌^◌, ◌++◌, ◌∷◌, decimal, IfSome, IfNone, IfOk};
+ghost use Rattle.std.specs.Prelude.{◌≡◌, ℕ, List, ◌<◌, ◌++◌, ◌∷◌, decimal, IfSome, IfNone, IfOk};
 ghost use Rattle.input_script.specs.Script.{HasNone};
 ghost use Rattle.event_script.specs.Events.{AreNumbers, spaced_numbers};
 
@@ -21,8 +21,8 @@ pub(super) fn cut(text: &[u8]) -> (&[u8], Option<&[u8]>)
 
 /// The number that the text is, below `COUNT_LIMIT`.
 pub(super) fn read_small(text: &[u8]) -> Option<u64>
-    ensures found { IfSome result (λ n. (n < 2 ^ 48) × (text.now ≡ decimal n)) }
-    ensures none { IfNone result ((n : ℕ) → n < 2 ^ 48 → text.now ≡ decimal n → ⊥) }
+    ensures found { IfSome result (λ n. (n < COUNT_LIMIT) × (text.now ≡ decimal n)) }
+    ensures none { IfNone result ((n : ℕ) → n < COUNT_LIMIT → text.now ≡ decimal n → ⊥) }
 {
     let number = read_number(text)?;
     if number < COUNT_LIMIT {

@@ -1,8 +1,6 @@
-//! What may happen to a primary and its keepers, and why it may be refused.
+//! What may happen to a primary and its keepers.
 #![tactic(auto)]
 
 mod event;
-mod fault;
 
 pub use event::Event;
-pub use fault::WorldFault;

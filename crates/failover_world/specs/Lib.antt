@@ -1,3 +1,4 @@
+pub mod Faults
 pub mod Primaries
 pub mod Worlds
 pub mod Gating

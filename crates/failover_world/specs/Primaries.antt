@@ -1,6 +1,7 @@
 -- A primary as it begins.
-use Rattle.std.specs.Prelude.{ℕ, ◌≡◌, ◌-◌, ◌^◌, List, replicate}
+use Rattle.std.specs.Prelude.{ℕ, ◌≡◌, ◌-◌, List, replicate}
 use Rattle.ft_types.specs.Counts.{count_at}
+use Rattle.ft_types.specs.declared.names.TheConstants.{COUNT_LIMIT}
 use Rattle.guest_image.specs.Image.{ImageContents, guest_of}
 use Rattle.guest_image.specs.Machine.{boot_machine}
 use Rattle.book_modes.specs.Recordings.{IsUnused}
@@ -11,7 +12,7 @@ use Rattle.failover_world.specs.declared.primary.Primary.{Primary}
 
 -- the greatest limit, for each hart
 abbrev pub no_limits : ℕ → List ℕ
-no_limits harts = replicate harts (2 ^ 48 - 1)
+no_limits harts = replicate harts (COUNT_LIMIT - 1)
 
 -- nothing is cut: each hart's first piece begins at its count
 abbrev pub IsUncut : List ℕ → SealedView → Type 0

@@ -16,8 +16,8 @@ use Rattle.go_live.specs.declared.fault.LiveFault.TheVariants.{TooFewStores, Ter
 use Rattle.go_live.specs.Quorums.{AreEnough, IsOld}
 use Rattle.failover_events.specs.declared.event.Event.{Event}
 use Rattle.failover_events.specs.declared.event.Event.TheVariants as on
-use Rattle.failover_events.specs.declared.fault.WorldFault.{WorldFault}
-use Rattle.failover_events.specs.declared.fault.WorldFault.TheVariants.{NoPrimary, NoKeeper, NoFrame, NotStopped, Step, Live, Ack, Memory}
+use Rattle.failover_world.specs.declared.fault.WorldFault.{WorldFault}
+use Rattle.failover_world.specs.declared.fault.WorldFault.TheVariants.{NoPrimary, NoKeeper, NoFrame, NotStopped, Step, Live, Ack, Memory}
 use Rattle.hart_steps.specs.Steps.{IsUnmoved, RefusesStep}
 use Rattle.failover_world.specs.Worlds.{WorldView, store_at, term_of}
 use Rattle.failover_world.specs.Happenings.{stores_of}

@@ -9,7 +9,7 @@ ghost use Rattle.fragment_codec.specs.declared.frame.Frame.TheVariants.{Opening 
 ghost use Rattle.page_book.specs.declared.answers.BookFault.{BookFault as book_fault};
 ghost use Rattle.failover_events.specs.declared.event.Event.{Event as event_of};
 ghost use Rattle.failover_events.specs.declared.event.Event.TheVariants as on;
-ghost use Rattle.failover_events.specs.declared.fault.WorldFault.TheVariants.{Memory as NoMemory, NoPrimary};
+ghost use Rattle.failover_world.specs.declared.fault.WorldFault.TheVariants.{Memory as NoMemory, NoPrimary};
 ghost use Rattle.failover_world.specs.Primaries.{IsBooted};
 ghost use Rattle.failover_events.specs.Events.{MayCome};
 ghost use Rattle.failover_world.specs.Worlds.{term_of};
@@ -20,11 +20,12 @@ ghost use Rattle.go_live.specs.declared.fault.LiveFault.TheVariants.{Memory as N
 ghost use Rattle.input_log.specs.Inputs.{is_bell};
 ghost use Rattle.failover_world.specs.Promises.{IsOne, IsOfMachine, IsKept, AreHeld};
 
+use crate::fault::WorldFault;
 use crate::gating::{add_released, offer_all};
 use crate::keepers::{are_there, empty_stores, held_by, join, keeper_at, put, stores_named};
 use crate::primary::{Primary, boot, no_limits, tell_primary};
 use crate::released::Released;
-use failover_events::{Event, WorldFault};
+use failover_events::Event;
 use fragment_codec::{Frame, Sealed, cut_pieces};
 use ft_types::{Hart, Memory, Term};
 use go_live::{LiveFault, go_live};

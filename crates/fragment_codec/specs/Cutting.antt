@@ -3,7 +3,7 @@ use Rattle.std.specs.Prelude.{◌≡◌, ◌≢◌, ℕ, ◌≤◌, ◌<◌, ◌
 use Rattle.std.specs.List.{AllByRecursion}
 use Rattle.edge_log.specs.declared.Edge.{Edge as OwnedEdge}
 use Rattle.input_log.specs.declared.Input.{Input as HartInput}
-use Rattle.ft_types.specs.declared.names.TheConstants.{HART_ROW, INPUT_LIMIT}
+use Rattle.ft_types.specs.declared.names.TheConstants.{COUNT_LIMIT, HART_ROW, INPUT_LIMIT}
 use Rattle.fragment_codec.specs.declared.types.TheConstants.{RECORD_LIMIT}
 use Rattle.fragment_codec.specs.declared.types.Record.{Record}
 use Rattle.fragment_codec.specs.declared.types.Record.TheVariants.{Edge as EdgeRecord, Input as InputRecord}
@@ -48,7 +48,7 @@ pub record MayCut (origin : Origin) (records : List Record) (mark : Mark) : Type
   pub own : origin.hart < origin.guest.harts
   pub granted : 1 ≤ origin.term
   pub fits : origin.term < 2 ^ 32
-  pub end : origin.settled < 2 ^ 48
+  pub end : origin.settled < COUNT_LIMIT
   pub within : mark.count ≤ origin.settled
   pub logged : AreLogged origin.guest.harts origin.hart records
   pub there : StandBetween mark.count origin.settled records

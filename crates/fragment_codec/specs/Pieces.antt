@@ -9,8 +9,7 @@ use Rattle.edge_log.specs.EdgeLog.{Edges, row_of}
 use Rattle.input_log.specs.declared.Input.{Input as HartInput}
 use Rattle.input_log.specs.Inputs.{inputs_of}
 use Rattle.page_book.specs.Books.{BookView}
-use Rattle.book_modes.specs.Recordings.{RecordingView}
-use Rattle.hart_lease.specs.Runs.{counts_of}
+use Rattle.page_book.specs.Words.{counts_of, RecordingView}
 use Rattle.fragment_codec.specs.declared.types.TheConstants.{RECORD_LIMIT}
 use Rattle.fragment_codec.specs.declared.types.Record.{Record}
 use Rattle.fragment_codec.specs.declared.types.Record.TheVariants.{Edge as EdgeRecord, Input as InputRecord}

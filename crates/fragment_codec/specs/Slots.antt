@@ -6,6 +6,7 @@ use Rattle.input_log.specs.declared.Input.TheVariants.{Timer, Word, Bell}
 use Rattle.fragment_codec.specs.declared.types.Record.{Record}
 use Rattle.fragment_codec.specs.declared.types.Record.TheVariants.{Edge as EdgeRecord, Input as InputRecord}
 use Rattle.fragment_codec.specs.Rules.{count_of}
+use Rattle.ft_types.specs.declared.names.TheConstants.{COUNT_LIMIT}
 
 -- the least slot that is free at the count `next`, where `slot` is at the count `at`
 abbrev pub free_slot : ℕ → ℕ → ℕ → ℕ
@@ -20,7 +21,7 @@ is_source harts (Bell source) = nat_lt source harts
 unfoldable pub slot_after : ℕ → ℕ → ℕ → ℕ → ℕ → Record → Option ℕ
 slot_after harts hart to at slot (EdgeRecord edge) =
     if nat_le at edge.at && nat_lt edge.at to && edge.hart == hart && nat_lt edge.other harts && not (edge.other == hart)
-    && nat_lt 0 edge.after && nat_lt edge.after (2 ^ 48) && nat_le (free_slot at slot edge.at) edge.other
+    && nat_lt 0 edge.after && nat_lt edge.after COUNT_LIMIT && nat_le (free_slot at slot edge.at) edge.other
     then Some (suc edge.other) else None
 slot_after harts hart to at slot (InputRecord count input) =
     if nat_le at count && nat_lt count to && is_source harts input && nat_lt (max 8 (free_slot at slot count)) 16

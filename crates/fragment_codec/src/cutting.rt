@@ -4,7 +4,7 @@ ghost use Rattle.std.specs.Prelude.{◌≡◌, ℕ, ◌≤◌, ◌<◌, length, 
 ghost use Rattle.ft_types.specs.Counts.{IsWithin, count_at};
 ghost use Rattle.fragment_codec.specs.Rules.{count_of, AreInOrder, IsFragment};
 ghost use Rattle.fragment_codec.specs.Pieces.{AreEdgesOf, AreInputsOf, IsCut, hart_log, book_log, mark_of};
-ghost use Rattle.hart_lease.specs.Runs.{counts_of};
+ghost use Rattle.page_book.specs.Words.{counts_of};
 ghost use Rattle.fragment_codec.specs.Cutting.{MayCut, CutsHart, end_of, log_of_records};
 
 use crate::frame::{Fragment, Frame, count};

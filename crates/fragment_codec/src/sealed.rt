@@ -4,7 +4,7 @@ ghost use Rattle.std.specs.Prelude.{◌≡◌, ℕ, ◌+◌, ◌<◌, ◌≤◌,
 ghost use Rattle.ft_types.specs.Counts.{count_at, IsWithin};
 ghost use Rattle.fragment_codec.specs.Pieces.{mark_of};
 
-use ft_types::{Count, Counts, HART_ROW, Hart};
+use ft_types::{COUNT_LIMIT, Count, Counts, HART_ROW, Hart};
 use std::marker::Model;
 
 /// For each hart of a guest, the place of its next piece and the count that its pieces reach.
@@ -59,7 +59,7 @@ impl Sealed {
     pub fn reached(&self, hart: Hart) -> Count
         requires { hart < length self.now.reached }
         ensures value { result ≡ (mark_of self.now hart).count }
-        ensures limit { result < 2 ^ 48 }
+        ensures limit { result < COUNT_LIMIT }
     {
         self.reached.get(hart)
     }
@@ -68,7 +68,7 @@ impl Sealed {
     pub(crate) fn advance(&mut self, hart: Hart, to: Count)
         requires hart { hart < length self.old.reached }
         requires place { (mark_of self.old hart).place < 2 ^ 32 }
-        requires count { to < 2 ^ 48 }
+        requires count { to < COUNT_LIMIT }
         ensures places { self.new.places ≡ slice_set self.old.places hart (slice_index self.old.places hart + 1) }
         ensures reached { self.new.reached ≡ slice_set self.old.reached hart to }
         ensures eight { length self.new.places ≡ HART_ROW }

@@ -1,6 +1,6 @@
 //! Harts that go step by step, each step with what it asks for.
 
-ghost use Rattle.std.specs.Prelude.{◌≡◌, ◌≢◌, ◌<◌, ◌≤◌, ◌^◌, ◌+◌, ◌-◌, ◌↔◌, ℕ, [], All, false, length, slice_get, Some, IfOk, OnOk, IfSome, IfNone, IsTrue};
+ghost use Rattle.std.specs.Prelude.{◌≡◌, ◌≢◌, ◌<◌, ◌≤◌, ◌+◌, ◌-◌, ◌↔◌, ℕ, [], All, false, length, slice_get, Some, IfOk, OnOk, IfSome, IfNone, IsTrue};
 ghost use Rattle.ft_types.specs.declared.names.TheConstants.{INPUT_LIMIT};
 ghost use Rattle.ft_types.specs.Counts.{count_at};
 ghost use Rattle.interleaving.specs.Log.{HasUnmet};
@@ -17,7 +17,7 @@ use crate::asked_pages::AskedPages;
 use crate::befores::Befores;
 use crate::marks::{Marks, Row};
 use edge_log::Edge;
-use ft_types::{Count, Counts, Hart, Memory, PageNo};
+use ft_types::{COUNT_LIMIT, Count, Counts, Hart, Memory, PageNo};
 use guest_image::Machine;
 use hart_replay::PlannedLeg;
 use input_log::Input;
@@ -80,7 +80,7 @@ fn harts_of(alloc: Global, machine: &Machine) -> Result<Vec<HartState>, Memory>
 
 fn count_of(counts: Counts, hart: Hart) -> Count
     ensures value { result ≡ count_at counts hart }
-    ensures limit { result < 2 ^ 48 }
+    ensures limit { result < COUNT_LIMIT }
 {
     if hart.number() < counts.harts() {
         counts.get(hart)
@@ -91,7 +91,7 @@ fn count_of(counts: Counts, hart: Hart) -> Count
 
 /// The first count above this one at which the hart has an edge or inputs, or its end, where that comes first.
 fn stop_of(leg: &PlannedLeg, hart: Hart, count: Count) -> Count
-    requires { count < 2 ^ 48 }
+    requires { count < COUNT_LIMIT }
     ensures { IsQuietTo leg.now hart (count + 1) result }
 {
     let end = count_of(leg.ends, hart);
@@ -142,7 +142,7 @@ impl Harts {
     fn step(&mut self, hart: Hart, inputs: &[Input], before: &Row) -> Result<Option<Clash>, Memory>
         requires hart { hart < length self.old.harts }
         requires few { length inputs.now ≤ INPUT_LIMIT }
-        requires runs { (h : HartRecord) → slice_get self.old.harts hart ≡ Some h → (h.halted ≡ false) × (h.count < 2 ^ 48 - 1) }
+        requires runs { (h : HartRecord) → slice_get self.old.harts hart ≡ Some h → (h.halted ≡ false) × (h.count < COUNT_LIMIT - 1) }
         requires marks { (h : HartRecord) → slice_get self.old.harts hart ≡ Some h → IsMarkedBelow self.old.pages hart (h.count + 1) }
         ensures taken { IfOk result (λ clash. IfNone clash ((h : HartRecord) → slice_get self.old.harts hart ≡ Some h →
             TakesStep hart h inputs.now before.now self.old self.new)) }
@@ -178,7 +178,7 @@ impl Harts {
         before: &Row,
     ) -> Result<Option<Clash>, Memory>
         requires hart { hart < length self.old.harts }
-        requires stop { stop < 2 ^ 48 }
+        requires stop { stop < COUNT_LIMIT }
         requires leg { IsLeg (length self.old.start.harts) leg.now }
         requires on { IsOn leg.now self.old }
         requires before { InForce self.old.befores hart before.now }

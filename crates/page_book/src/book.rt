@@ -1,6 +1,6 @@
 //! The book.
 
-ghost use Rattle.std.specs.Prelude.{All, ◌≡◌, ◌≢◌, ◌<◌, ◌≤◌, ◌^◌, ◌⊎◌, ◌+◌, ◌↔◌, ◌++◌, ◌∷◌, ℕ, List, [], length, replicate, map, slice_set, slice_get};
+ghost use Rattle.std.specs.Prelude.{All, ◌≡◌, ◌≢◌, ◌<◌, ◌≤◌, ◌⊎◌, ◌+◌, ◌↔◌, ◌++◌, ◌∷◌, ℕ, List, [], length, replicate, map, slice_set, slice_get};
 ghost use Rattle.std.specs.Prelude.{slice_index, slice_index_or, Some, None, Ok, Err, true, false, IfOk, IfErr, OnOk, OnErr, IsTrue};
 ghost use Rattle.std.specs.Vec.{vec_len, vec_capacity};
 ghost use Rattle.page_book.specs.Words.{added, asked_by, base_at, BeginsSchedule, count_at, counts_of, fresh, given_more, greater, HasHonestLog, HasUnmet};
@@ -19,7 +19,9 @@ use crate::laying::{add_stretch, take_back};
 use crate::lease::Lease;
 use book_modes::{Keep, Leg, Mode, Recording, Replaying, settled_counts, steps_taken};
 use edge_log::{Edge, EdgeLog};
-use ft_types::{Count, Counts, HART_LIMIT, Hart, HartSet, Memory, PageNo, Want};
+use ft_types::{
+    COUNT_LIMIT, Count, Counts, HART_LIMIT, HART_ROW, Hart, HartSet, Memory, PAGE_ROW, PageNo, Want,
+};
 use guest_image::{Machine, Page};
 use hart_lease::{Asked, Lent, OpenLease, Slot, Stretch, TakenPages};
 use input_log::{Input, InputLog};
@@ -34,7 +36,7 @@ pub struct Book<M: Mode> {
     start: Machine,
     machine: Machine,
     journal: Vec<Stretch>,
-    leases: [Option<OpenLease>; 8],
+    leases: [Option<OpenLease>; HART_ROW],
     mode: M,
 }
 
@@ -52,7 +54,7 @@ impl<M: Mode> Model for Book<M> {
 impl Book<Replaying> {
     /// A book without steps, which obeys a leg.
     pub fn begin(alloc: Global, start: Machine, leg: Leg) -> Result<Book<Replaying>, Memory>
-        ensures { IfOk result (λ b. b ≡ record { start = start; machine = start; journal = []; leases = replicate 8 None; mode = leg }) }
+        ensures { IfOk result (λ b. b ≡ record { start = start; machine = start; journal = []; leases = replicate HART_ROW None; mode = leg }) }
     {
         let machine = start.copy()?;
         Ok(Book {
@@ -69,7 +71,7 @@ impl Book<Recording> {
     /// A book without steps, whose harts do not go past these limits.
     pub fn begin(alloc: Global, start: Machine, limits: Counts) -> Result<Book<Recording>, Memory>
         requires { length limits ≡ length start.harts }
-        ensures book { IfOk result (λ b. b ≡ record { start = start; machine = start; journal = []; leases = replicate 8 None; mode = b.mode }) }
+        ensures book { IfOk result (λ b. b ≡ record { start = start; machine = start; journal = []; leases = replicate HART_ROW None; mode = b.mode }) }
         ensures mode { IfOk result (λ b. IsUnused b.mode start limits) }
     {
         let mode = Recording::new(alloc, &start, limits)?;
@@ -137,7 +139,7 @@ impl Book<Recording> {
     /// Each hart goes on to this count and no further, which no hart is past. No lease is open.
     pub fn limit_at(&mut self, limits: Counts)
         requires harts { length limits ≡ length self.old.machine.harts }
-        requires idle { self.old.leases ≡ replicate 8 None }
+        requires idle { self.old.leases ≡ replicate HART_ROW None }
         requires settled { (hart : ℕ) → counts_of self.old.machine hart ≤ count_at limits hart }
         ensures { self.new ≡ record self.old { mode = record self.old.mode { limits = limits } } }
     {
@@ -221,7 +223,7 @@ impl<M: Mode> Book<M> {
 
     /// What the hart, which is at this count, goes out with. It has an open lease then, of no page.
     fn lend_out(&mut self, alloc: Global, hart: Hart, count: Count, taken: TakenPages) -> Lent
-        requires taken { taken ≡ replicate 64 None }
+        requires taken { taken ≡ replicate PAGE_ROW None }
         requires hart { hart < length self.old.machine.harts }
         requires unlent { open_at self.old.leases hart ≡ None }
         requires count { count ≡ counts_of self.old.machine hart }
@@ -229,7 +231,7 @@ impl<M: Mode> Book<M> {
         requires met { HasUnmet (M.obeyed self.old.mode) (counts_of self.old.machine) hart → ⊥ }
         ensures book { self.new ≡ record self.old { leases = slice_set self.old.leases hart (Some (nothing_taken result)); mode = self.new.mode } }
         ensures lent { M.lends self.old.mode hart count result self.new.mode }
-        ensures stop { result.stop < 2 ^ 48 }
+        ensures stop { result.stop < COUNT_LIMIT }
     {
         let lent = self.mode.lend(alloc, hart, count);
         self.leases[hart.index()] = Some(OpenLease::new(alloc, &lent, taken));
@@ -256,7 +258,7 @@ impl<M: Mode> Book<M> {
         settled: &Counts,
         asked: &Asked,
         found: &[Edge],
-        waiting: SmallVec<Edge, 8>,
+        waiting: SmallVec<Edge, HART_ROW>,
     )
         requires asks { IsAsking (M.keeps self.old.mode) self.old.machine self.old.leases asked.now }
         requires free { (g : ℕ) → M.is_holder self.old.mode self.old.leases asked.now g → ⊥ }
@@ -457,8 +459,8 @@ impl<M: Mode> Book<M> {
 
     /// Ends every open lease without its steps: each hart gives up what its lease took, at its settled count.
     pub fn reclaim(&mut self)
-        ensures book { self.new ≡ record self.old { leases = replicate 8 None; mode = self.new.mode } }
-        ensures mode { EndsFirst (M.ends) self.old.machine self.old.leases 8 self.old.mode self.new.mode }
+        ensures book { self.new ≡ record self.old { leases = replicate HART_ROW None; mode = self.new.mode } }
+        ensures mode { EndsFirst (M.ends) self.old.machine self.old.leases HART_ROW self.old.mode self.new.mode }
     {
         let _ = &self.start;
         for number in 0..HART_LIMIT {
@@ -468,7 +470,7 @@ impl<M: Mode> Book<M> {
 
     /// An equal book, of one without open leases.
     pub fn copy(&self) -> Result<Book<M>, Memory>
-        requires idle { self.now.leases ≡ replicate 8 None }
+        requires idle { self.now.leases ≡ replicate HART_ROW None }
         ensures { IfOk result (λ b. b ≡ self.now) }
     {
         Ok(Book {

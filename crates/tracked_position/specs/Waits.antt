@@ -1,11 +1,12 @@
 -- Why a hart goes no further: private words.
-use Rattle.std.specs.Prelude.{ℕ, ◌≡◌, ◌<◌, ◌≤◌, ◌-◌, ◌^◌, min, List, Contains, sum_by, Option, Some, None, slice_index_or}
+use Rattle.std.specs.Prelude.{ℕ, ◌≡◌, ◌<◌, ◌≤◌, ◌-◌, min, List, Contains, sum_by, Option, Some, None, slice_index_or}
 use Rattle.edge_log.specs.declared.Edge.{Edge}
 use Rattle.fragment_codec.specs.Rules.{FragmentParts}
 use Rattle.log_join.specs.Stores.{StoreView}
 use Rattle.closed_cut.specs.Position.{pieces_of}
 use Rattle.tracked_position.specs.Cuts.{edges_in, GoesOver, IsCutOf}
 use Rattle.ft_types.specs.Counts.{count_at}
+use Rattle.ft_types.specs.declared.names.TheConstants.{COUNT_LIMIT}
 
 -- the hart waits for none, or for one that is held
 pub data IsHeld (waits : List (Option ℕ)) : ℕ → Type 0 where
@@ -35,7 +36,7 @@ limited_to (Some limit) hart count = min count (count_at limit hart)
 
 -- how far the counts can still rise, all in all
 abbrev pub room : List ℕ → ℕ
-room counts = sum_by (λ n. 2 ^ 48 - n) counts
+room counts = sum_by (λ n. COUNT_LIMIT - n) counts
 
 abbrev pub total : List ℕ → ℕ
 total counts = sum_by (λ n. n) counts

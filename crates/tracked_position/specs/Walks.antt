@@ -1,6 +1,6 @@
 -- A walk that goes on from where an earlier one stopped: private words.
-use Rattle.std.specs.Prelude.{ℕ, ◌≡◌, ◌<◌, ◌≤◌, ◌^◌, List, Contains, slice_index_or, Option, Some, None}
-use Rattle.ft_types.specs.declared.names.TheConstants.{HART_LIMIT}
+use Rattle.std.specs.Prelude.{ℕ, ◌≡◌, ◌<◌, ◌≤◌, List, Contains, slice_index_or, Option, Some, None}
+use Rattle.ft_types.specs.declared.names.TheConstants.{COUNT_LIMIT, HART_LIMIT}
 use Rattle.edge_log.specs.declared.Edge.{Edge}
 use Rattle.fragment_codec.specs.declared.types.Key.{Key}
 use Rattle.fragment_codec.specs.Rules.{FragmentParts}
@@ -53,7 +53,7 @@ pub record IsFacing (pieces : ℕ → Cell FragmentParts) (cut : ℕ → ℕ) (a
   pub one : pieces at.place ≡ One piece
   pub from : piece.from ≡ at.end
   pub has : Contains (edges_in piece) e
-  pub below : e.at < 2 ^ 48
+  pub below : e.at < COUNT_LIMIT
   pub first : (other : Edge) → Contains (edges_in piece) other → other.at < e.at → Meets cut other
 
 -- this holds of the piece with which a walk would go on

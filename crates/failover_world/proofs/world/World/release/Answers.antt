@@ -11,7 +11,7 @@ use Rattle.failover_world.specs.Refusals.{IsLeft}
 use Rattle.failover_world.specs.Tied.{AreParts, IsWorld}
 use Rattle.failover_world.proofs.Releasing.{rising, released}
 use Rattle.failover_world.proofs.Waiting.{still_offered, released_offered}
-use Rattle.failover_events.specs.declared.fault.WorldFault.{WorldFault}
+use Rattle.failover_world.specs.declared.fault.WorldFault.{WorldFault}
 use Rattle.failover_world.proofs.Gates.{noted_world, offers_rest, left_with, rest_after, was_offered, same_lines, every_line, all_going, few_held, on_ok}
 use Rattle.failover_world.proofs.world.World.release.Goals as goal
 

@@ -4,8 +4,8 @@ use Rattle.page_book.specs.declared.answers.BookFault.{BookFault}
 use Rattle.page_book.specs.declared.answers.BookFault.TheVariants.{Leased, Halted, EdgeOpen, AtLimit, Foreign, Memory as NoBookMemory}
 use Rattle.go_live.specs.declared.fault.LiveFault.{LiveFault}
 use Rattle.go_live.specs.declared.fault.LiveFault.TheVariants.{TooFewStores, TermNotNew, Replay, Memory as NoLiveMemory}
-use Rattle.failover_events.specs.declared.fault.WorldFault.{WorldFault}
-use Rattle.failover_events.specs.declared.fault.WorldFault.TheVariants.{NoPrimary, NoKeeper, NoFrame, NotStopped, Step, Live, Ack, Memory}
+use Rattle.failover_world.specs.declared.fault.WorldFault.{WorldFault}
+use Rattle.failover_world.specs.declared.fault.WorldFault.TheVariants.{NoPrimary, NoKeeper, NoFrame, NotStopped, Step, Live, Ack, Memory}
 
 abbrev pub fault_number : WorldFault → ℕ
 fault_number NoPrimary = 1

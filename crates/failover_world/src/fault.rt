@@ -1,7 +1,7 @@
 //! Why an event is refused.
 
 ghost use Rattle.std.specs.Prelude.{◌≡◌};
-ghost use Rattle.failover_events.specs.Faults.{fault_number};
+ghost use Rattle.failover_world.specs.Faults.{fault_number};
 
 use ack_core::AckFault;
 use ft_types::Memory;
@@ -49,7 +49,7 @@ impl WorldFault {
 
 impl From<Memory> for WorldFault {
     ghost use Rattle.std.specs.Prelude.{◌≡◌};
-    ghost use Rattle.failover_events.specs.declared.fault.WorldFault.TheVariants.{Memory as NoMemory};
+    ghost use Rattle.failover_world.specs.declared.fault.WorldFault.TheVariants.{Memory as NoMemory};
 
     ghost from_gives = { λ _ e. e ≡ NoMemory };
 
@@ -60,7 +60,7 @@ impl From<Memory> for WorldFault {
 
 impl From<BookFault> for WorldFault {
     ghost use Rattle.std.specs.Prelude.{◌≡◌};
-    ghost use Rattle.failover_events.specs.Faults.{fault_of_book};
+    ghost use Rattle.failover_world.specs.Faults.{fault_of_book};
 
     ghost from_gives = { λ fault e. e ≡ fault_of_book fault };
 
@@ -74,7 +74,7 @@ impl From<BookFault> for WorldFault {
 
 impl From<LiveFault> for WorldFault {
     ghost use Rattle.std.specs.Prelude.{◌≡◌};
-    ghost use Rattle.failover_events.specs.Faults.{fault_of_live};
+    ghost use Rattle.failover_world.specs.Faults.{fault_of_live};
 
     ghost from_gives = { λ fault e. e ≡ fault_of_live fault };
 
