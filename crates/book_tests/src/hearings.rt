@@ -7,7 +7,7 @@ use fixtures::{Act, Crew, RING_EACH_OTHER, SAYS_ITS_WORD, Said, edge, hart, imag
 use ft_types::{Count, Counts, Hart, Memory};
 use guest_image::Machine;
 use input_log::Input;
-use page_book::{Book, BookFault, Keep, Recording};
+use page_book::{Book, BookFault, Keep, Mode, Recording};
 use std::alloc::Global;
 use std::test::Fail;
 
@@ -81,20 +81,29 @@ fn words_of(book: &Book<Recording>) -> Option<[u32; 2]> {
     Some(machine.hart(Hart::new(0)).device_words())
 }
 
-/// The calls by which a word at count 1 is given.
-fn two_runs() -> [(Act, Said); 3] {
+/// Makes the calls by which a word at count 1 is given. How many were answered as is said.
+fn play_two_runs<M: Mode>(alloc: Global, crew: &mut Crew<M>) -> usize {
     let hart = hart(0);
-    [
-        (Act::Run(hart), Said::Steps(1)),
-        (Act::Run(hart), Said::Steps(3)),
-        (Act::Lend(hart), Said::Refused(BookFault::Halted)),
-    ]
+    crew.play(
+        alloc,
+        &[
+            (Act::Run(hart), Said::Steps(1)),
+            (Act::Run(hart), Said::Steps(3)),
+        ],
+    )
 }
 
-/// A book whose hart was given a word at count 1, once these calls were made.
+/// Whether the first hart has halted.
+fn has_halted<M: Mode>(alloc: Global, crew: &mut Crew<M>) -> bool {
+    let halted = Said::Refused(BookFault::Halted);
+    crew.play(alloc, &[(Act::Lend(hart(0)), halted)]) == 1
+}
+
+/// A book whose hart was given a word at count 1, and how many of these calls were answered as is said.
 fn word_given(alloc: Global) -> Result<(usize, Book<Recording>), Fail> {
     let mut crew = crew_of(alloc, SAYS_ITS_WORD, &[100], &[(1, Input::Word(42))])?;
-    let played = crew.play(alloc, &two_runs());
+    let played = play_two_runs(alloc, &mut crew);
+    let played = played.saturating_add(usize::from(has_halted(alloc, &mut crew)));
     Ok((played, crew.end()))
 }
 
@@ -113,7 +122,7 @@ fn a_replay_hears_what_was_recorded(rt: HostRuntime) -> Result<(), Fail> {
     let (recorded, book) = word_given(rt.alloc())?;
     let image = image_of(rt.alloc(), SAYS_ITS_WORD)?;
     let mut crew = replaying(rt.alloc(), &image, &book)?;
-    let replayed = crew.play(rt.alloc(), &two_runs()[..2]);
+    let replayed = play_two_runs(rt.alloc(), &mut crew);
     let again = crew.end();
     assert_eq!(rt; (recorded, replayed), (3, 2));
     assert!(rt; same_machine(&again, &book));

@@ -17,7 +17,7 @@ fn both_stored(alloc: Global, keep: Keep) -> Result<Book<Recording>, Fail> {
     let first = crew.run(alloc, hart(0), keep);
     let second = crew.run(alloc, hart(1), keep);
     let book = crew.end();
-    if (first, second) == (Ok(4), Ok(4)) {
+    if matches!((first, second), (Ok(4), Ok(4))) {
         Ok(book)
     } else {
         Err("steps".into())

@@ -69,7 +69,9 @@ pub fn edges_of(alloc: Global, harts: u8, edges: &[Edge]) -> Result<EdgeLog, Fai
             return Err("edge".into());
         }
         if let Err(Memory) = log.add(*edge) {
-            let _added = log.add(*edge).map_err(|_| "memory")?;
+            let Ok(_) = log.add(*edge) else {
+                return Err("memory".into());
+            };
         }
     }
     Ok(log)

@@ -21,14 +21,21 @@ fn cut(alloc: Global, book: &Book<Recording>, sealed: &mut Sealed) -> Result<Vec
     Ok(cut_pieces(alloc, book, &two_harts(), 3, sealed).map_err(|_| "memory")?)
 }
 
-/// A book whose second hart is offered a word.
-fn offered(alloc: Global) -> Result<Book<Recording>, Fail> {
-    let mut book = recorder(alloc, &image_of(alloc, SAYS_ITS_WORD)?, &[9, 9])?;
+/// Offers the second of two harts a word.
+fn offer_word(book: &mut Book<Recording>) -> Result<(), Fail> {
     if book.machine().harts() != 2 {
         return Err("harts".into());
     }
-    book.offer(Hart::new(1), 1, Input::Word(42))
-        .map_err(|_| "memory")?;
+    match book.offer(Hart::new(1), 1, Input::Word(42)) {
+        Ok(()) => Ok(()),
+        Err(_) => Err("memory".into()),
+    }
+}
+
+/// A book whose second hart is offered a word.
+fn offered(alloc: Global) -> Result<Book<Recording>, Fail> {
+    let mut book = recorder(alloc, &image_of(alloc, SAYS_ITS_WORD)?, &[9, 9])?;
+    offer_word(&mut book)?;
     Ok(book)
 }
 
