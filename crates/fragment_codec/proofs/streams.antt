@@ -4,3 +4,5 @@ pub mod Pieces
 pub mod Readings
 pub mod Faults
 pub mod AtFault
+pub mod Decided
+pub mod HasReading

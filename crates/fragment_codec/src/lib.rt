@@ -20,7 +20,8 @@ pub use fault::FrameFault;
 pub use feed::Feed;
 pub use frame::{Fragment, Frame, Opening};
 pub use laws::{
-    any_cutting, faults_by_bytes, lasting_fault, one_fault, one_reading, one_spelling, short_rest,
+    any_cutting, faults_by_bytes, has_reading, lasting_fault, one_fault, one_reading, one_spelling,
+    short_rest,
 };
 pub use sealed::Sealed;
 pub use types::{FRAME_LIMIT, FRAME_VERSION, Key, RECORD_LIMIT, Record};

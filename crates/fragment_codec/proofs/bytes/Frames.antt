@@ -109,13 +109,16 @@ frame_found bytes n whole text body f fits c digest b e =
     let g = frame_all (slice_index bytes 3) body f h.kind body-fits e in
     sym c.whole-is ∙ digest ∙ ap (λ (k : ℕ). sealed (take (k - 32) whole)) len ∙ ap sealed (sym c.text-is ∙ t2) ∙ g
 
-pub frame_none : (bytes : List ℕ) (n : ℕ) (whole text body : List ℕ) → IsCut bytes n whole text → body ≡ drop 8 text →
-    ((f : Frame) → frame_of (slice_index bytes 3) body ≡ Some f → IsFrame f → ⊥) → (f : Frame) → IsFrame f → take n bytes ≢ spelling f
-frame_none bytes n whole text body c b none f h w =
+-- a frame that the first n bytes spell is read there
+pub frame_back : (bytes : List ℕ) (n : ℕ) (whole text body : List ℕ) → IsCut bytes n whole text → body ≡ drop 8 text → (f : Frame) → IsFrame f →
+    take n bytes ≡ spelling f → frame_of (slice_index bytes 3) body ≡ Some f
+frame_back bytes n whole text body c b f h w =
     let there = c.there in
     let len : length whole ≡ n = omega (arith, ap length c.whole-is, length-take n bytes) in
     let split : whole ++ drop n bytes ≡ bytes = ap (λ (x : List ℕ). x ++ drop n bytes) c.whole-is ∙ take-append-drop n bytes in
     let again = frame_again f whole (drop n bytes) text h (c.whole-is ∙ w) (c.text-is ∙ ap (λ (k : ℕ). take (k - 32) whole) (sym len)) in
-    let at : frame_of (slice_index bytes 3) body ≡ Some f = ap (frame_of (slice_index bytes 3)) b ∙
-    ap (λ (x : List ℕ). frame_of (slice_index x 3) (drop 8 text)) (sym split) ∙ again in
-    none f at h
+    ap (frame_of (slice_index bytes 3)) b ∙ ap (λ (x : List ℕ). frame_of (slice_index x 3) (drop 8 text)) (sym split) ∙ again
+
+pub frame_none : (bytes : List ℕ) (n : ℕ) (whole text body : List ℕ) → IsCut bytes n whole text → body ≡ drop 8 text →
+    ((f : Frame) → frame_of (slice_index bytes 3) body ≡ Some f → IsFrame f → ⊥) → (f : Frame) → IsFrame f → take n bytes ≢ spelling f
+frame_none bytes n whole text body c b none f h w = none f (frame_back bytes n whole text body c b f h w) h

@@ -107,6 +107,10 @@ not_body : (bytes : List ℕ) → head_of bytes ≡ Err Body → ⊥
 unfolding head_of
 not_body bytes e = no_other Body _ _ _ _ _ _ (λ h. cc) (λ h. cc) (λ h. cc) (λ h. cc) e
 
+pub not_memory : (bytes : List ℕ) → head_of bytes ≡ Err Memory → ⊥
+unfolding head_of
+not_memory bytes e = no_other Memory _ _ _ _ _ _ (λ h. cc) (λ h. cc) (λ h. cc) (λ h. cc) e
+
 pub head_fault : (bytes : List ℕ) (f : FrameFault) → head_of bytes ≡ Err f → (f ≡ Memory) ⊎ HasFault bytes f
 head_fault bytes Magic e = inr e
 head_fault bytes Version e = inr e
