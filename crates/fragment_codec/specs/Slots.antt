@@ -1,12 +1,12 @@
--- The order of records as a test walks through it: at one count, edges have the slots 0 to 7, by the other hart, and inputs
--- the slots 8 to 15. Private words, which the laws in proofs/ tie to the rules.
-use Rattle.std.specs.Prelude.{ℕ, ◌^◌, suc, Bool, true, false, ◌&&◌, ◌==◌, not, nat_lt, nat_le, if◌then◌else◌, max, List, [], ◌∷◌, Option, Some, None}
+-- The order of records as a test walks through it: at one count, edges have the first slots, one for each other hart, and inputs
+-- those behind them. Private words, which the laws in proofs/ tie to the rules.
+use Rattle.std.specs.Prelude.{ℕ, ◌+◌, ◌^◌, suc, Bool, true, false, ◌&&◌, ◌==◌, not, nat_lt, nat_le, if◌then◌else◌, max, List, [], ◌∷◌, Option, Some, None}
 use Rattle.input_log.specs.declared.Input.{Input as HartInput}
 use Rattle.input_log.specs.declared.Input.TheVariants.{Timer, Word, Bell}
 use Rattle.fragment_codec.specs.declared.types.Record.{Record}
 use Rattle.fragment_codec.specs.declared.types.Record.TheVariants.{Edge as EdgeRecord, Input as InputRecord}
 use Rattle.fragment_codec.specs.Rules.{count_of}
-use Rattle.ft_types.specs.declared.names.TheConstants.{COUNT_LIMIT}
+use Rattle.ft_types.specs.declared.names.TheConstants.{COUNT_LIMIT, HART_LIMIT, INPUT_LIMIT}
 
 -- the least slot that is free at the count `next`, where `slot` is at the count `at`
 abbrev pub free_slot : ℕ → ℕ → ℕ → ℕ
@@ -24,8 +24,8 @@ slot_after harts hart to at slot (EdgeRecord edge) =
     && nat_lt 0 edge.after && nat_lt edge.after COUNT_LIMIT && nat_le (free_slot at slot edge.at) edge.other
     then Some (suc edge.other) else None
 slot_after harts hart to at slot (InputRecord count input) =
-    if nat_le at count && nat_lt count to && is_source harts input && nat_lt (max 8 (free_slot at slot count)) 16
-    then Some (suc (max 8 (free_slot at slot count))) else None
+    if nat_le at count && nat_lt count to && is_source harts input && nat_lt (max HART_LIMIT (free_slot at slot count)) (HART_LIMIT + INPUT_LIMIT)
+    then Some (suc (max HART_LIMIT (free_slot at slot count))) else None
 
 abbrev pub if_some : Option ℕ → (ℕ → Bool) → Bool
 if_some None f = false

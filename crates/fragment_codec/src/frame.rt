@@ -1,11 +1,12 @@
 //! A piece of a hart's log, and the opening of a term.
 
-ghost use Rattle.std.specs.Prelude.{◌≡◌, ◌↔◌, ℕ, ◌<◌, ◌≤◌, Option, Some, None, length, List, All, IsTrue, IsSome, IfSome, IfOk};
+ghost use Rattle.std.specs.Prelude.{◌+◌, ◌≡◌, ◌↔◌, ℕ, ◌<◌, ◌≤◌, Option, Some, None, length, List, All, IsTrue, IsSome, IfSome, IfOk};
+ghost use Rattle.ft_types.specs.declared.names.TheConstants.{HART_LIMIT, INPUT_LIMIT};
 ghost use Rattle.fragment_codec.specs.Rules.{IsKey, AreRecords, FragmentParts, OpeningParts, IsFragment, IsOpening, count_of};
 ghost use Rattle.fragment_codec.specs.Slots.{is_source, slot_after};
 
 use crate::types::{Key, RECORD_LIMIT, Record};
-use ft_types::{COUNT_LIMIT, Count, Counts, Guest, HART_LIMIT, Hart, Memory, Term};
+use ft_types::{COUNT_LIMIT, Count, Counts, Guest, HART_LIMIT, Hart, INPUT_LIMIT, Memory, Term};
 use input_log::Input;
 use std::alloc::Global;
 use std::marker::Model;
@@ -83,10 +84,13 @@ pub(crate) fn count(record: &Record) -> Count
     }
 }
 
+/// The slots at a count: one for each hart's edge, and behind them one for each input.
+const SLOT_LIMIT: u8 = HART_LIMIT + INPUT_LIMIT as u8;
+
 /// The slot behind a record, where it keeps the rules.
 #[tactic(auto, unfolding(crate::specs::Slots::slot_after))]
 fn next_slot(harts: u8, hart: Hart, to: Count, at: Count, slot: u8, fact: &Record) -> Option<u8>
-    requires { slot ≤ 16 }
+    requires { slot ≤ HART_LIMIT + INPUT_LIMIT }
     ensures slot { result ≡ slot_after harts hart to at slot fact.now }
 {
     match fact {
@@ -108,8 +112,8 @@ fn next_slot(harts: u8, hart: Hart, to: Count, at: Count, slot: u8, fact: &Recor
         }
         Record::Input(count, input) => {
             let free = if at == *count { slot } else { 0 };
-            let place = free.max(8);
-            if at <= *count && *count < to && keeps_source(harts, *input) && place < 16 {
+            let place = free.max(HART_LIMIT);
+            if at <= *count && *count < to && keeps_source(harts, *input) && place < SLOT_LIMIT {
                 Some(place + 1)
             } else {
                 None
