@@ -88,16 +88,7 @@ fn rights_copied(rights: &Vec<PageRight>) -> Result<Vec<PageRight>, Memory>
 fn dues_copied(alloc: Global, due: &[Due; HART_ROW]) -> [Due; HART_ROW]
     ensures { result ≡ due.now }
 {
-    [
-        due[0].copy(alloc),
-        due[1].copy(alloc),
-        due[2].copy(alloc),
-        due[3].copy(alloc),
-        due[4].copy(alloc),
-        due[5].copy(alloc),
-        due[6].copy(alloc),
-        due[7].copy(alloc),
-    ]
+    due.each_ref().map(|due| due.copy(alloc))
 }
 
 /// How far a hart at this count goes, where the next of what waits for it may be given at this other count.

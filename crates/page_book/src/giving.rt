@@ -9,12 +9,13 @@ use guest_image::Page;
 use hart_lease::{Asked, OpenLease};
 use smallvec::SmallVec;
 use std::alloc::Global;
+use std::array;
 
 /// No hart has an open lease.
 pub(crate) fn no_leases() -> [Option<OpenLease>; HART_ROW]
     ensures { result ≡ replicate HART_ROW None }
 {
-    [None, None, None, None, None, None, None, None]
+    array::from_fn(|_| None)
 }
 
 /// The edges that wait, with those found.
