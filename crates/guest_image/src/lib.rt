@@ -1,6 +1,7 @@
 //! Images of guests, machines that start from them, and the text of a machine.
 #![tactic(auto)]
 
+mod decoded_page;
 mod fault;
 mod image;
 mod lines;
@@ -8,6 +9,7 @@ mod machine;
 mod page;
 mod text;
 
+pub use decoded_page::DecodedPage;
 pub use fault::ImageFault;
 pub use image::{Image, read_image};
 pub use machine::Machine;

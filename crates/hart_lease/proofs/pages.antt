@@ -5,4 +5,4 @@ pub mod Given
 pub mod Counts
 pub mod Equal
 pub mod Places
-pub mod Codes
+pub mod SlotSets

@@ -1,5 +1,4 @@
 pub mod Slots
-pub mod Codes
 pub mod Taken
 pub mod OpenLeases
 pub mod Leases

@@ -27,6 +27,12 @@ is_writable Missing = false
 is_writable (Readable page) = false
 is_writable (Writable page) = true
 
+-- a page to read becomes one to write
+abbrev pub raised : Slot → Slot
+raised Missing = Missing
+raised (Readable page) = Writable page
+raised (Writable page) = Writable page
+
 -- a page that the lease lacks stands as zeros, which no step sees
 unfoldable pub zeros : List ℕ
 zeros = replicate 4096 0

@@ -23,7 +23,7 @@ use ft_types::{
     COUNT_LIMIT, Count, HART_LIMIT, HART_ROW, Hart, INPUT_LIMIT, LEASE_STEPS, Memory, PAGE_LIMIT,
     PAGE_ROW, PageNo, Want,
 };
-use guest_image::{Machine, Page};
+use guest_image::{DecodedPage, Machine, Page};
 use input_log::{Input, WaitingBell};
 use rv32_hart::{Decoder, HartState, Tick, run_quietly, tick, tick_running};
 use smallvec::SmallVec;
@@ -106,7 +106,7 @@ fn is_base(slot: &Slot, kept: &Option<Page>, here: &Page) -> bool
 {
     match (slot, kept) {
         (Slot::Missing, _) | (Slot::Writable(_), None) => true,
-        (Slot::Readable(page), _) => here.same(page),
+        (Slot::Readable(page), _) => here.same(page.page()),
         (Slot::Writable(_), Some(page)) => here.same(page),
     }
 }
@@ -345,7 +345,7 @@ impl Lease {
     }
 
     /// Takes a page in to read.
-    pub fn take_to_read(&mut self, page: PageNo, here: Page)
+    pub fn take_to_read(&mut self, page: PageNo, here: DecodedPage)
         requires page { page < length self.old.slots }
         requires missing { slot_at self.old.slots page ≡ Slot.Missing }
         ensures { self.new ≡ with_page_to_read self.old page here }
@@ -355,7 +355,7 @@ impl Lease {
     }
 
     /// Takes a page in to write, given twice over.
-    pub fn take_to_write(&mut self, page: PageNo, base: Page, present: Page)
+    pub fn take_to_write(&mut self, page: PageNo, base: Page, present: DecodedPage)
         requires page { page < length self.old.slots }
         requires unwritten { is_writable (slot_at self.old.slots page) ≡ false }
         requires lent { (bytes : List ℕ) → base_at self.old page ≡ Some bytes → bytes ≡ base }
@@ -367,17 +367,15 @@ impl Lease {
         drop(self.pages.put(page, Slot::Writable(present)));
     }
 
-    /// Takes a page in to write that it has to read, given once more.
-    pub fn raise_to_write(&mut self, page: PageNo, present: Page)
+    /// Takes a page in to write that it has to read, given once more. What is decoded of it stays.
+    pub fn raise_to_write(&mut self, page: PageNo, base: Page)
         requires page { page < length self.old.slots }
-        requires readable { slot_at self.old.slots page ≡ Slot.Readable present }
-        ensures { self.new ≡ with_page_to_write self.old page present present }
+        requires readable { slot_at self.old.slots page ≡ Slot.Readable base }
+        ensures { self.new ≡ with_page_to_write self.old page base base }
     {
         self.taken.take(page, Want::Write, self.present.count());
-        match self.pages.put(page, Slot::Writable(present)) {
-            Slot::Readable(base) => self.bases[page.index()] = Some(base),
-            _ => unreachable!(),
-        }
+        self.bases[page.index()] = Some(base);
+        self.pages.raise(page);
     }
 
     /// Whether the lease's hart and pages were lent by the machine, the pages at these counts.

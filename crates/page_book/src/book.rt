@@ -22,7 +22,7 @@ use edge_log::{Edge, EdgeLog};
 use ft_types::{
     COUNT_LIMIT, Count, Counts, HART_LIMIT, HART_ROW, Hart, HartSet, Memory, PAGE_ROW, PageNo, Want,
 };
-use guest_image::{Machine, Page};
+use guest_image::{DecodedPage, Machine};
 use hart_lease::{Asked, Lent, OpenLease, Slot, Stretch, TakenPages};
 use input_log::{Input, InputLog};
 use smallvec::SmallVec;
@@ -252,6 +252,15 @@ impl<M: Mode> Book<M> {
         }
     }
 
+    /// A copy of a page, with what the hart has decoded of it.
+    fn lend_page(&mut self, hart: Hart, page: PageNo) -> Result<DecodedPage, Memory>
+        requires { page < length self.old.machine.pages }
+        ensures lent { IfOk result (λ p. slice_get self.old.machine.pages page ≡ Some p) }
+        ensures kept { self.new ≡ self.old }
+    {
+        self.machine.lend_page(hart, page)
+    }
+
     /// Gives the asker its right, and writes down that its open lease has the page, and that these edges wait in it.
     fn hand_over(
         &mut self,
@@ -360,15 +369,47 @@ impl<M: Mode> Book<M> {
         if !harts.is_empty() {
             return Ok(Need::HeldBy(harts));
         }
+        let here = self.lend_page(asked.hart, page)?;
+        self.give_page(lease, page, want, here)?;
+        Ok(Need::Given)
+    }
+
+    /// Gives the lease, which is this book's, a page as it stands in the machine. No open lease stands against it.
+    fn give_page(
+        &mut self,
+        lease: &mut Lease,
+        page: PageNo,
+        want: Want,
+        here: DecodedPage,
+    ) -> Result<(), Memory>
+        requires ours { IsOurs self.old lease.old }
+        requires page { page < length self.old.machine.pages }
+        requires free { (g : ℕ) → M.is_holder self.old.mode self.old.leases (asked_by lease.old page want) g → ⊥ }
+        requires here { slice_get self.old.machine.pages page ≡ Some here }
+        ensures given { OnOk result (lease.new ≡ record (with_page lease.old page want here) { edges = lease.new.edges }) }
+        ensures taken { OnOk result (HasTaken (M.owes self.old.mode (counts_of self.old.machine) (asked_by lease.old page want)) self.old.leases
+            (asked_by lease.old page want) lease.old.edges lease.new.edges self.new.leases) }
+        ensures mode { OnOk result (M.gives self.old.mode (counts_of self.old.machine) (asked_by lease.old page want) self.new.mode) }
+        ensures ours { OnOk result (IsOurs self.new lease.new) }
+        ensures book_kept { OnErr result (self.new ≡ self.old) }
+        ensures lease_kept { OnErr result (lease.new ≡ lease.old) }
+        ensures book { self.new ≡ record self.old { leases = self.new.leases; mode = self.new.mode } }
+        ensures hart { lease.new.hart ≡ lease.old.hart }
+        ensures base { lease.new.base ≡ lease.old.base }
+        ensures present { lease.new.present ≡ lease.old.present }
+        ensures steps { lease.new.steps ≡ lease.old.steps }
+        ensures stop { lease.new.stop ≡ lease.old.stop }
+    {
+        let asked = lease.own.asks(page, want);
         let alloc = *self.journal.allocator();
         let settled = self.counts();
         let found = self.mode.edges_owed(alloc, &settled, &asked);
         let waiting = with_edges(alloc, lease.own.edges(), found.as_slice())?;
         let known = with_edges(alloc, lease.own.edges(), found.as_slice())?;
-        give(&mut lease.own, page, self.machine.page(page), want)?;
+        give(&mut lease.own, page, here, want)?;
         lease.own.wait_with(waiting);
         self.hand_over(&settled, &asked, found.as_slice(), known);
-        Ok(Need::Given)
+        Ok(())
     }
 
     /// Adds the lease's steps, where it is this book's. Otherwise it comes back.

@@ -5,7 +5,7 @@ ghost use Rattle.page_book.specs.Words.{base_at, given_more, OpenView, with_page
 
 use edge_log::Edge;
 use ft_types::{HART_ROW, Memory, PageNo, Want};
-use guest_image::Page;
+use guest_image::DecodedPage;
 use hart_lease::{Asked, OpenLease};
 use smallvec::SmallVec;
 use std::alloc::Global;
@@ -35,11 +35,11 @@ pub(crate) fn with_edges(
 pub(crate) fn give(
     lease: &mut hart_lease::Lease,
     page: PageNo,
-    here: &Page,
+    here: DecodedPage,
     want: Want,
 ) -> Result<(), Memory>
     requires page { page < length lease.old.slots }
-    requires lent { (bytes : List ℕ) → base_at lease.old page ≡ Some bytes → bytes ≡ here.now }
+    requires lent { (bytes : List ℕ) → base_at lease.old page ≡ Some bytes → bytes ≡ here }
     ensures hart { lease.new.hart ≡ lease.old.hart }
     ensures base { lease.new.base ≡ lease.old.base }
     ensures present { lease.new.present ≡ lease.old.present }
@@ -47,17 +47,17 @@ pub(crate) fn give(
     ensures stop { lease.new.stop ≡ lease.old.stop }
     ensures edges { lease.new.edges ≡ lease.old.edges }
     ensures slots { length lease.new.slots ≡ length lease.old.slots }
-    ensures given { OnOk result (lease.new ≡ with_page lease.old page want here.now) }
+    ensures given { OnOk result (lease.new ≡ with_page lease.old page want here) }
     ensures kept { OnErr result (lease.new ≡ lease.old) }
 {
     match (want, lease.right(page)) {
-        (Want::Read, None) => lease.take_to_read(page, here.copy()?),
+        (Want::Read, None) => lease.take_to_read(page, here),
         (Want::Write, None) => {
-            let base = here.copy()?;
-            lease.take_to_write(page, base, here.copy()?);
+            let base = here.page().copy()?;
+            lease.take_to_write(page, base, here);
         }
         (Want::Write, Some(held)) => match held {
-            Want::Read => lease.raise_to_write(page, here.copy()?),
+            Want::Read => lease.raise_to_write(page, here.into_page()),
             Want::Write => {}
         },
         _ => {}

@@ -9,27 +9,27 @@ use ft_types::{Hart, PAGE_LIMIT, PageNo};
 use guest_image::Machine;
 use hart_lease::{Slot, Stretch};
 
-/// Writes what a slot has into the machine, where it was written.
-fn lay_slot(machine: &mut Machine, page: PageNo, slot: Slot)
+/// Writes what a slot of the hart has into the machine, where it was written. What the hart has decoded is kept.
+fn lay_slot(machine: &mut Machine, hart: Hart, page: PageNo, slot: Slot)
     requires { page < length machine.old.pages }
     ensures { machine.new ≡ record machine.old { pages = with_slot machine.old.pages page slot } }
 {
     match slot {
-        Slot::Writable(new) => machine.put_page(page, new),
+        Slot::Writable(new) => machine.put_written(hart, page, new),
         Slot::Missing => {}
-        Slot::Readable(same) => drop(same),
+        Slot::Readable(same) => machine.keep_decoded(hart, page, same),
     }
 }
 
-/// Writes the pages that were written into the machine.
-fn lay(machine: &mut Machine, slots: Vec<Slot>)
+/// Writes the pages that the hart has written into the machine.
+fn lay(machine: &mut Machine, hart: Hart, slots: Vec<Slot>)
     requires same { length slots.items ≡ length machine.old.pages }
     requires limit { length slots.items ≤ PAGE_LIMIT }
     ensures { machine.new ≡ record machine.old { pages = laid_pages machine.old.pages slots.items } }
 {
     let mut number = 0u8;
     for slot in slots {
-        lay_slot(machine, PageNo::new(number), slot);
+        lay_slot(machine, hart, PageNo::new(number), slot);
         number += 1;
     }
 }
@@ -47,7 +47,7 @@ pub(crate) fn take_back(machine: &mut Machine, lease: hart_lease::Lease) -> u64
     let hart = lease.hart();
     let (present, slots, steps) = lease.spend();
     machine.put_hart_but_outputs(hart, present);
-    lay(machine, slots);
+    lay(machine, hart, slots);
     steps
 }
 

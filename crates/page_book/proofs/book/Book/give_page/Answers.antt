@@ -1,0 +1,59 @@
+use Rattle.std.proofs.Common.{rules, ◌≡◌, ◌∙◌, subst, sym, slice_get}
+use Rattle.hart_lease.specs.Leases.{LeaseView, whole_in, outputs_of, IsLentBy}
+use Rattle.hart_lease.specs.OpenLeases.{open_at}
+use Rattle.book_modes.specs.Modes.{IsAsking}
+use Rattle.page_book.specs.Books.{IsOurs}
+use Rattle.page_book.proofs.Ours.{need_ours}
+use Rattle.page_book.proofs.book.Book.give_page.Goals as goal
+
+pub returns-clause-ours : goal.returns-clause-ours
+returns-clause-ours g c =
+    rw c.hand_over.ensures.book
+    (need_ours c.args.self.now c.hand_over.new.self.mode c.lease.inside.own c.wait_with.new.self c.asks-asked.result c.as_slice-3.result.now c.args.here
+    (search rules) (search rules) (search rules) (search rules) (search rules) (search rules) c.asks-asked.ensures.kept (search rules) (search rules))
+
+pub hand_over-requires-clause-asks : goal.hand_over-requires-clause-asks
+hand_over-requires-clause-asks g c =
+    let b = c.args.self.now in
+    let l = c.lease.inside.own in
+    record {
+      start = b.start;
+      journal = b.journal;
+      asker = whole_in b.machine l;
+      is_lease = c.asks-asked.ensures.kept.with_any (outputs_of (slice_get b.machine.harts l.hart));
+      is_lent = subst (λ (v : LeaseView). IsOurs b v) (sym c.lease.view_is) c.requires.ours;
+      hart = search rules;
+      count = search rules;
+      page = search rules;
+      row = search rules;
+      limit = search rules;
+      kept = search rules;
+    }
+
+pub edges_owed-found-requires : goal.edges_owed-found-requires
+edges_owed-found-requires g c =
+    let i = c.self.inside in
+    let l = c.lease.inside.own in
+    let ours : IsLentBy (open_at i.leases l.hart) i.machine (whole_in i.machine l) = rw (← c.self.view_is, ← c.lease.view_is) at c.requires.ours in
+    let asks : IsAsking (g.M.Mode.keeps i.mode) i.machine i.leases c.asks-asked.result =
+    record {
+      start = i.start;
+      journal = i.journal.items;
+      asker = whole_in i.machine l;
+      is_lease = c.asks-asked.ensures.kept.with_any (outputs_of (slice_get i.machine.harts l.hart));
+      is_lent = ours;
+      hart = search rules;
+      count = search rules;
+      page = search rules;
+      row = search rules;
+      limit = search rules;
+      kept = c.self.invariant.keeps;
+    } in
+    record {
+      machine = i.machine;
+      leases = i.leases;
+      asks = asks;
+      free = λ hart holds. c.requires.free hart (rw (← c.self.view_is, ← c.lease.view_is, ← c.asks-asked.ensures.value) holds);
+      harts = search rules;
+      counts = search rules;
+    }
