@@ -116,6 +116,9 @@ fn takes(lease: &Option<OpenLease>, page: PageNo) -> bool
 fn right_yielded(right: PageRight, settled: &Counts, asked: &Asked) -> PageRight
     ensures { right_of result ≡ yielded asked.now (count_at settled.now) HART_LIMIT (right_of right) }
 {
+    if right.against(asked.hart, asked.want).is_empty() {
+        return right;
+    }
     let mut right = right;
     for number in 0..HART_LIMIT {
         let other = Hart::new(number);

@@ -178,7 +178,13 @@ impl PageRight {
                 Want::Read => HartSet::new(),
                 Want::Write => without(readers, hart),
             },
-            PageRight::Exclusive { owner, .. } => without(HartSet::new().with(owner), hart),
+            PageRight::Exclusive { owner, .. } => {
+                if owner == hart {
+                    HartSet::new()
+                } else {
+                    HartSet::new().with(owner)
+                }
+            }
         }
     }
 

@@ -3,6 +3,7 @@ use Rattle.std.specs.Prelude.{ℕ, List, [], ◌++◌, Bool, is_some, slice_set,
 use Rattle.ft_types.specs.declared.names.Want.{Want}
 use Rattle.edge_log.specs.declared.Edge.{Edge}
 use Rattle.input_log.specs.declared.Input.{Input}
+use Rattle.smallvec.specs.SmallVec.{SmallVec}
 use Rattle.hart_lease.specs.declared.taken.Taken.{Taken}
 use Rattle.hart_lease.specs.Taken.{taken_at, right_of_taken, taking}
 use Rattle.ft_types.specs.declared.names.Want.TheVariants.{Read, Write}
@@ -13,6 +14,11 @@ pub record OpenView : Type 0 where
   pub inputs : List Input  -- of its first step
   pub taken : List (Option Taken)  -- since when it has each page
   pub edges : List Edge  -- the edges that wait in it
+
+-- the edges that wait, once these stand in their place, where there are any
+abbrev pub edges_after : Option (SmallVec Edge) → List Edge → List Edge
+edges_after None waiting = waiting
+edges_after (Some all) waiting = all.items
 
 -- the open lease of a hart
 abbrev pub open_at : List (Option OpenView) → ℕ → Option OpenView

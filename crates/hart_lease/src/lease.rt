@@ -9,7 +9,7 @@ ghost use Rattle.guest_image.specs.Machine.{MachineState};
 ghost use Rattle.hart_lease.specs.Slots.{slot_at, want_of, base_of, is_writable};
 ghost use Rattle.hart_lease.specs.Runs.{IsBareLease};
 ghost use Rattle.hart_lease.specs.Asks.{asked_by};
-ghost use Rattle.hart_lease.specs.OpenLeases.{idle};
+ghost use Rattle.hart_lease.specs.OpenLeases.{edges_after, idle};
 ghost use Rattle.input_log.specs.Alike.{same_input};
 ghost use Rattle.hart_lease.specs.Leases.{LeaseView, fresh, rung_bell, bells_rung, IsFull, Ticks, StepsOn, Runs, IsLent, IsLentAt, base_at, whole, whole_in};
 ghost use Rattle.hart_lease.specs.Leases.{with_page_to_read, with_page_to_write};
@@ -25,7 +25,7 @@ use ft_types::{
 };
 use guest_image::{DecodedPage, Machine, Page};
 use input_log::{Input, WaitingBell};
-use rv32_hart::{Decoder, HartState, Tick, run_quietly, tick, tick_running};
+use rv32_hart::{Anew, HartState, Tick, run_quietly, tick, tick_running};
 use smallvec::SmallVec;
 use std::alloc::Global;
 use std::marker::Model;
@@ -50,7 +50,6 @@ pub struct Lease {
     stop: Count,
     /// The count at which it is full, if not before: its stop, or that after `LEASE_STEPS` steps.
     last: Count,
-    decoder: Box<Decoder>,
     ghost last_stops: { last ≤ stop },
     ghost last_ends: { last ≤ base.count + LEASE_STEPS },
     ghost last_is_one: { last < stop → base.count + LEASE_STEPS ≤ last },
@@ -134,7 +133,6 @@ impl Lease {
         let bases = no_pages(alloc, pages)?;
         let pages = LeasePages::missing(alloc, pages)?;
         let taken = TakenPages::none(alloc)?;
-        let decoder = Box::new(alloc, Decoder::new())?;
         Ok(Lease {
             hart,
             base,
@@ -146,7 +144,6 @@ impl Lease {
             edges: SmallVec::new(alloc),
             stop: 0,
             last: 0,
-            decoder,
         })
     }
 
@@ -223,11 +220,13 @@ impl Lease {
         }
     }
 
-    /// Puts these edges in place of those that wait.
-    pub fn wait_with(&mut self, edges: SmallVec<Edge, HART_ROW>)
-        ensures { self.new ≡ record self.old { edges = edges.items } }
+    /// Puts these edges in place of those that wait, where there are any.
+    pub fn wait_with(&mut self, edges: Option<SmallVec<Edge, HART_ROW>>)
+        ensures { self.new ≡ record self.old { edges = edges_after edges self.old.edges } }
     {
-        self.edges = edges;
+        if let Some(all) = edges {
+            self.edges = all;
+        }
     }
 
     /// The outputs of its steps.
@@ -275,7 +274,7 @@ impl Lease {
         if self.steps() == 0 {
             return self.tick_on_inputs();
         }
-        tick_running(&mut self.present, &mut *self.decoder, &mut self.pages)
+        tick_running(&mut self.present, &mut Anew, &mut self.pages)
     }
 
     /// Steps until the lease is full, or until one that is not done. There is room for one.
@@ -489,14 +488,12 @@ impl Lease {
             edges,
             stop: _,
             last: _,
-            decoder,
         } = self;
         drop(base);
         drop(inputs);
         drop(bases);
         drop(taken);
         drop(edges);
-        drop(decoder);
         (present, pages.into_slots(), steps)
     }
 }

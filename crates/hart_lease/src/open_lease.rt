@@ -1,7 +1,7 @@
 //! What a book knows of an open lease.
 
 ghost use Rattle.std.specs.Prelude.{◌≡◌, ◌<◌, ℕ, length, replicate, slice_set, None, Some};
-ghost use Rattle.hart_lease.specs.OpenLeases.{OpenView, right_of, nothing_taken};
+ghost use Rattle.hart_lease.specs.OpenLeases.{OpenView, edges_after, right_of, nothing_taken};
 ghost use Rattle.hart_lease.specs.Taken.{taken_at, taking};
 
 use crate::asked::Asked;
@@ -88,15 +88,17 @@ impl OpenLease {
         taken::right_of(&self.taken.row()[page.index()])
     }
 
-    /// Writes down that it was given a right, and which edges wait in it now.
-    pub fn take(&mut self, asked: &Asked, waiting: SmallVec<Edge, HART_ROW>)
+    /// Writes down that it was given a right, and which edges wait in it now, where others do.
+    pub fn take(&mut self, asked: &Asked, waiting: Option<SmallVec<Edge, HART_ROW>>)
         ensures { self.new ≡ record self.old {
           taken = slice_set self.old.taken asked.now.page
               (Some (taking (taken_at self.old.taken asked.now.page) asked.now.want asked.now.count));
-          edges = waiting.items;
+          edges = edges_after waiting self.old.edges;
         } }
     {
         self.taken.take(asked.page, asked.want, asked.count);
-        self.edges = waiting;
+        if let Some(all) = waiting {
+            self.edges = all;
+        }
     }
 }

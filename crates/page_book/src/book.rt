@@ -3,7 +3,7 @@
 ghost use Rattle.std.specs.Prelude.{All, ◌≡◌, ◌≢◌, ◌<◌, ◌≤◌, ◌⊎◌, ◌+◌, ◌↔◌, ◌++◌, ◌∷◌, ℕ, List, [], length, replicate, map, slice_set, slice_get};
 ghost use Rattle.std.specs.Prelude.{slice_index, slice_index_or, Some, None, Ok, Err, true, false, IfOk, IfErr, OnOk, OnErr, IsTrue};
 ghost use Rattle.std.specs.Vec.{vec_len, vec_capacity};
-ghost use Rattle.page_book.specs.Words.{added, asked_by, base_at, BeginsSchedule, count_at, counts_of, fresh, given_more, greater, HasHonestLog, HasUnmet};
+ghost use Rattle.page_book.specs.Words.{added, asked_by, base_at, BeginsSchedule, count_at, counts_of, edges_after, fresh, given_more, greater, HasHonestLog, HasUnmet};
 ghost use Rattle.page_book.specs.Words.{heard_by, inputs_of, is_bell, IsAsking, IsBareLease, IsBetween, IsFull, IsInputOf, IsLentBy};
 ghost use Rattle.page_book.specs.Words.{IsMember, IsMet, IsOffered, IsUnused, laid, laid_pages, LeadsTo, LeaseView, lent_with, nothing_taken, open_at};
 ghost use Rattle.page_book.specs.Words.{OpenView, RecordingView, row_of, slot_at, want_of, whole_in, with_page, with_slot};
@@ -267,14 +267,14 @@ impl<M: Mode> Book<M> {
         settled: &Counts,
         asked: &Asked,
         found: &[Edge],
-        waiting: SmallVec<Edge, HART_ROW>,
+        waiting: Option<SmallVec<Edge, HART_ROW>>,
     )
         requires asks { IsAsking (M.keeps self.old.mode) self.old.machine self.old.leases asked.now }
         requires free { (g : ℕ) → M.is_holder self.old.mode self.old.leases asked.now g → ⊥ }
         requires harts { length settled.now ≡ length self.old.machine.harts }
         requires settled { (hart : ℕ) → count_at settled.now hart ≡ counts_of self.old.machine hart }
         requires found { M.owes self.old.mode (count_at settled.now) asked.now found.now }
-        requires waiting { (lent : OpenView) → open_at self.old.leases asked.now.hart ≡ Some lent → waiting.items ≡ lent.edges ++ found.now }
+        requires waiting { (lent : OpenView) → open_at self.old.leases asked.now.hart ≡ Some lent → edges_after waiting lent.edges ≡ lent.edges ++ found.now }
         ensures book { self.new ≡ record self.old {
           leases = slice_set self.old.leases asked.now.hart (given_more (open_at self.old.leases asked.now.hart)
               asked.now.page asked.now.want asked.now.count found.now);

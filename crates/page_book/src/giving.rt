@@ -1,7 +1,7 @@
 //! What a lease that is given a page gets.
 
 ghost use Rattle.std.specs.Prelude.{◌≡◌, ◌<◌, ◌++◌, ℕ, List, length, replicate, None, Some, IfOk, OnOk, OnErr};
-ghost use Rattle.page_book.specs.Words.{base_at, given_more, OpenView, with_page};
+ghost use Rattle.page_book.specs.Words.{base_at, edges_after, given_more, OpenView, with_page};
 
 use edge_log::Edge;
 use ft_types::{HART_ROW, Memory, PageNo, Want};
@@ -18,17 +18,20 @@ pub(crate) fn no_leases() -> [Option<OpenLease>; HART_ROW]
     array::from_fn(|_| None)
 }
 
-/// The edges that wait, with those found.
+/// The edges that wait, with those found, where any were found.
 pub(crate) fn with_edges(
     alloc: Global,
     waiting: &[Edge],
     found: &[Edge],
-) -> Result<SmallVec<Edge, HART_ROW>, Memory>
-    ensures { IfOk result (λ all. all.items ≡ waiting.now ++ found.now) }
+) -> Result<Option<SmallVec<Edge, HART_ROW>>, Memory>
+    ensures { IfOk result (λ all. edges_after all waiting.now ≡ waiting.now ++ found.now) }
 {
+    if found.is_empty() {
+        return Ok(None);
+    }
     let mut all = SmallVec::from_slice(alloc, waiting)?;
     all.extend_from_slice(found)?;
-    Ok(all)
+    Ok(Some(all))
 }
 
 /// Gives the lease the page as it stands here.
@@ -70,9 +73,9 @@ pub(crate) fn note_taken(
     lease: &mut Option<OpenLease>,
     asked: &Asked,
     _found: &[Edge],
-    waiting: SmallVec<Edge, HART_ROW>,
+    waiting: Option<SmallVec<Edge, HART_ROW>>,
 )
-    requires { (lent : OpenView) → lease.old ≡ Some lent → waiting.items ≡ lent.edges ++ _found.now }
+    requires { (lent : OpenView) → lease.old ≡ Some lent → edges_after waiting lent.edges ≡ lent.edges ++ _found.now }
     ensures { lease.new ≡ given_more lease.old asked.now.page asked.now.want asked.now.count _found.now }
 {
     if let Some(open) = lease {

@@ -1,8 +1,8 @@
 //! What a lease that comes back leaves in the machine and in the journal.
 
-ghost use Rattle.std.specs.Prelude.{◌≡◌, ◌≤◌, ◌<◌, length, slice_get, Some};
+ghost use Rattle.std.specs.Prelude.{◌≡◌, ◌≤◌, ◌<◌, ℕ, List, length, slice_get, Some};
 ghost use Rattle.std.specs.Vec.{vec_len, vec_capacity};
-ghost use Rattle.page_book.specs.Words.{added, IsBareLease, laid, laid_pages, with_slot};
+ghost use Rattle.page_book.specs.Words.{added, IsBareLease, laid, laid_pages, slot_at, with_slot};
 ghost use Rattle.rv32_hart.specs.Hart.{Hart as HartRecord, with_outputs_of, without_outputs};
 
 use ft_types::{Hart, PAGE_LIMIT, PageNo};
@@ -11,7 +11,8 @@ use hart_lease::{Slot, Stretch};
 
 /// Writes what a slot of the hart has into the machine, where it was written. What the hart has decoded is kept.
 fn lay_slot(machine: &mut Machine, hart: Hart, page: PageNo, slot: Slot)
-    requires { page < length machine.old.pages }
+    requires page { page < length machine.old.pages }
+    requires same { (bytes : List ℕ) → slot ≡ Slot.Readable bytes → slice_get machine.old.pages page ≡ Some bytes }
     ensures { machine.new ≡ record machine.old { pages = with_slot machine.old.pages page slot } }
 {
     match slot {
@@ -25,6 +26,7 @@ fn lay_slot(machine: &mut Machine, hart: Hart, page: PageNo, slot: Slot)
 fn lay(machine: &mut Machine, hart: Hart, slots: Vec<Slot>)
     requires same { length slots.items ≡ length machine.old.pages }
     requires limit { length slots.items ≤ PAGE_LIMIT }
+    requires unwritten { (page : ℕ) (bytes : List ℕ) → slot_at slots.items page ≡ Slot.Readable bytes → slice_get machine.old.pages page ≡ Some bytes }
     ensures { machine.new ≡ record machine.old { pages = laid_pages machine.old.pages slots.items } }
 {
     let mut number = 0u8;
@@ -38,6 +40,7 @@ fn lay(machine: &mut Machine, hart: Hart, slots: Vec<Slot>)
 pub(crate) fn take_back(machine: &mut Machine, lease: hart_lease::Lease) -> u64
     requires state { (h : HartRecord) × (slice_get machine.old.harts lease.hart ≡ Some h) × (without_outputs h ≡ without_outputs lease.base) }
     requires as_many { length lease.slots ≡ length machine.old.pages }
+    requires unwritten { (page : ℕ) (bytes : List ℕ) → slot_at lease.slots page ≡ Slot.Readable bytes → slice_get machine.old.pages page ≡ Some bytes }
     ensures machine { (h : HartRecord) → slice_get machine.old.harts lease.hart ≡ Some h → machine.new ≡ laid machine.old
         (record lease { present = with_outputs_of h lease.present }) }
     ensures steps { result ≡ lease.steps }

@@ -16,8 +16,8 @@ invariant_of-result-2 c =
       c.in_ok-bases.ensures,
       c.in_ok-pages.ensures,
       c.in_ok-taken.ensures,
-      c.new-3.ensures.items,
-      c.new-4.ensures.items,
+      c.new.ensures.items,
+      c.new-2.ensures.items,
     )
     (subst (λ (steps : ℕ). IsBareLease (record (fresh c.args.hart h c.args.pages idle) { steps = steps })) (sym none)
     (bare_fresh_kept c.args.hart h c.args.pages idle (omega arith) (omega arith)))

@@ -1,8 +1,12 @@
-use Rattle.std.proofs.Common.{◌≡◌, ◌∙◌, take, slice_get, length, ℕ, List, Some}
+use Rattle.std.proofs.Common.{◌≡◌, ◌∙◌, ap, take, slice_get, slice_index_or, length, ℕ, List, Option, None, Some}
 use Rattle.rv32_hart.specs.Hart.{Hart}
 use Rattle.guest_image.specs.Machine.{MachineState, with_hart}
 use Rattle.hart_lease.specs.Leases.{LeaseView, outputs_of, whole_in, laid, IsLentBy}
-use Rattle.hart_lease.specs.OpenLeases.{open_at}
+use Rattle.hart_lease.specs.OpenLeases.{OpenView, open_at}
+use Rattle.hart_lease.specs.declared.lease_pages.Slot.{Slot}
+use Rattle.hart_lease.specs.declared.lease_pages.Slot.TheVariants.{Readable}
+use Rattle.hart_lease.specs.Slots.{slot_at, base_of}
+use Rattle.hart_lease.proofs.pages.Laid.{readable_there}
 use Rattle.book_modes.specs.Modes.{IsSettling, KeepsSettling, SettlesHeard}
 use Rattle.hart_lease.proofs.steps.EarlierOutputs.{longer, longer_there, cut_back, laid_longer, base_bare}
 use Rattle.page_book.proofs.Kept.{settled_kept}
@@ -22,6 +26,13 @@ made_back : (m new back : MachineState) (l : LeaseView) (i : ℕ) (h : Hart) (mo
 made_back m new back l i h more outs at all own is new_is cut =
     let there : slice_get new.harts i ≡ Some (longer h more) = rw new_is (longer_there m i h more is) in
     cut (longer h more) there ∙ rw (new_is, own) (cut_back m i h more is)
+
+-- a page that the book's own lease has to read is the machine's
+read_ours : (o : Option OpenView) (m : MachineState) (w : LeaseView) (page : ℕ) (bytes : List ℕ) → IsLentBy o m w → slot_at w.slots page ≡ Readable bytes →
+    slice_get m.pages page ≡ Some bytes
+read_ours None m w page bytes ours is = absurd ours
+read_ours (Some lent) m w page bytes ours is =
+    ours.is_lent.pages page (readable_there w.slots page bytes is) bytes (ap (λ (s : Slot). base_of s (slice_index_or w.bases page None)) is)
 
 pub settle-requires : goal.settle-requires
 settle-requires g c =
@@ -72,6 +83,16 @@ take_back-steps-requires-clause-state g c =
       rw new (longer_there m l.hart h l.present.outputs there),
       base_bare m l h there (stands_ours (open_at c.self.inside.leases l.hart) m (whole_in m l) ours),
     )
+
+pub take_back-steps-requires-clause-unwritten : goal.take_back-steps-requires-clause-unwritten
+take_back-steps-requires-clause-unwritten g c = λ page bytes is.
+    let m = c.self.inside.machine in
+    let l = c.lease.inside.own in
+    let h = c.hart.result.now in
+    let ours : IsLentBy (open_at c.self.inside.leases l.hart) m (whole_in m l) = rw (← c.self.view_is, ← c.lease.view_is) at c.requires in
+    let new = made_longer m c.add_outputs.new.self l c.hart-hart.result h c.outputs.result.now c.hart-hart.ensures.value c.outputs.ensures
+    (c.in-Ok.ensures.added h c.hart.ensures) in
+    ap (λ (w : MachineState). slice_get w.pages page) new ∙ read_ours (open_at c.self.inside.leases l.hart) m (whole_in m l) page bytes ours is
 
 pub returns-clause-machine : goal.returns-clause-machine
 returns-clause-machine g c =
