@@ -374,9 +374,12 @@ impl Recording {
             asked.now.want asked.now.count (edge_as e) }
         ensures rising { AllPairs (λ a b. a.other < b.other) result.1.items }
     {
+        let mut right = right_yielded(self.rights[asked.page.index()], settled, asked);
+        if right.has(asked.hart, asked.want) {
+            return (right, SmallVec::new(alloc));
+        }
         let mut counts = *settled;
         counts.set(asked.hart, asked.count);
-        let mut right = right_yielded(self.rights[asked.page.index()], settled, asked);
         match right.ask(alloc, asked.hart, asked.want, &counts) {
             Ask::Given(edges) => (right, edges),
             Ask::HeldBy(_) => unreachable!(),

@@ -160,7 +160,7 @@ impl PageRight {
     }
 
     /// Whether the hart has what it wants.
-    fn has(&self, hart: Hart, want: Want) -> bool
+    pub fn has(&self, hart: Hart, want: Want) -> bool
         ensures { result ≡ has_it (right_of self.now) hart want }
     {
         match want {
