@@ -4,6 +4,8 @@
 #[cfg(test)]
 mod adding;
 #[cfg(test)]
+mod alone;
+#[cfg(test)]
 mod chances;
 #[cfg(test)]
 mod followers;

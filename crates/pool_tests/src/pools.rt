@@ -15,7 +15,7 @@ pub fn has_added(machine: &Machine, sum: u32) -> bool {
     machine.pages() == 2 && machine.page(PageNo::new(1)).read_word(0) == sum
 }
 
-/// A book of four harts that goes on to this budget of each.
+/// A book of four harts at most that goes on to this budget of each.
 pub fn on_threads<R: Threads + Wait + Sync, T: Turnstile + Sync>(
     rt: &R,
     alloc: Global,
@@ -23,8 +23,11 @@ pub fn on_threads<R: Threads + Wait + Sync, T: Turnstile + Sync>(
     budget: Count,
     turnstile: &T,
 ) -> Result<Book<Recording>, Fail> {
-    let mut book = recorder(alloc, &image_of(alloc, file)?, &[budget; 4])?;
-    let budget = Counts::from_slice(&[budget; 4]).ok_or("budget")?;
+    let image = image_of(alloc, file)?;
+    let budgets = [budget; 4];
+    let mut book = recorder(alloc, &image, &budgets)?;
+    let budgets = budgets.get(..usize::from(image.harts())).ok_or("budget")?;
+    let budget = Counts::from_slice(budgets).ok_or("budget")?;
     book.reclaim();
     let counts = book.counts();
     if counts.harts() != budget.harts() {

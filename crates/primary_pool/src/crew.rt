@@ -1,5 +1,8 @@
-//! A thread for each hart.
+//! A thread for each hart, where there are more than one.
 
+ghost use Rattle.lease_rounds.specs.Leading.{IsFreeAlone, IsIdle};
+
+use crate::alone::lead_alone;
 use crate::desk::{Answer, Desk, Pace, Turn};
 use crate::turnstile::Turnstile;
 use ft_types::{Count, Counts, HART_LIMIT, HART_ROW, Hart, HartSet, PageNo, Want};
@@ -30,7 +33,8 @@ fn no_calls() -> Calls {
 }
 
 /// The harts of a book, each on a thread of its own, which ends only where its hart is halted or at its end, where memory is
-/// refused or where no hart can go on. Nothing is known of the book that comes back but its type.
+/// refused or where no hart can go on. A book of one hart is led on the calling thread, without a lock, until the same. Nothing is
+/// known of the book that comes back but its type.
 pub fn run_crew<M: Mode + Send, R: Threads + Wait + Sync, T: Turnstile + Sync>(
     rt: &R,
     alloc: Global,
@@ -38,7 +42,15 @@ pub fn run_crew<M: Mode + Send, R: Threads + Wait + Sync, T: Turnstile + Sync>(
     ends: Counts,
     turnstile: &T,
     pace: Pace,
-) -> Book<M> {
+) -> Book<M>
+    requires free { IsFreeAlone M.Mode }
+    requires idle { IsIdle book }
+{
+    if book.machine().harts() == 1 && ends.harts() == 1 {
+        let mut book = book;
+        lead_alone(alloc, &mut book, ends.get(Hart::new(0)), turnstile);
+        return book;
+    }
     let desk = Mutex::new(Desk::new(book, pace));
     let calls = no_calls();
     start_all(rt, alloc, &desk, &calls, ends, turnstile);

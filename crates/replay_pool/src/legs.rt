@@ -62,8 +62,8 @@ pub(crate) fn finish(alloc: Global, book: Book<Replaying>) -> Result<Book<Replay
     }
 }
 
-/// The machine to which the leg leads from this one. Each hart goes on on a thread of its own; what the threads leave undone is
-/// done here, harts in turn.
+/// The machine to which the leg leads from this one. Each hart goes on on a thread of its own, or on this one where it is alone;
+/// what is left undone is done here, harts in turn.
 pub(crate) fn replay_leg<R: Threads + Wait + Sync, T: Turnstile + Sync>(
     rt: &R,
     alloc: Global,

@@ -43,7 +43,8 @@ fn replay_legs<R: Threads + Wait + Sync, T: Turnstile + Sync>(
 }
 
 /// The machine to which the plan leads from the image's boot, leg after leg. In each leg each hart goes on on a thread of its own,
-/// which waits by counts; what the threads leave undone is done without the turnstile, harts in turn.
+/// which waits by counts; a hart that is alone goes on on the calling thread. What is left undone is done without the turnstile,
+/// harts in turn.
 pub fn replay<R: Threads + Wait + Sync, T: Turnstile + Sync>(
     rt: &R,
     alloc: Global,

@@ -6,6 +6,7 @@ use Rattle.page_book.specs.Books.{BookView}
 use Rattle.page_book.specs.Reclaims.{GoesOnFrom}
 use Rattle.primary_pool.specs.Running.{Continues, GoToBudget}
 use Rattle.primary_pool.specs.Leading.{HasRun, IsRestOf}
+use Rattle.primary_pool.proofs.Leasing.{free_alone}
 use Rattle.primary_pool.proofs.Onward.{runs_on}
 use Rattle.primary_pool.proofs.Rounds.{continues_on}
 use Rattle.primary_pool.proofs.Picking.{goes_on, goes_further, limited_rest, limits_aside, machine_stays, rest_goes_on}
@@ -44,6 +45,9 @@ counts_are g c =
     to_budget c.args.book c.limit_at.new.self c.pick-book.result c.in_ok-book.book c.limit_to.new.self c.args.budget _ c.limit_at.ensures c.has_run-2.ensures
     (subst (λ (x : BookView RecordingView). GoesOnFrom (λ r settled new. GoesOn r settled new) x c.pick-book.result) c.in_ok-copy.ensures
     c.pick-book.ensures.goes_on) c.has_run-3.ensures c.in_ok-book.ensures.continues c.in_ok-book.ensures.counts c.limit_to.ensures
+
+pub run_crew-held-requires-clause-free : goal.run_crew-held-requires-clause-free
+run_crew-held-requires-clause-free g c lifetimes order = free_alone
 
 pub returns-clause-continues : goal.returns-clause-continues
 returns-clause-continues g c = continues_is g c

@@ -2,8 +2,12 @@ use Rattle.std.proofs.Common.{ap}
 use Rattle.book_modes.specs.declared.mode.Leg.{Leg}
 use Rattle.hart_lease.specs.Runs.{heard_in}
 use Rattle.hart_replay.proofs.rounds.Ends.{outcome_of, fault_of}
+use Rattle.hart_replay.proofs.rounds.Leases.{free_alone}
 use Rattle.replay_pool.proofs.Finishing.{stops}
 use Rattle.replay_pool.proofs.legs.replay_leg.Goals as goal
+
+pub run_crew-held-requires-clause-free : goal.run_crew-held-requires-clause-free
+run_crew-held-requires-clause-free g c lifetimes order = free_alone
 
 pub returns : goal.returns
 returns g c =

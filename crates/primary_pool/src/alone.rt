@@ -1,0 +1,39 @@
+//! A book of one hart, which needs no thread.
+
+ghost use Rattle.std.specs.Prelude.{◌<◌, length};
+ghost use Rattle.lease_rounds.specs.Leading.{IsFreeAlone, IsIdle};
+
+use crate::turnstile::Turnstile;
+use ft_types::{Count, Hart};
+use lease_rounds::go;
+use page_book::{Book, Keep, Mode};
+use std::alloc::Global;
+
+/// Leads the book's first hart on this thread, lease by lease, until it is halted or at its end, where memory is refused or where
+/// it cannot go on.
+pub(crate) fn lead_alone<M: Mode, T: Turnstile>(
+    alloc: Global,
+    book: &mut Book<M>,
+    end: Count,
+    turnstile: &T,
+)
+    requires free { IsFreeAlone M.Mode }
+    requires idle { IsIdle book.old }
+    requires hart { 0 < length book.old.machine.harts }
+{
+    let hart = Hart::new(0);
+    let mut number = 0u64;
+    let mut count = book.machine().hart(hart).count();
+    while count < end && !book.machine().hart(hart).is_halted() {
+        number = number.saturating_add(1);
+        turnstile.before_lease(hart, number);
+        let Ok(true) = go(alloc, book, hart, Keep::All) else {
+            return;
+        };
+        let settled = book.machine().hart(hart).count();
+        if settled <= count {
+            return;
+        }
+        count = settled;
+    }
+}
