@@ -1,12 +1,15 @@
 -- Steps of the digits.
 use Rattle.std.proofs.Common.{◌≡◌, ℕ, zero, suc, ◌+◌, ◌-◌, ◌*◌, ◌/◌, ◌%◌, ◌^◌, ◌<◌, ◌≤◌, List, [], ◌∷◌, ◌++◌, length, get_or, set, take, drop, refl, ap, subst}
-use Rattle.std.proofs.Common.{sym, ◌∙◌, arith, add-one, inl, inr, length-append, length-set, append_assoc}
+use Rattle.std.proofs.Common.{Bool, true, ◌&&◌, T, eqb, eqb→eq, sym, ◌∙◌, arith, add-one, inl, inr, length-append, length-set, append_assoc}
 use Rattle.std.specs.Prelude.{decimal}
 use Rattle.std.proofs.lemmas.Bool.{cases_lt}
 use Rattle.std.proofs.lemmas.Bool.Decides.{nat_tests}
 use Rattle.std.proofs.lemmas.Grind.{common_steps}
 use Rattle.std.proofs.Math.Nat.{pow-le-pow_right}
 use Rattle.std.proofs.lemmas.Fmt.{decimal_step, decimal_digit, decimal_by_steps, first_decimal, length-decimal-le, decimal_nonempty}
+use Rattle.std.proofs.lemmas.List.{set_comm, drop-set}
+use lib.Ieee.Fits.{and_l, and_r}
+use Rattle.ft_types.specs.declared.text.TheConstants.{PAIRS}
 use Rattle.ft_types.specs.Text.{hex, hex_digit, word, IsWord, IsNumber}
 
 pub hex_step : (k v d : ℕ) → d < 16 → hex (suc k) (v * 16 + d) ≡ hex k v ++ hex_digit d ∷ []
@@ -206,27 +209,67 @@ not_number_digit text i h none n p =
 
 -- ---- writing a word
 
-word_text_step : (j rest d : ℕ) (all ds : List ℕ) → j < length ds → d ≡ hex_digit (rest % 16) → all ≡ hex (suc j) rest ++ drop (suc j) ds →
-    all ≡ hex j (rest / 16) ++ drop j (set ds j d)
+are_pairs : ℕ → Bool
+are_pairs zero = true
+are_pairs (suc p) = (eqb (get_or PAIRS (p * 2) 0) (hex_digit (p / 16)) && eqb (get_or PAIRS (p * 2 + 1) 0) (hex_digit (p % 16))) && are_pairs p
+
+pairs_below : (n p : ℕ) → T (are_pairs n) → p < n → (get_or PAIRS (p * 2) 0 ≡ hex_digit (p / 16)) × (get_or PAIRS (p * 2 + 1) 0 ≡ hex_digit (p % 16))
+unfolding are_pairs
+pairs_below zero p t h = absurd (omega arith)
+pairs_below (suc n) p t h =
+    elim (cases_lt p n) [
+      | inl lt ↦ pairs_below n p (and_r _ (are_pairs n) t) lt
+      | inr le ↦
+          let e : p ≡ n = omega arith in
+          let a = and_l _ (are_pairs n) t in
+          rw e (eqb→eq _ _ (and_l _ _ a), eqb→eq _ _ (and_r _ _ a))
+    ]
+
+-- the table's two digits of a byte
+pub pairs_at : (p : ℕ) → p < 256 → (get_or PAIRS (p * 2) 0 ≡ hex_digit (p / 16)) × (get_or PAIRS (p * 2 + 1) 0 ≡ hex_digit (p % 16))
+unfolding are_pairs
+pairs_at p h = pairs_below 256 p tt h
+
+-- the two digits of a byte
+abbrev pub pair : ℕ → List ℕ
+pair b = hex_digit (b / 16) ∷ hex_digit (b % 16) ∷ []
+
+hex_pair : (k n : ℕ) → hex (suc (suc k)) n ≡ hex k (n / 256) ++ pair (n % 256)
 unfolding hex
-word_text_step j rest d all ds h is p =
-    let q : drop j (set ds j d) ≡ d ∷ drop (suc j) ds = grind (arith, common_steps, add-one) in
-    p ∙ rw (q, is) (append_assoc (hex j (rest / 16)) (hex_digit (rest % 16) ∷ []) (drop (suc j) ds))
+hex_pair k n =
+    let a : n / 16 / 16 ≡ n / 256 = omega arith in
+    let b : n / 16 % 16 ≡ n % 256 / 16 = omega arith in
+    let c : n % 16 ≡ n % 256 % 16 = omega arith in
+    rw (append_assoc, a, b, ← c) refl
 
-abbrev pub WordLeft : ℕ → ℕ → ℕ → List ℕ → Type 0
-WordLeft w place rest ds = (length ds ≡ 8) × (hex 8 w ≡ hex (8 - place) rest ++ drop (8 - place) ds)
+-- a word is the pairs of its bytes
+pub word_pairs : (w : ℕ) → w < 2 ^ 32 →
+    word w ≡ pair (w / 0x1000000) ++ (pair (w / 0x10000 % 256) ++ (pair (w / 256 % 256) ++ pair (w % 256)))
+unfolding word hex
+word_pairs w h =
+    let a : w / 256 / 256 ≡ w / 0x10000 = omega arith in
+    let b : w / 256 / 256 / 256 ≡ w / 0x1000000 = omega arith in
+    let c : w / 256 / 256 / 256 % 256 ≡ w / 0x1000000 = omega arith in
+    hex_pair 6 w
+    ∙ ap (λ (t : List ℕ). t ++ pair (w % 256)) (
+      hex_pair 4 (w / 256)
+      ∙ ap (λ (t : List ℕ). t ++ pair (w / 256 % 256)) (
+        hex_pair 2 (w / 256 / 256)
+        ∙ ap (λ (t : List ℕ). t ++ pair (w / 256 / 256 % 256)) (hex_pair 0 (w / 256 / 256 / 256))
+      )
+    )
+    ∙ rw (c, a) refl
 
-pub word_text_goes_on : (w place rest d : ℕ) (ds : List ℕ) → place < 8 → d ≡ hex_digit (rest % 16) → WordLeft w place rest ds → WordLeft w (place + 1)
-    (rest / 16) (set ds (7 - place) d)
-word_text_goes_on w place rest d ds h is p =
-    let e : 8 - place ≡ suc (7 - place) = omega arith in
-    let f : 8 - (place + 1) ≡ 7 - place = omega arith in
-    let P : ℕ → Type 0 = λ k. hex 8 w ≡ hex k rest ++ drop k ds in
-    (simp length-set p.0, rw f (word_text_step (7 - place) rest d (hex 8 w) ds (omega (arith, p.0)) is (subst P e p.1)))
-
-pub word_text_is : (w place rest : ℕ) (ds : List ℕ) → 8 ≤ place → WordLeft w place rest ds → ds ≡ word w
-unfolding hex word
-word_text_is w place rest ds h p =
-    let e : 8 - place ≡ 0 = omega arith in
-    let P : ℕ → Type 0 = λ k. hex 8 w ≡ hex k rest ++ drop k ds in
-    sym (subst P e p.1)
+-- two bytes that are put at a place
+pub two_put : (bytes : List ℕ) (at next end a b : ℕ) → next ≡ at + 1 → end ≡ at + 2 → end ≤ length bytes →
+    drop at (set (set bytes at a) next b) ≡ a ∷ b ∷ drop end bytes
+two_put bytes at next end a b n e h =
+    let f : at + 1 + 1 ≡ at + 2 = omega arith in
+    rw (
+      n,
+      e,
+      set_comm bytes at (at + 1) a b (λ x. omega arith),
+      drop-set (set bytes (at + 1) b) at a (omega (arith, length-set bytes (at + 1) b)),
+      drop-set bytes (at + 1) b (omega arith),
+      f,
+    ) refl

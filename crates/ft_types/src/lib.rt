@@ -11,6 +11,7 @@ mod memory_device;
 mod names;
 mod sets;
 mod text;
+mod text_before;
 
 pub use counts::Counts;
 pub use device::{Sink, Source, write_all};
@@ -24,3 +25,4 @@ pub use names::{
 };
 pub use sets::{HartSet, KeeperSet};
 pub use text::{first_line, read_number, read_word, word_text};
+pub use text_before::{put_before, put_number_before, put_word_before};

@@ -1,6 +1,6 @@
 //! Lines, numbers and words of text files.
 
-ghost use Rattle.std.specs.Prelude.{◌≡◌, ℕ, ◌+◌, ◌*◌, ◌^◌, ◌<◌, ◌≤◌, ◌++◌, ◌∷◌, [], length, IfSome, IfNone};
+ghost use Rattle.std.specs.Prelude.{◌≡◌, ℕ, ◌+◌, ◌*◌, ◌/◌, ◌%◌, ◌^◌, ◌<◌, ◌≤◌, ◌++◌, ◌∷◌, [], length, IfSome, IfNone};
 ghost use Rattle.std.specs.List.{AllByRecursion};
 ghost use Rattle.ft_types.specs.Text.{line, hex_digit, word, IsWord, IsNumber, BeginsWithLine};
 
@@ -85,27 +85,30 @@ pub fn first_line(bytes: &[u8]) -> Option<(&[u8], &[u8])>
     }
 }
 
-/// A digit to the base 16.
-fn digit_text(digit: u32) -> u8
-    requires { digit < 16 }
-    ensures { result ≡ hex_digit digit }
+// The two digits of each byte, to the base 16.
+static PAIRS: [u8; 512] =
+    *b"000102030405060708090a0b0c0d0e0f101112131415161718191a1b1c1d1e1f202122232425262728292a2b2c2d2e2f303132333435363738393a3b3c3d3e3f404142434445464748494a4b4c4d4e4f505152535455565758595a5b5c5d5e5f606162636465666768696a6b6c6d6e6f707172737475767778797a7b7c7d7e7f808182838485868788898a8b8c8d8e8f909192939495969798999a9b9c9d9e9fa0a1a2a3a4a5a6a7a8a9aaabacadaeafb0b1b2b3b4b5b6b7b8b9babbbcbdbebfc0c1c2c3c4c5c6c7c8c9cacbcccdcecfd0d1d2d3d4d5d6d7d8d9dadbdcdddedfe0e1e2e3e4e5e6e7e8e9eaebecedeeeff0f1f2f3f4f5f6f7f8f9fafbfcfdfeff";
+
+/// The two digits of a byte to the base 16.
+#[inline(always)]
+pub(crate) fn byte_text(byte: u32) -> (u8, u8)
+    requires { byte < 256 }
+    ensures { (result.0 ≡ hex_digit (byte / 16)) × (result.1 ≡ hex_digit (byte % 16)) }
 {
-    if digit < 10 {
-        48 + digit as u8
-    } else {
-        87 + digit as u8
-    }
+    let place = byte as usize * 2;
+    (PAIRS[place], PAIRS[place + 1])
 }
 
 /// The text of a word.
+#[inline]
 pub fn word_text(value: u32) -> [u8; 8]
     ensures { result ≡ word value }
 {
-    let mut digits = [0; 8];
-    let mut rest = value;
-    for place in 0..8usize {
-        digits[7 - place] = digit_text(rest % 16);
-        rest /= 16;
-    }
-    digits
+    let first = byte_text(value / 0x100_0000);
+    let second = byte_text(value / 0x1_0000 % 256);
+    let third = byte_text(value / 256 % 256);
+    let last = byte_text(value % 256);
+    [
+        first.0, first.1, second.0, second.1, third.0, third.1, last.0, last.1,
+    ]
 }

@@ -1,6 +1,7 @@
 -- Texts that are written piece by piece.
 use Rattle.std.proofs.Common.{◌≡◌, ℕ, zero, suc, ◌+◌, ◌-◌, ◌*◌, ◌%◌, ◌^◌, ◌<◌, ◌≤◌, List, [], ◌∷◌, ◌++◌, length, get_or, take, drop, Option, Result, Ok, Err}
-use Rattle.std.proofs.Common.{refl, ap, subst, sym, ◌∙◌, arith, append_assoc, add-one, drop-cons, length-drop}
+use Rattle.std.proofs.Common.{refl, ap, subst, sym, ◌∙◌, arith, append_assoc, add-one, drop-cons, length-drop, length-take, drop-drop}
+use Rattle.std.proofs.lemmas.List.{take-append-drop, take_all}
 use Rattle.std.specs.Int.{from_le_bytes, w32}
 use Rattle.std.specs.Io.KnownBytes.{Appends}
 use Rattle.std.specs.List.{flat_map}
@@ -136,3 +137,18 @@ ram_at i pages page d h is size =
     ∙ ap
     (λ (k : ℕ). numbered ram_line (i * 1024) (words_of page) ++ numbered ram_line k (ram_words (drop (i + 1) pages)))
     place
+
+-- the first n of a rest come first of it
+pub numbered_parts : {A : Type 0} (t : ℕ → A → List ℕ) (i n : ℕ) (xs : List A) (text : List ℕ) → i + n ≤ length xs →
+    text ≡ numbered t i (take (i + n - i) (drop i xs)) → numbered t i (drop i xs) ≡ text ++ numbered t (i + n) (drop (i + n) xs)
+numbered_parts {A = A} t i n xs text h is =
+    let count : i + n - i ≡ n = omega arith in
+    let first : text ≡ numbered t i (take n (drop i xs)) = is ∙ ap (λ (k : ℕ). numbered t i (take k (drop i xs))) count in
+    let some : length (take n (drop i xs)) ≡ n = omega (arith, length-drop i xs, length-take n (drop i xs)) in
+    ap (λ (ys : List A). numbered t i ys) (sym (take-append-drop n (drop i xs)))
+    ∙ numbered-append t i (take n (drop i xs)) (drop n (drop i xs))
+    ∙ rw (first, some, drop-drop) refl
+
+-- what is taken whole
+pub taken_whole : (n start : ℕ) (block text : List ℕ) → length block ≤ n → drop start block ≡ text → take (n - start) (drop start block) ≡ text
+taken_whole n start block text h is = take_all (n - start) (drop start block) (omega (arith, length-drop start block)) ∙ is

@@ -6,8 +6,16 @@ ghost use Rattle.guest_image.specs.Text.{numbered, status, spaced, hart_line, cs
 ghost use Rattle.guest_image.specs.Text.{heard_name, hart_lines, bell_lines, hart_tables, hart_text, ram_line};
 ghost use Rattle.guest_image.specs.Machine.{words_of};
 
-use ft_types::{Failed, LineBuffer, PAGE_LIMIT, Sink};
+use ft_types::{
+    Failed, LineBuffer, PAGE_LIMIT, Sink, put_before, put_number_before, put_word_before, write_all,
+};
 use rv32_hart::HartState;
+
+/// How many bytes are written at once.
+const BLOCK: usize = 4096;
+
+/// How many lines of outputs are written at once: each has at most 65 bytes.
+const BLOCK_LINES: usize = 63;
 
 fn status_text(halted: bool) -> &'static [u8]
     ensures text { result.now ≡ status halted }
@@ -79,18 +87,41 @@ fn write_register<W: Sink>(number: usize, value: u32, out: &mut W) -> Result<(),
     text.write(out)
 }
 
+// The pieces are of 1, 2 or 4 bytes, which one instruction moves.
+#[inline(always)]
 #[tactic(auto, unfolding(crate::specs::Text::output_line))]
-fn write_output<W: Sink>(number: usize, output: (u64, u32), out: &mut W) -> Result<(), Failed>
-    ensures { Writes result (W.bytes out.old) (W.bytes out.new) (W.failures out.old) (W.failures out.new) (output_line number output) }
+fn put_output_before(block: &mut [u8], end: usize, number: usize, output: (u64, u32)) -> usize
+    requires room { 65 ≤ end }
+    requires end { end ≤ length block.old }
+    ensures start { (result ≤ end) × (end ≤ result + 65) }
+    ensures written { drop result block.new ≡ output_line number output ++ drop end block.old }
 {
-    let mut text = LineBuffer::new();
-    text.push(b"out ");
-    text.push_number(number as u64);
-    text.push(b" step ");
-    text.push_number(output.0);
-    text.push(b" word ");
-    text.push_word(output.1);
-    text.write(out)
+    let mut at = put_before(block, end, b"\n");
+    at = put_word_before(block, at, output.1);
+    at = put_before(block, at, b"d ");
+    at = put_before(block, at, b" wor");
+    at = put_number_before(block, at, output.0);
+    at = put_before(block, at, b"p ");
+    at = put_before(block, at, b" ste");
+    at = put_number_before(block, at, number as u64);
+    put_before(block, at, b"out ")
+}
+
+/// Puts the lines of outputs, of which the first has this number, at the end of the block, and says where they start.
+fn put_outputs(block: &mut [u8], first: usize, outputs: &[(u64, u32)]) -> usize
+    requires few { length outputs.now ≤ BLOCK_LINES }
+    requires numbers { first + length outputs.now < 2 ^ 64 }
+    requires block { length block.old ≡ BLOCK }
+    ensures start { result ≤ BLOCK }
+    ensures lines { drop result block.new ≡ numbered output_line first outputs.now }
+{
+    let mut start = BLOCK;
+    let mut left = outputs.len();
+    while left > 0 {
+        left -= 1;
+        start = put_output_before(block, start, first + left, outputs[left]);
+    }
+    start
 }
 
 #[tactic(auto, unfolding(crate::specs::Text::count_line))]
@@ -137,8 +168,16 @@ fn write_registers<W: Sink>(first: usize, values: &[u32], out: &mut W) -> Result
 fn write_outputs<W: Sink>(outputs: &[(u64, u32)], out: &mut W) -> Result<(), Failed>
     ensures { Writes result (W.bytes out.old) (W.bytes out.new) (W.failures out.old) (W.failures out.new) (numbered output_line 0 outputs.now) }
 {
-    for (i, output) in outputs.iter().enumerate() {
-        write_output(i, *output, out)?;
+    if outputs.is_empty() {
+        return Ok(());
+    }
+    let mut block = [0; BLOCK];
+    let mut first = 0;
+    while first < outputs.len() {
+        let count = (outputs.len() - first).min(BLOCK_LINES);
+        let start = put_outputs(&mut block, first, &outputs[first..first + count]);
+        write_all(out, &block[start..])?;
+        first += count;
     }
     Ok(())
 }

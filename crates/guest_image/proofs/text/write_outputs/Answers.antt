@@ -1,24 +1,38 @@
-use Rattle.std.proofs.Common.{arith, ◌+◌, drop, get_or}
+use Rattle.std.proofs.Common.{arith, ◌+◌, ◌-◌, drop, take}
 use Rattle.std.proofs.lemmas.Result.{err_from_is_err_and}
 use Rattle.guest_image.specs.Text.{numbered, output_line}
-use Rattle.guest_image.proofs.TextFacts.{goes_on, stops, numbered_at}
+use Rattle.guest_image.proofs.TextFacts.{goes_on, stops, numbered_parts, taken_whole}
 use Rattle.guest_image.proofs.text.write_outputs.Goals as goal
 
-pub returns-in_err-write_output : goal.returns-in_err-write_output
-returns-in_err-write_output g c =
+pub returns-in_err-write_all : goal.returns-in_err-write_all
+returns-in_err-write_all g c =
     let p = err_from_is_err_and c.from_residual.result c.from_residual.ensures.1 in
-    stops g.W.Sink.bytes g.W.Sink.failures c.from_residual.result p.0 c.args.out.now c.loop-i.out
-    c.write_output.new.out (numbered output_line 0 c.args.outputs.now)
-    (numbered output_line c.loop-i.i (drop c.loop-i.i c.args.outputs.now))
-    (output_line c.loop-i.i (get_or c.args.outputs.now c.loop-i.i (0, 0)))
-    (numbered output_line (c.loop-i.i + 1) (drop (c.loop-i.i + 1) c.args.outputs.now)) p.1
-    (numbered_at output_line c.loop-i.i (c.loop-i.i + 1) c.loop-i.i c.args.outputs.now (0, 0) (omega arith) c.loop-i-test.true) c.loop-i.invariant
-    c.in_err-write_output.ensures
+    let first = c.loop-first.first in
+    let count = c.min-count.result in
+    let outputs = c.args.outputs.now in
+    let start = c.put_outputs-start.result in
+    let block = c.put_outputs-start.new.block in
+    let text = take (4096 - start) (drop start block) in
+    stops g.W.Sink.bytes g.W.Sink.failures c.from_residual.result p.0 c.args.out.now c.loop-first.out
+    c.write_all.new.out (numbered output_line 0 outputs) (numbered output_line first (drop first outputs))
+    text (numbered output_line (first + count) (drop (first + count) outputs)) p.1
+    (numbered_parts output_line first count outputs text (omega arith)
+    (taken_whole 4096 start block _ (omega arith) c.put_outputs-start.ensures.lines))
+    c.loop-first.invariant.1 c.in_err-write_all.ensures
 
-pub loop-i-preserved : goal.loop-i-preserved
-loop-i-preserved g c = goes_on g.W.Sink.bytes g.W.Sink.failures c.args.out.now c.loop-i.out c.write_output.new.out
-    (numbered output_line 0 c.args.outputs.now) (numbered output_line c.loop-i.i (drop c.loop-i.i c.args.outputs.now))
-    (output_line c.loop-i.i (get_or c.args.outputs.now c.loop-i.i (0, 0)))
-    (numbered output_line (c.loop-i.i + 1) (drop (c.loop-i.i + 1) c.args.outputs.now))
-    (numbered_at output_line c.loop-i.i (c.loop-i.i + 1) c.loop-i.i c.args.outputs.now (0, 0) (omega arith) c.loop-i-test.true) c.loop-i.invariant
-    c.in_ok-write_output.ensures
+pub loop-first-preserved : goal.loop-first-preserved
+loop-first-preserved g c =
+    let first = c.loop-first.first in
+    let count = c.min-count.result in
+    let outputs = c.args.outputs.now in
+    let start = c.put_outputs-start.result in
+    let block = c.put_outputs-start.new.block in
+    let text = take (4096 - start) (drop start block) in (
+      omega arith,
+      goes_on g.W.Sink.bytes g.W.Sink.failures c.args.out.now c.loop-first.out c.write_all.new.out
+          (numbered output_line 0 outputs) (numbered output_line first (drop first outputs)) text
+          (numbered output_line (first + count) (drop (first + count) outputs))
+          (numbered_parts output_line first count outputs text (omega arith)
+          (taken_whole 4096 start block _ (omega arith) c.put_outputs-start.ensures.lines))
+          c.loop-first.invariant.1 c.in_ok-write_all.ensures,
+    )

@@ -1,8 +1,13 @@
-use Rattle.std.proofs.Common.{drop}
+use Rattle.std.proofs.Common.{◌-◌, ◌≤◌, drop, length}
 use Rattle.ft_types.proofs.Writings.{IsLeft}
 use Rattle.guest_image.specs.Text.{numbered, output_line}
 use Rattle.guest_image.proofs.text.write_outputs.Given as goal
 
-abbrev pub invariant-loop-i : goal.invariant-loop-i
-invariant-loop-i g l = IsLeft (g.W.Sink.bytes l.fn.out) (g.W.Sink.bytes l.out) (g.W.Sink.failures l.fn.out)
-    (g.W.Sink.failures l.out) (numbered output_line 0 l.outputs) (numbered output_line l.i (drop l.i l.outputs))
+abbrev pub invariant-loop-first : goal.invariant-loop-first
+invariant-loop-first g l =
+    (l.first ≤ length l.outputs)
+    × IsLeft (g.W.Sink.bytes l.fn.out) (g.W.Sink.bytes l.out) (g.W.Sink.failures l.fn.out)
+    (g.W.Sink.failures l.out) (numbered output_line 0 l.outputs) (numbered output_line l.first (drop l.first l.outputs))
+
+abbrev pub decreases-loop-first : goal.decreases-loop-first
+decreases-loop-first g l = length l.outputs - l.first
