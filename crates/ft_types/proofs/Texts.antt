@@ -252,11 +252,11 @@ word_pairs w h =
     let c : w / 256 / 256 / 256 % 256 ≡ w / 0x1000000 = omega arith in
     hex_pair 6 w
     ∙ ap (λ (t : List ℕ). t ++ pair (w % 256)) (
-      hex_pair 4 (w / 256)
-      ∙ ap (λ (t : List ℕ). t ++ pair (w / 256 % 256)) (
-        hex_pair 2 (w / 256 / 256)
-        ∙ ap (λ (t : List ℕ). t ++ pair (w / 256 / 256 % 256)) (hex_pair 0 (w / 256 / 256 / 256))
-      )
+    hex_pair 4 (w / 256)
+    ∙ ap (λ (t : List ℕ). t ++ pair (w / 256 % 256)) (
+    hex_pair 2 (w / 256 / 256)
+    ∙ ap (λ (t : List ℕ). t ++ pair (w / 256 / 256 % 256)) (hex_pair 0 (w / 256 / 256 / 256))
+    )
     )
     ∙ rw (c, a) refl
 

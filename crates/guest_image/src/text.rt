@@ -87,7 +87,7 @@ fn write_register<W: Sink>(number: usize, value: u32, out: &mut W) -> Result<(),
     text.write(out)
 }
 
-// The pieces are of 1, 2 or 4 bytes, which one instruction moves.
+// Pieces of 1 and of 4 bytes take one instruction each.
 #[inline(always)]
 #[tactic(auto, unfolding(crate::specs::Text::output_line))]
 fn put_output_before(block: &mut [u8], end: usize, number: usize, output: (u64, u32)) -> usize
@@ -98,10 +98,12 @@ fn put_output_before(block: &mut [u8], end: usize, number: usize, output: (u64, 
 {
     let mut at = put_before(block, end, b"\n");
     at = put_word_before(block, at, output.1);
-    at = put_before(block, at, b"d ");
+    at = put_before(block, at, b" ");
+    at = put_before(block, at, b"d");
     at = put_before(block, at, b" wor");
     at = put_number_before(block, at, output.0);
-    at = put_before(block, at, b"p ");
+    at = put_before(block, at, b" ");
+    at = put_before(block, at, b"p");
     at = put_before(block, at, b" ste");
     at = put_number_before(block, at, number as u64);
     put_before(block, at, b"out ")
@@ -117,9 +119,11 @@ fn put_outputs(block: &mut [u8], first: usize, outputs: &[(u64, u32)]) -> usize
 {
     let mut start = BLOCK;
     let mut left = outputs.len();
+    let mut number = first + left;
     while left > 0 {
         left -= 1;
-        start = put_output_before(block, start, first + left, outputs[left]);
+        number -= 1;
+        start = put_output_before(block, start, number, outputs[left]);
     }
     start
 }

@@ -7,9 +7,10 @@ pub loop-left-init : goal.loop-left-init
 loop-left-init c =
     let outputs = c.args.outputs.now in (
       omega arith,
+      refl,
       c.requires.block,
       omega arith,
       omega arith,
       drop_all 4096 c.args.block.now (omega arith)
-      ∙ sym (ap (numbered output_line (c.args.first + length outputs)) (drop_all (length outputs) outputs (omega arith))),
+          ∙ sym (ap (numbered output_line (c.args.first + length outputs)) (drop_all (length outputs) outputs (omega arith))),
     )

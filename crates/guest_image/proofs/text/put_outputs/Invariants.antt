@@ -4,9 +4,9 @@ use Rattle.guest_image.proofs.text.put_outputs.Given as goal
 
 abbrev pub invariant-loop-left : goal.invariant-loop-left
 invariant-loop-left l =
-    (l.left ≤ length l.outputs) × (length l.block ≡ 4096)
+    (l.left ≤ length l.outputs) × (l.number ≡ l.first + l.left) × (length l.block ≡ 4096)
     × (l.start ≤ 4096) × (4096 ≤ l.start + 65 * (length l.outputs - l.left))
-    × (drop l.start l.block ≡ numbered output_line (l.first + l.left) (drop l.left l.outputs))
+    × (drop l.start l.block ≡ numbered output_line l.number (drop l.left l.outputs))
 
 abbrev pub decreases-loop-left : goal.decreases-loop-left
 decreases-loop-left l = l.left

@@ -7,4 +7,3 @@ returns-then-not-is_empty-clause-not_free g c free =
     ((c.holders-harts.ensures n).0 member))) in
     let none : c.is_empty.result ≡ false = search rules in
     true≢false (sym empty ∙ none)
-
