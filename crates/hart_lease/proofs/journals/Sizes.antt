@@ -1,12 +1,11 @@
 -- What a run leaves of a machine: as many harts and pages, and the counts of its order.
-use Rattle.std.proofs.Common.{◌≡◌, ℕ, ◌+◌, ◌<◌, ◌≤◌, List, [], ◌∷◌, length, length-set, slice_get, Bool, true, false, Option, None, Some, refl, sym, ap, ◌∙◌}
-use Rattle.std.proofs.Common.{inl, inr, arith, if◌then◌else◌}
+use Rattle.std.proofs.Common.{◌≡◌, ℕ, List, [], ◌∷◌, length, length-set, slice_get, Bool, true, false, Option, None, Some, refl, sym, ap, ◌∙◌}
+use Rattle.std.proofs.Common.{if◌then◌else◌}
 use Rattle.std.proofs.Math.Path.{fun_ext}
 use Rattle.interleaving.specs.Machine.{Turn, Write, Runs, run, counts}
-use Rattle.interleaving.specs.Log.{Edge, Begins, bump, counts_after, turns_of}
+use Rattle.interleaving.specs.Log.{counts_after, turns_of}
 use Rattle.interleaving.specs.Stored.{run_from, goes, stored_after, written_in, system_of, view}
 use Rattle.interleaving.proofs.Lists.{stored_runs}
-use Rattle.interleaving.proofs.Put.{same_or_not, put_same, bump_other}
 use Rattle.interleaving.proofs.Runs.{counts_run, harts_of_turns}
 use Rattle.input_log.specs.declared.Input.{Input}
 use Rattle.rv32_hart.specs.Hart.{Hart}
