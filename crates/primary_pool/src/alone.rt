@@ -34,6 +34,7 @@ pub(crate) fn lead_alone<M: Mode, T: Turnstile>(
         if settled <= count {
             return;
         }
+        turnstile.after_settle(hart, settled);
         count = settled;
     }
 }

@@ -59,9 +59,8 @@ fn finish(
     Ok(run_plain(alloc, book)?)
 }
 
-/// Runs a primary's harts, each on a thread of its own, or on the calling thread where there is one, until each hart is halted or
-/// at its budget, and no hart past it. What is left undone is done here, harts in turn. Where memory is refused the book is given
-/// up.
+/// Runs a primary's harts, each on a thread of its own, one hart alone on the calling thread, until each hart is halted or at its
+/// budget, and no hart past it. What is left undone is done here, harts in turn. Where memory is refused the book is given up.
 pub fn run<R: Threads + Wait + Sync, T: Turnstile + Sync>(
     rt: &R,
     alloc: Global,
