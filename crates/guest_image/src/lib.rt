@@ -6,10 +6,11 @@ mod fault;
 mod image;
 mod lines;
 mod machine;
+mod machine_page;
 mod page;
 mod text;
 
-pub use decoded_page::DecodedPage;
+pub use decoded_page::{DecodedPage, SharedPage};
 pub use fault::ImageFault;
 pub use image::{Image, read_image};
 pub use machine::Machine;

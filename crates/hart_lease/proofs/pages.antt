@@ -2,6 +2,7 @@
 pub mod Laid
 pub mod Slots
 pub mod Given
+pub mod Bases
 pub mod Counts
 pub mod Equal
 pub mod Places

@@ -27,11 +27,11 @@ is_writable Missing = false
 is_writable (Readable page) = false
 is_writable (Writable page) = true
 
--- a page to read becomes one to write
-abbrev pub raised : Slot → Slot
-raised Missing = Missing
-raised (Readable page) = Writable page
-raised (Writable page) = Writable page
+-- what is shared of a page that may be written
+abbrev pub part_of : Slot → Option (List ℕ)
+part_of Missing = None
+part_of (Readable page) = None
+part_of (Writable page) = Some page
 
 -- a page that the lease lacks stands as zeros, which no step sees
 unfoldable pub zeros : List ℕ

@@ -1,5 +1,5 @@
 -- When a lease took a page, and with which right.
-use Rattle.std.specs.Prelude.{ℕ, List, Option, Some, None, slice_index_or, unwrap_or}
+use Rattle.std.specs.Prelude.{◌≡◌, ◌≢◌, ℕ, List, Option, Some, None, slice_index_or, unwrap_or}
 use Rattle.ft_types.specs.declared.names.Want.{Want}
 use Rattle.ft_types.specs.declared.names.Want.TheVariants.{Read, Write}
 use Rattle.hart_lease.specs.declared.taken.Taken.{Taken}
@@ -32,3 +32,7 @@ written_by Write written count = Some (unwrap_or written count)
 
 abbrev pub taking : Option Taken → Want → ℕ → Taken
 taking held want count = record { read_at = read_first held count; write_at = written_by want (written_first held) count }
+
+-- each page that was taken to write is kept as it was lent
+abbrev pub HaveBases : List (Option Taken) → List (Option (List ℕ)) → Type 0
+HaveBases taken bases = (page : ℕ) → right_of_taken (taken_at taken page) ≡ Some Write → slice_index_or bases page None ≢ None

@@ -6,7 +6,9 @@ ghost use Rattle.std.specs.Prelude.{Option, Some, None, ◌∷◌, true, false, 
 ghost use Rattle.ft_types.specs.declared.names.TheConstants.{LEASE_STEPS};
 ghost use Rattle.rv32_hart.specs.Hart.{without_outputs};
 ghost use Rattle.guest_image.specs.Machine.{MachineState};
-ghost use Rattle.hart_lease.specs.Slots.{slot_at, want_of, base_of, is_writable};
+ghost use Rattle.std.specs.Arc.{arc_value};
+ghost use Rattle.hart_lease.specs.Slots.{slot_at, want_of, base_of, is_writable, part_of};
+ghost use Rattle.hart_lease.specs.Taken.{HaveBases};
 ghost use Rattle.hart_lease.specs.Runs.{IsBareLease};
 ghost use Rattle.hart_lease.specs.Asks.{asked_by};
 ghost use Rattle.hart_lease.specs.OpenLeases.{edges_after, idle};
@@ -23,12 +25,13 @@ use ft_types::{
     COUNT_LIMIT, Count, HART_LIMIT, HART_ROW, Hart, INPUT_LIMIT, LEASE_STEPS, Memory, PAGE_LIMIT,
     PAGE_ROW, PageNo, Want,
 };
-use guest_image::{DecodedPage, Machine, Page};
+use guest_image::{Machine, Page, SharedPage};
 use input_log::{Input, WaitingBell};
 use rv32_hart::{Anew, HartState, Tick, run_quietly, tick, tick_running};
 use smallvec::SmallVec;
 use std::alloc::Global;
 use std::marker::Model;
+use std::sync::Arc;
 
 /// One hart's state and some pages, on loan. Whoever has it may give it pages, and has to spend or waste it: so a book hands
 /// its own out inside a type that the book alone takes apart.
@@ -40,8 +43,8 @@ pub struct Lease {
     present: HartState,
     /// The inputs of its first step.
     inputs: SmallVec<Input, INPUT_LIMIT>,
-    /// The contents that each page to be written had when it came.
-    bases: Vec<Option<Page>>,
+    /// Each page to be written, as it was when it came.
+    bases: Vec<Option<SharedPage>>,
     pages: LeasePages,
     /// The counts at which it took each page.
     taken: TakenPages,
@@ -53,6 +56,7 @@ pub struct Lease {
     ghost last_stops: { last ≤ stop },
     ghost last_ends: { last ≤ base.count + LEASE_STEPS },
     ghost last_is_one: { last < stop → base.count + LEASE_STEPS ≤ last },
+    ghost based: { HaveBases taken bases.items },
 }
 
 impl Model for Lease {
@@ -89,7 +93,7 @@ impl Model for Lease {
     }) };
 }
 
-fn no_pages(alloc: Global, pages: u8) -> Result<Vec<Option<Page>>, Memory>
+fn no_pages(alloc: Global, pages: u8) -> Result<Vec<Option<SharedPage>>, Memory>
     ensures { IfOk result (λ v. v.items ≡ replicate pages None) }
 {
     let mut all = Vec::with_capacity(alloc, pages as usize)?;
@@ -100,13 +104,13 @@ fn no_pages(alloc: Global, pages: u8) -> Result<Vec<Option<Page>>, Memory>
 }
 
 /// Whether the page that was lent, where one was, is this page.
-fn is_base(slot: &Slot, kept: &Option<Page>, here: &Page) -> bool
+fn is_base(slot: &Slot, kept: &Option<SharedPage>, here: &Page) -> bool
     ensures { IsTrue result ↔ ((bytes : List ℕ) → base_of slot.now kept.now ≡ Some bytes → here.now ≡ bytes) }
 {
     match (slot, kept) {
         (Slot::Missing, _) | (Slot::Writable(_), None) => true,
         (Slot::Readable(page), _) => here.same(page.page()),
-        (Slot::Writable(_), Some(page)) => here.same(page),
+        (Slot::Writable(_), Some(page)) => here.same(page.page()),
     }
 }
 
@@ -343,8 +347,28 @@ impl Lease {
         tick(&mut self.present, self.inputs.as_slice(), &mut self.pages)
     }
 
+    /// The page as it was lent, where the lease took it.
+    pub fn base_page(&self, page: PageNo) -> Option<&Arc<Page>>
+        requires { page < length self.now.slots }
+        ensures some { IfSome result (λ p. base_at self.now page ≡ Some (arc_value p.now)) }
+        ensures none { IfNone result (want_of (slot_at self.now.slots page) ≡ None) }
+    {
+        match (self.pages.slot(page), &self.bases[page.index()]) {
+            (Slot::Readable(here), _) => Some(here.part()),
+            (Slot::Writable(_), Some(base)) => Some(base.part()),
+            _ => None,
+        }
+    }
+
+    /// Shared parts of the pages that it may write, by rising page.
+    pub fn parts(&self) -> Result<Vec<Option<SharedPage>>, Memory>
+        ensures { IfOk result (λ v. v.items ≡ map part_of self.now.slots) }
+    {
+        self.pages.parts()
+    }
+
     /// Takes a page in to read.
-    pub fn take_to_read(&mut self, page: PageNo, here: DecodedPage)
+    pub fn take_to_read(&mut self, page: PageNo, here: SharedPage)
         requires page { page < length self.old.slots }
         requires missing { slot_at self.old.slots page ≡ Slot.Missing }
         ensures { self.new ≡ with_page_to_read self.old page here }
@@ -353,28 +377,29 @@ impl Lease {
         drop(self.pages.put(page, Slot::Readable(here)));
     }
 
-    /// Takes a page in to write, given twice over.
-    pub fn take_to_write(&mut self, page: PageNo, base: Page, present: DecodedPage)
+    /// Takes a page in to write, with a copy of it.
+    pub fn take_to_write(&mut self, page: PageNo, base: SharedPage, copy: Page)
         requires page { page < length self.old.slots }
         requires unwritten { is_writable (slot_at self.old.slots page) ≡ false }
         requires lent { (bytes : List ℕ) → base_at self.old page ≡ Some bytes → bytes ≡ base }
-        requires same { present ≡ base }
-        ensures { self.new ≡ with_page_to_write self.old page base present }
+        requires same { copy ≡ base }
+        ensures { self.new ≡ with_page_to_write self.old page base copy }
     {
         self.taken.take(page, Want::Write, self.present.count());
+        let (base, present) = base.opened(copy);
         self.bases[page.index()] = Some(base);
         drop(self.pages.put(page, Slot::Writable(present)));
     }
 
-    /// Takes a page in to write that it has to read, given once more. What is decoded of it stays.
-    pub fn raise_to_write(&mut self, page: PageNo, base: Page)
+    /// Takes a page in to write that it has to read, by a copy of it. What is decoded of it stays.
+    pub fn raise_to_write(&mut self, page: PageNo, copy: Page)
         requires page { page < length self.old.slots }
-        requires readable { slot_at self.old.slots page ≡ Slot.Readable base }
-        ensures { self.new ≡ with_page_to_write self.old page base base }
+        requires readable { slot_at self.old.slots page ≡ Slot.Readable copy }
+        ensures { self.new ≡ with_page_to_write self.old page copy copy }
     {
         self.taken.take(page, Want::Write, self.present.count());
+        let base = self.pages.raise(page, copy);
         self.bases[page.index()] = Some(base);
-        self.pages.raise(page);
     }
 
     /// Whether the lease's hart and pages were lent by the machine, the pages at these counts.

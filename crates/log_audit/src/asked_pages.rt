@@ -81,7 +81,7 @@ impl AskedPages {
     {
         for number in 0..machine.pages() {
             let page = PageNo::new(number);
-            machine.put_page(page, self.pages[page.index()].copy()?);
+            machine.put_page(page, self.pages[page.index()].copy()?)?;
         }
         Ok(())
     }

@@ -57,7 +57,7 @@ fn put_back(machine: &mut Machine, number: u8, page: &Page) -> Result<(), Fail> 
     if number >= machine.pages() {
         return Err("a page".into());
     }
-    machine.put_page(PageNo::new(number), page.copy()?);
+    machine.put_page(PageNo::new(number), page.copy()?)?;
     Ok(())
 }
 

@@ -10,7 +10,7 @@ pub use Rattle.hart_lease.specs.Leases.{base_at, fresh, IsFull, IsLent, IsLentBy
 pub use Rattle.hart_lease.specs.Leases.{with_slot}
 pub use Rattle.hart_lease.specs.OpenLeases.{edges_after, given_more, lent_with, nothing_taken, open_at, OpenView}
 pub use Rattle.hart_lease.specs.Runs.{added, BeginsSchedule, counts_of, IsBareLease, LeadsTo}
-pub use Rattle.hart_lease.specs.Slots.{slot_at, want_of}
+pub use Rattle.hart_lease.specs.Slots.{part_of, slot_at, want_of}
 pub use Rattle.hart_lease.specs.declared.taken.Taken.{Taken}
 pub use Rattle.input_log.specs.Inputs.{inputs_of, is_bell, IsInputOf}
 pub use Rattle.interleaving.specs.Log.{HasUnmet, IsMet}

@@ -22,8 +22,8 @@ use edge_log::{Edge, EdgeLog};
 use ft_types::{
     COUNT_LIMIT, Count, Counts, HART_LIMIT, HART_ROW, Hart, HartSet, Memory, PAGE_ROW, PageNo, Want,
 };
-use guest_image::{DecodedPage, Machine};
-use hart_lease::{Asked, Lent, OpenLease, Slot, Stretch, TakenPages};
+use guest_image::{Machine, SharedPage};
+use hart_lease::{Asked, Lent, OpenLease, Stretch, TakenPages};
 use input_log::{Input, InputLog};
 use smallvec::SmallVec;
 use std::alloc::Global;
@@ -252,8 +252,8 @@ impl<M: Mode> Book<M> {
         }
     }
 
-    /// A copy of a page, with what the hart has decoded of it.
-    fn lend_page(&mut self, hart: Hart, page: PageNo) -> Result<DecodedPage, Memory>
+    /// A page, with what the hart has decoded of it.
+    fn lend_page(&mut self, hart: Hart, page: PageNo) -> Result<SharedPage, Memory>
         requires { page < length self.old.machine.pages }
         ensures lent { IfOk result (λ p. slice_get self.old.machine.pages page ≡ Some p) }
         ensures kept { self.new ≡ self.old }
@@ -380,7 +380,7 @@ impl<M: Mode> Book<M> {
         lease: &mut Lease,
         page: PageNo,
         want: Want,
-        here: DecodedPage,
+        here: SharedPage,
     ) -> Result<(), Memory>
         requires ours { IsOurs self.old lease.old }
         requires page { page < length self.old.machine.pages }
@@ -444,6 +444,10 @@ impl<M: Mode> Book<M> {
         ensures mode { OnOk result (M.settles self.old.mode lease keep self.new.mode) }
     {
         let Lease { own } = lease;
+        let parts = match own.parts() {
+            Ok(parts) => parts,
+            Err(_) => return Err((Lease { own }, BookFault::Memory)),
+        };
         if self.journal.reserve(1).is_err() {
             return Err((Lease { own }, BookFault::Memory));
         }
@@ -460,7 +464,7 @@ impl<M: Mode> Book<M> {
                 return Err((Lease { own }, BookFault::Memory));
             }
         }
-        let steps = take_back(&mut self.machine, own);
+        let steps = take_back(&mut self.machine, own, parts);
         add_stretch(&mut self.journal, hart, steps);
         self.leases[hart.index()] = None;
         Ok(())

@@ -5,7 +5,7 @@ ghost use Rattle.page_book.specs.Words.{base_at, edges_after, given_more, OpenVi
 
 use edge_log::Edge;
 use ft_types::{HART_ROW, Memory, PageNo, Want};
-use guest_image::DecodedPage;
+use guest_image::SharedPage;
 use hart_lease::{Asked, OpenLease};
 use smallvec::SmallVec;
 use std::alloc::Global;
@@ -38,7 +38,7 @@ pub(crate) fn with_edges(
 pub(crate) fn give(
     lease: &mut hart_lease::Lease,
     page: PageNo,
-    here: DecodedPage,
+    here: SharedPage,
     want: Want,
 ) -> Result<(), Memory>
     requires page { page < length lease.old.slots }
@@ -56,11 +56,14 @@ pub(crate) fn give(
     match (want, lease.right(page)) {
         (Want::Read, None) => lease.take_to_read(page, here),
         (Want::Write, None) => {
-            let base = here.page().copy()?;
-            lease.take_to_write(page, base, here);
+            let copy = here.page().copy()?;
+            lease.take_to_write(page, here, copy);
         }
         (Want::Write, Some(held)) => match held {
-            Want::Read => lease.raise_to_write(page, here.into_page()),
+            Want::Read => {
+                let copy = here.page().copy()?;
+                lease.raise_to_write(page, copy);
+            }
             Want::Write => {}
         },
         _ => {}

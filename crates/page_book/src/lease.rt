@@ -1,13 +1,16 @@
 //! A book's leases.
 
-ghost use Rattle.std.specs.Prelude.{◌≡◌, ◌<◌, ◌≤◌, ◌↔◌, ℕ, List, Option, length, IsTrue};
-ghost use Rattle.page_book.specs.Words.{IsBareLease, IsFull, IsLent, LeaseView, MachineState, Runs, slot_at, Taken, Ticks, want_of, whole};
+ghost use Rattle.std.specs.Prelude.{◌≡◌, ◌<◌, ◌≤◌, ◌↔◌, ℕ, List, Option, Some, None, length, IfSome, IfNone, IsTrue};
+ghost use Rattle.std.specs.Arc.{arc_value};
+ghost use Rattle.page_book.specs.Words.{base_at, IsBareLease, IsFull, IsLent, LeaseView, MachineState, Runs, slot_at, Taken, Ticks, want_of, whole};
 
 use edge_log::Edge;
 use ft_types::{Count, Hart, INPUT_LIMIT, PageNo, Want};
+use guest_image::Page;
 use input_log::Input;
 use rv32_hart::Tick;
 use std::marker::Model;
+use std::sync::Arc;
 
 /// One hart's state and some pages, on loan from a book. It has to be spent, by `Book::settle` or `Book::discard`. Only a
 /// book makes one, gives it pages and takes it apart: others read it, and take its steps.
@@ -75,6 +78,15 @@ impl Lease {
         ensures { result ≡ want_of (slot_at self.now.slots page) }
     {
         self.own.right(page)
+    }
+
+    /// The page as it was lent, where the lease took it.
+    pub fn base_page(&self, page: PageNo) -> Option<&Arc<Page>>
+        requires { page < length self.now.slots }
+        ensures some { IfSome result (λ p. base_at self.now page ≡ Some (arc_value p.now)) }
+        ensures none { IfNone result (want_of (slot_at self.now.slots page) ≡ None) }
+    {
+        self.own.base_page(page)
     }
 
     /// Whether the lease takes no further step: after `LEASE_STEPS` steps, after a step that halts or rings, and at its stop.

@@ -1,7 +1,7 @@
 use Rattle.std.proofs.Common.{◌≡◌, ◌-◌, ◌∙◌, ◌<◌, ℕ, List, ap, sym, length, slice_index_or, slice_set, Some, None, arith}
 use Rattle.hart_lease.specs.declared.lease_pages.Slot.{Slot}
 use Rattle.hart_lease.specs.declared.lease_pages.Slot.TheVariants.{Readable, Writable}
-use Rattle.hart_lease.specs.Slots.{slot_at, is_writable, base_of, raised}
+use Rattle.hart_lease.specs.Slots.{slot_at, is_writable, base_of}
 use Rattle.hart_lease.specs.Leases.{LeaseView, with_page_to_write}
 use Rattle.hart_lease.specs.Runs.{IsBareLease}
 use Rattle.hart_lease.proofs.pages.Given.{bare_write_kept}
@@ -32,8 +32,6 @@ invariant_of-self c =
       stop = i.stop;
     } in
     let lt : c.args.page < length i.pages = omega (arith, ap (λ (l : LeaseView). length l.slots) view, c.requires.page) in
-    let there : slot_at i.pages c.args.page ≡ Readable c.args.base = ap (λ (l : LeaseView). slot_at l.slots c.args.page) view ∙ c.requires.readable in
-    let slots : c.raise.new.self ≡ slice_set i.pages c.args.page (Writable c.args.base) =
-    c.raise.ensures ∙ ap (λ (s : Slot). slice_set i.pages c.args.page (raised s)) there in
-    rw (slots, c.take.ensures.value, c.index.ensures.value, c.count.ensures.value)
-    (to_write l c.args.page c.args.base c.self.invariant lt c.take.ensures.row there)
+    let there : slot_at i.pages c.args.page ≡ Readable c.args.copy = ap (λ (l : LeaseView). slot_at l.slots c.args.page) view ∙ c.requires.readable in
+    rw (c.raise-base.ensures.raised, c.raise-base.ensures.base, c.take.ensures.value, c.index.ensures.value, c.count.ensures.value)
+    (to_write l c.args.page c.args.copy c.self.invariant lt c.take.ensures.row there)

@@ -10,7 +10,7 @@ invariant_of-self c =
     let view = c.self.view_is in
     let lt : c.args.page < length i.pages = omega (arith, ap (λ (l : LeaseView). length l.slots) view, c.requires.page) in
     let row : c.args.page < length i.taken = c.take.ensures.row in
-    rw (c.put.ensures.new, c.take.ensures.value, c.requires.same, c.index.ensures.value, c.count.ensures.value)
+    rw (c.put.ensures.new, c.take.ensures.value, c.opened-base.ensures.part, c.opened-base.ensures.copy, c.index.ensures.value, c.count.ensures.value)
     (bare_write_kept (record {
       hart = i.hart;
       base = i.base;

@@ -57,7 +57,7 @@ invariant_of-self-in-Err-settle g c =
     let i = c.self.inside in
     let back = made_back i.machine c.add_outputs.new.self c.cut_outputs.new.self c.lease.inside.own c.hart-hart.result c.hart.result.now c.outputs.result.now
     c.outputs-before.result.now c.hart-hart.ensures.value c.outputs.ensures c.outputs-before.ensures c.hart.ensures
-    (c.in-Ok.ensures.added c.hart.result.now c.hart.ensures)
+    (c.in-Ok-add_outputs.ensures.added c.hart.result.now c.hart.ensures)
     c.cut_outputs.ensures in
     rw (back, c.in-Err-settle.ensures.err, c.reserve.ensures.items) c.self.invariant
 
@@ -66,7 +66,7 @@ returns-in-Err-settle-clause-kept g c =
     let i = c.self.inside in
     let back = made_back i.machine c.add_outputs.new.self c.cut_outputs.new.self c.lease.inside.own c.hart-hart.result c.hart.result.now c.outputs.result.now
     c.outputs-before.result.now c.hart-hart.ensures.value c.outputs.ensures c.outputs-before.ensures c.hart.ensures
-    (c.in-Ok.ensures.added c.hart.result.now c.hart.ensures)
+    (c.in-Ok-add_outputs.ensures.added c.hart.result.now c.hart.ensures)
     c.cut_outputs.ensures in
     rw (back, c.in-Err-settle.ensures.err, c.reserve.ensures.items) c.self.view_is
 
@@ -78,7 +78,7 @@ take_back-steps-requires-clause-state g c =
     let ours : IsLentBy (open_at c.self.inside.leases l.hart) m (whole_in m l) = rw (← c.self.view_is, ← c.lease.view_is) at c.requires in
     let there : slice_get m.harts l.hart ≡ Some h = rw (← c.hart-hart.ensures.value) c.hart.ensures in
     let new = made_longer m c.add_outputs.new.self l c.hart-hart.result h c.outputs.result.now c.hart-hart.ensures.value c.outputs.ensures
-    (c.in-Ok.ensures.added h c.hart.ensures) in (
+    (c.in-Ok-add_outputs.ensures.added h c.hart.ensures) in (
       longer h l.present.outputs,
       rw new (longer_there m l.hart h l.present.outputs there),
       base_bare m l h there (stands_ours (open_at c.self.inside.leases l.hart) m (whole_in m l) ours),
@@ -91,7 +91,7 @@ take_back-steps-requires-clause-unwritten g c = λ page bytes is.
     let h = c.hart.result.now in
     let ours : IsLentBy (open_at c.self.inside.leases l.hart) m (whole_in m l) = rw (← c.self.view_is, ← c.lease.view_is) at c.requires in
     let new = made_longer m c.add_outputs.new.self l c.hart-hart.result h c.outputs.result.now c.hart-hart.ensures.value c.outputs.ensures
-    (c.in-Ok.ensures.added h c.hart.ensures) in
+    (c.in-Ok-add_outputs.ensures.added h c.hart.ensures) in
     ap (λ (w : MachineState). slice_get w.pages page) new ∙ read_ours (open_at c.self.inside.leases l.hart) m (whole_in m l) page bytes ours is
 
 pub returns-clause-machine : goal.returns-clause-machine
@@ -101,7 +101,7 @@ returns-clause-machine g c =
     let h = c.hart.result.now in
     let there : slice_get m.harts l.hart ≡ Some h = rw (← c.hart-hart.ensures.value) c.hart.ensures in
     let new = made_longer m c.add_outputs.new.self l c.hart-hart.result h c.outputs.result.now c.hart-hart.ensures.value c.outputs.ensures
-    (c.in-Ok.ensures.added h c.hart.ensures) in
+    (c.in-Ok-add_outputs.ensures.added h c.hart.ensures) in
     let taken = c.take_back-steps.ensures.machine (longer h l.present.outputs) (rw new (longer_there m l.hart h l.present.outputs there)) in
     rw (← c.self.view_is, ← c.lease.view_is) (taken ∙ rw new (laid_longer m l h there))
 
@@ -115,7 +115,7 @@ invariant_of-self-2 g c =
     let ours : IsLentBy (open_at i.leases l.hart) i.machine w = rw (← c.self.view_is, ← c.lease.view_is) at c.requires in
     let there : slice_get i.machine.harts l.hart ≡ Some h = rw (← c.hart-hart.ensures.value) c.hart.ensures in
     let new = made_longer i.machine c.add_outputs.new.self l c.hart-hart.result h c.outputs.result.now c.hart-hart.ensures.value c.outputs.ensures
-    (c.in-Ok.ensures.added h c.hart.ensures) in
+    (c.in-Ok-add_outputs.ensures.added h c.hart.ensures) in
     let taken = c.take_back-steps.ensures.machine (longer h l.present.outputs) (rw new (longer_there i.machine l.hart h l.present.outputs there)) in
     let laid_is : c.take_back-steps.new.machine ≡ laid i.machine w = taken ∙ rw new (laid_longer i.machine l h there) in
     let settling : IsSettling (g.M.Mode.keeps i.mode) w =
