@@ -11,6 +11,6 @@ loop-number-preserved c =
     ∙ (ap (λ (r : Ram). slice_get r.contents c.index.result) (sym c.self.view_is)
     ∙ get_at c.self.inside.pages.items c.index.result c.index-in-loop-number.result.now c.index-in-loop-number.ensures (search rules)
     ∙ ap Some (sym c.in_ok-copy.ensures)) in
-    rw (c.put_page.ensures, c.loop-number.invariant, c.new-page.ensures)
+    rw (c.in_ok-put_page.ensures.put, c.loop-number.invariant, c.new-page.ensures)
     (ap (λ ps. let m : MachineState = record { harts = c.args.machine.now.harts; pages = ps } in m)
     (one_more_in_place c.args.machine.now.pages c.args.self.now.contents c.loop-number.number c.in_ok-copy.field-0 there (search rules)))
