@@ -1,6 +1,7 @@
 pub mod LineFacts
 pub mod OneFault
 pub mod BootFacts
+pub mod CarriedForms
 pub mod DecodedFacts
 pub mod MachineFacts
 pub mod RamFacts

@@ -1,7 +1,7 @@
 //! The book.
 
 ghost use Rattle.std.specs.Prelude.{All, ◌≡◌, ◌≢◌, ◌<◌, ◌≤◌, ◌⊎◌, ◌+◌, ◌↔◌, ◌++◌, ◌∷◌, ℕ, List, [], length, replicate, map, slice_set, slice_get};
-ghost use Rattle.std.specs.Prelude.{slice_index, slice_index_or, Some, None, Ok, Err, true, false, IfOk, IfErr, OnOk, OnErr, IsTrue};
+ghost use Rattle.std.specs.Prelude.{slice_index, slice_index_or, Some, None, Ok, Err, true, false, IfOk, IfErr, IfSome, OnOk, OnErr, IsTrue};
 ghost use Rattle.std.specs.Vec.{vec_len, vec_capacity};
 ghost use Rattle.page_book.specs.Words.{added, asked_by, base_at, BeginsSchedule, count_at, counts_of, edges_after, fresh, given_more, greater, HasHonestLog, HasUnmet};
 ghost use Rattle.page_book.specs.Words.{heard_by, inputs_of, is_bell, IsAsking, IsBareLease, IsBetween, IsFull, IsInputOf, IsLentBy};
@@ -22,7 +22,7 @@ use edge_log::{Edge, EdgeLog};
 use ft_types::{
     COUNT_LIMIT, Count, Counts, HART_LIMIT, HART_ROW, Hart, HartSet, Memory, PAGE_ROW, PageNo, Want,
 };
-use guest_image::{Machine, SharedPage};
+use guest_image::{Machine, Page, SharedPage};
 use hart_lease::{Asked, Lent, OpenLease, Stretch, TakenPages};
 use input_log::{Input, InputLog};
 use smallvec::SmallVec;
@@ -261,6 +261,18 @@ impl<M: Mode> Book<M> {
         self.machine.lend_page(hart, page)
     }
 
+    /// The copy by which a page was written last, where one is kept, for whoever is to write it.
+    fn take_copy(&mut self, page: PageNo, want: Want) -> Option<Page>
+        requires { page < length self.old.machine.pages }
+        ensures copy { IfSome result (λ p. slice_get self.old.machine.pages page ≡ Some p) }
+        ensures kept { self.new ≡ self.old }
+    {
+        match want {
+            Want::Read => None,
+            Want::Write => self.machine.take_copy(page),
+        }
+    }
+
     /// Gives the asker its right, and writes down that its open lease has the page, and that these edges wait in it.
     fn hand_over(
         &mut self,
@@ -370,7 +382,8 @@ impl<M: Mode> Book<M> {
             return Ok(Need::HeldBy(harts));
         }
         let here = self.lend_page(asked.hart, page)?;
-        self.give_page(lease, page, want, here)?;
+        let copy = self.take_copy(page, want);
+        self.give_page(lease, page, want, here, copy)?;
         Ok(Need::Given)
     }
 
@@ -381,11 +394,13 @@ impl<M: Mode> Book<M> {
         page: PageNo,
         want: Want,
         here: SharedPage,
+        copy: Option<Page>,
     ) -> Result<(), Memory>
         requires ours { IsOurs self.old lease.old }
         requires page { page < length self.old.machine.pages }
         requires free { (g : ℕ) → M.is_holder self.old.mode self.old.leases (asked_by lease.old page want) g → ⊥ }
         requires here { slice_get self.old.machine.pages page ≡ Some here }
+        requires copy { IfSome copy (λ p. p ≡ here) }
         ensures given { OnOk result (lease.new ≡ record (with_page lease.old page want here) { edges = lease.new.edges }) }
         ensures taken { OnOk result (HasTaken (M.owes self.old.mode (counts_of self.old.machine) (asked_by lease.old page want)) self.old.leases
             (asked_by lease.old page want) lease.old.edges lease.new.edges self.new.leases) }
@@ -406,7 +421,7 @@ impl<M: Mode> Book<M> {
         let found = self.mode.edges_owed(alloc, &settled, &asked);
         let waiting = with_edges(alloc, lease.own.edges(), found.as_slice())?;
         let known = with_edges(alloc, lease.own.edges(), found.as_slice())?;
-        give(&mut lease.own, page, here, want)?;
+        give(&mut lease.own, page, here, want, copy)?;
         lease.own.wait_with(waiting);
         self.hand_over(&settled, &asked, found.as_slice(), known);
         Ok(())

@@ -1,11 +1,11 @@
 //! What a lease that is given a page gets.
 
-ghost use Rattle.std.specs.Prelude.{◌≡◌, ◌<◌, ◌++◌, ℕ, List, length, replicate, None, Some, IfOk, OnOk, OnErr};
+ghost use Rattle.std.specs.Prelude.{◌≡◌, ◌<◌, ◌++◌, ℕ, List, length, replicate, None, Some, IfOk, IfSome, OnOk, OnErr};
 ghost use Rattle.page_book.specs.Words.{base_at, edges_after, given_more, OpenView, with_page};
 
 use edge_log::Edge;
 use ft_types::{HART_ROW, Memory, PageNo, Want};
-use guest_image::SharedPage;
+use guest_image::{Page, SharedPage};
 use hart_lease::{Asked, OpenLease};
 use smallvec::SmallVec;
 use std::alloc::Global;
@@ -19,6 +19,7 @@ pub(crate) fn no_leases() -> [Option<OpenLease>; HART_ROW]
 }
 
 /// The edges that wait, with those found, where any were found.
+#[inline(always)]
 pub(crate) fn with_edges(
     alloc: Global,
     waiting: &[Edge],
@@ -29,19 +30,44 @@ pub(crate) fn with_edges(
     if found.is_empty() {
         return Ok(None);
     }
-    let mut all = SmallVec::from_slice(alloc, waiting)?;
-    all.extend_from_slice(found)?;
+    let all = joined(alloc, waiting, found)?;
     Ok(Some(all))
 }
 
-/// Gives the lease the page as it stands here.
+/// These edges and those.
+fn joined(
+    alloc: Global,
+    waiting: &[Edge],
+    found: &[Edge],
+) -> Result<SmallVec<Edge, HART_ROW>, Memory>
+    ensures { IfOk result (λ all. all.items ≡ waiting.now ++ found.now) }
+{
+    let mut all = SmallVec::from_slice(alloc, waiting)?;
+    all.extend_from_slice(found)?;
+    Ok(all)
+}
+
+/// A copy of a page: the one that is there, where one is.
+fn copied(kept: Option<Page>, page: &Page) -> Result<Page, Memory>
+    requires { IfSome kept (λ p. p ≡ page.now) }
+    ensures { IfOk result (λ p. p ≡ page.now) }
+{
+    match kept {
+        Some(copy) => Ok(copy),
+        None => page.copy(),
+    }
+}
+
+/// Gives the lease the page as it stands here. The copy is for a page that is to be written.
 pub(crate) fn give(
     lease: &mut hart_lease::Lease,
     page: PageNo,
     here: SharedPage,
     want: Want,
+    copy: Option<Page>,
 ) -> Result<(), Memory>
     requires page { page < length lease.old.slots }
+    requires copy { IfSome copy (λ p. p ≡ here) }
     requires lent { (bytes : List ℕ) → base_at lease.old page ≡ Some bytes → bytes ≡ here }
     ensures hart { lease.new.hart ≡ lease.old.hart }
     ensures base { lease.new.base ≡ lease.old.base }
@@ -56,12 +82,12 @@ pub(crate) fn give(
     match (want, lease.right(page)) {
         (Want::Read, None) => lease.take_to_read(page, here),
         (Want::Write, None) => {
-            let copy = here.page().copy()?;
+            let copy = copied(copy, here.page())?;
             lease.take_to_write(page, here, copy);
         }
         (Want::Write, Some(held)) => match held {
             Want::Read => {
-                let copy = here.page().copy()?;
+                let copy = copied(copy, here.page())?;
                 lease.raise_to_write(page, copy);
             }
             Want::Write => {}
