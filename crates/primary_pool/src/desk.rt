@@ -1,7 +1,9 @@
 //! What lies under the lock.
 
-ghost use Rattle.std.specs.Prelude.{◌≡◌};
+ghost use Rattle.std.specs.Prelude.{◌≡◌, ◌<◌, length};
+ghost use Rattle.page_book.specs.Books.{IsOurs};
 
+use crate::habits::Habits;
 use crate::queue::{PageMask, Queue};
 use ft_types::{Count, HART_LIMIT, HART_ROW, Hart, HartSet, PageNo, Want};
 use page_book::{Book, BookFault, Keep, Lease, Mode, Need};
@@ -19,12 +21,33 @@ pub enum Pace {
     Own,
 }
 
+/// Why a hart takes no further step of its lease.
+#[derive(Clone, Copy, Debug, PartialEq, Eq)]
+pub(crate) enum Stop {
+    /// The lease is full.
+    Full,
+    /// The next step lacks a page.
+    Lacks(PageNo, Want),
+    /// Memory was refused.
+    Memory,
+}
+
 /// What became of a page that was asked for.
 #[derive(Clone, Copy, Debug, PartialEq, Eq)]
-pub(crate) enum Answer {
+enum Answer {
     Given,
     Held,
     Refused,
+}
+
+/// What may come of a lease that is brought.
+pub(crate) enum Brought {
+    /// It was given the page that it lacked.
+    Goes(Lease),
+    /// So many steps were settled, up to this count.
+    Settled(u64, Count),
+    /// The hart is to end.
+    Ends,
 }
 
 /// What may come of asking for a lease.
@@ -37,22 +60,34 @@ pub(crate) enum Turn {
     Ends,
 }
 
+/// What a hart's thread sleeps for, until it is called.
+#[derive(Clone, Copy, Debug, PartialEq, Eq)]
+enum Rest {
+    /// It does not sleep.
+    Awake,
+    /// The pages for which it has a number.
+    Pages,
+    /// Others are to come near.
+    Ahead,
+    /// Others are to settle steps.
+    Edges,
+    /// Nothing more.
+    Over,
+}
+
 /// A book, beside who waits for what. All but the book steers only: no promise leans on it.
 #[derive(Drop)]
 pub(crate) struct Desk<M: Mode> {
     book: Book<M>,
     queue: Queue,
+    habits: Habits,
     pace: Pace,
     /// The steps of the last hart when harts last had to do with each other.
     quiet_from: u64,
-    /// Which harts cannot go on before another has settled, and which are done.
-    stuck: [bool; HART_ROW],
-    /// Which harts waited for others to settle, when one last did.
-    freed: [bool; HART_ROW],
     /// How many steps each hart has settled here; `u64::MAX` for one that is done.
     steps: [u64; HART_ROW],
-    /// Which harts wait for others to come near.
-    ahead: [bool; HART_ROW],
+    /// What each hart's thread sleeps for.
+    rests: [Rest; HART_ROW],
 }
 
 impl<M: Mode> Desk<M> {
@@ -65,12 +100,11 @@ impl<M: Mode> Desk<M> {
         Desk {
             book,
             queue: Queue::new(),
+            habits: Habits::new(),
             pace,
             quiet_from: 0,
-            stuck: [false; HART_ROW],
-            freed: [false; HART_ROW],
             steps,
-            ahead: [false; HART_ROW],
+            rests: [Rest::Awake; HART_ROW],
         }
     }
 
@@ -111,30 +145,31 @@ impl<M: Mode> Desk<M> {
         self.quiet_from = self.fewest();
     }
 
-    /// Whether the hart has to wait for others to come near.
-    fn pauses(&mut self, hart: Hart) -> bool
-        ensures { self.new.book ≡ self.old.book }
-    {
-        if self.pace == Pace::Own || self.queue.is_waiting(hart.index()) {
-            return false;
+    /// What the hart has to sleep for before it may ask for a lease.
+    fn rest(&self, hart: Hart) -> Rest {
+        if !self.queue.is_called(hart) {
+            return Rest::Pages;
         }
-        let ahead = self.is_ahead(hart);
-        self.ahead[hart.index()] = ahead;
-        ahead
+        if self.pace == Pace::Own || self.queue.is_waiting(hart.index()) || !self.is_ahead(hart) {
+            return Rest::Awake;
+        }
+        Rest::Ahead
     }
 
-    /// A lease of the hart.
-    pub(crate) fn lend(&mut self, alloc: Global, hart: Hart) -> Turn {
-        if hart.number() >= self.book.machine().harts() {
+    /// A lease of the hart, with the pages that it takes at once.
+    pub(crate) fn lend(&mut self, alloc: Global, hart: Hart, end: Count) -> Turn {
+        if hart.number() >= self.book.machine().harts() || !self.may_go(hart, end) {
             return Turn::Ends;
         }
-        if !self.queue.is_called(hart) || self.pauses(hart) {
+        let rest = self.rest(hart);
+        self.rests[hart.index()] = rest;
+        if rest != Rest::Awake {
             return Turn::Waits;
         }
         match self.book.lease(alloc, hart) {
-            Ok(lease) => Turn::Goes(lease),
+            Ok(lease) => Turn::Goes(self.with_pages(lease)),
             Err(BookFault::EdgeOpen) => {
-                self.stuck[hart.index()] = true;
+                self.rests[hart.index()] = Rest::Edges;
                 if self.all_stuck() {
                     Turn::Ends
                 } else {
@@ -145,19 +180,93 @@ impl<M: Mode> Desk<M> {
         }
     }
 
+    /// Whether each hart is done or sleeps until another settles steps.
     fn all_stuck(&self) -> bool {
-        let harts = self.book.machine().harts();
-        for number in 0..HART_LIMIT {
-            let place = number as usize;
-            if number < harts && !self.stuck[place] && self.steps[place] != u64::MAX {
+        for number in 0..HART_ROW {
+            if self.steps[number] != u64::MAX && self.rests[number] != Rest::Edges {
                 return false;
             }
         }
         true
     }
 
+    /// The lease with the pages that its hart waits for, and those that it had in its last one, where nobody is in the way.
+    fn with_pages(&mut self, lease: Lease) -> Lease
+        requires ours { IsOurs self.old.book lease }
+    {
+        let mut lease = lease;
+        let hart = lease.hart();
+        let pages = self.habits.of(hart).with(self.queue.wishes(hart));
+        let in_the_way = self.queue.in_the_way(hart);
+        for number in 0..self.book.machine().pages() {
+            let page = PageNo::new(number);
+            if let Some(want) = pages.want(page) {
+                if !in_the_way.is_against(PageMask::of(page, want)) {
+                    self.give(&mut lease, page, want);
+                }
+            }
+        }
+        lease
+    }
+
+    /// Gives the book's own lease a page, where it may have it.
+    fn give(&mut self, lease: &mut Lease, page: PageNo, want: Want)
+        requires ours { IsOurs self.old.book lease.old }
+        requires page { page < length self.old.book.machine.pages }
+        ensures ours { IsOurs self.new.book lease.new }
+        ensures pages { self.new.book.machine ≡ self.old.book.machine }
+    {
+        if let Ok(Need::Given) = self.book.need_own(lease, page, want) {
+            self.queue.take(lease.hart(), PageMask::of(page, want));
+        }
+    }
+
+    /// Takes in a lease which stops here: it is given the page that it lacks, or else its steps are settled.
+    pub(crate) fn bring(&mut self, lease: Lease, stop: Stop) -> Brought {
+        let mut lease = lease;
+        let answer = match stop {
+            Stop::Full => Answer::Held,
+            Stop::Lacks(page, want) => self.ask(&mut lease, page, want),
+            Stop::Memory => Answer::Refused,
+        };
+        match answer {
+            Answer::Given => Brought::Goes(lease),
+            Answer::Held => match self.take_back(lease) {
+                Some((steps, count)) => Brought::Settled(steps, count),
+                None => Brought::Ends,
+            },
+            Answer::Refused => {
+                let _settled = self.take_back(lease);
+                Brought::Ends
+            }
+        }
+    }
+
+    /// The same, and lends the hart its next lease, where one is settled.
+    pub(crate) fn exchange(&mut self, alloc: Global, lease: Lease, stop: Stop, end: Count) -> Turn {
+        let hart = lease.hart();
+        match self.bring(lease, stop) {
+            Brought::Goes(lease) => Turn::Goes(lease),
+            Brought::Settled(_, _) => {
+                self.queue_up(hart, stop);
+                self.lend(alloc, hart, end)
+            }
+            Brought::Ends => Turn::Ends,
+        }
+    }
+
+    /// The hart's next step lacks a page, for which it waits from now on. One that obeys a log may have to wait for steps of others
+    /// first, which it must not hold up.
+    fn queue_up(&mut self, hart: Hart, stop: Stop) {
+        if let Stop::Lacks(page, want) = stop {
+            if self.pace == Pace::Even {
+                self.queue.wait(hart, PageMask::of(page, want));
+            }
+        }
+    }
+
     /// Asks for a page.
-    pub(crate) fn ask(&mut self, lease: &mut Lease, page: PageNo, want: Want) -> Answer {
+    fn ask(&mut self, lease: &mut Lease, page: PageNo, want: Want) -> Answer {
         if page.number() >= self.book.machine().pages() {
             return Answer::Refused;
         }
@@ -189,46 +298,72 @@ impl<M: Mode> Desk<M> {
         if self.steps[hart.index()] != u64::MAX {
             self.steps[hart.index()] = self.steps[hart.index()].saturating_add(steps);
         }
+        let unwanted = self.queue.held(hart).without(self.queue.wished(hart));
+        self.habits.note(hart, unwanted);
         self.queue.release(hart);
         if steps < FARTHEST {
             self.meet();
         }
         if steps > 0 {
             self.queue.forget(hart);
-            self.freed = self.stuck;
-            self.stuck = [false; HART_ROW];
+            self.free_stuck();
         }
     }
 
-    /// Takes the lease back, with its steps. Whether it did.
-    pub(crate) fn take_back(&mut self, lease: Lease) -> bool {
-        self.note(lease.hart(), lease.steps());
-        match self.book.settle(lease, Keep::Nothing) {
-            Ok(()) => true,
-            Err((lease, _)) => {
-                let _ended = self.book.discard(lease);
-                false
+    /// Steps were settled, for which harts may have waited.
+    fn free_stuck(&mut self) {
+        for number in 0..HART_ROW {
+            if self.rests[number] == Rest::Edges {
+                self.rests[number] = Rest::Over;
             }
         }
     }
 
-    /// The hart does not go on.
-    pub(crate) fn leave(&mut self, hart: Hart) {
+    /// Takes the lease back, with its steps: how many, and up to which count. None where they were not added.
+    fn take_back(&mut self, lease: Lease) -> Option<(u64, Count)> {
+        let steps = lease.steps();
+        let count = lease.count();
+        self.note(lease.hart(), steps);
+        match self.book.settle(lease, Keep::Nothing) {
+            Ok(()) => Some((steps, count)),
+            Err((lease, _)) => {
+                let _ended = self.book.discard(lease);
+                None
+            }
+        }
+    }
+
+    /// The hart does not go on. Who sleeps is to look again.
+    pub(crate) fn leave(&mut self, hart: Hart) -> HartSet {
         self.queue.forget(hart);
         self.queue.release(hart);
         self.steps[hart.index()] = u64::MAX;
-        self.stuck[hart.index()] = true;
+        self.rests[hart.index()] = Rest::Awake;
+        for number in 0..HART_ROW {
+            if self.rests[number] != Rest::Awake {
+                self.rests[number] = Rest::Over;
+            }
+        }
+        self.called()
     }
 
-    /// Who is to look again.
-    pub(crate) fn called(&self) -> HartSet {
-        let mut harts = self.queue.called();
+    /// Whether what the hart's thread sleeps for is over.
+    fn may_look(&self, hart: Hart) -> bool {
+        match self.rests[hart.index()] {
+            Rest::Awake | Rest::Edges => false,
+            Rest::Pages => self.queue.is_called(hart),
+            Rest::Ahead => !self.is_ahead(hart),
+            Rest::Over => true,
+        }
+    }
+
+    /// Whose threads are to look again. They sleep no longer.
+    pub(crate) fn called(&mut self) -> HartSet {
+        let mut harts = HartSet::new();
         for number in 0..HART_LIMIT {
             let hart = Hart::new(number);
-            if self.ahead[hart.index()] && !self.is_ahead(hart) {
-                harts = harts.with(hart);
-            }
-            if self.freed[hart.index()] {
+            if self.may_look(hart) {
+                self.rests[hart.index()] = Rest::Awake;
                 harts = harts.with(hart);
             }
         }
