@@ -3,31 +3,16 @@
 ghost use Rattle.lease_rounds.specs.Leading.{IsFreeAlone, IsIdle};
 
 use crate::alone::lead_alone;
+use crate::calls::Calls;
 use crate::desk::{Brought, Desk, Pace, Stop, Turn};
 use crate::turnstile::Turnstile;
 use ft_types::{Count, Counts, HART_LIMIT, HART_ROW, Hart, HartSet};
 use page_book::{Book, Lease, Mode};
 use rv32_hart::Tick;
 use std::alloc::Global;
-use std::sync::{Condvar, Mutex, MutexGuard, Wait};
+use std::sync::{Mutex, MutexGuard, Wait};
 use std::thread::Threads;
 use std::{hint, thread};
-
-/// One for each hart, which is called when it may ask again.
-type Calls = [Condvar; HART_ROW];
-
-fn no_calls() -> Calls {
-    [
-        Condvar::new(),
-        Condvar::new(),
-        Condvar::new(),
-        Condvar::new(),
-        Condvar::new(),
-        Condvar::new(),
-        Condvar::new(),
-        Condvar::new(),
-    ]
-}
 
 /// The harts of a book, each on a thread of its own, which ends only where its hart is halted or at its end, where memory is
 /// refused or where no hart can go on. A book of one hart is led on the calling thread, without a lock, until the same. Nothing is
@@ -49,7 +34,7 @@ pub fn run_crew<M: Mode + Send, R: Threads + Wait + Sync, T: Turnstile + Sync>(
         return book;
     }
     let desk = Mutex::new(Desk::new(book, pace));
-    let calls = no_calls();
+    let calls = Calls::new();
     start_all(rt, alloc, &desk, &calls, ends, turnstile);
     desk.into_inner().into_book()
 }
@@ -165,17 +150,7 @@ fn leave<M: Mode, R: Wait>(rt: &R, desk: &Mutex<Desk<M>>, calls: &Calls, hart: u
         return;
     }
     let called = hold(rt, desk).leave(Hart::new(hart));
-    call(calls, called);
-}
-
-/// Wakes these harts.
-fn call(calls: &Calls, harts: HartSet) {
-    for number in 0..HART_LIMIT {
-        let hart = Hart::new(number);
-        if harts.contains(hart) {
-            calls[hart.index()].notify_all();
-        }
-    }
+    calls.make(rt, called);
 }
 
 /// One lease of the hart that has a step, at which count it was settled. None where its thread is to end.
@@ -227,15 +202,24 @@ fn lend<M: Mode, R: Wait>(
     hart: Hart,
     end: Count,
 ) -> Option<Lease> {
-    let mut held = hold(rt, desk);
     for _ in rt.forever() {
-        match held.lend(alloc, hart, end) {
+        match ask_for_lease(rt, alloc, desk, hart, end) {
             Turn::Goes(lease) => return Some(lease),
             Turn::Ends => return None,
-            Turn::Waits => held = calls[hart.index()].wait(rt, held),
+            Turn::Waits => calls.wait(rt, hart),
         }
     }
     unreachable!()
+}
+
+fn ask_for_lease<M: Mode, R: Wait>(
+    rt: &R,
+    alloc: Global,
+    desk: &Mutex<Desk<M>>,
+    hart: Hart,
+    end: Count,
+) -> Turn {
+    hold(rt, desk).lend(alloc, hart, end)
 }
 
 /// Takes steps, until the lease is full or one lacks something.
@@ -259,7 +243,7 @@ fn bring<M: Mode, R: Wait>(
     stop: Stop,
 ) -> Brought {
     let (brought, called) = visit(rt, desk, lease, stop);
-    call(calls, called);
+    calls.make(rt, called);
     brought
 }
 
@@ -286,11 +270,14 @@ fn exchange<M: Mode, R: Wait>(
 ) -> Option<Lease> {
     let hart = lease.hart();
     let (turn, called) = visit_and_lend(rt, alloc, desk, lease, stop, end);
-    call(calls, called);
+    calls.make(rt, called);
     match turn {
         Turn::Goes(lease) => Some(lease),
         Turn::Ends => None,
-        Turn::Waits => lend(rt, alloc, desk, calls, hart, end),
+        Turn::Waits => {
+            calls.wait(rt, hart);
+            lend(rt, alloc, desk, calls, hart, end)
+        }
     }
 }
 
