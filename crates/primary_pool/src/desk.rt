@@ -32,6 +32,16 @@ pub(crate) enum Stop {
     Memory,
 }
 
+impl Stop {
+    /// The page that is lacked, if one is.
+    fn lacked(&self) -> PageMask {
+        match self {
+            Stop::Lacks(page, want) => PageMask::of(*page, *want),
+            Stop::Full | Stop::Memory => PageMask::none(),
+        }
+    }
+}
+
 /// What became of a page that was asked for.
 #[derive(Clone, Copy, Debug, PartialEq, Eq)]
 enum Answer {
@@ -245,23 +255,22 @@ impl<M: Mode> Desk<M> {
     /// The same, and lends the hart its next lease, where one is settled.
     pub(crate) fn exchange(&mut self, alloc: Global, lease: Lease, stop: Stop, end: Count) -> Turn {
         let hart = lease.hart();
+        let lacked = stop.lacked();
         match self.bring(lease, stop) {
             Brought::Goes(lease) => Turn::Goes(lease),
             Brought::Settled(_, _) => {
-                self.queue_up(hart, stop);
+                self.queue_up(hart, lacked);
                 self.lend(alloc, hart, end)
             }
             Brought::Ends => Turn::Ends,
         }
     }
 
-    /// The hart's next step lacks a page, for which it waits from now on. One that obeys a log may have to wait for steps of others
-    /// first, which it must not hold up.
-    fn queue_up(&mut self, hart: Hart, stop: Stop) {
-        if let Stop::Lacks(page, want) = stop {
-            if self.pace == Pace::Even {
-                self.queue.wait(hart, PageMask::of(page, want));
-            }
+    /// The hart's next step lacks these pages, for which it waits from now on. One that obeys a log may have to wait for steps of
+    /// others first, which it must not hold up.
+    fn queue_up(&mut self, hart: Hart, lacked: PageMask) {
+        if lacked.is_some() && self.pace == Pace::Even {
+            self.queue.wait(hart, lacked);
         }
     }
 

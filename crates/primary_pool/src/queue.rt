@@ -33,6 +33,11 @@ impl PageMask {
         }
     }
 
+    /// Whether there is a page.
+    pub(crate) fn is_some(self) -> bool {
+        self.reads | self.writes != 0
+    }
+
     /// These pages and those.
     pub(crate) fn with(self, other: PageMask) -> PageMask {
         PageMask {
