@@ -33,7 +33,7 @@ pub fn run_crew<M: Mode + Send, R: Threads + Wait + Sync, T: Turnstile + Sync>(
         lead_alone(alloc, &mut book, ends.get(Hart::new(0)), turnstile);
         return book;
     }
-    let desk = Mutex::new(Desk::new(book, pace));
+    let desk = Mutex::new(Desk::new(book, pace, turnstile.is_free()));
     let calls = Calls::new();
     start_all(rt, alloc, &desk, &calls, ends, turnstile);
     desk.into_inner().into_book()

@@ -4,6 +4,7 @@ ghost use Rattle.std.specs.Prelude.{◌≡◌, ◌<◌, length};
 ghost use Rattle.page_book.specs.Books.{IsOurs};
 
 use crate::habits::Habits;
+use crate::idlers::{Idlers, trace_of};
 use crate::queue::{PageMask, Queue};
 use ft_types::{Count, HART_LIMIT, HART_ROW, Hart, HartSet, PageNo, Want};
 use page_book::{Book, BookFault, Keep, Lease, Mode, Need};
@@ -79,6 +80,8 @@ enum Rest {
     Pages,
     /// Others are to come near.
     Ahead,
+    /// Something is to happen to the hart, which only waits.
+    Idle,
     /// Others are to settle steps.
     Edges,
     /// Nothing more.
@@ -91,10 +94,13 @@ pub(crate) struct Desk<M: Mode> {
     book: Book<M>,
     queue: Queue,
     habits: Habits,
+    idlers: Idlers,
     pace: Pace,
+    /// Whether harts that only wait are to rest.
+    has_rests: bool,
     /// The steps of the last hart when harts last had to do with each other.
     quiet_from: u64,
-    /// How many steps each hart has settled here; `u64::MAX` for one that is done.
+    /// How many steps each hart has settled here; `u64::MAX` for one that is done. One that rested is as far as the last one.
     steps: [u64; HART_ROW],
     /// What each hart's thread sleeps for.
     rests: [Rest; HART_ROW],
@@ -102,7 +108,7 @@ pub(crate) struct Desk<M: Mode> {
 
 impl<M: Mode> Desk<M> {
     /// A book whose harts all go on.
-    pub(crate) fn new(book: Book<M>, pace: Pace) -> Desk<M> {
+    pub(crate) fn new(book: Book<M>, pace: Pace, is_free: bool) -> Desk<M> {
         let mut steps = [u64::MAX; HART_ROW];
         for number in 0..book.machine().harts() {
             steps[number as usize] = 0;
@@ -111,7 +117,9 @@ impl<M: Mode> Desk<M> {
             book,
             queue: Queue::new(),
             habits: Habits::new(),
+            idlers: Idlers::new(),
             pace,
+            has_rests: is_free && pace == Pace::Even,
             quiet_from: 0,
             steps,
             rests: [Rest::Awake; HART_ROW],
@@ -132,11 +140,24 @@ impl<M: Mode> Desk<M> {
         !state.is_halted() && state.count() < end
     }
 
-    /// The steps of the hart that has the fewest here, of those that go on.
-    fn fewest(&self) -> u64 {
+    /// The steps of the hart that has the fewest here, of those that do more than wait.
+    fn fewest_busy(&self) -> u64 {
         let mut fewest = u64::MAX;
         for number in 0..HART_ROW {
-            fewest = fewest.min(self.steps[number]);
+            if !self.idlers.is_idle(number) {
+                fewest = fewest.min(self.steps[number]);
+            }
+        }
+        fewest
+    }
+
+    /// The same, or of all that go on where all only wait.
+    fn fewest(&self) -> u64 {
+        let mut fewest = self.fewest_busy();
+        if fewest == u64::MAX {
+            for number in 0..HART_ROW {
+                fewest = fewest.min(self.steps[number]);
+            }
         }
         fewest
     }
@@ -155,15 +176,37 @@ impl<M: Mode> Desk<M> {
         self.quiet_from = self.fewest();
     }
 
+    /// Whether the hart only waits, and others do more.
+    fn is_idle(&self, hart: Hart) -> bool {
+        let others = self.fewest_busy();
+        others != u64::MAX && self.idlers.is_patient(hart, others)
+    }
+
     /// What the hart has to sleep for before it may ask for a lease.
     fn rest(&self, hart: Hart) -> Rest {
         if !self.queue.is_called(hart) {
             return Rest::Pages;
         }
-        if self.pace == Pace::Own || self.queue.is_waiting(hart.index()) || !self.is_ahead(hart) {
+        if self.pace == Pace::Own || self.queue.is_waiting(hart.index()) {
             return Rest::Awake;
         }
-        Rest::Ahead
+        if self.is_idle(hart) {
+            return Rest::Idle;
+        }
+        if self.is_ahead(hart) {
+            return Rest::Ahead;
+        }
+        Rest::Awake
+    }
+
+    /// The hart does not rest any longer, and is as far as the last one.
+    fn stir(&mut self, hart: usize)
+        ensures { self.new.book ≡ self.old.book }
+    {
+        let _idle = self.idlers.stir(hart);
+        if hart < HART_ROW && self.steps[hart] != u64::MAX {
+            self.steps[hart] = self.fewest();
+        }
     }
 
     /// A lease of the hart, with the pages that it takes at once.
@@ -177,7 +220,12 @@ impl<M: Mode> Desk<M> {
             return Turn::Waits;
         }
         match self.book.lease(alloc, hart) {
-            Ok(lease) => Turn::Goes(self.with_pages(lease)),
+            Ok(lease) => {
+                if self.idlers.is_idle(hart.index()) {
+                    self.stir(hart.index());
+                }
+                Turn::Goes(self.with_pages(lease))
+            }
             Err(BookFault::EdgeOpen) => {
                 self.rests[hart.index()] = Rest::Edges;
                 if self.all_stuck() {
@@ -330,14 +378,58 @@ impl<M: Mode> Desk<M> {
 
     /// Takes the lease back, with its steps: how many, and up to which count. None where they were not added.
     fn take_back(&mut self, lease: Lease) -> Option<(u64, Count)> {
-        let steps = lease.steps();
-        let count = lease.count();
-        self.note(lease.hart(), steps);
+        let (hart, steps, count) = (lease.hart(), lease.steps(), lease.count());
+        let before = self.rung_by(hart);
+        let pages = self.queue.held(hart);
+        self.note(hart, steps);
         match self.book.settle(lease, Keep::Nothing) {
-            Ok(()) => Some((steps, count)),
+            Ok(()) => {
+                if self.has_rests {
+                    self.note_idle(hart, steps, pages);
+                    let after = self.rung_by(hart);
+                    self.note_rung(before, after);
+                }
+                Some((steps, count))
+            }
             Err((lease, _)) => {
                 let _ended = self.book.discard(lease);
                 None
+            }
+        }
+    }
+
+    /// How often the hart has rung each hart, by its settled steps.
+    fn rung_by(&self, hart: Hart) -> [u64; HART_ROW] {
+        if hart.number() >= self.book.machine().harts() {
+            return [0; HART_ROW];
+        }
+        *self.book.machine().hart(hart).rung()
+    }
+
+    /// The harts that were rung meanwhile have more to do than to wait.
+    fn note_rung(&mut self, before: [u64; HART_ROW], after: [u64; HART_ROW]) {
+        for number in 0..HART_ROW {
+            if before[number] != after[number] {
+                self.stir(number);
+            }
+        }
+    }
+
+    /// A lease of the hart with these pages was settled. The hart only waits from now on, or others do not that wait for what it
+    /// may have written.
+    fn note_idle(&mut self, hart: Hart, steps: u64, pages: PageMask) {
+        if hart.number() >= self.book.machine().harts() {
+            return;
+        }
+        let trace = trace_of(self.book.machine().hart(hart).registers());
+        if self.idlers.note(hart, steps, pages, trace) {
+            let others = self.fewest_busy();
+            self.idlers.rest(hart, others);
+            return;
+        }
+        for number in 0..HART_ROW {
+            if self.idlers.is_waiting_for(number, pages.written()) {
+                self.stir(number);
             }
         }
     }
@@ -362,6 +454,7 @@ impl<M: Mode> Desk<M> {
             Rest::Awake | Rest::Edges => false,
             Rest::Pages => self.queue.is_called(hart),
             Rest::Ahead => !self.is_ahead(hart),
+            Rest::Idle => !self.is_idle(hart),
             Rest::Over => true,
         }
     }

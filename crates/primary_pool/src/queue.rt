@@ -67,6 +67,14 @@ impl PageMask {
         }
     }
 
+    /// Those to be written alone.
+    pub(crate) fn written(self) -> PageMask {
+        PageMask {
+            reads: 0,
+            writes: self.writes,
+        }
+    }
+
     /// Whether one has a page to write that the other has.
     pub(crate) fn is_against(self, other: PageMask) -> bool {
         self.writes & (other.reads | other.writes) != 0 || self.reads & other.writes != 0
