@@ -344,6 +344,7 @@ impl<M: Mode> Desk<M> {
 
     fn refuse(&mut self, lease: &Lease, pages: PageMask) -> Answer {
         self.meet();
+        self.habits.dispute(pages);
         if lease.steps() == 0 {
             self.queue.wait(lease.hart(), pages);
         }
