@@ -1,4 +1,4 @@
-use Rattle.std.proofs.Common.{◌≡◌, length}
+use Rattle.std.proofs.Common.{◌≡◌}
 use Rattle.page_book.specs.Books.{IsOurs}
 use Rattle.primary_pool.proofs.desk.Desk.with_pages.Given as goal
 
