@@ -203,7 +203,7 @@ impl<M: Mode> Desk<M> {
     fn stir(&mut self, hart: usize)
         ensures { self.new.book ≡ self.old.book }
     {
-        let _idle = self.idlers.stir(hart);
+        self.idlers.stir(hart);
         if hart < HART_ROW && self.steps[hart] != u64::MAX {
             self.steps[hart] = self.fewest();
         }
@@ -424,7 +424,7 @@ impl<M: Mode> Desk<M> {
         }
         let trace = trace_of(self.book.machine().hart(hart).registers());
         if self.idlers.note(hart, steps, pages, trace) {
-            let others = self.fewest_busy();
+            let others = self.fewest();
             self.idlers.rest(hart, others);
             return;
         }

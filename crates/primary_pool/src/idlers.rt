@@ -23,7 +23,7 @@ pub(crate) struct Idlers {
     traces: [u64; HART_ROW],
     /// What that lease had.
     pages: [PageMask; HART_ROW],
-    /// How far the others were.
+    /// How far the others had come then.
     since: [u64; HART_ROW],
 }
 
@@ -63,17 +63,15 @@ impl Idlers {
         idle
     }
 
-    /// The others are so far.
+    /// The hart only waits from now on, where the others are so far.
     pub(crate) fn rest(&mut self, hart: Hart, others: u64) {
         self.since[hart.index()] = others;
     }
 
-    /// The hart looks again. Whether it only waited.
-    pub(crate) fn stir(&mut self, hart: usize) -> bool {
-        let idle = self.is_idle(hart);
+    /// The hart looks again.
+    pub(crate) fn stir(&mut self, hart: usize) {
         if hart < HART_ROW {
             self.idle[hart] = false;
         }
-        idle
     }
 }
