@@ -199,14 +199,29 @@ impl<M: Mode> Desk<M> {
         Rest::Awake
     }
 
-    /// The hart does not rest any longer, and is as far as the last one.
-    fn stir(&mut self, hart: usize)
+    /// The hart counts as far as the last one.
+    fn catch_up(&mut self, hart: usize)
         ensures { self.new.book ≡ self.old.book }
     {
-        self.idlers.stir(hart);
         if hart < HART_ROW && self.steps[hart] != u64::MAX {
             self.steps[hart] = self.fewest();
         }
+    }
+
+    /// The hart has more to do than to wait.
+    fn stir(&mut self, hart: usize) {
+        self.catch_up(hart);
+        self.idlers.stir(hart);
+    }
+
+    /// The hart has a lease, and looks again where it only waited.
+    fn go_out(&mut self, hart: usize)
+        ensures { self.new.book ≡ self.old.book }
+    {
+        if self.idlers.is_idle(hart) {
+            self.catch_up(hart);
+        }
+        self.idlers.go_out(hart);
     }
 
     /// A lease of the hart, with the pages that it takes at once.
@@ -221,9 +236,7 @@ impl<M: Mode> Desk<M> {
         }
         match self.book.lease(alloc, hart) {
             Ok(lease) => {
-                if self.idlers.is_idle(hart.index()) {
-                    self.stir(hart.index());
-                }
+                self.go_out(hart.index());
                 Turn::Goes(self.with_pages(lease))
             }
             Err(BookFault::EdgeOpen) => {

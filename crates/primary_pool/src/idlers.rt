@@ -19,6 +19,8 @@ pub(crate) fn trace_of(words: &[u32]) -> u64 {
 #[derive(Clone, Copy, Debug)]
 pub(crate) struct Idlers {
     idle: [bool; HART_ROW],
+    /// To which something happened since they were lent.
+    stirred: [bool; HART_ROW],
     /// What each hart's registers came to when its last lease came back.
     traces: [u64; HART_ROW],
     /// What that lease had.
@@ -32,6 +34,7 @@ impl Idlers {
     pub(crate) fn new() -> Idlers {
         Idlers {
             idle: [false; HART_ROW],
+            stirred: [false; HART_ROW],
             traces: [0; HART_ROW],
             pages: [PageMask::none(); HART_ROW],
             since: [0; HART_ROW],
@@ -56,7 +59,7 @@ impl Idlers {
     /// A lease of the hart comes back. It had these pages, and left registers that come to this. Whether the hart only waits.
     pub(crate) fn note(&mut self, hart: Hart, steps: u64, pages: PageMask, trace: u64) -> bool {
         let hart = hart.index();
-        let idle = steps == LEASE_STEPS && self.traces[hart] == trace;
+        let idle = steps == LEASE_STEPS && self.traces[hart] == trace && !self.stirred[hart];
         self.idle[hart] = idle;
         self.traces[hart] = trace;
         self.pages[hart] = pages;
@@ -68,10 +71,19 @@ impl Idlers {
         self.since[hart.index()] = others;
     }
 
-    /// The hart looks again.
+    /// Something happens to the hart.
     pub(crate) fn stir(&mut self, hart: usize) {
         if hart < HART_ROW {
             self.idle[hart] = false;
+            self.stirred[hart] = true;
+        }
+    }
+
+    /// The hart is lent.
+    pub(crate) fn go_out(&mut self, hart: usize) {
+        if hart < HART_ROW {
+            self.idle[hart] = false;
+            self.stirred[hart] = false;
         }
     }
 }
