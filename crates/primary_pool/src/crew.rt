@@ -3,34 +3,16 @@
 ghost use Rattle.lease_rounds.specs.Leading.{IsFreeAlone, IsIdle};
 
 use crate::alone::lead_alone;
-use crate::desk::{Answer, Desk, Pace, Turn};
+use crate::calls::Calls;
+use crate::desk::{Brought, Desk, Pace, Stop, Turn};
 use crate::turnstile::Turnstile;
-use ft_types::{Count, Counts, HART_LIMIT, HART_ROW, Hart, HartSet, PageNo, Want};
+use ft_types::{Count, Counts, HART_LIMIT, HART_ROW, Hart, HartSet};
 use page_book::{Book, Lease, Mode};
 use rv32_hart::Tick;
 use std::alloc::Global;
-use std::sync::{Condvar, Mutex, MutexGuard, Wait};
+use std::sync::{Mutex, MutexGuard, Wait};
 use std::thread::Threads;
 use std::{hint, thread};
-
-/// More than the turns of a lease, in each of which it is given a right that it lacks: two for each page.
-const TURNS: u32 = 256;
-
-/// One for each hart, which is called when it may ask again.
-type Calls = [Condvar; HART_ROW];
-
-fn no_calls() -> Calls {
-    [
-        Condvar::new(),
-        Condvar::new(),
-        Condvar::new(),
-        Condvar::new(),
-        Condvar::new(),
-        Condvar::new(),
-        Condvar::new(),
-        Condvar::new(),
-    ]
-}
 
 /// The harts of a book, each on a thread of its own, which ends only where its hart is halted or at its end, where memory is
 /// refused or where no hart can go on. A book of one hart is led on the calling thread, without a lock, until the same. Nothing is
@@ -51,8 +33,8 @@ pub fn run_crew<M: Mode + Send, R: Threads + Wait + Sync, T: Turnstile + Sync>(
         lead_alone(alloc, &mut book, ends.get(Hart::new(0)), turnstile);
         return book;
     }
-    let desk = Mutex::new(Desk::new(book, pace));
-    let calls = no_calls();
+    let desk = Mutex::new(Desk::new(book, pace, turnstile.is_free()));
+    let calls = Calls::new();
     start_all(rt, alloc, &desk, &calls, ends, turnstile);
     desk.into_inner().into_book()
 }
@@ -107,19 +89,59 @@ fn work<M: Mode, R: Wait, T: Turnstile>(
         return;
     }
     let hart = Hart::new(hart);
+    if turnstile.is_free() {
+        go_freely(rt, alloc, desk, calls, hart, end);
+    } else {
+        go_by(rt, alloc, desk, calls, hart, end, turnstile);
+    }
+    leave(rt, desk, calls, hart.number());
+}
+
+/// Leads the hart lease by lease, each lent in the visit to the lock that settles the one before.
+fn go_freely<M: Mode, R: Wait>(
+    rt: &R,
+    alloc: Global,
+    desk: &Mutex<Desk<M>>,
+    calls: &Calls,
+    hart: Hart,
+    end: Count,
+) {
+    let Some(lease) = lend(rt, alloc, desk, calls, hart, end) else {
+        return;
+    };
+    let mut lease = lease;
+    for _ in rt.forever() {
+        let stop = fill(&mut lease);
+        let Some(next) = exchange(rt, alloc, desk, calls, lease, stop, end) else {
+            return;
+        };
+        lease = next;
+    }
+    unreachable!()
+}
+
+/// Leads the hart lease by lease, with the turnstile between them.
+fn go_by<M: Mode, R: Wait, T: Turnstile>(
+    rt: &R,
+    alloc: Global,
+    desk: &Mutex<Desk<M>>,
+    calls: &Calls,
+    hart: Hart,
+    end: Count,
+    turnstile: &T,
+) {
     let mut number = 0u64;
     for _ in rt.forever() {
         if !hold(rt, desk).may_go(hart, end) {
-            break;
+            return;
         }
         number = number.saturating_add(1);
         turnstile.before_lease(hart, number);
-        let Some(count) = go_on(rt, alloc, desk, calls, hart) else {
-            break;
+        let Some(count) = go_on(rt, alloc, desk, calls, hart, end) else {
+            return;
         };
         turnstile.after_settle(hart, count);
     }
-    leave(rt, desk, calls, hart.number());
 }
 
 /// The hart does not go on, for whom others may have waited.
@@ -127,26 +149,8 @@ fn leave<M: Mode, R: Wait>(rt: &R, desk: &Mutex<Desk<M>>, calls: &Calls, hart: u
     if hart >= HART_LIMIT {
         return;
     }
-    hold(rt, desk).leave(Hart::new(hart));
-    call(calls, every_hart());
-}
-
-fn every_hart() -> HartSet {
-    let mut harts = HartSet::new();
-    for number in 0..HART_LIMIT {
-        harts = harts.with(Hart::new(number));
-    }
-    harts
-}
-
-/// Wakes these harts.
-fn call(calls: &Calls, harts: HartSet) {
-    for number in 0..HART_LIMIT {
-        let hart = Hart::new(number);
-        if harts.contains(hart) {
-            calls[hart.index()].notify_all();
-        }
-    }
+    let called = hold(rt, desk).leave(Hart::new(hart));
+    calls.make(rt, called);
 }
 
 /// One lease of the hart that has a step, at which count it was settled. None where its thread is to end.
@@ -156,20 +160,34 @@ fn go_on<M: Mode, R: Wait>(
     desk: &Mutex<Desk<M>>,
     calls: &Calls,
     hart: Hart,
+    end: Count,
 ) -> Option<Count> {
     for _ in rt.forever() {
-        let Some(lease) = lend(rt, alloc, desk, calls, hart) else {
+        let Some(lease) = lend(rt, alloc, desk, calls, hart, end) else {
             return None;
         };
-        let mut lease = lease;
-        let refused = fill(rt, desk, &mut lease);
-        let steps = lease.steps();
-        let count = lease.count();
-        if !take_back(rt, desk, calls, lease) || refused {
-            return None;
-        }
+        let (steps, count) = lead(rt, desk, calls, lease)?;
         if steps > 0 {
             return Some(count);
+        }
+    }
+    unreachable!()
+}
+
+/// Leads the hart until its lease is settled: how many steps, and up to which count. None where its thread is to end.
+fn lead<M: Mode, R: Wait>(
+    rt: &R,
+    desk: &Mutex<Desk<M>>,
+    calls: &Calls,
+    lease: Lease,
+) -> Option<(u64, Count)> {
+    let mut lease = lease;
+    for _ in rt.forever() {
+        let stop = fill(&mut lease);
+        match bring(rt, desk, calls, lease, stop) {
+            Brought::Goes(same) => lease = same,
+            Brought::Settled(steps, count) => return Some((steps, count)),
+            Brought::Ends => return None,
         }
     }
     unreachable!()
@@ -182,56 +200,96 @@ fn lend<M: Mode, R: Wait>(
     desk: &Mutex<Desk<M>>,
     calls: &Calls,
     hart: Hart,
+    end: Count,
 ) -> Option<Lease> {
-    let mut held = hold(rt, desk);
     for _ in rt.forever() {
-        match held.lend(alloc, hart) {
+        match ask_for_lease(rt, alloc, desk, hart, end) {
             Turn::Goes(lease) => return Some(lease),
             Turn::Ends => return None,
-            Turn::Waits => held = calls[hart.index()].wait(rt, held),
+            Turn::Waits => calls.wait(rt, hart),
         }
     }
     unreachable!()
 }
 
-/// Takes steps, until the lease is full or a page is held. Whether memory was refused.
-fn fill<M: Mode, R: Wait>(rt: &R, desk: &Mutex<Desk<M>>, lease: &mut Lease) -> bool {
-    for _turn in 0..TURNS {
-        if lease.full() {
-            return false;
-        }
-        match lease.run() {
-            Tick::Done => return false,
-            Tick::Miss(page, want) => match ask(rt, desk, lease, page, want) {
-                Answer::Given => {}
-                Answer::Held => return false,
-                Answer::Refused => return true,
-            },
-            Tick::Halted | Tick::Memory => return true,
-        }
-    }
-    false
+fn ask_for_lease<M: Mode, R: Wait>(
+    rt: &R,
+    alloc: Global,
+    desk: &Mutex<Desk<M>>,
+    hart: Hart,
+    end: Count,
+) -> Turn {
+    hold(rt, desk).lend(alloc, hart, end)
 }
 
-fn ask<M: Mode, R: Wait>(
+/// Takes steps, until the lease is full or one lacks something.
+fn fill(lease: &mut Lease) -> Stop {
+    if lease.full() {
+        return Stop::Full;
+    }
+    match lease.run() {
+        Tick::Done => Stop::Full,
+        Tick::Miss(page, want) => Stop::Lacks(page, want),
+        Tick::Halted | Tick::Memory => Stop::Memory,
+    }
+}
+
+/// Brings the lease, which stops here.
+fn bring<M: Mode, R: Wait>(
     rt: &R,
     desk: &Mutex<Desk<M>>,
-    lease: &mut Lease,
-    page: PageNo,
-    want: Want,
-) -> Answer {
-    hold(rt, desk).ask(lease, page, want)
+    calls: &Calls,
+    lease: Lease,
+    stop: Stop,
+) -> Brought {
+    let (brought, called) = visit(rt, desk, lease, stop);
+    calls.make(rt, called);
+    brought
 }
 
-/// Gives the lease back, and says whether its steps were added.
-fn take_back<M: Mode, R: Wait>(rt: &R, desk: &Mutex<Desk<M>>, calls: &Calls, lease: Lease) -> bool {
-    let (settled, called) = bring_back(rt, desk, lease);
-    call(calls, called);
-    settled
-}
-
-fn bring_back<M: Mode, R: Wait>(rt: &R, desk: &Mutex<Desk<M>>, lease: Lease) -> (bool, HartSet) {
+fn visit<M: Mode, R: Wait>(
+    rt: &R,
+    desk: &Mutex<Desk<M>>,
+    lease: Lease,
+    stop: Stop,
+) -> (Brought, HartSet) {
     let mut held = hold(rt, desk);
-    let settled = held.take_back(lease);
-    (settled, held.called())
+    let brought = held.bring(lease, stop);
+    (brought, held.called())
+}
+
+/// Brings the lease, which stops here, and goes on with it or with the next one.
+fn exchange<M: Mode, R: Wait>(
+    rt: &R,
+    alloc: Global,
+    desk: &Mutex<Desk<M>>,
+    calls: &Calls,
+    lease: Lease,
+    stop: Stop,
+    end: Count,
+) -> Option<Lease> {
+    let hart = lease.hart();
+    let (turn, called) = visit_and_lend(rt, alloc, desk, lease, stop, end);
+    calls.make(rt, called);
+    match turn {
+        Turn::Goes(lease) => Some(lease),
+        Turn::Ends => None,
+        Turn::Waits => {
+            calls.wait(rt, hart);
+            lend(rt, alloc, desk, calls, hart, end)
+        }
+    }
+}
+
+fn visit_and_lend<M: Mode, R: Wait>(
+    rt: &R,
+    alloc: Global,
+    desk: &Mutex<Desk<M>>,
+    lease: Lease,
+    stop: Stop,
+    end: Count,
+) -> (Turn, HartSet) {
+    let mut held = hold(rt, desk);
+    let turn = held.exchange(alloc, lease, stop, end);
+    (turn, held.called())
 }

@@ -1,6 +1,6 @@
 //! Who waits for which page.
 
-use ft_types::{HART_LIMIT, HART_ROW, Hart, HartSet, PageNo, Want};
+use ft_types::{HART_ROW, Hart, PageNo, Want};
 
 /// Pages, by number: those to be read, and those to be written.
 #[derive(Clone, Copy, Debug, PartialEq, Eq)]
@@ -33,11 +33,45 @@ impl PageMask {
         }
     }
 
+    /// Whether there is a page.
+    pub(crate) fn is_some(self) -> bool {
+        self.reads | self.writes != 0
+    }
+
     /// These pages and those.
     pub(crate) fn with(self, other: PageMask) -> PageMask {
         PageMask {
             reads: self.reads | other.reads,
             writes: self.writes | other.writes,
+        }
+    }
+
+    /// These pages without those.
+    pub(crate) fn without(self, other: PageMask) -> PageMask {
+        let left = !(other.reads | other.writes);
+        PageMask {
+            reads: self.reads & left,
+            writes: self.writes & left,
+        }
+    }
+
+    /// What is wanted of a page: to write it where it is among those to be written.
+    pub(crate) fn want(self, page: PageNo) -> Option<Want> {
+        let bit = 1u64.wrapping_shl(u32::from(page.number()));
+        if self.writes & bit != 0 {
+            Some(Want::Write)
+        } else if self.reads & bit != 0 {
+            Some(Want::Read)
+        } else {
+            None
+        }
+    }
+
+    /// Those to be written alone.
+    pub(crate) fn written(self) -> PageMask {
+        PageMask {
+            reads: 0,
+            writes: self.writes,
         }
     }
 
@@ -82,20 +116,24 @@ impl Queue {
             && (self.since[hart] == 0 || self.since[other] < self.since[hart])
     }
 
-    /// Whether what another hart's open lease has, or has waited for longer, stands in the way of these pages.
-    pub(crate) fn is_barred(&self, hart: Hart, pages: PageMask) -> bool {
+    /// What the open leases of other harts have, and what others have waited for longer.
+    pub(crate) fn in_the_way(&self, hart: Hart) -> PageMask {
         let hart = hart.index();
+        let mut pages = PageMask::none();
         for other in 0..HART_ROW {
             if other != hart {
-                if self.held[other].is_against(pages) {
-                    return true;
-                }
-                if self.is_earlier(other, hart) && self.wishes[other].is_against(pages) {
-                    return true;
+                pages = pages.with(self.held[other]);
+                if self.is_earlier(other, hart) {
+                    pages = pages.with(self.wishes[other]);
                 }
             }
         }
-        false
+        pages
+    }
+
+    /// Whether what another hart's open lease has, or has waited for longer, stands in the way of these pages.
+    pub(crate) fn is_barred(&self, hart: Hart, pages: PageMask) -> bool {
+        self.in_the_way(hart).is_against(pages)
     }
 
     /// Whether the hart may ask for what it waits for.
@@ -103,16 +141,25 @@ impl Queue {
         !self.is_barred(hart, self.wishes[hart.index()])
     }
 
-    /// The harts that wait and may ask now.
-    pub(crate) fn called(&self) -> HartSet {
-        let mut harts = HartSet::new();
-        for number in 0..HART_LIMIT {
-            let hart = Hart::new(number);
-            if self.is_waiting(hart.index()) && self.is_called(hart) {
-                harts = harts.with(hart);
+    /// What the hart waits for.
+    pub(crate) fn wishes(&self, hart: Hart) -> PageMask {
+        self.wishes[hart.index()]
+    }
+
+    /// What other harts wait for.
+    pub(crate) fn wished(&self, hart: Hart) -> PageMask {
+        let mut pages = PageMask::none();
+        for other in 0..HART_ROW {
+            if other != hart.index() {
+                pages = pages.with(self.wishes[other]);
             }
         }
-        harts
+        pages
+    }
+
+    /// What the hart's open lease has.
+    pub(crate) fn held(&self, hart: Hart) -> PageMask {
+        self.held[hart.index()]
     }
 
     /// The hart's open lease has these pages.

@@ -1,0 +1,60 @@
+//! Which pages harts take at once with a lease.
+
+use crate::queue::PageMask;
+use ft_types::{HART_ROW, Hart};
+
+/// After so many leases a hart begins one without pages, so that those that it has left are left to others.
+const LONGEST: u8 = 32;
+
+/// For so many leases of all harts nobody takes a page at once over which two of them were in each other's way.
+const DISPUTE: u32 = 256;
+
+/// The pages that each hart had in its last lease, which it takes at once with its next one.
+#[derive(Clone, Copy, Debug)]
+pub(crate) struct Habits {
+    pages: [PageMask; HART_ROW],
+    /// How many leases ago each hart last began one without pages.
+    ages: [u8; HART_ROW],
+    /// Over which pages harts were in each other's way, and how many leases have come back since all were forgotten.
+    disputed: PageMask,
+    leases: u32,
+}
+
+impl Habits {
+    /// No hart had a page.
+    pub(crate) fn new() -> Habits {
+        Habits {
+            pages: [PageMask::none(); HART_ROW],
+            ages: [0; HART_ROW],
+            disputed: PageMask::none(),
+            leases: 0,
+        }
+    }
+
+    /// What the hart takes at once.
+    pub(crate) fn of(&self, hart: Hart) -> PageMask {
+        self.pages[hart.index()].without(self.disputed)
+    }
+
+    /// A hart was refused these pages.
+    pub(crate) fn dispute(&mut self, pages: PageMask) {
+        self.disputed = self.disputed.with(pages);
+    }
+
+    /// A lease of the hart comes back, which had these pages that no other waits for.
+    pub(crate) fn note(&mut self, hart: Hart, pages: PageMask) {
+        self.leases = self.leases.saturating_add(1);
+        if self.leases > DISPUTE {
+            self.leases = 0;
+            self.disputed = PageMask::none();
+        }
+        let hart = hart.index();
+        if self.ages[hart] < LONGEST {
+            self.ages[hart] += 1;
+            self.pages[hart] = pages;
+        } else {
+            self.ages[hart] = 0;
+            self.pages[hart] = PageMask::none();
+        }
+    }
+}
