@@ -13,7 +13,7 @@ ghost use Rattle.page_book.specs.Answers.{IfHeldBy, OnHeldBy, OnGiven};
 ghost use Rattle.rv32_hart.specs.Hart.{Hart as HartRecord, with_outputs_of, without_outputs};
 
 use crate::answers::{BookFault, Need};
-use crate::giving::{give, no_leases, note_taken, with_edges};
+use crate::giving::{fresh_lease, give, no_leases, note_taken, with_edges};
 use crate::journals::{begins, journal_copied};
 use crate::laying::{add_stretch, take_back};
 use crate::lease::Lease;
@@ -215,10 +215,10 @@ impl<M: Mode> Book<M> {
             return Err(BookFault::EdgeOpen);
         }
         let taken = TakenPages::none(alloc)?;
-        let mut lease = hart_lease::Lease::fresh(alloc, hart, state, self.machine.pages())?;
+        let mut own = fresh_lease(alloc, hart, state, self.machine.pages())?;
         let lent = self.lend_out(alloc, hart, count, taken);
-        lease.go_out(lent);
-        Ok(Lease { own: lease })
+        own.go_out(lent);
+        Ok(Lease { own })
     }
 
     /// What the hart, which is at this count, goes out with. It has an open lease then, of no page.
@@ -332,7 +332,7 @@ impl<M: Mode> Book<M> {
         ensures steps { lease.new.steps ≡ lease.old.steps }
         ensures stop { lease.new.stop ≡ lease.old.stop }
     {
-        if !self.is_ours(&lease.own) {
+        if !self.is_ours(&*lease.own) {
             return Err(BookFault::Foreign);
         }
         self.need_own(lease, page, want)
@@ -376,21 +376,22 @@ impl<M: Mode> Book<M> {
         ensures steps { lease.new.steps ≡ lease.old.steps }
         ensures stop { lease.new.stop ≡ lease.old.stop }
     {
-        let asked = lease.own.asks(page, want);
+        let own = &mut *lease.own;
+        let asked = own.asks(page, want);
         let harts = self.mode.holders(&self.leases, &asked);
         if !harts.is_empty() {
             return Ok(Need::HeldBy(harts));
         }
         let here = self.lend_page(asked.hart, page)?;
         let copy = self.take_copy(page, want);
-        self.give_page(lease, page, want, here, copy)?;
+        self.give_page(own, page, want, here, copy)?;
         Ok(Need::Given)
     }
 
     /// Gives the lease, which is this book's, a page as it stands in the machine. No open lease stands against it.
     fn give_page(
         &mut self,
-        lease: &mut Lease,
+        lease: &mut hart_lease::Lease,
         page: PageNo,
         want: Want,
         here: SharedPage,
@@ -415,14 +416,14 @@ impl<M: Mode> Book<M> {
         ensures steps { lease.new.steps ≡ lease.old.steps }
         ensures stop { lease.new.stop ≡ lease.old.stop }
     {
-        let asked = lease.own.asks(page, want);
+        let asked = lease.asks(page, want);
         let alloc = *self.journal.allocator();
         let settled = self.counts();
         let found = self.mode.edges_owed(alloc, &settled, &asked);
-        let waiting = with_edges(alloc, lease.own.edges(), found.as_slice())?;
-        let known = with_edges(alloc, lease.own.edges(), found.as_slice())?;
-        give(&mut lease.own, page, here, want, copy)?;
-        lease.own.wait_with(waiting);
+        let waiting = with_edges(alloc, lease.edges(), found.as_slice())?;
+        let known = with_edges(alloc, lease.edges(), found.as_slice())?;
+        give(lease, page, here, want, copy)?;
+        lease.wait_with(waiting);
         self.hand_over(&settled, &asked, found.as_slice(), known);
         Ok(())
     }
@@ -440,7 +441,7 @@ impl<M: Mode> Book<M> {
         ensures start { OnOk result (self.new.start ≡ self.old.start) }
         ensures mode { OnOk result (M.settles self.old.mode lease keep self.new.mode) }
     {
-        if self.is_ours(&lease.own) {
+        if self.is_ours(&*lease.own) {
             return self.settle_own(lease, keep);
         }
         Err((lease, BookFault::Foreign))
@@ -459,27 +460,28 @@ impl<M: Mode> Book<M> {
         ensures mode { OnOk result (M.settles self.old.mode lease keep self.new.mode) }
     {
         let Lease { own } = lease;
-        let parts = match own.parts() {
+        let body = &*own;
+        let parts = match body.parts() {
             Ok(parts) => parts,
             Err(_) => return Err((Lease { own }, BookFault::Memory)),
         };
         if self.journal.reserve(1).is_err() {
             return Err((Lease { own }, BookFault::Memory));
         }
-        let hart = own.hart();
+        let hart = body.hart();
         let before = self.machine.hart(hart).outputs().len();
-        match self.machine.add_outputs(hart, own.outputs()) {
+        match self.machine.add_outputs(hart, body.outputs()) {
             Ok(()) => {}
             Err(_) => return Err((Lease { own }, BookFault::Memory)),
         }
-        match self.mode.settle(&own, keep) {
+        match self.mode.settle(body, keep) {
             Ok(()) => {}
             Err(_) => {
                 self.machine.cut_outputs(hart, before);
                 return Err((Lease { own }, BookFault::Memory));
             }
         }
-        let steps = take_back(&mut self.machine, own, parts);
+        let steps = take_back(&mut self.machine, Box::into_inner(own), parts);
         add_stretch(&mut self.journal, hart, steps);
         self.leases[hart.index()] = None;
         Ok(())
@@ -494,6 +496,7 @@ impl<M: Mode> Book<M> {
         ensures kept { OnErr result (self.new ≡ self.old) }
     {
         let Lease { own } = lease;
+        let own = Box::into_inner(own);
         let ours = self.is_ours(&own);
         let hart = own.hart();
         own.waste();

@@ -15,7 +15,8 @@ use std::sync::Arc;
 /// One hart's state and some pages, on loan from a book. It has to be spent, by `Book::settle` or `Book::discard`. Only a
 /// book makes one, gives it pages and takes it apart: others read it, and take its steps.
 pub struct Lease {
-    pub(crate) own: hart_lease::Lease,
+    /// Boxed, so that moves are of a pointer.
+    pub(crate) own: Box<hart_lease::Lease>,
 }
 
 impl Model for Lease {
@@ -23,7 +24,7 @@ impl Model for Lease {
 
     ghost Value = { LeaseView };
 
-    ghost view = { λ l. l.own };
+    ghost view = { λ l. l.own.value };
 }
 
 impl Lease {

@@ -9,19 +9,19 @@ use Rattle.page_book.proofs.book.Book.give_page.Goals as goal
 pub returns-clause-ours : goal.returns-clause-ours
 returns-clause-ours g c =
     rw c.hand_over.ensures.book
-    (need_ours c.args.self.now c.hand_over.new.self.mode c.lease.inside.own c.wait_with.new.self c.asks-asked.result c.as_slice-3.result.now c.args.here
+    (need_ours c.args.self.now c.hand_over.new.self.mode c.args.lease.now c.wait_with.new.self c.asks-asked.result c.as_slice-3.result.now c.args.here
     (search rules) (search rules) (search rules) (search rules) (search rules) (search rules) c.asks-asked.ensures.kept (search rules) (search rules))
 
 pub hand_over-requires-clause-asks : goal.hand_over-requires-clause-asks
 hand_over-requires-clause-asks g c =
     let b = c.args.self.now in
-    let l = c.lease.inside.own in
+    let l = c.args.lease.now in
     record {
       start = b.start;
       journal = b.journal;
       asker = whole_in b.machine l;
       is_lease = c.asks-asked.ensures.kept.with_any (outputs_of (slice_get b.machine.harts l.hart));
-      is_lent = subst (λ (v : LeaseView). IsOurs b v) (sym c.lease.view_is) c.requires.ours;
+      is_lent = c.requires.ours;
       hart = search rules;
       count = search rules;
       page = search rules;
@@ -33,8 +33,8 @@ hand_over-requires-clause-asks g c =
 pub edges_owed-found-requires : goal.edges_owed-found-requires
 edges_owed-found-requires g c =
     let i = c.self.inside in
-    let l = c.lease.inside.own in
-    let ours : IsLentBy (open_at i.leases l.hart) i.machine (whole_in i.machine l) = rw (← c.self.view_is, ← c.lease.view_is) at c.requires.ours in
+    let l = c.args.lease.now in
+    let ours : IsLentBy (open_at i.leases l.hart) i.machine (whole_in i.machine l) = rw (← c.self.view_is) at c.requires.ours in
     let asks : IsAsking (g.M.Mode.keeps i.mode) i.machine i.leases c.asks-asked.result =
     record {
       start = i.start;
@@ -53,7 +53,7 @@ edges_owed-found-requires g c =
       machine = i.machine;
       leases = i.leases;
       asks = asks;
-      free = λ hart holds. c.requires.free hart (rw (← c.self.view_is, ← c.lease.view_is, ← c.asks-asked.ensures.value) holds);
+      free = λ hart holds. c.requires.free hart (rw (← c.self.view_is, ← c.asks-asked.ensures.value) holds);
       harts = search rules;
       counts = search rules;
     }

@@ -1,4 +1,4 @@
-use Rattle.std.proofs.Common.{◌≡◌, ◌∙◌, ap, take, slice_get, slice_index_or, length, ℕ, List, Option, None, Some}
+use Rattle.std.proofs.Common.{◌≡◌, ◌∙◌, ap, sym, take, slice_get, slice_index_or, length, ℕ, List, Option, None, Some}
 use Rattle.rv32_hart.specs.Hart.{Hart}
 use Rattle.guest_image.specs.Machine.{MachineState, with_hart}
 use Rattle.hart_lease.specs.Leases.{LeaseView, outputs_of, whole_in, laid, IsLentBy}
@@ -36,8 +36,10 @@ read_ours (Some lent) m w page bytes ours is =
 
 pub settle-requires : goal.settle-requires
 settle-requires g c =
+    let d : c.deref-body.result.now ≡ c.lease.inside.own.value = c.deref-body.ensures in
+    let bare = rw d at c.hart-hart.ensures.kept in
     let i = c.self.inside in
-    let l = c.lease.inside.own in
+    let l = c.lease.inside.own.value in
     let ours : IsLentBy (open_at i.leases l.hart) i.machine (whole_in i.machine l) = rw (← c.self.view_is, ← c.lease.view_is) at c.requires in
     let settling : IsSettling (g.M.Mode.keeps i.mode) (whole_in i.machine l) =
     record {
@@ -45,40 +47,50 @@ settle-requires g c =
       machine = i.machine;
       journal = i.journal.items;
       leases = i.leases;
-      is_lease = c.hart-hart.ensures.kept.with_any (outputs_of (slice_get i.machine.harts l.hart));
+      is_lease = bare.with_any (outputs_of (slice_get i.machine.harts l.hart));
       is_lent = ours;
       counted = c.self.invariant.counted;
       kept = c.self.invariant.keeps;
     } in
-    (outputs_of (slice_get i.machine.harts l.hart), settling)
+    rw d (outputs_of (slice_get i.machine.harts l.hart), settling)
 
 pub invariant_of-self-in-Err-settle : goal.invariant_of-self-in-Err-settle
 invariant_of-self-in-Err-settle g c =
+    let d : c.deref-body.result.now ≡ c.lease.inside.own.value = c.deref-body.ensures in
+    let hart_is = c.hart-hart.ensures.value ∙ ap (λ (v : LeaseView). v.hart) d in
+    let outs_are = c.outputs.ensures ∙ ap (λ (v : LeaseView). v.present.outputs) d in
     let i = c.self.inside in
-    let back = made_back i.machine c.add_outputs.new.self c.cut_outputs.new.self c.lease.inside.own c.hart-hart.result c.hart.result.now c.outputs.result.now
-    c.outputs-before.result.now c.hart-hart.ensures.value c.outputs.ensures c.outputs-before.ensures c.hart.ensures
+    let back = made_back i.machine c.add_outputs.new.self c.cut_outputs.new.self c.lease.inside.own.value c.hart-hart.result c.hart.result.now c.outputs.result.now
+    c.outputs-before.result.now hart_is outs_are c.outputs-before.ensures c.hart.ensures
     (c.in-Ok-add_outputs.ensures.added c.hart.result.now c.hart.ensures)
     c.cut_outputs.ensures in
     rw (back, c.in-Err-settle.ensures.err, c.reserve.ensures.items) c.self.invariant
 
 pub returns-in-Err-settle-clause-kept : goal.returns-in-Err-settle-clause-kept
 returns-in-Err-settle-clause-kept g c =
+    let d : c.deref-body.result.now ≡ c.lease.inside.own.value = c.deref-body.ensures in
+    let hart_is = c.hart-hart.ensures.value ∙ ap (λ (v : LeaseView). v.hart) d in
+    let outs_are = c.outputs.ensures ∙ ap (λ (v : LeaseView). v.present.outputs) d in
     let i = c.self.inside in
-    let back = made_back i.machine c.add_outputs.new.self c.cut_outputs.new.self c.lease.inside.own c.hart-hart.result c.hart.result.now c.outputs.result.now
-    c.outputs-before.result.now c.hart-hart.ensures.value c.outputs.ensures c.outputs-before.ensures c.hart.ensures
+    let back = made_back i.machine c.add_outputs.new.self c.cut_outputs.new.self c.lease.inside.own.value c.hart-hart.result c.hart.result.now c.outputs.result.now
+    c.outputs-before.result.now hart_is outs_are c.outputs-before.ensures c.hart.ensures
     (c.in-Ok-add_outputs.ensures.added c.hart.result.now c.hart.ensures)
     c.cut_outputs.ensures in
     rw (back, c.in-Err-settle.ensures.err, c.reserve.ensures.items) c.self.view_is
 
 pub take_back-steps-requires-clause-state : goal.take_back-steps-requires-clause-state
 take_back-steps-requires-clause-state g c =
+    let d : c.deref-body.result.now ≡ c.lease.inside.own.value = c.deref-body.ensures in
+    let hart_is = c.hart-hart.ensures.value ∙ ap (λ (v : LeaseView). v.hart) d in
+    let outs_are = c.outputs.ensures ∙ ap (λ (v : LeaseView). v.present.outputs) d in
     let m = c.self.inside.machine in
-    let l = c.lease.inside.own in
+    let l = c.lease.inside.own.value in
     let h = c.hart.result.now in
     let ours : IsLentBy (open_at c.self.inside.leases l.hart) m (whole_in m l) = rw (← c.self.view_is, ← c.lease.view_is) at c.requires in
-    let there : slice_get m.harts l.hart ≡ Some h = rw (← c.hart-hart.ensures.value) c.hart.ensures in
-    let new = made_longer m c.add_outputs.new.self l c.hart-hart.result h c.outputs.result.now c.hart-hart.ensures.value c.outputs.ensures
-    (c.in-Ok-add_outputs.ensures.added h c.hart.ensures) in (
+    let there : slice_get m.harts l.hart ≡ Some h = rw (← hart_is) c.hart.ensures in
+    let new = made_longer m c.add_outputs.new.self l c.hart-hart.result h c.outputs.result.now hart_is outs_are
+    (c.in-Ok-add_outputs.ensures.added h c.hart.ensures) in
+    rw c.into_inner.ensures (
       longer h l.present.outputs,
       rw new (longer_there m l.hart h l.present.outputs there),
       base_bare m l h there (stands_ours (open_at c.self.inside.leases l.hart) m (whole_in m l) ours),
@@ -86,37 +98,49 @@ take_back-steps-requires-clause-state g c =
 
 pub take_back-steps-requires-clause-unwritten : goal.take_back-steps-requires-clause-unwritten
 take_back-steps-requires-clause-unwritten g c = λ page bytes is.
+    let d : c.deref-body.result.now ≡ c.lease.inside.own.value = c.deref-body.ensures in
+    let hart_is = c.hart-hart.ensures.value ∙ ap (λ (v : LeaseView). v.hart) d in
+    let outs_are = c.outputs.ensures ∙ ap (λ (v : LeaseView). v.present.outputs) d in
     let m = c.self.inside.machine in
-    let l = c.lease.inside.own in
+    let l = c.lease.inside.own.value in
     let h = c.hart.result.now in
     let ours : IsLentBy (open_at c.self.inside.leases l.hart) m (whole_in m l) = rw (← c.self.view_is, ← c.lease.view_is) at c.requires in
-    let new = made_longer m c.add_outputs.new.self l c.hart-hart.result h c.outputs.result.now c.hart-hart.ensures.value c.outputs.ensures
+    let new = made_longer m c.add_outputs.new.self l c.hart-hart.result h c.outputs.result.now hart_is outs_are
     (c.in-Ok-add_outputs.ensures.added h c.hart.ensures) in
-    ap (λ (w : MachineState). slice_get w.pages page) new ∙ read_ours (open_at c.self.inside.leases l.hart) m (whole_in m l) page bytes ours is
+    ap (λ (w : MachineState). slice_get w.pages page) new ∙ read_ours (open_at c.self.inside.leases l.hart) m (whole_in m l) page bytes ours (rw c.into_inner.ensures at is)
 
 pub returns-clause-machine : goal.returns-clause-machine
 returns-clause-machine g c =
+    let d : c.deref-body.result.now ≡ c.lease.inside.own.value = c.deref-body.ensures in
+    let hart_is = c.hart-hart.ensures.value ∙ ap (λ (v : LeaseView). v.hart) d in
+    let outs_are = c.outputs.ensures ∙ ap (λ (v : LeaseView). v.present.outputs) d in
+    let back_is = rw c.into_inner.ensures at c.take_back-steps.ensures.machine in
     let m = c.self.inside.machine in
-    let l = c.lease.inside.own in
+    let l = c.lease.inside.own.value in
     let h = c.hart.result.now in
-    let there : slice_get m.harts l.hart ≡ Some h = rw (← c.hart-hart.ensures.value) c.hart.ensures in
-    let new = made_longer m c.add_outputs.new.self l c.hart-hart.result h c.outputs.result.now c.hart-hart.ensures.value c.outputs.ensures
+    let there : slice_get m.harts l.hart ≡ Some h = rw (← hart_is) c.hart.ensures in
+    let new = made_longer m c.add_outputs.new.self l c.hart-hart.result h c.outputs.result.now hart_is outs_are
     (c.in-Ok-add_outputs.ensures.added h c.hart.ensures) in
-    let taken = c.take_back-steps.ensures.machine (longer h l.present.outputs) (rw new (longer_there m l.hart h l.present.outputs there)) in
+    let taken = back_is (longer h l.present.outputs) (rw new (longer_there m l.hart h l.present.outputs there)) in
     rw (← c.self.view_is, ← c.lease.view_is) (taken ∙ rw new (laid_longer m l h there))
 
 pub invariant_of-self-2 : goal.invariant_of-self-2
 invariant_of-self-2 g c =
+    let d : c.deref-body.result.now ≡ c.lease.inside.own.value = c.deref-body.ensures in
+    let hart_is = c.hart-hart.ensures.value ∙ ap (λ (v : LeaseView). v.hart) d in
+    let outs_are = c.outputs.ensures ∙ ap (λ (v : LeaseView). v.present.outputs) d in
+    let bare = rw d at c.hart-hart.ensures.kept in
+    let back_is = rw c.into_inner.ensures at c.take_back-steps.ensures.machine in
     let i = c.self.inside in
-    let l = c.lease.inside.own in
+    let l = c.lease.inside.own.value in
     let h = c.hart.result.now in
     let earlier = outputs_of (slice_get i.machine.harts l.hart) in
     let w = whole_in i.machine l in
     let ours : IsLentBy (open_at i.leases l.hart) i.machine w = rw (← c.self.view_is, ← c.lease.view_is) at c.requires in
-    let there : slice_get i.machine.harts l.hart ≡ Some h = rw (← c.hart-hart.ensures.value) c.hart.ensures in
-    let new = made_longer i.machine c.add_outputs.new.self l c.hart-hart.result h c.outputs.result.now c.hart-hart.ensures.value c.outputs.ensures
+    let there : slice_get i.machine.harts l.hart ≡ Some h = rw (← hart_is) c.hart.ensures in
+    let new = made_longer i.machine c.add_outputs.new.self l c.hart-hart.result h c.outputs.result.now hart_is outs_are
     (c.in-Ok-add_outputs.ensures.added h c.hart.ensures) in
-    let taken = c.take_back-steps.ensures.machine (longer h l.present.outputs) (rw new (longer_there i.machine l.hart h l.present.outputs there)) in
+    let taken = back_is (longer h l.present.outputs) (rw new (longer_there i.machine l.hart h l.present.outputs there)) in
     let laid_is : c.take_back-steps.new.machine ≡ laid i.machine w = taken ∙ rw new (laid_longer i.machine l h there) in
     let settling : IsSettling (g.M.Mode.keeps i.mode) w =
     record {
@@ -124,22 +148,23 @@ invariant_of-self-2 g c =
       machine = i.machine;
       journal = i.journal.items;
       leases = i.leases;
-      is_lease = c.hart-hart.ensures.kept.with_any earlier;
+      is_lease = bare.with_any earlier;
       is_lent = ours;
       counted = c.self.invariant.counted;
       kept = c.self.invariant.keeps;
     } in
-    let kept : KeepsSettling (g.M.Mode.keeps i.mode) (g.M.Mode.keeps c.settle.new.self) w = c.in-Ok-settle.ensures.kept earlier in
-    let hears : SettlesHeard (g.M.Mode.keeps i.mode) (g.M.Mode.heard i.mode) (g.M.Mode.heard c.settle.new.self) w = c.in-Ok-settle.ensures.heard earlier in
+    let kept : KeepsSettling (g.M.Mode.keeps i.mode) (g.M.Mode.keeps c.settle.new.self) w = (rw d at c.in-Ok-settle.ensures.kept) earlier in
+    let hears : SettlesHeard (g.M.Mode.keeps i.mode) (g.M.Mode.heard i.mode) (g.M.Mode.heard c.settle.new.self) w = (rw d at c.in-Ok-settle.ensures.heard) earlier in
     rw (
       laid_is,
       c.add_stretch.ensures,
       c.reserve.ensures.items,
       c.take_back-steps.ensures.steps,
       c.index.ensures.value,
-      c.hart-hart.ensures.value,
+      hart_is,
       c.settle.ensures.stops,
       c.settle.ensures.obeyed,
+      c.into_inner.ensures,
     )
     (settled_kept i.start i.machine i.journal.items i.leases (g.M.Mode.stops i.mode) (g.M.Mode.obeyed i.mode) (g.M.Mode.heard i.mode)
-    (g.M.Mode.heard c.settle.new.self) _ _ w c.self.invariant (c.hart-hart.ensures.kept.with_any earlier) ours (hears.hears settling) (kept settling))
+    (g.M.Mode.heard c.settle.new.self) _ _ w c.self.invariant (bare.with_any earlier) ours (hears.hears settling) (kept settling))
