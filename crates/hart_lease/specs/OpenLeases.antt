@@ -1,5 +1,6 @@
 -- What a book knows of its open leases.
-use Rattle.std.specs.Prelude.{ℕ, List, [], ◌++◌, Bool, is_some, slice_set, slice_index_or, Option, Some, None, replicate, true, false, ◌≡◌, ◌≢◌}
+use Rattle.std.specs.Prelude.{ℕ, List, [], ◌++◌, Bool, is_some, slice_set, slice_index_or, Box, Option, Some, None, replicate, true, false, ◌≡◌, ◌≢◌}
+use Rattle.std.specs.Global.{Global}
 use Rattle.ft_types.specs.declared.names.Want.{Want}
 use Rattle.edge_log.specs.declared.Edge.{Edge}
 use Rattle.input_log.specs.declared.Input.{Input}
@@ -16,9 +17,9 @@ pub record OpenView : Type 0 where
   pub edges : List Edge  -- the edges that wait in it
 
 -- the edges that wait, once these stand in their place, where there are any
-abbrev pub edges_after : Option (SmallVec Edge) → List Edge → List Edge
+abbrev pub edges_after : Option (Box (SmallVec Edge) Global) → List Edge → List Edge
 edges_after None waiting = waiting
-edges_after (Some all) waiting = all.items
+edges_after (Some all) waiting = all.value.items
 
 -- the open lease of a hart
 abbrev pub open_at : List (Option OpenView) → ℕ → Option OpenView

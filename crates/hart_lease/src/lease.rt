@@ -225,11 +225,11 @@ impl Lease {
     }
 
     /// Puts these edges in place of those that wait, where there are any.
-    pub fn wait_with(&mut self, edges: Option<SmallVec<Edge, HART_ROW>>)
+    pub fn wait_with(&mut self, edges: Option<Box<SmallVec<Edge, HART_ROW>>>)
         ensures { self.new ≡ record self.old { edges = edges_after edges self.old.edges } }
     {
         if let Some(all) = edges {
-            self.edges = all;
+            self.edges = Box::into_inner(all);
         }
     }
 

@@ -89,7 +89,7 @@ impl OpenLease {
     }
 
     /// Writes down that it was given a right, and which edges wait in it now, where others do.
-    pub fn take(&mut self, asked: &Asked, waiting: Option<SmallVec<Edge, HART_ROW>>)
+    pub fn take(&mut self, asked: &Asked, waiting: Option<Box<SmallVec<Edge, HART_ROW>>>)
         ensures { self.new ≡ record self.old {
           taken = slice_set self.old.taken asked.now.page
               (Some (taking (taken_at self.old.taken asked.now.page) asked.now.want asked.now.count));
@@ -98,7 +98,7 @@ impl OpenLease {
     {
         self.taken.take(asked.page, asked.want, asked.count);
         if let Some(all) = waiting {
-            self.edges = all;
+            self.edges = Box::into_inner(all);
         }
     }
 }

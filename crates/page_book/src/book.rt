@@ -279,7 +279,7 @@ impl<M: Mode> Book<M> {
         settled: &Counts,
         asked: &Asked,
         found: &[Edge],
-        waiting: Option<SmallVec<Edge, HART_ROW>>,
+        waiting: Option<Box<SmallVec<Edge, HART_ROW>>>,
     )
         requires asks { IsAsking (M.keeps self.old.mode) self.old.machine self.old.leases asked.now }
         requires free { (g : ℕ) → M.is_holder self.old.mode self.old.leases asked.now g → ⊥ }

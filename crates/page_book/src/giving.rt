@@ -46,13 +46,13 @@ pub(crate) fn with_edges(
     alloc: Global,
     waiting: &[Edge],
     found: &[Edge],
-) -> Result<Option<SmallVec<Edge, HART_ROW>>, Memory>
+) -> Result<Option<Box<SmallVec<Edge, HART_ROW>>>, Memory>
     ensures { IfOk result (λ all. edges_after all waiting.now ≡ waiting.now ++ found.now) }
 {
     if found.is_empty() {
         return Ok(None);
     }
-    let all = joined(alloc, waiting, found)?;
+    let all = Box::new(alloc, joined(alloc, waiting, found)?)?;
     Ok(Some(all))
 }
 
@@ -124,7 +124,7 @@ pub(crate) fn note_taken(
     lease: &mut Option<OpenLease>,
     asked: &Asked,
     _found: &[Edge],
-    waiting: Option<SmallVec<Edge, HART_ROW>>,
+    waiting: Option<Box<SmallVec<Edge, HART_ROW>>>,
 )
     requires { (lent : OpenView) → lease.old ≡ Some lent → edges_after waiting lent.edges ≡ lent.edges ++ _found.now }
     ensures { lease.new ≡ given_more lease.old asked.now.page asked.now.want asked.now.count _found.now }
