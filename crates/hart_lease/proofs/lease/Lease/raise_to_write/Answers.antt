@@ -1,6 +1,6 @@
-use Rattle.std.proofs.Common.{◌≡◌, ◌-◌, ◌∙◌, ◌<◌, ℕ, List, ap, sym, length, slice_index_or, slice_set, Some, None, arith}
+use Rattle.std.proofs.Common.{◌≡◌, ◌-◌, ◌∙◌, ◌<◌, ℕ, List, ap, sym, length, slice_index_or, Some, None, arith}
 use Rattle.hart_lease.specs.declared.lease_pages.Slot.{Slot}
-use Rattle.hart_lease.specs.declared.lease_pages.Slot.TheVariants.{Readable, Writable}
+use Rattle.hart_lease.specs.declared.lease_pages.Slot.TheVariants.{Readable}
 use Rattle.hart_lease.specs.Slots.{slot_at, is_writable, base_of}
 use Rattle.hart_lease.specs.Leases.{LeaseView, with_page_to_write}
 use Rattle.hart_lease.specs.Runs.{IsBareLease}
