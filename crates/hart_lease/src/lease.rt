@@ -1,6 +1,5 @@
 //! A lease: one hart's state and some pages, on loan.
 
-ghost use Rattle.std.specs.Cmp.Lexicographic.{pointwise};
 ghost use Rattle.std.specs.Prelude.{◌≡◌, ◌==◌, ◌&&◌, ◌≢◌, ◌<◌, ◌≤◌, ◌^◌, ◌⊎◌, ◌+◌, ◌-◌, ◌↔◌, ℕ, List, [], length, replicate, map, slice_set, slice_index_or};
 ghost use Rattle.std.specs.Prelude.{Option, Some, None, ◌∷◌, true, false, IfOk, IfSome, IfNone, OnOk, OnErr, IsTrue};
 ghost use Rattle.ft_types.specs.declared.names.TheConstants.{LEASE_STEPS};
@@ -12,12 +11,12 @@ ghost use Rattle.hart_lease.specs.Taken.{HaveBases};
 ghost use Rattle.hart_lease.specs.Runs.{IsBareLease};
 ghost use Rattle.hart_lease.specs.Asks.{asked_by};
 ghost use Rattle.hart_lease.specs.OpenLeases.{edges_after, idle};
-ghost use Rattle.input_log.specs.Alike.{same_input};
 ghost use Rattle.hart_lease.specs.Leases.{LeaseView, fresh, rung_bell, bells_rung, IsFull, Ticks, StepsOn, Runs, IsLent, IsLentAt, base_at, whole, whole_in};
 ghost use Rattle.hart_lease.specs.Leases.{with_page_to_read, with_page_to_write};
 
+use crate::alike::{is_base, same_edges, same_inputs};
 use crate::asked::Asked;
-use crate::lease_pages::{LeasePages, Slot};
+use crate::lease_pages::{LeasePages, Slot, no_pages};
 use crate::lent::Lent;
 use crate::taken::{Taken, TakenPages};
 use edge_log::Edge;
@@ -93,41 +92,9 @@ impl Model for Lease {
     }) };
 }
 
-fn no_pages(alloc: Global, pages: u8) -> Result<Vec<Option<SharedPage>>, Memory>
-    ensures { IfOk result (λ v. v.items ≡ replicate pages None) }
-{
-    let mut all = Vec::with_capacity(alloc, pages as usize)?;
-    for _page in 0..pages {
-        all.push(None)?;
-    }
-    Ok(all)
-}
-
-/// Whether the page that was lent, where one was, is this page.
-fn is_base(slot: &Slot, kept: &Option<SharedPage>, here: &Page) -> bool
-    ensures { IsTrue result ↔ ((bytes : List ℕ) → base_of slot.now kept.now ≡ Some bytes → here.now ≡ bytes) }
-{
-    match (slot, kept) {
-        (Slot::Missing, _) | (Slot::Writable(_), None) => true,
-        (Slot::Readable(page), _) => here.same(page.page()),
-        (Slot::Writable(_), Some(page)) => here.same(page.page()),
-    }
-}
-
-fn same_edges(edges: &[Edge], others: &[Edge]) -> bool
-    ensures { result ≡ pointwise (λ a b. a.hart == b.hart && a.at == b.at && a.other == b.other && a.after == b.after) edges.now others.now }
-{
-    edges == others
-}
-
-fn same_inputs(inputs: &[Input], others: &[Input]) -> bool
-    ensures { result ≡ pointwise same_input inputs.now others.now }
-{
-    inputs == others
-}
-
 impl Lease {
     /// A lease of a hart in this state but for its outputs, without steps and pages, which may not take any yet.
+    #[inline(always)]
     pub fn fresh(alloc: Global, hart: Hart, state: &HartState, pages: u8) -> Result<Lease, Memory>
         requires pages { pages ≤ PAGE_LIMIT }
         ensures { IfOk result (λ l. l ≡ fresh hart (without_outputs state.now) pages idle) }
@@ -152,6 +119,7 @@ impl Lease {
     }
 
     /// Sends the lease out with this.
+    #[inline(always)]
     pub fn go_out(&mut self, lent: Lent)
         requires idle { self.old ≡ fresh self.old.hart self.old.base (length self.old.slots) idle }
         requires stop { lent.stop < COUNT_LIMIT }

@@ -1,6 +1,7 @@
 //! Leases: one hart and some pages, on loan, and what is known of them while they are out.
 #![tactic(auto)]
 
+mod alike;
 mod asked;
 mod laws;
 mod lease;

@@ -1,5 +1,5 @@
 use Rattle.std.proofs.Common.{◌∙◌, sym, refl}
-use Rattle.hart_lease.proofs.lease.is_base.Goals as goal
+use Rattle.hart_lease.proofs.alike.is_base.Goals as goal
 
 pub returns-in-Readable-default : goal.returns-in-Readable-default
 returns-in-Readable-default c =
