@@ -358,7 +358,6 @@ impl Recording {
     }
 
     /// What the asker is answered, once nobody is in its way: the page's right from then on, and the edges that it owes.
-    #[inline(always)]
     fn answer(
         &self,
         alloc: Global,

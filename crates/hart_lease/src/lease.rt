@@ -94,7 +94,6 @@ impl Model for Lease {
 
 impl Lease {
     /// A lease of a hart in this state but for its outputs, without steps and pages, which may not take any yet.
-    #[inline(always)]
     pub fn fresh(alloc: Global, hart: Hart, state: &HartState, pages: u8) -> Result<Lease, Memory>
         requires pages { pages ≤ PAGE_LIMIT }
         ensures { IfOk result (λ l. l ≡ fresh hart (without_outputs state.now) pages idle) }
@@ -119,7 +118,6 @@ impl Lease {
     }
 
     /// Sends the lease out with this.
-    #[inline(always)]
     pub fn go_out(&mut self, lent: Lent)
         requires idle { self.old ≡ fresh self.old.hart self.old.base (length self.old.slots) idle }
         requires stop { lent.stop < COUNT_LIMIT }

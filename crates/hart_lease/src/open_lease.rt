@@ -38,7 +38,6 @@ impl Model for OpenLease {
 
 impl OpenLease {
     /// A lease of no page.
-    #[inline(always)]
     pub fn new(alloc: Global, lent: &Lent, taken: TakenPages) -> OpenLease
         requires { taken ≡ replicate PAGE_ROW None }
         ensures { result ≡ nothing_taken lent.now }

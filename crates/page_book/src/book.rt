@@ -222,7 +222,6 @@ impl<M: Mode> Book<M> {
     }
 
     /// What the hart, which is at this count, goes out with. It has an open lease then, of no page.
-    #[inline(always)]
     fn lend_out(&mut self, alloc: Global, hart: Hart, count: Count, taken: TakenPages) -> Lent
         requires taken { taken ≡ replicate PAGE_ROW None }
         requires hart { hart < length self.old.machine.harts }

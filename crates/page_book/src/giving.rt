@@ -21,7 +21,6 @@ pub(crate) fn no_leases() -> [Option<OpenLease>; HART_ROW]
 }
 
 /// A lease of a hart in this state but for its outputs, without steps and pages, which may not take any yet.
-#[inline(always)]
 pub(crate) fn fresh_lease(
     alloc: Global,
     hart: Hart,
