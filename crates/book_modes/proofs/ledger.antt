@@ -5,6 +5,7 @@ pub mod Ending
 pub mod Honesty
 pub mod ChangedRights
 pub mod Yielding
+pub mod Holding
 pub mod Dues
 pub mod NewDue
 pub mod MetRights

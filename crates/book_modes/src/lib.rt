@@ -7,6 +7,7 @@ mod mode;
 mod recording;
 mod settled;
 mod unheard;
+mod yielding;
 
 pub use due::Due;
 pub use keep::Keep;

@@ -14,13 +14,13 @@ ghost use Rattle.rv32_hart.specs.Hart.{Hart as HartRecord};
 ghost use Rattle.book_modes.specs.Recordings.{RecordingView, IsUnused, IsRecorded, heard_by, IsFilled, GoesOut, IsOffered, LogsInputs, due_after, AreLogged};
 ghost use Rattle.book_modes.specs.Recordings.{PutsBell, IsFrom, IsTaker, AreOwed, IsGiven, IsSettled, IsEnded, keep_as, right_at, right_met};
 ghost use Rattle.book_modes.specs.Recordings.{GoesOn, HasRows, inputs_offered, KeepsInputs};
-ghost use Rattle.book_modes.specs.Yielding.{yielded};
 
 use crate::due::Due;
 use crate::keep::Keep;
 use crate::mode::Mode;
 use crate::settled::{count_of, settled_counts};
 use crate::unheard::desk_of;
+use crate::yielding::right_yielded;
 use crew_pages::{Ask, PageRight};
 use edge_log::{Edge, EdgeLog};
 use ft_types::{
@@ -110,23 +110,6 @@ fn takes(lease: &Option<OpenLease>, page: PageNo) -> bool
         None => false,
         Some(open) => open.right(page).is_some(),
     }
-}
-
-/// The right, once each hart that stands in the asker's way has given it up.
-fn right_yielded(right: PageRight, settled: &Counts, asked: &Asked) -> PageRight
-    ensures { right_of result ≡ yielded asked.now (count_at settled.now) HART_LIMIT (right_of right) }
-{
-    if right.against(asked.hart, asked.want).is_empty() {
-        return right;
-    }
-    let mut right = right;
-    for number in 0..HART_LIMIT {
-        let other = Hart::new(number);
-        if right.against(asked.hart, asked.want).contains(other) {
-            right.give_up(other, count_of(*settled, other));
-        }
-    }
-    right
 }
 
 /// What the hart keeps of a right, at its present count.
@@ -375,15 +358,28 @@ impl Recording {
         ensures rising { AllPairs (λ a b. a.other < b.other) result.1.items }
     {
         let mut right = right_yielded(self.rights[asked.page.index()], settled, asked);
-        if right.has(asked.hart, asked.want) {
-            return (right, SmallVec::new(alloc));
-        }
         let mut counts = *settled;
         counts.set(asked.hart, asked.count);
         match right.ask(alloc, asked.hart, asked.want, &counts) {
             Ask::Given(edges) => (right, edges),
             Ask::HeldBy(_) => unreachable!(),
         }
+    }
+
+    /// The page's right from then on.
+    fn right_given(&self, alloc: Global, settled: &Counts, asked: &Asked) -> PageRight
+        requires page { asked.now.page < length self.now.rights }
+        requires hart { asked.now.hart < length settled.now }
+        requires count { asked.now.count < COUNT_LIMIT }
+        requires few { (other : ℕ) → holds (right_at self.now.rights asked.now.page) other ≡ true → other < HART_LIMIT }
+        requires free { IsFree (right_met self.now (count_at settled.now) asked.now) asked.now.hart asked.now.want }
+        ensures { right_of result ≡ given (right_met self.now (count_at settled.now) asked.now) asked.now.hart asked.now.want asked.now.count }
+    {
+        let right = right_yielded(self.rights[asked.page.index()], settled, asked);
+        if right.has(asked.hart, asked.want) {
+            return right;
+        }
+        self.answer(alloc, settled, asked).0
     }
 }
 
@@ -469,11 +465,15 @@ impl Mode for Recording {
         settled: &Counts,
         asked: &Asked,
     ) -> SmallVec<Edge, HART_ROW> {
+        let right = right_yielded(self.rights[asked.page.index()], settled, asked);
+        if right.has(asked.hart, asked.want) {
+            return SmallVec::new(alloc);
+        }
         self.answer(alloc, settled, asked).1
     }
 
     fn give(&mut self, alloc: Global, settled: &Counts, asked: &Asked) {
-        let (right, _edges) = self.answer(alloc, settled, asked);
+        let right = self.right_given(alloc, settled, asked);
         self.rights[asked.page.index()] = right;
     }
 

@@ -4,13 +4,13 @@ use Rattle.book_modes.proofs.ledger.Lending.{few_hold, nobody_there, right_store
 use Rattle.book_modes.proofs.ledger.Yielding.{right_set, right_stays}
 use Rattle.book_modes.proofs.recording.RecordingMode.give.Goals as goal
 
-pub answer-right-requires-clause-few : goal.answer-right-requires-clause-few
-answer-right-requires-clause-few c =
+pub right_given-right-requires-clause-few : goal.right_given-right-requires-clause-few
+right_given-right-requires-clause-few c =
     let g = c.requires in
     few_hold c.args.self.now g.machine g.leases c.args.asked.now g.asks
 
-pub answer-right-requires-clause-free : goal.answer-right-requires-clause-free
-answer-right-requires-clause-free c =
+pub right_given-right-requires-clause-free : goal.right_given-right-requires-clause-free
+right_given-right-requires-clause-free c =
     let g = c.requires in
     nobody_there c.args.self.now g.machine g.leases c.args.asked.now g.asks (count_at c.args.settled.now)
 
@@ -24,10 +24,10 @@ returns-clause-given c =
     rw (← c.self.view_is)
     (record {
       rest = refl;
-      many = length-set i.rights.items c.index.result c.answer-right.result.0;
-      page = rw (c.index.ensures.value) (right_set i.rights.items asked.page c.answer-right.result.0 row ∙
-          rw (← c.self.view_is) at c.answer-right.ensures.right);
-      others = rw (c.index.ensures.value) (λ page ne. right_stays i.rights.items asked.page c.answer-right.result.0 page ne);
+      many = length-set i.rights.items c.index.result c.right_given-right.result;
+      page = rw (c.index.ensures.value) (right_set i.rights.items asked.page c.right_given-right.result row ∙
+          rw (← c.self.view_is) at c.right_given-right.ensures);
+      others = rw (c.index.ensures.value) (λ page ne. right_stays i.rights.items asked.page c.right_given-right.result page ne);
     })
 
 pub returns-clause-kept : goal.returns-clause-kept

@@ -4,7 +4,7 @@ use Rattle.ft_types.specs.Sets.{IsMember}
 use Rattle.hart_lease.specs.declared.asked.Asked.{Asked}
 use Rattle.crew_pages.specs.Rights.{Right, right_of, stands}
 use Rattle.book_modes.specs.Yielding.{yields, yielded}
-use Rattle.book_modes.proofs.recording.right_yielded.Goals as goal
+use Rattle.book_modes.proofs.yielding.right_yielded.Goals as goal
 
 untrue : (b : Bool) → (b ≡ true → ⊥) → b ≡ false
 untrue true not = absurd (not refl)
