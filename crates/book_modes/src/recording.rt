@@ -341,6 +341,7 @@ impl Recording {
     }
 
     /// What the asker is answered, once nobody is in its way: the page's right from then on, and the edges that it owes.
+    #[inline(never)]
     fn answer(
         &self,
         alloc: Global,

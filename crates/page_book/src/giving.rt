@@ -52,21 +52,22 @@ pub(crate) fn with_edges(
     if found.is_empty() {
         return Ok(None);
     }
-    let all = Box::new(alloc, joined(alloc, waiting, found)?)?;
+    let all = joined(alloc, waiting, found)?;
     Ok(Some(all))
 }
 
-/// These edges and those.
+/// These edges and those. Not inlined, since a function clears its locals when it begins, and edges are seldom found.
+#[inline(never)]
 fn joined(
     alloc: Global,
     waiting: &[Edge],
     found: &[Edge],
-) -> Result<SmallVec<Edge, HART_ROW>, Memory>
-    ensures { IfOk result (λ all. all.items ≡ waiting.now ++ found.now) }
+) -> Result<Box<SmallVec<Edge, HART_ROW>>, Memory>
+    ensures { IfOk result (λ all. all.value.items ≡ waiting.now ++ found.now) }
 {
     let mut all = SmallVec::from_slice(alloc, waiting)?;
     all.extend_from_slice(found)?;
-    Ok(all)
+    Ok(Box::new(alloc, all)?)
 }
 
 /// A copy of a page: the one that is there, where one is.
