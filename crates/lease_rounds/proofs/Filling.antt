@@ -20,7 +20,7 @@ use Rattle.hart_lease.specs.OpenLeases.{OpenView, open_at}
 use Rattle.hart_lease.specs.Runs.{counts_of}
 use Rattle.book_modes.specs.declared.keep.Keep.{Keep}
 use Rattle.hart_lease.specs.Laws.{StepCounts, StepKeepsRights, LacksOnAPage, Covers}
-use Rattle.lease_rounds.specs.Leading.{IsIdle, IsAlone, Fills, NoneYet, Steps, Takes, ComesBack, EndsWithout, lacking, rights_short}
+use Rattle.lease_rounds.specs.Leading.{IsIdle, IsAlone, Gives, Fills, NoneYet, Steps, Takes, ComesBack, EndsWithout, lacking, rights_short}
 
 -- ---- a page that is given
 
@@ -210,6 +210,18 @@ module _ {M : Type 0} (g : Ghosts M) (b : BookView M) (l : LeaseView) where
   pub fills_as : (c d : BookView M) (k n : LeaseView) → Fills g b l c k → d ≡ c → n ≡ k → Fills g b l d n
   fills_as c d k n fills book lease =
       subst (λ (x : BookView M). Fills g b l x n) (sym book) (subst (λ (x : LeaseView). Fills g b l c x) (sym lease) fills)
+
+  -- a page that was given to a lease that may go on, or refused
+  pub fills_given : {A E : Type 0} (r : Result A E) (c : BookView M) (k : LeaseView) → (IsFull l → ⊥) → OnOk r (Gives g b l c k) → OnErr r (c ≡ b) →
+      OnErr r (k ≡ l) → Fills g b l c k
+  fills_given (Ok x) c k room given book lease = Takes c k NoneYet room given
+  fills_given (Err x) c k room given book lease = fills_as b c l k NoneYet book lease
+
+  -- what fills the lease from there fills it
+  pub fills_on : (c : BookView M) (k : LeaseView) → Fills g b l c k → (d : BookView M) (n : LeaseView) → Fills g c k d n → Fills g b l d n
+  fills_on c k first d n NoneYet = first
+  fills_on c k first d n (Steps {c = now} {k = before} m more room t) = Steps m (fills_on c k first now before more) room t
+  fills_on c k first d n (Takes {c = now} {k = held} e m more room given) = Takes e m (fills_on c k first now held more) room given
 
   pub has_filled : StepCounts → (c : BookView M) (k : LeaseView) → Fills g b l c k → HasFilled b l c k
   has_filled counts c k NoneYet = record { book = refl; hart = refl; base = refl; inputs = refl; stop = refl; gone = inl (refl, refl) }

@@ -1,6 +1,6 @@
 //! One lease after the other: each is filled with steps and settled.
 
-ghost use Rattle.std.specs.Prelude.{◌≡◌, ◌<◌, ℕ, length, map, IfOk, OnOk, OnErr};
+ghost use Rattle.std.specs.Prelude.{◌≡◌, ◌<◌, ◌↔◌, ℕ, length, map, IfOk, OnOk, OnErr, IsTrue};
 ghost use Rattle.hart_lease.specs.Slots.{slot_at, want_of};
 ghost use Rattle.hart_lease.specs.Leases.{IsFull};
 ghost use Rattle.page_book.specs.Books.{IsOurs};
@@ -8,6 +8,7 @@ ghost use Rattle.hart_lease.specs.Laws.{Covers};
 ghost use Rattle.lease_rounds.specs.Leading.{IsIdle, IsAlone, IsFreeAlone, Gives, Fills, ComesBack, Leads, Goes, Rounds, lacking};
 ghost use Rattle.lease_rounds.specs.Leading.{EndsWithout, LeavesOff, HasNotGone};
 
+use crate::page_mask::PageMask;
 use ft_types::{Hart, Memory, PageNo, Want};
 use page_book::{Book, BookFault, Keep, Lease, Mode, Need, steps_of_leases};
 use rv32_hart::Tick;
@@ -38,8 +39,59 @@ pub fn give<M: Mode>(
     }
 }
 
-/// Takes steps until the book's one lease is full, or memory is refused. A page that a step lacks is given.
-pub fn fill<M: Mode>(book: &mut Book<M>, lease: &mut Lease) -> Result<(), Memory>
+/// Whether a right is the wanted one, or covers it.
+fn covers(right: Option<Want>, want: Want) -> bool
+    ensures { IsTrue result ↔ Covers right want }
+{
+    match (right, want) {
+        (None, _) | (Some(Want::Read), Want::Write) => false,
+        _ => true,
+    }
+}
+
+/// Gives the one lease a page, where it lacks it and may go on.
+fn give_lacking<M: Mode>(
+    book: &mut Book<M>,
+    lease: &mut Lease,
+    page: PageNo,
+    want: Want,
+) -> Result<(), Memory>
+    requires free { IsFreeAlone M.Mode }
+    requires alone { IsAlone book.old lease.old }
+    requires page { page < length book.old.machine.pages }
+    ensures fills { Fills M.Mode book.old lease.old book.new lease.new }
+    ensures alone { IsAlone book.new lease.new }
+    ensures pages { length book.new.machine.pages ≡ length book.old.machine.pages }
+{
+    if lease.full() || covers(lease.right(page), want) {
+        return Ok(());
+    }
+    give(book, lease, page, want)
+}
+
+/// Gives the one lease these pages at once, as far as it lacks them.
+fn give_all<M: Mode>(book: &mut Book<M>, lease: &mut Lease, pages: PageMask) -> Result<(), Memory>
+    requires free { IsFreeAlone M.Mode }
+    requires alone { IsAlone book.old lease.old }
+    ensures fills { Fills M.Mode book.old lease.old book.new lease.new }
+    ensures alone { IsAlone book.new lease.new }
+{
+    for number in 0..book.machine().pages() {
+        let page = PageNo::new(number);
+        if let Some(want) = pages.want(page) {
+            give_lacking(book, lease, page, want)?;
+        }
+    }
+    Ok(())
+}
+
+/// Takes steps until the book's one lease is full, or memory is refused. It is given these pages at once, and then each that a
+/// step lacks, which is one of these from then on.
+pub fn fill<M: Mode>(
+    book: &mut Book<M>,
+    lease: &mut Lease,
+    usual: &mut PageMask,
+) -> Result<(), Memory>
     requires free { IsFreeAlone M.Mode }
     requires alone { IsAlone book.old lease.old }
     ensures fills { Fills M.Mode book.old lease.old book.new lease.new }
@@ -47,10 +99,14 @@ pub fn fill<M: Mode>(book: &mut Book<M>, lease: &mut Lease) -> Result<(), Memory
     ensures alone { IsAlone book.new lease.new }
 {
     steps_of_leases();
+    give_all(book, lease, *usual)?;
     while !lease.full() {
         match lease.run() {
             Tick::Done => return Ok(()),
-            Tick::Miss(page, want) => give(book, lease, page, want)?,
+            Tick::Miss(page, want) => {
+                give(book, lease, page, want)?;
+                *usual = usual.with(PageMask::of(page, want));
+            }
             Tick::Memory => return Err(Memory),
             Tick::Halted => unreachable!(),
         }
@@ -74,14 +130,19 @@ pub fn bring_back<M: Mode>(book: &mut Book<M>, lease: Lease, keep: Keep) -> Resu
 }
 
 /// Takes the steps of a lease, and settles them.
-fn go_on<M: Mode>(book: &mut Book<M>, mut lease: Lease, keep: Keep) -> Result<(), Memory>
+fn go_on<M: Mode>(
+    book: &mut Book<M>,
+    mut lease: Lease,
+    keep: Keep,
+    usual: &mut PageMask,
+) -> Result<(), Memory>
     requires free { IsFreeAlone M.Mode }
     requires alone { IsAlone book.old lease }
     ensures leads { OnOk result (Leads M.Mode keep book.old lease book.new) }
     ensures leaves { OnErr result (LeavesOff M.Mode book.old lease book.new) }
     ensures idle { IsIdle book.new }
 {
-    if fill(book, &mut lease).is_err() {
+    if fill(book, &mut lease, usual).is_err() {
         let _ended = book.discard(lease);
         return Err(Memory);
     }
@@ -89,7 +150,32 @@ fn go_on<M: Mode>(book: &mut Book<M>, mut lease: Lease, keep: Keep) -> Result<()
 }
 
 /// Takes the steps of one lease of a hart, where it may go on, and settles them. Whether it did. Where memory is refused, the
-/// lease is given up.
+/// lease is given up. The lease takes these pages at once, and others as its steps lack them, which are added to these.
+pub fn go_with<M: Mode>(
+    alloc: Global,
+    book: &mut Book<M>,
+    hart: Hart,
+    keep: Keep,
+    usual: &mut PageMask,
+) -> Result<bool, Memory>
+    requires free { IsFreeAlone M.Mode }
+    requires hart { hart < length book.old.machine.harts }
+    requires idle { IsIdle book.old }
+    ensures goes { IfOk result (λ went. Goes M.Mode keep went hart book.old book.new) }
+    ensures not_gone { OnErr result (HasNotGone M.Mode hart book.old book.new) }
+    ensures idle { IsIdle book.new }
+{
+    match book.lease(alloc, hart) {
+        Ok(lease) => {
+            go_on(book, lease, keep, usual)?;
+            Ok(true)
+        }
+        Err(fault) if fault == BookFault::Memory => Err(Memory),
+        Err(_) => Ok(false),
+    }
+}
+
+/// The same, and each page is taken as a step lacks it.
 pub fn go<M: Mode>(
     alloc: Global,
     book: &mut Book<M>,
@@ -103,14 +189,7 @@ pub fn go<M: Mode>(
     ensures not_gone { OnErr result (HasNotGone M.Mode hart book.old book.new) }
     ensures idle { IsIdle book.new }
 {
-    match book.lease(alloc, hart) {
-        Ok(lease) => {
-            go_on(book, lease, keep)?;
-            Ok(true)
-        }
-        Err(fault) if fault == BookFault::Memory => Err(Memory),
-        Err(_) => Ok(false),
-    }
+    go_with(alloc, book, hart, keep, &mut PageMask::none())
 }
 
 /// Lets each hart go on in turn, where it may. Whether one did.

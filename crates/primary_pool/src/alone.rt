@@ -5,9 +5,12 @@ ghost use Rattle.lease_rounds.specs.Leading.{IsFreeAlone, IsIdle};
 
 use crate::turnstile::Turnstile;
 use ft_types::{Count, Hart};
-use lease_rounds::go;
+use lease_rounds::{PageMask, go_with};
 use page_book::{Book, Keep, Mode};
 use std::alloc::Global;
+
+/// After so many leases the hart begins one without pages, so that it does not take for good what it used once.
+const LONGEST: u64 = 32;
 
 /// Leads the book's first hart on this thread, lease by lease, until it is halted or at its end, where memory is refused or where
 /// it cannot go on.
@@ -23,11 +26,15 @@ pub(crate) fn lead_alone<M: Mode, T: Turnstile>(
 {
     let hart = Hart::new(0);
     let mut number = 0u64;
+    let mut usual = PageMask::none();
     let mut count = book.machine().hart(hart).count();
     while count < end && !book.machine().hart(hart).is_halted() {
         number = number.saturating_add(1);
         turnstile.before_lease(hart, number);
-        let Ok(true) = go(alloc, book, hart, Keep::All) else {
+        if number % LONGEST == 0 {
+            usual = PageMask::none();
+        }
+        let Ok(true) = go_with(alloc, book, hart, Keep::All, &mut usual) else {
             return;
         };
         let settled = book.machine().hart(hart).count();

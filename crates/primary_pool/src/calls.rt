@@ -6,10 +6,10 @@ use std::sync::{Condvar, Mutex, Wait};
 use std::{hint, thread};
 
 /// How often a thread looks whether it was called before it lets others run: being woken takes longer than a lease.
-const LOOKS: u32 = 200;
+const LOOKS: u32 = 50;
 
 /// How often it lets others run before it sleeps.
-const YIELDS: u32 = 50;
+const YIELDS: u32 = 1000;
 
 /// The call of one thread.
 #[derive(Drop)]

@@ -62,7 +62,10 @@ fn start_all<'x, M: Mode + Send, R: Threads + Wait + Sync, T: Turnstile + Sync>(
 }
 
 /// How often a thread looks for the lock before it sleeps: leases hold it for a few microseconds, and being woken takes longer.
-const LOOKS: u32 = 1000;
+const LOOKS: u32 = 100;
+
+/// How long it waits between two looks: each takes the lock's line from the processor of whoever holds it.
+const PAUSES: u32 = 8;
 
 /// The lock.
 fn hold<'d, M: Mode, R: Wait>(rt: &R, desk: &'d Mutex<Desk<M>>) -> MutexGuard<'d, Desk<M>> {
@@ -70,7 +73,9 @@ fn hold<'d, M: Mode, R: Wait>(rt: &R, desk: &'d Mutex<Desk<M>>) -> MutexGuard<'d
         if let Some(held) = desk.try_lock() {
             return held;
         }
-        hint::spin_loop();
+        for _pause in 0..PAUSES {
+            hint::spin_loop();
+        }
     }
     desk.lock(rt)
 }

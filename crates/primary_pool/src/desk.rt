@@ -5,8 +5,9 @@ ghost use Rattle.page_book.specs.Books.{IsOurs};
 
 use crate::habits::Habits;
 use crate::idlers::{Idlers, trace_of};
-use crate::queue::{PageMask, Queue};
+use crate::queue::Queue;
 use ft_types::{Count, HART_LIMIT, HART_ROW, Hart, HartSet, PageNo, Want};
+use lease_rounds::PageMask;
 use page_book::{Book, BookFault, Keep, Lease, Mode, Need};
 use std::alloc::Global;
 
@@ -395,8 +396,9 @@ impl<M: Mode> Desk<M> {
         let (hart, steps, count) = (lease.hart(), lease.steps(), lease.count());
         let before = self.rung_by(hart);
         let pages = self.queue.held(hart);
+        let keep = self.keep_of(hart, pages);
         self.note(hart, steps);
-        match self.book.settle(lease, Keep::Nothing) {
+        match self.book.settle(lease, keep) {
             Ok(()) => {
                 if self.has_rests {
                     self.note_idle(hart, steps, pages);
@@ -410,6 +412,15 @@ impl<M: Mode> Desk<M> {
                 None
             }
         }
+    }
+
+    /// What the hart keeps of its rights: all, where nobody waits for its pages or was in its way over them lately. A right that
+    /// it keeps may stand in the way of others without being seen by those who wait.
+    fn keep_of(&self, hart: Hart, pages: PageMask) -> Keep {
+        if self.habits.is_disputed(pages) || self.queue.wished(hart).is_against(pages) {
+            return Keep::Nothing;
+        }
+        Keep::All
     }
 
     /// How often the hart has rung each hart, by its settled steps.

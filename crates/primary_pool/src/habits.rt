@@ -1,7 +1,7 @@
 //! Which pages harts take at once with a lease.
 
-use crate::queue::PageMask;
 use ft_types::{HART_ROW, Hart};
+use lease_rounds::PageMask;
 
 /// After so many leases a hart begins one without pages, so that those that it has left are left to others.
 const LONGEST: u8 = 32;
@@ -39,6 +39,11 @@ impl Habits {
     /// A hart was refused these pages.
     pub(crate) fn dispute(&mut self, pages: PageMask) {
         self.disputed = self.disputed.with(pages);
+    }
+
+    /// Whether harts were in each other's way over one of these pages lately.
+    pub(crate) fn is_disputed(&self, pages: PageMask) -> bool {
+        self.disputed.is_near(pages)
     }
 
     /// A lease of the hart comes back, which had these pages that no other waits for.

@@ -1,7 +1,7 @@
 //! Which harts only wait.
 
-use crate::queue::PageMask;
 use ft_types::{HART_ROW, Hart, LEASE_STEPS};
+use lease_rounds::PageMask;
 
 /// How many steps the others take before a hart that only waits looks again, though nothing that it reads has changed.
 const PATIENCE: u64 = 8 * LEASE_STEPS;

@@ -1,10 +1,10 @@
 use Rattle.std.proofs.Common.{refl}
-use Rattle.lease_rounds.specs.Leading.{NoneYet, Takes}
+use Rattle.lease_rounds.specs.Leading.{Takes}
 use Rattle.lease_rounds.proofs.Filling.{alone_as, alone_kept, fills_as, fills_run, keeps, lacks_there, smaller}
 use Rattle.lease_rounds.proofs.rounds.fill.Goals as goal
 
 pub loop-lease-init : goal.loop-lease-init
-loop-lease-init g c = record { fills = NoneYet; alone = c.requires.alone }
+loop-lease-init g c = record { fills = c.give_all.ensures.fills; alone = c.give_all.ensures.alone }
 
 pub give-requires-clause-page : goal.give-requires-clause-page
 give-requires-clause-page g c = (lacks_there c.run.new.self c.run.new.self c.in-Miss.page c.in-Miss.want c.steps_of_leases.ensures.lacks

@@ -9,7 +9,7 @@ pub hart-requires-in-loop-count-2 : goal.hart-requires-in-loop-count-2
 hart-requires-in-loop-count-2 g c =
     let hart = c.new-hart.result in
     let before = c.loop-count.book in
-    let now = c.go.new.book in
+    let now = c.go_with.new.book in
     let on =
     subst (λ (went : Bool). Goes g.M.Mode told.All went hart before now) c.in-Ok-true.field-0-test c.in-Ok-true.ensures.goes in
     let stay = harts_stay g.M.Mode told.All hart before now on in

@@ -1,7 +1,7 @@
 use Rattle.std.proofs.Common.{inr}
 use Rattle.lease_rounds.proofs.Filling.{where_err}
 use Rattle.lease_rounds.proofs.Lending.{lent_out, lease_alone, held}
-use Rattle.lease_rounds.proofs.rounds.go.Goals as goal
+use Rattle.lease_rounds.proofs.rounds.go_with.Goals as goal
 
 pub go_on-requires : goal.go_on-requires
 go_on-requires g c =
