@@ -111,7 +111,8 @@ impl Due {
     pub(crate) fn lent(&self, alloc: Global, stop: Count) -> Lent
         ensures { result ≡ lent_with stop self.now.inputs self.now.edges }
     {
-        let Due { inputs, edges } = self.copy(alloc);
+        let inputs = SmallVec::from_slice(alloc, self.inputs.as_slice()).unwrap();
+        let edges = SmallVec::from_slice(alloc, self.edges.as_slice()).unwrap();
         Lent::new(stop, inputs, edges)
     }
 }

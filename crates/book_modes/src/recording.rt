@@ -20,7 +20,7 @@ use crate::keep::Keep;
 use crate::mode::Mode;
 use crate::settled::{count_of, settled_counts};
 use crate::unheard::desk_of;
-use crate::yielding::right_yielded;
+use crate::yielding::{is_at_hand, right_yielded};
 use crew_pages::{Ask, PageRight};
 use edge_log::{Edge, EdgeLog};
 use ft_types::{
@@ -290,6 +290,9 @@ impl Recording {
         ensures rights { (page : ℕ) → page < length self.old.rights → right_at self.new.rights page ≡ kept (keep_as keep) (right_at self.old.rights page) hart
             count }
     {
+        if keep == Keep::All {
+            return;
+        }
         for page in 0..self.rights.len() {
             self.rights[page] = right_kept(self.rights[page], hart, count, keep);
         }
@@ -340,6 +343,21 @@ impl Recording {
         right.against(asked.hart, asked.want).contains(other)
     }
 
+    /// The harts whose right stands in the asker's way, and whose open leases have taken the page.
+    fn takers(&self, leases: &[Option<OpenLease>; HART_ROW], asked: &Asked) -> HartSet
+        requires { asked.now.page < length self.now.rights }
+        ensures { (g : ℕ) → IsMember result g ↔ IsTaker self.now leases.now asked.now g }
+    {
+        let mut harts = HartSet::new();
+        for number in 0..HART_LIMIT {
+            let hart = Hart::new(number);
+            if self.is_taker(leases, asked, hart) {
+                harts = harts.with(hart);
+            }
+        }
+        harts
+    }
+
     /// What the asker is answered, once nobody is in its way: the page's right from then on, and the edges that it owes.
     #[inline(never)]
     fn answer(
@@ -365,22 +383,6 @@ impl Recording {
             Ask::Given(edges) => (right, edges),
             Ask::HeldBy(_) => unreachable!(),
         }
-    }
-
-    /// The page's right from then on.
-    fn right_given(&self, alloc: Global, settled: &Counts, asked: &Asked) -> PageRight
-        requires page { asked.now.page < length self.now.rights }
-        requires hart { asked.now.hart < length settled.now }
-        requires count { asked.now.count < COUNT_LIMIT }
-        requires few { (other : ℕ) → holds (right_at self.now.rights asked.now.page) other ≡ true → other < HART_LIMIT }
-        requires free { IsFree (right_met self.now (count_at settled.now) asked.now) asked.now.hart asked.now.want }
-        ensures { right_of result ≡ given (right_met self.now (count_at settled.now) asked.now) asked.now.hart asked.now.want asked.now.count }
-    {
-        let right = right_yielded(self.rights[asked.page.index()], settled, asked);
-        if right.has(asked.hart, asked.want) {
-            return right;
-        }
-        self.answer(alloc, settled, asked).0
     }
 }
 
@@ -450,14 +452,11 @@ impl Mode for Recording {
     }
 
     fn holders(&self, leases: &[Option<OpenLease>; HART_ROW], asked: &Asked) -> HartSet {
-        let mut harts = HartSet::new();
-        for number in 0..HART_LIMIT {
-            let hart = Hart::new(number);
-            if self.is_taker(leases, asked, hart) {
-                harts = harts.with(hart);
-            }
+        let right = &self.rights[asked.page.index()];
+        if right.against(asked.hart, asked.want).is_empty() {
+            return HartSet::new();
         }
-        harts
+        self.takers(leases, asked)
     }
 
     fn edges_owed(
@@ -466,15 +465,17 @@ impl Mode for Recording {
         settled: &Counts,
         asked: &Asked,
     ) -> SmallVec<Edge, HART_ROW> {
-        let right = right_yielded(self.rights[asked.page.index()], settled, asked);
-        if right.has(asked.hart, asked.want) {
+        if is_at_hand(&self.rights[asked.page.index()], asked) {
             return SmallVec::new(alloc);
         }
         self.answer(alloc, settled, asked).1
     }
 
     fn give(&mut self, alloc: Global, settled: &Counts, asked: &Asked) {
-        let right = self.right_given(alloc, settled, asked);
+        if is_at_hand(&self.rights[asked.page.index()], asked) {
+            return;
+        }
+        let (right, _) = self.answer(alloc, settled, asked);
         self.rights[asked.page.index()] = right;
     }
 

@@ -9,7 +9,7 @@ use std::{hint, thread};
 const LOOKS: u32 = 50;
 
 /// How often it lets others run before it sleeps.
-const YIELDS: u32 = 1000;
+const YIELDS: u32 = 100;
 
 /// The call of one thread.
 #[derive(Drop)]

@@ -4,7 +4,7 @@ ghost use Rattle.std.specs.Prelude.{◌≡◌, ◌<◌, length};
 ghost use Rattle.page_book.specs.Books.{IsOurs};
 
 use crate::habits::Habits;
-use crate::idlers::{Idlers, trace_of};
+use crate::idlers::{Idlers, Settled, trace_of};
 use crate::queue::Queue;
 use ft_types::{Count, HART_LIMIT, HART_ROW, Hart, HartSet, PageNo, Want};
 use lease_rounds::PageMask;
@@ -268,7 +268,8 @@ impl<M: Mode> Desk<M> {
     {
         let mut lease = lease;
         let hart = lease.hart();
-        let pages = self.habits.of(hart).with(self.queue.wishes(hart));
+        let woken = !lease.inputs().is_empty();
+        let pages = self.habits.begin(hart, woken).with(self.queue.wishes(hart));
         let in_the_way = self.queue.in_the_way(hart);
         for number in 0..self.book.machine().pages() {
             let page = PageNo::new(number);
@@ -394,6 +395,7 @@ impl<M: Mode> Desk<M> {
     /// Takes the lease back, with its steps: how many, and up to which count. None where they were not added.
     fn take_back(&mut self, lease: Lease) -> Option<(u64, Count)> {
         let (hart, steps, count) = (lease.hart(), lease.steps(), lease.count());
+        let woken = !lease.inputs().is_empty();
         let before = self.rung_by(hart);
         let pages = self.queue.held(hart);
         let keep = self.keep_of(hart, pages);
@@ -401,8 +403,8 @@ impl<M: Mode> Desk<M> {
         match self.book.settle(lease, keep) {
             Ok(()) => {
                 if self.has_rests {
-                    self.note_idle(hart, steps, pages);
                     let after = self.rung_by(hart);
+                    self.note_idle(hart, steps, pages, woken, before != after);
                     self.note_rung(before, after);
                 }
                 Some((steps, count))
@@ -442,12 +444,19 @@ impl<M: Mode> Desk<M> {
 
     /// A lease of the hart with these pages was settled. The hart only waits from now on, or others do not that wait for what it
     /// may have written.
-    fn note_idle(&mut self, hart: Hart, steps: u64, pages: PageMask) {
+    fn note_idle(&mut self, hart: Hart, steps: u64, pages: PageMask, woken: bool, rang: bool) {
         if hart.number() >= self.book.machine().harts() {
             return;
         }
         let trace = trace_of(self.book.machine().hart(hart).registers());
-        if self.idlers.note(hart, steps, pages, trace) {
+        let settled = Settled {
+            steps,
+            pages,
+            trace,
+            woken,
+            rang,
+        };
+        if self.idlers.note(hart, settled) {
             let others = self.fewest();
             self.idlers.rest(hart, others);
             return;

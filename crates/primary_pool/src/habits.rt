@@ -9,10 +9,15 @@ const LONGEST: u8 = 32;
 /// For so many leases of all harts nobody takes a page at once over which two of them were in each other's way.
 const DISPUTE: u32 = 256;
 
-/// The pages that each hart had in its last lease, which it takes at once with its next one.
+/// The pages that each hart had in its last lease, which it takes at once with its next one. Leases that begin with inputs do other
+/// work than those that go on, so each kind has its own.
 #[derive(Clone, Copy, Debug)]
 pub(crate) struct Habits {
     pages: [PageMask; HART_ROW],
+    /// Those of the last lease that began with inputs.
+    woken_pages: [PageMask; HART_ROW],
+    /// Whether the hart's open lease began with inputs.
+    woken: [bool; HART_ROW],
     /// How many leases ago each hart last began one without pages.
     ages: [u8; HART_ROW],
     /// Over which pages harts were in each other's way, and how many leases have come back since all were forgotten.
@@ -25,15 +30,23 @@ impl Habits {
     pub(crate) fn new() -> Habits {
         Habits {
             pages: [PageMask::none(); HART_ROW],
+            woken_pages: [PageMask::none(); HART_ROW],
+            woken: [false; HART_ROW],
             ages: [0; HART_ROW],
             disputed: PageMask::none(),
             leases: 0,
         }
     }
 
-    /// What the hart takes at once.
-    pub(crate) fn of(&self, hart: Hart) -> PageMask {
-        self.pages[hart.index()].without(self.disputed)
+    /// The hart is lent, with inputs or without. What it takes at once.
+    pub(crate) fn begin(&mut self, hart: Hart, woken: bool) -> PageMask {
+        self.woken[hart.index()] = woken;
+        let pages = if woken {
+            self.woken_pages[hart.index()]
+        } else {
+            self.pages[hart.index()]
+        };
+        pages.without(self.disputed)
     }
 
     /// A hart was refused these pages.
@@ -54,6 +67,10 @@ impl Habits {
             self.disputed = PageMask::none();
         }
         let hart = hart.index();
+        if self.woken[hart] {
+            self.woken_pages[hart] = pages;
+            return;
+        }
         if self.ages[hart] < LONGEST {
             self.ages[hart] += 1;
             self.pages[hart] = pages;

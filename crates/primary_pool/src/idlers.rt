@@ -6,6 +6,12 @@ use lease_rounds::PageMask;
 /// How many steps the others take before a hart that only waits looks again, though nothing that it reads has changed.
 const PATIENCE: u64 = 8 * LEASE_STEPS;
 
+/// After so many rings in a row behind which it only waited a hart is taken to wait behind the next one too.
+const SURE: u8 = 2;
+
+/// A hart that only waits so many leases behind a ring waits for an answer to it.
+const SOON: u8 = 4;
+
 /// What the words come to. Others mostly come to something else.
 pub(crate) fn trace_of(words: &[u32]) -> u64 {
     let mut trace = 0u64;
@@ -15,7 +21,21 @@ pub(crate) fn trace_of(words: &[u32]) -> u64 {
     trace
 }
 
-/// Which harts only wait: those whose registers were behind a full lease what they were before it.
+/// A lease that was settled.
+#[derive(Clone, Copy, Debug)]
+pub(crate) struct Settled {
+    pub(crate) steps: u64,
+    pub(crate) pages: PageMask,
+    /// What the hart's registers come to behind it.
+    pub(crate) trace: u64,
+    /// Whether it began with inputs.
+    pub(crate) woken: bool,
+    /// Whether its last step rang.
+    pub(crate) rang: bool,
+}
+
+/// Which harts only wait: those whose registers were behind a full lease what they were before it, and those that have just rung
+/// and waited behind each of their last rings.
 #[derive(Clone, Copy, Debug)]
 pub(crate) struct Idlers {
     idle: [bool; HART_ROW],
@@ -23,8 +43,13 @@ pub(crate) struct Idlers {
     stirred: [bool; HART_ROW],
     /// What each hart's registers came to when its last lease came back.
     traces: [u64; HART_ROW],
-    /// What that lease had.
+    /// What each hart waits for to be written: what that lease had.
     pages: [PageMask; HART_ROW],
+    /// The same of the last lease that only waited.
+    waiting_pages: [PageMask; HART_ROW],
+    /// Behind how many rings in a row the hart only waited, and how many leases ago it rang.
+    waits: [u8; HART_ROW],
+    rang: [u8; HART_ROW],
     /// How far the others had come then.
     since: [u64; HART_ROW],
 }
@@ -37,6 +62,9 @@ impl Idlers {
             stirred: [false; HART_ROW],
             traces: [0; HART_ROW],
             pages: [PageMask::none(); HART_ROW],
+            waiting_pages: [PageMask::none(); HART_ROW],
+            waits: [0; HART_ROW],
+            rang: [SOON; HART_ROW],
             since: [0; HART_ROW],
         }
     }
@@ -56,14 +84,43 @@ impl Idlers {
         self.is_idle(hart) && hart < HART_ROW && self.pages[hart].is_against(written)
     }
 
-    /// A lease of the hart comes back. It had these pages, and left registers that come to this. Whether the hart only waits.
-    pub(crate) fn note(&mut self, hart: Hart, steps: u64, pages: PageMask, trace: u64) -> bool {
+    /// A lease of the hart comes back. Whether the hart only waits.
+    pub(crate) fn note(&mut self, hart: Hart, settled: Settled) -> bool {
         let hart = hart.index();
-        let idle = steps == LEASE_STEPS && self.traces[hart] == trace && !self.stirred[hart];
+        let still = settled.steps == LEASE_STEPS && self.traces[hart] == settled.trace;
+        let sure = settled.rang && self.waits[hart] >= SURE;
+        let idle = (still || sure) && !self.stirred[hart];
+        self.learn(hart, still && idle, settled);
+        self.pages[hart] = if sure {
+            self.waiting_pages[hart]
+        } else {
+            settled.pages
+        };
+        if idle {
+            self.waiting_pages[hart] = self.pages[hart];
+            self.rang[hart] = SOON;
+        }
         self.idle[hart] = idle;
-        self.traces[hart] = trace;
-        self.pages[hart] = pages;
+        self.traces[hart] = settled.trace;
         idle
+    }
+
+    /// Whether the hart waits behind its rings.
+    fn learn(&mut self, hart: usize, waits: bool, settled: Settled) {
+        if hart >= HART_ROW {
+            return;
+        }
+        if settled.rang {
+            if self.rang[hart] < SOON && !settled.woken {
+                self.waits[hart] = 0;
+            }
+            self.rang[hart] = 0;
+        } else if self.rang[hart] < SOON {
+            self.rang[hart] += 1;
+            if waits {
+                self.waits[hart] = self.waits[hart].saturating_add(1);
+            }
+        }
     }
 
     /// The hart only waits from now on, where the others are so far.
@@ -82,6 +139,9 @@ impl Idlers {
     /// The hart is lent.
     pub(crate) fn go_out(&mut self, hart: usize) {
         if hart < HART_ROW {
+            if self.idle[hart] {
+                self.waits[hart] = 0;
+            }
             self.idle[hart] = false;
             self.stirred[hart] = false;
         }

@@ -1,16 +1,51 @@
-use Rattle.std.proofs.Common.{◌<◌, ◌∙◌, refl, length, length-set}
+use Rattle.std.proofs.Common.{arith, ◌<◌, ◌∙◌, ap, refl, rules, sym, length, length-set}
+use Rattle.crew_pages.specs.Rights.{right_of, given}
 use Rattle.ft_types.specs.Counts.{count_at}
-use Rattle.book_modes.proofs.ledger.Lending.{few_hold, nobody_there, right_stored_there, giving_kept}
-use Rattle.book_modes.proofs.ledger.Yielding.{right_set, right_stays}
+use Rattle.book_modes.specs.Recordings.{RecordingView}
+use Rattle.book_modes.proofs.ledger.Holding.{had_given}
+use Rattle.book_modes.proofs.ledger.Lending.{asker_there, few_hold, nobody_there, right_stored_there, giving_kept}
+use Rattle.book_modes.proofs.ledger.Yielding.{met_read, right_read, right_set, right_stays}
 use Rattle.book_modes.proofs.recording.RecordingMode.give.Goals as goal
 
-pub right_given-right-requires-clause-few : goal.right_given-right-requires-clause-few
-right_given-right-requires-clause-few c =
+pub returns-then-is_at_hand-clause-given : goal.returns-then-is_at_hand-clause-given
+returns-then-is_at_hand-clause-given c =
+    let i = c.self.inside in
+    let g = c.requires in
+    let asked = c.args.asked.now in
+    let settled = count_at c.args.settled.now in
+    let row = right_stored_there c.args.self.now g.machine g.leases asked g.asks in
+    let few = few_hold c.args.self.now g.machine g.leases asked g.asks in
+    let here = c.index-2.result.now in
+    let met =
+    met_read c.args.self.now settled asked _ c.index.result here here c.self.view_is c.index.ensures.value row c.index-2.ensures
+    (sym (c.if-is_at_hand.ensures.stays refl settled)) few in
+    record {
+      rest = refl;
+      many = refl;
+      page = sym (right_read c.args.self.now.rights i.rights.items asked.page c.index.result here (ap (λ (v : RecordingView). v.rights) c.self.view_is)
+          c.index.ensures.value row c.index-2.ensures) ∙ (sym (had_given (right_of here) asked.hart asked.want asked.count (c.if-is_at_hand.ensures.has refl)) ∙
+          ap (λ r. given r asked.hart asked.want asked.count) met);
+      others = λ page ne. refl;
+    }
+
+pub returns-then-is_at_hand-clause-kept : goal.returns-then-is_at_hand-clause-kept
+returns-then-is_at_hand-clause-kept c found owed g =
+    giving_kept c.args.self.now g.machine g.leases c.args.asked.now g.asks (count_at c.args.settled.now) g.counts g.free found owed _
+    (returns-then-is_at_hand-clause-given c)
+
+pub answer-right-requires-clause-hart : goal.answer-right-requires-clause-hart
+answer-right-requires-clause-hart c =
+    let g = c.requires in
+    let there = asker_there c.args.self.now g.machine g.leases c.args.asked.now g.asks in
+    omega (arith, there, g.harts)
+
+pub answer-right-requires-clause-few : goal.answer-right-requires-clause-few
+answer-right-requires-clause-few c =
     let g = c.requires in
     few_hold c.args.self.now g.machine g.leases c.args.asked.now g.asks
 
-pub right_given-right-requires-clause-free : goal.right_given-right-requires-clause-free
-right_given-right-requires-clause-free c =
+pub answer-right-requires-clause-free : goal.answer-right-requires-clause-free
+answer-right-requires-clause-free c =
     let g = c.requires in
     nobody_there c.args.self.now g.machine g.leases c.args.asked.now g.asks (count_at c.args.settled.now)
 
@@ -24,10 +59,10 @@ returns-clause-given c =
     rw (← c.self.view_is)
     (record {
       rest = refl;
-      many = length-set i.rights.items c.index.result c.right_given-right.result;
-      page = rw (c.index.ensures.value) (right_set i.rights.items asked.page c.right_given-right.result row ∙
-          rw (← c.self.view_is) at c.right_given-right.ensures);
-      others = rw (c.index.ensures.value) (λ page ne. right_stays i.rights.items asked.page c.right_given-right.result page ne);
+      many = length-set i.rights.items c.index-3.result c.answer-right.result.0;
+      page = rw (c.index-3.ensures.value) (right_set i.rights.items asked.page c.answer-right.result.0 row ∙
+          rw (← c.self.view_is) at c.answer-right.ensures.right);
+      others = rw (c.index-3.ensures.value) (λ page ne. right_stays i.rights.items asked.page c.answer-right.result.0 page ne);
     })
 
 pub returns-clause-kept : goal.returns-clause-kept

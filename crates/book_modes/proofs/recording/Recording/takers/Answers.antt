@@ -1,8 +1,8 @@
 use Rattle.std.proofs.Common.{rules}
 use Rattle.book_modes.specs.Recordings.{IsTaker}
 use Rattle.book_modes.proofs.ledger.Yielding.{one_more, none_more}
-use Rattle.book_modes.proofs.recording.RecordingMode.holders.Goals as goal
-use Rattle.book_modes.proofs.recording.RecordingMode.holders.Goals.{then-is_taker, else-is_taker}
+use Rattle.book_modes.proofs.recording.Recording.takers.Goals as goal
+use Rattle.book_modes.proofs.recording.Recording.takers.Goals.{then-is_taker, else-is_taker}
 
 pub loop-number-preserved : goal.loop-number-preserved
 loop-number-preserved c =
