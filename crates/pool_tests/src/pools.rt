@@ -1,7 +1,7 @@
 //! A book that goes on on threads, or in turn.
 
 use fixtures::{image_of, recorder};
-use ft_types::{Count, Counts, PageNo};
+use ft_types::{Count, Counts, HART_ROW, PageNo};
 use guest_image::Machine;
 use page_book::{Book, Recording};
 use primary_pool::{Turnstile, run, run_plain};
@@ -15,7 +15,7 @@ pub fn has_added(machine: &Machine, sum: u32) -> bool {
     machine.pages() == 2 && machine.page(PageNo::new(1)).read_word(0) == sum
 }
 
-/// A book of four harts at most that goes on to this budget of each.
+/// A book that goes on to this budget of each hart.
 pub fn on_threads<R: Threads + Wait + Sync, T: Turnstile + Sync>(
     rt: &R,
     alloc: Global,
@@ -24,7 +24,7 @@ pub fn on_threads<R: Threads + Wait + Sync, T: Turnstile + Sync>(
     turnstile: &T,
 ) -> Result<Book<Recording>, Fail> {
     let image = image_of(alloc, file)?;
-    let budgets = [budget; 4];
+    let budgets = [budget; HART_ROW];
     let mut book = recorder(alloc, &image, &budgets)?;
     let budgets = budgets.get(..usize::from(image.harts())).ok_or("budget")?;
     let budget = Counts::from_slice(budgets).ok_or("budget")?;
@@ -41,7 +41,7 @@ pub fn on_threads<R: Threads + Wait + Sync, T: Turnstile + Sync>(
 
 /// The same, whose harts go on in turn.
 pub fn in_turn(alloc: Global, file: &[u8], budget: Count) -> Result<Book<Recording>, Fail> {
-    let mut book = recorder(alloc, &image_of(alloc, file)?, &[budget; 4])?;
+    let mut book = recorder(alloc, &image_of(alloc, file)?, &[budget; HART_ROW])?;
     book.reclaim();
     Ok(run_plain(alloc, book).map_err(|_| "memory")?)
 }
