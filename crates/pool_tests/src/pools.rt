@@ -15,14 +15,14 @@ pub fn has_added(machine: &Machine, sum: u32) -> bool {
     machine.pages() == 2 && machine.page(PageNo::new(1)).read_word(0) == sum
 }
 
-/// A book that goes on to this budget of each hart.
-pub fn on_threads<R: Threads + Wait + Sync, T: Turnstile + Sync>(
+/// A book that goes on to this budget of each hart, where memory is not refused.
+fn ran<R: Threads + Wait + Sync, T: Turnstile + Sync>(
     rt: &R,
     alloc: Global,
     file: &[u8],
     budget: Count,
     turnstile: &T,
-) -> Result<Book<Recording>, Fail> {
+) -> Result<Option<Book<Recording>>, Fail> {
     let image = image_of(alloc, file)?;
     let budgets = [budget; HART_ROW];
     let mut book = recorder(alloc, &image, &budgets)?;
@@ -31,15 +31,29 @@ pub fn on_threads<R: Threads + Wait + Sync, T: Turnstile + Sync>(
     book.reclaim();
     let counts = book.counts();
     if counts.harts() != budget.harts() {
-        return Ok(book);
+        return Err("harts".into());
     }
     if !counts.within(budget) {
-        return Ok(book);
+        return Err("budget".into());
     }
-    Ok(run(rt, alloc, book, budget, turnstile).map_err(|_| "memory")?)
+    Ok(run(rt, alloc, book, budget, turnstile).ok())
 }
 
-/// The same, whose harts go on in turn.
+/// The same, begun anew where memory was refused once.
+pub fn on_threads<R: Threads + Wait + Sync, T: Turnstile + Sync>(
+    rt: &R,
+    alloc: Global,
+    file: &[u8],
+    budget: Count,
+    turnstile: &T,
+) -> Result<Book<Recording>, Fail> {
+    if let Some(book) = ran(rt, alloc, file, budget, turnstile)? {
+        return Ok(book);
+    }
+    Ok(ran(rt, alloc, file, budget, turnstile)?.ok_or("memory")?)
+}
+
+/// A book whose harts go on in turn.
 pub fn in_turn(alloc: Global, file: &[u8], budget: Count) -> Result<Book<Recording>, Fail> {
     let mut book = recorder(alloc, &image_of(alloc, file)?, &[budget; HART_ROW])?;
     book.reclaim();
