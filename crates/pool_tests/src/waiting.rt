@@ -3,7 +3,7 @@
 use crate::logs;
 use crate::pools::{in_turn, on_threads};
 use fixtures::image_of;
-use ft_types::{Count, HART_LIMIT, Hart};
+use ft_types::{Count, Hart};
 use guest_image::Machine;
 use page_book::{Book, Recording};
 use primary_pool::Free;
@@ -116,7 +116,10 @@ fn all_end_alike(machine: &Machine, other: &Machine, lasts: &[u32]) -> bool {
     if usize::from(machine.harts()) != lasts.len() {
         return false;
     }
-    for (number, last) in (0..HART_LIMIT).zip(lasts) {
+    for number in 0..machine.harts() {
+        let Some(last) = lasts.get(usize::from(number)) else {
+            return false;
+        };
         if !ends_alike(machine, other, Hart::new(number), *last) {
             return false;
         }
