@@ -19,3 +19,5 @@ mod pools;
 mod refused;
 #[cfg(test)]
 mod replays;
+#[cfg(test)]
+mod waiting;

@@ -1,7 +1,7 @@
 //! A book that goes on on threads, or in turn.
 
 use fixtures::{image_of, recorder};
-use ft_types::{Count, Counts, PageNo};
+use ft_types::{Count, Counts, HART_ROW, PageNo};
 use guest_image::Machine;
 use page_book::{Book, Recording};
 use primary_pool::{Turnstile, run, run_plain};
@@ -15,7 +15,31 @@ pub fn has_added(machine: &Machine, sum: u32) -> bool {
     machine.pages() == 2 && machine.page(PageNo::new(1)).read_word(0) == sum
 }
 
-/// A book of four harts at most that goes on to this budget of each.
+/// A book that goes on to this budget of each hart, where memory is not refused.
+fn ran<R: Threads + Wait + Sync, T: Turnstile + Sync>(
+    rt: &R,
+    alloc: Global,
+    file: &[u8],
+    budget: Count,
+    turnstile: &T,
+) -> Result<Option<Book<Recording>>, Fail> {
+    let image = image_of(alloc, file)?;
+    let budgets = [budget; HART_ROW];
+    let mut book = recorder(alloc, &image, &budgets)?;
+    let budgets = budgets.get(..usize::from(image.harts())).ok_or("budget")?;
+    let budget = Counts::from_slice(budgets).ok_or("budget")?;
+    book.reclaim();
+    let counts = book.counts();
+    if counts.harts() != budget.harts() {
+        return Err("harts".into());
+    }
+    if !counts.within(budget) {
+        return Err("budget".into());
+    }
+    Ok(run(rt, alloc, book, budget, turnstile).ok())
+}
+
+/// The same, begun anew where memory was refused once.
 pub fn on_threads<R: Threads + Wait + Sync, T: Turnstile + Sync>(
     rt: &R,
     alloc: Global,
@@ -23,25 +47,15 @@ pub fn on_threads<R: Threads + Wait + Sync, T: Turnstile + Sync>(
     budget: Count,
     turnstile: &T,
 ) -> Result<Book<Recording>, Fail> {
-    let image = image_of(alloc, file)?;
-    let budgets = [budget; 4];
-    let mut book = recorder(alloc, &image, &budgets)?;
-    let budgets = budgets.get(..usize::from(image.harts())).ok_or("budget")?;
-    let budget = Counts::from_slice(budgets).ok_or("budget")?;
-    book.reclaim();
-    let counts = book.counts();
-    if counts.harts() != budget.harts() {
+    if let Some(book) = ran(rt, alloc, file, budget, turnstile)? {
         return Ok(book);
     }
-    if !counts.within(budget) {
-        return Ok(book);
-    }
-    Ok(run(rt, alloc, book, budget, turnstile).map_err(|_| "memory")?)
+    Ok(ran(rt, alloc, file, budget, turnstile)?.ok_or("memory")?)
 }
 
-/// The same, whose harts go on in turn.
+/// A book whose harts go on in turn.
 pub fn in_turn(alloc: Global, file: &[u8], budget: Count) -> Result<Book<Recording>, Fail> {
-    let mut book = recorder(alloc, &image_of(alloc, file)?, &[budget; 4])?;
+    let mut book = recorder(alloc, &image_of(alloc, file)?, &[budget; HART_ROW])?;
     book.reclaim();
     Ok(run_plain(alloc, book).map_err(|_| "memory")?)
 }

@@ -1,4 +1,4 @@
-//! A replay on threads to which memory is refused. Run with each allocation refused in turn.
+//! Primaries and replays on threads to which memory is refused. Run with each allocation refused in turn.
 
 use crate::logs::{log_plan, on_threads};
 use crate::pools;
@@ -43,9 +43,25 @@ fn ran_and_replayed<R: Threads + Wait + Sync>(rt: &R, alloc: Global) -> Result<b
     is_replayed(rt, alloc, &image, &book)
 }
 
+/// The same of harts on threads. One whose thread is refused memory is left to who comes after the threads.
+fn ran_on_threads_and_replayed<R: Threads + Wait + Sync>(
+    rt: &R,
+    alloc: Global,
+) -> Result<bool, Fail> {
+    let image = image_of(alloc, ADDS_FEW)?;
+    let book = pools::on_threads(rt, alloc, ADDS_FEW, 100, &Free)?;
+    is_replayed(rt, alloc, &image, &book)
+}
+
 /// Who is refused memory once comes to the machine that ran when it asks again.
 #[test]
 fn refused_memory(rt: HostRuntime) -> Result<(), Fail> {
     assert!(rt; ran_and_replayed(&rt, rt.alloc())?);
+    Ok(())
+}
+
+#[test]
+fn refused_memory_on_threads(rt: HostRuntime) -> Result<(), Fail> {
+    assert!(rt; ran_on_threads_and_replayed(&rt, rt.alloc())?);
     Ok(())
 }
