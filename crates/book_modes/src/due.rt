@@ -1,6 +1,6 @@
 //! What a hart's next step is given.
 
-ghost use Rattle.std.specs.Prelude.{◌≡◌, ◌≤◌, ◌<◌, ℕ, length};
+ghost use Rattle.std.specs.Prelude.{◌≡◌, ◌≤◌, ◌<◌, ℕ, length, true};
 ghost use Rattle.book_modes.specs.Words.{HasRoomFor, lent_with, small_vec_len};
 ghost use Rattle.book_modes.specs.Dues.{DueView, nothing_due, bell_edges, is_silent};
 
@@ -105,6 +105,13 @@ impl Due {
         ensures { result ≡ is_silent self.now.inputs }
     {
         self.inputs.is_empty()
+    }
+
+    /// Whether it is nothing: neither inputs nor edges.
+    pub(crate) fn is_nothing(&self) -> bool
+        ensures { result ≡ true → self.now ≡ nothing_due }
+    {
+        self.inputs.is_empty() && self.edges.is_empty()
     }
 
     /// A hart that is given this is lent with it, as far as this count.

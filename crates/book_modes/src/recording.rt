@@ -1,7 +1,7 @@
 //! Books that record: who has which right to each page, and the edges found.
 
 ghost use Rattle.std.specs.Prelude.{◌≡◌, ◌<◌, ◌≤◌, ◌^◌, ◌↔◌, ◌+◌, ℕ, All, AllPairs, Contains, List, [], map, length, slice_index, slice_get, Some, IsTrue};
-ghost use Rattle.std.specs.Prelude.{IfOk, OnOk, OnErr, true, false, replicate};
+ghost use Rattle.std.specs.Prelude.{IfOk, OnOk, OnErr, true, false, replicate, None};
 ghost use Rattle.book_modes.specs.Words.{count_at, counts_of, edge_as, but_bells, give_up, given, greater, has_taken, holds, inputs_of, is_bell, IsFree, IsInputOf};
 ghost use Rattle.book_modes.specs.Words.{IsMember, IsOwed, kept, owns, Queues, unused, whole};
 ghost use Rattle.crew_pages.specs.Rights.{right_of};
@@ -9,6 +9,7 @@ ghost use Rattle.edge_log.specs.declared.Edge.{Edge as edge_found};
 ghost use Rattle.input_log.specs.declared.Input.{Input as input_of_specs};
 ghost use Rattle.input_log.specs.declared.WaitingBell.{WaitingBell as bell_of_specs};
 ghost use Rattle.book_modes.specs.Modes.{IsSettling};
+ghost use Rattle.input_log.specs.Waiting.{bells_of, next_going, others_of};
 ghost use Rattle.book_modes.specs.Dues.{nothing_due, due_at, is_silent, stop_before};
 ghost use Rattle.rv32_hart.specs.Hart.{Hart as HartRecord};
 ghost use Rattle.book_modes.specs.Recordings.{RecordingView, IsUnused, IsRecorded, heard_by, IsFilled, GoesOut, IsOffered, LogsInputs, due_after, AreLogged};
@@ -204,12 +205,24 @@ impl Recording {
             && self.offered(hart).same_but_bells(before.offered(hart))
     }
 
+    /// Whether nothing is due to the hart, and nothing waits for it.
+    fn is_quiet(&self, hart: Hart) -> bool
+        ensures due { result ≡ true → due_at self.now.due hart ≡ nothing_due }
+        ensures next { result ≡ true → next_going (bells_of self.now.desk hart) (others_of self.now.desk hart) ≡ None }
+        ensures row { hart < length self.now.due }
+    {
+        self.due[hart.index()].is_nothing() && self.desk.next(hart).is_none()
+    }
+
     /// Sees to it that the hart, which is at this count, has due what its next step is given: what a lease that ended without
     /// its first step left, or else what waits at the desk. Takes no memory.
     fn fill_due(&mut self, alloc: Global, hart: Hart, count: Count)
         ensures filled { IsFilled (is_silent (due_at self.old.due hart).inputs) self.old hart count self.new }
         ensures rest { self.new ≡ record self.old { due = self.new.due; desk = self.new.desk } }
     {
+        if self.is_quiet(hart) {
+            return;
+        }
         if self.due[hart.index()].is_silent() {
             let bells = self.desk.bells_next(hart);
             let inputs = self.desk.take(hart, count);
