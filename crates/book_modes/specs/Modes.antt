@@ -1,5 +1,5 @@
 -- What a book asks of its mode.
-use Rattle.std.specs.Prelude.{◌≡◌, ◌<◌, ◌^◌, ℕ, List, slice_set, length, Option, Some, None}
+use Rattle.std.specs.Prelude.{◌≡◌, ◌<◌, ℕ, List, slice_set, length, Option, Some, None}
 use Rattle.edge_log.specs.declared.Edge.{Edge}
 use Rattle.guest_image.specs.Machine.{MachineState}
 use Rattle.hart_lease.specs.declared.asked.Asked.{Asked}

@@ -1,12 +1,12 @@
 -- What is due to harts, set anew for one.
-use Rattle.std.proofs.Common.{◌≡◌, ◌≢◌, ◌∙◌, ap, refl, inl, inr, ℕ, ◌<◌, List, [], ◌∷◌, Option, Some, None, length, slice_set, sym, subst}
+use Rattle.std.proofs.Common.{◌≡◌, ◌≢◌, ◌∙◌, ap, refl, inl, inr, ℕ, ◌<◌, List, [], ◌∷◌, None, length, slice_set, sym, subst}
 use Rattle.std.proofs.lemmas.List.{get_or-set_same, get_or-set_other, set-get_or}
 use Rattle.interleaving.proofs.Put.{same_or_not}
 use Rattle.input_log.specs.declared.WaitingBell.{WaitingBell}
 use Rattle.input_log.specs.declared.WaitingInput.{WaitingInput}
-use Rattle.input_log.specs.Waiting.{Queues, bells_of, others_of, next_going}
+use Rattle.input_log.specs.Waiting.{bells_of, others_of, next_going}
 use Rattle.book_modes.specs.Dues.{DueView, nothing_due, due_at, due_from, is_silent}
-use Rattle.book_modes.specs.Recordings.{RecordingView, TakesFromDesk, IsFilled}
+use Rattle.book_modes.specs.Recordings.{RecordingView, IsFilled}
 
 -- what is due to one hart is set anew
 pub due_set : (due : List DueView) (hart : ℕ) (new : DueView) (P : ℕ → DueView → Type 0) → hart < length due → P hart new →

@@ -1,9 +1,8 @@
-use Rattle.std.proofs.Common.{◌≡◌, ◌∙◌, ℕ, zero, suc, true, false, Bool, refl, sym}
+use Rattle.std.proofs.Common.{◌≡◌, ℕ, zero, suc, true, false, Bool, refl, sym}
 use Rattle.ft_types.specs.Counts.{count_at}
-use Rattle.ft_types.specs.Sets.{IsMember}
 use Rattle.hart_lease.specs.declared.asked.Asked.{Asked}
 use Rattle.crew_pages.specs.Rights.{Right, right_of, stands}
-use Rattle.book_modes.specs.Yielding.{yields, yielded}
+use Rattle.book_modes.specs.Yielding.{yielded}
 use Rattle.book_modes.proofs.yielding.right_yielded.Goals as goal
 
 untrue : (b : Bool) → (b ≡ true → ⊥) → b ≡ false

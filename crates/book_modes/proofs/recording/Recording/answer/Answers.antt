@@ -1,13 +1,7 @@
-use Rattle.std.proofs.Common.{rules, ◌≡◌, ◌≢◌, ◌⊎◌, inl, inr, ◌∙◌, ◌↔◌, ℕ, List, [], Contains, ap, sym, subst, refl, true, true≢false, arith, slice_index}
+use Rattle.std.proofs.Common.{rules, ◌≡◌, ◌∙◌, ◌↔◌, ℕ, Contains, sym, subst, slice_index}
 use Rattle.ft_types.specs.Counts.{count_at}
 use Rattle.edge_log.specs.EdgeLog.{edge_as}
-use Rattle.edge_log.specs.declared.Edge.{Edge as edge_found}
-use Rattle.ft_types.specs.declared.names.Want.{Want}
-use Rattle.ft_types.specs.declared.names.Want.TheVariants.{Read, Write}
-use Rattle.interleaving.specs.Lists.{put}
-use Rattle.interleaving.proofs.Put.{same_or_not, put_same, put_other}
-use Rattle.crew_pages.specs.Rights.{Right, Shared, Exclusive, right_of, given, has_it, IsFree, IsOwed}
-use Rattle.book_modes.specs.Recordings.{right_met}
+use Rattle.crew_pages.specs.Rights.{Right, given, IsFree, IsOwed}
 use Rattle.book_modes.proofs.ledger.Yielding.{met_read}
 use Rattle.book_modes.proofs.recording.Recording.answer.Goals as goal
 

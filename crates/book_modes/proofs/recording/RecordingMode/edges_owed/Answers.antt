@@ -1,4 +1,4 @@
-use Rattle.std.proofs.Common.{arith, ◌≡◌, ◌∙◌, ap, refl, sym, true, rules}
+use Rattle.std.proofs.Common.{arith, ◌∙◌, ap, refl, sym, rules}
 use Rattle.crew_pages.specs.Rights.{has_it}
 use Rattle.book_modes.specs.Recordings.{right_met}
 use Rattle.book_modes.proofs.ledger.Holding.{owes_none}

@@ -1,4 +1,4 @@
-use Rattle.std.proofs.Common.{arith, ◌<◌, ◌∙◌, ap, refl, rules, sym, length, length-set}
+use Rattle.std.proofs.Common.{arith, ◌<◌, ◌∙◌, ap, refl, sym, length, length-set}
 use Rattle.crew_pages.specs.Rights.{right_of, given}
 use Rattle.ft_types.specs.Counts.{count_at}
 use Rattle.book_modes.specs.Recordings.{RecordingView}
