@@ -7,3 +7,4 @@ pub mod LackedRights
 pub mod Rung
 pub mod EarlierOutputs
 pub mod Running
+pub mod Longer

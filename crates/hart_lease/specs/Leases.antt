@@ -30,9 +30,10 @@ pub record LeaseView : Type 0 where
   pub taken : List (Option Taken)  -- since when it has each page
   pub edges : List Edge  -- the edges that wait in it until it is settled
   pub steps : ℕ
+  pub most : ℕ  -- how many steps it takes at the most
   pub stop : ℕ  -- the count that the lease does not go past
 
--- a lease of a hart in this state, without steps and pages
+-- a lease of a hart in this state, without steps and pages, for LEASE_STEPS steps
 abbrev pub fresh : ℕ → Hart → ℕ → LentView → LeaseView
 fresh hart state pages lent =
     record {
@@ -45,6 +46,7 @@ fresh hart state pages lent =
       taken = replicate PAGE_ROW None;
       edges = lent.edges;
       steps = 0;
+      most = LEASE_STEPS;
       stop = lent.stop;
     }
 
@@ -65,9 +67,9 @@ whole_in m l = whole (outputs_of (slice_get m.harts l.hart)) l
 abbrev pub base_at : LeaseView → ℕ → Option (List ℕ)
 base_at l page = base_of (slot_at l.slots page) (slice_index_or l.bases page None)
 
--- after LEASE_STEPS steps, at its stop, and after a step that halts or rings
+-- after the most steps that it takes, at its stop, and after a step that halts or rings
 abbrev pub IsFull : LeaseView → Type 0
-IsFull l = (LEASE_STEPS ≤ l.steps) ⊎ ((l.stop ≤ l.present.count) ⊎ ((l.present.halted ≡ true) ⊎ (l.present.rung ≢ l.base.rung)))
+IsFull l = (l.most ≤ l.steps) ⊎ ((l.stop ≤ l.present.count) ⊎ ((l.present.halted ≡ true) ⊎ (l.present.rung ≢ l.base.rung)))
 
 -- the bell that waits for whomever the lease rang, which it did at its last step
 abbrev pub rung_bell : LeaseView → WaitingBell

@@ -49,12 +49,14 @@ pub struct Lease {
     taken: TakenPages,
     /// The edges found, which wait until it is settled.
     edges: SmallVec<Edge, HART_ROW>,
+    /// How many steps it takes at the most.
+    most: u64,
     stop: Count,
-    /// The count at which it is full, if not before: its stop, or that after `LEASE_STEPS` steps.
+    /// The count at which it is full, if not before: its stop, or that after the most steps that it takes.
     last: Count,
     ghost last_stops: { last ≤ stop },
-    ghost last_ends: { last ≤ base.count + LEASE_STEPS },
-    ghost last_is_one: { last < stop → base.count + LEASE_STEPS ≤ last },
+    ghost last_ends: { last ≤ base.count + most },
+    ghost last_is_one: { last < stop → base.count + most ≤ last },
     ghost based: { HaveBases taken bases.items },
 }
 
@@ -75,6 +77,7 @@ impl Model for Lease {
       taken = l.taken;
       edges = l.edges.items;
       steps = l.present.count - l.base.count;
+      most = l.most;
       stop = l.stop;
     } };
 
@@ -88,6 +91,7 @@ impl Model for Lease {
       taken = l.taken;
       edges = l.edges.items;
       steps = l.present.count - l.base.count;
+      most = l.most;
       stop = l.stop;
     }) };
 }
@@ -112,12 +116,13 @@ impl Lease {
             pages,
             taken,
             edges: SmallVec::new(alloc),
+            most: LEASE_STEPS,
             stop: 0,
             last: 0,
         })
     }
 
-    /// Sends the lease out with this.
+    /// Sends the lease out with this, for `LEASE_STEPS` steps.
     pub fn go_out(&mut self, lent: Lent)
         requires idle { self.old ≡ fresh self.old.hart self.old.base (length self.old.slots) idle }
         requires stop { lent.stop < COUNT_LIMIT }
@@ -130,6 +135,19 @@ impl Lease {
         self.last = if full < stop { full } else { stop };
         self.inputs = inputs;
         self.edges = edges;
+    }
+
+    /// Lets it take so many steps, its stop permitting.
+    pub fn allow(&mut self, steps: u64)
+        requires few { steps ≤ COUNT_LIMIT }
+        ensures value { self.new ≡ record self.old { most = steps } }
+        // Whoever lent the lease still did.
+        ensures lent { (machine : MachineState) (taken : List (Option Taken)) (earlier : List (ℕ × ℕ)) → IsLent machine taken (whole earlier self.old) →
+            IsLent machine taken (whole earlier self.new) }
+    {
+        let full = self.base.count() + steps;
+        self.most = steps;
+        self.last = if full < self.stop { full } else { self.stop };
     }
 
     /// Whose steps it takes. They are what every lease's are.
@@ -222,7 +240,7 @@ impl Lease {
         self.pages.right(page)
     }
 
-    /// Whether it takes no further step: it has `LEASE_STEPS`, its last one halted or rang, or it is at its stop.
+    /// Whether it takes no further step: it has the most that it takes, its last one halted or rang, or it is at its stop.
     #[inline(always)]
     pub fn full(&self) -> bool
         ensures { IsTrue result ↔ IsFull self.now }
@@ -477,6 +495,7 @@ impl Lease {
             pages,
             taken,
             edges,
+            most: _,
             stop: _,
             last: _,
         } = self;

@@ -89,6 +89,21 @@ module _ {M : Type 0} (b : BookView M) (l : LeaseView) (alone : IsAlone b l) (pa
       let here = page_at b.machine.pages page need_within in
       ap (λ (x : LeaseView). x.inputs) (given here.0 here.1) ∙ inputs_beside (want_of (slot_at l.slots page)) want l page here.0
 
+most_beside : (o : Option Want) (want : Want) (l : LeaseView) (page : ℕ) (here : List ℕ) → (with_page_beside o want l page here).most ≡ l.most
+most_beside None Read l page here = refl
+most_beside None Write l page here = refl
+most_beside (Some Read) Read l page here = refl
+most_beside (Some Write) Read l page here = refl
+most_beside (Some Read) Write l page here = refl
+most_beside (Some Write) Write l page here = refl
+
+-- and so does how many steps it takes
+pub most_stays : {M : Type 0} (b : BookView M) (l : LeaseView) → IsAlone b l → (page : ℕ) → page < length l.slots → (k : LeaseView) (want : Want) →
+    ((here : List ℕ) → slice_get b.machine.pages page ≡ Some here → k ≡ record (with_page l page want here) { edges = k.edges }) → k.most ≡ l.most
+most_stays b l alone page on_page k want given =
+    let here = page_at b.machine.pages page (need_within b l alone page on_page) in
+    ap (λ (x : LeaseView). x.most) (given here.0 here.1) ∙ most_beside (want_of (slot_at l.slots page)) want l page here.0
+
 -- the lease stays the book's only one
 pub still_alone : {M : Type 0} (b c : BookView M) (l k : LeaseView) (lent : Option OpenView) → IsAlone b l → k.hart ≡ l.hart → IsOurs c k →
     c.leases ≡ slice_set b.leases l.hart lent → IsAlone c k
@@ -149,6 +164,20 @@ alone_kept c k n still alone t =
       rows = alone.rows;
     }
 
+-- and so does how many it may take
+pub alone_for : {M : Type 0} (c : BookView M) (k n : LeaseView) (most : ℕ) → n ≡ record k { most = most } →
+    ((machine : MachineState) (taken : List (Option Taken)) (earlier : List (ℕ × ℕ)) → IsLent machine taken (whole earlier k) → IsLent machine taken
+    (whole earlier n)) →
+    IsAlone c k → IsAlone c n
+alone_for c k n most is still alone = alone_kept c k n still alone (record {
+  hart = ap (λ (x : LeaseView). x.hart) is;
+  stop = ap (λ (x : LeaseView). x.stop) is;
+  inputs = ap (λ (x : LeaseView). x.inputs) is;
+  edges = ap (λ (x : LeaseView). x.edges) is;
+  rights = ap (λ (x : LeaseView). map want_of x.slots) is;
+  onward = omega (arith, ap (λ (x : LeaseView). x.present.count) is);
+})
+
 -- and so does what leaves lease and book as they are
 pub alone_as : {M : Type 0} (c d : BookView M) (k n : LeaseView) → IsAlone c k → d ≡ c → n ≡ k → IsAlone d n
 alone_as c d k n alone book lease =
@@ -181,6 +210,7 @@ pub record HasFilled {M : Type 0} (b : BookView M) (l : LeaseView) (c : BookView
   pub hart : k.hart ≡ l.hart
   pub base : k.base ≡ l.base
   pub inputs : k.inputs ≡ l.inputs
+  pub most : k.most ≡ l.most
   pub stop : k.stop ≡ l.stop
   pub gone : HasGone l k
 
@@ -224,7 +254,7 @@ module _ {M : Type 0} (g : Ghosts M) (b : BookView M) (l : LeaseView) where
   fills_on c k first d n (Takes {c = now} {k = held} e m more room given) = Takes e m (fills_on c k first now held more) room given
 
   pub has_filled : StepCounts → (c : BookView M) (k : LeaseView) → Fills g b l c k → HasFilled b l c k
-  has_filled counts c k NoneYet = record { book = refl; hart = refl; base = refl; inputs = refl; stop = refl; gone = inl (refl, refl) }
+  has_filled counts c k NoneYet = record { book = refl; hart = refl; base = refl; inputs = refl; most = refl; stop = refl; gone = inl (refl, refl) }
   has_filled counts c k (Steps {c = now} {k = before} n fills room t) =
       let f = has_filled counts now before fills in
       record {
@@ -232,6 +262,7 @@ module _ {M : Type 0} (g : Ghosts M) (b : BookView M) (l : LeaseView) where
         hart = ap (λ (x : LeaseView). x.hart) t.0 ∙ f.hart;
         base = ap (λ (x : LeaseView). x.base) t.0 ∙ f.base;
         inputs = ap (λ (x : LeaseView). x.inputs) t.0 ∙ f.inputs;
+        most = ap (λ (x : LeaseView). x.most) t.0 ∙ f.most;
         stop = ap (λ (x : LeaseView). x.stop) t.0 ∙ f.stop;
         gone = counts_on l before k f.gone (ap (λ (x : LeaseView). x.stop) t.0) (counts before k t) (below_stop before room);
       }
@@ -242,6 +273,7 @@ module _ {M : Type 0} (g : Ghosts M) (b : BookView M) (l : LeaseView) where
         hart = given.hart ∙ f.hart;
         base = given.base ∙ f.base;
         inputs = given.inputs ∙ f.inputs;
+        most = given.most ∙ f.most;
         stop = given.stop ∙ f.stop;
         gone = gone_as l held k f.gone given.present given.steps given.stop;
       }

@@ -12,7 +12,7 @@ use Rattle.hart_lease.specs.Leases.{LeaseView, IsFull, whole_in}
 use Rattle.hart_lease.specs.OpenLeases.{OpenView, LentView}
 use Rattle.hart_lease.specs.Runs.{counts_of, steps_taken}
 use Rattle.hart_lease.proofs.steps.LackedRights.{step_counts}
-use Rattle.lease_rounds.specs.Leading.{IsIdle, GoesOn, IsHeld, Goes, Rounds, NoHart, Went, Stood, lent_as}
+use Rattle.lease_rounds.specs.Leading.{IsIdle, GoesFor, GoesOn, IsHeld, Goes, Rounds, NoHart, Went, Stood, lent_as}
 use Rattle.lease_rounds.proofs.Filling.{HasFilled, HasGone, has_filled}
 use Rattle.lease_rounds.proofs.Lending.{idle_at, lent_runs}
 
@@ -34,11 +34,11 @@ fewer_left (stop ∷ stops) (x ∷ harts) zero h after there lt le =
 fewer_left (stop ∷ stops) (x ∷ harts) (suc hart) h after there lt le =
     let rest = fewer_left stops harts hart h after there lt le in omega (arith, rest)
 
-full_before : (l k : LeaseView) → k.present ≡ l.present → k.steps ≡ l.steps → k.stop ≡ l.stop → k.base ≡ l.base → IsFull k → IsFull l
-full_before l k present steps stop base full =
+full_before : (l k : LeaseView) → k.present ≡ l.present → k.steps ≡ l.steps → k.most ≡ l.most → k.stop ≡ l.stop → k.base ≡ l.base → IsFull k → IsFull l
+full_before l k present steps most stop base full =
     let count : k.present.count ≡ l.present.count = ap (λ (h : Hart). h.count) present in
     elim full [
-      | inl many ↦ inl (omega (arith, steps, many))
+      | inl many ↦ inl (omega (arith, steps, most, many))
       | inr rest ↦ inr (elim rest [
         | inl past ↦ inl (omega (arith, count, stop, past))
         | inr other ↦ inr (elim other [
@@ -49,10 +49,10 @@ full_before l k present steps stop base full =
     ]
 
 -- a lease that had room, and is full, has gone on
-went_on : (l k : LeaseView) → (IsFull l → ⊥) → IsFull k → k.base ≡ l.base → k.stop ≡ l.stop → HasGone l k →
+went_on : (l k : LeaseView) → (IsFull l → ⊥) → IsFull k → k.base ≡ l.base → k.most ≡ l.most → k.stop ≡ l.stop → HasGone l k →
     (l.present.count < k.present.count) × (k.present.count ≤ l.stop)
-went_on l k room full base stop gone = elim gone [
-  | inl same ↦ absurd (room (full_before l k same.0 same.1 stop base full))
+went_on l k room full base most stop gone = elim gone [
+  | inl same ↦ absurd (room (full_before l k same.0 same.1 most stop base full))
   | inr on ↦ (on.0, omega (arith, stop, on.1))
 ]
 
@@ -73,7 +73,7 @@ module _ {M : Type 0} (g : Ghosts M) where
     pub further : before.count < after.count
     pub within : after.count ≤ count_at (g.stops b.mode) hart
 
-  module _ (keep : Keep) (hart : ℕ) (b d : BookView M) (on : GoesOn g keep hart b d) where
+  module _ (keep : Keep) (hart : ℕ) (b d : BookView M) {most : ℕ} (on : GoesFor g most keep hart b d) where
     abbrev l : LeaseView
     l = on.lease
 
@@ -107,6 +107,10 @@ module _ {M : Type 0} (g : Ghosts M) where
     pub harts_stay : length d.machine.harts ≡ length b.machine.harts
     harts_stay = ap length harts_are ∙ length-set b.machine.harts hart state_after
 
+  module _ (keep : Keep) (hart : ℕ) (b d : BookView M) (on : GoesOn g keep hart b d) where
+    abbrev its : HasFilled on.opened on.lease on.leads.filled on.leads.lease
+    its = lease_filled keep hart b d on
+
     module _ (ahead : IsAhead) (idle : IsIdle b) where
       state : Hart
       state = on.lends.state
@@ -125,11 +129,14 @@ module _ {M : Type 0} (g : Ghosts M) where
       pub stop : (counts_of b.machine hart < on.lease.stop) × (on.lease.stop ≤ count_at (g.stops b.mode) hart)
       stop =
           let below = runs.1 in
-          ahead b.mode on.opened.mode hart (counts_of b.machine hart) (lent_as l) (omega (arith, below, count_is)) on.lends.mode
+          ahead b.mode on.opened.mode hart (counts_of b.machine hart) (lent_as on.lease) (omega (arith, below, count_is)) on.lends.mode
 
       room : IsFull on.lease → ⊥
       room full = elim full [
-        | inl many ↦ (let none : l.steps ≡ 0 = ap (λ (x : LeaseView). x.steps) on.lends.lent in omega (arith, many, none))
+        | inl many ↦
+            (let none : on.lease.steps ≡ 0 = ap (λ (x : LeaseView). x.steps) on.lends.lent in
+            let some : on.lease.most ≡ 1024 = ap (λ (x : LeaseView). x.most) on.lends.lent in
+            omega (arith, many, none, some))
         | inr rest ↦ elim rest [
           | inl past ↦ (let above = stop.0 in omega (arith, past, from, above, count_is))
           | inr other ↦ elim other [
@@ -141,18 +148,18 @@ module _ {M : Type 0} (g : Ghosts M) where
 
       -- its hart took a step at least, and went no further than its stop
       pub went_far : (on.lease.present.count < on.leads.lease.present.count) × (on.leads.lease.present.count ≤ on.lease.stop)
-      went_far = went_on l k room on.leads.full lease_filled.base lease_filled.stop lease_filled.gone
+      went_far = went_on on.lease on.leads.lease room on.leads.full its.base its.most its.stop its.gone
 
       pub has_gone_on : HasGoneOn hart b d
       unfolding state_after
       has_gone_on =
           let rises = went_far.0 in
           record {
-            start = on.leads.back.start ∙ ap (λ (x : BookView M). x.start) lease_filled.book ∙ ap (λ (x : BookView M). x.start) on.lends.book;
+            start = on.leads.back.start ∙ ap (λ (x : BookView M). x.start) its.book ∙ ap (λ (x : BookView M). x.start) on.lends.book;
             before = on.lends.state;
             there = on.lends.there;
-            after = state_after;
-            harts = harts_are;
+            after = state_after keep hart b d on;
+            harts = harts_are keep hart b d on;
             further = omega (arith, from, rises);
             within = le_trans went_far.1 stop.1;
           }

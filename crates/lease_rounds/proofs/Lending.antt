@@ -13,6 +13,7 @@ use Rattle.hart_lease.specs.Leases.{LeaseView, fresh}
 use Rattle.page_book.specs.Books.{BookView, IsOurs, refusal}
 use Rattle.hart_lease.specs.OpenLeases.{OpenView, open_at, nothing_taken}
 use Rattle.lease_rounds.specs.Leading.{IsIdle, IsAlone, IsHeld, Lends, lent_as}
+use Rattle.ft_types.specs.declared.names.TheConstants.{LEASE_STEPS}
 use Rattle.lease_rounds.proofs.Filling.{row_kept}
 
 none_open : (n hart : ℕ) → open_at (replicate n None) hart ≡ None
@@ -47,14 +48,28 @@ pub lent_out : {M : Type 0} (g : Ghosts M) (hart : ℕ) (b : BookView M) (l : Le
     IsMet (g.obeyed b.mode) (counts_of b.machine) hart →
     ((h : Hart) → slice_get b.machine.harts hart ≡ Some h → l ≡ fresh hart (without_outputs h) (length b.machine.pages) (lent_as l)) →
     g.lends b.mode hart (counts_of b.machine hart) (lent_as l) c.mode →
-    c ≡ record b { leases = slice_set b.leases hart (Some (nothing_taken (lent_as l))); mode = c.mode } → Lends g hart b l c
+    c ≡ record b { leases = slice_set b.leases hart (Some (nothing_taken (lent_as l))); mode = c.mode } → Lends g LEASE_STEPS hart b l c
 lent_out g hart b l c within unrefused met lent mode book =
     let (h, there) = hart_at b.machine.harts hart within in
     record { state = h; there = there; unrefused = unrefused h there; met = met; lent = lent h there; mode = mode; book = book }
 
+-- whoever has the lease may let it take other than LEASE_STEPS
+pub lent_for : {M : Type 0} (g : Ghosts M) (most hart : ℕ) (b : BookView M) (l : LeaseView) (c : BookView M) → Lends g LEASE_STEPS hart b l c →
+    Lends g most hart b (record l { most = most }) c
+lent_for g most hart b l c lends =
+    record {
+      state = lends.state;
+      there = lends.there;
+      unrefused = lends.unrefused;
+      met = lends.met;
+      lent = ap (λ (x : LeaseView). let y : LeaseView = record x { most = most } in y) lends.lent;
+      mode = lends.mode;
+      book = lends.book;
+    }
+
 -- a lease of the hart is the one lease of its book
-pub lease_alone : {M : Type 0} (g : Ghosts M) (hart : ℕ) (b : BookView M) (l : LeaseView) (c : BookView M) → IsIdle b → Lends g hart b l c → IsOurs c l →
-    IsAlone c l
+pub lease_alone : {M : Type 0} (g : Ghosts M) (hart : ℕ) (b : BookView M) (l : LeaseView) (c : BookView M) → IsIdle b → Lends g LEASE_STEPS hart b l c →
+    IsOurs c l → IsAlone c l
 lease_alone {M} g hart b l c idle lends ours =
     let own : l.hart ≡ hart = ap (λ (x : LeaseView). x.hart) lends.lent in
     record {

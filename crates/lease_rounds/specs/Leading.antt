@@ -3,7 +3,7 @@ use Rattle.std.specs.Prelude.{◌≡◌, ◌≢◌, ◌<◌, ◌≤◌, ◌+◌,
 use Rattle.ft_types.specs.Counts.{count_at}
 use Rattle.ft_types.specs.declared.names.Want.{Want}
 use Rattle.ft_types.specs.declared.names.Want.TheVariants.{Read, Write}
-use Rattle.ft_types.specs.declared.names.TheConstants.{HART_ROW}
+use Rattle.ft_types.specs.declared.names.TheConstants.{HART_ROW, LEASE_STEPS}
 use Rattle.interleaving.specs.Log.{IsMet, HasUnmet}
 use Rattle.rv32_hart.specs.Hart.{Hart, without_outputs}
 use Rattle.rv32_hart.specs.declared.outcome.Tick.TheVariants.{Done}
@@ -67,6 +67,7 @@ module _ {M : Type 0} (g : Ghosts M) where
     pub present : k.present ≡ l.present
     pub inputs : k.inputs ≡ l.inputs
     pub steps : k.steps ≡ l.steps
+    pub most : k.most ≡ l.most
     pub stop : k.stop ≡ l.stop
 
   -- while it was not full, the lease took a step or was given a page, again and again
@@ -103,34 +104,45 @@ module _ {M : Type 0} (g : Ghosts M) where
     pub fills : Fills b l filled lease
     pub ends : EndsWithout filled lease d
 
-  -- the first book lent the hart, which runs, is below its stop and has each edge of its next step met
-  pub record Lends (hart : ℕ) (b : BookView M) (l : LeaseView) (c : BookView M) : Type 0 where
+  -- the first book lent the hart for so many steps, which runs, is below its stop and has each edge of its next step met
+  pub record Lends (most hart : ℕ) (b : BookView M) (l : LeaseView) (c : BookView M) : Type 0 where
     pub state : Hart
     pub there : slice_get b.machine.harts hart ≡ Some state
     pub unrefused : refusal (open_at b.leases hart) state (count_at (g.stops b.mode) hart) ≡ None
     pub met : IsMet (g.obeyed b.mode) (counts_of b.machine) hart
-    pub lent : l ≡ fresh hart (without_outputs state) (length b.machine.pages) (lent_as l)
+    pub lent : l ≡ record (fresh hart (without_outputs state) (length b.machine.pages) (lent_as l)) { most = most }
     pub mode : g.lends b.mode hart (counts_of b.machine hart) (lent_as l) c.mode
     pub book : c ≡ record b { leases = slice_set b.leases hart (Some (nothing_taken (lent_as l))); mode = c.mode }
 
-  -- the hart went on for one lease, and no lease is open
-  pub record GoesOn (keep : Keep) (hart : ℕ) (b d : BookView M) : Type 0 where
+  -- the hart went on for one lease, of so many steps at the most, and no lease is open
+  pub record GoesFor (most : ℕ) (keep : Keep) (hart : ℕ) (b d : BookView M) : Type 0 where
     pub opened : BookView M
     pub lease : LeaseView
-    pub lends : Lends hart b lease opened
+    pub lends : Lends most hart b lease opened
     pub leads : Leads keep opened lease d
     pub idle : IsIdle d
 
-  -- the hart went out for a lease that was given up
-  pub record GivesUp (hart : ℕ) (b d : BookView M) : Type 0 where
+  -- one of LEASE_STEPS
+  abbrev pub GoesOn : Keep → ℕ → BookView M → BookView M → Type 0
+  GoesOn keep hart b d = GoesFor LEASE_STEPS keep hart b d
+
+  -- the hart went out for a lease, of so many steps at the most, that was given up
+  pub record GivesUpFor (most hart : ℕ) (b d : BookView M) : Type 0 where
     pub opened : BookView M
     pub lease : LeaseView
-    pub lends : Lends hart b lease opened
+    pub lends : Lends most hart b lease opened
     pub leaves : LeavesOff opened lease d
 
-  -- nothing has changed, or a lease was given up
+  -- one of LEASE_STEPS
+  abbrev pub GivesUp : ℕ → BookView M → BookView M → Type 0
+  GivesUp hart b d = GivesUpFor LEASE_STEPS hart b d
+
+  -- nothing has changed, or a lease of so many steps was given up
+  abbrev pub HasNotGoneFor : ℕ → ℕ → BookView M → BookView M → Type 0
+  HasNotGoneFor most hart b d = (d ≡ b) ⊎ GivesUpFor most hart b d
+
   abbrev pub HasNotGone : ℕ → BookView M → BookView M → Type 0
-  HasNotGone hart b d = (d ≡ b) ⊎ GivesUp hart b d
+  HasNotGone hart b d = HasNotGoneFor LEASE_STEPS hart b d
 
   -- the hart is halted, at its stop, or waits for another
   abbrev pub IsHeld : BookView M → ℕ → Type 0
@@ -138,10 +150,13 @@ module _ {M : Type 0} (g : Ghosts M) where
       (h : Hart) → slice_get b.machine.harts hart ≡ Some h →
       (h.halted ≡ true) ⊎ (count_at (g.stops b.mode) hart ≤ h.count) ⊎ HasUnmet (g.obeyed b.mode) (counts_of b.machine) hart
 
-  -- the hart went on, or it cannot, and nothing has changed
+  -- the hart went on, for so many steps at the most, or it cannot, and nothing has changed
+  abbrev pub MayGoFor : ℕ → Keep → Bool → ℕ → BookView M → BookView M → Type 0
+  MayGoFor most keep true hart b c = GoesFor most keep hart b c
+  MayGoFor most keep false hart b c = (c ≡ b) × IsHeld b hart
+
   abbrev pub Goes : Keep → Bool → ℕ → BookView M → BookView M → Type 0
-  Goes keep true hart b c = GoesOn keep hart b c
-  Goes keep false hart b c = (c ≡ b) × IsHeld b hart
+  Goes keep went hart b c = MayGoFor LEASE_STEPS keep went hart b c
 
   -- the first harts went on in rising order, each for one lease, but for those that could not; whether one did
   pub data Rounds (keep : Keep) (b : BookView M) : Bool → ℕ → BookView M → Type 0 where

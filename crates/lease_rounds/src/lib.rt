@@ -5,4 +5,4 @@ mod page_mask;
 mod rounds;
 
 pub use page_mask::PageMask;
-pub use rounds::{bring_back, fill, give, go, go_round, go_with};
+pub use rounds::{bring_back, fill, give, go, go_for, go_round};

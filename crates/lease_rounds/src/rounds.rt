@@ -1,15 +1,15 @@
 //! One lease after the other: each is filled with steps and settled.
 
-ghost use Rattle.std.specs.Prelude.{◌≡◌, ◌<◌, ◌↔◌, ℕ, length, map, IfOk, OnOk, OnErr, IsTrue};
+ghost use Rattle.std.specs.Prelude.{◌≡◌, ◌<◌, ◌≤◌, ◌↔◌, ℕ, length, map, IfOk, OnOk, OnErr, IsTrue};
 ghost use Rattle.hart_lease.specs.Slots.{slot_at, want_of};
 ghost use Rattle.hart_lease.specs.Leases.{IsFull};
 ghost use Rattle.page_book.specs.Books.{IsOurs};
 ghost use Rattle.hart_lease.specs.Laws.{Covers};
 ghost use Rattle.lease_rounds.specs.Leading.{IsIdle, IsAlone, IsFreeAlone, Gives, Fills, ComesBack, Leads, Goes, Rounds, lacking};
-ghost use Rattle.lease_rounds.specs.Leading.{EndsWithout, LeavesOff, HasNotGone};
+ghost use Rattle.lease_rounds.specs.Leading.{EndsWithout, LeavesOff, HasNotGone, HasNotGoneFor, MayGoFor};
 
 use crate::page_mask::PageMask;
-use ft_types::{Hart, Memory, PageNo, Want};
+use ft_types::{COUNT_LIMIT, Hart, LEASE_STEPS, Memory, PageNo, Want};
 use page_book::{Book, BookFault, Keep, Lease, Mode, Need, steps_of_leases};
 use rv32_hart::Tick;
 use std::alloc::Global;
@@ -149,24 +149,28 @@ fn go_on<M: Mode>(
     bring_back(book, lease, keep)
 }
 
-/// Takes the steps of one lease of a hart, where it may go on, and settles them. Whether it did. Where memory is refused, the
-/// lease is given up. The lease takes these pages at once, and others as its steps lack them, which are added to these.
-pub fn go_with<M: Mode>(
+/// Takes the steps of one lease of a hart, of so many steps at the most, where it may go on, and settles them. Whether it did.
+/// Where memory is refused, the lease is given up. The lease takes these pages at once, and others as its steps lack them, which
+/// are added to these.
+pub fn go_for<M: Mode>(
     alloc: Global,
     book: &mut Book<M>,
     hart: Hart,
     keep: Keep,
+    most: u64,
     usual: &mut PageMask,
 ) -> Result<bool, Memory>
     requires free { IsFreeAlone M.Mode }
     requires hart { hart < length book.old.machine.harts }
     requires idle { IsIdle book.old }
-    ensures goes { IfOk result (λ went. Goes M.Mode keep went hart book.old book.new) }
-    ensures not_gone { OnErr result (HasNotGone M.Mode hart book.old book.new) }
+    requires most { most ≤ COUNT_LIMIT }
+    ensures goes { IfOk result (λ went. MayGoFor M.Mode most keep went hart book.old book.new) }
+    ensures not_gone { OnErr result (HasNotGoneFor M.Mode most hart book.old book.new) }
     ensures idle { IsIdle book.new }
 {
     match book.lease(alloc, hart) {
-        Ok(lease) => {
+        Ok(mut lease) => {
+            lease.allow(most);
             go_on(book, lease, keep, usual)?;
             Ok(true)
         }
@@ -175,7 +179,7 @@ pub fn go_with<M: Mode>(
     }
 }
 
-/// The same, and each page is taken as a step lacks it.
+/// The same of a lease of `LEASE_STEPS`, which takes each page as a step lacks it.
 pub fn go<M: Mode>(
     alloc: Global,
     book: &mut Book<M>,
@@ -189,7 +193,7 @@ pub fn go<M: Mode>(
     ensures not_gone { OnErr result (HasNotGone M.Mode hart book.old book.new) }
     ensures idle { IsIdle book.new }
 {
-    go_with(alloc, book, hart, keep, &mut PageMask::none())
+    go_for(alloc, book, hart, keep, LEASE_STEPS, &mut PageMask::none())
 }
 
 /// Lets each hart go on in turn, where it may. Whether one did.

@@ -5,7 +5,7 @@ ghost use Rattle.std.specs.Arc.{arc_value};
 ghost use Rattle.page_book.specs.Words.{base_at, IsBareLease, IsFull, IsLent, LeaseView, MachineState, Runs, slot_at, Taken, Ticks, want_of, whole};
 
 use edge_log::Edge;
-use ft_types::{Count, Hart, INPUT_LIMIT, PageNo, Want};
+use ft_types::{COUNT_LIMIT, Count, Hart, INPUT_LIMIT, PageNo, Want};
 use guest_image::Page;
 use input_log::Input;
 use rv32_hart::Tick;
@@ -90,7 +90,18 @@ impl Lease {
         self.own.base_page(page)
     }
 
-    /// Whether the lease takes no further step: after `LEASE_STEPS` steps, after a step that halts or rings, and at its stop.
+    /// Lets the lease take so many steps in all, at most `COUNT_LIMIT`, its stop permitting. It is lent for `LEASE_STEPS`.
+    pub fn allow(&mut self, steps: u64)
+        requires few { steps ≤ COUNT_LIMIT }
+        ensures value { self.new ≡ record self.old { most = steps } }
+        // It is as much the book's own as before.
+        ensures lent { (machine : MachineState) (taken : List (Option Taken)) (earlier : List (ℕ × ℕ)) → IsLent machine taken (whole earlier self.old) →
+            IsLent machine taken (whole earlier self.new) }
+    {
+        self.own.allow(steps);
+    }
+
+    /// Whether the lease takes no further step: after the steps that it may take, after a step that halts or rings, and at its stop.
     #[inline(always)]
     pub fn full(&self) -> bool
         ensures { IsTrue result ↔ IsFull self.now }

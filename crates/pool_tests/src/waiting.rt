@@ -1,9 +1,9 @@
 //! Guests whose harts wait for each other, on threads. What they put out does not depend on how their harts go beside each other.
 
 use crate::logs;
-use crate::pools::{in_turn, on_threads};
+use crate::pools::{in_turn, partly_on_threads};
 use fixtures::image_of;
-use ft_types::{Count, Hart};
+use ft_types::{Count, HART_ROW, Hart, HartSet};
 use guest_image::Machine;
 use page_book::{Book, Recording};
 use primary_pool::Free;
@@ -135,14 +135,15 @@ fn is_replayed(alloc: Global, file: &[u8], book: &Book<Recording>) -> Result<boo
     Ok(machine.same(book.machine()))
 }
 
-/// Whether the guest ends on threads as in turn, by a log that leads to where it ends.
+/// Whether the guest ends on threads, with these harts on none, as in turn, by a log that leads to where it ends.
 fn goes_on_threads<R: Threads + Wait + Sync>(
     rt: &R,
     alloc: Global,
     file: &[u8],
     lasts: &[u32],
+    here: HartSet,
 ) -> Result<bool, Fail> {
-    let book = on_threads(rt, alloc, file, BUDGET, &Free)?;
+    let book = partly_on_threads(rt, alloc, file, BUDGET, &Free, here)?;
     let plain = in_turn(alloc, file, BUDGET)?;
     if !all_end_alike(book.machine(), plain.machine(), lasts) {
         return Ok(false);
@@ -150,11 +151,36 @@ fn goes_on_threads<R: Threads + Wait + Sync>(
     is_replayed(alloc, file, &book)
 }
 
+/// The first of the guests that does not end on threads as in turn, with these harts on none.
+fn first_stuck<R: Threads + Wait + Sync>(
+    rt: &R,
+    alloc: Global,
+    here: HartSet,
+) -> Result<Option<usize>, Fail> {
+    for (number, (file, lasts)) in guests().iter().enumerate() {
+        if !goes_on_threads(rt, alloc, *file, *lasts, here)? {
+            return Ok(Some(number));
+        }
+    }
+    Ok(None)
+}
+
 #[test]
 fn harts_that_wait_for_each_other(rt: HostRuntime) -> Result<(), Fail> {
-    for (number, (file, lasts)) in guests().iter().enumerate() {
-        let went = goes_on_threads(&rt, rt.alloc(), *file, *lasts)?;
-        assert!(rt; went, "guest {number}");
+    let stuck = first_stuck(&rt, rt.alloc(), HartSet::new())?;
+    assert!(rt; stuck.is_none(), "guest {stuck:?}");
+    Ok(())
+}
+
+/// As where their threads cannot be made.
+#[test]
+fn harts_without_threads(rt: HostRuntime) -> Result<(), Fail> {
+    let one = HartSet::new().with(Hart::new(0));
+    let two = one.with(Hart::new(2));
+    let rest = two.with(Hart::new(1)).with(Hart::new(3));
+    for here in [one, two, rest] {
+        let stuck = first_stuck(&rt, rt.alloc(), here)?;
+        assert!(rt; stuck.is_none(), "guest {stuck:?}");
     }
     Ok(())
 }

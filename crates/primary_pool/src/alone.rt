@@ -4,13 +4,17 @@ ghost use Rattle.std.specs.Prelude.{◌<◌, length};
 ghost use Rattle.lease_rounds.specs.Leading.{IsFreeAlone, IsIdle};
 
 use crate::turnstile::Turnstile;
-use ft_types::{Count, Hart};
-use lease_rounds::{PageMask, go_with};
+use ft_types::{Count, Hart, LEASE_STEPS};
+use lease_rounds::{PageMask, go_for};
 use page_book::{Book, Keep, Mode};
 use std::alloc::Global;
 
 /// After so many leases the hart begins one without pages, so that it does not take for good what it used once.
 const LONGEST: u64 = 32;
+
+/// How many steps a lease takes at the most where no turnstile counts them. Nobody waits for this hart, and what a lease costs
+/// is paid once.
+const FAR: u64 = 64 * LEASE_STEPS;
 
 /// Leads the book's first hart on this thread, lease by lease, until it is halted or at its end, where memory is refused or where
 /// it cannot go on.
@@ -27,6 +31,11 @@ pub(crate) fn lead_alone<M: Mode, T: Turnstile>(
     let hart = Hart::new(0);
     let mut number = 0u64;
     let mut usual = PageMask::none();
+    let most = if turnstile.is_free() {
+        FAR
+    } else {
+        LEASE_STEPS
+    };
     let mut count = book.machine().hart(hart).count();
     while count < end && !book.machine().hart(hart).is_halted() {
         number = number.saturating_add(1);
@@ -34,7 +43,7 @@ pub(crate) fn lead_alone<M: Mode, T: Turnstile>(
         if number % LONGEST == 0 {
             usual = PageMask::none();
         }
-        let Ok(true) = go_with(alloc, book, hart, Keep::All, &mut usual) else {
+        let Ok(true) = go_for(alloc, book, hart, Keep::All, most, &mut usual) else {
             return;
         };
         let settled = book.machine().hart(hart).count();

@@ -3,7 +3,7 @@
 use ft_types::{HART_LIMIT, HART_ROW, Hart, HartSet};
 use std::sync::atomic::{AtomicBool, Ordering};
 use std::sync::{Condvar, Mutex, Wait};
-use std::{hint, thread};
+use std::{array, hint, thread};
 
 /// How often a thread looks whether it was called before it lets others run: being woken takes longer than a lease.
 const LOOKS: u32 = 50;
@@ -78,6 +78,8 @@ impl Call {
 #[derive(Drop)]
 pub(crate) struct Calls {
     each: [Call; HART_ROW],
+    /// For which harts' leases others wait.
+    wanted: [AtomicBool; HART_ROW],
 }
 
 impl Calls {
@@ -94,6 +96,29 @@ impl Calls {
                 Call::new(),
                 Call::new(),
             ],
+            wanted: array::from_fn(|_| AtomicBool::new(false)),
+        }
+    }
+
+    /// Others wait for the leases of these harts.
+    pub(crate) fn want(&self, harts: HartSet) {
+        for number in 0..HART_LIMIT {
+            let hart = Hart::new(number);
+            if harts.contains(hart) {
+                self.wanted[hart.index()].store(true, Ordering::SeqCst);
+            }
+        }
+    }
+
+    /// Whether others wait for the hart's lease.
+    pub(crate) fn is_wanted(&self, hart: Hart) -> bool {
+        self.wanted[hart.index()].load(Ordering::SeqCst)
+    }
+
+    /// The hart's lease comes back.
+    pub(crate) fn come_back(&self, hart: Hart) {
+        if self.is_wanted(hart) {
+            self.wanted[hart.index()].store(false, Ordering::SeqCst);
         }
     }
 

@@ -4,9 +4,9 @@ ghost use Rattle.lease_rounds.specs.Leading.{IsFreeAlone, IsIdle};
 
 use crate::alone::lead_alone;
 use crate::calls::Calls;
-use crate::desk::{Brought, Desk, Pace, Stop, Turn};
+use crate::desk::{Brought, Desk, FAR, Pace, Stop, Turn};
 use crate::turnstile::Turnstile;
-use ft_types::{Count, Counts, HART_LIMIT, HART_ROW, Hart, HartSet};
+use ft_types::{COUNT_LIMIT, Count, Counts, HART_LIMIT, HART_ROW, Hart, HartSet, LEASE_STEPS};
 use page_book::{Book, Lease, Mode};
 use rv32_hart::Tick;
 use std::alloc::Global;
@@ -16,7 +16,8 @@ use std::{hint, thread};
 
 /// The harts of a book, each on a thread of its own, which ends only where its hart is halted or at its end, where memory is
 /// refused or where no hart can go on. A book of one hart is led on the calling thread, without a lock, until the same. Nothing is
-/// known of the book that comes back but its type.
+/// known of the book that comes back but its type. Those of this set go on the calling thread beside the others, in turn and without
+/// the turnstile, as do those whose threads cannot be made.
 pub fn run_crew<M: Mode + Send, R: Threads + Wait + Sync, T: Turnstile + Sync>(
     rt: &R,
     alloc: Global,
@@ -24,6 +25,7 @@ pub fn run_crew<M: Mode + Send, R: Threads + Wait + Sync, T: Turnstile + Sync>(
     ends: Counts,
     turnstile: &T,
     pace: Pace,
+    here: HartSet,
 ) -> Book<M>
     requires free { IsFreeAlone M.Mode }
     requires idle { IsIdle book }
@@ -35,30 +37,92 @@ pub fn run_crew<M: Mode + Send, R: Threads + Wait + Sync, T: Turnstile + Sync>(
     }
     let desk = Mutex::new(Desk::new(book, pace, turnstile.is_free()));
     let calls = Calls::new();
-    start_all(rt, alloc, &desk, &calls, ends, turnstile);
+    lead_all(rt, alloc, &desk, &calls, ends, turnstile, here);
     desk.into_inner().into_book()
 }
 
-/// Starts the threads, and returns when each has ended. A hart whose thread cannot be made is left as it is.
-fn start_all<'x, M: Mode + Send, R: Threads + Wait + Sync, T: Turnstile + Sync>(
+/// Starts the threads, leads those that have none, and returns when each has ended.
+fn lead_all<'x, M: Mode + Send, R: Threads + Wait + Sync, T: Turnstile + Sync>(
     rt: &'x R,
     alloc: Global,
     desk: &'x Mutex<Desk<M>>,
     calls: &'x Calls,
     ends: Counts,
     turnstile: &'x T,
+    here: HartSet,
 ) {
     thread::scope(thread::scope_env(), rt, |scope| {
+        let mut here = here;
         for number in 0..ends.harts() {
-            let end = ends.get(Hart::new(number));
-            let made = scope
-                .spawn(move || work(rt, alloc, desk, calls, number, end, turnstile))
-                .is_ok();
-            if !made {
-                leave(rt, desk, calls, number);
+            let hart = Hart::new(number);
+            let end = ends.get(hart);
+            if !here.contains(hart)
+                && scope
+                    .spawn(move || work(rt, alloc, desk, calls, number, end, turnstile))
+                    .is_err()
+            {
+                here = here.with(hart);
             }
         }
+        go_in_turn(rt, alloc, desk, calls, here, ends);
     });
+}
+
+/// Leads these harts in turn on this thread, one lease each, until each is to end.
+fn go_in_turn<M: Mode, R: Wait>(
+    rt: &R,
+    alloc: Global,
+    desk: &Mutex<Desk<M>>,
+    calls: &Calls,
+    harts: HartSet,
+    ends: Counts,
+) {
+    let mut left = harts;
+    for _ in rt.forever() {
+        if left.is_empty() {
+            return;
+        }
+        let mut next = HartSet::new();
+        let mut went = false;
+        for number in 0..ends.harts() {
+            let hart = Hart::new(number);
+            if left.contains(hart) {
+                match go_once(rt, alloc, desk, calls, hart, ends.get(hart)) {
+                    Some(goes) => {
+                        went = went || goes;
+                        next = next.with(hart);
+                    }
+                    None => leave(rt, desk, calls, number),
+                }
+            }
+        }
+        if !went {
+            thread::yield_now();
+        }
+        left = next;
+    }
+    unreachable!()
+}
+
+/// One lease of the hart, where it need not wait for it. Whether it need not; None where it is to end.
+fn go_once<M: Mode, R: Wait>(
+    rt: &R,
+    alloc: Global,
+    desk: &Mutex<Desk<M>>,
+    calls: &Calls,
+    hart: Hart,
+    end: Count,
+) -> Option<bool> {
+    let (turn, wanted) = ask_for_lease(rt, alloc, desk, hart, end);
+    calls.want(wanted);
+    match turn {
+        Turn::Goes(lease, _) => {
+            let _settled = lead(rt, desk, calls, lease)?;
+            Some(true)
+        }
+        Turn::Ends => None,
+        Turn::Waits => Some(false),
+    }
 }
 
 /// How often a thread looks for the lock before it sleeps: leases hold it for a few microseconds, and being woken takes longer.
@@ -111,16 +175,18 @@ fn go_freely<M: Mode, R: Wait>(
     hart: Hart,
     end: Count,
 ) {
-    let Some(lease) = lend(rt, alloc, desk, calls, hart, end) else {
+    let Some((lease, reach)) = lend(rt, alloc, desk, calls, hart, end) else {
         return;
     };
     let mut lease = lease;
+    let mut reach = reach;
     for _ in rt.forever() {
-        let stop = fill(&mut lease);
-        let Some(next) = exchange(rt, alloc, desk, calls, lease, stop, end) else {
+        let stop = fill_far(&mut lease, reach, calls);
+        let Some((next, further)) = exchange(rt, alloc, desk, calls, lease, stop, end) else {
             return;
         };
         lease = next;
+        reach = further;
     }
     unreachable!()
 }
@@ -168,7 +234,7 @@ fn go_on<M: Mode, R: Wait>(
     end: Count,
 ) -> Option<Count> {
     for _ in rt.forever() {
-        let Some(lease) = lend(rt, alloc, desk, calls, hart, end) else {
+        let Some((lease, _)) = lend(rt, alloc, desk, calls, hart, end) else {
             return None;
         };
         let (steps, count) = lead(rt, desk, calls, lease)?;
@@ -198,7 +264,7 @@ fn lead<M: Mode, R: Wait>(
     unreachable!()
 }
 
-/// A lease of the hart, once nobody who waits for longer is in its way.
+/// A lease of the hart, once nobody who waits for longer is in its way, and how many steps it may take while nobody waits for it.
 fn lend<M: Mode, R: Wait>(
     rt: &R,
     alloc: Global,
@@ -206,10 +272,12 @@ fn lend<M: Mode, R: Wait>(
     calls: &Calls,
     hart: Hart,
     end: Count,
-) -> Option<Lease> {
+) -> Option<(Lease, u64)> {
     for _ in rt.forever() {
-        match ask_for_lease(rt, alloc, desk, hart, end) {
-            Turn::Goes(lease) => return Some(lease),
+        let (turn, wanted) = ask_for_lease(rt, alloc, desk, hart, end);
+        calls.want(wanted);
+        match turn {
+            Turn::Goes(lease, reach) => return Some((lease, reach)),
             Turn::Ends => return None,
             Turn::Waits => calls.wait(rt, hart),
         }
@@ -223,8 +291,10 @@ fn ask_for_lease<M: Mode, R: Wait>(
     desk: &Mutex<Desk<M>>,
     hart: Hart,
     end: Count,
-) -> Turn {
-    hold(rt, desk).lend(alloc, hart, end)
+) -> (Turn, HartSet) {
+    let mut held = hold(rt, desk);
+    let turn = held.lend(alloc, hart, end);
+    (turn, held.wanted())
 }
 
 /// Takes steps, until the lease is full or one lacks something.
@@ -237,6 +307,27 @@ fn fill(lease: &mut Lease) -> Stop {
         Tick::Miss(page, want) => Stop::Lacks(page, want),
         Tick::Halted | Tick::Memory => Stop::Memory,
     }
+}
+
+/// The same, and on behind a full lease, as long as nobody waits for it, up to so many steps.
+fn fill_far(lease: &mut Lease, reach: u64, calls: &Calls) -> Stop {
+    for _part in 0..FAR / LEASE_STEPS {
+        let stop = fill(lease);
+        let steps = lease.steps();
+        if stop != Stop::Full || steps >= reach || calls.is_wanted(lease.hart()) {
+            return stop;
+        }
+        lease.allow(
+            steps
+                .saturating_add(LEASE_STEPS)
+                .min(reach)
+                .min(COUNT_LIMIT),
+        );
+        if lease.full() {
+            return Stop::Full;
+        }
+    }
+    Stop::Full
 }
 
 /// Brings the lease, which stops here.
@@ -272,12 +363,14 @@ fn exchange<M: Mode, R: Wait>(
     lease: Lease,
     stop: Stop,
     end: Count,
-) -> Option<Lease> {
+) -> Option<(Lease, u64)> {
     let hart = lease.hart();
-    let (turn, called) = visit_and_lend(rt, alloc, desk, lease, stop, end);
+    calls.come_back(hart);
+    let (turn, called, wanted) = visit_and_lend(rt, alloc, desk, lease, stop, end);
+    calls.want(wanted);
     calls.make(rt, called);
     match turn {
-        Turn::Goes(lease) => Some(lease),
+        Turn::Goes(lease, reach) => Some((lease, reach)),
         Turn::Ends => None,
         Turn::Waits => {
             calls.wait(rt, hart);
@@ -293,8 +386,8 @@ fn visit_and_lend<M: Mode, R: Wait>(
     lease: Lease,
     stop: Stop,
     end: Count,
-) -> (Turn, HartSet) {
+) -> (Turn, HartSet, HartSet) {
     let mut held = hold(rt, desk);
     let turn = held.exchange(alloc, lease, stop, end);
-    (turn, held.called())
+    (turn, held.called(), held.wanted())
 }

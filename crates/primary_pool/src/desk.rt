@@ -6,13 +6,16 @@ ghost use Rattle.page_book.specs.Books.{IsOurs};
 use crate::habits::Habits;
 use crate::idlers::{Idlers, Settled, trace_of};
 use crate::queue::Queue;
-use ft_types::{Count, HART_LIMIT, HART_ROW, Hart, HartSet, PageNo, Want};
+use ft_types::{Count, HART_LIMIT, HART_ROW, Hart, HartSet, LEASE_STEPS, PageNo, Want};
 use lease_rounds::PageMask;
 use page_book::{Book, BookFault, Keep, Lease, Mode, Need};
 use std::alloc::Global;
 
 /// How far a hart may be ahead of the last one, at the least, to begin a lease.
 const FARTHEST: u64 = 1024;
+
+/// How many steps a lease takes at the most.
+pub(crate) const FAR: u64 = 64 * LEASE_STEPS;
 
 /// How the harts of a book go beside one another.
 #[derive(Clone, Copy, Debug, PartialEq, Eq)]
@@ -64,8 +67,8 @@ pub(crate) enum Brought {
 
 /// What may come of asking for a lease.
 pub(crate) enum Turn {
-    /// The hart goes on.
-    Goes(Lease),
+    /// The hart goes on, for so many steps at the most while nobody waits for its lease.
+    Goes(Lease, u64),
     /// It has to wait.
     Waits,
     /// It is to end.
@@ -97,6 +100,8 @@ pub(crate) struct Desk<M: Mode> {
     habits: Habits,
     idlers: Idlers,
     pace: Pace,
+    /// Whether no turnstile counts the leases.
+    is_free: bool,
     /// Whether harts that only wait are to rest.
     has_rests: bool,
     /// The steps of the last hart when harts last had to do with each other.
@@ -105,6 +110,8 @@ pub(crate) struct Desk<M: Mode> {
     steps: [u64; HART_ROW],
     /// What each hart's thread sleeps for.
     rests: [Rest; HART_ROW],
+    /// For whose leases others wait since this visit.
+    wanted: HartSet,
 }
 
 impl<M: Mode> Desk<M> {
@@ -120,10 +127,12 @@ impl<M: Mode> Desk<M> {
             habits: Habits::new(),
             idlers: Idlers::new(),
             pace,
+            is_free,
             has_rests: is_free && pace == Pace::Even,
             quiet_from: 0,
             steps,
             rests: [Rest::Awake; HART_ROW],
+            wanted: HartSet::new(),
         }
     }
 
@@ -231,17 +240,19 @@ impl<M: Mode> Desk<M> {
             return Turn::Ends;
         }
         let rest = self.rest(hart);
-        self.rests[hart.index()] = rest;
         if rest != Rest::Awake {
+            self.wait(hart, rest);
             return Turn::Waits;
         }
+        self.rests[hart.index()] = rest;
         match self.book.lease(alloc, hart) {
             Ok(lease) => {
                 self.go_out(hart.index());
-                Turn::Goes(self.with_pages(lease))
+                let lease = self.with_pages(lease);
+                Turn::Goes(lease, self.reach())
             }
             Err(BookFault::EdgeOpen) => {
-                self.rests[hart.index()] = Rest::Edges;
+                self.wait(hart, Rest::Edges);
                 if self.all_stuck() {
                     Turn::Ends
                 } else {
@@ -250,6 +261,45 @@ impl<M: Mode> Desk<M> {
             }
             Err(_) => Turn::Ends,
         }
+    }
+
+    /// The hart waits for this. Whoever may have it is to come back soon.
+    fn wait(&mut self, hart: Hart, rest: Rest) {
+        self.rests[hart.index()] = rest;
+        for number in 0..HART_LIMIT {
+            let other = Hart::new(number);
+            let has_it = match rest {
+                Rest::Pages => self.queue.held(other).is_against(self.queue.wishes(hart)),
+                Rest::Idle | Rest::Edges => true,
+                Rest::Awake | Rest::Ahead | Rest::Over => false,
+            };
+            if number != hart.number() && has_it {
+                self.wanted = self.wanted.with(other);
+            }
+        }
+    }
+
+    /// How many steps a lease may take while nobody waits for it: as many as the last hart has come since harts last had to do
+    /// with each other, but no more than usual where one waits.
+    fn reach(&self) -> u64 {
+        if !self.is_free || self.has_waiting() {
+            return LEASE_STEPS;
+        }
+        let quiet = self.fewest().saturating_sub(self.quiet_from);
+        match self.pace {
+            Pace::Even => quiet.max(LEASE_STEPS).min(FAR),
+            Pace::Own => FAR,
+        }
+    }
+
+    /// Whether a hart waits for something that another may do.
+    fn has_waiting(&self) -> bool {
+        for rest in &self.rests {
+            if matches!(*rest, Rest::Pages | Rest::Idle | Rest::Edges) {
+                return true;
+            }
+        }
+        false
     }
 
     /// Whether each hart is done or sleeps until another settles steps.
@@ -320,7 +370,7 @@ impl<M: Mode> Desk<M> {
         let hart = lease.hart();
         let lacked = stop.lacked();
         match self.bring(lease, stop) {
-            Brought::Goes(lease) => Turn::Goes(lease),
+            Brought::Goes(lease) => Turn::Goes(lease, self.reach()),
             Brought::Settled(_, _) => {
                 self.queue_up(hart, lacked);
                 self.lend(alloc, hart, end)
@@ -435,9 +485,12 @@ impl<M: Mode> Desk<M> {
 
     /// The harts that were rung meanwhile have more to do than to wait.
     fn note_rung(&mut self, before: [u64; HART_ROW], after: [u64; HART_ROW]) {
-        for number in 0..HART_ROW {
-            if before[number] != after[number] {
-                self.stir(number);
+        for number in 0..HART_LIMIT {
+            let target = Hart::new(number);
+            if before[target.index()] != after[target.index()] {
+                self.meet();
+                self.stir(target.index());
+                self.wanted = self.wanted.with(target);
             }
         }
     }
@@ -491,6 +544,13 @@ impl<M: Mode> Desk<M> {
             Rest::Idle => !self.is_idle(hart),
             Rest::Over => true,
         }
+    }
+
+    /// For whose leases others wait since this visit.
+    pub(crate) fn wanted(&mut self) -> HartSet {
+        let harts = self.wanted;
+        self.wanted = HartSet::new();
+        harts
     }
 
     /// Whose threads are to look again. They sleep no longer.

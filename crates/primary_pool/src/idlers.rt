@@ -34,7 +34,7 @@ pub(crate) struct Settled {
     pub(crate) rang: bool,
 }
 
-/// Which harts only wait: those whose registers were behind a full lease what they were before it, and those that have just rung
+/// Which harts only wait: those whose registers were behind a whole lease what they were before it, and those that have just rung
 /// and waited behind each of their last rings.
 #[derive(Clone, Copy, Debug)]
 pub(crate) struct Idlers {
@@ -87,7 +87,7 @@ impl Idlers {
     /// A lease of the hart comes back. Whether the hart only waits.
     pub(crate) fn note(&mut self, hart: Hart, settled: Settled) -> bool {
         let hart = hart.index();
-        let still = settled.steps == LEASE_STEPS && self.traces[hart] == settled.trace;
+        let still = settled.steps >= LEASE_STEPS && self.traces[hart] == settled.trace;
         let sure = settled.rang && self.waits[hart] >= SURE;
         let idle = (still || sure) && !self.stirred[hart];
         self.learn(hart, still && idle, settled);

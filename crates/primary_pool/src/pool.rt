@@ -13,7 +13,7 @@ use crate::desk::Pace;
 use crate::fault::PoolFault;
 use crate::plain::{has_run, run_plain};
 use crate::turnstile::Turnstile;
-use ft_types::Counts;
+use ft_types::{Counts, HART_ROW, HartSet};
 use page_book::{Book, Recording};
 use std::alloc::Global;
 use std::result::Result;
@@ -80,13 +80,38 @@ pub fn run<R: Threads + Wait + Sync, T: Turnstile + Sync>(
     ensures limits { IfOk result (λ b. b.mode.limits ≡ greater budget book.mode.limits) }
     ensures counts { IfOk result (λ b. GoToBudget budget book b) }
 {
+    run_with(rt, alloc, book, budget, turnstile, HartSet::new())
+}
+
+/// The same, and harts of this set have no threads: they go on the calling thread beside the others, in turn and without the
+/// turnstile, as `run` has those go whose threads cannot be made.
+pub fn run_with<R: Threads + Wait + Sync, T: Turnstile + Sync>(
+    rt: &R,
+    alloc: Global,
+    book: Book<Recording>,
+    budget: Counts,
+    turnstile: &T,
+    here: HartSet,
+) -> Result<Book<Recording>, PoolFault>
+    requires idle { IsIdle book }
+    requires harts { length budget ≡ length book.machine.harts }
+    requires below { (hart : ℕ) → counts_of book.machine hart ≤ count_at budget hart }
+    ensures done { IfOk result (λ b. AreAtBudget budget b) }
+    ensures idle { IfOk result (λ b. IsIdle b) }
+    ensures continues { IfOk result (λ b. Continues book b) }
+    ensures tells { IfOk result (λ b. TellsOn book b) }
+    ensures runs { IfOk result (λ b. RunsOn book b) }
+    ensures offered { IfOk result (λ b. KeepsOffered book b) }
+    ensures limits { IfOk result (λ b. b.mode.limits ≡ greater budget book.mode.limits) }
+    ensures counts { IfOk result (λ b. GoToBudget budget book b) }
+{
     has_run(&book);
     let limits = book.limits();
     let mut book = book;
     book.limit_at(budget);
     has_run(&book);
     let copy = book.copy()?;
-    let held = run_crew(rt, alloc, book, budget, turnstile, Pace::Even);
+    let held = run_crew(rt, alloc, book, budget, turnstile, Pace::Even, here);
     let book = pick(held, copy, &budget);
     has_run(&book);
     let mut book = finish(alloc, book, budget)?;

@@ -10,7 +10,7 @@ ghost use Rattle.hart_replay.specs.Replays.{LegLeads};
 ghost use Rattle.hart_replay.specs.Leading.{IsHeld, IsLeading, IsLegFault, leg_of};
 
 use crate::ends::come_to;
-use ft_types::Memory;
+use ft_types::{HART_ROW, HartSet, Memory};
 use guest_image::Machine;
 use hart_replay::{PlannedLeg, ReplayFault};
 use lease_rounds::go_round;
@@ -78,7 +78,15 @@ pub(crate) fn replay_leg<R: Threads + Wait + Sync, T: Turnstile + Sync>(
 {
     let begun = begin(alloc, start, leg)?;
     let copy = begun.copy()?;
-    let held = run_crew(rt, alloc, begun, leg.ends, turnstile, Pace::Own);
+    let held = run_crew(
+        rt,
+        alloc,
+        begun,
+        leg.ends,
+        turnstile,
+        Pace::Own,
+        HartSet::new(),
+    );
     let ended = finish(alloc, pick(held, copy))?;
     come_to(ended.machine(), ended.counts(), leg.ends)
 }

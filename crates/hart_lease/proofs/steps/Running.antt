@@ -55,7 +55,7 @@ pub record Went (n : ℕ) (l new : LeaseView) : Type 0 where
       IsLent m counts (whole earlier new)
 
 -- a lease between its first step and the one that fills it is not full
-not_yet : (l : LeaseView) → l.steps < 1024 → l.present.count < l.stop → l.present.halted ≡ false → l.present.rung ≡ l.base.rung → IsFull l → ⊥
+not_yet : (l : LeaseView) → l.steps < l.most → l.present.count < l.stop → l.present.halted ≡ false → l.present.rung ≡ l.base.rung → IsFull l → ⊥
 not_yet l steps stop runs quiet (inl full) = omega arith
 not_yet l steps stop runs quiet (inr (inl full)) = omega arith
 not_yet l steps stop runs quiet (inr (inr (inl halted))) = true≢false (sym halted ∙ runs)
@@ -66,7 +66,7 @@ unmoved_of l after slots p same pages =
     let none : l.present.count - l.base.count ≡ l.steps = omega (arith, p.count) in
     ap (λ (h : Hart). moved l h slots) same ∙ ap (moved l l.present) pages ∙ ap (λ (n : ℕ). let v : LeaseView = record l { steps = n } in v) none
 
-pub went : (n : ℕ) (l : LeaseView) (after : Hart) (slots : List Slot) → IsBareLease l → l.steps ≢ 0 → l.steps + n ≤ 1024 → l.present.count + n ≤ l.stop →
+pub went : (n : ℕ) (l : LeaseView) (after : Hart) (slots : List Slot) → IsBareLease l → l.steps ≢ 0 → l.steps + n ≤ l.most → l.present.count + n ≤ l.stop →
     l.present.rung ≡ l.base.rung → QuietSteps n l.present (ram_of l.slots) after (ram_of slots) → Went n l (moved l after slots)
 went zero l after slots p later steps stop quiet q =
     let is : moved l after slots ≡ l = unmoved_of l after slots p.bare q.0 (ram_tells slots l.slots q.1) in
@@ -105,12 +105,12 @@ joined j (suc k) l m new a b = rw add-suc (b.0, joined j k l m b.0 a b.1, b.2, b
 
 -- what the quick steps of a lease that is not full leave of it
 pub went_on : (n last : ℕ) (l k : LeaseView) (after : Hart) (slots : List Slot) → l ≡ k → IsBareLease l → (IsFull k → ⊥) → k.steps ≢ 0 → last ≤ l.stop →
-    last ≤ l.base.count + 1024 →
+    last ≤ l.base.count + l.most →
     n ≤ last - l.present.count → QuietSteps n l.present (ram_of l.slots) after (ram_of slots) → Went n k (moved l after slots)
 went_on n last l k after slots is p room later stops ends few q =
     let full : IsFull l → ⊥ = λ f. room (subst (λ (v : LeaseView). IsFull v) is f) in
     let some : l.steps ≢ 0 = λ (e : l.steps ≡ 0). later (ap (λ (v : LeaseView). v.steps) (sym is) ∙ e) in
-    let steps : l.steps < 1024 = omega (arith, λ (le : 1024 ≤ l.steps). full (inl le)) in
+    let steps : l.steps < l.most = omega (arith, λ (le : l.most ≤ l.steps). full (inl le)) in
     let below : l.present.count < l.stop = omega (arith, λ (le : l.stop ≤ l.present.count). full (inr (inl le))) in
     subst (λ (v : LeaseView). Went n v (moved l after slots)) is
     (went n l after slots p some (omega (arith, p.bare.count, ends, few, steps)) (omega (arith, stops, few, below)) (quiet_so_far l full) q)
@@ -129,3 +129,8 @@ stopped tick.Memory n l k new differs s room t = subst (λ (v : LeaseView). Runs
 -- a step that is done counts one
 pub steps_one : (k new : LeaseView) → Ticks tick.Done k new → new.steps ≡ k.steps + 1
 steps_one k new t = ap (λ (v : LeaseView). v.steps) t.0
+
+-- steps leave how many the lease may take
+pub same_most : (n : ℕ) (l new : LeaseView) → StepsOn n l new → new.most ≡ l.most
+same_most zero l new s = ap (λ (v : LeaseView). v.most) s
+same_most (suc n) l new s = ap (λ (v : LeaseView). v.most) s.3.0 ∙ same_most n l s.0 s.1

@@ -1,4 +1,4 @@
-use Rattle.lease_rounds.proofs.Filling.{fewer, inputs_stay, need_within, still_alone}
+use Rattle.lease_rounds.proofs.Filling.{fewer, inputs_stay, most_stays, need_within, still_alone}
 use Rattle.hart_lease.specs.Asks.{asked_by}
 use Rattle.hart_lease.specs.OpenLeases.{open_at, given_more}
 use Rattle.lease_rounds.proofs.rounds.give.Goals as goal
@@ -29,6 +29,9 @@ returns-in-Ok-Given-clause-gives g c =
           inputs_stay c.args.book.now c.args.lease.now c.requires.alone c.args.page c.requires.page c.need_own.new.lease c.args.want
           (rw c.in-Ok-Given.field-0-is at c.in-Ok-Given.ensures.given);
       steps = c.need_own.ensures.steps;
+      most =
+          most_stays c.args.book.now c.args.lease.now c.requires.alone c.args.page c.requires.page c.need_own.new.lease c.args.want
+          (rw c.in-Ok-Given.field-0-is at c.in-Ok-Given.ensures.given);
       stop = c.need_own.ensures.stop;
     }
 

@@ -17,6 +17,7 @@ invariant_of-self c =
       taken = i.taken;
       edges = i.edges.items;
       steps = i.present.count - i.base.count;
+      most = i.most;
       stop = i.stop;
     })
     c.args.self.now c.tick.new.state c.tick.new.pages 0 c.as_slice.result.now c.self.view_is (sym c.requires.first)
@@ -37,6 +38,7 @@ returns-clause-does c =
       taken = i.taken;
       edges = i.edges.items;
       steps = i.present.count - i.base.count;
+      most = i.most;
       stop = i.stop;
     })
     c.args.self.now c.tick.new.state c.tick.new.pages 0 c.as_slice.result.now c.self.view_is (sym c.requires.first)
@@ -57,6 +59,7 @@ returns-clause-lent c m counts earlier lent =
       taken = i.taken;
       edges = i.edges.items;
       steps = i.present.count - i.base.count;
+      most = i.most;
       stop = i.stop;
     })
     c.args.self.now c.tick.new.state c.tick.new.pages 0 c.as_slice.result.now c.self.view_is (sym c.requires.first)

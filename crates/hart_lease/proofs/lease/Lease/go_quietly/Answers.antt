@@ -18,6 +18,7 @@ invariant_of-self c =
       taken = i.taken;
       edges = i.edges.items;
       steps = i.present.count - i.base.count;
+      most = i.most;
       stop = i.stop;
     } in
     let n = c.run_quietly-steps.result in
@@ -41,6 +42,7 @@ returns-clause-steps c =
       taken = i.taken;
       edges = i.edges.items;
       steps = i.present.count - i.base.count;
+      most = i.most;
       stop = i.stop;
     } in
     let n = c.run_quietly-steps.result in
@@ -64,6 +66,7 @@ returns-clause-lent c m counts earlier lent =
       taken = i.taken;
       edges = i.edges.items;
       steps = i.present.count - i.base.count;
+      most = i.most;
       stop = i.stop;
     } in
     let n = c.run_quietly-steps.result in

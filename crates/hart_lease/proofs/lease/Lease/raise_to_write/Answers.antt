@@ -29,6 +29,7 @@ invariant_of-self c =
       taken = i.taken;
       edges = i.edges.items;
       steps = i.present.count - i.base.count;
+      most = i.most;
       stop = i.stop;
     } in
     let lt : c.args.page < length i.pages = omega (arith, ap (λ (l : LeaseView). length l.slots) view, c.requires.page) in

@@ -1,6 +1,6 @@
-use Rattle.std.proofs.Common.{◌≡◌, ◌+◌, refl, sym, true≢false, arith}
-use Rattle.hart_lease.specs.Leases.{IsFull}
-use Rattle.hart_lease.proofs.steps.Running.{joined, one_more, stopped, steps_one}
+use Rattle.std.proofs.Common.{◌≡◌, ◌+◌, ◌≤◌, refl, ap, sym, true≢false, arith, inl}
+use Rattle.hart_lease.specs.Leases.{LeaseView, IsFull}
+use Rattle.hart_lease.proofs.steps.Running.{joined, one_more, same_most, stopped, steps_one}
 use Rattle.hart_lease.proofs.lease.Lease.run.Goals as goal
 
 pub returns-in_default : goal.returns-in_default
@@ -49,3 +49,16 @@ returns-in_default-tick c =
 
 pub returns-clause-does : goal.returns-clause-does
 returns-clause-does c = (c.loop-self.invariant.steps.0, c.loop-self.invariant.steps.1, c.loop-self-test.ensures.0 refl)
+
+pub loop-self-smaller : goal.loop-self-smaller
+loop-self-smaller c =
+    let before = c.loop-self.self in
+    let on = c.go_quietly.new.self in
+    let after = c.tick.new.self in
+    let b = c.go_quietly.ensures.steps in
+    let further = c.go_quietly.ensures.further in
+    let kept = same_most b.0 before on b.1 in
+    let same : after.most ≡ on.most = ap (λ (v : LeaseView). v.most) c.in-Done-tick.ensures.does.0 in
+    let one = steps_one on after c.in-Done-tick.ensures.does in
+    let room : IsFull on → ⊥ = λ f. true≢false (sym (c.if-full.ensures.1 f)) in
+    omega (arith, kept, same, one, further, λ (le : on.most ≤ on.steps). room (inl le))

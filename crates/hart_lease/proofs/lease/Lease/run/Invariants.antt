@@ -13,4 +13,4 @@ invariant-loop-self l = record {
 }
 
 abbrev pub decreases-loop-self : goal.decreases-loop-self
-decreases-loop-self l = 1024 - l.self.steps
+decreases-loop-self l = l.self.most - l.self.steps

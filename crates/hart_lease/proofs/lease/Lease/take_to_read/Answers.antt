@@ -21,6 +21,7 @@ invariant_of-self c =
       taken = i.taken;
       edges = i.edges.items;
       steps = i.present.count - i.base.count;
+      most = i.most;
       stop = i.stop;
     })
     c.args.page c.args.here lt row (ap (λ (l : LeaseView). slot_at l.slots c.args.page) view ∙ c.requires.missing) c.self.invariant)

@@ -21,6 +21,7 @@ invariant_of-self c =
       taken = i.taken;
       edges = i.edges.items;
       steps = i.present.count - i.base.count;
+      most = i.most;
       stop = i.stop;
     })
     c.args.page c.args.base lt row (ap (λ (l : LeaseView). is_writable (slot_at l.slots c.args.page)) view ∙ c.requires.unwritten)

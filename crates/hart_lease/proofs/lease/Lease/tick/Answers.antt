@@ -17,6 +17,7 @@ invariant_of-self c =
       taken = i.taken;
       edges = i.edges.items;
       steps = i.present.count - i.base.count;
+      most = i.most;
       stop = i.stop;
     })
     c.args.self.now c.tick_running.new.state c.tick_running.new.pages c.steps.result [] c.self.view_is c.steps.ensures
@@ -38,6 +39,7 @@ returns-clause-does c =
       taken = i.taken;
       edges = i.edges.items;
       steps = i.present.count - i.base.count;
+      most = i.most;
       stop = i.stop;
     })
     c.args.self.now c.tick_running.new.state c.tick_running.new.pages c.steps.result [] c.self.view_is c.steps.ensures
@@ -59,6 +61,7 @@ returns-clause-lent c m counts earlier lent =
       taken = i.taken;
       edges = i.edges.items;
       steps = i.present.count - i.base.count;
+      most = i.most;
       stop = i.stop;
     })
     c.args.self.now c.tick_running.new.state c.tick_running.new.pages c.steps.result [] c.self.view_is c.steps.ensures

@@ -10,8 +10,8 @@ use Rattle.primary_pool.proofs.Leasing.{free_alone}
 use Rattle.primary_pool.proofs.Onward.{runs_on}
 use Rattle.primary_pool.proofs.Rounds.{continues_on}
 use Rattle.primary_pool.proofs.Picking.{goes_on, goes_further, limited_rest, limits_aside, machine_stays, rest_goes_on}
-use Rattle.primary_pool.proofs.pool.run.Given.{Over}
-use Rattle.primary_pool.proofs.pool.run.Goals as goal
+use Rattle.primary_pool.proofs.pool.run_with.Given.{Over}
+use Rattle.primary_pool.proofs.pool.run_with.Goals as goal
 
 -- the book as it was handed in, with its budgets, as it was picked, once it was finished, and with its limits
 module _ (a l p b f : BookView RecordingView) (budget limits : List ℕ) (limited : l ≡ record a { mode = record a.mode { limits = budget } }) (first : HasRun l)
