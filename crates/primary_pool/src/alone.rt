@@ -3,6 +3,7 @@
 ghost use Rattle.std.specs.Prelude.{◌<◌, length};
 ghost use Rattle.lease_rounds.specs.Leading.{IsFreeAlone, IsIdle};
 
+use crate::pacing::FAR;
 use crate::turnstile::Turnstile;
 use ft_types::{Count, Hart, LEASE_STEPS};
 use lease_rounds::{PageMask, go_for};
@@ -11,10 +12,6 @@ use std::alloc::Global;
 
 /// After so many leases the hart begins one without pages, so that it does not take for good what it used once.
 const LONGEST: u64 = 32;
-
-/// How many steps a lease takes at the most where no turnstile counts them. Nobody waits for this hart, and what a lease costs
-/// is paid once.
-const FAR: u64 = 64 * LEASE_STEPS;
 
 /// Leads the book's first hart on this thread, lease by lease, until it is halted or at its end, where memory is refused or where
 /// it cannot go on.

@@ -4,7 +4,9 @@ ghost use Rattle.lease_rounds.specs.Leading.{IsFreeAlone, IsIdle};
 
 use crate::alone::lead_alone;
 use crate::calls::Calls;
-use crate::desk::{Brought, Desk, FAR, Pace, Stop, Turn};
+use crate::desk::Desk;
+use crate::pacing::FAR;
+use crate::turns::{Brought, Pace, Stop, Turn};
 use crate::turnstile::Turnstile;
 use ft_types::{COUNT_LIMIT, Count, Counts, HART_LIMIT, HART_ROW, Hart, HartSet, LEASE_STEPS};
 use page_book::{Book, Lease, Mode};

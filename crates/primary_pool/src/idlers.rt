@@ -6,6 +6,12 @@ use lease_rounds::PageMask;
 /// How many steps the others take before a hart that only waits looks again, though nothing that it reads has changed.
 const PATIENCE: u64 = 8 * LEASE_STEPS;
 
+/// How many steps a lease takes of a hart that only waited lately: it looks whether what it waits for has come.
+pub(crate) const LOOK: u64 = 128;
+
+/// So many leases it looks, unless it only waits again.
+const LOOKS: u8 = 4;
+
 /// After so many rings in a row behind which it only waited a hart is taken to wait behind the next one too.
 const SURE: u8 = 2;
 
@@ -52,6 +58,8 @@ pub(crate) struct Idlers {
     rang: [u8; HART_ROW],
     /// How far the others had come then.
     since: [u64; HART_ROW],
+    /// How many more leases each hart looks.
+    looks: [u8; HART_ROW],
 }
 
 impl Idlers {
@@ -66,12 +74,18 @@ impl Idlers {
             waits: [0; HART_ROW],
             rang: [SOON; HART_ROW],
             since: [0; HART_ROW],
+            looks: [0; HART_ROW],
         }
     }
 
     /// Whether the hart only waits.
     pub(crate) fn is_idle(&self, hart: usize) -> bool {
         hart < HART_ROW && self.idle[hart]
+    }
+
+    /// Whether the hart only waited lately.
+    pub(crate) fn is_looking(&self, hart: Hart) -> bool {
+        self.looks[hart.index()] != 0
     }
 
     /// Whether a hart that only waits is to wait on while the others are so far.
@@ -87,7 +101,12 @@ impl Idlers {
     /// A lease of the hart comes back. Whether the hart only waits.
     pub(crate) fn note(&mut self, hart: Hart, settled: Settled) -> bool {
         let hart = hart.index();
-        let still = settled.steps >= LEASE_STEPS && self.traces[hart] == settled.trace;
+        let whole = if self.looks[hart] != 0 {
+            LOOK
+        } else {
+            LEASE_STEPS
+        };
+        let still = settled.steps >= whole && self.traces[hart] == settled.trace;
         let sure = settled.rang && self.waits[hart] >= SURE;
         let idle = (still || sure) && !self.stirred[hart];
         self.learn(hart, still && idle, settled);
@@ -96,9 +115,11 @@ impl Idlers {
         } else {
             settled.pages
         };
+        self.looks[hart] = self.looks[hart].saturating_sub(1);
         if idle {
             self.waiting_pages[hart] = self.pages[hart];
             self.rang[hart] = SOON;
+            self.looks[hart] = LOOKS;
         }
         self.idle[hart] = idle;
         self.traces[hart] = settled.trace;

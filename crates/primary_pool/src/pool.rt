@@ -9,9 +9,9 @@ ghost use Rattle.page_book.specs.Tellings.{TellsOn};
 ghost use Rattle.primary_pool.specs.Running.{IsIdle, AreAtBudget, Continues, GoToBudget, RunsOn, KeepsOffered};
 
 use crate::crew::run_crew;
-use crate::desk::Pace;
 use crate::fault::PoolFault;
 use crate::plain::{has_run, run_plain};
+use crate::turns::Pace;
 use crate::turnstile::Turnstile;
 use ft_types::{Counts, HART_ROW, HartSet};
 use page_book::{Book, Recording};
