@@ -1,7 +1,11 @@
 /* Harts that share the code alone: each goes over words on its own stack, again and again. */
 #include "guest.h"
 
-enum { WORDS = 256, PASSES = 400 };
+#ifndef PASSES
+#define PASSES 400
+#endif
+
+enum { WORDS = 256 };
 
 void guest(unsigned hart)
 {

@@ -15,6 +15,8 @@ enum Way {
     Ticks,
     /// Many at once.
     Runs,
+    /// The same, by leases of up to 2,500 steps.
+    LongRuns,
 }
 
 /// One hart with two pages and a page that is not there. Its traps lead back to the first word; x1 is the first page's
@@ -79,6 +81,13 @@ fn run(crew: &mut Crew<Recording>) -> Tick {
     }
 }
 
+/// Lets the hart's open lease take up to 2,500 steps.
+fn lengthen(crew: &mut Crew<Recording>) {
+    if let Some(lease) = &mut crew.leases[0] {
+        lease.allow(2500);
+    }
+}
+
 /// Takes the steps of the hart's open lease, and asks for the pages that they lack.
 fn go(crew: &mut Crew<Recording>, way: Way) {
     if way == Way::Ticks {
@@ -105,15 +114,20 @@ fn led(alloc: Global, file: &[u8], limit: Count, way: Way) -> Result<Book<Record
         if crew.lend(alloc, hart(0)).is_err() {
             break;
         }
+        if way == Way::LongRuns {
+            lengthen(&mut crew);
+        }
         go(&mut crew, way);
         let _settled = crew.settle(hart(0), Keep::All);
     }
     Ok(crew.end())
 }
 
-// Both ways lead to the same machine, in as many leases, also where the words store among themselves, trap and put out.
+// All ways lead to the same machine, the first two in as many leases, also where the words store among themselves, trap and put
+// out. Longer leases are fewer, where the guest goes so far.
 #[test]
 fn a_run_is_its_ticks(rt: HostRuntime) -> Result<(), Fail> {
+    let mut fewer = 0u32;
     for seed in 1..60u64 {
         let limit = 40 * seed + 1;
         let file = guest(rt.alloc(), seed * 0x9e37_79b9)?;
@@ -124,6 +138,12 @@ fn a_run_is_its_ticks(rt: HostRuntime) -> Result<(), Fail> {
             stands_at(&ran, ticked.counts().as_slice(), ticked.journal().len()),
             "{seed}"
         );
+        let far = led(rt.alloc(), &file, limit, Way::LongRuns)?;
+        assert!(rt; same_machine(&ticked, &far), "{seed}");
+        if far.journal().len() < ran.journal().len() {
+            fewer = fewer.saturating_add(1);
+        }
     }
+    assert!(rt; fewer > 0);
     Ok(())
 }
