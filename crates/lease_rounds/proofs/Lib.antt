@@ -1,3 +1,4 @@
 pub mod Filling
 pub mod Lending
 pub mod GoingOn
+pub mod Masks

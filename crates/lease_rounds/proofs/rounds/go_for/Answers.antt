@@ -1,4 +1,4 @@
-use Rattle.std.proofs.Common.{inr, subst, sym, ◌≡◌}
+use Rattle.std.proofs.Common.{inr, subst, sym}
 use Rattle.hart_lease.specs.Leases.{LeaseView}
 use Rattle.lease_rounds.specs.Leading.{Lends}
 use Rattle.lease_rounds.proofs.Filling.{alone_for, where_err}
