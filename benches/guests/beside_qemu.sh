@@ -1,7 +1,7 @@
 #!/bin/sh
 # beside_qemu.sh [PROGRAM]: how many nanoseconds of user time an instruction of each guest takes when we record it, and by QEMU with
 # `-icount shift=0`: the time of many instructions less that of few, so that starting falls away, ours and QEMU's turn by turn. For each the
-# median of five such differences, with the least and the most. PROGRAM is a built guests_bench, by itself one that is built here. Needs rt,
+# median of five such differences, with the least and the most. PROGRAM is a built threads_bench, by itself one that is built here. Needs rt,
 # python3, qemu-system-riscv32 and gcc-riscv64-unknown-elf. Works in a folder of its own, which it removes.
 set -eu
 here=$(cd "$(dirname "$0")" && pwd)
@@ -10,7 +10,9 @@ here=$(cd "$(dirname "$0")" && pwd)
 if [ $# -gt 0 ]; then
     program=$1
 else
-    workspace guests_bench "interleaving zaamo ft_types rv32_isa input_log rv32_hart edge_log guest_image crew_pages lease_ledger hart_lease book_modes page_book lease_rounds primary_pool" "ft_types rv32_hart guest_image page_book primary_pool anyhow" "$here/images/mixture.image" 30000
+    here=$here/../threads
+    workspace threads_bench "interleaving zaamo ft_types rv32_isa input_log rv32_hart edge_log guest_image crew_pages lease_ledger hart_lease book_modes page_book lease_rounds primary_pool" "ft_types guest_image page_book primary_pool anyhow" plain "$here/images/nothing.image" 1000 1
+    here=$here/../guests
 fi
 make -s -C "$here" virt > "$work/make.txt" 2>&1 || {
     cat "$work/make.txt"
@@ -26,8 +28,8 @@ print(round(resource.getrusage(resource.RUSAGE_CHILDREN).ru_utime * 1e9))' "$wor
 
 # ours GUEST STEPS: the instructions that were taken, and the time.
 ours() {
-    time=$(user "$program" "$here/images/$1.image" "$2")
-    echo "$(awk 'NR == 1 { print $2 }' "$work/told") $time"
+    time=$(user "$program" threads "$here/images/$1.image" "$2" 1)
+    echo "$(awk 'NR == 1 { print $3 }' "$work/told") $time"
 }
 
 # qemu GUEST STEPS: the same by QEMU. Its memory goes as far as the guest's device page, so that an output is a store to RAM.
