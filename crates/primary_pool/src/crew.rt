@@ -43,7 +43,8 @@ pub fn run_crew<M: Mode + Send, R: Threads + Wait + Sync, T: Turnstile + Sync>(
     desk.into_inner().into_book()
 }
 
-/// Starts the threads, leads those that have none, and returns when each has ended.
+/// Starts the threads, leads the harts that have none, and returns when each has ended. The first hart's thread is this one, unless
+/// it has others to lead: else it would sleep, and the system would have to find out that its processor is free.
 fn lead_all<'x, M: Mode + Send, R: Threads + Wait + Sync, T: Turnstile + Sync>(
     rt: &'x R,
     alloc: Global,
@@ -55,10 +56,13 @@ fn lead_all<'x, M: Mode + Send, R: Threads + Wait + Sync, T: Turnstile + Sync>(
 ) {
     thread::scope(thread::scope_env(), rt, |scope| {
         let mut here = here;
-        for number in 0..ends.harts() {
+        for done in 0..ends.harts() {
+            let number = ends.harts() - 1 - done;
             let hart = Hart::new(number);
             let end = ends.get(hart);
-            if !here.contains(hart)
+            if number == 0 && here.is_empty() {
+                work(rt, alloc, desk, calls, number, end, turnstile);
+            } else if !here.contains(hart)
                 && scope
                     .spawn(move || work(rt, alloc, desk, calls, number, end, turnstile))
                     .is_err()
