@@ -16,7 +16,7 @@ use input_script::{Offered, read_script};
 use log_audit::audit;
 use log_join::Store;
 use log_streams::{
-    PairOrders, Pairs, Quorum, Replays, StreamsFault, frames_of, read_store, replay_streams,
+    PairOrders, Pairs, Quorum, Replays, Runs, StreamsFault, frames_of, read_store, replay_streams,
     run_primary, write_frames, write_position, write_size, write_store,
 };
 use page_book::{Book, Recording};
@@ -215,17 +215,19 @@ fn audit_logs<F: Files, W: Sink>(
 }
 
 /// Runs a primary with what the request's script offers.
-fn run_script<F: Files>(
+fn run_script<F: Files, P: Runs>(
     alloc: Global,
     image: &Image,
     budget: u32,
     request: &Request<'_>,
     files: &mut F,
+    runs: &P,
 ) -> Result<Book<Recording>, CommandFault>
+    requires { P.may_run runs.now }
     ensures { IfOk result (λ b. length b.machine.harts ≡ image.now.harts) }
 {
     let script = read_script_file(alloc, request, image.harts(), files)?;
-    Ok(run_primary(alloc, image, &script, budget)?)
+    Ok(run_primary(alloc, runs, image, &script, budget)?)
 }
 
 /// Writes the frames of a primary to the file that is made.
@@ -259,15 +261,18 @@ fn write_run<F: Files, W: Sink>(
 }
 
 /// Runs a primary, and writes its frames and its machine.
-fn record<F: Files, W: Sink>(
+fn record<F: Files, P: Runs, W: Sink>(
     alloc: Global,
     image: &Image,
     budget: u32,
     request: &Request<'_>,
     files: &mut F,
+    runs: &P,
     out: &mut W,
-) -> Result<(), CommandFault> {
-    let book = run_script(alloc, image, budget, request, files)?;
+) -> Result<(), CommandFault>
+    requires { P.may_run runs.now }
+{
+    let book = run_script(alloc, image, budget, request, files, runs)?;
     write_run(alloc, image, &book, request, files, out)
 }
 
@@ -315,7 +320,7 @@ fn run_task<F: Files, P: Pairs, W: Sink>(
     match &request.task {
         Task::Replay(logs) => replay_logs(alloc, image, logs, files, pairs, out),
         Task::Join { logs, .. } => join_logs(alloc, image, logs, request, files, out),
-        Task::Run { budget, .. } => record(alloc, image, *budget, request, files, out),
+        Task::Run { budget, .. } => record(alloc, image, *budget, request, files, pairs, out),
         Task::Cut(logs) => cut_logs(alloc, image, logs, files, out),
         Task::Audit(logs) => audit_logs(alloc, image, logs, files, out),
         Task::Pair { orders, .. } => pair_script(alloc, image, orders, request, files, pairs, out),

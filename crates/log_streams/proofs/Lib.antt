@@ -7,4 +7,4 @@ pub mod Outcomes
 pub mod Openings
 pub mod Truthful
 pub mod Ends
-pub mod Runs
+pub mod HonestRuns

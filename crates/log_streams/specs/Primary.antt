@@ -13,7 +13,7 @@ use Rattle.fragment_codec.specs.declared.frame.Frame.{Frame}
 use Rattle.fragment_codec.specs.declared.frame.Frame.TheVariants.{Opening}
 use Rattle.page_book.specs.Books.{BookView}
 use Rattle.book_modes.specs.Recordings.{RecordingView}
-use Rattle.primary_pool.specs.Running.{IsIdle, AreThrough, Continues, RunsOn, GoWithin, GoesRound, KeepsOffered}
+use Rattle.primary_pool.specs.Running.{IsIdle, AreThrough, Continues, RunsOn, GoWithin, KeepsOffered}
 
 -- what a script offers to a hart, in its order
 abbrev pub offered_to : List Offered → ℕ → List WaitingInput
@@ -43,7 +43,6 @@ pub record IsRunOf (image : ImageContents) (script : List Offered) (limit : ℕ)
   pub ready : IsReady image script limit before
   pub goes_on : Continues before b
   pub runs : RunsOn before b
-  pub rounds : GoesRound before b
   pub offered : KeepsOffered before b
   pub within : GoWithin before b
   pub limits : b.mode.limits ≡ before.mode.limits

@@ -10,6 +10,7 @@ mod primary;
 mod quorum;
 mod reading;
 mod replays;
+mod runs;
 mod stores;
 mod streams;
 
@@ -21,5 +22,6 @@ pub use primary::{TERM, begin_run, first_opening, frames_of, run_primary};
 pub use quorum::Quorum;
 pub use reading::read_store;
 pub use replays::{Plainly, Replays};
+pub use runs::Runs;
 pub use stores::{StoreSize, write_frames, write_position, write_size, write_store};
 pub use streams::replay_streams;

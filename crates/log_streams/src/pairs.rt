@@ -6,7 +6,7 @@ ghost use Rattle.input_script.specs.Script.{AreOffered};
 
 use crate::faults::StreamsFault;
 use crate::quorum::Quorum;
-use crate::replays::Replays;
+use crate::runs::Runs;
 use ft_types::Sink;
 use guest_image::Image;
 use input_script::Offered;
@@ -56,8 +56,8 @@ impl PairOrders {
     }
 }
 
-/// Who runs pairs, a primary, its keepers and a gate, beside replays. How pairs run is in no contract here.
-pub trait Pairs: Replays {
+/// Who runs pairs, a primary, its keepers and a gate, beside runs and replays. How pairs run is in no contract here.
+pub trait Pairs: Runs {
     /// Runs a primary of the image from boot, with what the script offers, beside keepers and a gate. Then it writes what went
     /// out, how much did not, and the primary's machine.
     fn run_pair<W: Sink>(

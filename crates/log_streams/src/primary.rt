@@ -8,12 +8,12 @@ ghost use Rattle.input_script.specs.Script.{AreOffered};
 ghost use Rattle.log_streams.specs.Primary.{AreOfferedTo, IsReady, IsRunOf, AreFramesOf};
 ghost use Rattle.log_streams.specs.Ends.{ReachItsEnd};
 
+use crate::runs::Runs;
 use fragment_codec::{Frame, Opening, Sealed, cut_pieces};
 use ft_types::{Count, Counts, Guest, Hart, Memory, Term};
 use guest_image::{Image, Machine};
 use input_script::Offered;
 use page_book::{Book, Recording};
-use primary_pool::{PoolFault, run_plain};
 use std::alloc::Global;
 
 /// The term of the run.
@@ -61,21 +61,20 @@ pub fn begin_run(
 }
 
 /// Runs a primary of the image from boot, with what the script offers, until each hart is halted or at the limit.
-pub fn run_primary(
+pub fn run_primary<P: Runs>(
     alloc: Global,
+    runs: &P,
     image: &Image,
     script: &[Offered],
     limit: u32,
 ) -> Result<Book<Recording>, Memory>
-    requires { AreOffered image.now.harts script.now }
+    requires may { P.may_run runs.now }
+    requires script { AreOffered image.now.harts script.now }
     ensures run { IfOk result (λ b. IsRunOf image.now script.now limit b) }
     ensures harts { IfOk result (λ b. length b.machine.harts ≡ image.now.harts) }
 {
     let book = begin_run(alloc, image, script, limit)?;
-    match run_plain(alloc, book) {
-        Ok(book) => Ok(book),
-        Err(PoolFault::Memory) => Err(Memory),
-    }
+    runs.run_book(alloc, book)
 }
 
 /// The opening of the term, from boot.

@@ -16,10 +16,10 @@ use ft_types::{Memory, Sink};
 use guest_image::{Image, Machine};
 use hart_replay::{Plan, ReplayFault};
 use input_script::Offered;
-use log_streams::{PairOrders, Pairs, Replays, StreamsFault, TERM, begin_run};
+use log_streams::{PairOrders, Pairs, Replays, Runs, StreamsFault, TERM, begin_run};
 use output_gate::{Gate, Output};
 use page_book::{Book, Recording};
-use primary_pool::Free;
+use primary_pool::{Free, PoolFault, run};
 use replay_pool::replay;
 use std::alloc::Global;
 use std::result::Result;
@@ -165,7 +165,7 @@ pub fn run_pair<R: Threads + Wait + Sync>(
     run_all(rt, alloc, &board, watch, posts, primary)
 }
 
-/// Runs pairs and replays on the threads of a runtime.
+/// Runs, pairs and replays on the threads of a runtime.
 #[derive(Drop)]
 pub struct OnThreads<'a, R: Threads + Wait + Sync> {
     rt: &'a R,
@@ -185,6 +185,16 @@ impl<R: Threads + Wait + Sync> Replays for OnThreads<'_, R> {
 
     fn replay(&self, alloc: Global, image: &Image, plan: &Plan) -> Result<Machine, ReplayFault> {
         replay(self.rt, alloc, image, plan, &Free)
+    }
+}
+
+impl<R: Threads + Wait + Sync> Runs for OnThreads<'_, R> {
+    fn run_book(&self, alloc: Global, book: Book<Recording>) -> Result<Book<Recording>, Memory> {
+        let limits = book.limits();
+        match run(self.rt, alloc, book, limits, &Free) {
+            Ok(book) => Ok(book),
+            Err(PoolFault::Memory) => Err(Memory),
+        }
     }
 }
 

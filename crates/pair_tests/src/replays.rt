@@ -4,7 +4,7 @@ use crate::guests::ADDS;
 use fixtures::image_of;
 use ft_types::{MemorySink, MemorySource};
 use guest_image::{Image, Machine};
-use log_streams::{Replays, frames_of, replay_streams, run_primary, write_frames};
+use log_streams::{Plainly, Replays, frames_of, replay_streams, run_primary, write_frames};
 use page_book::{Book, Recording};
 use pair::OnThreads;
 use std::alloc::Global;
@@ -53,7 +53,7 @@ fn adds_are_replayed<P: Replays>(alloc: Global, replays: &P) -> Result<bool, Fai
     requires { P.may_run replays.now }
 {
     let image = image_of(alloc, ADDS)?;
-    let book = run_primary(alloc, &image, &[], 100_000).map_err(|_| "run")?;
+    let book = run_primary(alloc, &Plainly, &image, &[], 100_000).map_err(|_| "run")?;
     let stream = stream_of(alloc, &image, &book)?;
     is_replayed(alloc, &image, stream, book.machine(), replays)
 }

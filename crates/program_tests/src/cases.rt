@@ -3,11 +3,12 @@
 use crate::files_in_memory::MemoryFiles;
 use crate::samples::{Part, stream_of};
 use command_line::{PairOrders, Pairs, command};
-use ft_types::{MemorySink, MemorySource, Sink};
+use ft_types::{Memory, MemorySink, MemorySource, Sink};
 use guest_image::{Image, Machine};
 use hart_replay::{Plan, ReplayFault};
 use input_script::Offered;
-use log_streams::{Plainly, Replays, StreamsFault};
+use log_streams::{Plainly, Replays, Runs, StreamsFault};
+use page_book::{Book, Recording};
 use std::alloc::Global;
 use std::cell::RefCell;
 use std::rc::Rc;
@@ -102,6 +103,12 @@ impl Replays for NoPairs {
 
     fn replay(&self, alloc: Global, image: &Image, plan: &Plan) -> Result<Machine, ReplayFault> {
         Plainly.replay(alloc, image, plan)
+    }
+}
+
+impl Runs for NoPairs {
+    fn run_book(&self, alloc: Global, book: Book<Recording>) -> Result<Book<Recording>, Memory> {
+        Plainly.run_book(alloc, book)
     }
 }
 

@@ -1,4 +1,4 @@
-use Rattle.log_streams.proofs.Runs.{runs_tell_truly, runs_replay}
+use Rattle.log_streams.proofs.HonestRuns.{runs_tell_truly, runs_replay}
 use Rattle.log_streams.proofs.laws.honest_runs.Goals as goal
 
 pub returns-clause-truly : goal.returns-clause-truly

@@ -1,0 +1,37 @@
+//! Who runs a primary's book.
+
+ghost use Rattle.std.specs.Prelude.{◌≡◌, ◌≤◌, ℕ, IfOk};
+ghost use Rattle.ft_types.specs.Counts.{count_at};
+ghost use Rattle.hart_lease.specs.Runs.{counts_of};
+ghost use Rattle.primary_pool.specs.Running.{IsIdle, AreThrough, Continues, RunsOn, GoWithin, KeepsOffered};
+
+use crate::replays::{Plainly, Replays};
+use ft_types::Memory;
+use page_book::{Book, Recording};
+use primary_pool::{PoolFault, run_plain};
+use std::alloc::Global;
+
+/// Who runs books, beside replays: in turn, or on threads. In which order harts go is in no contract here.
+pub trait Runs: Replays {
+    /// Runs each hart until it is halted or at its limit. Where memory is refused the book is given up.
+    fn run_book(&self, alloc: Global, book: Book<Recording>) -> Result<Book<Recording>, Memory>
+        requires may { Self.may_run self.now }
+        requires idle { IsIdle book }
+        requires below { (hart : ℕ) → counts_of book.machine hart ≤ count_at book.mode.limits hart }
+        ensures done { IfOk result (λ b. AreThrough b) }
+        ensures idle { IfOk result (λ b. IsIdle b) }
+        ensures continues { IfOk result (λ b. Continues book b) }
+        ensures runs { IfOk result (λ b. RunsOn book b) }
+        ensures offered { IfOk result (λ b. KeepsOffered book b) }
+        ensures limits { IfOk result (λ b. b.mode.limits ≡ book.mode.limits) }
+        ensures counts { IfOk result (λ b. GoWithin book b) };
+}
+
+impl Runs for Plainly {
+    fn run_book(&self, alloc: Global, book: Book<Recording>) -> Result<Book<Recording>, Memory> {
+        match run_plain(alloc, book) {
+            Ok(book) => Ok(book),
+            Err(PoolFault::Memory) => Err(Memory),
+        }
+    }
+}
