@@ -4,3 +4,4 @@ pub mod Onward
 pub mod Sealed
 pub mod Taken
 pub mod Told
+pub mod Limits
