@@ -157,6 +157,15 @@ impl<M: Mode> Book<M> {
         &self.machine
     }
 
+    /// The machine as of the settled steps. Nothing else of the book is needed.
+    pub fn into_machine(self) -> Machine
+        ensures value { result ≡ self.machine }
+        ensures run { LeadsTo (M.heard self.mode) self.start self.journal self.machine }
+        ensures begins { BeginsSchedule (M.obeyed self.mode) (M.stops self.mode) self.start self.journal }
+    {
+        self.machine
+    }
+
     /// The settled steps, in order.
     pub fn journal(&self) -> &[Stretch]
         ensures { result.now ≡ self.now.journal }

@@ -23,14 +23,14 @@ pub(crate) fn count_of(counts: Counts, hart: Hart) -> Count
 
 /// The machine, where each of its harts has come to its end; else why not.
 pub(crate) fn come_to(
-    machine: &Machine,
+    machine: Machine,
     counts: Counts,
     ends: Counts,
 ) -> Result<Machine, ReplayFault>
-    requires harts { length counts ≡ length machine.now.harts }
-    requires counts { (hart : ℕ) → count_at counts hart ≡ counts_of machine.now hart }
-    ensures ok { IfOk result (λ m. ComesTo machine.now ends m) }
-    ensures fault { IfErr result (λ fault. ComesShort machine.now ends fault) }
+    requires harts { length counts ≡ length machine.harts }
+    requires counts { (hart : ℕ) → count_at counts hart ≡ counts_of machine hart }
+    ensures ok { IfOk result (λ m. ComesTo machine ends m) }
+    ensures fault { IfErr result (λ fault. ComesShort machine ends fault) }
 {
     let mut waits = false;
     for number in 0..counts.harts() {
@@ -46,5 +46,5 @@ pub(crate) fn come_to(
     if waits {
         return Err(ReplayFault::Cyclic(counts));
     }
-    Ok(machine.copy()?)
+    Ok(machine)
 }

@@ -20,7 +20,8 @@ fn lead_on(alloc: Global, now: Machine, leg: &PlannedLeg) -> Result<Machine, Rep
     ensures fault { IfErr result (λ fault. FailsOn leg.now now fault) }
 {
     let ended = finish(alloc, begin(alloc, now, leg)?)?;
-    come_to(ended.machine(), ended.counts(), leg.ends)
+    let counts = ended.counts();
+    come_to(ended.into_machine(), counts, leg.ends)
 }
 
 /// The machine to which the legs lead on from this one, to which the first ones have led.

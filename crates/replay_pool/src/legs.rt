@@ -88,5 +88,6 @@ pub(crate) fn replay_leg<R: Threads + Wait + Sync, T: Turnstile + Sync>(
         HartSet::new(),
     );
     let ended = finish(alloc, pick(held, copy))?;
-    come_to(ended.machine(), ended.counts(), leg.ends)
+    let counts = ended.counts();
+    come_to(ended.into_machine(), counts, leg.ends)
 }

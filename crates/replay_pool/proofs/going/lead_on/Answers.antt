@@ -16,10 +16,10 @@ returns c =
     let stopped =
     stops now leg begun begun begun b c.in_ok-begin.ensures refl (goes_on_itself begun) c.in_ok-ended.ensures.leading c.in_ok-ended.ensures.held in
     let heard = ap (λ (leg : Leg). heard_in leg.inputs) stopped.leading.mode in
-    let run = c.machine.ensures.run in
-    let begins = c.machine.ensures.begins in
-    let here = c.machine.ensures.value in
+    let run = c.into_machine.ensures.run in
+    let begins = c.into_machine.ensures.begins in
+    let here = c.into_machine.ensures.value in
     record {
-      ok = leads_on now leg b stopped (heard_in b.mode.inputs) heard run begins c.machine.result.now c.come_to.result here c.come_to.ensures.ok;
-      fault = fails_on now leg b stopped (heard_in b.mode.inputs) heard run begins c.machine.result.now c.come_to.result here c.come_to.ensures.fault;
+      ok = leads_on now leg b stopped (heard_in b.mode.inputs) heard run begins c.into_machine.result c.come_to.result here c.come_to.ensures.ok;
+      fault = fails_on now leg b stopped (heard_in b.mode.inputs) heard run begins c.into_machine.result c.come_to.result here c.come_to.ensures.fault;
     }

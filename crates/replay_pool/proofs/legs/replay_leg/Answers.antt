@@ -18,14 +18,14 @@ returns g c =
     stops m leg c.in_ok-begun.begun c.in_ok-copy.copy c.pick.result b c.in_ok-begun.ensures c.in_ok-copy.ensures c.pick.ensures c.in_ok-ended.ensures.leading
     c.in_ok-ended.ensures.held in
     let heard = ap (λ (leg : Leg). heard_in leg.inputs) stopped.leading.mode in
-    let run = c.machine.ensures.run in
-    let begins = c.machine.ensures.begins in
-    let here = c.machine.ensures.value in
+    let run = c.into_machine.ensures.run in
+    let begins = c.into_machine.ensures.begins in
+    let here = c.into_machine.ensures.value in
     record {
       ok =
-          outcome_of m leg c.requires.leg c.requires.base b stopped (heard_in b.mode.inputs) heard run begins c.machine.result.now c.come_to.result here
+          outcome_of m leg c.requires.leg c.requires.base b stopped (heard_in b.mode.inputs) heard run begins c.into_machine.result c.come_to.result here
           c.come_to.ensures.ok;
       fault =
-          fault_of m leg c.requires.leg c.requires.base b stopped (heard_in b.mode.inputs) heard run begins c.machine.result.now c.come_to.result here
+          fault_of m leg c.requires.leg c.requires.base b stopped (heard_in b.mode.inputs) heard run begins c.into_machine.result c.come_to.result here
           c.come_to.ensures.fault;
     }
