@@ -2,4 +2,4 @@ use Rattle.hart_replay.proofs.rounds.Ends.{Looked}
 use Rattle.replay_pool.proofs.ends.come_to.Given as goal
 
 abbrev pub invariant-loop-number : goal.invariant-loop-number
-invariant-loop-number l = Looked l.waits l.number l.machine l.ends
+invariant-loop-number l = Looked l.waits l.number l.fn.machine l.ends
