@@ -37,7 +37,7 @@ pub fn run_crew<M: Mode + Send, R: Threads + Wait + Sync, T: Turnstile + Sync>(
         lead_alone(alloc, &mut book, ends.get(Hart::new(0)), turnstile);
         return book;
     }
-    let desk = Mutex::new(Desk::new(book, pace, turnstile.is_free()));
+    let desk = Mutex::new(Desk::new(book, pace, ends, turnstile.is_free()));
     let calls = Calls::new();
     lead_all(rt, alloc, &desk, &calls, ends, turnstile, here);
     desk.into_inner().into_book()

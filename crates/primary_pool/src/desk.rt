@@ -4,10 +4,10 @@ ghost use Rattle.std.specs.Prelude.{◌≡◌, ◌<◌, length};
 ghost use Rattle.page_book.specs.Books.{IsOurs};
 
 use crate::habits::Habits;
-use crate::idlers::Idlers;
+use crate::idlers::{Idlers, Settled};
 use crate::queue::Queue;
 use crate::turns::{Answer, Brought, Pace, Rest, Stop, Turn};
-use ft_types::{Count, HART_LIMIT, HART_ROW, Hart, HartSet, LEASE_STEPS, PageNo, Want};
+use ft_types::{Count, Counts, HART_LIMIT, HART_ROW, Hart, HartSet, LEASE_STEPS, PageNo, Want};
 use lease_rounds::PageMask;
 use page_book::{Book, BookFault, Keep, Lease, Mode, Need};
 use std::alloc::Global;
@@ -20,6 +20,8 @@ pub(crate) struct Desk<M: Mode> {
     pub(crate) habits: Habits,
     pub(crate) idlers: Idlers,
     pub(crate) pace: Pace,
+    /// How far each hart is to come.
+    pub(crate) ends: Counts,
     /// Whether no turnstile counts the leases.
     pub(crate) is_free: bool,
     /// Whether harts that only wait are to rest.
@@ -36,7 +38,7 @@ pub(crate) struct Desk<M: Mode> {
 
 impl<M: Mode> Desk<M> {
     /// A book whose harts all go on.
-    pub(crate) fn new(book: Book<M>, pace: Pace, is_free: bool) -> Desk<M> {
+    pub(crate) fn new(book: Book<M>, pace: Pace, ends: Counts, is_free: bool) -> Desk<M> {
         let mut steps = [u64::MAX; HART_ROW];
         for number in 0..book.machine().harts() {
             steps[number as usize] = 0;
@@ -47,6 +49,7 @@ impl<M: Mode> Desk<M> {
             habits: Habits::new(),
             idlers: Idlers::new(),
             pace,
+            ends,
             is_free,
             has_rests: is_free && pace == Pace::Even,
             quiet_from: 0,
@@ -228,6 +231,7 @@ impl<M: Mode> Desk<M> {
     fn take_back(&mut self, lease: Lease) -> Option<(u64, Count)> {
         let (hart, steps, count) = (lease.hart(), lease.steps(), lease.count());
         let woken = !lease.inputs().is_empty();
+        let awaits = self.awaits_its_count(hart, lease.stop());
         let before = self.rung_by(hart);
         let pages = self.queue.held(hart);
         let keep = self.keep_of(hart, pages);
@@ -236,7 +240,15 @@ impl<M: Mode> Desk<M> {
             Ok(()) => {
                 if self.has_rests {
                     let after = self.rung_by(hart);
-                    self.note_idle(hart, steps, pages, woken, before != after);
+                    let settled = Settled {
+                        steps,
+                        pages,
+                        trace: 0,
+                        woken,
+                        rang: before != after,
+                        awaits,
+                    };
+                    self.note_idle(hart, settled);
                     self.note_rung(before, after);
                 }
                 Some((steps, count))

@@ -38,6 +38,8 @@ pub(crate) struct Settled {
     pub(crate) woken: bool,
     /// Whether its last step rang.
     pub(crate) rang: bool,
+    /// Whether its hart has to come to a later count to be given something.
+    pub(crate) awaits: bool,
 }
 
 /// Which harts only wait: those whose registers were behind a whole lease what they were before it, and those that have just rung
@@ -106,7 +108,7 @@ impl Idlers {
         } else {
             LEASE_STEPS
         };
-        let still = settled.steps >= whole && self.traces[hart] == settled.trace;
+        let still = settled.steps >= whole && self.traces[hart] == settled.trace && !settled.awaits;
         let sure = settled.rang && self.waits[hart] >= SURE;
         let idle = (still || sure) && !self.stirred[hart];
         self.learn(hart, still && idle, settled);

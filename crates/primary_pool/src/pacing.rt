@@ -5,12 +5,12 @@ ghost use Rattle.std.specs.Prelude.{◌≡◌};
 use crate::desk::Desk;
 use crate::idlers::{LOOK, Settled, trace_of};
 use crate::turns::{Pace, Rest};
-use ft_types::{HART_LIMIT, HART_ROW, Hart, HartSet, LEASE_STEPS};
+use ft_types::{Count, HART_LIMIT, HART_ROW, Hart, HartSet, LEASE_STEPS};
 use lease_rounds::PageMask;
 use page_book::Mode;
 
 /// How far a hart may be ahead of the last one, at the least, to begin a lease.
-const FARTHEST: u64 = 8 * LEASE_STEPS;
+const FARTHEST: u64 = LEASE_STEPS;
 
 /// How many steps a lease takes at the most.
 pub(crate) const FAR: u64 = 64 * LEASE_STEPS;
@@ -44,7 +44,7 @@ impl<M: Mode> Desk<M> {
         let steps = self.steps[hart.index()];
         let fewest = self.fewest();
         let quiet = fewest.saturating_sub(self.quiet_from);
-        steps != u64::MAX && steps > fewest.saturating_add(quiet.saturating_mul(2).max(FARTHEST))
+        steps != u64::MAX && steps > fewest.saturating_add(quiet.max(FARTHEST))
     }
 
     /// Harts had to do with each other.
@@ -100,6 +100,11 @@ impl<M: Mode> Desk<M> {
         self.idlers.go_out(hart);
     }
 
+    /// Whether the hart, whose lease does not go past this count, has to come there to be given something: it does more than wait.
+    pub(crate) fn awaits_its_count(&self, hart: Hart, stop: Count) -> bool {
+        hart.number() < self.ends.harts() && stop < self.ends.get(hart)
+    }
+
     /// Whether each hart is done or sleeps until another settles steps.
     pub(crate) fn all_stuck(&self) -> bool {
         for number in 0..HART_ROW {
@@ -126,8 +131,8 @@ impl<M: Mode> Desk<M> {
         }
     }
 
-    /// How many steps a lease of the hart may take while nobody waits for it: twice as many as the last hart has come since harts
-    /// last had to do with each other, no more than usual where one waits, and few where the hart itself only waited lately.
+    /// How many steps a lease of the hart may take while nobody waits for it: as many as the last hart has come since harts last
+    /// had to do with each other, no more than usual where one waits, and few where the hart itself only waited lately.
     pub(crate) fn reach(&self, hart: Hart) -> u64 {
         if self.has_rests && self.idlers.is_looking(hart) {
             return LOOK;
@@ -137,7 +142,7 @@ impl<M: Mode> Desk<M> {
         }
         let quiet = self.fewest().saturating_sub(self.quiet_from);
         match self.pace {
-            Pace::Even => quiet.saturating_mul(2).max(LEASE_STEPS).min(FAR),
+            Pace::Even => quiet.max(LEASE_STEPS).min(FAR),
             Pace::Own => FAR,
         }
     }
@@ -175,25 +180,13 @@ impl<M: Mode> Desk<M> {
 
     /// A lease of the hart with these pages was settled. The hart only waits from now on, or others do not that wait for what it
     /// may have written.
-    pub(crate) fn note_idle(
-        &mut self,
-        hart: Hart,
-        steps: u64,
-        pages: PageMask,
-        woken: bool,
-        rang: bool,
-    ) {
+    pub(crate) fn note_idle(&mut self, hart: Hart, settled: Settled) {
         if hart.number() >= self.book.machine().harts() {
             return;
         }
+        let pages = settled.pages;
         let trace = trace_of(self.book.machine().hart(hart).registers());
-        let settled = Settled {
-            steps,
-            pages,
-            trace,
-            woken,
-            rang,
-        };
+        let settled = Settled { trace, ..settled };
         if self.idlers.note(hart, settled) {
             let others = self.fewest();
             self.idlers.rest(hart, others);
