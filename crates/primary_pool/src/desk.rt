@@ -250,6 +250,7 @@ impl<M: Mode> Desk<M> {
                     };
                     self.note_idle(hart, settled);
                     self.note_rung(before, after);
+                    self.wake_where_all_wait();
                 }
                 Some((steps, count))
             }

@@ -159,6 +159,12 @@ impl Idlers {
         }
     }
 
+    /// No hart only waits any more, as far as is known.
+    pub(crate) fn wake_all(&mut self) {
+        self.idle = [false; HART_ROW];
+        self.looks = [0; HART_ROW];
+    }
+
     /// The hart is lent.
     pub(crate) fn go_out(&mut self, hart: usize) {
         if hart < HART_ROW {

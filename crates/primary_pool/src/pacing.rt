@@ -75,12 +75,13 @@ impl<M: Mode> Desk<M> {
         Rest::Awake
     }
 
-    /// The hart counts as far as the last one.
+    /// The hart, which did not go on while the others did, counts no less far than the last one. What it took while it looked stays
+    /// counted: else it might use up its budget before another comes to what it waits for.
     fn catch_up(&mut self, hart: usize)
         ensures { self.new.book ≡ self.old.book }
     {
         if hart < HART_ROW && self.steps[hart] != u64::MAX {
-            self.steps[hart] = self.fewest();
+            self.steps[hart] = self.steps[hart].max(self.fewest());
         }
     }
 
@@ -195,6 +196,19 @@ impl<M: Mode> Desk<M> {
         for number in 0..HART_ROW {
             if self.idlers.is_waiting_for(number, pages.written()) {
                 self.stir(number);
+            }
+        }
+    }
+
+    /// Where each hart seems only to wait none rests: one of them may do more, or what they wait for may come at a later count.
+    pub(crate) fn wake_where_all_wait(&mut self) {
+        if self.fewest_busy() != u64::MAX {
+            return;
+        }
+        self.idlers.wake_all();
+        for rest in &mut self.rests {
+            if *rest == Rest::Idle {
+                *rest = Rest::Over;
             }
         }
     }
