@@ -48,6 +48,12 @@ pub record IsRunOf (image : ImageContents) (script : List Offered) (limit : ℕ)
   pub limits : b.mode.limits ≡ before.mode.limits
   pub through : AreThrough b
 
+-- such a run, in which the harts went on in this way
+pub record IsRunBy (goes : BookView RecordingView → BookView RecordingView → Type 0) (image : ImageContents) (script : List Offered) (limit : ℕ)
+    (b : BookView RecordingView) : Type 0 where
+  pub run : IsRunOf image script limit b
+  pub order : goes run.before b
+
 -- The opening of term 1, from boot, and behind it the pieces of the book's log, each hart's from count 0 and place 0 on.
 pub record AreFramesOf (guest : GuestParts) (b : BookView RecordingView) (frames : List Frame) : Type 0 where
   pub pieces : List Frame

@@ -5,7 +5,7 @@ ghost use Rattle.ft_types.specs.declared.names.TheConstants.{HART_LIMIT};
 ghost use Rattle.guest_image.specs.Image.{guest_of};
 ghost use Rattle.ft_types.specs.Guests.{IsGuest};
 ghost use Rattle.input_script.specs.Script.{AreOffered};
-ghost use Rattle.log_streams.specs.Primary.{AreOfferedTo, IsReady, IsRunOf, AreFramesOf};
+ghost use Rattle.log_streams.specs.Primary.{AreOfferedTo, IsReady, IsRunBy, AreFramesOf};
 ghost use Rattle.log_streams.specs.Ends.{ReachItsEnd};
 
 use crate::runs::Runs;
@@ -70,7 +70,7 @@ pub fn run_primary<P: Runs>(
 ) -> Result<Book<Recording>, Memory>
     requires may { P.may_run runs.now }
     requires script { AreOffered image.now.harts script.now }
-    ensures run { IfOk result (λ b. IsRunOf image.now script.now limit b) }
+    ensures run { IfOk result (λ b. IsRunBy (P.goes runs.now) image.now script.now limit b) }
     ensures harts { IfOk result (λ b. length b.machine.harts ≡ image.now.harts) }
 {
     let book = begin_run(alloc, image, script, limit)?;

@@ -3,6 +3,8 @@
 ghost use Rattle.std.specs.Prelude.{◌≡◌, ◌≤◌, ℕ, IfOk};
 ghost use Rattle.ft_types.specs.Counts.{count_at};
 ghost use Rattle.hart_lease.specs.Runs.{counts_of};
+ghost use Rattle.book_modes.specs.Recordings.{RecordingView};
+ghost use Rattle.page_book.specs.Books.{BookView};
 ghost use Rattle.primary_pool.specs.Running.{IsIdle, AreThrough, Continues, RunsOn, GoWithin, KeepsOffered};
 
 use crate::replays::{Plainly, Replays};
@@ -11,8 +13,11 @@ use page_book::{Book, Recording};
 use primary_pool::{PoolFault, run_plain};
 use std::alloc::Global;
 
-/// Who runs books, beside replays: in turn, or on threads. In which order harts go is in no contract here.
+/// Who runs books, beside replays: in turn, or on threads.
 pub trait Runs: Replays {
+    /// How harts go on from the first book to the second: nothing is said of it where they go on threads.
+    ghost goes: { Self → BookView RecordingView → BookView RecordingView → Type 0 };
+
     /// Runs each hart until it is halted or at its limit. Where memory is refused the book is given up.
     fn run_book(&self, alloc: Global, book: Book<Recording>) -> Result<Book<Recording>, Memory>
         requires may { Self.may_run self.now }
@@ -24,10 +29,15 @@ pub trait Runs: Replays {
         ensures runs { IfOk result (λ b. RunsOn book b) }
         ensures offered { IfOk result (λ b. KeepsOffered book b) }
         ensures limits { IfOk result (λ b. b.mode.limits ≡ book.mode.limits) }
-        ensures counts { IfOk result (λ b. GoWithin book b) };
+        ensures counts { IfOk result (λ b. GoWithin book b) }
+        ensures order { IfOk result (λ b. goes self.now book b) };
 }
 
 impl Runs for Plainly {
+    ghost use Rattle.primary_pool.specs.Running.{GoesRound};
+
+    ghost goes = { λ _ b c. GoesRound b c };
+
     fn run_book(&self, alloc: Global, book: Book<Recording>) -> Result<Book<Recording>, Memory> {
         match run_plain(alloc, book) {
             Ok(book) => Ok(book),

@@ -16,7 +16,7 @@ use ft_types::{Memory, Sink};
 use guest_image::{Image, Machine};
 use hart_replay::{Plan, ReplayFault};
 use input_script::Offered;
-use log_streams::{PairOrders, Pairs, Plainly, Replays, Runs, StreamsFault, TERM, begin_run};
+use log_streams::{PairOrders, Pairs, Replays, Runs, StreamsFault, TERM, begin_run};
 use output_gate::{Gate, Output};
 use page_book::{Book, Recording};
 use primary_pool::{Free, PoolFault, run};
@@ -189,10 +189,11 @@ impl<R: Threads + Wait + Sync> Replays for OnThreads<'_, R> {
 }
 
 impl<R: Threads + Wait + Sync> Runs for OnThreads<'_, R> {
+    ghost use Rattle.std.specs.Prelude.{⊤};
+
+    ghost goes = { λ _ _ _. ⊤ };
+
     fn run_book(&self, alloc: Global, book: Book<Recording>) -> Result<Book<Recording>, Memory> {
-        if book.machine().harts() != 1 {
-            return Plainly.run_book(alloc, book);
-        }
         let limits = book.limits();
         match run(self.rt, alloc, book, limits, &Free) {
             Ok(book) => Ok(book),

@@ -4,7 +4,7 @@ use crate::guests::ADDS;
 use fixtures::image_of;
 use ft_types::{MemorySink, MemorySource};
 use guest_image::{Image, Machine};
-use log_streams::{Plainly, Replays, frames_of, replay_streams, run_primary, write_frames};
+use log_streams::{Plainly, Replays, Runs, frames_of, replay_streams, run_primary, write_frames};
 use page_book::{Book, Recording};
 use pair::OnThreads;
 use std::alloc::Global;
@@ -48,18 +48,29 @@ fn is_replayed<P: Replays>(
     Ok(replayed.bytes() == ran.bytes())
 }
 
-/// Whether harts that added in turn are replayed to their machine.
-fn adds_are_replayed<P: Replays>(alloc: Global, replays: &P) -> Result<bool, Fail>
-    requires { P.may_run replays.now }
+/// Whether harts that added as these let them go are replayed to their machine.
+fn adds_are_replayed<Q: Runs, P: Replays>(
+    alloc: Global,
+    runs: &Q,
+    replays: &P,
+) -> Result<bool, Fail>
+    requires run { Q.may_run runs.now }
+    requires replay { P.may_run replays.now }
 {
     let image = image_of(alloc, ADDS)?;
-    let book = run_primary(alloc, &Plainly, &image, &[], 100_000).map_err(|_| "run")?;
+    let book = run_primary(alloc, runs, &image, &[], 100_000).map_err(|_| "run")?;
     let stream = stream_of(alloc, &image, &book)?;
     is_replayed(alloc, &image, stream, book.machine(), replays)
 }
 
 #[test]
 fn a_log_is_replayed_on_threads(rt: HostRuntime) -> Result<(), Fail> {
-    assert!(rt; adds_are_replayed(rt.alloc(), &OnThreads::new(&rt))?);
+    assert!(rt; adds_are_replayed(rt.alloc(), &Plainly, &OnThreads::new(&rt))?);
+    Ok(())
+}
+
+#[test]
+fn a_run_on_threads_is_replayed_in_turn(rt: HostRuntime) -> Result<(), Fail> {
+    assert!(rt; adds_are_replayed(rt.alloc(), &OnThreads::new(&rt), &Plainly)?);
     Ok(())
 }

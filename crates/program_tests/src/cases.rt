@@ -107,6 +107,10 @@ impl Replays for NoPairs {
 }
 
 impl Runs for NoPairs {
+    ghost use Rattle.std.specs.Prelude.{⊤};
+
+    ghost goes = { λ _ _ _. ⊤ };
+
     fn run_book(&self, alloc: Global, book: Book<Recording>) -> Result<Book<Recording>, Memory> {
         Plainly.run_book(alloc, book)
     }
