@@ -68,17 +68,17 @@ static LOOK_UNTIL_WRITTEN: &[u8] =
 static GO_IN_TURNS: &[u8] =
     b"harts 4\npages 2\nf14021f3\n800010b7\nf0000237\n00a00113\n0000a383\n0033f313\nfe331ce3\n00722423\n00138393\n0070a023\nfff10113\nfe0112e3\n00022a23\n";
 
-/// Hart 0 counts to 40 in a word, with the same registers whenever it has taken 1,024 steps more, and rings hart 1, which has counted
+/// Hart 0 counts to 12 in a word, with the same registers whenever it has taken 1,024 steps more, and rings hart 1, which has counted
 /// to 2000 and waits. Both put the word out.
 ///
 /// csrrs x3, mhartid, x0; lui x1, 80001; lui x4, f0000; addi x8, x0, 8; bne x3, x0, other; again: lw x5, 0(x1); addi x5, x5, 1;
-/// sw x5, 0(x1); slti x7, x5, 40; addi x5, x0, 0; addi x2, x0, 508; addi x6, x0, 0; pass: addi x2, x2, -1; bne x2, x0, pass;
+/// sw x5, 0(x1); slti x7, x5, 12; addi x5, x0, 0; addi x2, x0, 508; addi x6, x0, 0; pass: addi x2, x2, -1; bne x2, x0, pass;
 /// bne x7, x0, again; addi x5, x0, 1; sw x5, 16(x4), which rings; lw x7, 0(x1); sw x7, 8(x4), which puts out;
 /// sw x0, 20(x4), which halts; other: addi x9, x0, 2000; count: addi x2, x2, 1; addi x7, x0, 0; bne x2, x9, count;
 /// hear: csrrs x6, mip, x0; andi x6, x6, 8; beq x6, x0, hear; sw x8, 12(x4), which acknowledges; lw x7, 0(x1); sw x7, 8(x4);
 /// sw x0, 20(x4).
 static SEEM_TO_WAIT: &[u8] =
-    b"harts 2\npages 2\nf14021f3\n800010b7\nf0000237\n00800413\n04019063\n0000a283\n00128293\n0050a023\n0282a393\n00000293\n1fc00113\n00000313\nfff10113\nfe011ee3\nfc039ee3\n00100293\n00522823\n0000a383\n00722423\n00022a23\n7d000493\n00110113\n00000393\nfe911ce3\n34402373\n00837313\nfe030ce3\n00822623\n0000a383\n00722423\n00022a23\n";
+    b"harts 2\npages 2\nf14021f3\n800010b7\nf0000237\n00800413\n04019063\n0000a283\n00128293\n0050a023\n00c2a393\n00000293\n1fc00113\n00000313\nfff10113\nfe011ee3\nfc039ee3\n00100293\n00522823\n0000a383\n00722423\n00022a23\n7d000493\n00110113\n00000393\nfe911ce3\n34402373\n00837313\nfe030ce3\n00822623\n0000a383\n00722423\n00022a23\n";
 
 /// A guest, with the last word that each of its harts puts out.
 type Row = (&'static [u8], &'static [u32]);
@@ -91,7 +91,7 @@ fn guests() -> [Row; 7] {
         (HAND_ROUND, &[17, 18, 19, 20, 21, 22, 23, 24]),
         (LOOK_UNTIL_WRITTEN, &[2000; 8]),
         (GO_IN_TURNS, &[36, 37, 38, 39]),
-        (SEEM_TO_WAIT, &[40, 40]),
+        (SEEM_TO_WAIT, &[12, 12]),
     ]
 }
 
