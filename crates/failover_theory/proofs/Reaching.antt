@@ -1,5 +1,5 @@
 -- More of a family reaches further; no acknowledgement of a term falls.
-use Rattle.std.proofs.Common.{◌≡◌, inl, inr, ℕ, ◌<◌, ◌≤◌, min, Some, None, sym, ap, subst, ◌∙◌, arith}
+use Rattle.std.proofs.Common.{◌≡◌, inl, inr, ℕ, ◌<◌, ◌≤◌, ◌-◌, min, Some, None, sym, ap, subst, ◌∙◌, arith}
 use Rattle.log_join.specs.Families.{Past}
 use Rattle.std.proofs.lemmas.Bool.{cases_lt}
 use Rattle.interleaving.specs.Log.{IsClosed}
@@ -9,9 +9,9 @@ use Rattle.log_join.specs.Stores.{StoreView}
 use Rattle.closed_cut.specs.Position.{IsReached, base_of, IsPosition}
 use Rattle.closed_cut.specs.declared.answer.Position.{Position}
 use Rattle.failover_theory.specs.Recorders.{Recorder}
-use Rattle.failover_theory.specs.Families.{Starts, Boot, At}
+use Rattle.failover_theory.specs.Families.{Starts, Boot, At, Keeps, Here, Above}
 use Rattle.failover_theory.specs.Worlds.{World, Quorum, Comes}
-use Rattle.failover_theory.specs.Laws.{Growth, NeverLower}
+use Rattle.failover_theory.specs.Laws.{Growth, NeverLower, AckedInside}
 use Rattle.failover_theory.proofs.Growing.{some_same, some_none, Covered, covered_grows, grows_itself, Backed}
 use Rattle.failover_theory.proofs.Walks.{reached_covered, reaches, meet_covered}
 use Rattle.failover_theory.proofs.Fate.{keeps_less}
@@ -46,29 +46,36 @@ growth {Book} {Fact} recorder terms s r term p limit before family honest_s hone
             (λ hart. omega arith)
 
 module _ {Book Fact : Type 0} (recorder : Recorder Book Fact) (guest : GuestParts) (quorum : Quorum) where
-  pub lower : (w : World Book) → Comes recorder guest quorum w → (keeper : ℕ) (s : StoreView) (p : Position) → w.stores keeper ≡ Some s → IsPosition s p →
-      p.term ≡ w.now →
-      (hart : ℕ) → w.acked keeper hart ≤ (count_at p.counts) hart
-  lower w c keeper s p is position here hart =
-      elim (cases_lt ((count_at p.counts) hart) (w.acked keeper hart)) [ inl less ↦ absurd (no_less less) | inr fine ↦ fine ]
+  pub inside : AckedInside recorder guest quorum
+  inside w c keeper hart s p is position some =
+      elim (v.acks keeper hart (w.acked keeper hart - 1) (omega (arith, some))) [
+        | inl lost ↦ some_none is lost
+        | inr (a, cut, at, backed, below) ↦
+            elim
+            (
+            position_keeps recorder w.terms v.family s (v.stores keeper s is) p w.now hart (w.acked keeper hart - 1) cut position
+            (subst (λ a. Backed recorder w.terms a w.now cut) (some_same at is) backed) below
+            (λ u q is_u later. let b : u ≤ w.now = v.last u q is_u in absurd (omega arith))) [
+              | inl (same_term, low) ↦ (same_term, let l : w.acked keeper hart - 1 < count_at p.counts hart = low in omega (arith, l, some))
+              | inr k ↦
+                  let b : w.now < p.term = keeps_less recorder w.terms v.family w.now hart (w.acked keeper hart - 1) k in
+                  let most : p.term ≤ w.now = at_most k in absurd (omega (arith, b, most))
+            ]
+      ]
     where
       v : Invariant recorder quorum w
       v = always recorder guest quorum c
 
-      no_less : (count_at p.counts) hart < w.acked keeper hart → ⊥
-      no_less less =
-          elim (v.acks keeper hart ((count_at p.counts) hart) less) [
-            | inl lost ↦ some_none is lost
-            | inr (a, cut, at, backed, inside) ↦
-                elim
-                (
-                position_keeps recorder w.terms v.family s (v.stores keeper s is) p w.now hart ((count_at p.counts) hart) cut position
-                (subst (λ a. Backed recorder w.terms a w.now cut) (some_same at is) backed) inside
-                (λ u q is_u later. let b : u ≤ w.now = v.last u q is_u in absurd (omega arith))) [
-                  | inl (same_term, low) ↦ omega arith
-                  | inr k ↦ let b : w.now < p.term = keeps_less recorder w.terms v.family w.now hart ((count_at p.counts) hart) k in omega arith
-                ]
-          ]
+      at_most : {u step : ℕ} → Keeps w.terms w.now hart step u → u ≤ w.now
+      at_most (Here {u = u} q is_u parent less) = v.last u q is_u
+      at_most (Above {u = u} q is_u k) = v.last u q is_u
+
+pub acked_inside : {Book Fact : Type 0} (recorder : Recorder Book Fact) (guest : GuestParts) (quorum : Quorum) → AckedInside recorder guest quorum
+acked_inside recorder guest quorum = inside recorder guest quorum
 
 pub never_lower : {Book Fact : Type 0} (recorder : Recorder Book Fact) (guest : GuestParts) (quorum : Quorum) → NeverLower recorder guest quorum
-never_lower recorder guest quorum w c = lower recorder guest quorum w c
+never_lower recorder guest quorum w c keeper s p is position here hart =
+    elim (cases_lt 0 (w.acked keeper hart)) [
+      | inl some ↦ (inside recorder guest quorum w c keeper hart s p is position some).1
+      | inr none ↦ omega (arith, none)
+    ]

@@ -79,6 +79,13 @@ module _ {Book Fact : Type 0} (recorder : Recorder Book Fact) where
       (keeper : ℕ) (s : StoreView) (p : Position) → w.stores keeper ≡ Some s → IsPosition s p → p.term ≡ w.now → (hart : ℕ) →
       w.acked keeper hart ≤ count_at p.counts hart
 
+  -- what a keeper acknowledged in the term is inside the position of its store, while it has one
+  abbrev pub AckedInside : GuestParts → Quorum → Type 0
+  AckedInside guest quorum =
+      (w : World Book) → Comes recorder guest quorum w →
+      (keeper hart : ℕ) (s : StoreView) (p : Position) → w.stores keeper ≡ Some s → IsPosition s p → 0 < w.acked keeper hart →
+      (p.term ≡ w.now) × (w.acked keeper hart ≤ count_at p.counts hart)
+
   -- the stores of keepers, and their joins, are stores of the guest that keep all rules
   pub record AreStores (guest : GuestParts) (w : World Book) : Type 0 where
     pub keepers : (keeper : ℕ) (s : StoreView) → w.stores keeper ≡ Some s → IsStore s

@@ -6,7 +6,7 @@ ghost use Rattle.interleaving.specs.Machine.{Machine, System, counts};
 ghost use Rattle.ft_types.specs.Guests.{GuestParts};
 ghost use Rattle.failover_theory.specs.Recorders.{Recorder};
 ghost use Rattle.failover_theory.specs.Worlds.{Quorum};
-ghost use Rattle.failover_theory.specs.Laws.{Growth, Failover, NeverLower, StoresAreRight, CanGrant, Reaches};
+ghost use Rattle.failover_theory.specs.Laws.{Growth, Failover, NeverLower, AckedInside, StoresAreRight, CanGrant, Reaches};
 ghost use Rattle.failover_theory.specs.Happenings.{AfterEvents};
 ghost use Rattle.failover_theory.specs.Sealings.{PiecesAreCuts, SealsPieces};
 ghost use Rattle.failover_theory.specs.Machines.{Outs, IsRecorder};
@@ -21,6 +21,7 @@ pub fn failover<Book, Fact, Input>()
     ensures kept { (recorder : Recorder Book Fact) (guest : GuestParts) (quorum : Quorum) → Failover recorder guest quorum }
     ensures events { (recorder : Recorder Book Fact) (guest : GuestParts) (quorum : Quorum) → AfterEvents recorder guest Input quorum }
     ensures never_lower { (recorder : Recorder Book Fact) (guest : GuestParts) (quorum : Quorum) → NeverLower recorder guest quorum }
+    ensures acked_inside { (recorder : Recorder Book Fact) (guest : GuestParts) (quorum : Quorum) → AckedInside recorder guest quorum }
     ensures stores { (recorder : Recorder Book Fact) (guest : GuestParts) (quorum : Quorum) → StoresAreRight recorder guest quorum }
     ensures can_grant { (recorder : Recorder Book Fact) (guest : GuestParts) (quorum : Quorum) → CanGrant recorder guest quorum }
     ensures reaches { (recorder : Recorder Book Fact) → Reaches recorder }

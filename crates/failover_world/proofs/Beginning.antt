@@ -36,6 +36,7 @@ use Rattle.failover_theory.proofs.Recording.{of_logs}
 use Rattle.go_live.specs.Histories.{MakesLonger}
 use Rattle.go_live.specs.Outputs.{numbered}
 use Rattle.failover_world.specs.declared.released.Released.{Released}
+use Rattle.failover_world.specs.declared.primary.Primary.{Primary}
 use Rattle.failover_world.specs.Primaries.{IsBooted}
 use Rattle.failover_world.specs.Worlds.{WorldView, said_at, term_of}
 use Rattle.failover_world.specs.Tied.{TermBook, Books, retold_in, history, told_as, theory_world, quorum_of, live_book, AreParts, IsTied, IsWorld}
@@ -64,8 +65,8 @@ either_none : {A : Type 0} (b : Bool) (x : Option A) → x ≡ None → (if b th
 either_none true x is = is
 either_none false x is = is
 
-no_released : (r : Released) → Contains [] r → ⊥
-no_released r (k, below, is) = absurd (omega (arith, below))
+none_in : {A : Type 0} (x : A) → Contains [] x → ⊥
+none_in x (k, below, is) = absurd (omega (arith, below))
 
 no_count : (pages : ℕ) (h : Option Hart) → (system_of (hardware pages)).count h ≡ steps_taken h
 no_count pages None = refl
@@ -78,6 +79,7 @@ pub record IsFirst (v : WorldView) : Type 0 where
   pub booted : IsBooted v.image v.primary
   pub primary : IsPrimary v.primary.book
   pub runs : v.runs ≡ true
+  pub stopped : v.stopped ≡ []
   pub sent : v.sent ≡ Opening v.primary.opening ∷ []
   pub stores : v.stores ≡ replicate v.keepers (Some (nothing (guest_of v.image)))
   pub released : v.released ≡ []
@@ -210,7 +212,7 @@ module _ (v : WorldView) (is : IsFirst v) where
         terms = terms;
         out = [];
         comes = comes;
-        went_out = λ r has. absurd (no_released r (subst (λ (rs : List Released). Contains rs r) is.released has));
+        went_out = λ r has. absurd (none_in r (subst (λ (rs : List Released). Contains rs r) is.released has));
         pieces = λ hart. [];
         is_book = is_book;
         there = put_same no_terms (term_of v) (term_of v) (Some live) refl;
@@ -227,6 +229,11 @@ module _ (v : WorldView) (is : IsFirst v) where
           | inr other ↦ let none : None ≡ Some p = sym (put_other no_terms (term_of v) u (Some live) other) ∙ at in absurd cc
         ];
         longer = longer;
+        before = λ p has. absurd (none_in p (subst (λ (ps : List Primary). Contains ps p) is.stopped has));
+        no_other = λ u p at. elim (same_or_not (term_of v) u) [
+          | inl same ↦ inl (sym same)
+          | inr other ↦ let none : None ≡ Some p = sym (put_other no_terms (term_of v) u (Some live) other) ∙ at in absurd cc
+        ];
       }
 
   pub first_world : IsWorld v

@@ -50,16 +50,16 @@ each_named Q (Some x ∷ rest) n named each =
 
 -- ---- honest stores
 
-opening_retold : {A B : Type 0} (f : A → B) (p : Option (Past A)) → opening_of (retold_in f p) ≡ opening_of p
+pub opening_retold : {A B : Type 0} (f : A → B) (p : Option (Past A)) → opening_of (retold_in f p) ≡ opening_of p
 opening_retold f None = refl
 opening_retold f (Some p) = refl
 
-piece_retold : {A B : Type 0} (f : A → B) (p : Option (Past A)) (hart place : ℕ) → piece_of (retold_in f p) hart place ≡ piece_of p hart place
+pub piece_retold : {A B : Type 0} (f : A → B) (p : Option (Past A)) (hart place : ℕ) → piece_of (retold_in f p) hart place ≡ piece_of p hart place
 piece_retold f None hart place = refl
 piece_retold f (Some p) hart place = refl
 
 -- what is told of the terms says nothing of stores
-honest_retold : {A B C : Type 0} (f : A → B) (g : A → C) (terms : ℕ → Option (Past A)) (s : StoreView) →
+pub honest_retold : {A B C : Type 0} (f : A → B) (g : A → C) (terms : ℕ → Option (Past A)) (s : StoreView) →
     HonestStore (λ u. retold_in f (terms u)) s → HonestStore (λ u. retold_in g (terms u)) s
 honest_retold f g terms s honest =
     record {

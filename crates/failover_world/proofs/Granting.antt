@@ -46,6 +46,7 @@ use Rattle.failover_world.specs.Gating.{AreRising}
 use Rattle.failover_world.specs.Happenings.{GoesLive, stores_of}
 use Rattle.failover_world.specs.Tied.{TermBook, retold, retold_in, history, told_as, theory_world, quorum_of, live_book, AreParts, IsTied, BeginsTerm}
 use Rattle.failover_world.proofs.Places.{retold_put, put_put}
+use Rattle.failover_world.proofs.Before.{before_now, no_other_with}
 use Rattle.failover_world.proofs.Chosen.{chosen_of, put_own, honest, all_joined, enough}
 
 -- no hart of boot has put out anything
@@ -313,4 +314,10 @@ module _ (v : WorldView) (is : IsTied v) (parts : AreParts v) (term : ℕ) (name
             (sym (put_put is.terms p.opening.term (Some new_past) None ∙ put_own is.terms p.opening.term None (ap is.terms (is_term v is term named p live.at live.later live.unused.log_start begins) ∙ not_granted v is term named p live.at live.later live.unused.log_start begins)))
             (subst (λ n. MakesLonger v.image (history is.terms) n p.book.start p.opening) (sym (is_term v is term named p live.at live.later live.unused.log_start begins))
             (begins.longer (history is.terms) (honest v is named)));
+        before =
+            let later : term_of v < p.opening.term =
+            subst (λ n. term_of v < n) (sym (is_term v is term named p live.at live.later live.unused.log_start begins)) live.later in
+            before_now is.terms (term_of v) p.opening.term v.stopped v.primary (live_book v is.pieces is.is_book) new_past later refl is.there refl is.of_book
+            is.before;
+        no_other = no_other_with is.terms (term_of v) p.opening.term v.stopped v.primary new_past refl is.no_other;
       }

@@ -40,6 +40,8 @@ module _ (v : WorldView) (is : IsTied v) where
         sealed = is.sealed;
         opened = is.opened;
         longer = is.longer;
+        before = is.before;
+        no_other = is.no_other;
       }
 
   -- a keeper's store is another

@@ -8,6 +8,8 @@ pub mod Going
 pub mod Sealing
 pub mod Releasing
 pub mod Parts
+pub mod Before
+pub mod Honest
 pub mod Guests
 pub mod Chosen
 pub mod Granting

@@ -19,8 +19,9 @@ use Rattle.failover_theory.specs.Families.{Keeps, Here as IsHere, Above as IsAbo
 use Rattle.failover_theory.specs.Laws.{IsFailover, IsInside}
 use Rattle.failover_theory.proofs.Events.{failover}
 use Rattle.failover_theory.proofs.Ruled.{ruled}
+use Rattle.failover_theory.proofs.Reaching.{acked_inside}
 use Rattle.failover_world.specs.Worlds.{WorldView, said_by}
-use Rattle.failover_world.specs.Promises.{IsInChain, Here, Above, IsInside as IsInsideHere, IsOne, IsOfMachine, IsKept, AreHeld}
+use Rattle.failover_world.specs.Promises.{IsInChain, Here, Above, IsInside as IsInsideHere, IsOne, IsOfMachine, IsKept, AreHeld, AreAckedInside}
 use Rattle.failover_world.specs.Tied.{Books, retold, retold_in, told_as, theory_released, theory_world, quorum_of, live_book, IsTied}
 use Rattle.failover_world.proofs.Places.{there_too}
 use Rattle.failover_world.proofs.Releasing.{outputs_are}
@@ -41,12 +42,12 @@ out_of_theory (Some h) n step word is =
     as_output o = record { step = o.0; word = o.1 }
 
 -- what is told of a term is of a term that is there, with its opening
-untold : {A B : Type 0} (f : A → B) (x : Option (Past A)) (q : Past B) → retold_in f x ≡ Some q → (p : Past A) × (x ≡ Some p) × (p.opening ≡ q.opening)
+pub untold : {A B : Type 0} (f : A → B) (x : Option (Past A)) (q : Past B) → retold_in f x ≡ Some q → (p : Past A) × (x ≡ Some p) × (p.opening ≡ q.opening)
 untold f None q is = absurd cc
 untold f (Some p) q is = (p, refl, let e : retold f p ≡ q = cc in ap (λ (r : Past _). r.opening) e)
 
 module _ (v : WorldView) (is : IsTied v) where
-  laws : IsFailover is.is_recorder.recorder (quorum_of v) (theory_world v.image.pages is.are_theory (guest_of v.image) v is.terms is.out)
+  pub laws : IsFailover is.is_recorder.recorder (quorum_of v) (theory_world v.image.pages is.are_theory (guest_of v.image) v is.terms is.out)
   laws =
       failover is.is_recorder.recorder (guest_of v.image) (quorum_of v) (theory_world v.image.pages is.are_theory (guest_of v.image) v is.terms is.out)
       is.comes
@@ -64,6 +65,12 @@ module _ (v : WorldView) (is : IsTied v) where
       ∙ laws.current (theory_released r) (retold (told_as v.image.pages is.are_theory) (live_book v is.pieces is.is_book)) (is.went_out r has)
       (ap (retold_in (told_as v.image.pages is.are_theory)) is.there)
       )
+
+  pub are_acked_inside : AreAckedInside v
+  are_acked_inside keeper hart store p at =
+      acked_inside is.is_recorder.recorder (guest_of v.image) (quorum_of v)
+      (theory_world v.image.pages is.are_theory (guest_of v.image) v is.terms is.out) is.comes keeper hart store p
+      (there_too v.stores keeper store (Some (nothing (guest_of v.image))) at)
 
   module _ (guest : IsGuest (guest_of v.image)) where
     abbrev told_terms : ℕ → Option (Past (Books v.image.pages is.are_theory))

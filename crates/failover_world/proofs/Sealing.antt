@@ -31,6 +31,7 @@ use Rattle.failover_theory.proofs.Cutting.{seals_pieces}
 use Rattle.go_live.specs.Histories.{MakesLonger}
 use Rattle.failover_world.specs.Worlds.{WorldView, term_of}
 use Rattle.failover_world.specs.Tied.{TermBook, Books, retold, retold_in, history, told_as, theory_world, quorum_of, live_book, live_term, AreParts, IsTied}
+use Rattle.failover_world.proofs.Before.{still_before, no_other_still}
 use Rattle.failover_world.proofs.Places.{retold_put, put_put}
 use Rattle.failover_world.proofs.Rows.{same_some}
 
@@ -350,6 +351,13 @@ module _ (v : WorldView) (is : IsTied v) where
                 (put_put is.terms (term_of v) (Some (live_book v (λ hart. is.pieces hart ++ slice_index_or cut.pieces hart []) is.is_book)) None)
                 )
                 is.longer;
+            before = λ p has.
+                let b = is.before p has in
+                still_before is.terms (term_of v) (term_of v)
+                (live_book v (λ hart. is.pieces hart ++ slice_index_or cut.pieces hart []) is.is_book) p b b.earlier;
+            no_other =
+                no_other_still is.terms (term_of v) v.stopped (live_book v (λ hart. is.pieces hart ++ slice_index_or cut.pieces hart []) is.is_book)
+                is.no_other;
           }
 
 -- and the parts of the world still fit together

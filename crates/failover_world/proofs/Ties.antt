@@ -18,6 +18,7 @@ use Rattle.go_live.specs.Histories.{MakesLonger}
 use Rattle.failover_world.specs.Worlds.{WorldView, term_of}
 use Rattle.failover_world.specs.Tied.{TermBook, retold, retold_in, history, told_as, theory_world, quorum_of, live_book, live_term, IsTied}
 use Rattle.failover_world.proofs.Places.{retold_put, put_put}
+use Rattle.failover_world.proofs.Before.{still_before, no_other_still}
 
 -- the world with another book
 abbrev pub with_book : WorldView → BookView RecordingView → WorldView
@@ -73,4 +74,7 @@ module _ (v : WorldView) (is : IsTied v) (c : BookView RecordingView) (runs : v.
             subst (λ (m : MachineState). MakesLonger v.image (history (put terms (term_of v) None)) (term_of v) m v.primary.opening) (sym on.start)
             (subst (λ (t : Family (TermBook v.image.pages)). MakesLonger v.image (history t) (term_of v) v.primary.book.start v.primary.opening)
             (sym (put_put is.terms (term_of v) (Some (live_book (with_book v c) is.pieces new_book)) None)) is.longer);
+        before = λ p has.
+            let b = is.before p has in still_before is.terms (term_of v) (term_of v) (live_book (with_book v c) is.pieces new_book) p b b.earlier;
+        no_other = no_other_still is.terms (term_of v) v.stopped (live_book (with_book v c) is.pieces new_book) is.no_other;
       }

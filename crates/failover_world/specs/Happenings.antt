@@ -19,14 +19,15 @@ use Rattle.failover_events.specs.declared.event.Event.{Event}
 use Rattle.failover_events.specs.declared.event.Event.TheVariants as on
 use Rattle.failover_world.specs.declared.primary.Primary.{Primary}
 use Rattle.failover_world.specs.Primaries.{no_limits, IsUncut}
-use Rattle.hart_steps.specs.Steps.{HasStepped}
+use Rattle.hart_steps.specs.Steps.{HasStepped, HoldsNothing}
 use Rattle.failover_world.specs.Worlds.{WorldView, store_at, term_of}
 use Rattle.failover_world.specs.Gating.{AreAllOffered, OffersMore, released_in}
 
--- the primary's hart took one step
+-- the primary's hart took one step with what was due, and keeps no right to a page
 pub record Steps (v : WorldView) (hart : ℕ) (w : WorldView) : Type 0 where
   pub runs : v.runs ≡ true
   pub step : HasStepped hart v.primary.book w.primary.book
+  pub rights : HoldsNothing w.primary.book hart
   pub rest : w ≡ record v { primary = record v.primary { book = w.primary.book } }
 
 -- the input waits behind the others

@@ -1,14 +1,39 @@
--- What holds of the outputs that went out.
+-- What holds of the frames that were sent, and of the outputs that went out.
 use Rattle.std.specs.Prelude.{ℕ, ◌≡◌, ◌<◌, ◌≤◌, ◌⊎◌, true, Bool, Contains, slice_get, Some}
 use Rattle.ft_types.specs.Counts.{count_at}
+use Rattle.fragment_codec.specs.declared.frame.Frame.{Frame}
 use Rattle.fragment_codec.specs.declared.frame.Frame.TheVariants.{Opening}
 use Rattle.fragment_codec.specs.Rules.{OpeningParts}
+use Rattle.log_join.specs.Families.{OfFamily, HonestStore}
 use Rattle.log_join.specs.Stores.{StoreView}
 use Rattle.closed_cut.specs.Position.{IsPosition}
 use Rattle.closed_cut.specs.declared.answer.Position.{Position}
+use Rattle.hart_replay.specs.Images.{GuestTerm, GuestHistory, IsHistoryOf}
+use Rattle.hart_replay.specs.Primaries.{IsTermOfBook}
 use Rattle.failover_theory.specs.Lists.{how_many}
+use Rattle.term_gate.specs.TermGates.{acked_at}
+use Rattle.failover_world.specs.declared.primary.Primary.{Primary}
 use Rattle.failover_world.specs.declared.released.Released.{Released}
-use Rattle.failover_world.specs.Worlds.{WorldView, store_at, said_at}
+use Rattle.failover_world.specs.Worlds.{WorldView, store_at, said_at, term_of}
+
+-- the history's term of the primary's number has its opening, and is that of its book
+pub record IsItsTerm (history : GuestHistory) (p : Primary) : Type 0 where
+  pub past : GuestTerm
+  pub there : history p.opening.term ≡ Some past
+  pub opening : past.opening ≡ p.opening
+  pub of_book : IsTermOfBook p.book past
+
+-- What was sent, and what keepers hold, are of one history of the image, whose last term is of the primary's book; its other terms
+-- are of the books of the primaries before it.
+pub record AreHonest (w : WorldView) : Type 0 where
+  pub history : GuestHistory
+  pub is_history : IsHistoryOf w.image history
+  pub sent : (f : Frame) → Contains w.sent f → OfFamily history f
+  pub stores : (keeper : ℕ) (s : StoreView) → store_at w.stores keeper ≡ Some s → HonestStore history s
+  pub last : IsItsTerm history w.primary
+  pub before : (p : Primary) → Contains w.stopped p → IsItsTerm history p × (p.opening.term < term_of w)
+  pub no_other : (term : ℕ) (past : GuestTerm) → history term ≡ Some past →
+      (term ≡ term_of w) ⊎ ((p : Primary) × Contains w.stopped p × (p.opening.term ≡ term))
 
 -- The step of the hart in the term is inside the chain of the other, up to the other's base: going down from the other by the
 -- openings that were sent one meets the term, and the base of the term above it is above the step.
@@ -47,6 +72,13 @@ abbrev pub IsKept : WorldView → Type 0
 IsKept w =
     (r : Released) (o : OpeningParts) → Contains w.released r → Contains w.sent (Opening o) → r.term < o.term →
     IsInChain w r.term r.output.hart r.output.step o.term × (r.output.step < count_at o.base r.output.hart)
+
+-- What a keeper acknowledged in the term that was granted last is inside the position of its store, while it has one: so each keeper
+-- whose acknowledgement let an output out has it.
+abbrev pub AreAckedInside : WorldView → Type 0
+AreAckedInside w =
+    (keeper hart : ℕ) (store : StoreView) (p : Position) → store_at w.stores keeper ≡ Some store → IsPosition store p → 0 < acked_at w.gate keeper hart →
+    (p.term ≡ term_of w) × (acked_at w.gate keeper hart ≤ count_at p.counts hart)
 
 -- enough keepers hold it
 abbrev pub AreHeld : WorldView → Type 0

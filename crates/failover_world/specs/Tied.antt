@@ -1,5 +1,5 @@
 -- What ties the world to the theory of failover. Machinery: nothing here needs to be believed.
-use Rattle.std.specs.Prelude.{ℕ, ◌≡◌, ◌<◌, ◌≤◌, List, length, map, Contains, slice_index_or, Option, Some, None}
+use Rattle.std.specs.Prelude.{ℕ, ◌≡◌, ◌<◌, ◌≤◌, ◌⊎◌, List, length, map, Contains, slice_index_or, Option, Some, None}
 use Rattle.ft_types.specs.declared.names.TheConstants.{KEEPER_LIMIT}
 use Rattle.ft_types.specs.Counts.{count_at}
 use Rattle.ft_types.specs.Guests.{GuestParts, IsGuest}
@@ -96,6 +96,14 @@ pub record AreParts (v : WorldView) : Type 0 where
   pub acked : length v.gate.acked ≡ v.keepers
   pub offered : AreOffered v.gate.gate v.primary.book.machine
 
+-- the family's term of a primary that stopped has its opening and is that of its book; it is before the last
+pub record IsBefore {pages : ℕ} (terms : Family (TermBook pages)) (last : ℕ) (p : Primary) : Type 0 where
+  pub past : Past (TermBook pages)
+  pub there : terms p.opening.term ≡ Some past
+  pub opening : past.opening ≡ p.opening
+  pub of_book : IsTermOfBook p.book (retold (λ t. history_of t.book) past)
+  pub earlier : p.opening.term < last
+
 -- the world is one that comes in the theory, and its terms are a history
 pub record IsTied (v : WorldView) : Type 0 where
   pub are_theory : AreTheory v.image.pages
@@ -111,6 +119,9 @@ pub record IsTied (v : WorldView) : Type 0 where
   pub sealed : IsSealedTo (live_term v pieces) v.primary.sealed
   pub opened : (u : ℕ) (p : Past (TermBook v.image.pages)) → terms u ≡ Some p → Contains v.sent (Opening p.opening)
   pub longer : MakesLonger v.image (history (put terms (term_of v) None)) (term_of v) v.primary.book.start v.primary.opening
+  pub before : (p : Primary) → Contains v.stopped p → IsBefore terms (term_of v) p
+  pub no_other : (u : ℕ) (p : Past (TermBook v.image.pages)) → terms u ≡ Some p →
+      (u ≡ term_of v) ⊎ ((q : Primary) × Contains v.stopped q × (q.opening.term ≡ u))
 
 -- the primary, which goes live in the term from these keepers' stores, makes each history longer whose frames they have
 pub record BeginsTerm (v : WorldView) (term : ℕ) (named : List ℕ) (p : Primary) : Type 0 where

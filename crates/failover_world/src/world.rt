@@ -18,7 +18,7 @@ ghost use Rattle.failover_world.specs.Refusals.{Refuses, RefusesGrant, CannotGoL
 ghost use Rattle.failover_world.specs.Tied.{BeginsTerm};
 ghost use Rattle.go_live.specs.declared.fault.LiveFault.TheVariants.{Memory as NoLive};
 ghost use Rattle.input_log.specs.Inputs.{is_bell};
-ghost use Rattle.failover_world.specs.Promises.{IsOne, IsOfMachine, IsKept, AreHeld};
+ghost use Rattle.failover_world.specs.Promises.{AreHonest, IsOne, IsOfMachine, IsKept, AreHeld, AreAckedInside};
 
 use crate::fault::WorldFault;
 use crate::gating::{add_released, offer_all};
@@ -137,11 +137,13 @@ impl World {
         ensures value { result.now ≡ self.now.released }
 
         // Over all that happened to the world: a hart's output of a number has one step and one word; the machine of the term
-        // that was granted last has it; each later term has it inside its chain; and enough keepers hold it.
+        // that was granted last has it; each later term has it inside its chain; enough keepers hold it; and each keeper's
+        // position has inside what it acknowledged in the last term.
         ensures one { IsOne self.now }
         ensures machine { IsOfMachine self.now }
         ensures kept { IsKept self.now }
         ensures held { AreHeld self.now }
+        ensures acknowledged { AreAckedInside self.now }
     {
         let _machine = self.primary.book.machine();
         self.released.as_slice()
@@ -162,7 +164,11 @@ impl World {
     /// All frames that were sent, in the order of their numbers: frame 0 is the opening of term 1, and each piece of a seal and
     /// each granted opening has the next number.
     pub fn frames(&self) -> &[Frame]
-        ensures { result.now ≡ self.now.sent }
+        ensures value { result.now ≡ self.now.sent }
+
+        // Over all that happened to the world: they are of one history of the image, as is what keepers hold; its last term is that
+        // of the primary's book, and its other terms are those of the primaries that stopped.
+        ensures honest { AreHonest self.now }
     {
         self.sent.as_slice()
     }

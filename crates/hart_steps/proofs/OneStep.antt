@@ -1,9 +1,10 @@
 -- One step: a lease whose stop is one above its hart's count.
-use Rattle.std.proofs.Common.{◌≡◌, ℕ, zero, suc, ◌+◌, ◌<◌, ◌≤◌, List, [], ◌∷◌, length, nat_lt, slice_get, slice_set, Option, None, Some, Bool, true, false}
+use Rattle.std.proofs.Common.{◌≡◌, ℕ, zero, suc, ◌+◌, ◌<◌, ◌≤◌, List, [], ◌∷◌, ◌++◌, map, length, nat_lt, slice_get, slice_set, Option, None, Some, Bool, true, false}
 use Rattle.std.proofs.Common.{Result, Ok, Err, refl, sym, ap, subst, ◌∙◌, inl, inr, arith, if◌then◌else◌}
 use Rattle.std.proofs.lemmas.Grind.{common_steps}
 use Rattle.std.specs.Result.{IfOk, OnErr}
 use Rattle.std.proofs.lemmas.Bool.{cases_lt}
+use Rattle.std.proofs.lemmas.List.{get_or-set_same}
 use Rattle.interleaving.specs.Lists.{put}
 use Rattle.interleaving.proofs.Put.{put_same}
 use Rattle.crew_pages.specs.declared.right.PageRight.{PageRight}
@@ -18,8 +19,11 @@ use Rattle.hart_lease.specs.Leases.{LeaseView}
 use Rattle.hart_lease.specs.Runs.{added, counts_of, steps_taken}
 use Rattle.hart_lease.proofs.steps.LackedRights.{step_counts}
 use Rattle.book_modes.specs.declared.keep.Keep.TheVariants as told
-use Rattle.book_modes.specs.Dues.{due_at, is_silent}
-use Rattle.book_modes.specs.Recordings.{RecordingView, inputs_offered, right_at, right_stored}
+use Rattle.input_log.specs.declared.Input.{Input}
+use Rattle.input_log.specs.Inputs.{inputs_of}
+use Rattle.input_log.specs.Waiting.{bells_of, others_of, going}
+use Rattle.book_modes.specs.Dues.{DueView, nothing_due, due_at, due_from, is_silent}
+use Rattle.book_modes.specs.Recordings.{RecordingView, IsFilled, LogsInputs, inputs_offered, right_at, right_stored}
 use Rattle.page_book.specs.Books.{BookView}
 use Rattle.page_book.specs.Tellings.{TellsOn}
 use Rattle.page_book.proofs.Tellings.{tells_the_same}
@@ -30,7 +34,7 @@ use Rattle.lease_rounds.proofs.GoingOn.{HasGoneOn, count_is, from, stop, went_fa
 use Rattle.primary_pool.specs.Running.{recording}
 use Rattle.primary_pool.proofs.Leasing.{KeepsRest, ahead, continues, filled_keeps, keeps_rest, offered}
 use Rattle.primary_pool.proofs.Offered.{filled_offered}
-use Rattle.hart_steps.specs.Steps.{AreWithin, HasStepped, HoldsNothing, IsUnmoved, Runs}
+use Rattle.hart_steps.specs.Steps.{AreWithin, inputs_next, IsGiven, HasStepped, HoldsNothing, IsUnmoved, Runs}
 
 -- ---- a book that has not moved
 
@@ -99,6 +103,20 @@ module _ (hart : ℕ) (b d : BookView RecordingView) (up : GivesUp recording har
             ∙ ap (λ (m : RecordingView). inputs_offered m other) rest.mode
             ∙ filled_offered b.mode hart (counts_of b.machine hart) up.opened.mode (is_silent (due_at b.mode.due hart).inputs) refl up.lends.mode.filled other;
       }
+
+-- ---- inputs
+
+-- what is due to a hart that was lent
+filled_due : (r : RecordingView) (hart count : ℕ) (new : RecordingView) (silent : Bool) → is_silent (due_at r.due hart).inputs ≡ silent →
+    IsFilled silent r hart count new → (due_at new.due hart).inputs ≡ inputs_next r hart count
+filled_due r hart count new false is same =
+    ap (λ (v : RecordingView). (due_at v.due hart).inputs) same
+    ∙ sym (ap (λ (b : Bool). if b then going count (bells_of r.desk hart) (others_of r.desk hart) else (due_at r.due hart).inputs) is)
+filled_due r hart count new true is t =
+    ap (λ (ds : List DueView). (due_at ds hart).inputs) t.due
+    ∙ ap (λ (d : DueView). d.inputs)
+    (get_or-set_same r.due hart (due_from hart count (bells_of r.desk hart) (others_of r.desk hart)) nothing_due t.row)
+    ∙ sym (ap (λ (b : Bool). if b then going count (bells_of r.desk hart) (others_of r.desk hart) else (due_at r.due hart).inputs) is)
 
 -- ---- rights
 
@@ -198,6 +216,29 @@ module _ (hart : ℕ) (b : BookView RecordingView) (once : List ℕ) (d : BookVi
           | inr past ↦ ap (λ (o : Option PageRight). holds (right_stored o) hart) (beyond d.mode.rights page (omega (arith, past, settled.many)))
         ]
 
+    is_given : IsGiven hart b d
+    is_given =
+        let f = lease_filled recording told.Nothing hart low d on in
+        let own_hart : on.leads.lease.hart ≡ hart = f.hart ∙ own recording told.Nothing hart low d on in
+        let count : on.leads.lease.base.count ≡ counts_of b.machine hart =
+        ap (λ (h : Hart). h.count) f.base ∙ ap (λ (x : LeaseView). x.base.count) on.lends.lent ∙ sym (ap steps_taken on.lends.there) in
+        let rest : KeepsRest on.opened on.leads.filled = keeps_rest on.opened on.lease on.leads.filled on.leads.lease on.leads.fills in
+        let opened : on.opened.mode ≡ record low.mode { due = on.opened.mode.due; desk = on.opened.mode.desk } =
+        filled_keeps _ low.mode hart (counts_of b.machine hart) on.opened.mode on.lends.mode.filled in
+        let was : on.leads.filled.mode.inputs ≡ b.mode.inputs =
+        ap (λ (m : RecordingView). m.inputs) rest.mode ∙ ap (λ (m : RecordingView). m.inputs) opened in
+        let inputs : on.leads.lease.inputs ≡ inputs_next b.mode hart (counts_of b.machine hart) =
+        f.inputs ∙ on.lends.mode.inputs
+        ∙ filled_due low.mode hart (counts_of b.machine hart) on.opened.mode (is_silent (due_at b.mode.due hart).inputs) refl on.lends.mode.filled in
+        let added = subst (λ (n : ℕ). LogsInputs n on.leads.filled.mode.inputs on.leads.lease d.mode.inputs) steps_one on.leads.back.mode.inputs in
+        record {
+          own =
+              ap (inputs_of d.mode.inputs) (sym own_hart) ∙ added.row
+              ∙ (λ i. inputs_of (was i) (own_hart i) ++ map (λ (x : Input). let pair : ℕ × Input = (count i, x) in pair) (inputs i));
+          others = λ other ne.
+              added.others other (λ e. ne (e ∙ own_hart)) ∙ ap (λ (log : List (List (ℕ × Input))). inputs_of log other) was;
+        }
+
     has_stepped : (limits : List ℕ) → limits ≡ b.mode.limits → HasStepped hart b (limited d limits)
     has_stepped limits same =
         let p = continues told.Nothing hart low d on gone.start in
@@ -207,6 +248,7 @@ module _ (hart : ℕ) (b : BookView RecordingView) (once : List ℕ) (d : BookVi
           continues = record { start = p.start; harts = p.harts; journal = p.journal; inputs = p.inputs; edges = p.edges };
           tells = record { counts = λ other. (counts_go other).0; inputs = p.inputs; edges = p.edges };
           limits = same;
+          given = record { own = is_given.own; others = is_given.others };
           offered = offered told.Nothing hart low d on;
         }
 

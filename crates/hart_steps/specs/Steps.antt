@@ -1,9 +1,13 @@
 -- One step of a primary's hart.
-use Rattle.std.specs.Prelude.{◌≡◌, ◌≤◌, ℕ, slice_get, false, Option, None, Some}
+use Rattle.std.specs.Prelude.{◌≡◌, ◌≢◌, ◌≤◌, ◌++◌, ℕ, List, map, slice_get, false, Option, None, Some, if◌then◌else◌}
 use Rattle.rv32_hart.specs.Hart.{Hart}
 use Rattle.ft_types.specs.Counts.{count_at}
 use Rattle.hart_lease.specs.Runs.{added, counts_of}
 use Rattle.crew_pages.specs.Rights.{holds}
+use Rattle.input_log.specs.declared.Input.{Input}
+use Rattle.input_log.specs.Inputs.{inputs_of}
+use Rattle.input_log.specs.Waiting.{bells_of, others_of, going}
+use Rattle.book_modes.specs.Dues.{due_at, is_silent}
 use Rattle.book_modes.specs.Recordings.{RecordingView, right_at}
 use Rattle.page_book.specs.Books.{BookView, refusal}
 use Rattle.page_book.specs.declared.answers.BookFault.{BookFault}
@@ -19,6 +23,19 @@ AreWithin b = (hart : ℕ) → counts_of b.machine hart ≤ count_at b.mode.limi
 abbrev pub Runs : BookView RecordingView → ℕ → Type 0
 Runs b hart = (h : Hart) → slice_get b.machine.harts hart ≡ Some h → h.halted ≡ false
 
+-- what the hart's next step is given: what a lease that ended without its first step left, or else what waits for this count
+abbrev pub inputs_next : RecordingView → ℕ → ℕ → List Input
+inputs_next r hart count =
+    if is_silent (due_at r.due hart).inputs
+    then going count (bells_of r.desk hart) (others_of r.desk hart)
+    else (due_at r.due hart).inputs
+
+-- the hart's step was given these at its count, and no other hart was given any
+pub record IsGiven (hart : ℕ) (b c : BookView RecordingView) : Type 0 where
+  pub own : inputs_of c.mode.inputs hart
+      ≡ inputs_of b.mode.inputs hart ++ map (λ input. (counts_of b.machine hart, input)) (inputs_next b.mode hart (counts_of b.machine hart))
+  pub others : (other : ℕ) → other ≢ hart → inputs_of c.mode.inputs other ≡ inputs_of b.mode.inputs other
+
 -- the hart took one step, which is settled: the second book goes on from the first
 pub record HasStepped (hart : ℕ) (b c : BookView RecordingView) : Type 0 where
   pub idle : IsIdle c
@@ -26,6 +43,7 @@ pub record HasStepped (hart : ℕ) (b c : BookView RecordingView) : Type 0 where
   pub continues : Continues b c
   pub tells : TellsOn b c
   pub limits : c.mode.limits ≡ b.mode.limits
+  pub given : IsGiven hart b c
   pub offered : KeepsOffered b c
 
 -- the hart has no right to any page

@@ -43,6 +43,7 @@ invariant_of-result c =
             c.edges-edges.ensures.honest;
       };
       runs = refl;
+      stopped = c.new-2.ensures.items;
       sent =
           c.in_ok-push.ensures.items
           ∙ ap (λ (fs : List Frame). fs ++ Opening c.copy.result ∷ []) c.new-sent.ensures.items

@@ -2,7 +2,7 @@ use Rattle.std.proofs.Common.{subst}
 use Rattle.failover_world.specs.Promises.{IsOfMachine}
 use Rattle.failover_world.specs.Worlds.{WorldView}
 use Rattle.failover_world.specs.Tied.{IsWorld}
-use Rattle.failover_world.proofs.Promises.{is_one, is_of_machine, is_kept, are_held}
+use Rattle.failover_world.proofs.Promises.{is_one, is_of_machine, is_kept, are_held, are_acked_inside}
 use Rattle.failover_world.proofs.world.World.released.Goals as goal
 
 pub returns-clause-one : goal.returns-clause-one
@@ -34,3 +34,7 @@ pub returns-clause-held : goal.returns-clause-held
 returns-clause-held c =
     let is : IsWorld c.args.self.now = subst (λ (v : WorldView). IsWorld v) c.self.view_is c.self.invariant in
     are_held c.args.self.now is.tied is.parts.guest
+
+pub returns-clause-acknowledged : goal.returns-clause-acknowledged
+returns-clause-acknowledged c =
+    let is : IsWorld c.args.self.now = subst (λ (v : WorldView). IsWorld v) c.self.view_is c.self.invariant in are_acked_inside c.args.self.now is.tied
