@@ -10,6 +10,7 @@ pub mod Releasing
 pub mod Parts
 pub mod Before
 pub mod Honest
+pub mod Lacking
 pub mod Guests
 pub mod Chosen
 pub mod Granting

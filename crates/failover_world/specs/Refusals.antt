@@ -87,10 +87,26 @@ abbrev pub RefusesGrant : WorldView → ℕ → List ℕ → WorldFault → Type
 RefusesGrant v term named NoKeeper = Any (λ keeper. store_at v.stores keeper ≡ None) named
 RefusesGrant v term named NotStopped = All (λ keeper. store_at v.stores keeper ≢ None) named × (v.runs ≡ true)
 RefusesGrant v term named (Live fault) = All (λ keeper. store_at v.stores keeper ≢ None) named × (v.runs ≡ false) × CannotGoLive v term named fault
-RefusesGrant v term named Memory = Unit {0}
+RefusesGrant v term named Memory = All (λ keeper. store_at v.stores keeper ≢ None) named × (v.runs ≡ false)
 RefusesGrant v term named _ = ⊥
 
--- why the event is refused; memory may be refused to any
+-- the event makes something grow: a book, a frame, a store, what went out
+abbrev pub Grows : Event → Type 0
+Grows on.Stop = ⊥
+Grows (on.Lose keeper) = ⊥
+Grows (on.Acknowledge keeper) = ⊥
+Grows _ = Unit {0}
+
+-- memory may be refused where something grows and no other fault is due; to a grant, before its stores and its term are looked at
+pub record MayLackMemory (v : WorldView) (event : Event) : Type 0 where
+  pub grows : Grows event
+  pub runs : NeedsPrimary event → v.runs ≡ true
+  pub there : AreThere v event
+  pub frame : LacksFrame v event → ⊥
+  pub quiet : IsGrant event → v.runs ≡ false
+  pub steps : (fault : BookFault) → CannotStep v event fault → ⊥
+
+-- why the event is refused
 abbrev pub Refuses : WorldView → Event → WorldFault → Type 0
 Refuses v event NoPrimary = NeedsPrimary event × (v.runs ≡ false)
 Refuses v event NoKeeper = Any (λ keeper. store_at v.stores keeper ≡ None) (keepers_in event)
@@ -99,7 +115,7 @@ Refuses v event NotStopped = AreThere v event × IsGrant event × (v.runs ≡ tr
 Refuses v event (Step fault) = (v.runs ≡ true) × CannotStep v event fault
 Refuses v event (Live fault) = AreThere v event × (v.runs ≡ false) × IsNotGranted v event fault
 Refuses v event (Ack fault) = IsNotAcknowledged v event fault
-Refuses v event Memory = Unit {0}
+Refuses v event Memory = MayLackMemory v event
 
 -- ---- what is left
 

@@ -19,7 +19,8 @@ refuses v term keepers NotStopped is = (is.0, tt, is.1)
 refuses v term keepers (Step fault) is = absurd is
 refuses v term keepers (Live fault) is = is
 refuses v term keepers (Ack fault) is = absurd is
-refuses v term keepers Memory is = tt
+refuses v term keepers Memory is =
+    record { grows = tt; runs = λ no. absurd no; there = is.0; frame = λ no. absurd no; quiet = λ _. is.1; steps = λ fault no. absurd no }
 
 pub returns-in-Grant-clause-refused : goal.returns-in-Grant-clause-refused
 returns-in-Grant-clause-refused c =

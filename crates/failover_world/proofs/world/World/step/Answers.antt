@@ -1,4 +1,8 @@
-use Rattle.std.proofs.Common.{length, ap}
+use Rattle.std.proofs.Common.{◌<◌, length, ap, sym, subst}
+use Rattle.std.proofs.lemmas.Result.{err_from_is_err_and}
+use Rattle.failover_events.specs.declared.event.Event.TheVariants as on
+use Rattle.failover_world.specs.Refusals.{Refuses}
+use Rattle.failover_world.proofs.Lacking.{step_refused}
 use Rattle.page_book.specs.Books.{BookView}
 use Rattle.book_modes.specs.Recordings.{RecordingView}
 use Rattle.book_recorder.specs.TermBooks.{ComesOf}
@@ -61,3 +65,25 @@ invariant_of-self-2 c =
           (more_said v c.self.invariant.tied d c.if-not-self.false on c.tell_primary-2.ensures.primary c.tell_primary.ensures.leads c.tell_primary-2.ensures.leads));
       tied = goes_on v c.self.invariant.tied d c.if-not-self.false on c.tell_primary-2.ensures.primary;
     }
+
+pub returns-in_err-stepped-clause-refused : goal.returns-in_err-stepped-clause-refused
+returns-in_err-stepped-clause-refused c =
+    let v : WorldView = record {
+      image = c.self.inside.image;
+      keepers = c.self.inside.keepers;
+      need = c.self.inside.need;
+      primary = c.self.inside.primary;
+      runs = c.self.inside.runs;
+      stopped = c.self.inside.stopped.items;
+      sent = c.self.inside.sent.items;
+      stores = c.self.inside.stores.items;
+      gate = c.self.inside.gate;
+      released = c.self.inside.released.items;
+    } in
+    let e = err_from_is_err_and c.from_residual.result c.from_residual.ensures.1 in
+    rw (e.1)
+    (subst (λ (w : WorldView). Refuses w (on.Step c.args.hart) e.0) c.self.view_is
+    (subst (λ f. Refuses v (on.Step c.args.hart) f) (sym e.2)
+    (step_refused v c.args.hart c.in_err-stepped.field-0.0 c.if-not-self.false
+    (subst (λ n. c.args.hart < n) (sym c.self.invariant.parts.harts) (subst (λ (w : WorldView). c.args.hart < w.image.harts) (sym c.self.view_is) c.requires.hart))
+    c.in_err-stepped.ensures.refused)))
