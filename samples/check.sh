@@ -37,7 +37,7 @@ fail() {
 # lacks BLOCK: why a block is left out; nothing where it is run.
 lacks() {
     if grep -q '\.ci/run' "$1"; then
-        echo "it is the whole gate, for most of an hour"
+        echo "it is the whole gate, for an hour or two"
     elif grep -q 'rt run' "$1"; then
         echo "it proves every crate below the program, for half an hour"
     elif grep -q 'apt-get' "$1"; then

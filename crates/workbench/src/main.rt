@@ -1,4 +1,4 @@
-//! The program: it runs a primary of a guest and writes its log, replays logs, and prints the machine that they lead to.
+//! The program: it runs, replays, joins, cuts and audits logs of a guest, and leads a pair and a failover, over real files and threads.
 #![tactic(auto)]
 
 mod host;
