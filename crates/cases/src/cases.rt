@@ -1,8 +1,9 @@
 //! The cases of a case file.
 
 use crate::files::File;
-use crate::frames::{bytes_of_hex, stream_of, turn};
-use crate::reading::{Block, Line, Wrong, blocks_of};
+use crate::frames::{bytes_of_hex, guest_of, parts_of, size, turn};
+use crate::reading::{Block, Line, LineNumber, blocks_of};
+use ft_types::Guest;
 use std::alloc::Global;
 
 /// Room for what is written, where a case says nothing of it.
@@ -29,7 +30,7 @@ pub struct Case<'t> {
     pub holds: usize,
     /// How many bytes standard output has room for.
     pub room: usize,
-    pub status: u8,
+    pub status: usize,
     pub out: Vec<u8>,
     pub err: Vec<u8>,
 }
@@ -37,32 +38,33 @@ pub struct Case<'t> {
 /// The named texts of a case file.
 type Texts<'t> = Vec<(&'t str, Vec<u8>)>;
 
-fn text_named<'a>(texts: &'a Texts<'_>, name: &str) -> Result<&'a [u8], Wrong> {
+fn text_named<'a>(texts: &'a Texts<'_>, name: &str) -> Option<&'a [u8]> {
     for (known, bytes) in texts {
         if *known == name {
-            return Ok(bytes.as_slice());
+            return Some(bytes.as_slice());
         }
     }
-    Err(Wrong::new("no such text"))
+    None
 }
 
 /// The lines, each with a line feed.
-fn joined(alloc: Global, content: &[Line<'_>]) -> Result<Vec<u8>, Wrong> {
+fn joined(alloc: Global, content: &[Line<'_>]) -> Option<Vec<u8>> {
     let mut bytes = Vec::new(alloc);
     for line in content {
-        bytes.extend_from_slice(line.text.as_bytes())?;
-        bytes.push(b'\n')?;
+        bytes.extend_from_slice(line.text.as_bytes()).ok()?;
+        bytes.push(b'\n').ok()?;
     }
-    Ok(bytes)
+    Some(bytes)
 }
 
 /// The bytes that the lines spell in hexadecimal.
-fn spelled(alloc: Global, content: &[Line<'_>]) -> Result<Vec<u8>, Wrong> {
+fn spelled(alloc: Global, content: &[Line<'_>]) -> Option<Vec<u8>> {
     let mut bytes = Vec::new(alloc);
     for line in content {
-        bytes.extend_from_slice(&bytes_of_hex(alloc, line.text)?)?;
+        let some = bytes_of_hex(alloc, line.text)?;
+        bytes.extend_from_slice(&some).ok()?;
     }
-    Ok(bytes)
+    Some(bytes)
 }
 
 /// What is named before `= TEXT`, or alone, and the bytes that are given so: of that text, or of the content.
@@ -71,22 +73,20 @@ fn given<'t>(
     texts: &Texts<'_>,
     rest: &'t str,
     content: &[Line<'_>],
-) -> Result<(&'t str, Vec<u8>), Wrong> {
+) -> Option<(&'t str, Vec<u8>)> {
     match rest.split_once("= ") {
-        Some((name, text)) => Ok((name.trim_end(), text_named(texts, text)?.to_vec(alloc)?)),
-        None => Ok((rest, joined(alloc, content)?)),
+        Some((name, text)) => {
+            let bytes = text_named(texts, text)?;
+            Some((name.trim_end(), bytes.to_vec(alloc).ok()?))
+        }
+        None => Some((rest, joined(alloc, content)?)),
     }
 }
 
-/// What is named before `of IMAGE`, and the stream of the content.
-fn given_frames<'t>(
-    alloc: Global,
-    texts: &Texts<'_>,
-    rest: &'t str,
-    content: &[Line<'_>],
-) -> Result<(&'t str, Vec<u8>), Wrong> {
-    let (name, image) = rest.split_once(" of ").ok_or(Wrong::new("of no image"))?;
-    Ok((name, stream_of(alloc, text_named(texts, image)?, content)?))
+/// What is named before `of IMAGE`, and the guest of that image.
+fn named_guest<'t>(alloc: Global, texts: &Texts<'_>, rest: &'t str) -> Option<(&'t str, Guest)> {
+    let (name, image) = rest.split_once(" of ")?;
+    Some((name, guest_of(alloc, text_named(texts, image)?)?))
 }
 
 impl<'t> Case<'t> {
@@ -105,90 +105,116 @@ impl<'t> Case<'t> {
         }
     }
 
-    fn add_word(&mut self, alloc: Global, word: &str) -> Result<(), Wrong> {
-        self.words.push(String::from_str(alloc, word)?)?;
-        Ok(())
+    fn add_word(&mut self, alloc: Global, word: &str) -> Option<()> {
+        self.words.push(String::from_str(alloc, word).ok()?).ok()
     }
 
-    fn add_words(&mut self, alloc: Global, words: &str) -> Result<(), Wrong> {
+    fn add_words(&mut self, alloc: Global, words: &str) -> Option<()> {
         for word in words.split(' ') {
             self.add_word(alloc, word)?;
         }
-        Ok(())
+        Some(())
     }
 
-    fn add_file(&mut self, (name, bytes): (&'t str, Vec<u8>)) -> Result<(), Wrong> {
-        let fails_at = None;
-        self.files.push(File {
+    fn add_file(&mut self, name: &'t str, bytes: Vec<u8>) -> Option<()> {
+        let file = File {
             name,
             bytes,
-            fails_at,
-        })?;
-        Ok(())
+            fails_at: None,
+        };
+        self.files.push(file).ok()
     }
 
     /// Changes the last file.
-    fn change(&mut self, how: &str, place: usize) -> Result<(), Wrong> {
-        let Some(file) = self.files.last_mut() else {
-            return Err(Wrong::new("no file yet"));
-        };
+    fn change(&mut self, how: &str, place: usize) -> Option<()> {
+        let file = self.files.last_mut()?;
         match how {
             "front" => file.bytes.truncate(place),
             "turned" => turn(&mut file.bytes, place)?,
             _ => file.fails_at = Some(place),
         }
-        Ok(())
+        Some(())
     }
 
     fn make(&mut self, name: &'t str, bytes: Option<Vec<u8>>) {
         self.made = Some(Made { name, bytes });
     }
 
-    /// Takes what a heading of the case says, and its content.
-    fn take(
+    /// Takes a stream of frames: the file that is made, or one that can be read.
+    fn take_frames(
         &mut self,
         alloc: Global,
         texts: &Texts<'t>,
-        (verb, rest): (&'t str, &'t str),
-        content: &[Line<'t>],
-    ) -> Result<(), Wrong> {
-        match verb {
-            "words" => self.add_words(alloc, rest)?,
-            "word" => self.add_word(alloc, rest)?,
-            "threads" => self.on_threads = true,
-            "file" => self.add_file(given(alloc, texts, rest, content)?)?,
-            "frames" => self.add_file(given_frames(alloc, texts, rest, content)?)?,
-            "front" | "turned" | "failing" => self.change(verb, rest.parse::<usize>()?)?,
-            "absent" => {}
-            "room" => self.room = rest.parse::<usize>()?,
-            "makes" => self.take_made(alloc, texts, rest, content)?,
-            "makes-any" => self.make(rest, None),
-            "holds" => self.holds = rest.parse::<usize>()?,
-            "status" => self.status = rest.parse::<u8>()?,
-            "out" => self
-                .out
-                .extend_from_slice(&given(alloc, texts, rest, content)?.1)?,
-            "err" => self
-                .err
-                .extend_from_slice(&given(alloc, texts, rest, content)?.1)?,
-            _ => return Err(Wrong::new("no such heading")),
+        verb: &str,
+        rest: &'t str,
+        block: &Block<'t>,
+    ) -> Result<(), LineNumber> {
+        let number = block.heading.number;
+        let (name, guest) = named_guest(alloc, texts, rest).ok_or(number)?;
+        let stream = parts_of(alloc, guest, &block.content)?;
+        if verb == "frames" {
+            self.add_file(name, stream).ok_or(number)?;
+        } else {
+            self.make(name, Some(stream));
         }
         Ok(())
     }
 
-    fn take_made(
+    /// Takes bytes that must come out, or are in a file.
+    fn take_bytes(
         &mut self,
         alloc: Global,
         texts: &Texts<'t>,
+        verb: &str,
         rest: &'t str,
         content: &[Line<'t>],
-    ) -> Result<(), Wrong> {
-        let (name, bytes) = match rest.strip_prefix("frames ") {
-            Some(rest) => given_frames(alloc, texts, rest, content)?,
-            None => given(alloc, texts, rest, content)?,
+    ) -> Option<()> {
+        let (name, bytes) = given(alloc, texts, rest, content)?;
+        match verb {
+            "file" => self.add_file(name, bytes)?,
+            "makes" => self.make(name, Some(bytes)),
+            "out" => self.out.extend_from_slice(&bytes).ok()?,
+            _ => self.err.extend_from_slice(&bytes).ok()?,
+        }
+        Some(())
+    }
+
+    /// Takes what a heading says that has no content.
+    fn take_plain(&mut self, alloc: Global, verb: &str, rest: &'t str) -> Option<()> {
+        match verb {
+            "words" => self.add_words(alloc, rest)?,
+            "word" => self.add_word(alloc, rest)?,
+            "threads" => self.on_threads = true,
+            "front" | "turned" | "failing" => self.change(verb, size(rest)?)?,
+            "absent" => {}
+            "room" => self.room = size(rest)?,
+            "makes-any" => self.make(rest, None),
+            "holds" => self.holds = size(rest)?,
+            "status" => self.status = size(rest)?,
+            _ => return None,
+        }
+        Some(())
+    }
+
+    /// Takes what a block of the case says.
+    fn take(
+        &mut self,
+        alloc: Global,
+        texts: &Texts<'t>,
+        verb: &str,
+        rest: &'t str,
+        block: &Block<'t>,
+    ) -> Result<(), LineNumber> {
+        let taken = match verb {
+            "frames" | "makes frames" => {
+                return self.take_frames(alloc, texts, verb, rest, block);
+            }
+            "file" | "makes" | "out" | "err" => {
+                self.take_bytes(alloc, texts, verb, rest, &block.content)
+            }
+            _ => self.take_plain(alloc, verb, rest),
         };
-        self.make(name, Some(bytes));
-        Ok(())
+        taken.ok_or(block.heading.number)
     }
 }
 
@@ -200,32 +226,48 @@ struct Told<'t> {
 }
 
 impl<'t> Told<'t> {
-    /// Takes a block: a text, a case, or something of the last case.
-    fn take(&mut self, alloc: Global, block: &Block<'t>) -> Result<(), Wrong> {
-        let text = block.heading.text;
-        let (verb, rest) = text.split_once(' ').unwrap_or((text, ""));
+    /// Takes the beginning of a case, or a text.
+    fn begin(
+        &mut self,
+        alloc: Global,
+        verb: &str,
+        name: &'t str,
+        content: &[Line<'t>],
+    ) -> Option<()> {
         match verb {
-            "text" => self.texts.push((rest, joined(alloc, &block.content)?))?,
-            "bytes" => self.texts.push((rest, spelled(alloc, &block.content)?))?,
-            "case" => self.cases.push(Case::new(alloc, rest))?,
-            _ => match self.cases.last_mut() {
-                Some(case) => case.take(alloc, &self.texts, (verb, rest), &block.content)?,
-                None => return Err(Wrong::new("of no case")),
-            },
+            "text" => self.texts.push((name, joined(alloc, content)?)).ok(),
+            "bytes" => self.texts.push((name, spelled(alloc, content)?)).ok(),
+            _ => self.cases.push(Case::new(alloc, name)).ok(),
         }
-        Ok(())
+    }
+
+    /// Takes a block: a text, a case, or something of the last case.
+    fn take(&mut self, alloc: Global, block: &Block<'t>) -> Result<(), LineNumber> {
+        let Line { number, text } = block.heading;
+        let (verb, rest) = match text.strip_prefix("makes frames ") {
+            Some(rest) => ("makes frames", rest),
+            None => text.split_once(' ').unwrap_or((text, "")),
+        };
+        match verb {
+            "text" | "bytes" | "case" => {
+                self.begin(alloc, verb, rest, &block.content).ok_or(number)
+            }
+            _ => {
+                let case = self.cases.last_mut().ok_or(number)?;
+                case.take(alloc, &self.texts, verb, rest, block)
+            }
+        }
     }
 }
 
 /// The cases of a case file.
-pub fn cases_of(alloc: Global, text: &str) -> Result<Vec<Case<'_>>, Wrong> {
+pub fn cases_of(alloc: Global, text: &str) -> Result<Vec<Case<'_>>, LineNumber> {
     let mut told = Told {
         texts: Vec::new(alloc),
         cases: Vec::new(alloc),
     };
     for block in blocks_of(alloc, text)? {
-        let taken = told.take(alloc, &block);
-        taken.map_err(|wrong| wrong.at(block.heading.number))?;
+        told.take(alloc, &block)?;
     }
     Ok(told.cases)
 }

@@ -83,7 +83,8 @@ impl<'c> Files for MemoryFiles<'c> {
     }
 
     fn maker(&mut self, name: &str) -> Result<SharedSink<'c>, Failed> {
-        match self.made {
+        let known = self.made;
+        match known {
             Some(made) if made == name => Ok(SharedSink {
                 sink: self.sink,
                 failures: 0,

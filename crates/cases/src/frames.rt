@@ -1,9 +1,9 @@
 //! Streams of frames, by their parts.
 
-use crate::reading::{Line, Wrong};
+use crate::reading::{Line, LineNumber};
 use edge_log::Edge;
 use fragment_codec::{Fragment, Frame, Key, Opening, Record, write_frame};
-use ft_types::{Counts, Guest, Hart, MemorySink, read_word};
+use ft_types::{Counts, Guest, Hart, MemorySink, read_number, read_word};
 use guest_image::read_image;
 use input_log::Input;
 use std::alloc::Global;
@@ -11,94 +11,93 @@ use std::alloc::Global;
 /// Room for a frame.
 const AMPLE: usize = 10_000;
 
-fn hart(text: &str) -> Result<Hart, Wrong> {
-    match text.parse::<u8>()? {
-        number if number < 8 => Ok(Hart::new(number)),
-        _ => Err(Wrong::new("no hart")),
+/// A number: 1 to 15 decimal digits.
+fn number(text: &str) -> Option<u64> {
+    read_number(text.as_bytes())
+}
+
+fn short(text: &str) -> Option<u32> {
+    u32::try_from(number(text)?).ok()
+}
+
+fn hart(text: &str) -> Option<Hart> {
+    match number(text)? {
+        number if number < 8 => Some(Hart::new(number as u8)),
+        _ => None,
     }
 }
 
-fn word(text: &str) -> Result<u32, Wrong> {
-    read_word(text.as_bytes()).ok_or(Wrong::new("no word"))
+fn edge(piece: Hart, at: &str, other: &str, after: &str) -> Option<Record> {
+    Some(Record::Edge(Edge {
+        hart: piece,
+        at: number(at)?,
+        other: hart(other)?,
+        after: number(after)?,
+    }))
+}
+
+fn given(at: &str, input: Input) -> Option<Record> {
+    Some(Record::Input(number(at)?, input))
 }
 
 /// The first record of a piece of this hart that the words spell, and how many words it takes.
-fn record(piece: Hart, words: &[&str]) -> Result<(Record, usize), Wrong> {
-    match words {
-        ["edge", at, other, after, ..] => {
-            let edge = Edge {
-                hart: piece,
-                at: at.parse::<u64>()?,
-                other: hart(other)?,
-                after: after.parse::<u64>()?,
-            };
-            Ok((Record::Edge(edge), 4))
+fn record(piece: Hart, words: &[&str]) -> Option<(Record, usize)> {
+    match *words {
+        ["edge", at, other, after, ..] => Some((edge(piece, at, other, after)?, 4)),
+        ["word", at, word, ..] => {
+            let word = Input::Word(read_word(word.as_bytes())?);
+            Some((given(at, word)?, 3))
         }
-        ["word", at, given, ..] => {
-            let given = Input::Word(word(given)?);
-            Ok((Record::Input(at.parse::<u64>()?, given), 3))
-        }
-        ["timer", at, ..] => Ok((Record::Input(at.parse::<u64>()?, Input::Timer), 2)),
-        ["bell", at, source, ..] => {
-            let bell = Input::Bell(hart(source)?);
-            Ok((Record::Input(at.parse::<u64>()?, bell), 3))
-        }
-        _ => Err(Wrong::new("no record")),
+        ["timer", at, ..] => Some((given(at, Input::Timer)?, 2)),
+        ["bell", at, source, ..] => Some((given(at, Input::Bell(hart(source)?))?, 3)),
+        _ => None,
     }
 }
 
-fn records(alloc: Global, piece: Hart, words: &[&str]) -> Result<Vec<Record>, Wrong> {
+fn records(alloc: Global, piece: Hart, words: &[&str]) -> Option<Vec<Record>> {
     let mut records = Vec::new(alloc);
     let mut next = 0usize;
     for _word in words {
-        match words.get(next..) {
-            Some(rest) if !rest.is_empty() => {
-                let (first, taken) = record(piece, rest)?;
-                records.push(first)?;
-                next = next.saturating_add(taken);
-            }
-            _ => break,
+        let rest = words.get(next..)?;
+        if rest.is_empty() {
+            break;
         }
+        let (first, taken) = record(piece, rest)?;
+        records.push(first).ok()?;
+        next = next.saturating_add(taken);
     }
-    Ok(records)
+    Some(records)
 }
 
-fn counts(alloc: Global, words: &[&str]) -> Result<Counts, Wrong> {
+fn counts(alloc: Global, words: &[&str]) -> Option<Counts> {
     let mut counts = Vec::new(alloc);
     for word in words {
-        counts.push(word.parse::<u64>()?)?;
+        counts.push(number(word)?).ok()?;
     }
-    Counts::from_slice(&counts).ok_or(Wrong::new("no counts"))
+    Counts::from_slice(&counts)
 }
 
 /// The opening that these words spell: a term, its parent and its base.
-fn opening(alloc: Global, guest: Guest, words: &[&str]) -> Result<Frame, Wrong> {
-    let [term, parent, base @ ..] = words else {
-        return Err(Wrong::new("too few words"));
-    };
-    let base = counts(alloc, base)?;
-    match Opening::new(guest, term.parse::<u32>()?, parent.parse::<u32>()?, base) {
-        Some(opening) => Ok(Frame::Opening(opening)),
-        None => Err(Wrong::new("no opening")),
-    }
+fn opening(alloc: Global, guest: Guest, words: &[&str]) -> Option<Frame> {
+    let base = counts(alloc, words.get(2..)?)?;
+    let opening = Opening::new(guest, short(words.get(0)?)?, short(words.get(1)?)?, base)?;
+    Some(Frame::Opening(opening))
+}
+
+fn key(words: &[&str]) -> Option<Key> {
+    Some(Key {
+        term: short(words.get(0)?)?,
+        hart: hart(words.get(1)?)?,
+        place: short(words.get(2)?)?,
+    })
 }
 
 /// The piece that these words spell: a term, a hart, a place, from where to where it reaches, and its records.
-fn piece(alloc: Global, guest: Guest, words: &[&str]) -> Result<Frame, Wrong> {
-    let [term, of, place, from, to, said @ ..] = words else {
-        return Err(Wrong::new("too few words"));
-    };
-    let key = Key {
-        term: term.parse::<u32>()?,
-        hart: hart(of)?,
-        place: place.parse::<u32>()?,
-    };
-    let records = records(alloc, key.hart, said)?;
-    let (from, to) = (from.parse::<u64>()?, to.parse::<u64>()?);
-    match Fragment::new(guest, key, from, to, records) {
-        Some(fragment) => Ok(Frame::Log(fragment)),
-        None => Err(Wrong::new("no piece")),
-    }
+fn piece(alloc: Global, guest: Guest, words: &[&str]) -> Option<Frame> {
+    let key = key(words)?;
+    let (from, to) = (number(words.get(3)?)?, number(words.get(4)?)?);
+    let records = records(alloc, key.hart, words.get(5..)?)?;
+    Some(Frame::Log(Fragment::new(guest, key, from, to, records)?))
 }
 
 /// A stream, and where its last part begins.
@@ -109,69 +108,90 @@ struct Stream {
 }
 
 impl Stream {
-    fn add(&mut self, bytes: &[u8]) -> Result<(), Wrong> {
+    fn add(&mut self, bytes: &[u8]) -> Option<()> {
         self.last = self.bytes.len();
-        self.bytes.extend_from_slice(bytes)?;
-        Ok(())
+        self.bytes.extend_from_slice(bytes).ok()
     }
 
-    fn add_frame(&mut self, alloc: Global, frame: &Frame) -> Result<(), Wrong> {
+    fn add_frame(&mut self, alloc: Global, frame: &Frame) -> Option<()> {
         let mut sink = MemorySink::new(alloc, AMPLE);
-        match write_frame(frame, &mut sink) {
-            Ok(()) => self.add(sink.bytes()),
-            Err(_) => Err(Wrong::new("memory")),
-        }
+        write_frame(frame, &mut sink).ok()?;
+        self.add(sink.bytes())
     }
 
-    /// Adds what these words spell, or changes the last part.
-    fn take(&mut self, alloc: Global, guest: Guest, words: &[&str]) -> Result<(), Wrong> {
-        match words {
-            ["opening", rest @ ..] => self.add_frame(alloc, &opening(alloc, guest, rest)?),
-            ["piece", rest @ ..] => self.add_frame(alloc, &piece(alloc, guest, rest)?),
-            ["bytes", hex] => self.add(&bytes_of_hex(alloc, hex)?),
-            ["cut", length] => {
-                self.bytes
-                    .truncate(self.last.saturating_add(length.parse::<usize>()?));
-                Ok(())
+    /// Where the byte with this number of the last part is.
+    fn place(&self, text: &str) -> Option<usize> {
+        Some(self.last.saturating_add(size(text)?))
+    }
+
+    /// Adds the frame that these words spell.
+    fn take_frame(
+        &mut self,
+        alloc: Global,
+        guest: Guest,
+        kind: &str,
+        words: &[&str],
+    ) -> Option<()> {
+        let frame = match kind {
+            "opening" => opening(alloc, guest, words)?,
+            "piece" => piece(alloc, guest, words)?,
+            _ => return None,
+        };
+        self.add_frame(alloc, &frame)
+    }
+
+    /// Adds what this line spells, or changes the last part.
+    fn take(&mut self, alloc: Global, guest: Guest, line: &str) -> Option<()> {
+        let (kind, rest) = line.split_once(' ')?;
+        match kind {
+            "bytes" => self.add(&bytes_of_hex(alloc, rest)?),
+            "cut" => {
+                let end = self.place(rest)?;
+                self.bytes.truncate(end);
+                Some(())
             }
-            ["turn", place] => turn(
-                &mut self.bytes,
-                self.last.saturating_add(place.parse::<usize>()?),
-            ),
-            _ => Err(Wrong::new("no part of a stream")),
+            "turn" => {
+                let place = self.place(rest)?;
+                turn(&mut self.bytes, place)
+            }
+            _ => {
+                let words: Vec<&str> = rest.split(' ').collect(alloc).ok()?;
+                self.take_frame(alloc, guest, kind, &words)
+            }
         }
     }
+}
+
+/// A number of bytes.
+pub fn size(text: &str) -> Option<usize> {
+    Some(number(text)? as usize)
 }
 
 /// The bytes that a text spells in hexadecimal.
-pub fn bytes_of_hex(alloc: Global, text: &str) -> Result<Vec<u8>, Wrong> {
-    hex::decode(alloc, text).map_err(|_| Wrong::new("no bytes"))
+pub fn bytes_of_hex(alloc: Global, text: &str) -> Option<Vec<u8>> {
+    hex::decode(alloc, text).ok()
 }
 
 /// Turns the highest bit of the byte at this place.
-pub fn turn(bytes: &mut Vec<u8>, place: usize) -> Result<(), Wrong> {
-    match bytes.get_mut(place) {
-        Some(byte) => {
-            *byte ^= 0x80;
-            Ok(())
-        }
-        None => Err(Wrong::new("no such byte")),
-    }
+pub fn turn(bytes: &mut Vec<u8>, place: usize) -> Option<()> {
+    let byte = bytes.get_mut(place)?;
+    *byte ^= 0x80;
+    Some(())
 }
 
-/// The stream of the guest of an image that these lines spell, a part each.
-pub fn stream_of(alloc: Global, image: &[u8], parts: &[Line<'_>]) -> Result<Vec<u8>, Wrong> {
-    let Ok(image) = read_image(alloc, image) else {
-        return Err(Wrong::new("no image"));
-    };
+/// The stream of this guest that these lines spell, a part each.
+pub fn parts_of(alloc: Global, guest: Guest, parts: &[Line<'_>]) -> Result<Vec<u8>, LineNumber> {
     let mut stream = Stream {
         bytes: Vec::new(alloc),
         last: 0,
     };
     for part in parts {
-        let words: Vec<&str> = part.text.split(' ').collect(alloc)?;
-        let taken = stream.take(alloc, image.guest(), &words);
-        taken.map_err(|wrong| wrong.at(part.number))?;
+        stream.take(alloc, guest, part.text).ok_or(part.number)?;
     }
     Ok(stream.bytes)
+}
+
+/// The guest of an image.
+pub fn guest_of(alloc: Global, image: &[u8]) -> Option<Guest> {
+    Some(read_image(alloc, image).ok()?.guest())
 }

@@ -27,8 +27,8 @@ fn run_text<R: Print + AllocGlobal, P: Pairs>(
 {
     match cases_of(rt.alloc(), text) {
         Ok(cases) => run_cases(rt, name, &cases, threads),
-        Err(wrong) => {
-            println!(rt; "{name}: line {}: {}", wrong.line, wrong.why)?;
+        Err(line) => {
+            println!(rt; "{name}: line {line} is at fault")?;
             Ok(false)
         }
     }

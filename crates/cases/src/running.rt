@@ -132,7 +132,7 @@ fn run_case<R: Print + AllocGlobal, P: Pairs>(
         perform(alloc, case, &InTurn)
     };
     let label = format!(in alloc; "{file}: {}", case.name)?;
-    let mut right = done.status == case.status;
+    let mut right = usize::from(done.status) == case.status;
     if !right {
         println!(rt; "{label}: status {}", done.status)?;
     }
