@@ -1,9 +1,8 @@
 //! The cases of a case file.
 
 use crate::files::File;
-use crate::frames::{bytes_of_hex, guest_of, parts_of, size, turn};
+use crate::frames::{bytes_of_hex, size, stream_of, turn};
 use crate::reading::{Block, Line, LineNumber, blocks_of};
-use ft_types::Guest;
 use std::alloc::Global;
 
 /// Room for what is written, where a case says nothing of it.
@@ -83,12 +82,6 @@ fn given<'t>(
     }
 }
 
-/// What is named before `of IMAGE`, and the guest of that image.
-fn named_guest<'t>(alloc: Global, texts: &Texts<'_>, rest: &'t str) -> Option<(&'t str, Guest)> {
-    let (name, image) = rest.split_once(" of ")?;
-    Some((name, guest_of(alloc, text_named(texts, image)?)?))
-}
-
 impl<'t> Case<'t> {
     fn new(alloc: Global, name: &'t str) -> Case<'t> {
         Case {
@@ -150,8 +143,9 @@ impl<'t> Case<'t> {
         block: &Block<'t>,
     ) -> Result<(), LineNumber> {
         let number = block.heading.number;
-        let (name, guest) = named_guest(alloc, texts, rest).ok_or(number)?;
-        let stream = parts_of(alloc, guest, &block.content)?;
+        let (name, image) = rest.split_once(" of ").ok_or(number)?;
+        let image = text_named(texts, image).ok_or(number)?;
+        let stream = stream_of(alloc, image, block)?;
         if verb == "frames" {
             self.add_file(name, stream).ok_or(number)?;
         } else {

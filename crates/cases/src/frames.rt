@@ -1,6 +1,6 @@
 //! Streams of frames, by their parts.
 
-use crate::reading::{Line, LineNumber};
+use crate::reading::{Block, LineNumber};
 use edge_log::Edge;
 use fragment_codec::{Fragment, Frame, Key, Opening, Record, write_frame};
 use ft_types::{Counts, Guest, Hart, MemorySink, read_number, read_word};
@@ -40,18 +40,17 @@ fn given(at: &str, input: Input) -> Option<Record> {
     Some(Record::Input(number(at)?, input))
 }
 
-/// The first record of a piece of this hart that the words spell, and how many words it takes.
-fn record(piece: Hart, words: &[&str]) -> Option<(Record, usize)> {
-    match *words {
-        ["edge", at, other, after, ..] => Some((edge(piece, at, other, after)?, 4)),
-        ["word", at, word, ..] => {
-            let word = Input::Word(read_word(word.as_bytes())?);
-            Some((given(at, word)?, 3))
-        }
-        ["timer", at, ..] => Some((given(at, Input::Timer)?, 2)),
-        ["bell", at, source, ..] => Some((given(at, Input::Bell(hart(source)?))?, 3)),
-        _ => None,
-    }
+/// Adds the first record of a piece of this hart that the words spell, and gives how many words it takes.
+fn add_record(records: &mut Vec<Record>, piece: Hart, words: &[&str]) -> Option<usize> {
+    let (first, taken) = match *words {
+        ["edge", at, other, after, ..] => (edge(piece, at, other, after)?, 4),
+        ["word", at, word, ..] => (given(at, Input::Word(read_word(word.as_bytes())?))?, 3),
+        ["timer", at, ..] => (given(at, Input::Timer)?, 2),
+        ["bell", at, source, ..] => (given(at, Input::Bell(hart(source)?))?, 3),
+        _ => return None,
+    };
+    records.push(first).ok()?;
+    Some(taken)
 }
 
 fn records(alloc: Global, piece: Hart, words: &[&str]) -> Option<Vec<Record>> {
@@ -62,9 +61,7 @@ fn records(alloc: Global, piece: Hart, words: &[&str]) -> Option<Vec<Record>> {
         if rest.is_empty() {
             break;
         }
-        let (first, taken) = record(piece, rest)?;
-        records.push(first).ok()?;
-        next = next.saturating_add(taken);
+        next = next.saturating_add(add_record(&mut records, piece, rest)?);
     }
     Some(records)
 }
@@ -179,19 +176,22 @@ pub fn turn(bytes: &mut Vec<u8>, place: usize) -> Option<()> {
     Some(())
 }
 
-/// The stream of this guest that these lines spell, a part each.
-pub fn parts_of(alloc: Global, guest: Guest, parts: &[Line<'_>]) -> Result<Vec<u8>, LineNumber> {
+/// The guest of an image.
+fn guest_of(alloc: Global, image: &[u8]) -> Option<Guest> {
+    Some(read_image(alloc, image).ok()?.guest())
+}
+
+/// The stream of the guest of an image that the lines of a block spell, a part each.
+pub fn stream_of(alloc: Global, image: &[u8], block: &Block<'_>) -> Result<Vec<u8>, LineNumber> {
+    let Some(guest) = guest_of(alloc, image) else {
+        return Err(block.heading.number);
+    };
     let mut stream = Stream {
         bytes: Vec::new(alloc),
         last: 0,
     };
-    for part in parts {
+    for part in &block.content {
         stream.take(alloc, guest, part.text).ok_or(part.number)?;
     }
     Ok(stream.bytes)
-}
-
-/// The guest of an image.
-pub fn guest_of(alloc: Global, image: &[u8]) -> Option<Guest> {
-    Some(read_image(alloc, image).ok()?.guest())
 }
