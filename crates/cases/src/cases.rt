@@ -1,20 +1,12 @@
 //! The cases of a case file.
 
 use crate::files::File;
-use crate::frames::{bytes_of_hex, size, stream_of, turn};
+use crate::frames::{bytes_of_hex, stream_of, turn};
 use crate::reading::{Block, Line, LineNumber, blocks_of};
 use std::alloc::Global;
 
 /// Room for what is written, where a case says nothing of it.
 const AMPLE: usize = 1_000_000;
-
-/// The file that is made.
-#[derive(Drop)]
-pub struct Made<'t> {
-    pub name: &'t str,
-    /// What it holds in the end, as far as it has room: anything, where nothing is said.
-    pub bytes: Option<Vec<u8>>,
-}
 
 /// A call of the program over files in memory, and what must come of it.
 #[derive(Drop)]
@@ -24,8 +16,11 @@ pub struct Case<'t> {
     /// Whether the program's own threads run it, and not one after the other.
     pub on_threads: bool,
     pub files: Vec<File<'t>>,
-    pub made: Option<Made<'t>>,
-    /// How many bytes the file that is made has room for.
+    /// The file that can be made, if one can: it is empty where none can.
+    pub made: &'t str,
+    /// What that file holds in the end, as far as it has room: anything, where nothing is said.
+    holding: Option<Vec<u8>>,
+    /// How many bytes it has room for.
     pub holds: usize,
     /// How many bytes standard output has room for.
     pub room: usize,
@@ -34,13 +29,10 @@ pub struct Case<'t> {
     pub err: Vec<u8>,
 }
 
-/// The named texts of a case file.
-type Texts<'t> = Vec<(&'t str, Vec<u8>)>;
-
-fn text_named<'a>(texts: &'a Texts<'_>, name: &str) -> Option<&'a [u8]> {
-    for (known, bytes) in texts {
-        if *known == name {
-            return Some(bytes.as_slice());
+fn text_named<'a>(texts: &'a [File<'_>], name: &str) -> Option<&'a [u8]> {
+    for text in texts {
+        if text.name == name {
+            return Some(text.bytes.as_slice());
         }
     }
     None
@@ -66,19 +58,19 @@ fn spelled(alloc: Global, content: &[Line<'_>]) -> Option<Vec<u8>> {
     Some(bytes)
 }
 
-/// What is named before `= TEXT`, or alone, and the bytes that are given so: of that text, or of the content.
+/// The file that is named before `= TEXT`, or alone: with the bytes of that text, or of the content.
 fn given<'t>(
     alloc: Global,
-    texts: &Texts<'_>,
+    texts: &[File<'_>],
     rest: &'t str,
     content: &[Line<'_>],
-) -> Option<(&'t str, Vec<u8>)> {
+) -> Option<File<'t>> {
     match rest.split_once("= ") {
         Some((name, text)) => {
-            let bytes = text_named(texts, text)?;
-            Some((name.trim_end(), bytes.to_vec(alloc).ok()?))
+            let bytes = text_named(texts, text)?.to_vec(alloc).ok()?;
+            Some(File::new(name.trim_end(), bytes))
         }
-        None => Some((rest, joined(alloc, content)?)),
+        None => Some(File::new(rest, joined(alloc, content)?)),
     }
 }
 
@@ -89,7 +81,8 @@ impl<'t> Case<'t> {
             words: Vec::new(alloc),
             on_threads: false,
             files: Vec::new(alloc),
-            made: None,
+            made: "",
+            holding: None,
             holds: AMPLE,
             room: AMPLE,
             status: 0,
@@ -109,15 +102,6 @@ impl<'t> Case<'t> {
         Some(())
     }
 
-    fn add_file(&mut self, name: &'t str, bytes: Vec<u8>) -> Option<()> {
-        let file = File {
-            name,
-            bytes,
-            fails_at: None,
-        };
-        self.files.push(file).ok()
-    }
-
     /// Changes the last file.
     fn change(&mut self, how: &str, place: usize) -> Option<()> {
         let file = self.files.last_mut()?;
@@ -129,15 +113,24 @@ impl<'t> Case<'t> {
         Some(())
     }
 
-    fn make(&mut self, name: &'t str, bytes: Option<Vec<u8>>) {
-        self.made = Some(Made { name, bytes });
+    fn make(&mut self, name: &'t str, holding: Option<Vec<u8>>) {
+        self.made = name;
+        self.holding = holding;
+    }
+
+    /// What the file that is made holds in the end, if it may hold this.
+    pub fn wanted<'a>(&'a self, made: &'a [u8]) -> &'a [u8] {
+        match &self.holding {
+            Some(bytes) => bytes.get(..self.holds).unwrap_or(bytes),
+            None => made,
+        }
     }
 
     /// Takes a stream of frames: the file that is made, or one that can be read.
     fn take_frames(
         &mut self,
         alloc: Global,
-        texts: &Texts<'t>,
+        texts: &[File<'t>],
         verb: &str,
         rest: &'t str,
         block: &Block<'t>,
@@ -147,7 +140,7 @@ impl<'t> Case<'t> {
         let image = text_named(texts, image).ok_or(number)?;
         let stream = stream_of(alloc, image, block)?;
         if verb == "frames" {
-            self.add_file(name, stream).ok_or(number)?;
+            self.files.push(File::new(name, stream)).ok().ok_or(number)?;
         } else {
             self.make(name, Some(stream));
         }
@@ -158,17 +151,17 @@ impl<'t> Case<'t> {
     fn take_bytes(
         &mut self,
         alloc: Global,
-        texts: &Texts<'t>,
+        texts: &[File<'t>],
         verb: &str,
         rest: &'t str,
         content: &[Line<'t>],
     ) -> Option<()> {
-        let (name, bytes) = given(alloc, texts, rest, content)?;
+        let file = given(alloc, texts, rest, content)?;
         match verb {
-            "file" => self.add_file(name, bytes)?,
-            "makes" => self.make(name, Some(bytes)),
-            "out" => self.out.extend_from_slice(&bytes).ok()?,
-            _ => self.err.extend_from_slice(&bytes).ok()?,
+            "file" => self.files.push(file).ok()?,
+            "makes" => self.make(file.name, Some(file.bytes)),
+            "out" => self.out.extend_from_slice(&file.bytes).ok()?,
+            _ => self.err.extend_from_slice(&file.bytes).ok()?,
         }
         Some(())
     }
@@ -179,12 +172,12 @@ impl<'t> Case<'t> {
             "words" => self.add_words(alloc, rest)?,
             "word" => self.add_word(alloc, rest)?,
             "threads" => self.on_threads = true,
-            "front" | "turned" | "failing" => self.change(verb, size(rest)?)?,
+            "front" | "turned" | "failing" => self.change(verb, rest.parse::<usize>().ok()?)?,
             "absent" => {}
-            "room" => self.room = size(rest)?,
+            "room" => self.room = rest.parse::<usize>().ok()?,
             "makes-any" => self.make(rest, None),
-            "holds" => self.holds = size(rest)?,
-            "status" => self.status = size(rest)?,
+            "holds" => self.holds = rest.parse::<usize>().ok()?,
+            "status" => self.status = rest.parse::<usize>().ok()?,
             _ => return None,
         }
         Some(())
@@ -194,7 +187,7 @@ impl<'t> Case<'t> {
     fn take(
         &mut self,
         alloc: Global,
-        texts: &Texts<'t>,
+        texts: &[File<'t>],
         verb: &str,
         rest: &'t str,
         block: &Block<'t>,
@@ -215,11 +208,15 @@ impl<'t> Case<'t> {
 /// The named texts and the cases so far.
 #[derive(Drop)]
 struct Told<'t> {
-    texts: Texts<'t>,
+    texts: Vec<File<'t>>,
     cases: Vec<Case<'t>>,
 }
 
 impl<'t> Told<'t> {
+    fn add_text(&mut self, name: &'t str, bytes: Vec<u8>) -> Option<()> {
+        self.texts.push(File::new(name, bytes)).ok()
+    }
+
     /// Takes the beginning of a case, or a text.
     fn begin(
         &mut self,
@@ -229,8 +226,8 @@ impl<'t> Told<'t> {
         content: &[Line<'t>],
     ) -> Option<()> {
         match verb {
-            "text" => self.texts.push((name, joined(alloc, content)?)).ok(),
-            "bytes" => self.texts.push((name, spelled(alloc, content)?)).ok(),
+            "text" => self.add_text(name, joined(alloc, content)?),
+            "bytes" => self.add_text(name, spelled(alloc, content)?),
             _ => self.cases.push(Case::new(alloc, name)).ok(),
         }
     }

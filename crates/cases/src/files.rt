@@ -1,10 +1,11 @@
 //! Files in memory, for commands to read and make.
 
+use crate::cases::Case;
 use command_line::Files;
 use ft_types::{Failed, MemorySink, MemorySource, Sink};
 use std::cell::RefCell;
 
-/// A file that can be read.
+/// Bytes by name: a text of a case file, or a file of a case.
 #[derive(Drop)]
 pub struct File<'t> {
     pub name: &'t str,
@@ -13,9 +14,20 @@ pub struct File<'t> {
     pub fails_at: Option<usize>,
 }
 
-impl File<'_> {
+impl<'t> File<'t> {
+    /// Bytes that can all be read.
+    pub fn new(name: &'t str, bytes: Vec<u8>) -> File<'t> {
+        File {
+            name,
+            bytes,
+            fails_at: None,
+        }
+    }
+
     fn source(&self) -> Result<MemorySource, Failed> {
-        let bytes = self.bytes.clone().map_err(|_| Failed)?;
+        let Ok(bytes) = self.bytes.clone() else {
+            return Err(Failed);
+        };
         match self.fails_at {
             None => Ok(MemorySource::new(bytes)),
             Some(place) => Ok(MemorySource::failing_at(bytes, place)),
@@ -63,8 +75,7 @@ impl Sink for SharedSink<'_> {
 /// The files of a case: those that can be read, and the one that can be made.
 #[derive(Drop)]
 pub struct MemoryFiles<'c> {
-    pub files: &'c [File<'c>],
-    pub made: Option<&'c str>,
+    pub case: &'c Case<'c>,
     pub sink: &'c RefCell<MemorySink>,
 }
 
@@ -74,7 +85,7 @@ impl<'c> Files for MemoryFiles<'c> {
     type Writer = SharedSink<'c>;
 
     fn reader(&mut self, name: &str) -> Result<MemorySource, Failed> {
-        for file in self.files {
+        for file in &self.case.files {
             if file.name == name {
                 return file.source();
             }
@@ -83,13 +94,12 @@ impl<'c> Files for MemoryFiles<'c> {
     }
 
     fn maker(&mut self, name: &str) -> Result<SharedSink<'c>, Failed> {
-        let known = self.made;
-        match known {
-            Some(made) if made == name => Ok(SharedSink {
-                sink: self.sink,
-                failures: 0,
-            }),
-            _ => Err(Failed),
+        if self.case.made != name {
+            return Err(Failed);
         }
+        Ok(SharedSink {
+            sink: self.sink,
+            failures: 0,
+        })
     }
 }

@@ -3,7 +3,7 @@
 use crate::reading::{Block, LineNumber};
 use edge_log::Edge;
 use fragment_codec::{Fragment, Frame, Key, Opening, Record, write_frame};
-use ft_types::{Counts, Guest, Hart, MemorySink, read_number, read_word};
+use ft_types::{Counts, Guest, Hart, MemorySink};
 use guest_image::read_image;
 use input_log::Input;
 use std::alloc::Global;
@@ -11,18 +11,9 @@ use std::alloc::Global;
 /// Room for a frame.
 const AMPLE: usize = 10_000;
 
-/// A number: 1 to 15 decimal digits.
-fn number(text: &str) -> Option<u64> {
-    read_number(text.as_bytes())
-}
-
-fn short(text: &str) -> Option<u32> {
-    u32::try_from(number(text)?).ok()
-}
-
 fn hart(text: &str) -> Option<Hart> {
-    match number(text)? {
-        number if number < 8 => Some(Hart::new(number as u8)),
+    match text.parse::<u8>().ok()? {
+        number if number < 8 => Some(Hart::new(number)),
         _ => None,
     }
 }
@@ -30,21 +21,24 @@ fn hart(text: &str) -> Option<Hart> {
 fn edge(piece: Hart, at: &str, other: &str, after: &str) -> Option<Record> {
     Some(Record::Edge(Edge {
         hart: piece,
-        at: number(at)?,
+        at: at.parse::<u64>().ok()?,
         other: hart(other)?,
-        after: number(after)?,
+        after: after.parse::<u64>().ok()?,
     }))
 }
 
 fn given(at: &str, input: Input) -> Option<Record> {
-    Some(Record::Input(number(at)?, input))
+    Some(Record::Input(at.parse::<u64>().ok()?, input))
 }
 
 /// Adds the first record of a piece of this hart that the words spell, and gives how many words it takes.
 fn add_record(records: &mut Vec<Record>, piece: Hart, words: &[&str]) -> Option<usize> {
     let (first, taken) = match *words {
         ["edge", at, other, after, ..] => (edge(piece, at, other, after)?, 4),
-        ["word", at, word, ..] => (given(at, Input::Word(read_word(word.as_bytes())?))?, 3),
+        ["word", at, word, ..] => (
+            given(at, Input::Word(u32::from_str_radix(word, 16).ok()?))?,
+            3,
+        ),
         ["timer", at, ..] => (given(at, Input::Timer)?, 2),
         ["bell", at, source, ..] => (given(at, Input::Bell(hart(source)?))?, 3),
         _ => return None,
@@ -69,7 +63,7 @@ fn records(alloc: Global, piece: Hart, words: &[&str]) -> Option<Vec<Record>> {
 fn counts(alloc: Global, words: &[&str]) -> Option<Counts> {
     let mut counts = Vec::new(alloc);
     for word in words {
-        counts.push(number(word)?).ok()?;
+        counts.push(word.parse::<u64>().ok()?).ok()?;
     }
     Counts::from_slice(&counts)
 }
@@ -77,22 +71,28 @@ fn counts(alloc: Global, words: &[&str]) -> Option<Counts> {
 /// The opening that these words spell: a term, its parent and its base.
 fn opening(alloc: Global, guest: Guest, words: &[&str]) -> Option<Frame> {
     let base = counts(alloc, words.get(2..)?)?;
-    let opening = Opening::new(guest, short(words.get(0)?)?, short(words.get(1)?)?, base)?;
+    let opening = Opening::new(
+        guest,
+        words.get(0)?.parse::<u32>().ok()?,
+        words.get(1)?.parse::<u32>().ok()?,
+        base,
+    )?;
     Some(Frame::Opening(opening))
 }
 
 fn key(words: &[&str]) -> Option<Key> {
     Some(Key {
-        term: short(words.get(0)?)?,
+        term: words.get(0)?.parse::<u32>().ok()?,
         hart: hart(words.get(1)?)?,
-        place: short(words.get(2)?)?,
+        place: words.get(2)?.parse::<u32>().ok()?,
     })
 }
 
 /// The piece that these words spell: a term, a hart, a place, from where to where it reaches, and its records.
 fn piece(alloc: Global, guest: Guest, words: &[&str]) -> Option<Frame> {
     let key = key(words)?;
-    let (from, to) = (number(words.get(3)?)?, number(words.get(4)?)?);
+    let from = words.get(3)?.parse::<u64>().ok()?;
+    let to = words.get(4)?.parse::<u64>().ok()?;
     let records = records(alloc, key.hart, words.get(5..)?)?;
     Some(Frame::Log(Fragment::new(guest, key, from, to, records)?))
 }
@@ -118,7 +118,7 @@ impl Stream {
 
     /// Where the byte with this number of the last part is.
     fn place(&self, text: &str) -> Option<usize> {
-        Some(self.last.saturating_add(size(text)?))
+        Some(self.last.saturating_add(text.parse::<usize>().ok()?))
     }
 
     /// Adds the frame that these words spell.
@@ -157,11 +157,6 @@ impl Stream {
             }
         }
     }
-}
-
-/// A number of bytes.
-pub fn size(text: &str) -> Option<usize> {
-    Some(number(text)? as usize)
 }
 
 /// The bytes that a text spells in hexadecimal.

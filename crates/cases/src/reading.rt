@@ -28,13 +28,15 @@ fn add_line<'t>(
 ) -> Option<()> {
     if let Some(text) = text.strip_prefix("  ") {
         let block = blocks.last_mut()?;
-        block.content.push(Line { number, text }).ok()
-    } else if text.is_empty() || text.starts_with('#') {
-        Some(())
-    } else {
-        let content = Vec::new(alloc);
-        let heading = Line { number, text };
-        blocks.push(Block { heading, content }).ok()
+        return block.content.push(Line { number, text }).ok();
+    }
+    match text.as_bytes() {
+        [] | [b'#', ..] => Some(()),
+        _ => {
+            let content = Vec::new(alloc);
+            let heading = Line { number, text };
+            blocks.push(Block { heading, content }).ok()
+        }
     }
 }
 

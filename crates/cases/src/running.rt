@@ -1,6 +1,6 @@
 //! Runs cases, and tells which come out otherwise than they must.
 
-use crate::cases::{Case, Made};
+use crate::cases::Case;
 use crate::files::MemoryFiles;
 use command_line::{PairOrders, Pairs, command};
 use ft_types::{Memory, MemorySink, Sink};
@@ -63,11 +63,7 @@ fn perform<P: Pairs>(alloc: Global, case: &Case<'_>, pairs: &P) -> Done
     requires { P.may_run pairs.now }
 {
     let sink = RefCell::new(MemorySink::new(alloc, case.holds));
-    let mut files = MemoryFiles {
-        files: &case.files,
-        made: case.made.as_ref().map(|made| made.name),
-        sink: &sink,
-    };
+    let mut files = MemoryFiles { case, sink: &sink };
     let mut out = MemorySink::new(alloc, case.room);
     let mut err = MemorySink::new(alloc, 1000);
     let status = command(alloc, &case.words, &mut files, pairs, &mut out, &mut err);
@@ -79,41 +75,13 @@ fn perform<P: Pairs>(alloc: Global, case: &Case<'_>, pairs: &P) -> Done
     }
 }
 
-/// From where on the bytes are others, where they are.
-fn first_difference(bytes: &[u8], wanted: &[u8]) -> Option<usize> {
-    if bytes == wanted {
-        return None;
-    }
-    Some(bytes.iter().zip(wanted).take_while(|(a, b)| a == b).count())
-}
-
-/// Tells where the bytes of a case are others, and whether they are not.
+/// Tells what the bytes of a case are where they must be others, and whether they need not.
 fn tell<R: Print>(rt: &R, case: &str, what: &str, bytes: &[u8], wanted: &[u8]) -> io::Result<bool> {
-    let Some(place) = first_difference(bytes, wanted) else {
-        return Ok(true);
-    };
-    let rest = bytes.get(place..).unwrap_or(b"");
-    println!(rt;
-        "{case}: {what} from byte {place} on: {}",
-        rest.escape_ascii()
-    )?;
-    Ok(false)
-}
-
-/// Tells where the file that was made is another, and whether it is not.
-fn tell_made<R: Print>(rt: &R, label: &str, case: &Case<'_>, made: &[u8]) -> io::Result<bool> {
-    match &case.made {
-        Some(
-            Made {
-                bytes: Some(wanted),
-                ..
-            },
-        ) => {
-            let length = wanted.len().min(case.holds);
-            tell(rt, label, "made", made, &wanted[..length])
-        }
-        _ => Ok(true),
+    let right = bytes == wanted;
+    if !right {
+        println!(rt; "{case}: {what} {}", bytes.escape_ascii())?;
     }
+    Ok(right)
 }
 
 /// Runs a case, and tells what comes out otherwise.
@@ -131,6 +99,7 @@ fn run_case<R: Print + AllocGlobal, P: Pairs>(
     } else {
         perform(alloc, case, &InTurn)
     };
+    let wanted = case.wanted(done.made.bytes());
     let label = format!(in alloc; "{file}: {}", case.name)?;
     let mut right = usize::from(done.status) == case.status;
     if !right {
@@ -138,7 +107,7 @@ fn run_case<R: Print + AllocGlobal, P: Pairs>(
     }
     right &= tell(rt, label.as_str(), "out", done.out.bytes(), &case.out)?;
     right &= tell(rt, label.as_str(), "err", done.err.bytes(), &case.err)?;
-    right &= tell_made(rt, label.as_str(), case, done.made.bytes())?;
+    right &= tell(rt, label.as_str(), "made", done.made.bytes(), wanted)?;
     Ok(right)
 }
 
