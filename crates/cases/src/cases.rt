@@ -1,0 +1,264 @@
+//! The cases of a case file.
+
+use crate::files::File;
+use crate::frames::{bytes_of_hex, stream_of, turn};
+use crate::reading::{Block, Line, LineNumber, blocks_of};
+use std::alloc::Global;
+
+/// Room for what is written, where a case says nothing of it.
+const AMPLE: usize = 1_000_000;
+
+/// A call of the program over files in memory, and what must come of it.
+#[derive(Drop)]
+pub struct Case<'t> {
+    pub name: &'t str,
+    pub words: Vec<String>,
+    /// Whether the program's own threads run it, and not one after the other.
+    pub on_threads: bool,
+    pub files: Vec<File<'t>>,
+    /// The file that can be made, if one can: it is empty where none can.
+    pub made: &'t str,
+    /// What that file holds in the end, as far as it has room: anything, where nothing is said.
+    holding: Option<Vec<u8>>,
+    /// How many bytes it has room for.
+    pub holds: usize,
+    /// How many bytes standard output has room for.
+    pub room: usize,
+    pub status: usize,
+    pub out: Vec<u8>,
+    pub err: Vec<u8>,
+}
+
+fn text_named<'a>(texts: &'a [File<'_>], name: &str) -> Option<&'a [u8]> {
+    for text in texts {
+        if text.name == name {
+            return Some(text.bytes.as_slice());
+        }
+    }
+    None
+}
+
+/// The lines, each with a line feed.
+fn joined(alloc: Global, content: &[Line<'_>]) -> Option<Vec<u8>> {
+    let mut bytes = Vec::new(alloc);
+    for line in content {
+        bytes.extend_from_slice(line.text.as_bytes()).ok()?;
+        bytes.push(b'\n').ok()?;
+    }
+    Some(bytes)
+}
+
+/// The bytes that the lines spell in hexadecimal.
+fn spelled(alloc: Global, content: &[Line<'_>]) -> Option<Vec<u8>> {
+    let mut bytes = Vec::new(alloc);
+    for line in content {
+        let some = bytes_of_hex(alloc, line.text)?;
+        bytes.extend_from_slice(&some).ok()?;
+    }
+    Some(bytes)
+}
+
+/// The file that is named before `= TEXT`, or alone: with the bytes of that text, or of the content.
+fn given<'t>(
+    alloc: Global,
+    texts: &[File<'_>],
+    rest: &'t str,
+    content: &[Line<'_>],
+) -> Option<File<'t>> {
+    match rest.split_once("= ") {
+        Some((name, text)) => {
+            let bytes = text_named(texts, text)?.to_vec(alloc).ok()?;
+            Some(File::new(name.trim_end(), bytes))
+        }
+        None => Some(File::new(rest, joined(alloc, content)?)),
+    }
+}
+
+impl<'t> Case<'t> {
+    fn new(alloc: Global, name: &'t str) -> Case<'t> {
+        Case {
+            name,
+            words: Vec::new(alloc),
+            on_threads: false,
+            files: Vec::new(alloc),
+            made: "",
+            holding: None,
+            holds: AMPLE,
+            room: AMPLE,
+            status: 0,
+            out: Vec::new(alloc),
+            err: Vec::new(alloc),
+        }
+    }
+
+    fn add_word(&mut self, alloc: Global, word: &str) -> Option<()> {
+        self.words.push(String::from_str(alloc, word).ok()?).ok()
+    }
+
+    fn add_words(&mut self, alloc: Global, words: &str) -> Option<()> {
+        for word in words.split(' ') {
+            self.add_word(alloc, word)?;
+        }
+        Some(())
+    }
+
+    /// Changes the last file.
+    fn change(&mut self, how: &str, place: usize) -> Option<()> {
+        let file = self.files.last_mut()?;
+        match how {
+            "front" => file.bytes.truncate(place),
+            "turned" => turn(&mut file.bytes, place)?,
+            _ => file.fails_at = Some(place),
+        }
+        Some(())
+    }
+
+    fn make(&mut self, name: &'t str, holding: Option<Vec<u8>>) {
+        self.made = name;
+        self.holding = holding;
+    }
+
+    /// What the file that is made holds in the end, if it may hold this.
+    pub fn wanted<'a>(&'a self, made: &'a [u8]) -> &'a [u8] {
+        match &self.holding {
+            Some(bytes) => bytes.get(..self.holds).unwrap_or(bytes),
+            None => made,
+        }
+    }
+
+    /// Takes a stream of frames: the file that is made, or one that can be read.
+    fn take_frames(
+        &mut self,
+        alloc: Global,
+        texts: &[File<'t>],
+        verb: &str,
+        rest: &'t str,
+        block: &Block<'t>,
+    ) -> Result<(), LineNumber> {
+        let number = block.heading.number;
+        let (name, image) = rest.split_once(" of ").ok_or(number)?;
+        let image = text_named(texts, image).ok_or(number)?;
+        let stream = stream_of(alloc, image, block)?;
+        if verb == "frames" {
+            self.files.push(File::new(name, stream)).ok().ok_or(number)?;
+        } else {
+            self.make(name, Some(stream));
+        }
+        Ok(())
+    }
+
+    /// Takes bytes that must come out, or are in a file.
+    fn take_bytes(
+        &mut self,
+        alloc: Global,
+        texts: &[File<'t>],
+        verb: &str,
+        rest: &'t str,
+        content: &[Line<'t>],
+    ) -> Option<()> {
+        let file = given(alloc, texts, rest, content)?;
+        match verb {
+            "file" => self.files.push(file).ok()?,
+            "makes" => self.make(file.name, Some(file.bytes)),
+            "out" => self.out.extend_from_slice(&file.bytes).ok()?,
+            _ => self.err.extend_from_slice(&file.bytes).ok()?,
+        }
+        Some(())
+    }
+
+    /// Takes what a heading says that has no content.
+    fn take_plain(&mut self, alloc: Global, verb: &str, rest: &'t str) -> Option<()> {
+        match verb {
+            "words" => self.add_words(alloc, rest)?,
+            "word" => self.add_word(alloc, rest)?,
+            "threads" => self.on_threads = true,
+            "front" | "turned" | "failing" => self.change(verb, rest.parse::<usize>().ok()?)?,
+            "absent" => {}
+            "room" => self.room = rest.parse::<usize>().ok()?,
+            "makes-any" => self.make(rest, None),
+            "holds" => self.holds = rest.parse::<usize>().ok()?,
+            "status" => self.status = rest.parse::<usize>().ok()?,
+            _ => return None,
+        }
+        Some(())
+    }
+
+    /// Takes what a block of the case says.
+    fn take(
+        &mut self,
+        alloc: Global,
+        texts: &[File<'t>],
+        verb: &str,
+        rest: &'t str,
+        block: &Block<'t>,
+    ) -> Result<(), LineNumber> {
+        let taken = match verb {
+            "frames" | "makes frames" => {
+                return self.take_frames(alloc, texts, verb, rest, block);
+            }
+            "file" | "makes" | "out" | "err" => {
+                self.take_bytes(alloc, texts, verb, rest, &block.content)
+            }
+            _ => self.take_plain(alloc, verb, rest),
+        };
+        taken.ok_or(block.heading.number)
+    }
+}
+
+/// The named texts and the cases so far.
+#[derive(Drop)]
+struct Told<'t> {
+    texts: Vec<File<'t>>,
+    cases: Vec<Case<'t>>,
+}
+
+impl<'t> Told<'t> {
+    fn add_text(&mut self, name: &'t str, bytes: Vec<u8>) -> Option<()> {
+        self.texts.push(File::new(name, bytes)).ok()
+    }
+
+    /// Takes the beginning of a case, or a text.
+    fn begin(
+        &mut self,
+        alloc: Global,
+        verb: &str,
+        name: &'t str,
+        content: &[Line<'t>],
+    ) -> Option<()> {
+        match verb {
+            "text" => self.add_text(name, joined(alloc, content)?),
+            "bytes" => self.add_text(name, spelled(alloc, content)?),
+            _ => self.cases.push(Case::new(alloc, name)).ok(),
+        }
+    }
+
+    /// Takes a block: a text, a case, or something of the last case.
+    fn take(&mut self, alloc: Global, block: &Block<'t>) -> Result<(), LineNumber> {
+        let Line { number, text } = block.heading;
+        let (verb, rest) = match text.strip_prefix("makes frames ") {
+            Some(rest) => ("makes frames", rest),
+            None => text.split_once(' ').unwrap_or((text, "")),
+        };
+        match verb {
+            "text" | "bytes" | "case" => {
+                self.begin(alloc, verb, rest, &block.content).ok_or(number)
+            }
+            _ => {
+                let case = self.cases.last_mut().ok_or(number)?;
+                case.take(alloc, &self.texts, verb, rest, block)
+            }
+        }
+    }
+}
+
+/// The cases of a case file.
+pub fn cases_of(alloc: Global, text: &str) -> Result<Vec<Case<'_>>, LineNumber> {
+    let mut told = Told {
+        texts: Vec::new(alloc),
+        cases: Vec::new(alloc),
+    };
+    for block in blocks_of(alloc, text)? {
+        told.take(alloc, &block)?;
+    }
+    Ok(told.cases)
+}

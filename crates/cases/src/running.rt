@@ -1,0 +1,129 @@
+//! Runs cases, and tells which come out otherwise than they must.
+
+use crate::cases::Case;
+use crate::files::MemoryFiles;
+use command_line::{PairOrders, Pairs, command};
+use ft_types::{Memory, MemorySink, Sink};
+use guest_image::{Image, Machine};
+use hart_replay::{Plan, ReplayFault};
+use input_script::Offered;
+use log_streams::{Plainly, Replays, Runs, StreamsFault};
+use page_book::{Book, Recording};
+use std::alloc::Global;
+use std::cell::RefCell;
+use std::io;
+
+/// Runs and replays in turn, and no pair.
+struct InTurn;
+
+impl Replays for InTurn {
+    ghost use Rattle.std.specs.Prelude.{⊤};
+
+    ghost may_run = { λ _. ⊤ };
+
+    fn replay(&self, alloc: Global, image: &Image, plan: &Plan) -> Result<Machine, ReplayFault> {
+        Plainly.replay(alloc, image, plan)
+    }
+}
+
+impl Runs for InTurn {
+    ghost use Rattle.std.specs.Prelude.{⊤};
+
+    ghost goes = { λ _ _ _. ⊤ };
+
+    fn run_book(&self, alloc: Global, book: Book<Recording>) -> Result<Book<Recording>, Memory> {
+        Plainly.run_book(alloc, book)
+    }
+}
+
+impl Pairs for InTurn {
+    fn run_pair<W: Sink>(
+        &self,
+        _alloc: Global,
+        _image: &Image,
+        _script: &[Offered],
+        _orders: &PairOrders,
+        _out: &mut W,
+    ) -> Result<(), StreamsFault> {
+        Err(StreamsFault::Memory)
+    }
+}
+
+/// What came of a case.
+#[derive(Drop)]
+struct Done {
+    status: u8,
+    out: MemorySink,
+    err: MemorySink,
+    made: MemorySink,
+}
+
+/// Does what the words of a case ask for.
+fn perform<P: Pairs>(alloc: Global, case: &Case<'_>, pairs: &P) -> Done
+    requires { P.may_run pairs.now }
+{
+    let sink = RefCell::new(MemorySink::new(alloc, case.holds));
+    let mut files = MemoryFiles { case, sink: &sink };
+    let mut out = MemorySink::new(alloc, case.room);
+    let mut err = MemorySink::new(alloc, 1000);
+    let status = command(alloc, &case.words, &mut files, pairs, &mut out, &mut err);
+    Done {
+        status,
+        out,
+        err,
+        made: sink.into_inner(),
+    }
+}
+
+/// Tells what the bytes of a case are where they must be others, and whether they need not.
+fn tell<R: Print>(rt: &R, case: &str, what: &str, bytes: &[u8], wanted: &[u8]) -> io::Result<bool> {
+    let right = bytes == wanted;
+    if !right {
+        println!(rt; "{case}: {what} {}", bytes.escape_ascii())?;
+    }
+    Ok(right)
+}
+
+/// Runs a case, and tells what comes out otherwise.
+fn run_case<R: Print + AllocGlobal, P: Pairs>(
+    rt: &R,
+    file: &str,
+    case: &Case<'_>,
+    threads: &P,
+) -> io::Result<bool>
+    requires { P.may_run threads.now }
+{
+    let alloc = rt.alloc();
+    let done = if case.on_threads {
+        perform(alloc, case, threads)
+    } else {
+        perform(alloc, case, &InTurn)
+    };
+    let wanted = case.wanted(done.made.bytes());
+    let label = format!(in alloc; "{file}: {}", case.name)?;
+    let mut right = usize::from(done.status) == case.status;
+    if !right {
+        println!(rt; "{label}: status {}", done.status)?;
+    }
+    right &= tell(rt, label.as_str(), "out", done.out.bytes(), &case.out)?;
+    right &= tell(rt, label.as_str(), "err", done.err.bytes(), &case.err)?;
+    right &= tell(rt, label.as_str(), "made", done.made.bytes(), wanted)?;
+    Ok(right)
+}
+
+/// Runs the cases of a file, and tells how many there are, and which come out otherwise.
+pub fn run_cases<R: Print + AllocGlobal, P: Pairs>(
+    rt: &R,
+    file: &str,
+    cases: &[Case<'_>],
+    threads: &P,
+) -> io::Result<bool>
+    requires { P.may_run threads.now }
+{
+    let mut all_right = true;
+    for case in cases {
+        all_right &= run_case(rt, file, case, threads)?;
+    }
+    println!(rt; "{file}: {} cases", cases.len())?;
+    Ok(all_right)
+}
