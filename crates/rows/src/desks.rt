@@ -1,33 +1,41 @@
 //! Desks at which inputs wait. What memory is refused once is asked for once more, of a desk that must be as it was.
 
+use crate::inputs::Given::{self, Bell, Timer, Word};
+use crate::inputs::{are, input};
 use ft_types::{Count, Hart, Memory};
 use input_log::{Desk, Input, WaitingBell};
 use std::test::Fail;
 
+/// Whether these bells are those of sources and their counts.
+fn are_bells(bells: &[WaitingBell], rung: &[(u8, Count)]) -> bool {
+    for (bell, (source, after)) in bells.iter().zip(rung) {
+        if bell.source.number() != *source || bell.after != *after {
+            return false;
+        }
+    }
+    bells.len() == rung.len()
+}
+
 /// A call of a desk for hart 2, with what it answers.
 #[derive(Clone, Copy)]
-enum Call<'a> {
+enum Call {
     /// Puts an input that is no bell.
-    Put(Count, Input),
-    /// Puts a bell of hart 0 or 1, after so many of its steps.
-    Ring(bool, Count),
+    Put(Count, Given),
+    /// Puts a bell of a hart, after so many of its steps.
+    Ring(u8, Count),
     /// Takes back the bell that came last.
     Back,
     /// Takes what is given at a count.
-    Take(Count, &'a [Input]),
+    Take(Count, &'static [Given]),
     /// The least count at which something may be given.
     Next(Option<Count>),
     /// The bells that are given next.
-    Bells(&'a [WaitingBell]),
+    Bells(&'static [(u8, Count)]),
     /// From now on a copy is called.
     Copy,
 }
 
 use Call::{Back, Bells, Copy, Next, Put, Ring, Take};
-
-fn source(second: bool) -> Hart {
-    Hart::new(u8::from(second))
-}
 
 fn put(desk: &mut Desk, not_before: Count, input: Input) -> Result<bool, Memory> {
     if input.is_bell() {
@@ -37,25 +45,27 @@ fn put(desk: &mut Desk, not_before: Count, input: Input) -> Result<bool, Memory>
     Ok(true)
 }
 
-fn ring(desk: &mut Desk, second: bool, after: Count) -> Result<bool, Memory> {
-    desk.put_bell(Hart::new(2), source(second), after)?;
+fn ring(desk: &mut Desk, number: u8, source: u8, after: Count) -> Result<bool, Memory> {
+    let (hart, source) = (Hart::new(number % 8), Hart::new(source % 8));
+    desk.put_bell(hart, source, after)?;
     Ok(true)
 }
 
-fn back(desk: &mut Desk) {
+fn take_back(desk: &mut Desk) -> bool {
     desk.take_back_bell(Hart::new(2));
+    true
 }
 
-fn gives(desk: &mut Desk, count: Count, inputs: &[Input]) -> bool {
-    desk.take(Hart::new(2), count).as_slice() == inputs
+fn gives(desk: &mut Desk, count: Count, given: &[Given]) -> bool {
+    are(desk.take(Hart::new(2), count).as_slice(), given)
 }
 
-fn next(desk: &Desk) -> Option<Count> {
-    desk.next(Hart::new(2))
+fn next(desk: &Desk, number: u8) -> Option<Count> {
+    desk.next(Hart::new(number % 8))
 }
 
-fn rings(desk: &Desk, bells: &[WaitingBell]) -> bool {
-    desk.bells_next(Hart::new(2)).as_slice() == bells
+fn rings(desk: &Desk, number: u8, bells: &[(u8, Count)]) -> bool {
+    are_bells(desk.bells_next(Hart::new(number % 8)).as_slice(), bells)
 }
 
 fn become_copy(desk: &mut Desk) -> Result<bool, Memory> {
@@ -64,17 +74,14 @@ fn become_copy(desk: &mut Desk) -> Result<bool, Memory> {
 }
 
 /// Whether one call answers as it is said.
-fn does(desk: &mut Desk, call: Call) -> Result<bool, Memory> {
-    match call {
-        Put(not_before, input) => put(desk, not_before, input),
-        Ring(second, after) => ring(desk, second, after),
-        Back => {
-            back(desk);
-            Ok(true)
-        }
-        Take(count, inputs) => Ok(gives(desk, count, inputs)),
-        Next(count) => Ok(next(desk) == count),
-        Bells(bells) => Ok(rings(desk, bells)),
+fn does(desk: &mut Desk, call: &Call) -> Result<bool, Memory> {
+    match *call {
+        Put(not_before, given) => put(desk, not_before, input(&given)),
+        Ring(source, after) => ring(desk, 2, source, after),
+        Back => Ok(take_back(desk)),
+        Take(count, given) => Ok(gives(desk, count, given)),
+        Next(count) => Ok(next(desk, 2) == count),
+        Bells(bells) => Ok(rings(desk, 2, bells)),
         Copy => become_copy(desk),
     }
 }
@@ -82,10 +89,10 @@ fn does(desk: &mut Desk, call: Call) -> Result<bool, Memory> {
 /// The number of the first call that answers otherwise.
 fn first_wrong(desk: &mut Desk, calls: &[Call]) -> Result<Option<usize>, Memory> {
     for (number, call) in calls.iter().enumerate() {
-        let before = next(desk);
-        let right = match does(desk, *call) {
+        let before = next(desk, 2);
+        let right = match does(desk, call) {
             Ok(right) => right,
-            Err(Memory) => next(desk) == before && does(desk, *call)?,
+            Err(Memory) => next(desk, 2) == before && does(desk, call)?,
         };
         if !right {
             return Ok(Some(number));
@@ -94,91 +101,91 @@ fn first_wrong(desk: &mut Desk, calls: &[Call]) -> Result<Option<usize>, Memory>
     Ok(None)
 }
 
-fn bell(second: bool, after: Count) -> WaitingBell {
-    WaitingBell {
-        source: source(second),
-        after,
-    }
-}
+/// One that waits holds those behind it; then nine timers, of which eight are given at once.
+static OTHERS: [Call; 24] = [
+    Put(1, Word(1)),
+    Put(9, Word(2)),
+    Put(0, Word(3)),
+    Take(5, &[Word(1)]),
+    Next(Some(9)),
+    Take(8, &[]),
+    Take(9, &[Word(2), Word(3)]),
+    Next(None),
+    Put(2, Timer),
+    Put(2, Timer),
+    Put(2, Timer),
+    Put(2, Timer),
+    Put(2, Timer),
+    Put(2, Timer),
+    Put(2, Timer),
+    Put(2, Timer),
+    Put(2, Timer),
+    Next(Some(2)),
+    Take(1, &[]),
+    Take(2, &[Timer; 8]),
+    Next(Some(2)),
+    Take(3, &[Timer]),
+    Next(None),
+    Take(4, &[]),
+];
+
+/// Bells come before others, and are taken back from the end.
+static BELLS: [Call; 17] = [
+    Put(4, Word(5)),
+    Ring(1, 6),
+    Ring(0, 4),
+    Next(Some(0)),
+    Bells(&[(1, 6), (0, 4)]),
+    Back,
+    Bells(&[(1, 6)]),
+    Back,
+    Next(Some(4)),
+    Back,
+    Ring(1, 6),
+    Ring(0, 4),
+    Copy,
+    Bells(&[(1, 6), (0, 4)]),
+    Take(4, &[Bell(1), Bell(0), Word(5)]),
+    Bells(&[]),
+    Next(None),
+];
+
+/// Ten bells and a timer.
+static TEN: [Call; 15] = [
+    Put(0, Timer),
+    Ring(1, 0),
+    Ring(1, 1),
+    Ring(1, 2),
+    Ring(1, 3),
+    Ring(1, 4),
+    Ring(1, 5),
+    Ring(1, 6),
+    Ring(1, 7),
+    Ring(1, 8),
+    Ring(1, 9),
+    Bells(&[
+        (1, 0),
+        (1, 1),
+        (1, 2),
+        (1, 3),
+        (1, 4),
+        (1, 5),
+        (1, 6),
+        (1, 7),
+    ]),
+    Take(0, &[Bell(1); 8]),
+    Take(1, &[Bell(1), Bell(1), Timer]),
+    Next(None),
+];
 
 #[test]
-fn one_that_waits_holds_those_behind_it(rt: HostRuntime) -> Result<(), Fail> {
+fn inputs_that_wait(rt: HostRuntime) -> Result<(), Fail> {
     let mut desk = Desk::new(rt.alloc());
-    let calls = [
-        Put(1, Input::Word(1)),
-        Put(9, Input::Word(2)),
-        Put(0, Input::Word(3)),
-        Take(5, &[Input::Word(1)]),
-        Next(Some(9)),
-        Take(8, &[]),
-        Take(9, &[Input::Word(2), Input::Word(3)]),
-        Next(None),
-        // Nine timers, of which eight are given at once.
-        Put(2, Input::Timer),
-        Put(2, Input::Timer),
-        Put(2, Input::Timer),
-        Put(2, Input::Timer),
-        Put(2, Input::Timer),
-        Put(2, Input::Timer),
-        Put(2, Input::Timer),
-        Put(2, Input::Timer),
-        Put(2, Input::Timer),
-        Next(Some(2)),
-        Take(1, &[]),
-        Take(2, &[Input::Timer; 8]),
-        Next(Some(2)),
-        Take(3, &[Input::Timer]),
-        Next(None),
-        Take(4, &[]),
-    ];
-    assert_eq!(rt; first_wrong(&mut desk, &calls)?, None);
-    Ok(())
-}
-
-#[test]
-fn bells_before_others(rt: HostRuntime) -> Result<(), Fail> {
-    let mut desk = Desk::new(rt.alloc());
-    let (two, one) = ([bell(true, 6), bell(false, 4)], [bell(true, 6)]);
-    let rung = [Input::Bell(source(true)), Input::Bell(source(false))];
-    let calls = [
-        Put(4, Input::Word(5)),
-        Ring(true, 6),
-        Ring(false, 4),
-        Next(Some(0)),
-        Bells(&two),
-        // Bells are taken back from the end.
-        Back,
-        Bells(&one),
-        Back,
-        Next(Some(4)),
-        Back,
-        Ring(true, 6),
-        Ring(false, 4),
-        Copy,
-        Take(4, &[rung[0], rung[1], Input::Word(5)]),
-        Bells(&[]),
-        Next(None),
-    ];
-    assert_eq!(rt; first_wrong(&mut desk, &calls)?, None);
-    assert!(rt; desk.put_bell(Hart::new(3), source(false), 5).is_ok());
-    assert_eq!(rt; (next(&desk), desk.next(Hart::new(3))), (None, Some(0)));
-    Ok(())
-}
-
-#[test]
-fn ten_bells_and_a_timer(rt: HostRuntime) -> Result<(), Fail> {
-    let mut desk = Desk::new(rt.alloc());
-    let ten = [0, 1, 2, 3, 4, 5, 6, 7, 8, 9];
-    let rings = ten.map(|after| Ring(true, after));
-    let bells = ten.map(|after| bell(true, after));
-    let rung = [Input::Bell(source(true)); 8];
-    assert_eq!(rt; first_wrong(&mut desk, &[Put(0, Input::Timer)])?, None);
-    assert_eq!(rt; first_wrong(&mut desk, &rings)?, None);
-    let calls = [
-        Bells(&bells[..8]),
-        Take(0, &rung),
-        Take(1, &[rung[0], rung[1], Input::Timer]),
-    ];
-    assert_eq!(rt; first_wrong(&mut desk, &calls)?, None);
+    assert_eq!(rt; first_wrong(&mut desk, &OTHERS)?, None);
+    assert_eq!(rt; first_wrong(&mut desk, &BELLS)?, None);
+    assert_eq!(rt; first_wrong(&mut desk, &TEN)?, None);
+    // Each hart has its own.
+    assert!(rt; ring(&mut desk, 3, 0, 5).is_ok());
+    assert!(rt; rings(&desk, 3, &[(0, 5)]) && rings(&desk, 2, &[]));
     Ok(())
 }

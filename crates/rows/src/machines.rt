@@ -20,11 +20,12 @@ fn hart_with(alloc: Global, second: bool, outputs: &[(Count, u32)]) -> Result<Ha
     Ok(hart)
 }
 
-/// How much a hart without its outputs puts out, and whether it, the hart and another are those of the hart without.
-fn without(hart: &HartState, other: &HartState) -> (usize, [bool; 3]) {
-    let bare = hart.without_outputs();
-    let known = [&bare, hart, other].map(|one| hart.is_without_outputs(one));
-    (bare.outputs().len(), known)
+fn bare(hart: &HartState) -> HartState {
+    hart.without_outputs()
+}
+
+fn is_bare(hart: &HartState, other: &HartState) -> bool {
+    hart.is_without_outputs(other)
 }
 
 /// What a hart has put out once these are added and then only so many are left.
@@ -44,7 +45,10 @@ fn swapped(one: &mut HartState, other: &mut HartState) -> [u8; 2] {
 fn outputs_of_harts(rt: HostRuntime) -> Result<(), Fail> {
     let mut hart = hart_with(rt.alloc(), false, EARLIER)?;
     let mut other = hart_with(rt.alloc(), true, LATER)?;
-    assert_eq!(rt; without(&hart, &other), (0, [true, false, false]));
+    let bare = bare(&hart);
+    assert!(rt; bare.outputs().is_empty());
+    assert!(rt; is_bare(&hart, &bare));
+    assert!(rt; !is_bare(&hart, &hart) && !is_bare(&hart, &other));
     assert!(rt; cut(rt.alloc(), LATER, 2)?.same(&hart));
     assert!(rt; cut(rt.alloc(), &[], 3)?.same(&hart.copy()?));
     let all = cut(rt.alloc(), LATER, 3)?;

@@ -70,10 +70,18 @@ fn sets(rt: HostRuntime) {
     assert_eq!(rt; keepers(), (there, 2));
 }
 
-/// What three reads of at most four bytes take: none where one fails.
-fn three_reads(mut source: MemorySource) -> [Option<usize>; 3] {
+/// What a read of at most four bytes takes: none where it fails.
+fn read(source: &mut MemorySource, piece: &mut [u8; 4]) -> Option<usize> {
+    source.read(piece).ok()
+}
+
+/// What three such reads take, and what then stands where they put it.
+fn three_reads(mut source: MemorySource) -> ([Option<usize>; 3], [u8; 4]) {
     let mut piece = [0; 4];
-    [(); 3].map(|_| source.read(&mut piece).ok())
+    let first = read(&mut source, &mut piece);
+    let second = read(&mut source, &mut piece);
+    let third = read(&mut source, &mut piece);
+    ([first, second, third], piece)
 }
 
 /// What is written of a piece where there is this room, and whether all of it is.
@@ -100,9 +108,9 @@ fn line(alloc: Global) -> MemorySink {
 fn devices(rt: HostRuntime) -> Result<(), Fail> {
     let bytes = b"abcdef".to_vec(rt.alloc())?;
     let failing = three_reads(MemorySource::failing_at(bytes, 5));
-    assert_eq!(rt; failing, [Some(4), Some(1), None]);
+    assert_eq!(rt; failing, ([Some(4), Some(1), None], *b"ebcd"));
     let ending = three_reads(MemorySource::new(b"ab".to_vec(rt.alloc())?));
-    assert_eq!(rt; ending, [Some(2), Some(0), Some(0)]);
+    assert_eq!(rt; ending, ([Some(2), Some(0), Some(0)], *b"ab\0\0"));
     let (sink, done) = written(rt.alloc(), b"abcd", 3);
     assert_eq!(rt; (sink.bytes(), done), (b"abc".as_slice(), false));
     let text = b"count 281474976710655 word deadbeef\n".as_slice();

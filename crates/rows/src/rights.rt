@@ -1,16 +1,15 @@
 //! The right to a page, asked for and given up.
 
-use crate::edges::edge;
+use crate::edges::{Told, are};
 use crew_pages::{Ask, PageRight};
-use edge_log::Edge;
 use ft_types::{Count, Counts, Hart, HartSet, Want};
 use std::alloc::Global;
 
 /// A call of a right for the hart of a number.
 #[derive(Clone, Copy)]
-enum Call<'a> {
+enum Call {
     /// Asks, of a machine whose harts are all at this count, and is given the right with these edges.
-    Given(u8, Want, Count, &'a [Edge]),
+    Given(u8, Want, Count, &'static [Told]),
     /// Asks, where this hart alone stands against it.
     HeldBy(u8, Want, u8),
     /// Gives up at this count what it holds.
@@ -33,9 +32,9 @@ fn ask(alloc: Global, right: &mut PageRight, hart: Hart, want: Want, at: Count) 
     Some(right.ask(alloc, hart, want, &counts))
 }
 
-fn is_given(asked: &Option<Ask>, edges: &[Edge]) -> bool {
+fn is_given(asked: &Option<Ask>, edges: &[Told]) -> bool {
     match asked {
-        Some(Ask::Given(given)) => given.as_slice() == edges,
+        Some(Ask::Given(given)) => are(given.as_slice(), edges),
         _ => false,
     }
 }
@@ -64,8 +63,8 @@ fn lower(right: &mut PageRight, hart: Hart, at: Count) -> bool {
 }
 
 /// Whether one call goes as it is said.
-fn does(alloc: Global, right: &mut PageRight, call: Call) -> bool {
-    match call {
+fn does(alloc: Global, right: &mut PageRight, call: &Call) -> bool {
+    match *call {
         Given(number, want, at, edges) => {
             is_given(&ask(alloc, right, hart(number), want, at), edges)
         }
@@ -83,39 +82,47 @@ fn does(alloc: Global, right: &mut PageRight, call: Call) -> bool {
 fn first_wrong(alloc: Global, calls: &[Call]) -> Option<usize> {
     let mut right = PageRight::new();
     for (number, call) in calls.iter().enumerate() {
-        if !does(alloc, &mut right, *call) {
+        if !does(alloc, &mut right, call) {
             return Some(number);
         }
     }
     None
 }
 
+/// Two read, and then two others write.
+static TWO_READ: [Call; 7] = [
+    Given(0, Want::Read, 0, &[]),
+    Given(1, Want::Read, 0, &[]),
+    Leave(0, 3),
+    Leave(1, 5),
+    Given(2, Want::Write, 7, &[(2, 7, 0, 3), (2, 7, 1, 5)]),
+    Leave(2, 7),
+    Given(
+        3,
+        Want::Write,
+        0,
+        &[(3, 0, 0, 3), (3, 0, 1, 5), (3, 0, 2, 7)],
+    ),
+];
+
+/// An owner lowers its right.
+static LOWERS: [Call; 4] = [
+    Given(0, Want::Write, 0, &[]),
+    Lower(0, 4),
+    Given(1, Want::Read, 2, &[(1, 2, 0, 4)]),
+    Given(2, Want::Read, 6, &[(2, 6, 0, 4)]),
+];
+
+/// Another reads, and stands against one that would write.
+static HELD: [Call; 3] = [
+    Given(0, Want::Read, 0, &[]),
+    Given(5, Want::Read, 0, &[]),
+    HeldBy(5, Want::Write, 0),
+];
+
 #[test]
 fn readers_and_writers(rt: HostRuntime) {
-    let two = [edge(2, 7, 0, 3), edge(2, 7, 1, 5)];
-    let three = [edge(3, 0, 0, 3), edge(3, 0, 1, 5), edge(3, 0, 2, 7)];
-    let two_read_and_two_write = [
-        Given(0, Want::Read, 0, &[]),
-        Given(1, Want::Read, 0, &[]),
-        Leave(0, 3),
-        Leave(1, 5),
-        Given(2, Want::Write, 7, &two),
-        Leave(2, 7),
-        Given(3, Want::Write, 0, &three),
-    ];
-    let lowers = [edge(1, 2, 0, 4), edge(2, 6, 0, 4)];
-    let an_owner_lowers = [
-        Given(0, Want::Write, 0, &[]),
-        Lower(0, 4),
-        Given(1, Want::Read, 2, &lowers[..1]),
-        Given(2, Want::Read, 6, &lowers[1..]),
-    ];
-    let another_reads = [
-        Given(0, Want::Read, 0, &[]),
-        Given(5, Want::Read, 0, &[]),
-        HeldBy(5, Want::Write, 0),
-    ];
-    assert_eq!(rt; first_wrong(rt.alloc(), &two_read_and_two_write), None);
-    assert_eq!(rt; first_wrong(rt.alloc(), &an_owner_lowers), None);
-    assert_eq!(rt; first_wrong(rt.alloc(), &another_reads), None);
+    assert_eq!(rt; first_wrong(rt.alloc(), &TWO_READ), None);
+    assert_eq!(rt; first_wrong(rt.alloc(), &LOWERS), None);
+    assert_eq!(rt; first_wrong(rt.alloc(), &HELD), None);
 }
