@@ -440,15 +440,15 @@ static NONE: [u32; 40] = [
     0x0000_000b,
 ];
 
-/// Whether a word is the instruction that is written so, whose own word is this one.
-fn is_so(alloc: Global, word: u32, wanted: &str, own: u32) -> Result<bool, Fail> {
-    match decode(word) {
-        Some(instr) => {
-            let shown = format!(in alloc; "{instr:?}")?;
-            Ok(shown.as_str() == wanted && encode(instr) == own)
-        }
-        None => Ok(false),
-    }
+/// How the instruction is written that a word is.
+fn shown(alloc: Global, word: u32) -> Result<String, Fail> {
+    let instr = decode(word).ok_or("no instruction")?;
+    Ok(format!(in alloc; "{instr:?}")?)
+}
+
+/// The word of the instruction that a word is.
+fn again(word: u32) -> Option<u32> {
+    Some(encode(decode(word)?))
 }
 
 /// Words of FENCE: fence iorw, iorw; fence rw, w; fence.tso; pause.
@@ -457,12 +457,14 @@ static FENCES: [u32; 4] = [0x0ff0_000f, 0x0310_000f, 0x8330_000f, 0x0100_000f];
 #[test]
 fn instructions(rt: HostRuntime) -> Result<(), Fail> {
     for (word, wanted) in &INSTRUCTIONS {
-        assert!(rt; is_so(rt.alloc(), *word, wanted, *word)?, "{word:08x}");
+        let shown = shown(rt.alloc(), *word)?;
+        assert_eq!(rt; (shown.as_str(), again(*word)), (*wanted, Some(*word)));
     }
     for word in &FENCES {
-        assert!(rt;
-            is_so(rt.alloc(), *word, "Fence", 0x0000_000f)?,
-            "{word:08x}"
+        let shown = shown(rt.alloc(), *word)?;
+        assert_eq!(rt;
+            (shown.as_str(), again(*word)),
+            ("Fence", Some(0x0000_000f))
         );
     }
     Ok(())

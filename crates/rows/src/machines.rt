@@ -20,15 +20,31 @@ fn hart_with(alloc: Global, second: bool, outputs: &[(Count, u32)]) -> Result<Ha
     Ok(hart)
 }
 
-fn bare(hart: &HartState) -> HartState {
-    hart.without_outputs()
-}
-
 fn is_bare(hart: &HartState, other: &HartState) -> bool {
     hart.is_without_outputs(other)
 }
 
-/// What a hart has put out once these are added and then only so many are left.
+/// Whether a hart without its outputs has none, and is known as such.
+fn knows_bare(hart: &HartState) -> bool {
+    let bare = hart.without_outputs();
+    bare.outputs().is_empty() && is_bare(hart, &bare)
+}
+
+fn same(one: &HartState, other: &HartState) -> bool {
+    one.same(other)
+}
+
+#[test]
+fn a_hart_without_its_outputs(rt: HostRuntime) -> Result<(), Fail> {
+    let hart = hart_with(rt.alloc(), false, EARLIER)?;
+    let other = hart_with(rt.alloc(), true, &[])?;
+    assert!(rt; knows_bare(&hart));
+    assert!(rt; !is_bare(&hart, &hart));
+    assert!(rt; !is_bare(&hart, &other));
+    Ok(())
+}
+
+/// What a hart has put out once more is added and then only so many are left.
 fn cut(alloc: Global, more: &[(Count, u32)], left: usize) -> Result<HartState, Fail> {
     let mut hart = hart_with(alloc, false, EARLIER)?;
     hart.add_outputs(more)?;
@@ -36,24 +52,37 @@ fn cut(alloc: Global, more: &[(Count, u32)], left: usize) -> Result<HartState, F
     Ok(hart)
 }
 
-fn swapped(one: &mut HartState, other: &mut HartState) -> [u8; 2] {
+/// Whether a hart that is so cut is one that put out this alone, and a copy of it is.
+fn is_cut(
+    alloc: Global,
+    more: &[(Count, u32)],
+    left: usize,
+    there: &[(Count, u32)],
+) -> Result<bool, Fail> {
+    let hart = cut(alloc, more, left)?;
+    let wanted = hart_with(alloc, false, there)?.copy()?;
+    Ok(same(&hart, &wanted))
+}
+
+#[test]
+fn outputs_are_added_and_cut(rt: HostRuntime) -> Result<(), Fail> {
+    assert!(rt; is_cut(rt.alloc(), LATER, 3, ALL)?);
+    assert!(rt; is_cut(rt.alloc(), LATER, 2, EARLIER)?);
+    assert!(rt; is_cut(rt.alloc(), &[], 3, EARLIER)?);
+    assert!(rt; !is_cut(rt.alloc(), LATER, 3, EARLIER)?);
+    Ok(())
+}
+
+fn swap(one: &mut HartState, other: &mut HartState) -> [u8; 2] {
     one.swap_outputs(other);
     [one.number().number(), other.number().number()]
 }
 
 #[test]
-fn outputs_of_harts(rt: HostRuntime) -> Result<(), Fail> {
+fn outputs_are_swapped(rt: HostRuntime) -> Result<(), Fail> {
     let mut hart = hart_with(rt.alloc(), false, EARLIER)?;
     let mut other = hart_with(rt.alloc(), true, LATER)?;
-    let bare = bare(&hart);
-    assert!(rt; bare.outputs().is_empty());
-    assert!(rt; is_bare(&hart, &bare));
-    assert!(rt; !is_bare(&hart, &hart) && !is_bare(&hart, &other));
-    assert!(rt; cut(rt.alloc(), LATER, 2)?.same(&hart));
-    assert!(rt; cut(rt.alloc(), &[], 3)?.same(&hart.copy()?));
-    let all = cut(rt.alloc(), LATER, 3)?;
-    assert_eq!(rt; all.outputs(), ALL);
-    assert_eq!(rt; swapped(&mut hart, &mut other), [0, 1]);
+    assert_eq!(rt; swap(&mut hart, &mut other), [0, 1]);
     assert_eq!(rt; (hart.outputs(), other.outputs()), (LATER, EARLIER));
     Ok(())
 }
