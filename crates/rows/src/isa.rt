@@ -1,0 +1,516 @@
+//! Words from outside: the lines in comments, assembled by GNU as 2.40 (Debian's binutils-riscv64-unknown-elf) with
+//! -march=rv32ima_zicsr_zifencei_zihintpause, options norvc and norelax, and read off by objdump -d -M no-aliases,numeric.
+
+use rv32_isa::{
+    BranchOffset, CsrNumber, Imm12, JumpOffset, Reg, ShiftAmount, Uimm5, UpperImm, decode, encode,
+};
+use std::alloc::Global;
+use std::test::Fail;
+
+/// Words, and the instructions that they are. Offsets and immediates are shown as words.
+static INSTRUCTIONS: [(u32, &str); 93] = [
+    // lui x5, 0x12345, 0x80000, 0xfffff, 0 and 0x7ffff
+    (
+        0x1234_52b7,
+        "Lui { rd: Reg { number: 5 }, imm: UpperImm { upper: 305418240 } }",
+    ),
+    (
+        0x8000_02b7,
+        "Lui { rd: Reg { number: 5 }, imm: UpperImm { upper: 2147483648 } }",
+    ),
+    (
+        0xffff_f2b7,
+        "Lui { rd: Reg { number: 5 }, imm: UpperImm { upper: 4294963200 } }",
+    ),
+    (
+        0x0000_02b7,
+        "Lui { rd: Reg { number: 5 }, imm: UpperImm { upper: 0 } }",
+    ),
+    (
+        0x7fff_f2b7,
+        "Lui { rd: Reg { number: 5 }, imm: UpperImm { upper: 2147479552 } }",
+    ),
+    // auipc x5, 0x12345
+    (
+        0x1234_5297,
+        "Auipc { rd: Reg { number: 5 }, imm: UpperImm { upper: 305418240 } }",
+    ),
+    // jal x5, .+0x55556, .-0x100000, .-2, .+0 and .+0xffffe
+    (
+        0x5565_52ef,
+        "Jal { rd: Reg { number: 5 }, offset: JumpOffset { distance: 349526 } }",
+    ),
+    (
+        0x8000_02ef,
+        "Jal { rd: Reg { number: 5 }, offset: JumpOffset { distance: 4293918720 } }",
+    ),
+    (
+        0xffff_f2ef,
+        "Jal { rd: Reg { number: 5 }, offset: JumpOffset { distance: 4294967294 } }",
+    ),
+    (
+        0x0000_02ef,
+        "Jal { rd: Reg { number: 5 }, offset: JumpOffset { distance: 0 } }",
+    ),
+    (
+        0x7fff_f2ef,
+        "Jal { rd: Reg { number: 5 }, offset: JumpOffset { distance: 1048574 } }",
+    ),
+    // jalr x5, -273(x10)
+    (
+        0xeef5_02e7,
+        "Jalr { rd: Reg { number: 5 }, rs1: Reg { number: 10 }, imm: Imm12 { immediate: 4294967023 } }",
+    ),
+    // beq x10, x28, .-1366; then bne, blt, bge, bltu and bgeu
+    (
+        0xabc5_05e3,
+        "Branch { comparison: Equal, rs1: Reg { number: 10 }, rs2: Reg { number: 28 }, offset: BranchOffset { offset: 4294965930 } }",
+    ),
+    (
+        0xabc5_15e3,
+        "Branch { comparison: NotEqual, rs1: Reg { number: 10 }, rs2: Reg { number: 28 }, offset: BranchOffset { offset: 4294965930 } }",
+    ),
+    (
+        0xabc5_45e3,
+        "Branch { comparison: Less, rs1: Reg { number: 10 }, rs2: Reg { number: 28 }, offset: BranchOffset { offset: 4294965930 } }",
+    ),
+    (
+        0xabc5_55e3,
+        "Branch { comparison: GreaterEqual, rs1: Reg { number: 10 }, rs2: Reg { number: 28 }, offset: BranchOffset { offset: 4294965930 } }",
+    ),
+    (
+        0xabc5_65e3,
+        "Branch { comparison: LessUnsigned, rs1: Reg { number: 10 }, rs2: Reg { number: 28 }, offset: BranchOffset { offset: 4294965930 } }",
+    ),
+    (
+        0xabc5_75e3,
+        "Branch { comparison: GreaterEqualUnsigned, rs1: Reg { number: 10 }, rs2: Reg { number: 28 }, offset: BranchOffset { offset: 4294965930 } }",
+    ),
+    // beq x10, x28, .-4096, .-2, .+0 and .+4094
+    (
+        0x81c5_0063,
+        "Branch { comparison: Equal, rs1: Reg { number: 10 }, rs2: Reg { number: 28 }, offset: BranchOffset { offset: 4294963200 } }",
+    ),
+    (
+        0xffc5_0fe3,
+        "Branch { comparison: Equal, rs1: Reg { number: 10 }, rs2: Reg { number: 28 }, offset: BranchOffset { offset: 4294967294 } }",
+    ),
+    (
+        0x01c5_0063,
+        "Branch { comparison: Equal, rs1: Reg { number: 10 }, rs2: Reg { number: 28 }, offset: BranchOffset { offset: 0 } }",
+    ),
+    (
+        0x7fc5_0fe3,
+        "Branch { comparison: Equal, rs1: Reg { number: 10 }, rs2: Reg { number: 28 }, offset: BranchOffset { offset: 4094 } }",
+    ),
+    // lb x5, -273(x10); then lh, lw, lbu and lhu
+    (
+        0xeef5_0283,
+        "Load { kind: Byte, rd: Reg { number: 5 }, rs1: Reg { number: 10 }, imm: Imm12 { immediate: 4294967023 } }",
+    ),
+    (
+        0xeef5_1283,
+        "Load { kind: Half, rd: Reg { number: 5 }, rs1: Reg { number: 10 }, imm: Imm12 { immediate: 4294967023 } }",
+    ),
+    (
+        0xeef5_2283,
+        "Load { kind: Word, rd: Reg { number: 5 }, rs1: Reg { number: 10 }, imm: Imm12 { immediate: 4294967023 } }",
+    ),
+    (
+        0xeef5_4283,
+        "Load { kind: ByteUnsigned, rd: Reg { number: 5 }, rs1: Reg { number: 10 }, imm: Imm12 { immediate: 4294967023 } }",
+    ),
+    (
+        0xeef5_5283,
+        "Load { kind: HalfUnsigned, rd: Reg { number: 5 }, rs1: Reg { number: 10 }, imm: Imm12 { immediate: 4294967023 } }",
+    ),
+    // sb x28, -273(x10); then sh and sw
+    (
+        0xefc5_07a3,
+        "Store { kind: Byte, rs1: Reg { number: 10 }, rs2: Reg { number: 28 }, imm: Imm12 { immediate: 4294967023 } }",
+    ),
+    (
+        0xefc5_17a3,
+        "Store { kind: Half, rs1: Reg { number: 10 }, rs2: Reg { number: 28 }, imm: Imm12 { immediate: 4294967023 } }",
+    ),
+    (
+        0xefc5_27a3,
+        "Store { kind: Word, rs1: Reg { number: 10 }, rs2: Reg { number: 28 }, imm: Imm12 { immediate: 4294967023 } }",
+    ),
+    // sw x28, -2048(x10), -1(x10), 0(x10) and 2047(x10)
+    (
+        0x81c5_2023,
+        "Store { kind: Word, rs1: Reg { number: 10 }, rs2: Reg { number: 28 }, imm: Imm12 { immediate: 4294965248 } }",
+    ),
+    (
+        0xffc5_2fa3,
+        "Store { kind: Word, rs1: Reg { number: 10 }, rs2: Reg { number: 28 }, imm: Imm12 { immediate: 4294967295 } }",
+    ),
+    (
+        0x01c5_2023,
+        "Store { kind: Word, rs1: Reg { number: 10 }, rs2: Reg { number: 28 }, imm: Imm12 { immediate: 0 } }",
+    ),
+    (
+        0x7fc5_2fa3,
+        "Store { kind: Word, rs1: Reg { number: 10 }, rs2: Reg { number: 28 }, imm: Imm12 { immediate: 2047 } }",
+    ),
+    // addi x5, x10, -273; then slti, sltiu, xori, ori and andi
+    (
+        0xeef5_0293,
+        "OpImm { op: Add, rd: Reg { number: 5 }, rs1: Reg { number: 10 }, imm: Imm12 { immediate: 4294967023 } }",
+    ),
+    (
+        0xeef5_2293,
+        "OpImm { op: SetLess, rd: Reg { number: 5 }, rs1: Reg { number: 10 }, imm: Imm12 { immediate: 4294967023 } }",
+    ),
+    (
+        0xeef5_3293,
+        "OpImm { op: SetLessUnsigned, rd: Reg { number: 5 }, rs1: Reg { number: 10 }, imm: Imm12 { immediate: 4294967023 } }",
+    ),
+    (
+        0xeef5_4293,
+        "OpImm { op: Xor, rd: Reg { number: 5 }, rs1: Reg { number: 10 }, imm: Imm12 { immediate: 4294967023 } }",
+    ),
+    (
+        0xeef5_6293,
+        "OpImm { op: Or, rd: Reg { number: 5 }, rs1: Reg { number: 10 }, imm: Imm12 { immediate: 4294967023 } }",
+    ),
+    (
+        0xeef5_7293,
+        "OpImm { op: And, rd: Reg { number: 5 }, rs1: Reg { number: 10 }, imm: Imm12 { immediate: 4294967023 } }",
+    ),
+    // addi x5, x10, -2048, -1, 0 and 2047
+    (
+        0x8005_0293,
+        "OpImm { op: Add, rd: Reg { number: 5 }, rs1: Reg { number: 10 }, imm: Imm12 { immediate: 4294965248 } }",
+    ),
+    (
+        0xfff5_0293,
+        "OpImm { op: Add, rd: Reg { number: 5 }, rs1: Reg { number: 10 }, imm: Imm12 { immediate: 4294967295 } }",
+    ),
+    (
+        0x0005_0293,
+        "OpImm { op: Add, rd: Reg { number: 5 }, rs1: Reg { number: 10 }, imm: Imm12 { immediate: 0 } }",
+    ),
+    (
+        0x7ff5_0293,
+        "OpImm { op: Add, rd: Reg { number: 5 }, rs1: Reg { number: 10 }, imm: Imm12 { immediate: 2047 } }",
+    ),
+    // slli, srli and srai x5, x10, 19; slli x5, x10, 0; srai x5, x10, 31
+    (
+        0x0135_1293,
+        "ShiftImm { op: Left, rd: Reg { number: 5 }, rs1: Reg { number: 10 }, amount: ShiftAmount { places: 19 } }",
+    ),
+    (
+        0x0135_5293,
+        "ShiftImm { op: Right, rd: Reg { number: 5 }, rs1: Reg { number: 10 }, amount: ShiftAmount { places: 19 } }",
+    ),
+    (
+        0x4135_5293,
+        "ShiftImm { op: RightSigned, rd: Reg { number: 5 }, rs1: Reg { number: 10 }, amount: ShiftAmount { places: 19 } }",
+    ),
+    (
+        0x0005_1293,
+        "ShiftImm { op: Left, rd: Reg { number: 5 }, rs1: Reg { number: 10 }, amount: ShiftAmount { places: 0 } }",
+    ),
+    (
+        0x41f5_5293,
+        "ShiftImm { op: RightSigned, rd: Reg { number: 5 }, rs1: Reg { number: 10 }, amount: ShiftAmount { places: 31 } }",
+    ),
+    // add x5, x10, x28, and the like, in the order of the standard's listing
+    (
+        0x01c5_02b3,
+        "Op { op: Add, rd: Reg { number: 5 }, rs1: Reg { number: 10 }, rs2: Reg { number: 28 } }",
+    ),
+    (
+        0x41c5_02b3,
+        "Op { op: Sub, rd: Reg { number: 5 }, rs1: Reg { number: 10 }, rs2: Reg { number: 28 } }",
+    ),
+    (
+        0x01c5_12b3,
+        "Op { op: ShiftLeft, rd: Reg { number: 5 }, rs1: Reg { number: 10 }, rs2: Reg { number: 28 } }",
+    ),
+    (
+        0x01c5_22b3,
+        "Op { op: SetLess, rd: Reg { number: 5 }, rs1: Reg { number: 10 }, rs2: Reg { number: 28 } }",
+    ),
+    (
+        0x01c5_32b3,
+        "Op { op: SetLessUnsigned, rd: Reg { number: 5 }, rs1: Reg { number: 10 }, rs2: Reg { number: 28 } }",
+    ),
+    (
+        0x01c5_42b3,
+        "Op { op: Xor, rd: Reg { number: 5 }, rs1: Reg { number: 10 }, rs2: Reg { number: 28 } }",
+    ),
+    (
+        0x01c5_52b3,
+        "Op { op: ShiftRight, rd: Reg { number: 5 }, rs1: Reg { number: 10 }, rs2: Reg { number: 28 } }",
+    ),
+    (
+        0x41c5_52b3,
+        "Op { op: ShiftRightSigned, rd: Reg { number: 5 }, rs1: Reg { number: 10 }, rs2: Reg { number: 28 } }",
+    ),
+    (
+        0x01c5_62b3,
+        "Op { op: Or, rd: Reg { number: 5 }, rs1: Reg { number: 10 }, rs2: Reg { number: 28 } }",
+    ),
+    (
+        0x01c5_72b3,
+        "Op { op: And, rd: Reg { number: 5 }, rs1: Reg { number: 10 }, rs2: Reg { number: 28 } }",
+    ),
+    (
+        0x03c5_02b3,
+        "Op { op: Mul, rd: Reg { number: 5 }, rs1: Reg { number: 10 }, rs2: Reg { number: 28 } }",
+    ),
+    (
+        0x03c5_12b3,
+        "Op { op: MulHigh, rd: Reg { number: 5 }, rs1: Reg { number: 10 }, rs2: Reg { number: 28 } }",
+    ),
+    (
+        0x03c5_22b3,
+        "Op { op: MulHighSignedUnsigned, rd: Reg { number: 5 }, rs1: Reg { number: 10 }, rs2: Reg { number: 28 } }",
+    ),
+    (
+        0x03c5_32b3,
+        "Op { op: MulHighUnsigned, rd: Reg { number: 5 }, rs1: Reg { number: 10 }, rs2: Reg { number: 28 } }",
+    ),
+    (
+        0x03c5_42b3,
+        "Op { op: Div, rd: Reg { number: 5 }, rs1: Reg { number: 10 }, rs2: Reg { number: 28 } }",
+    ),
+    (
+        0x03c5_52b3,
+        "Op { op: DivUnsigned, rd: Reg { number: 5 }, rs1: Reg { number: 10 }, rs2: Reg { number: 28 } }",
+    ),
+    (
+        0x03c5_62b3,
+        "Op { op: Rem, rd: Reg { number: 5 }, rs1: Reg { number: 10 }, rs2: Reg { number: 28 } }",
+    ),
+    (
+        0x03c5_72b3,
+        "Op { op: RemUnsigned, rd: Reg { number: 5 }, rs1: Reg { number: 10 }, rs2: Reg { number: 28 } }",
+    ),
+    // ecall, ebreak, mret and wfi; fence with no bits
+    (0x0000_0073, "Ecall"),
+    (0x0010_0073, "Ebreak"),
+    (0x3020_0073, "Mret"),
+    (0x1050_0073, "Wfi"),
+    (0x0000_000f, "Fence"),
+    // csrrw x5, mepc, x10; then csrrs and csrrc
+    (
+        0x3415_12f3,
+        "CsrReg { op: Write, rd: Reg { number: 5 }, csr: CsrNumber { address: 833 }, rs1: Reg { number: 10 } }",
+    ),
+    (
+        0x3415_22f3,
+        "CsrReg { op: Set, rd: Reg { number: 5 }, csr: CsrNumber { address: 833 }, rs1: Reg { number: 10 } }",
+    ),
+    (
+        0x3415_32f3,
+        "CsrReg { op: Clear, rd: Reg { number: 5 }, csr: CsrNumber { address: 833 }, rs1: Reg { number: 10 } }",
+    ),
+    // csrrwi x5, mepc, 21; then csrrsi and csrrci
+    (
+        0x341a_d2f3,
+        "CsrImm { op: Write, rd: Reg { number: 5 }, csr: CsrNumber { address: 833 }, imm: Uimm5 { value: 21 } }",
+    ),
+    (
+        0x341a_e2f3,
+        "CsrImm { op: Set, rd: Reg { number: 5 }, csr: CsrNumber { address: 833 }, imm: Uimm5 { value: 21 } }",
+    ),
+    (
+        0x341a_f2f3,
+        "CsrImm { op: Clear, rd: Reg { number: 5 }, csr: CsrNumber { address: 833 }, imm: Uimm5 { value: 21 } }",
+    ),
+    // csrrs x5, CSR, x10, where CSR is 0, mhartid and 0xfff
+    (
+        0x0005_22f3,
+        "CsrReg { op: Set, rd: Reg { number: 5 }, csr: CsrNumber { address: 0 }, rs1: Reg { number: 10 } }",
+    ),
+    (
+        0xf145_22f3,
+        "CsrReg { op: Set, rd: Reg { number: 5 }, csr: CsrNumber { address: 3860 }, rs1: Reg { number: 10 } }",
+    ),
+    (
+        0xfff5_22f3,
+        "CsrReg { op: Set, rd: Reg { number: 5 }, csr: CsrNumber { address: 4095 }, rs1: Reg { number: 10 } }",
+    ),
+    // amoswap.w x5, x28, (x10), and the like; then amoadd.w.aq, amoadd.w.rl and amoadd.w.aqrl
+    (
+        0x09c5_22af,
+        "Amo { op: Swap, rd: Reg { number: 5 }, rs1: Reg { number: 10 }, rs2: Reg { number: 28 }, acquire: false, release: false }",
+    ),
+    (
+        0x01c5_22af,
+        "Amo { op: Add, rd: Reg { number: 5 }, rs1: Reg { number: 10 }, rs2: Reg { number: 28 }, acquire: false, release: false }",
+    ),
+    (
+        0x21c5_22af,
+        "Amo { op: Xor, rd: Reg { number: 5 }, rs1: Reg { number: 10 }, rs2: Reg { number: 28 }, acquire: false, release: false }",
+    ),
+    (
+        0x61c5_22af,
+        "Amo { op: And, rd: Reg { number: 5 }, rs1: Reg { number: 10 }, rs2: Reg { number: 28 }, acquire: false, release: false }",
+    ),
+    (
+        0x41c5_22af,
+        "Amo { op: Or, rd: Reg { number: 5 }, rs1: Reg { number: 10 }, rs2: Reg { number: 28 }, acquire: false, release: false }",
+    ),
+    (
+        0x81c5_22af,
+        "Amo { op: Min, rd: Reg { number: 5 }, rs1: Reg { number: 10 }, rs2: Reg { number: 28 }, acquire: false, release: false }",
+    ),
+    (
+        0xa1c5_22af,
+        "Amo { op: Max, rd: Reg { number: 5 }, rs1: Reg { number: 10 }, rs2: Reg { number: 28 }, acquire: false, release: false }",
+    ),
+    (
+        0xc1c5_22af,
+        "Amo { op: MinUnsigned, rd: Reg { number: 5 }, rs1: Reg { number: 10 }, rs2: Reg { number: 28 }, acquire: false, release: false }",
+    ),
+    (
+        0xe1c5_22af,
+        "Amo { op: MaxUnsigned, rd: Reg { number: 5 }, rs1: Reg { number: 10 }, rs2: Reg { number: 28 }, acquire: false, release: false }",
+    ),
+    (
+        0x05c5_22af,
+        "Amo { op: Add, rd: Reg { number: 5 }, rs1: Reg { number: 10 }, rs2: Reg { number: 28 }, acquire: true, release: false }",
+    ),
+    (
+        0x03c5_22af,
+        "Amo { op: Add, rd: Reg { number: 5 }, rs1: Reg { number: 10 }, rs2: Reg { number: 28 }, acquire: false, release: true }",
+    ),
+    (
+        0x07c5_22af,
+        "Amo { op: Add, rd: Reg { number: 5 }, rs1: Reg { number: 10 }, rs2: Reg { number: 28 }, acquire: true, release: true }",
+    ),
+];
+
+/// Words that are no instruction.
+static NONE: [u32; 40] = [
+    // no instruction at all, by the standard
+    0x0000_0000,
+    0xffff_ffff,
+    // c.nop, c.ebreak and c.addi x5, -1, each with c.nop above it
+    0x0001_0001,
+    0x0001_9002,
+    0x0001_12fd,
+    // jalr with funct3 1; branches with funct3 2 and 3; loads with funct3 3 and 6; a store with 3
+    0xeef5_12e7,
+    0xabc5_25e3,
+    0xabc5_35e3,
+    0xeef5_3283,
+    0xeef5_6283,
+    0xefc5_37a3,
+    // slli, srli and srai with a bit of funct7 wrong; slli with that of srai
+    0x0335_1293,
+    0x8135_5293,
+    0x4335_5293,
+    0x4135_1293,
+    // add, sra and mul with a bit of funct7 wrong; slt and and with that of sub
+    0x05c5_02b3,
+    0x43c5_52b3,
+    0x07c5_02b3,
+    0x41c5_22b3,
+    0x41c5_72b3,
+    // fence.i
+    0x0000_100f,
+    // ecall with rd 1 and with rs1 1; mret with rd 1; wfi with rs1 1; funct3 4 of SYSTEM
+    0x0000_00f3,
+    0x0000_8073,
+    0x3020_00f3,
+    0x1050_8073,
+    0x3415_42f3,
+    // sret, dret, sfence.vma x0, x0
+    0x1020_0073,
+    0x7b20_0073,
+    0x1200_0073,
+    // amoadd with funct3 1 and 3 (.d); lr.w; sc.w; amo bits 00110, 01001 and 11101
+    0x01c5_12af,
+    0x01c5_32af,
+    0x1005_22af,
+    0x19c5_22af,
+    0x31c5_22af,
+    0x49c5_22af,
+    0xe9c5_22af,
+    // flw f5, 0(x10); addiw x5, x10, -1 and add.w of RV64; custom-0
+    0x0005_2287,
+    0xfff5_029b,
+    0x01c5_02bb,
+    0x0000_000b,
+];
+
+/// How the instruction is written that a word is.
+fn shown(alloc: Global, word: u32) -> Result<String, Fail> {
+    let instr = decode(word).ok_or("no instruction")?;
+    Ok(format!(in alloc; "{instr:?}")?)
+}
+
+/// The word of the instruction that a word is.
+fn again(word: u32) -> Option<u32> {
+    Some(encode(decode(word)?))
+}
+
+/// Words of FENCE: fence iorw, iorw; fence rw, w; fence.tso; pause.
+static FENCES: [u32; 4] = [0x0ff0_000f, 0x0310_000f, 0x8330_000f, 0x0100_000f];
+
+#[test]
+fn instructions(rt: HostRuntime) -> Result<(), Fail> {
+    for (word, wanted) in &INSTRUCTIONS {
+        let shown = shown(rt.alloc(), *word)?;
+        assert_eq!(rt; (shown.as_str(), again(*word)), (*wanted, Some(*word)));
+    }
+    for word in &FENCES {
+        let shown = shown(rt.alloc(), *word)?;
+        assert_eq!(rt;
+            (shown.as_str(), again(*word)),
+            ("Fence", Some(0x0000_000f))
+        );
+    }
+    Ok(())
+}
+
+fn is_none(word: u32) -> bool {
+    decode(word).is_none()
+}
+
+#[test]
+fn no_instructions(rt: HostRuntime) {
+    for word in &NONE {
+        assert!(rt; is_none(*word), "{word:08x}");
+    }
+}
+
+/// Operands of the greatest numbers, which they keep.
+fn greatest() -> (u8, u16, u8, u8) {
+    (
+        Reg::new(31).number(),
+        CsrNumber::new(0xf14).number(),
+        ShiftAmount::new(31).places(),
+        Uimm5::new(31).value(),
+    )
+}
+
+/// An immediate, the offsets of a branch and of a jump, and an upper immediate, where they are there.
+fn immediates(words: [u32; 4]) -> [Option<u32>; 4] {
+    let [imm, branch, jump, upper] = words;
+    [
+        Imm12::new(imm).map(|imm| imm.word()),
+        BranchOffset::new(branch).map(|offset| offset.word()),
+        JumpOffset::new(jump).map(|offset| offset.word()),
+        UpperImm::new(upper).map(|imm| imm.word()),
+    ]
+}
+
+#[test]
+fn operands(rt: HostRuntime) {
+    assert_eq!(rt; greatest(), (31, 0xf14, 31, 31));
+    let there = [0xffff_f800, 0xffff_f000, 0x000f_fffe, 0x8000_0000];
+    assert_eq!(rt; immediates(there), there.map(Some));
+    for none in [
+        [0xffff_f7ff, 0x0000_1000, 0x0010_0000, 0x8000_0800],
+        [0x0000_0800, 0x0000_0001, 0xffff_ffff, 0x8000_0001],
+    ] {
+        assert_eq!(rt; immediates(none), [None; 4]);
+    }
+}
