@@ -1,12 +1,48 @@
 //! Logs that look random, of two terms, frame by frame in an order that looks random.
 
-use crate::kept::{guest_of, opens, piece, put_all};
-use fixtures::{Dice, edge};
+use closed_cut::position;
+use fixtures::{Dice, edge, guest_with, key, opening_of, piece_of};
 use fragment_codec::{Frame, Record};
-use ft_types::{Count, Term};
+use ft_types::{Count, Guest, Term};
+use input_log::Input;
 use std::alloc::Global;
 use std::test::Fail;
 use tracked_position::Tracked;
+
+/// A guest of so many harts.
+fn guest_of(harts: u8) -> Guest {
+    guest_with([9; 32], harts)
+}
+
+/// A piece of a hart with these records, and with an input at its last step.
+fn piece(
+    alloc: Global,
+    harts: u8,
+    (term, hart, place): (Term, u8, u32),
+    (from, to): (Count, Count),
+    records: &[Record],
+) -> Result<Frame, Fail> {
+    let mut all = Vec::new(alloc);
+    all.extend_from_slice(records)?;
+    all.push(Record::Input(to.saturating_sub(1), Input::Timer))?;
+    let key = key(term, hart, place);
+    piece_of(alloc, guest_of(harts), key, from, to, &all)
+}
+
+/// Puts a frame, and tells whether the position is that of the store from scratch.
+fn agrees(alloc: Global, tracked: &mut Tracked, frame: &Frame) -> Result<bool, Fail> {
+    let _put = tracked.put(alloc, frame.copy(alloc)?)?;
+    Ok(*tracked.position() == position(alloc, tracked.store())?)
+}
+
+fn put_all(alloc: Global, tracked: &mut Tracked, frames: &[Frame]) -> Result<bool, Fail> {
+    for frame in frames {
+        if !agrees(alloc, tracked, frame)? {
+            return Ok(false);
+        }
+    }
+    Ok(true)
+}
 
 /// A number below this one.
 fn below(dice: &mut Dice, limit: u8) -> u8 {
@@ -53,10 +89,10 @@ fn log(alloc: Global, harts: u8, dice: &mut Dice) -> Result<Vec<Frame>, Fail> {
     let left = u64::from(below(dice, 6));
     let base = [left; 8];
     let many = usize::from(harts.min(8));
-    frames.push(opens(harts, 1, 0, &zero[..many])?)?;
-    frames.push(opens(harts, 2, 1, &base[..many])?)?;
+    frames.push(opening_of(guest_of(harts), 1, 0, &zero[..many])?)?;
+    frames.push(opening_of(guest_of(harts), 2, 1, &base[..many])?)?;
     if below(dice, 8) == 0 {
-        frames.push(opens(harts, 2, 1, &zero[..many])?)?;
+        frames.push(opening_of(guest_of(harts), 2, 1, &zero[..many])?)?;
     }
     for hart in 0..harts.min(8) {
         pieces(alloc, &mut frames, harts, (1, hart, 0), dice)?;
@@ -90,23 +126,17 @@ fn hold(alloc: Global, harts: u8, seeds: u64) -> Result<bool, Fail> {
 }
 
 #[test]
-fn of_two_harts(rt: HostRuntime) -> Result<(), Fail> {
-    assert!(rt; hold(rt.alloc(), 2, 40)?);
-    Ok(())
-}
-
-#[test]
-fn of_three_to_five_harts(rt: HostRuntime) -> Result<(), Fail> {
-    for harts in 3..6 {
-        assert!(rt; hold(rt.alloc(), harts, 20)?, "{harts}");
-    }
-    Ok(())
-}
-
-#[test]
-fn of_six_to_eight_harts(rt: HostRuntime) -> Result<(), Fail> {
-    for harts in 6..9 {
-        assert!(rt; hold(rt.alloc(), harts, 10)?, "{harts}");
+fn of_two_to_eight_harts(rt: HostRuntime) -> Result<(), Fail> {
+    for (harts, seeds) in [
+        (2, 40),
+        (3, 20),
+        (4, 20),
+        (5, 20),
+        (6, 10),
+        (7, 10),
+        (8, 10),
+    ] {
+        assert!(rt; hold(rt.alloc(), harts, seeds)?, "{harts}");
     }
     Ok(())
 }

@@ -1,0 +1,16 @@
+//! The tests of logs that no command of the program shows: frames byte by byte, what stores and tracked positions answer, plans,
+//! pieces of a book, and what stays where memory is refused.
+#![tactic(auto)]
+
+#[cfg(test)]
+mod bytes;
+#[cfg(test)]
+mod come;
+#[cfg(test)]
+mod recorded;
+#[cfg(test)]
+mod replays;
+#[cfg(test)]
+mod stores;
+#[cfg(test)]
+mod tracked;
