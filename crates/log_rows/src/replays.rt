@@ -4,7 +4,8 @@ use crate::come::{Come, Fact, guest_of, records_of, store_of};
 use closed_cut::position;
 use fixtures::{HALTS, TWO_LOOPS, edge, hart, image_of};
 use fragment_codec::Record;
-use ft_types::{Count, Memory, Term};
+use ft_types::{Count, Hart, Memory, Term};
+use guest_image::Machine;
 use hart_replay::{Plan, PlannedLeg, honest_plans, honest_primaries, plan, replay_plain};
 use log_join::Store;
 use std::alloc::Global;
@@ -242,6 +243,14 @@ fn plans(rt: HostRuntime) -> Result<(), Fail> {
     Ok(())
 }
 
+/// The count of the first hart, or 0 where there is none.
+fn first_count(machine: &Machine) -> Count {
+    if machine.harts() == 0 {
+        return 0;
+    }
+    machine.hart(Hart::new(0)).count()
+}
+
 /// The count of the first hart, to which an image's replay of another one's log comes, asked for again where memory was refused:
 /// else the number of the fault.
 fn outcome(
@@ -262,7 +271,7 @@ fn outcome(
         answer = replay_plain(alloc, &image, &plan);
     }
     match answer {
-        Ok(machine) => Ok(Ok(machine.hart(hart(0)).count())),
+        Ok(machine) => Ok(Ok(first_count(&machine))),
         Err(fault) => Ok(Err(fault.number())),
     }
 }
