@@ -29,39 +29,44 @@ static LEAST: Tally = Tally {
     spread: 100,
 };
 
-/// Applies a list of events to two worlds, which must agree at each. Says what happened, or `None` where they differ.
-fn apply_list(alloc: Global, image: &Image, chance: &mut Chance) -> Result<Option<Beside>, Memory> {
-    let keepers = chance.number(5).min(chance.number(5));
-    let need = chance.number(keepers);
-    let mut worlds = Beside::new(alloc, image, keepers, need)?;
+/// Applies a list of events to two worlds. Says whether they agree at each.
+fn agree_on_list(alloc: Global, chance: &mut Chance, worlds: &mut Beside) -> Result<bool, Memory> {
     for event in 1..=EVENTS {
         let act = chance.next(worlds.plain());
         if !worlds.agree_on(alloc, act)? || event % 10 == 0 && !worlds.have_same_machine() {
-            return Ok(None);
+            return Ok(false);
         }
     }
-    if worlds.sent_the_same(alloc, image)? {
-        Ok(Some(worlds))
-    } else {
-        Ok(None)
+    Ok(true)
+}
+
+/// Two worlds of a few keepers, to which nothing happened.
+fn begin(alloc: Global, image: &Image, chance: &mut Chance) -> Result<Beside, Memory> {
+    let keepers = chance.number(5).min(chance.number(5));
+    let need = chance.number(keepers);
+    Beside::new(alloc, image, keepers, need)
+}
+
+/// Applies the list of a seed to two worlds. Says whether they agree, and adds what happened.
+fn agree_by(alloc: Global, image: &Image, seed: u64, tally: &mut Tally) -> Result<bool, Memory> {
+    let mut chance = Chance::new(seed);
+    let mut worlds = begin(alloc, image, &mut chance)?;
+    let agreed = agree_on_list(alloc, &mut chance, &mut worlds).and_then(|agreed| Ok(
+        agreed && worlds.sent_the_same(alloc, image)?,
+    ));
+    if agreed == Ok(true) {
+        tally.add_list(worlds.tally(), worlds.released());
     }
+    agreed
 }
 
 /// Applies the list of this number, once more where the plain world was refused memory. Says whether the worlds agree.
 fn agree_in(alloc: Global, number: u64, tally: &mut Tally) -> Result<bool, Fail> {
     let image = image_of(alloc, guest(number))?;
     let seed = number.wrapping_mul(0x9e37_79b9_7f4a_7c15) | 1;
-    let worlds = match apply_list(alloc, &image, &mut Chance::new(seed)) {
-        Err(Memory) => apply_list(alloc, &image, &mut Chance::new(seed))?,
-        Ok(worlds) => worlds,
-    };
-    match worlds {
-        Some(worlds) => {
-            tally.add(worlds.tally());
-            tally.count_list(worlds.released());
-            Ok(true)
-        }
-        None => Ok(false),
+    match agree_by(alloc, &image, seed, tally) {
+        Err(Memory) => Ok(agree_by(alloc, &image, seed, tally)?),
+        agreed => Ok(agreed?),
     }
 }
 

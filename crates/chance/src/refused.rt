@@ -10,15 +10,22 @@ use guest_image::Image;
 use std::alloc::Global;
 use std::test::Fail;
 
-/// Whether a world with three keepers, of which two hold what goes out, agrees with a plain one at each of these events.
-fn agree_once(alloc: Global, image: &Image, acts: &[Act]) -> Result<bool, Memory> {
-    let mut worlds = Beside::new(alloc, image, 3, 2)?;
+/// Whether two worlds agree at each of these events.
+fn agree_on_all(alloc: Global, acts: &[Act], worlds: &mut Beside) -> Result<bool, Memory> {
     for act in acts {
         if !worlds.agree_on(alloc, *act)? || !worlds.have_same_machine() {
             return Ok(false);
         }
     }
-    Ok(worlds.released().len() == 2 && worlds.sent_the_same(alloc, image)?)
+    Ok(true)
+}
+
+/// Whether a world with three keepers, of which two hold what goes out, agrees with a plain one at each of these events.
+fn agree_once(alloc: Global, image: &Image, acts: &[Act]) -> Result<bool, Memory> {
+    let mut worlds = Beside::new(alloc, image, 3, 2)?;
+    agree_on_all(alloc, acts, &mut worlds).and_then(|agreed| Ok(
+        agreed && worlds.released().len() == 2 && worlds.sent_the_same(alloc, image)?,
+    ))
 }
 
 /// Whether they agree, once more where the plain world was refused memory.

@@ -167,18 +167,20 @@ fn a_term_goes_live_from_nothing(rt: HostRuntime) -> Result<(), Fail> {
 }
 
 /// Why the last of these events is refused, where the others are not.
-fn refusal(alloc: Global, acts: &[Act]) -> Result<Option<WorldFault>, Fail> {
-    let mut subject = of_three(alloc)?;
-    let Some((last, before)) = acts.split_last() else {
-        return Ok(None);
-    };
-    if !all_done(alloc, &mut subject, before) {
-        return Ok(None);
+fn refused_as(alloc: Global, acts: &[Act], subject: &mut Subject) -> Option<WorldFault> {
+    let (last, before) = acts.split_last()?;
+    if !all_done(alloc, subject, before) {
+        return None;
     }
     match subject.answer(alloc, *last) {
-        Some(Err(fault)) => Ok(Some(fault)),
-        _ => Ok(None),
+        Some(Err(fault)) => Some(fault),
+        _ => None,
     }
+}
+
+fn refusal(alloc: Global, acts: &[Act]) -> Result<Option<WorldFault>, Fail> {
+    let mut subject = of_three(alloc)?;
+    Ok(refused_as(alloc, acts, &mut subject))
 }
 
 /// Five steps of a hart that halts after four.

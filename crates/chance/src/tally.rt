@@ -61,23 +61,17 @@ impl Tally {
         *counter = counter.saturating_add(1);
     }
 
-    /// Adds what happened elsewhere.
-    pub fn add(&mut self, other: &Tally) {
-        self.steps = self.steps.saturating_add(other.steps);
-        self.deliveries = self.deliveries.saturating_add(other.deliveries);
-        self.acknowledged = self.acknowledged.saturating_add(other.acknowledged);
-        self.grants = self.grants.saturating_add(other.grants);
-        self.refused = self.refused.saturating_add(other.refused);
-    }
-
-    /// Counts a list, at whose end these outputs had gone out.
-    pub fn count_list(&mut self, released: &[Released]) {
+    /// Adds a list in which that happened, and at whose end these outputs had gone out.
+    pub fn add_list(&mut self, list: &Tally, released: &[Released]) {
         self.lists = self.lists.saturating_add(1);
+        self.steps = self.steps.saturating_add(list.steps);
+        self.deliveries = self.deliveries.saturating_add(list.deliveries);
+        self.acknowledged = self.acknowledged.saturating_add(list.acknowledged);
+        self.grants = self.grants.saturating_add(list.grants);
+        self.refused = self.refused.saturating_add(list.refused);
         self.released = self.released.saturating_add(released.len() as u64);
         self.again = self.again.saturating_add(again_in(released));
-        if is_spread(released) {
-            self.spread = self.spread.saturating_add(1);
-        }
+        self.spread = self.spread.saturating_add(u64::from(is_spread(released)));
     }
 
     /// Whether each number is at least this one's.
