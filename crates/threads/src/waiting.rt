@@ -1,10 +1,8 @@
 //! Guests whose harts wait for each other, on threads. What they put out does not depend on how their harts go beside each other.
 
-use crate::logs;
-use crate::pools::{in_turn, partly_on_threads};
-use fixtures::image_of;
-use ft_types::{Count, HART_ROW, Hart, HartSet};
-use guest_image::Machine;
+use crate::runs::{image_of, in_turn, leads_in_turn, on_threads, plan_of};
+use ft_types::{Hart, HartSet, Memory};
+use guest_image::{Image, Machine};
 use page_book::{Book, Recording};
 use primary_pool::Free;
 use std::alloc::Global;
@@ -13,7 +11,7 @@ use std::test::Fail;
 use std::thread::Threads;
 
 /// More than any hart takes, unless what it waits for does not come.
-const BUDGET: Count = 1_000_000;
+const BUDGET: u32 = 1_000_000;
 
 /// Four harts count to 200 each under one lock, wait until all have, and put the sum out.
 ///
@@ -95,105 +93,81 @@ fn guests() -> [Row; 7] {
     ]
 }
 
-/// Whether these are the same words, put out at whatever steps.
-fn are_same_words(outputs: &[(Count, u32)], others: &[(Count, u32)]) -> bool {
-    if outputs.len() != others.len() {
-        return false;
-    }
-    for ((_, word), (_, other)) in outputs.iter().zip(others) {
-        if word != other {
-            return false;
-        }
-    }
-    true
+/// Which harts have no threads, as where these cannot be made.
+fn crews() -> [HartSet; 4] {
+    let none = HartSet::new();
+    let one = none.with(Hart::new(0));
+    let two = one.with(Hart::new(2));
+    [none, one, two, two.with(Hart::new(1)).with(Hart::new(3))]
 }
 
-/// Whether the hart is halted below the budget, and has put out the same words as that of the other machine, this one last.
-fn ends_alike(machine: &Machine, other: &Machine, hart: Hart, last: u32) -> bool {
-    if hart.number() >= machine.harts() || hart.number() >= other.harts() {
-        return false;
-    }
-    let state = machine.hart(hart);
-    let outputs = state.outputs();
-    let Some((_, word)) = outputs.last() else {
-        return false;
-    };
-    state.is_halted()
-        && state.count() < BUDGET
-        && *word == last
-        && are_same_words(outputs, other.hart(hart).outputs())
-}
-
-/// The same of each hart, where these are the last words of all.
-fn all_end_alike(machine: &Machine, other: &Machine, lasts: &[u32]) -> bool {
-    if usize::from(machine.harts()) != lasts.len() {
-        return false;
-    }
+/// The words that the machine's harts put out, hart by hart, and the last ones of those that are halted below the budget.
+fn words_of(alloc: Global, machine: &Machine) -> Result<(Vec<u32>, Vec<u32>), Memory> {
+    let mut words = Vec::new(alloc);
+    let mut lasts = Vec::new(alloc);
     for number in 0..machine.harts() {
-        let Some(last) = lasts.get(usize::from(number)) else {
-            return false;
-        };
-        if !ends_alike(machine, other, Hart::new(number), *last) {
-            return false;
+        let hart = machine.hart(Hart::new(number));
+        for (_, word) in hart.outputs() {
+            words.push(*word)?;
+        }
+        if hart.is_halted() && hart.count() < u64::from(BUDGET) {
+            lasts.push(words.last().copied().unwrap_or(0))?;
         }
     }
-    true
+    Ok((words, lasts))
 }
 
-/// Whether the log of the book leads to its machine, hart by hart in turn.
-fn is_replayed(alloc: Global, file: &[u8], book: &Book<Recording>) -> Result<bool, Fail> {
-    let image = image_of(alloc, file)?;
-    let plan = logs::log_plan(alloc, &image, book)?;
-    let machine = logs::in_turn(alloc, &image, &plan)?;
-    Ok(machine.same(book.machine()))
-}
-
-/// Whether the guest ends on threads, with these harts on none, as in turn, by a log that leads to where it ends.
-fn goes_on_threads<R: Threads + Wait + Sync>(
-    rt: &R,
+/// Whether the book's harts ended with these words, the last ones of which are these, and its log leads to their machine.
+fn has_ended(
     alloc: Global,
-    file: &[u8],
+    image: &Image,
+    book: &Book<Recording>,
+    words: &[u32],
     lasts: &[u32],
-    here: HartSet,
-) -> Result<bool, Fail> {
-    let book = partly_on_threads(rt, alloc, file, BUDGET, &Free, here)?;
-    let plain = in_turn(alloc, file, BUDGET)?;
-    if !all_end_alike(book.machine(), plain.machine(), lasts) {
+) -> Result<bool, Memory> {
+    let (said, ends) = words_of(alloc, book.machine())?;
+    if said.as_slice() != words || ends.as_slice() != lasts {
         return Ok(false);
     }
-    is_replayed(alloc, file, &book)
+    leads_in_turn(alloc, image, &plan_of(alloc, image, book)?, book.machine())
 }
 
-/// The first of the guests that does not end on threads as in turn, with these harts on none.
-fn first_stuck<R: Threads + Wait + Sync>(
+/// The first of the crews by which the guest does not end as in turn.
+fn first_stuck_in<R: Threads + Wait + Sync>(
     rt: &R,
     alloc: Global,
-    here: HartSet,
-) -> Result<Option<usize>, Fail> {
-    for (number, (file, lasts)) in guests().iter().enumerate() {
-        if !goes_on_threads(rt, alloc, *file, *lasts, here)? {
+    (file, lasts): Row,
+) -> Result<Option<usize>, Memory> {
+    let image = image_of(alloc, file)?;
+    let (words, _) = words_of(alloc, in_turn(alloc, &image, BUDGET)?.machine())?;
+    for (number, here) in crews().iter().enumerate() {
+        let book = on_threads(rt, alloc, &image, BUDGET, &Free, *here)?;
+        if !has_ended(alloc, &image, &book, &words, lasts)? {
             return Ok(Some(number));
         }
     }
     Ok(None)
 }
 
-#[test]
-fn harts_that_wait_for_each_other(rt: HostRuntime) -> Result<(), Fail> {
-    let stuck = first_stuck(&rt, rt.alloc(), HartSet::new())?;
-    assert!(rt; stuck.is_none(), "guest {stuck:?}");
-    Ok(())
+/// The first of the guests that does not end on threads as in turn, and by which crew.
+fn first_stuck<R: Threads + Wait + Sync>(
+    rt: &R,
+    alloc: Global,
+) -> Result<Option<(usize, usize)>, Memory> {
+    for (number, guest) in guests().iter().enumerate() {
+        if let Some(crew) = first_stuck_in(rt, alloc, *guest)? {
+            return Ok(Some((number, crew)));
+        }
+    }
+    Ok(None)
 }
 
-/// As where their threads cannot be made.
 #[test]
-fn harts_without_threads(rt: HostRuntime) -> Result<(), Fail> {
-    let one = HartSet::new().with(Hart::new(0));
-    let two = one.with(Hart::new(2));
-    let rest = two.with(Hart::new(1)).with(Hart::new(3));
-    for here in [one, two, rest] {
-        let stuck = first_stuck(&rt, rt.alloc(), here)?;
-        assert!(rt; stuck.is_none(), "guest {stuck:?}");
-    }
+fn harts_that_wait_for_each_other_end(rt: HostRuntime) -> Result<(), Fail> {
+    let stuck = match first_stuck(&rt, rt.alloc()) {
+        Ok(stuck) => stuck,
+        Err(_) => first_stuck(&rt, rt.alloc())?,
+    };
+    assert_eq!(rt; stuck, None);
     Ok(())
 }

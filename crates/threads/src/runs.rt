@@ -1,0 +1,104 @@
+//! What primaries do, and what their logs lead to. Each call gives up where memory is refused, and is made once more by its test.
+
+use closed_cut::position;
+use ft_types::{HartSet, Memory};
+use guest_image::{Image, Machine, read_image};
+use hart_replay::{Plan, ReplayFault, plan, replay_plain};
+use log_join::Store;
+use log_streams::{begin_run, frames_of};
+use page_book::{Book, Recording};
+use primary_pool::{Free, Turnstile, run_plain, run_with};
+use replay_pool::replay;
+use std::alloc::Global;
+use std::sync::Wait;
+use std::thread::Threads;
+
+/// The image of a file, which is right.
+pub fn image_of(alloc: Global, file: &[u8]) -> Result<Image, Memory> {
+    match read_image(alloc, file) {
+        Ok(image) => Ok(image),
+        Err(_) => Err(Memory),
+    }
+}
+
+/// What a primary of the image does to this budget of each hart on threads, these harts on none.
+pub fn on_threads<R: Threads + Wait + Sync, T: Turnstile + Sync>(
+    rt: &R,
+    alloc: Global,
+    image: &Image,
+    budget: u32,
+    turnstile: &T,
+    here: HartSet,
+) -> Result<Book<Recording>, Memory> {
+    let book = begin_run(alloc, image, &[], budget)?;
+    let limits = book.limits();
+    match run_with(rt, alloc, book, limits, turnstile, here) {
+        Ok(book) => Ok(book),
+        Err(_) => Err(Memory),
+    }
+}
+
+/// The same of harts in turn.
+pub fn in_turn(alloc: Global, image: &Image, budget: u32) -> Result<Book<Recording>, Memory> {
+    match run_plain(alloc, begin_run(alloc, image, &[], budget)?) {
+        Ok(book) => Ok(book),
+        Err(_) => Err(Memory),
+    }
+}
+
+/// A store of the frames of the book's log, of which the last is put first.
+pub fn store_of(alloc: Global, image: &Image, book: &Book<Recording>) -> Result<Store, Memory> {
+    if book.machine().harts() != image.harts() {
+        return Err(Memory);
+    }
+    let frames = frames_of(alloc, image, book)?;
+    let mut store = Store::new(alloc, image.guest());
+    for frame in frames.iter().rev() {
+        let _put = store.put(frame.copy(alloc)?)?;
+    }
+    Ok(store)
+}
+
+/// The plan of the store.
+pub fn planned(alloc: Global, store: &Store) -> Result<Plan, Memory> {
+    let reached = position(alloc, store)?;
+    match plan(alloc, store, &reached) {
+        Ok(plan) => Ok(plan),
+        Err(_) => Err(Memory),
+    }
+}
+
+/// The plan of the book's log.
+pub fn plan_of(alloc: Global, image: &Image, book: &Book<Recording>) -> Result<Plan, Memory> {
+    planned(alloc, &store_of(alloc, image, book)?)
+}
+
+/// Whether a replay came to this machine. Only for want of memory it may be made once more.
+pub fn came_to(replayed: Result<Machine, ReplayFault>, machine: &Machine) -> Result<bool, Memory> {
+    match replayed {
+        Ok(found) => Ok(found.same(machine)),
+        Err(ReplayFault::Memory) => Err(Memory),
+        Err(_) => Ok(false),
+    }
+}
+
+/// Whether the plan leads to this machine in turn.
+pub fn leads_in_turn(
+    alloc: Global,
+    image: &Image,
+    plan: &Plan,
+    machine: &Machine,
+) -> Result<bool, Memory> {
+    came_to(replay_plain(alloc, image, plan), machine)
+}
+
+/// Whether it does on threads.
+pub fn leads_on_threads<R: Threads + Wait + Sync>(
+    rt: &R,
+    alloc: Global,
+    image: &Image,
+    plan: &Plan,
+    machine: &Machine,
+) -> Result<bool, Memory> {
+    came_to(replay(rt, alloc, image, plan, &Free), machine)
+}
