@@ -1,14 +1,12 @@
 //! Guests that fall by chance, which run on threads, are replayed on threads and in turn, and audited.
 
-use crate::runs::{came_to, image_of, leads_in_turn, leads_on_threads, plan_of};
-use fixtures::Dice;
+use crate::runs::{Left, came_to, leads, left_by, planned};
+use fixtures::{Dice, image_of};
 use ft_types::Memory;
-use guest_image::{Image, Machine};
-use hart_replay::Plan;
+use guest_image::Image;
 use input_script::read_script;
 use log_audit::{AuditFault, audit};
 use log_streams::run_primary;
-use page_book::{Book, Recording};
 use pair::OnThreads;
 use std::alloc::Global;
 use std::sync::Wait;
@@ -68,53 +66,57 @@ fn script_of(alloc: Global, harts: u8, dice: &mut Dice) -> Result<Vec<u8>, Memor
     Ok(text)
 }
 
-/// What the guest does on threads, with what is offered by chance.
-fn ran<R: Threads + Wait + Sync>(
+/// What the guest leaves that goes on on threads, with what is offered by chance.
+fn left_on_threads<R: Threads + Wait + Sync>(
     rt: &R,
     alloc: Global,
     image: &Image,
-    dice: &mut Dice,
-) -> Result<Book<Recording>, Memory> {
-    let text = script_of(alloc, image.harts(), dice)?;
+    seed: u64,
+) -> Result<Left, Memory> {
+    let text = script_of(alloc, image.harts(), &mut Dice::new(seed))?;
     let Ok(script) = read_script(alloc, &text, image.harts()) else {
         return Err(Memory);
     };
-    Ok(run_primary(alloc, &OnThreads::new(rt), image, &script, 150)?)
+    let book = run_primary(alloc, &OnThreads::new(rt), image, &script, 150)?;
+    left_by(alloc, image, book)
 }
 
-/// Whether the plan's audit comes to this machine.
-fn is_covered(
-    alloc: Global,
-    image: &Image,
-    plan: &Plan,
-    machine: &Machine,
-) -> Result<bool, Memory> {
-    match audit(alloc, image, plan) {
-        Ok(found) => Ok(found.same(machine)),
-        Err(AuditFault::Replay(fault)) => came_to(Err(fault), machine),
+/// Whether the audit of what is left comes to its machine.
+fn is_covered(alloc: Global, image: &Image, left: &Left) -> Result<bool, Memory> {
+    let plan = planned(alloc, &left.1)?;
+    match audit(alloc, image, &plan) {
+        Ok(found) => Ok(found.same(&left.0)),
+        Err(AuditFault::Replay(fault)) => came_to(Err(fault), &left.0),
         Err(_) => Ok(false),
     }
 }
 
-/// Whether what a guest of so many harts did on threads is what its log leads to, on threads and in turn, and by its audit.
-fn is_replayed<R: Threads + Wait + Sync>(rt: &R, alloc: Global, harts: u8) -> Result<bool, Memory> {
-    let mut dice = Dice::new(0x9e37 + u64::from(harts));
-    let image = image_of(alloc, &file_of(alloc, harts, &mut dice)?)?;
-    let book = ran(rt, alloc, &image, &mut dice)?;
-    let plan = plan_of(alloc, &image, &book)?;
-    Ok(
-        leads_on_threads(rt, alloc, &image, &plan, book.machine())?
-            && leads_in_turn(alloc, &image, &plan, book.machine())?
-            && is_covered(alloc, &image, &plan, book.machine())?,
-    )
+/// Whether what the guest did on threads is what its log leads to, on threads and in turn, and by its audit.
+fn is_replayed<R: Threads + Wait + Sync>(
+    rt: &R,
+    alloc: Global,
+    image: &Image,
+    seed: u64,
+) -> Result<bool, Memory> {
+    let left = left_on_threads(rt, alloc, image, seed)?;
+    if !leads(rt, alloc, image, &left)? {
+        return Ok(false);
+    }
+    is_covered(alloc, image, &left)
 }
 
 #[test]
 fn what_runs_by_chance_is_replayed(rt: HostRuntime) -> Result<(), Fail> {
     for harts in 2..9u8 {
-        let replayed = match is_replayed(&rt, rt.alloc(), harts) {
+        let seed = 0x9e37 + u64::from(harts);
+        let file = match file_of(rt.alloc(), harts, &mut Dice::new(seed)) {
+            Ok(file) => file,
+            Err(Memory) => file_of(rt.alloc(), harts, &mut Dice::new(seed))?,
+        };
+        let image = image_of(rt.alloc(), &file)?;
+        let replayed = match is_replayed(&rt, rt.alloc(), &image, seed) {
             Ok(replayed) => replayed,
-            Err(_) => is_replayed(&rt, rt.alloc(), harts)?,
+            Err(Memory) => is_replayed(&rt, rt.alloc(), &image, seed)?,
         };
         assert!(rt; replayed, "{harts} harts");
     }

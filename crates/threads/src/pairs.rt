@@ -1,10 +1,10 @@
 //! What the keepers of a pair hold, and what went out; and a pair to which memory is refused.
 
-use crate::runs::{image_of, leads_in_turn, planned};
+use crate::runs::leads_in_turn;
 use closed_cut::position;
 use command_line::{Files, PairOrders, Pairs, command};
-use fixtures::HALTS;
-use ft_types::{Count, Failed, Memory, MemorySink, MemorySource};
+use fixtures::{HALTS, image_of};
+use ft_types::{Failed, Hart, Memory, MemorySink, MemorySource};
 use guest_image::{Image, Machine};
 use log_join::Store;
 use output_gate::Output;
@@ -36,37 +36,36 @@ fn end_of<R: Threads + Wait + Sync>(
     Ok(run_pair(rt, alloc, image, &[], &orders)?)
 }
 
-/// Whether what the store holds replays to this machine.
-fn replays_to(
-    alloc: Global,
-    image: &Image,
-    store: &Store,
-    machine: &Machine,
-) -> Result<bool, Memory> {
-    leads_in_turn(alloc, image, &planned(alloc, store)?, machine)
-}
-
-/// How many of these keepers' stores each replay to this machine, and one more where all joined do.
+/// How many of these keepers' stores each replay to this machine.
 fn faithful(
     alloc: Global,
     image: &Image,
     stores: &[Tracked],
     machine: &Machine,
 ) -> Result<usize, Memory> {
-    let mut all = Store::new(alloc, image.guest());
     let mut faithful = 0usize;
     for store in stores {
-        if replays_to(alloc, image, store.store(), machine)? {
+        if leads_in_turn(alloc, image, store.store(), machine)? {
             faithful = faithful.saturating_add(1);
         }
+    }
+    Ok(faithful)
+}
+
+/// Whether all that these keepers hold does.
+fn join_leads(
+    alloc: Global,
+    image: &Image,
+    stores: &[Tracked],
+    machine: &Machine,
+) -> Result<bool, Memory> {
+    let mut all = Store::new(alloc, image.guest());
+    for store in stores {
         if all.join(alloc, store.store()).is_err() {
             return Err(Memory);
         }
     }
-    if replays_to(alloc, image, &all, machine)? {
-        faithful = faithful.saturating_add(1);
-    }
-    Ok(faithful)
+    leads_in_turn(alloc, image, &all, machine)
 }
 
 /// How many of these outputs, from the first on, stand by hart and number as harts that count down put them out.
@@ -87,86 +86,104 @@ fn in_order(released: &[Output]) -> usize {
     released.len()
 }
 
-/// The counts of the positions of what these keepers hold, found from scratch.
-fn reached(alloc: Global, stores: &[Tracked]) -> Result<Vec<Vec<Count>>, Memory> {
-    let mut reached = Vec::new(alloc);
-    for store in stores {
-        let position = position(alloc, store.store())?;
-        reached.push(position.counts.as_slice().to_vec(alloc)?)?;
+/// Of each output how many of these keepers hold it, whose positions are found from scratch.
+fn holders(alloc: Global, stores: &[Tracked], released: &[Output]) -> Result<Vec<u8>, Memory> {
+    let mut holders = Vec::new(alloc);
+    for _output in released {
+        holders.push(0u8)?;
     }
-    Ok(reached)
-}
-
-/// How many of these positions have the output inside.
-fn holders(reached: &[Vec<Count>], output: &Output) -> usize {
-    let mut holders = 0usize;
-    for counts in reached {
-        if counts.get(output.hart.index()).copied().unwrap_or(0) > output.step {
-            holders = holders.saturating_add(1);
+    for store in stores {
+        let reached = position(alloc, store.store())?;
+        for (held, output) in holders.iter_mut().zip(released) {
+            let count = reached.counts.as_slice().get(output.hart.index());
+            if count.copied().unwrap_or(0) > output.step {
+                *held = held.saturating_add(1);
+            }
         }
     }
-    holders
+    Ok(holders)
 }
 
-/// How many of these outputs are inside the positions of so many of these keepers.
+/// How many of these outputs are held by so many of these keepers.
 fn held(
     alloc: Global,
     stores: &[Tracked],
-    need: usize,
+    need: u64,
     released: &[Output],
 ) -> Result<usize, Memory> {
-    let reached = reached(alloc, stores)?;
     let mut held = 0usize;
-    for output in released {
-        if holders(&reached, output) >= need {
+    for holders in holders(alloc, stores, released)? {
+        if u64::from(holders) >= need {
             held = held.saturating_add(1);
         }
     }
     Ok(held)
 }
 
-/// The steps of all harts of a pair.
-fn steps_of(end: &PairEnd) -> usize {
+/// The steps of all harts.
+fn steps_of(machine: &Machine) -> usize {
     let mut steps = 0usize;
-    for count in end.book.counts().as_slice() {
-        steps = steps.saturating_add(*count as usize);
+    for number in 0..machine.harts().min(8) {
+        steps = steps.saturating_add(machine.hart(Hart::new(number)).count() as usize);
     }
     steps
 }
 
-/// Of a pair: how many steps its harts took, how many keepers it has and how many of their stores, and all joined, replay to its
-/// machine; how many outputs went out, did not, stand in order, and are held by as many keepers as are needed.
-fn counted<R: Threads + Wait + Sync>(
+/// Of what a pair left: the steps of its harts, how many keepers it has, how many of their stores replay to its machine, and whether all
+/// joined do; how many outputs went out, and stand in order, and are held by as many keepers as are needed.
+fn counted(
+    alloc: Global,
+    image: &Image,
+    stores: &[Tracked],
+    released: &[Output],
+    machine: &Machine,
+    need: u64,
+) -> Result<([usize; 6], bool), Memory> {
+    let faithful = faithful(alloc, image, stores, machine)?;
+    let held = held(alloc, stores, need, released)?;
+    let numbers = [
+        steps_of(machine),
+        stores.len(),
+        faithful,
+        released.len(),
+        in_order(released),
+        held,
+    ];
+    Ok((numbers, join_leads(alloc, image, stores, machine)?))
+}
+
+/// The same of a pair of this image, where no output is kept back.
+fn counted_of<R: Threads + Wait + Sync>(
     rt: &R,
     alloc: Global,
-    file: &[u8],
+    image: &Image,
     keepers: u64,
     need: u64,
-) -> Result<[usize; 7], Memory> {
-    let image = image_of(alloc, file)?;
-    let end = end_of(rt, alloc, &image, keepers, need)?;
-    Ok([
-        steps_of(&end),
-        end.stores.len(),
-        faithful(alloc, &image, &end.stores, end.book.machine())?,
-        end.released.len(),
-        end.kept,
-        in_order(&end.released),
-        held(alloc, &end.stores, need as usize, &end.released)?,
-    ])
+) -> Result<([usize; 6], bool), Memory> {
+    let PairEnd {
+        released,
+        early: _,
+        kept,
+        book,
+        stores,
+    } = end_of(rt, alloc, image, keepers, need)?;
+    let machine = book.into_machine();
+    let (numbers, is_whole) = counted(alloc, image, &stores, &released, &machine, need)?;
+    Ok((numbers, is_whole && kept == 0))
 }
 
 #[test]
 fn what_keepers_hold_and_what_goes_out(rt: HostRuntime) -> Result<(), Fail> {
     for (file, keepers, need, wanted) in [
-        (ADDS, 3, 2, [4 * 1805, 3, 4, 0, 0, 0, 0]),
-        (COUNTS_DOWN, 5, 3, [4 * 4503, 5, 6, 6000, 0, 6000, 6000]),
+        (ADDS, 3, 2, [4 * 1805, 3, 3, 0, 0, 0]),
+        (COUNTS_DOWN, 5, 3, [4 * 4503, 5, 5, 6000, 6000, 6000]),
     ] {
-        let found = match counted(&rt, rt.alloc(), file, keepers, need) {
+        let image = image_of(rt.alloc(), file)?;
+        let (found, is_whole) = match counted_of(&rt, rt.alloc(), &image, keepers, need) {
             Ok(found) => found,
-            Err(_) => counted(&rt, rt.alloc(), file, keepers, need)?,
+            Err(Memory) => counted_of(&rt, rt.alloc(), &image, keepers, need)?,
         };
-        assert_eq!(rt; found, wanted);
+        assert!(rt; is_whole && found == wanted, "{keepers} keepers: {found:?}");
     }
     Ok(())
 }

@@ -1,8 +1,10 @@
 //! Primaries and replays to which memory is refused once. What is seen by hand, where each allocation is refused in turn, is that who
 //! is asked again comes to the machine that ran.
 
-use crate::runs::{image_of, in_turn, leads_in_turn, leads_on_threads, on_threads, plan_of};
-use ft_types::{HartSet, Memory};
+use crate::runs::{in_turn, leads, on_threads};
+use fixtures::image_of;
+use ft_types::{Hart, HartSet, Memory};
+use guest_image::{Image, Machine};
 use primary_pool::Free;
 use std::alloc::Global;
 use std::sync::Wait;
@@ -13,33 +15,42 @@ use std::thread::Threads;
 static ADDS_FEW: &[u8] =
     b"harts 4\npages 2\n800010b7\n00300113\n00100193\n0030a02f\nfff10113\nfe011ce3\nf0000237\n00022a23\n";
 
+/// Whether each of four harts has halted.
+fn have_halted(machine: &Machine) -> bool {
+    for number in 0..4u8 {
+        if number >= machine.harts() || machine.hart(Hart::new(number)).count() != 14 {
+            return false;
+        }
+    }
+    true
+}
+
 /// Whether each hart has halted, and the log leads to their machine. A hart whose thread is refused memory is left to who comes
 /// after the threads.
 fn is_replayed<R: Threads + Wait + Sync>(
     rt: &R,
     alloc: Global,
+    image: &Image,
     have_threads: bool,
 ) -> Result<bool, Memory> {
-    let image = image_of(alloc, ADDS_FEW)?;
-    let book = if have_threads {
-        on_threads(rt, alloc, &image, 100, &Free, HartSet::new())?
+    let left = if have_threads {
+        on_threads(rt, alloc, image, 100, &Free, HartSet::new())?
     } else {
-        in_turn(alloc, &image, 100)?
+        in_turn(alloc, image, 100)?
     };
-    let plan = plan_of(alloc, &image, &book)?;
-    Ok(
-        book.counts().as_slice() == [14u64; 4].as_slice()
-            && leads_on_threads(rt, alloc, &image, &plan, book.machine())?
-            && leads_in_turn(alloc, &image, &plan, book.machine())?,
-    )
+    if !have_halted(&left.0) {
+        return Ok(false);
+    }
+    leads(rt, alloc, image, &left)
 }
 
 #[test]
 fn refused_memory(rt: HostRuntime) -> Result<(), Fail> {
+    let image = image_of(rt.alloc(), ADDS_FEW)?;
     for have_threads in [false, true] {
-        let replayed = match is_replayed(&rt, rt.alloc(), have_threads) {
+        let replayed = match is_replayed(&rt, rt.alloc(), &image, have_threads) {
             Ok(replayed) => replayed,
-            Err(_) => is_replayed(&rt, rt.alloc(), have_threads)?,
+            Err(Memory) => is_replayed(&rt, rt.alloc(), &image, have_threads)?,
         };
         assert!(rt; replayed, "threads: {have_threads}");
     }

@@ -2,13 +2,11 @@
 //! theirs.
 
 use crate::followers::follows_to;
-use crate::runs::{
-    came_to, image_of, in_turn, leads_in_turn, leads_on_threads, on_threads, planned, store_of,
-};
+use crate::runs::{in_turn, leads, leads_on_threads, on_threads};
+use fixtures::image_of;
 use ft_types::{Count, Hart, HartSet, Memory};
 use guest_image::Image;
 use primary_pool::Turnstile;
-use replay_pool::replay;
 use std::alloc::Global;
 use std::sync::Wait;
 use std::sync::atomic::{AtomicU64, Ordering};
@@ -17,11 +15,11 @@ use std::thread;
 use std::thread::Threads;
 
 /// One hart adds 1 to a word 600 times, and halts after 1,805 steps.
-static ALONE: &[u8] =
+const ALONE: &[u8] =
     b"harts 1\npages 2\n800010b7\n25800113\n00100193\n0030a02f\nfff10113\nfe011ce3\nf0000237\n00022a23\n";
 
 /// Four harts add 1 to one word 10,000 times each, and halt after 30,006 steps.
-static FOUR: &[u8] =
+const FOUR: &[u8] =
     b"harts 4\npages 2\n800010b7\n00002137\n71010113\n00100193\n0030a02f\nfff10113\nfe011ce3\nf0000237\n00022a23\n";
 
 /// Sees the calls of up to four harts.
@@ -127,78 +125,73 @@ impl Turnstile for Watch {
     }
 }
 
-/// What is seen of a run to this budget, and whether its log leads to its machine on threads, in turn and by a follower.
-fn run_is_seen<R: Threads + Wait + Sync>(
+/// Whether the log of a run to this budget leads to its machine on threads, in turn and by a follower.
+fn run_leads<R: Threads + Wait + Sync>(
     rt: &R,
     alloc: Global,
     image: &Image,
     budget: u32,
-) -> Result<(Seen, bool), Memory> {
-    let watch = Watch::new(image.harts());
-    let book = on_threads(rt, alloc, image, budget, &watch, HartSet::new())?;
-    let store = store_of(alloc, image, &book)?;
-    let plan = planned(alloc, &store)?;
-    let leads = leads_on_threads(rt, alloc, image, &plan, book.machine())?
-        && leads_in_turn(alloc, image, &plan, book.machine())?
-        && follows_to(alloc, image, &store, book.machine())?;
-    Ok((watch.saw(), leads))
+    watch: &Watch,
+) -> Result<bool, Memory> {
+    let left = on_threads(rt, alloc, image, budget, watch, HartSet::new())?;
+    if !follows_to(alloc, image, &left.1, &left.0)? {
+        return Ok(false);
+    }
+    leads(rt, alloc, image, &left)
 }
 
-/// What is seen of a replay of what harts did in turn, and whether it comes to their machine.
-fn replay_is_seen<R: Threads + Wait + Sync>(
+/// Whether a replay of what harts did in turn comes to their machine.
+fn replay_leads<R: Threads + Wait + Sync>(
     rt: &R,
     alloc: Global,
     image: &Image,
     budget: u32,
+    watch: &Watch,
+) -> Result<bool, Memory> {
+    let left = in_turn(alloc, image, budget)?;
+    leads_on_threads(rt, alloc, image, &left.1, &left.0, watch)
+}
+
+/// What is seen of such a run or replay, and whether its log leads where it is to.
+fn seen_of<R: Threads + Wait + Sync>(
+    rt: &R,
+    alloc: Global,
+    image: &Image,
+    budget: u32,
+    is_replay: bool,
 ) -> Result<(Seen, bool), Memory> {
-    let book = in_turn(alloc, image, budget)?;
-    let plan = planned(alloc, &store_of(alloc, image, &book)?)?;
     let watch = Watch::new(image.harts());
-    let leads = came_to(replay(rt, alloc, image, &plan, &watch), book.machine())?;
-    Ok((watch.saw(), leads))
+    let leads = if is_replay {
+        replay_leads(rt, alloc, image, budget, &watch)
+    } else {
+        run_leads(rt, alloc, image, budget, &watch)
+    };
+    Ok((watch.saw(), leads?))
 }
 
 /// A guest and its budget, whether a replay is seen and not a run, and what is seen. Where harts come to their end by leases that the
 /// turnstile saw, nothing was left to be done in turn.
 type Row = (&'static [u8], u32, bool, Seen);
 
-fn rows() -> [Row; 7] {
-    [
-        (ALONE, 5000, false, [2, 1, 0, 1805, 1805]),
-        (ALONE, 1000, false, [1, 0, 0, 1000, 1000]),
-        (ALONE, 0, false, [0; 5]),
-        (ALONE, 5000, true, [2, 1, 0, 1805, 1805]),
-        (ALONE, 1000, true, [1, 0, 0, 1000, 1000]),
-        (FOUR, 100_000, false, [0, 4, 0, 30006, 30006]),
-        (FOUR, 100_000, true, [0, 4, 0, 30006, 30006]),
-    ]
-}
-
-/// The first row of which something else is seen, with what that is.
-fn first_wrong<R: Threads + Wait + Sync>(
-    rt: &R,
-    alloc: Global,
-) -> Result<Option<(usize, Seen, bool)>, Memory> {
-    for (number, (file, budget, is_replay, seen)) in rows().iter().enumerate() {
-        let image = image_of(alloc, *file)?;
-        let (saw, leads) = if *is_replay {
-            replay_is_seen(rt, alloc, &image, *budget)?
-        } else {
-            run_is_seen(rt, alloc, &image, *budget)?
-        };
-        if saw != *seen || !leads {
-            return Ok(Some((number, saw, leads)));
-        }
-    }
-    Ok(None)
-}
+static ROWS: [Row; 7] = [
+    (ALONE, 5000, false, [2, 1, 0, 1805, 1805]),
+    (ALONE, 1000, false, [1, 0, 0, 1000, 1000]),
+    (ALONE, 0, false, [0; 5]),
+    (ALONE, 5000, true, [2, 1, 0, 1805, 1805]),
+    (ALONE, 1000, true, [1, 0, 0, 1000, 1000]),
+    (FOUR, 100_000, false, [0, 4, 0, 30006, 30006]),
+    (FOUR, 100_000, true, [0, 4, 0, 30006, 30006]),
+];
 
 #[test]
 fn each_hart_goes_through_its_turnstile(rt: HostRuntime) -> Result<(), Fail> {
-    let wrong = match first_wrong(&rt, rt.alloc()) {
-        Ok(wrong) => wrong,
-        Err(_) => first_wrong(&rt, rt.alloc())?,
-    };
-    assert_eq!(rt; wrong, None);
+    for (number, (file, budget, is_replay, seen)) in ROWS.iter().enumerate() {
+        let image = image_of(rt.alloc(), *file)?;
+        let (saw, leads) = match seen_of(&rt, rt.alloc(), &image, *budget, *is_replay) {
+            Ok(answer) => answer,
+            Err(Memory) => seen_of(&rt, rt.alloc(), &image, *budget, *is_replay)?,
+        };
+        assert!(rt; leads && saw == *seen, "row {number}: {saw:?}");
+    }
     Ok(())
 }
