@@ -75,24 +75,32 @@ static ROWS: [Row; 11] = [
 fn frame_of(alloc: Global, guest: Guest, row: &Row) -> Option<Frame> {
     let [kind, first, from, to, _, _, _, _, _, _] = *row;
     if kind == 3 {
-        let key = key(1, 0, first as u32);
+        let key = key(1, 0, u32::try_from(first).ok()?);
         let piece = Fragment::new(guest, key, from, to, Vec::new(alloc))?;
         return Some(Frame::Log(piece));
     }
-    let term = kind as u32;
+    let term = u32::try_from(kind).ok()?;
     let base = Counts::from_slice(&[first])?;
     let opening = Opening::new(guest, term, term.saturating_sub(1), base)?;
     Some(Frame::Opening(opening))
 }
 
+/// Where a hart halted inside, as its number and the last digit of its count: 0 where none did.
+fn halted_at(fault: &ReplayFault) -> u64 {
+    match fault {
+        ReplayFault::HaltedInside(hart, count) => 10 * u64::from(hart.number()) + *count % 10,
+        _ => 0,
+    }
+}
+
 /// The fault as a number: its own, and for a halt the number with the hart and the count behind it.
 fn number_of(answer: Result<(), ReplayFault>) -> u64 {
-    match answer {
-        Ok(()) => 0,
-        Err(ReplayFault::HaltedInside(hart, count)) => {
-            200 + 10 * u64::from(hart.number()) + count % 10
-        }
-        Err(fault) => u64::from(fault.number()),
+    let Err(fault) = answer else {
+        return 0;
+    };
+    match halted_at(&fault) {
+        0 => u64::from(fault.number()),
+        halted => halted.saturating_add(200),
     }
 }
 
