@@ -1,0 +1,124 @@
+//! Guests that fall by chance, which run on threads, are replayed on threads and in turn, and audited.
+
+use crate::runs::{Left, came_to, leads, left_by, planned};
+use fixtures::{Dice, image_of};
+use ft_types::Memory;
+use guest_image::Image;
+use input_script::read_script;
+use log_audit::{AuditFault, audit};
+use log_streams::run_primary;
+use pair::OnThreads;
+use std::alloc::Global;
+use std::sync::Wait;
+use std::test::Fail;
+use std::thread::Threads;
+
+/// Before the loop: lui x1, 80001; lui x4, f0000; csrrs x5, mhartid, x0; andi x5, x5, -2.
+static FRONT: &[u8] = b"800010b7\nf0000237\nf14022f3\nffe2f293\n";
+
+/// Behind twelve words of the loop: a jump to the first of them.
+static BACK: &[u8] = b"fd1ff06f\n";
+
+/// lw x2, 0(x1); sw x2, 0(x1); lw x3, 4(x1); sw x3, 4(x1); amoadd.w x3, x2, (x1); add x2, x2, x3; addi x3, x3, 1; sw x2, 8(x4),
+/// an output; lw x2, 0(x4), the input word; sw x5, 16(x4), which rings.
+static WORDS: [&[u8]; 10] = [
+    b"0000a103\n",
+    b"0020a023\n",
+    b"0040a183\n",
+    b"0030a223\n",
+    b"0020a1af\n",
+    b"00310133\n",
+    b"00118193\n",
+    b"00222423\n",
+    b"00022103\n",
+    b"00522823\n",
+];
+
+fn file_of(alloc: Global, harts: u8, dice: &mut Dice) -> Result<Vec<u8>, Memory> {
+    let mut text = Vec::new(alloc);
+    text.extend_from_slice(b"harts ")?;
+    text.push(b'0'.saturating_add(harts))?;
+    text.extend_from_slice(b"\npages 2\n")?;
+    text.extend_from_slice(FRONT)?;
+    for _word in 0..12 {
+        text.extend_from_slice(WORDS[usize::from(dice.roll() % 10)])?;
+    }
+    text.extend_from_slice(BACK)?;
+    Ok(text)
+}
+
+/// A script that offers each hart, by chance, timers from counts of two digits on, and words.
+fn script_of(alloc: Global, harts: u8, dice: &mut Dice) -> Result<Vec<u8>, Memory> {
+    let mut text = Vec::new(alloc);
+    for offer in 0..harts.saturating_mul(4) {
+        let hart = b'0' + offer / 4 % 8;
+        let count = [b'1' + dice.roll() % 9, b'0' + dice.roll() % 10];
+        let word = [b'0' + dice.roll() % 10, b'a' + dice.roll() % 6];
+        text.push(hart)?;
+        text.push(b' ')?;
+        text.extend_from_slice(&count)?;
+        text.extend_from_slice(b" timer\n")?;
+        text.push(hart)?;
+        text.extend_from_slice(b" 0 word 000000")?;
+        text.extend_from_slice(&word)?;
+        text.push(b'\n')?;
+    }
+    Ok(text)
+}
+
+/// What the guest leaves that goes on on threads, with what is offered by chance.
+fn left_on_threads<R: Threads + Wait + Sync>(
+    rt: &R,
+    alloc: Global,
+    image: &Image,
+    seed: u64,
+) -> Result<Left, Memory> {
+    let text = script_of(alloc, image.harts(), &mut Dice::new(seed))?;
+    let Ok(script) = read_script(alloc, &text, image.harts()) else {
+        return Err(Memory);
+    };
+    let book = run_primary(alloc, &OnThreads::new(rt), image, &script, 150)?;
+    left_by(alloc, image, book)
+}
+
+/// Whether the audit of what is left comes to its machine.
+fn is_covered(alloc: Global, image: &Image, left: &Left) -> Result<bool, Memory> {
+    let plan = planned(alloc, &left.1)?;
+    match audit(alloc, image, &plan) {
+        Ok(found) => Ok(found.same(&left.0)),
+        Err(AuditFault::Replay(fault)) => came_to(Err(fault), &left.0),
+        Err(_) => Ok(false),
+    }
+}
+
+/// Whether what the guest did on threads is what its log leads to, on threads and in turn, and by its audit.
+fn is_replayed<R: Threads + Wait + Sync>(
+    rt: &R,
+    alloc: Global,
+    image: &Image,
+    seed: u64,
+) -> Result<bool, Memory> {
+    let left = left_on_threads(rt, alloc, image, seed)?;
+    if !leads(rt, alloc, image, &left)? {
+        return Ok(false);
+    }
+    is_covered(alloc, image, &left)
+}
+
+#[test]
+fn what_runs_by_chance_is_replayed(rt: HostRuntime) -> Result<(), Fail> {
+    for harts in 2..9u8 {
+        let seed = 0x9e37 + u64::from(harts);
+        let file = match file_of(rt.alloc(), harts, &mut Dice::new(seed)) {
+            Ok(file) => file,
+            Err(Memory) => file_of(rt.alloc(), harts, &mut Dice::new(seed))?,
+        };
+        let image = image_of(rt.alloc(), &file)?;
+        let replayed = match is_replayed(&rt, rt.alloc(), &image, seed) {
+            Ok(replayed) => replayed,
+            Err(Memory) => is_replayed(&rt, rt.alloc(), &image, seed)?,
+        };
+        assert!(rt; replayed, "{harts} harts");
+    }
+    Ok(())
+}

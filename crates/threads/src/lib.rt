@@ -1,0 +1,20 @@
+//! The tests of threads: harts of primaries and replays, pairs, and keepers and a gate over one board. And of followers, which keep up
+//! with stores.
+#![tactic(auto)]
+
+#[cfg(test)]
+mod boards;
+#[cfg(test)]
+mod chances;
+#[cfg(test)]
+mod followers;
+#[cfg(test)]
+mod pairs;
+#[cfg(test)]
+mod refused;
+#[cfg(test)]
+mod runs;
+#[cfg(test)]
+mod turnstiles;
+#[cfg(test)]
+mod waiting;
