@@ -1,0 +1,105 @@
+//! Books that plays begin with. What memory is refused once is asked for once more, so that a play says the same where one
+//! allocation fails.
+
+use crate::rows::{Edge, Heard, Play};
+use edge_log::EdgeLog;
+use fixtures::{edge, hart, image_of, recorder};
+use ft_types::{Count, Counts, Hart, Memory};
+use guest_image::{Image, Machine};
+use input_log::{Input, InputLog};
+use page_book::{Book, Leg, Recording, Replaying};
+use std::alloc::Global;
+use std::test::Fail;
+
+/// A book that records what a play's guest does.
+pub fn recorder_of(alloc: Global, play: &Play) -> Result<Book<Recording>, Fail> {
+    let image = image_of(alloc, play.file)?;
+    recorder(alloc, &image, play.limits)
+}
+
+/// A log of these edges from a start at 0.
+fn edges_of(alloc: Global, harts: u8, edges: &[(u8, Edge)]) -> Option<EdgeLog> {
+    let mut log = EdgeLog::new(alloc, Counts::zero(harts));
+    for (number, (at, other, after)) in edges {
+        let edge = edge(*number, *at, *other, *after);
+        if !log.may_add(&edge) || log.add(edge).is_err() {
+            return None;
+        }
+    }
+    Some(log)
+}
+
+fn inputs_of(alloc: Global, inputs: &[(u8, Count, Heard)]) -> Option<InputLog> {
+    let mut log = InputLog::new(alloc);
+    for (number, count, heard) in inputs {
+        let hart = hart(*number);
+        if !log.may_add(hart, *count) || log.add(hart, *count, heard.input()).is_err() {
+            return None;
+        }
+    }
+    Some(log)
+}
+
+fn leg_of(alloc: Global, harts: u8, play: &Play) -> Option<Leg> {
+    let obeyed = play.obeyed?;
+    Some(Leg {
+        ends: Counts::from_slice(play.limits)?,
+        edges: edges_of(alloc, harts.min(8), obeyed.edges)?,
+        inputs: inputs_of(alloc, obeyed.inputs)?,
+    })
+}
+
+fn replayer_once(alloc: Global, image: &Image, play: &Play) -> Option<Book<Replaying>> {
+    let start = Machine::boot(alloc, image).ok()?;
+    let leg = leg_of(alloc, image.harts(), play)?;
+    Book::<Replaying>::begin(alloc, start, leg).ok()
+}
+
+/// A book that obeys what a play gives.
+pub fn replayer_of(alloc: Global, play: &Play) -> Result<Book<Replaying>, Fail> {
+    let image = image_of(alloc, play.file)?;
+    match replayer_once(alloc, &image, play) {
+        Some(book) => Ok(book),
+        None => Ok(replayer_once(alloc, &image, play).ok_or("book")?),
+    }
+}
+
+fn next_once(alloc: Global, machine: &Machine) -> Option<Book<Recording>> {
+    let start = machine.copy().ok()?;
+    let limits = Counts::from_slice([100; 8].get(..usize::from(start.harts()))?)?;
+    if start.harts() != limits.harts() {
+        return None;
+    }
+    Book::<Recording>::begin(alloc, start, limits).ok()
+}
+
+/// A book that begins where another one ended.
+pub fn next_book(alloc: Global, book: &Book<Recording>) -> Option<Book<Recording>> {
+    match next_once(alloc, book.machine()) {
+        Some(next) => Some(next),
+        None => next_once(alloc, book.machine()),
+    }
+}
+
+fn offer_once(book: &mut Book<Recording>, hart: Hart, count: Count, input: Input) -> bool {
+    hart.number() < book.machine().harts()
+        && !input.is_bell()
+        && book.offer(hart, count, input).is_ok()
+}
+
+/// Offers a hart an input, a second time where memory was refused.
+pub fn offer(book: &mut Book<Recording>, hart: Hart, count: Count, input: Input) -> bool {
+    offer_once(book, hart, count, input) || offer_once(book, hart, count, input)
+}
+
+/// Raises the limits of a book of as many harts.
+pub fn raise(book: &mut Book<Recording>, limits: &[Count]) -> bool {
+    let Some(limits) = Counts::from_slice(limits) else {
+        return false;
+    };
+    if book.machine().harts() != limits.harts() {
+        return false;
+    }
+    book.limit_to(limits);
+    true
+}
