@@ -3,7 +3,7 @@
 use crate::rows::{Edge, Heard, Play, Row};
 use crate::starts::{next_book, offer, raise, recorder_of, replayer_of};
 use fixtures::{Crew, hart};
-use ft_types::{Hart, PageNo};
+use ft_types::{Count, Hart, HartSet, PageNo};
 use guest_image::Machine;
 use input_log::Input;
 use page_book::{Book, BookFault, Keep, Lease, Mode, Need, Recording};
@@ -34,20 +34,18 @@ fn told(answer: Result<(), BookFault>) -> u8 {
     }
 }
 
-/// The harts that are in the way of a page, of which each is a bit.
-fn held(answer: Result<Need, BookFault>) -> Option<u8> {
-    match answer {
-        Ok(Need::Given) => Some(0),
-        Ok(Need::HeldBy(harts)) => {
-            let mut bits = 0u8;
-            for number in 0..8u8 {
-                if harts.contains(hart(number)) {
-                    bits |= 1 << number;
-                }
-            }
-            Some(bits)
+/// What a page that was asked for is answered with, where these harts are in the way, of which each is a bit.
+fn need_of(bits: u8) -> Need {
+    let mut harts = HartSet::new();
+    for number in 0..8u8 {
+        if bits >> number & 1 == 1 {
+            harts = harts.with(hart(number));
         }
-        Err(_) => None,
+    }
+    if bits == 0 {
+        Need::Given
+    } else {
+        Need::HeldBy(harts)
     }
 }
 
@@ -98,7 +96,7 @@ fn stands<M: Mode>(crew: &Crew<M>, hart: Hart, want: [u64; 3]) -> bool {
 fn is_lease_so<M: Mode>(crew: &mut Crew<M>, row: &Row) -> bool {
     match *row {
         Row::Ask(number, page, want, said) => {
-            held(crew.ask(hart(number), PageNo::new(page % 64), want)) == Some(said)
+            crew.ask(hart(number), PageNo::new(page % 64), want) == Ok(need_of(said))
         }
         Row::Waits(number, want) => are_edges(crew.waiting(hart(number)), want),
         Row::Stands(number, want) => stands(crew, hart(number), want),
@@ -141,15 +139,23 @@ fn holds<M: Mode>(stage: &mut Stage<M>, alloc: Global, row: &Row) -> bool {
     }
 }
 
+/// Whether a hart was given these inputs at a count, and the next ones at that one.
+fn has_given(
+    book: &Book<Recording>,
+    hart: Hart,
+    count: Count,
+    want: &[Heard],
+    next: Option<Count>,
+) -> bool {
+    let inputs = book.inputs();
+    are_inputs(inputs.at(hart, count), want) && inputs.next(hart, count.saturating_add(1)) == next
+}
+
 /// Whether a book recorded what a row says.
 fn is_recorded(book: &Book<Recording>, row: &Row) -> bool {
     match *row {
         Row::Edges(number, want) => are_edges(book.edges().of_hart(hart(number)), want),
-        Row::Given(number, count, want, next) => {
-            let inputs = book.inputs();
-            are_inputs(inputs.at(hart(number), count), want)
-                && inputs.next(hart(number), count + 1) == next
-        }
+        Row::Given(number, count, want, next) => has_given(book, hart(number), count, want, next),
         _ => false,
     }
 }
@@ -170,7 +176,7 @@ fn begin_next(stage: &mut Stage<Recording>, alloc: Global) -> bool {
 fn is_done(stage: &mut Stage<Recording>, alloc: Global, row: &Row) -> bool {
     match *row {
         Row::Offer(number, count, heard) => {
-            offer(&mut stage.crew.book, hart(number), count, heard.input())
+            offer(&mut stage.crew.book, hart(number), count, &heard.input())
         }
         Row::Raise(limits) => raise(&mut stage.crew.book, limits),
         Row::Begin => begin_next(stage, alloc),
@@ -192,7 +198,7 @@ fn record(alloc: Global, play: &Play) -> Result<Played, Fail> {
         if !is_done(&mut stage, alloc, row) {
             break;
         }
-        rows += 1;
+        rows = rows.saturating_add(1);
     }
     Ok((rows, stage.end()))
 }
@@ -208,7 +214,7 @@ fn replay(alloc: Global, play: &Play) -> Result<Played, Fail> {
         if !holds(&mut stage, alloc, row) {
             break;
         }
-        rows += 1;
+        rows = rows.saturating_add(1);
     }
     Ok((rows, stage.end()))
 }

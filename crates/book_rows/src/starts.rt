@@ -1,13 +1,15 @@
 //! Books that plays begin with. What memory is refused once is asked for once more, so that a play says the same where one
 //! allocation fails.
 
+ghost use Rattle.std.specs.Prelude.{◌≡◌, length};
+
 use crate::rows::{Edge, Heard, Play};
 use edge_log::EdgeLog;
 use fixtures::{edge, hart, image_of, recorder};
-use ft_types::{Count, Counts, Hart, Memory};
+use ft_types::{Count, Counts, HART_LIMIT, Hart, Memory};
 use guest_image::{Image, Machine};
 use input_log::{Input, InputLog};
-use page_book::{Book, Leg, Recording, Replaying};
+use page_book::{Book, Leg, Mode, Recording, Replaying};
 use std::alloc::Global;
 use std::test::Fail;
 
@@ -17,12 +19,16 @@ pub fn recorder_of(alloc: Global, play: &Play) -> Result<Book<Recording>, Fail> 
     recorder(alloc, &image, play.limits)
 }
 
+fn add_edge(log: &mut EdgeLog, number: u8, (at, other, after): Edge) -> bool {
+    let edge = edge(number, at, other, after);
+    log.may_add(&edge) && log.add(edge).is_ok()
+}
+
 /// A log of these edges from a start at 0.
 fn edges_of(alloc: Global, harts: u8, edges: &[(u8, Edge)]) -> Option<EdgeLog> {
-    let mut log = EdgeLog::new(alloc, Counts::zero(harts));
-    for (number, (at, other, after)) in edges {
-        let edge = edge(*number, *at, *other, *after);
-        if !log.may_add(&edge) || log.add(edge).is_err() {
+    let mut log = EdgeLog::new(alloc, Counts::zero(harts.min(HART_LIMIT)));
+    for (number, edge) in edges {
+        if !add_edge(&mut log, *number, *edge) {
             return None;
         }
     }
@@ -44,7 +50,7 @@ fn leg_of(alloc: Global, harts: u8, play: &Play) -> Option<Leg> {
     let obeyed = play.obeyed?;
     Some(Leg {
         ends: Counts::from_slice(play.limits)?,
-        edges: edges_of(alloc, harts.min(8), obeyed.edges)?,
+        edges: edges_of(alloc, harts, obeyed.edges)?,
         inputs: inputs_of(alloc, obeyed.inputs)?,
     })
 }
@@ -81,15 +87,28 @@ pub fn next_book(alloc: Global, book: &Book<Recording>) -> Option<Book<Recording
     }
 }
 
-fn offer_once(book: &mut Book<Recording>, hart: Hart, count: Count, input: Input) -> bool {
-    hart.number() < book.machine().harts()
-        && !input.is_bell()
-        && book.offer(hart, count, input).is_ok()
+/// How many harts a book has.
+pub fn harts_of<M: Mode>(book: &Book<M>) -> u8
+    ensures { result ≡ length book.now.machine.harts }
+{
+    book.machine().harts()
+}
+
+fn offer_once(
+    book: &mut Book<Recording>,
+    hart: Hart,
+    count: Count,
+    input: &Input,
+) -> Result<(), Memory> {
+    if hart.number() >= harts_of(book) || input.is_bell() {
+        return Err(Memory);
+    }
+    book.offer(hart, count, *input)
 }
 
 /// Offers a hart an input, a second time where memory was refused.
-pub fn offer(book: &mut Book<Recording>, hart: Hart, count: Count, input: Input) -> bool {
-    offer_once(book, hart, count, input) || offer_once(book, hart, count, input)
+pub fn offer(book: &mut Book<Recording>, hart: Hart, count: Count, input: &Input) -> bool {
+    offer_once(book, hart, count, input).is_ok() || offer_once(book, hart, count, input).is_ok()
 }
 
 /// Raises the limits of a book of as many harts.
@@ -97,7 +116,7 @@ pub fn raise(book: &mut Book<Recording>, limits: &[Count]) -> bool {
     let Some(limits) = Counts::from_slice(limits) else {
         return false;
     };
-    if book.machine().harts() != limits.harts() {
+    if harts_of(book) != limits.harts() {
         return false;
     }
     book.limit_to(limits);
