@@ -3,6 +3,12 @@
 #![tactic(auto)]
 
 #[cfg(test)]
+mod begun;
+#[cfg(test)]
+mod chances;
+#[cfg(test)]
+mod gates;
+#[cfg(test)]
 mod guests;
 #[cfg(test)]
 mod heard;
@@ -11,8 +17,12 @@ mod lent;
 #[cfg(test)]
 mod plays;
 #[cfg(test)]
+mod primaries;
+#[cfg(test)]
 mod recorded;
 #[cfg(test)]
 mod rows;
+#[cfg(test)]
+mod runs;
 #[cfg(test)]
 mod starts;
