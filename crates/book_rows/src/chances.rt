@@ -1,6 +1,6 @@
 //! Records that fall by chance, and their replays in several orders.
 
-use crate::starts::{recording, replayer, same_machine};
+use crate::begun::{recording, replayer, same_machine};
 use edge_log::EdgeLog;
 use fixtures::{Crew, Dice, hart, image_of};
 use ft_types::{Count, Counts, Memory};

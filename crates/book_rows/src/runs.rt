@@ -1,6 +1,6 @@
 //! Leases that run beside leases that tick, on words that fall by chance.
 
-use crate::starts::{recording, same_machine, stands_at};
+use crate::begun::{recording, same_machine, stands_at};
 use fixtures::{Crew, Dice, hart};
 use ft_types::{Count, Memory};
 use page_book::{Book, Keep, Need, Recording};
@@ -28,16 +28,27 @@ static OPCODES: [u32; 16] = [
     0x03, 0x03, 0x03, 0x23, 0x23, 0x23, 0x13, 0x13, 0x33, 0x33, 0x63, 0x17, 0x67, 0x2f, 0x73, 0x0b,
 ];
 
+fn opcode(dice: &mut Dice) -> u32 {
+    OPCODES[usize::from(dice.roll() % 16)]
+}
+
+/// The bits of a word that fall by chance: of an operation fewer, so that more of them are there.
+fn fields(dice: &mut Dice, opcode: u32) -> u32 {
+    let bytes = [dice.roll(), dice.roll(), dice.roll(), dice.roll()];
+    let kept = if opcode == 0x33 {
+        0x03f0_7f80
+    } else {
+        0x7ff0_7f80
+    };
+    u32::from_le_bytes(bytes) & kept
+}
+
 /// A word of an instruction by chance, more often than not one that is there, whose address is in one of x0 to x3.
 fn word(dice: &mut Dice) -> u32 {
-    let opcode = OPCODES[usize::from(dice.roll() % 16)];
-    let random = u32::from_le_bytes([dice.roll(), dice.roll(), dice.roll(), dice.roll()]);
-    let kept = if opcode == 0x33 {
-        0x03ff_7f80
-    } else {
-        0x7fff_7f80
-    };
-    (random & kept & 0xfff0_7f80) | u32::from(dice.roll() % 4) << 15 | opcode
+    let opcode = opcode(dice);
+    let fields = fields(dice, opcode);
+    let address = u32::from(dice.roll() % 4) << 15;
+    fields | address | opcode
 }
 
 /// The line of a word.

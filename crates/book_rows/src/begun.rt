@@ -1,0 +1,61 @@
+//! Books that fall by chance begin so, and what is compared of them.
+
+use edge_log::EdgeLog;
+use fixtures::{Crew, image_of, recorder};
+use ft_types::{Count, Counts, Memory};
+use guest_image::{Image, Machine};
+use input_log::InputLog;
+use page_book::{Book, Leg, Mode, Recording, Replaying};
+use std::alloc::Global;
+use std::test::Fail;
+
+/// A crew over a book that records what a guest does up to these limits.
+pub fn recording(alloc: Global, file: &[u8], limits: &[Count]) -> Result<Crew<Recording>, Fail> {
+    Ok(Crew::new(recorder(alloc, &image_of(alloc, file)?, limits)?))
+}
+
+fn leg_of(ends: Counts, edges: &EdgeLog, inputs: &InputLog) -> Result<Leg, Memory> {
+    let edges = edges.copy()?;
+    let inputs = inputs.copy()?;
+    Ok(Leg {
+        ends,
+        edges,
+        inputs,
+    })
+}
+
+fn begin(
+    alloc: Global,
+    image: &Image,
+    ends: Counts,
+    edges: &EdgeLog,
+    inputs: &InputLog,
+) -> Option<Book<Replaying>> {
+    let start = Machine::boot(alloc, image).ok()?;
+    let leg = leg_of(ends, edges, inputs).ok()?;
+    Book::<Replaying>::begin(alloc, start, leg).ok()
+}
+
+/// A book that obeys these edges and gives these inputs, up to these counts.
+pub fn replayer(
+    alloc: Global,
+    image: &Image,
+    ends: Counts,
+    edges: &EdgeLog,
+    inputs: &InputLog,
+) -> Result<Book<Replaying>, Fail> {
+    match begin(alloc, image, ends, edges, inputs) {
+        Some(book) => Ok(book),
+        None => Ok(begin(alloc, image, ends, edges, inputs).ok_or("book")?),
+    }
+}
+
+/// Whether a book's harts have these counts, after so many stretches.
+pub fn stands_at<M: Mode>(book: &Book<M>, counts: &[Count], stretches: usize) -> bool {
+    book.counts().as_slice() == counts && book.journal().len() == stretches
+}
+
+/// Whether two books came to the same machine.
+pub fn same_machine<M: Mode, N: Mode>(one: &Book<M>, other: &Book<N>) -> bool {
+    one.machine().same(other.machine())
+}

@@ -1,0 +1,157 @@
+//! Primaries whose harts have limits of their own, at one go and by single steps.
+
+ghost use Rattle.std.specs.Prelude.{◌≡◌, ◌<◌, length, IfSome};
+ghost use Rattle.hart_steps.specs.Steps.{AreWithin};
+ghost use Rattle.primary_pool.specs.Running.{IsIdle};
+
+use crate::guests::ADDS;
+use crate::starts::harts_of;
+use fixtures::{HALTS, RING_EACH_OTHER, TWO_LOOPS, image_of};
+use ft_types::{Count, Counts, Hart};
+use guest_image::{Image, Machine};
+use hart_steps::take_step;
+use page_book::{Book, BookFault, Recording};
+use primary_pool::run_plain;
+use std::alloc::Global;
+use std::test::Fail;
+
+/// A book of the image's primary.
+fn begin(alloc: Global, image: &Image, limits: &[Count]) -> Option<Book<Recording>>
+    ensures { IfSome result (λ b. IsIdle b) }
+{
+    let limits = Counts::from_slice(limits)?;
+    let start = Machine::boot(alloc, image).ok()?;
+    if start.harts() != limits.harts() {
+        return None;
+    }
+    Book::<Recording>::begin(alloc, start, limits).ok()
+}
+
+fn ran(alloc: Global, image: &Image, limits: &[Count]) -> Option<Book<Recording>> {
+    run_plain(alloc, begin(alloc, image, limits)?).ok()
+}
+
+/// Whether a book has these counts after so many leases.
+fn stands_at(book: &Book<Recording>, counts: &[Count], leases: usize) -> bool {
+    book.counts().as_slice() == counts && book.journal().len() == leases
+}
+
+/// A guest, the limits of its harts, and what counts they come to by how many leases.
+type Run = (&'static [u8], &'static [Count], &'static [Count], usize);
+
+static RUNS: [Run; 6] = [
+    (HALTS, &[3], &[3], 1),
+    (TWO_LOOPS, &[5, 0], &[5, 0], 1),
+    (TWO_LOOPS, &[3000, 1024], &[3000, 1024], 4),
+    (RING_EACH_OTHER, &[100, 7], &[100, 7], 4),
+    // Two leases each: 1,024 steps, and what is left.
+    (ADDS, &[5000; 4], &[1805; 4], 8),
+    (ADDS, &[1500, 100, 2000, 1024], &[1500, 100, 1805, 1024], 6),
+];
+
+/// Whether a primary runs so. Where memory is refused it runs anew.
+fn runs_so(alloc: Global, (file, limits, counts, leases): Run) -> Result<bool, Fail> {
+    let image = image_of(alloc, file)?;
+    let book = match ran(alloc, &image, limits) {
+        Some(book) => book,
+        None => ran(alloc, &image, limits).ok_or("memory")?,
+    };
+    Ok(stands_at(&book, counts, leases))
+}
+
+#[test]
+fn each_hart_comes_to_its_limit(rt: HostRuntime) -> Result<(), Fail> {
+    for (number, run) in RUNS.iter().enumerate() {
+        assert!(rt; runs_so(rt.alloc(), *run)?, "run {number}");
+    }
+    Ok(())
+}
+
+/// What a step of the hart comes to. What memory is refused once is asked for once more.
+fn step(alloc: Global, book: &mut Book<Recording>, hart: Hart) -> Result<(), BookFault>
+    requires hart { hart < length book.old.machine.harts }
+    requires idle { IsIdle book.old }
+    requires within { AreWithin book.old }
+    ensures idle { IsIdle book.new }
+{
+    match take_step(alloc, book, hart) {
+        Err(BookFault::Memory) => take_step(alloc, book, hart),
+        told => told,
+    }
+}
+
+/// Steps of these harts, one after the other: how many tell what is said, 0 or the number of a fault.
+fn steps_of(alloc: Global, book: &mut Book<Recording>, steps: &[(u8, u8)]) -> usize
+    requires idle { IsIdle book.old }
+{
+    let mut right = 0usize;
+    for (number, told) in steps {
+        if *number >= harts_of(book) || !book.counts().within(book.limits()) {
+            return right;
+        }
+        let fault = match step(alloc, book, Hart::new(*number)) {
+            Ok(()) => 0,
+            Err(fault) => fault.number(),
+        };
+        if fault == *told {
+            right = right.saturating_add(1);
+        }
+    }
+    right
+}
+
+/// A guest, the limits of its harts, steps with what they tell, and what counts they come to by how many leases.
+type Steps = (
+    &'static [u8],
+    &'static [Count],
+    &'static [(u8, u8)],
+    &'static [Count],
+    usize,
+);
+
+static STEPS: [Steps; 3] = [
+    (
+        HALTS,
+        &[100],
+        &[(0, 0), (0, 0), (0, 0), (0, 0), (0, 2)],
+        &[4],
+        4,
+    ),
+    (
+        HALTS,
+        &[3],
+        &[(0, 0), (0, 0), (0, 0), (0, 4), (0, 4)],
+        &[3],
+        3,
+    ),
+    (
+        TWO_LOOPS,
+        &[2, 1],
+        &[(0, 0), (1, 0), (1, 4), (0, 0), (0, 4)],
+        &[2, 1],
+        3,
+    ),
+];
+
+/// Whether a primary's steps tell so, and leave its limits.
+fn steps_so(alloc: Global, (file, limits, steps, counts, leases): Steps) -> Result<bool, Fail> {
+    let image = image_of(alloc, file)?;
+    let mut book = match begin(alloc, &image, limits) {
+        Some(book) => book,
+        None => begin(alloc, &image, limits).ok_or("memory")?,
+    };
+    let right = steps_of(alloc, &mut book, steps);
+    Ok(
+        right == steps.len()
+            && stands_at(&book, counts, leases)
+            && book.limits().as_slice() == limits,
+    )
+}
+
+#[test]
+fn one_step_at_a_time(rt: HostRuntime) -> Result<(), Fail> {
+    for (number, steps) in STEPS.iter().enumerate() {
+        assert!(rt; steps_so(rt.alloc(), *steps)?, "steps {number}");
+    }
+    Ok(())
+}

@@ -1,0 +1,124 @@
+//! Books that plays begin with. What memory is refused once is asked for once more, so that a play says the same where one
+//! allocation fails.
+
+ghost use Rattle.std.specs.Prelude.{◌≡◌, length};
+
+use crate::rows::{Edge, Heard, Play};
+use edge_log::EdgeLog;
+use fixtures::{edge, hart, image_of, recorder};
+use ft_types::{Count, Counts, HART_LIMIT, Hart, Memory};
+use guest_image::{Image, Machine};
+use input_log::{Input, InputLog};
+use page_book::{Book, Leg, Mode, Recording, Replaying};
+use std::alloc::Global;
+use std::test::Fail;
+
+/// A book that records what a play's guest does.
+pub fn recorder_of(alloc: Global, play: &Play) -> Result<Book<Recording>, Fail> {
+    let image = image_of(alloc, play.file)?;
+    recorder(alloc, &image, play.limits)
+}
+
+fn add_edge(log: &mut EdgeLog, number: u8, (at, other, after): Edge) -> bool {
+    let edge = edge(number, at, other, after);
+    log.may_add(&edge) && log.add(edge).is_ok()
+}
+
+/// A log of these edges from a start at 0.
+fn edges_of(alloc: Global, harts: u8, edges: &[(u8, Edge)]) -> Option<EdgeLog> {
+    let mut log = EdgeLog::new(alloc, Counts::zero(harts.min(HART_LIMIT)));
+    for (number, edge) in edges {
+        if !add_edge(&mut log, *number, *edge) {
+            return None;
+        }
+    }
+    Some(log)
+}
+
+fn inputs_of(alloc: Global, inputs: &[(u8, Count, Heard)]) -> Option<InputLog> {
+    let mut log = InputLog::new(alloc);
+    for (number, count, heard) in inputs {
+        let hart = hart(*number);
+        if !log.may_add(hart, *count) || log.add(hart, *count, heard.input()).is_err() {
+            return None;
+        }
+    }
+    Some(log)
+}
+
+fn leg_of(alloc: Global, harts: u8, play: &Play) -> Option<Leg> {
+    let obeyed = play.obeyed?;
+    Some(Leg {
+        ends: Counts::from_slice(play.limits)?,
+        edges: edges_of(alloc, harts, obeyed.edges)?,
+        inputs: inputs_of(alloc, obeyed.inputs)?,
+    })
+}
+
+fn replayer_once(alloc: Global, image: &Image, play: &Play) -> Option<Book<Replaying>> {
+    let start = Machine::boot(alloc, image).ok()?;
+    let leg = leg_of(alloc, image.harts(), play)?;
+    Book::<Replaying>::begin(alloc, start, leg).ok()
+}
+
+/// A book that obeys what a play gives.
+pub fn replayer_of(alloc: Global, play: &Play) -> Result<Book<Replaying>, Fail> {
+    let image = image_of(alloc, play.file)?;
+    match replayer_once(alloc, &image, play) {
+        Some(book) => Ok(book),
+        None => Ok(replayer_once(alloc, &image, play).ok_or("book")?),
+    }
+}
+
+fn next_once(alloc: Global, machine: &Machine) -> Option<Book<Recording>> {
+    let start = machine.copy().ok()?;
+    let limits = Counts::from_slice([100; 8].get(..usize::from(start.harts()))?)?;
+    if start.harts() != limits.harts() {
+        return None;
+    }
+    Book::<Recording>::begin(alloc, start, limits).ok()
+}
+
+/// A book that begins where another one ended.
+pub fn next_book(alloc: Global, book: &Book<Recording>) -> Option<Book<Recording>> {
+    match next_once(alloc, book.machine()) {
+        Some(next) => Some(next),
+        None => next_once(alloc, book.machine()),
+    }
+}
+
+/// How many harts a book has.
+pub fn harts_of<M: Mode>(book: &Book<M>) -> u8
+    ensures { result ≡ length book.now.machine.harts }
+{
+    book.machine().harts()
+}
+
+fn offer_once(
+    book: &mut Book<Recording>,
+    hart: Hart,
+    count: Count,
+    input: &Input,
+) -> Result<(), Memory> {
+    if hart.number() >= harts_of(book) || input.is_bell() {
+        return Err(Memory);
+    }
+    book.offer(hart, count, *input)
+}
+
+/// Offers a hart an input, a second time where memory was refused.
+pub fn offer(book: &mut Book<Recording>, hart: Hart, count: Count, input: &Input) -> bool {
+    offer_once(book, hart, count, input).is_ok() || offer_once(book, hart, count, input).is_ok()
+}
+
+/// Raises the limits of a book of as many harts.
+pub fn raise(book: &mut Book<Recording>, limits: &[Count]) -> bool {
+    let Some(limits) = Counts::from_slice(limits) else {
+        return false;
+    };
+    if harts_of(book) != limits.harts() {
+        return false;
+    }
+    book.limit_to(limits);
+    true
+}

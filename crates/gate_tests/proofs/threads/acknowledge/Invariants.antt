@@ -1,5 +1,0 @@
-use Rattle.ack_core.specs.Seats.{IsKeeperOf}
-use Rattle.gate_tests.proofs.threads.acknowledge.Given as goal
-
-abbrev pub invariant-loop-round : goal.invariant-loop-round
-invariant-loop-round l = IsKeeperOf l.board l.seat

@@ -1,6 +1,0 @@
-use Rattle.std.proofs.Common.{◌≡◌, length}
-use Rattle.ack_core.specs.Seats.{IsGateOf}
-use Rattle.gate_tests.proofs.threads.watch.Given as goal
-
-abbrev pub invariant-loop-round : goal.invariant-loop-round
-invariant-loop-round l = IsGateOf l.board l.gate × (length l.last ≡ 2)
