@@ -149,13 +149,13 @@ fn one_output(alloc: Global) -> Result<Gate, Memory>
 }
 
 /// Notes these counts of the first hart, one of each keeper.
-fn note_all(gate: &mut Gate, counts: [u64; 3])
+fn note_all(gate: &mut Gate, first: u64, second: u64, third: u64)
     requires { gate.old.keepers ≡ 3 }
     ensures { gate.new.keepers ≡ 3 }
 {
-    gate.note(Keeper::new(0), Hart::new(0), counts[0]);
-    gate.note(Keeper::new(1), Hart::new(0), counts[1]);
-    gate.note(Keeper::new(2), Hart::new(0), counts[2]);
+    gate.note(Keeper::new(0), Hart::new(0), first);
+    gate.note(Keeper::new(1), Hart::new(0), second);
+    gate.note(Keeper::new(2), Hart::new(0), third);
 }
 
 /// Whether a release gives this, and keeps so many.
@@ -187,9 +187,9 @@ fn counted(gate: &Gate, step: u64) -> (u8, usize) {
 /// What came of each release, before the second keeper to hold the output and after it, and who is counted.
 fn two_of_three(alloc: Global) -> Result<([bool; 3], (u8, usize)), Memory> {
     let mut gate = one_output(alloc)?;
-    note_all(&mut gate, [10, 9, 9]);
+    note_all(&mut gate, 10, 9, 9);
     let none = releases(alloc, &mut gate, &[], 1)?;
-    note_all(&mut gate, [10, 9, 12]);
+    note_all(&mut gate, 10, 9, 12);
     let given = releases(alloc, &mut gate, &[(0, 0, 9)], 0)?;
     let again = releases(alloc, &mut gate, &[], 0)?;
     Ok(([none, given, again], counted(&gate, 9)))

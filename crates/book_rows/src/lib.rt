@@ -15,6 +15,8 @@ mod heard;
 #[cfg(test)]
 mod lent;
 #[cfg(test)]
+mod live;
+#[cfg(test)]
 mod plays;
 #[cfg(test)]
 mod primaries;

@@ -1,0 +1,362 @@
+//! Going live from stores that were worked out by hand.
+
+ghost use Rattle.std.specs.Prelude.{◌<◌, ◌≤◌};
+
+use crate::guests::BOTH_COUNT_ALOUD;
+use crate::rows::Edge;
+use fixtures::{HALTS, TWO_LOOPS, edge, hart, image_of, key, opening_of, piece_of};
+use fragment_codec::{Frame, Record};
+use ft_types::{Count, Counts, Guest, Keeper, Memory, Term};
+use go_live::{Live, LiveFault, go_live, live_histories};
+use guest_image::Image;
+use hart_replay::ReplayFault;
+use log_join::Store;
+use page_book::{BookFault, books_tell_on};
+use std::alloc::Global;
+use std::test::Fail;
+
+/// A frame that came to a keeper.
+#[derive(Clone, Copy)]
+enum Part {
+    /// The opening of a term: its parent and its base.
+    Opens(Term, Term, &'static [Count]),
+    /// What a hart did in term 1 up to a count, with an edge, where there is one.
+    Did(u8, Count, Option<Edge>),
+}
+
+/// A keeper, the file of its store's guest, and what came to it.
+type Kept = (u8, &'static [u8], &'static [Part]);
+
+/// What comes of it: the parent, the base, and how many outputs are offered again; or a fault.
+#[derive(Clone, Copy)]
+enum Comes {
+    Lives(Term, &'static [Count], usize),
+    TooFew,
+    NotNew,
+    OtherGuest,
+    /// No hart can go on from these counts.
+    Cyclic(&'static [Count]),
+    /// A hart halted with a count before its end.
+    Halted(u8, Count),
+}
+
+/// A row: what it shows, the file of the image, how many keepers there are and how many must hold an output, the term, and the
+/// stores at hand, of which the first so many are asked.
+type Row = (
+    &'static str,
+    &'static [u8],
+    [u8; 2],
+    Term,
+    [Kept; 2],
+    usize,
+    Comes,
+);
+
+/// The opening of term 1 from boot came to the first of two keepers. To the second one came the opening of term 2, which goes on
+/// from 20 and 20, and each hart's piece of term 1: hart 0 to 18, and hart 1 to 20.
+const FIRST: Kept = (1, TWO_LOOPS, &[Part::Opens(1, 0, &[0, 0])]);
+
+const SECOND: Kept = (
+    3,
+    TWO_LOOPS,
+    &[
+        Part::Opens(2, 1, &[20, 20]),
+        Part::Did(0, 18, None),
+        Part::Did(1, 20, None),
+    ],
+);
+/// The same, but that the second hart's last step waits for one that nobody holds.
+const WAITS: Kept = (
+    3,
+    TWO_LOOPS,
+    &[
+        Part::Opens(2, 1, &[20, 20]),
+        Part::Did(0, 18, None),
+        Part::Did(1, 20, Some((19, 0, 19))),
+    ],
+);
+/// Nothing came.
+const NOTHING: Kept = (0, TWO_LOOPS, &[]);
+
+const FOREIGN: Kept = (3, HALTS, &[]);
+/// Each hart waits for the other.
+const STUCK: Kept = (
+    0,
+    TWO_LOOPS,
+    &[
+        Part::Opens(1, 0, &[0, 0]),
+        Part::Did(0, 5, Some((2, 1, 3))),
+        Part::Did(1, 5, Some((1, 0, 4))),
+    ],
+);
+/// One step more than there are.
+const TOO_FAR: Kept = (0, HALTS, &[Part::Opens(1, 0, &[0]), Part::Did(0, 5, None)]);
+/// Each of two keepers has the piece of one hart that counts aloud.
+const ONE: Kept = (
+    4,
+    BOTH_COUNT_ALOUD,
+    &[Part::Opens(1, 0, &[0, 0]), Part::Did(0, 6, None)],
+);
+
+const OTHER: Kept = (
+    2,
+    BOTH_COUNT_ALOUD,
+    &[Part::Opens(1, 0, &[0, 0]), Part::Did(1, 9, None)],
+);
+
+static ROWS: [Row; 12] = [
+    (
+        "joined stores end",
+        TWO_LOOPS,
+        [4, 3],
+        3,
+        [FIRST, SECOND],
+        2,
+        Comes::Lives(1, &[18, 20], 0),
+    ),
+    (
+        "a step waits",
+        TWO_LOOPS,
+        [4, 3],
+        3,
+        [FIRST, WAITS],
+        2,
+        Comes::Lives(1, &[18, 19], 0),
+    ),
+    (
+        "from boot",
+        TWO_LOOPS,
+        [3, 3],
+        1,
+        [NOTHING, NOTHING],
+        1,
+        Comes::Lives(0, &[0, 0], 0),
+    ),
+    (
+        "outputs of both",
+        BOTH_COUNT_ALOUD,
+        [5, 4],
+        7,
+        [ONE, OTHER],
+        2,
+        Comes::Lives(1, &[6, 9], 5),
+    ),
+    (
+        "a term that is there",
+        TWO_LOOPS,
+        [4, 3],
+        2,
+        [FIRST, SECOND],
+        2,
+        Comes::NotNew,
+    ),
+    (
+        "no term",
+        TWO_LOOPS,
+        [4, 3],
+        0,
+        [FIRST, SECOND],
+        2,
+        Comes::NotNew,
+    ),
+    (
+        "one keeper twice",
+        TWO_LOOPS,
+        [4, 3],
+        3,
+        [SECOND, SECOND],
+        2,
+        Comes::TooFew,
+    ),
+    (
+        "too few before an old term",
+        TWO_LOOPS,
+        [4, 3],
+        2,
+        [SECOND, SECOND],
+        2,
+        Comes::TooFew,
+    ),
+    (
+        "an old term before another guest",
+        TWO_LOOPS,
+        [4, 3],
+        2,
+        [WAITS, (1, HALTS, &[])],
+        2,
+        Comes::NotNew,
+    ),
+    (
+        "another guest",
+        TWO_LOOPS,
+        [4, 3],
+        3,
+        [FIRST, FOREIGN],
+        2,
+        Comes::OtherGuest,
+    ),
+    (
+        "harts that wait for each other",
+        TWO_LOOPS,
+        [1, 1],
+        2,
+        [STUCK, NOTHING],
+        1,
+        Comes::Cyclic(&[2, 1]),
+    ),
+    (
+        "a hart that halted",
+        HALTS,
+        [1, 1],
+        2,
+        [TOO_FAR, NOTHING],
+        1,
+        Comes::Halted(0, 4),
+    ),
+];
+
+fn record_of(number: u8, (at, other, after): Edge) -> Record {
+    Record::Edge(edge(number, at, other, after))
+}
+
+/// What a hart did in term 1 up to a count, where its step at a count waits for the other hart.
+fn waiting_piece(
+    alloc: Global,
+    guest: Guest,
+    number: u8,
+    to: Count,
+    edge: Edge,
+) -> Result<Frame, Fail> {
+    let waits = record_of(number, edge);
+    piece_of(alloc, guest, key(1, number, 0), 0, to, &[waits])
+}
+
+fn frame_of(alloc: Global, guest: Guest, part: &Part) -> Result<Frame, Fail> {
+    match *part {
+        Part::Opens(term, parent, base) => opening_of(guest, term, parent, base),
+        Part::Did(number, to, None) => piece_of(alloc, guest, key(1, number, 0), 0, to, &[]),
+        Part::Did(number, to, Some(edge)) => waiting_piece(alloc, guest, number, to, edge),
+    }
+}
+
+/// A keeper's store. What memory is refused once is put once more.
+fn store_of(alloc: Global, (_, file, parts): Kept) -> Result<Store, Fail> {
+    let guest = image_of(alloc, file)?.guest();
+    let mut store = Store::new(alloc, guest);
+    for part in parts {
+        if store.put(frame_of(alloc, guest, part)?).is_err() {
+            let _put = store.put(frame_of(alloc, guest, part)?)?;
+        }
+    }
+    Ok(store)
+}
+
+/// What comes of going live, which is asked for once more where memory was refused.
+fn granted(
+    alloc: Global,
+    image: &Image,
+    stores: &[(Keeper, &Store)],
+    keepers: u8,
+    need: u8,
+    term: Term,
+) -> Result<Live, LiveFault>
+    requires { (0 < need) × (need ≤ keepers) × (keepers ≤ 5) }
+{
+    match go_live(alloc, image, stores, keepers, need, term) {
+        Err(LiveFault::Memory) => go_live(alloc, image, stores, keepers, need, term),
+        answer => answer,
+    }
+}
+
+/// Whether nothing is recorded in a primary's book, and no hart may go on from these counts.
+fn is_unused(live: &Live, counts: &[Count]) -> bool {
+    let book = &live.book;
+    book.counts().as_slice() == counts
+        && book.limits().as_slice() == counts
+        && book.journal().is_empty()
+}
+
+/// Whether a primary goes on from these counts of a term.
+fn lives(live: &Live, term: Term, parent: Term, base: &[Count], outputs: usize) -> bool {
+    let opening = &live.opening;
+    opening.term() == term
+        && opening.parent() == parent
+        && opening.base().as_slice() == base
+        && live.outputs.len() == outputs
+        && is_unused(live, base)
+}
+
+/// The fault that is to come.
+fn fault_of(comes: Comes) -> Option<LiveFault> {
+    match comes {
+        Comes::Lives(_, _, _) => None,
+        Comes::TooFew => Some(LiveFault::TooFewStores),
+        Comes::NotNew => Some(LiveFault::TermNotNew),
+        Comes::OtherGuest => Some(LiveFault::Replay(ReplayFault::OtherGuest)),
+        Comes::Cyclic(counts) => {
+            let counts = Counts::from_slice(counts)?;
+            Some(LiveFault::Replay(ReplayFault::Cyclic(counts)))
+        }
+        Comes::Halted(number, count) => {
+            let fault = ReplayFault::HaltedInside(hart(number), count);
+            Some(LiveFault::Replay(fault))
+        }
+    }
+}
+
+/// Whether that comes which is to come.
+fn is_so(answer: &Result<Live, LiveFault>, term: Term, comes: Comes) -> bool {
+    match (answer, comes) {
+        (Ok(live), Comes::Lives(parent, base, outputs)) => lives(live, term, parent, base, outputs),
+        (Ok(_), _) => false,
+        (Err(fault), _) => fault_of(comes) == Some(*fault),
+    }
+}
+
+/// Whether a row is as it says.
+fn holds(
+    alloc: Global,
+    (_, file, [keepers, need], term, kept, asked, comes): Row,
+) -> Result<bool, Fail> {
+    if need == 0 || need > keepers || keepers > 5 {
+        return Err("a quorum".into());
+    }
+    let image = image_of(alloc, file)?;
+    let [one, other] = kept;
+    let (first, second) = (store_of(alloc, one)?, store_of(alloc, other)?);
+    let stores = [
+        (Keeper::new(one.0 % 5), &first),
+        (Keeper::new(other.0 % 5), &second),
+    ];
+    let stores = stores.as_slice().get(..asked).ok_or("stores")?;
+    let answer = granted(alloc, &image, stores, keepers, need, term);
+    Ok(is_so(&answer, term, comes))
+}
+
+#[test]
+fn a_primary_goes_live(rt: HostRuntime) -> Result<(), Fail> {
+    for row in ROWS {
+        assert!(rt; holds(rt.alloc(), row)?, "{}", row.0);
+    }
+    Ok(())
+}
+
+#[test]
+fn faults_by_number(rt: HostRuntime) {
+    for (fault, number) in [
+        (LiveFault::TooFewStores, 1),
+        (LiveFault::TermNotNew, 2),
+        (LiveFault::from(ReplayFault::OtherGuest), 3),
+        (LiveFault::from(ReplayFault::Memory), 4),
+        (LiveFault::from(Memory), 4),
+    ] {
+        assert_eq!(rt; fault.number(), number);
+    }
+    assert_eq!(rt; BookFault::Memory.number(), 6);
+}
+
+#[test]
+fn the_laws_hold() {
+    live_histories();
+    books_tell_on();
+}
