@@ -1,11 +1,14 @@
-//! Primaries and replays to which memory is refused once. What is seen by hand, where each allocation is refused in turn, is that who
-//! is asked again comes to the machine that ran.
+//! A replay that refuses another guest's plan; and primaries and replays to which memory is refused once. What is seen by hand, where
+//! each allocation is refused in turn, is that who is asked again comes to the machine that ran.
 
-use crate::runs::{in_turn, leads, on_threads};
-use fixtures::image_of;
-use ft_types::{Hart, HartSet, Memory};
+use crate::runs::{in_turn, leads, on_threads, planned};
+use fixtures::{BOTH_STORE, TWO_LOOPS, image_of};
+use ft_types::{Guest, Hart, HartSet, Memory};
 use guest_image::{Image, Machine};
+use hart_replay::ReplayFault;
+use log_join::Store;
 use primary_pool::Free;
+use replay_pool::replay;
 use std::alloc::Global;
 use std::sync::Wait;
 use std::test::Fail;
@@ -54,5 +57,32 @@ fn refused_memory(rt: HostRuntime) -> Result<(), Fail> {
         };
         assert!(rt; replayed, "threads: {have_threads}");
     }
+    Ok(())
+}
+
+/// The number of the fault with which a replay on threads refuses a plan of this guest, or 0.
+fn fault_of<R: Threads + Wait + Sync>(
+    rt: &R,
+    alloc: Global,
+    image: &Image,
+    other: Guest,
+) -> Result<u8, Memory> {
+    let plan = planned(alloc, &Store::new(alloc, other))?;
+    match replay(rt, alloc, image, &plan, &Free) {
+        Ok(_) => Ok(0),
+        Err(ReplayFault::Memory) => Err(Memory),
+        Err(fault) => Ok(fault.number()),
+    }
+}
+
+#[test]
+fn another_guest_is_not_replayed(rt: HostRuntime) -> Result<(), Fail> {
+    let image = image_of(rt.alloc(), TWO_LOOPS)?;
+    let other = image_of(rt.alloc(), BOTH_STORE)?.guest();
+    let fault = match fault_of(&rt, rt.alloc(), &image, other) {
+        Ok(fault) => fault,
+        Err(Memory) => fault_of(&rt, rt.alloc(), &image, other)?,
+    };
+    assert_eq!(rt; fault, ReplayFault::OtherGuest.number());
     Ok(())
 }
