@@ -89,6 +89,7 @@ module _ {Book Fact : Type 0} (recorder : Recorder Book Fact) (guest : GuestPart
               key = let some : 1 ≤ guest.harts = rules.some in record { hart = omega arith; granted = omega arith; term = omega arith; place = omega arith };
               some = omega arith;
               end = omega arith;
+              short = λ more. omega arith;
               records = record { limit = omega arith; each = tt; order = tt; inputs = λ count. omega arith };
             };
         same_guest = refl;

@@ -6,3 +6,4 @@ pub mod Faults
 pub mod AtFault
 pub mod Decided
 pub mod HasReading
+pub mod Splits

@@ -1,10 +1,10 @@
 -- Records on their way into pieces: private words.
-use Rattle.std.specs.Prelude.{◌≡◌, ◌≢◌, ℕ, ◌≤◌, ◌<◌, ◌^◌, List, ◌∷◌, ◌++◌, length, map, take, drop, slice_get, count_by, Option, Some, None, All}
+use Rattle.std.specs.Prelude.{◌≡◌, ◌≢◌, ℕ, ◌+◌, ◌-◌, ◌≤◌, ◌<◌, ◌^◌, min, List, ◌∷◌, ◌++◌, length, map, take, drop, slice_get, count_by, Option, Some, None, All}
 use Rattle.std.specs.List.{AllByRecursion}
 use Rattle.edge_log.specs.declared.Edge.{Edge as OwnedEdge}
 use Rattle.input_log.specs.declared.Input.{Input as HartInput}
 use Rattle.ft_types.specs.declared.names.TheConstants.{COUNT_LIMIT, HART_ROW, INPUT_LIMIT}
-use Rattle.fragment_codec.specs.declared.types.TheConstants.{RECORD_LIMIT}
+use Rattle.fragment_codec.specs.declared.types.TheConstants.{RECORD_LIMIT, SPAN_LIMIT}
 use Rattle.fragment_codec.specs.declared.types.Record.{Record}
 use Rattle.fragment_codec.specs.declared.types.Record.TheVariants.{Edge as EdgeRecord, Input as InputRecord}
 use Rattle.fragment_codec.specs.declared.frame.Frame.{Frame}
@@ -34,8 +34,8 @@ abbrev pub end_at : Option Record → ℕ → ℕ
 end_at None settled = settled
 end_at (Some fact) settled = count_of fact
 
-abbrev pub end_of : List Record → ℕ → ℕ
-end_of records settled = end_at (slice_get records RECORD_LIMIT) settled
+abbrev pub end_of : List Record → ℕ → ℕ → ℕ
+end_of records from settled = min (end_at (slice_get records RECORD_LIMIT) settled) (from + (SPAN_LIMIT - 1))
 
 -- the records, as a hart's log
 abbrev pub log_of_records : Origin → List Record → HartLog

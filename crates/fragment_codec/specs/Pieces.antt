@@ -1,5 +1,5 @@
 -- How the logs of a guest's harts are cut into pieces.
-use Rattle.std.specs.Prelude.{◌≡◌, ℕ, ◌+◌, ◌<◌, ◌^◌, Bool, ◌&&◌, ◌==◌, nat_le, nat_lt, List, [], ◌∷◌, ◌++◌, length, map, filter, slice_index, slice_index_or}
+use Rattle.std.specs.Prelude.{◌≡◌, ℕ, ◌+◌, ◌-◌, ◌<◌, ◌^◌, Bool, ◌&&◌, ◌==◌, nat_le, nat_lt, List, [], ◌∷◌, ◌++◌, length, map, filter, slice_index, slice_index_or}
 use Rattle.std.specs.Prelude.{All, Option, Some, None, ◌⊎◌}
 use Rattle.std.specs.List.{filter_map, flat_map}
 use Rattle.ft_types.specs.Counts.{count_at}
@@ -10,7 +10,7 @@ use Rattle.input_log.specs.declared.Input.{Input as HartInput}
 use Rattle.input_log.specs.Inputs.{inputs_of}
 use Rattle.page_book.specs.Books.{BookView}
 use Rattle.page_book.specs.Words.{counts_of, RecordingView}
-use Rattle.fragment_codec.specs.declared.types.TheConstants.{RECORD_LIMIT}
+use Rattle.fragment_codec.specs.declared.types.TheConstants.{RECORD_LIMIT, SPAN_LIMIT}
 use Rattle.fragment_codec.specs.declared.types.Record.{Record}
 use Rattle.fragment_codec.specs.declared.types.Record.TheVariants.{Edge as EdgeRecord, Input as InputRecord}
 use Rattle.fragment_codec.specs.declared.frame.Frame.{Frame}
@@ -73,15 +73,21 @@ pub record Mark : Type 0 where
   pub place : ℕ
   pub count : ℕ
 
+-- with one count more there were more records, or more counts, than a piece may have
+abbrev pub IsFull : Facts → ℕ → ℕ → Type 0
+IsFull facts from to = (RECORD_LIMIT < number_of (facts_between from (to + 1) facts)) ⊎ (to + 1 - from ≡ SPAN_LIMIT)
+
 -- The piece of the log that begins at the mark: its records, in the order that fragments have, are exactly the log's facts
--- between its counts, and it goes to the settled count, or so far that with one count more it would have more records than a piece may have.
+-- between its counts, and it goes to the settled count, or so far that with one count more it would have more records or more counts than a
+-- piece may have.
 pub record IsPiece (log : HartLog) (mark : Mark) (piece : FragmentParts) : Type 0 where
   pub rules : IsFragment piece
   pub same_guest : piece.guest ≡ log.guest
   pub key : piece.key ≡ record { term = log.term; hart = log.hart; place = mark.place }
   pub begins : piece.from ≡ mark.count
   pub exact : told_by piece.records ≡ facts_between piece.from piece.to log.facts
-  pub far : (piece.to ≡ log.settled) ⊎ ((piece.to < log.settled) × (RECORD_LIMIT < number_of (facts_between piece.from (piece.to + 1) log.facts)))
+  pub short : piece.to - piece.from < SPAN_LIMIT
+  pub far : (piece.to ≡ log.settled) ⊎ ((piece.to < log.settled) × IsFull log.facts piece.from piece.to)
 
 -- where the piece behind this one begins
 abbrev pub mark_behind : FragmentParts → Mark

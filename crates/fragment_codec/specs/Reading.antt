@@ -1,8 +1,10 @@
 -- Reading a body from left to right: private words, which the laws in proofs/ tie to the spelling.
-use Rattle.std.specs.Prelude.{◌≡◌, ℕ, zero, suc, List, [], ◌∷◌, length, take, drop, Option, Some, None, Result, Ok, Err, nat_lt, ◌==◌, if◌then◌else◌}
+use Rattle.std.specs.Prelude.{◌≡◌, ℕ, zero, suc, ◌+◌, ◌-◌, ◌^◌, Bool, ◌||◌, ◌&&◌, List, [], ◌∷◌, length, take, drop, Option, Some, None, Result, Ok, Err, nat_lt, ◌==◌}
+use Rattle.std.specs.Prelude.{if◌then◌else◌}
 use Rattle.std.specs.Int.{Width, w16, w32, w64, byte_len, from_le_bytes}
 use Rattle.ft_types.specs.declared.names.TheConstants.{HART_LIMIT}
 use Rattle.ft_types.specs.Guests.{GuestParts}
+use Rattle.fragment_codec.specs.declared.types.TheConstants.{FIRST_VERSION, FIRST_HARTS, SPAN_LIMIT}
 use Rattle.fragment_codec.specs.declared.types.Key.{Key}
 use Rattle.input_log.specs.declared.Input.{Input as HartInput}
 use Rattle.input_log.specs.declared.Input.TheVariants.{Timer, Word, Bell}
@@ -55,25 +57,31 @@ input_of kind value =
     else if kind == 2 then (if nat_lt value HART_LIMIT then Some (Bell value) else None)
     else None
 
-unfoldable pub edge_at : ℕ → List ℕ → Option (Record × List ℕ)
-edge_at hart bytes = do
-  at ← number_at w64 bytes
+-- where a record stands: a count, or how far it is from the fragment's first count, which makes a number of 64 bits
+unfoldable pub stand_at : ℕ → ℕ → List ℕ → Option (ℕ × List ℕ)
+stand_at version from bytes =
+    if version == FIRST_VERSION then number_at w64 bytes
+    else (number_at w32 bytes >>= λ x. if nat_lt (from + x.0) (2 ^ 64) then Some (from + x.0, x.1) else None)
+
+unfoldable pub edge_at : ℕ → ℕ → ℕ → List ℕ → Option (Record × List ℕ)
+edge_at version from hart bytes = do
+  at ← stand_at version from bytes
   other ← byte_at at.1
   after ← number_at w64 other.1
   if nat_lt other.0 HART_LIMIT then Some (EdgeRecord (record { hart = hart; at = at.0; other = other.0; after = after.0 }), after.1) else None
 
-unfoldable pub heard_at : List ℕ → Option (Record × List ℕ)
-heard_at bytes = do
-  at ← number_at w64 bytes
+unfoldable pub heard_at : ℕ → ℕ → List ℕ → Option (Record × List ℕ)
+heard_at version from bytes = do
+  at ← stand_at version from bytes
   kind ← byte_at at.1
   value ← number_at w32 kind.1
   input ← input_of kind.0 value.0
   Some (InputRecord at.0 input, value.1)
 
-unfoldable pub record_at : ℕ → List ℕ → Option (Record × List ℕ)
-record_at hart bytes = do
+unfoldable pub record_at : ℕ → ℕ → ℕ → List ℕ → Option (Record × List ℕ)
+record_at version from hart bytes = do
   kind ← byte_at bytes
-  if kind.0 == 1 then edge_at hart kind.1 else if kind.0 == 2 then heard_at kind.1 else None
+  if kind.0 == 1 then edge_at version from hart kind.1 else if kind.0 == 2 then heard_at version from kind.1 else None
 
 -- so many of one kind, one after the other
 unfoldable pub many : {X : Type 0} → (List ℕ → Option (X × List ℕ)) → ℕ → List ℕ → Option (List X × List ℕ)
@@ -83,46 +91,56 @@ many item (suc n) bytes = do
   others ← many item n first.1
   Some (first.0 ∷ others.0, others.1)
 
--- the guest that a body begins with, which has as many harts as a guest may have
-unfoldable pub guest_at : List ℕ → Option (GuestParts × List ℕ)
-guest_at bytes = do
+-- how many harts a version tells of at the most
+abbrev pub harts_limit : ℕ → ℕ
+harts_limit version = if version == FIRST_VERSION then FIRST_HARTS else HART_LIMIT
+
+-- a version tells of so many counts in one fragment
+abbrev pub is_span : ℕ → ℕ → ℕ → Bool
+is_span version from to = (version == FIRST_VERSION) || nat_lt (to - from) SPAN_LIMIT
+
+-- the guest that a body begins with, which has as many harts as the version tells of
+unfoldable pub guest_at : ℕ → List ℕ → Option (GuestParts × List ℕ)
+guest_at version bytes = do
   digest ← digest_at bytes
   harts ← byte_at digest.1
-  if nat_lt harts.0 1 then None else if nat_lt HART_LIMIT harts.0 then None else Some (record { digest = digest.0; harts = harts.0 }, harts.1)
+  if nat_lt harts.0 1 then None else if nat_lt (harts_limit version) harts.0 then None else Some (record { digest = digest.0; harts = harts.0 }, harts.1)
 
 -- the guest and the key that a log body begins with
-unfoldable pub place_at : List ℕ → Option (GuestParts × Key × List ℕ)
-place_at bytes = do
-  guest ← guest_at bytes
+unfoldable pub place_at : ℕ → List ℕ → Option (GuestParts × Key × List ℕ)
+place_at version bytes = do
+  guest ← guest_at version bytes
   hart ← byte_at guest.1
   term ← number_at w32 hart.1
   place ← number_at w32 term.1
   if nat_lt hart.0 HART_LIMIT then Some (guest.0, record { term = term.0; hart = hart.0; place = place.0 }, place.1) else None
 
 -- what stands behind them
-unfoldable pub rest_of : GuestParts → Key → List ℕ → Option FragmentParts
-rest_of guest key bytes = do
+unfoldable pub rest_of : ℕ → GuestParts → Key → List ℕ → Option FragmentParts
+rest_of version guest key bytes = do
   from ← number_at w64 bytes
   to ← number_at w64 from.1
   count ← number_at w16 to.1
-  records ← many (record_at key.hart) count.0 count.1
-  if length records.1 == 0 then Some (record { guest = guest; key = key; from = from.0; to = to.0; records = records.0 }) else None
+  records ← many (record_at version from.0 key.hart) count.0 count.1
+  if is_span version from.0 to.0 && length records.1 == 0
+      then Some (record { guest = guest; key = key; from = from.0; to = to.0; records = records.0 })
+      else None
 
 -- the whole of a log body
-unfoldable pub log_of : List ℕ → Option FragmentParts
-log_of bytes = do
-  place ← place_at bytes
-  rest_of place.0 place.1 place.2
+unfoldable pub log_of : ℕ → List ℕ → Option FragmentParts
+log_of version bytes = do
+  place ← place_at version bytes
+  rest_of version place.0 place.1 place.2
 
 -- the whole of an opening body
-unfoldable pub opening_of : List ℕ → Option OpeningParts
-opening_of bytes = do
-  guest ← guest_at bytes
+unfoldable pub opening_of : ℕ → List ℕ → Option OpeningParts
+opening_of version bytes = do
+  guest ← guest_at version bytes
   term ← number_at w32 guest.1
   parent ← number_at w32 term.1
   base ← many (number_at w64) guest.0.harts parent.1
   if length base.1 == 0 then Some (record { guest = guest.0; term = term.0; parent = parent.0; base = base.0 }) else None
 
--- the whole of a body of this kind
-unfoldable pub frame_of : ℕ → List ℕ → Option Frame
-frame_of kind body = if kind == 1 then (log_of body >>= λ f. Some (Log f)) else (opening_of body >>= λ o. Some (Opening o))
+-- the whole of a body of this version and kind
+unfoldable pub frame_of : ℕ → ℕ → List ℕ → Option Frame
+frame_of version kind body = if kind == 1 then (log_of version body >>= λ f. Some (Log f)) else (opening_of version body >>= λ o. Some (Opening o))

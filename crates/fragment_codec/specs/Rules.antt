@@ -1,11 +1,11 @@
 -- What a fragment and an opening are: the rules of frames.
-use Rattle.std.specs.Prelude.{◌≡◌, ◌≢◌, ℕ, ◌<◌, ◌≤◌, ◌^◌, Bool, false, ◌==◌, List, [], ◌∷◌, length, slice_index, All, count_by, ◌⊎◌}
+use Rattle.std.specs.Prelude.{◌≡◌, ◌≢◌, ℕ, ◌<◌, ◌≤◌, ◌-◌, ◌^◌, Bool, false, ◌==◌, List, [], ◌∷◌, length, slice_index, All, count_by, ◌⊎◌}
 use Rattle.std.specs.List.{AllByRecursion}
 use Rattle.ft_types.specs.Counts.{IsCount}
 use Rattle.ft_types.specs.Guests.{GuestParts, IsGuest}
 use Rattle.input_log.specs.Inputs.{IsInputOf}
 use Rattle.ft_types.specs.declared.names.TheConstants.{INPUT_LIMIT}
-use Rattle.fragment_codec.specs.declared.types.TheConstants.{RECORD_LIMIT}
+use Rattle.fragment_codec.specs.declared.types.TheConstants.{RECORD_LIMIT, FIRST_HARTS, SPAN_LIMIT}
 use Rattle.fragment_codec.specs.declared.types.Key.{Key}
 use Rattle.fragment_codec.specs.declared.types.Record.{Record}
 use Rattle.fragment_codec.specs.declared.types.Record.TheVariants.{Edge as EdgeRecord, Input as InputRecord}
@@ -69,12 +69,14 @@ pub record FragmentParts : Type 0 where
   pub to : ℕ
   pub records : List Record
 
--- what happened to a hart of the guest from one count to a later one
+-- What happened to a hart of the guest from one count to a later one. Where the guest has more harts than the first version tells of,
+-- the fragment is so short that the second one tells of it.
 pub record IsFragment (f : FragmentParts) : Type 0 where
   pub guest : IsGuest f.guest
   pub key : IsKey f.guest.harts f.key
   pub some : f.from < f.to
   pub end : IsCount f.to
+  pub short : FIRST_HARTS < f.guest.harts → f.to - f.from < SPAN_LIMIT
   pub records : AreRecords f.guest.harts f.key.hart f.from f.to f.records
 
 pub record OpeningParts : Type 0 where

@@ -10,9 +10,9 @@ ghost use Rattle.fragment_codec.specs.Cutting.{MayCut, CutsHart, end_of, log_of_
 use crate::frame::{Fragment, Frame, count};
 use crate::merging::records_between;
 use crate::sealed::Sealed;
-use crate::types::{Key, RECORD_LIMIT, Record};
+use crate::types::{Key, RECORD_LIMIT, Record, SPAN_LIMIT};
 use edge_log::EdgeLog;
-use ft_types::{Count, Counts, Guest, Hart, Memory, Term};
+use ft_types::{COUNT_LIMIT, Count, Counts, Guest, Hart, Memory, Term};
 use input_log::InputLog;
 use page_book::{Book, Recording};
 use std::alloc::Global;
@@ -26,14 +26,17 @@ struct Origin {
     settled: Count,
 }
 
-/// Where the piece ends that begins with these records: at the first one that it has no room for.
-fn end_of_piece(records: &[Record], settled: Count) -> Count
-    ensures { result ≡ end_of records.now settled }
+/// Where the piece ends that begins at a count with these records: at the first one that it has no room for, and behind as many
+/// counts as a fragment tells of.
+fn end_of_piece(records: &[Record], from: Count, settled: Count) -> Count
+    requires { from < COUNT_LIMIT }
+    ensures { result ≡ end_of records.now from settled }
 {
-    match records.get(RECORD_LIMIT) {
+    let end = match records.get(RECORD_LIMIT) {
         Some(record) => count(record),
         None => settled,
-    }
+    };
+    end.min(from + (SPAN_LIMIT - 1))
 }
 
 /// The records below a count, and the others.
@@ -96,7 +99,7 @@ fn cut_hart(
         let Some(place) = sealed.next_place(origin.hart) else {
             break;
         };
-        let to = end_of_piece(rest, origin.settled);
+        let to = end_of_piece(rest, from, origin.settled);
         let (part, later) = split_below(rest, to);
         let piece = piece_of(alloc, origin, place, from, to, part)?;
         frames.push(Frame::Log(piece))?;

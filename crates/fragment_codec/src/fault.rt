@@ -10,7 +10,7 @@ use std::alloc::{AllocError, AllocFailed};
 pub enum FrameFault {
     /// It does not begin with `VF`.
     Magic,
-    /// Its version is not 1.
+    /// Its version is neither 1 nor 2.
     Version,
     /// Its kind is neither 1 nor 2.
     Kind,

@@ -2,9 +2,8 @@
 
 ghost use Rattle.std.specs.Prelude.{◌≡◌, ◌≢◌, ◌↔◌, ◌⊎◌, ◌+◌, ◌-◌, ◌<◌, ◌≤◌, ◌++◌, ℕ, List, [], length, take, drop, slice_index, Option, Some, None, Ok, Err};
 ghost use Rattle.std.specs.Prelude.{IfOk, IfErr, OnOk, OnErr, IsTrue, IsOk, vec_capacity, min};
-ghost use Rattle.std.specs.List.{flat_map, AllByRecursion};
 ghost use Rattle.fragment_codec.specs.Reading.{Makes, frame_of};
-ghost use Rattle.fragment_codec.specs.Streams.{spelling, IsFrame, is_other, is_body_len, head_of, IsWhole, HasDigest, IsPartial, HasFault, Splits, Unread};
+ghost use Rattle.fragment_codec.specs.Streams.{IsFrame, is_other, is_body_len, longest_body, head_of, IsWhole, HasDigest, IsPartial, HasFault, Splits, Unread};
 ghost use Rattle.fragment_codec.specs.Streams.{Keeps, Follows};
 ghost use Rattle.fragment_codec.specs.Fronts.{IsFront, Advances};
 
@@ -12,7 +11,10 @@ use crate::fault::FrameFault;
 use crate::frame::Frame;
 use crate::front::Front;
 use crate::reading::{BodyError, read_log, read_opening};
-use crate::types::{BODY_LIMIT, FRAME_LIMIT, FRAME_VERSION, OPENING_LIMIT};
+use crate::types::{
+    BODY_LIMIT, FIRST_BODY_LIMIT, FIRST_OPENING_LIMIT, FIRST_VERSION, FRAME_LIMIT, FRAME_VERSION,
+    OPENING_LIMIT,
+};
 use byteorder::{ByteOrder, LittleEndian};
 use ft_types::Memory;
 use sha2::{Digest, Sha256};
@@ -25,14 +27,23 @@ fn differs_at(bytes: &[u8], i: usize, byte: u8) -> bool
     i < bytes.len() && bytes[i] != byte
 }
 
-fn is_right_len(kind: u8, len: u32) -> bool
-    ensures { result ≡ is_body_len kind len }
+/// The length of the longest body of the kind in the version.
+fn longest(version: u8, kind: u8) -> usize
+    ensures { result ≡ longest_body version kind }
 {
-    if kind == 1 {
-        60 <= len && len as usize <= BODY_LIMIT
-    } else {
-        49 <= len && len as usize <= OPENING_LIMIT
+    match (version == FIRST_VERSION, kind == 1) {
+        (true, true) => FIRST_BODY_LIMIT,
+        (true, false) => FIRST_OPENING_LIMIT,
+        (false, true) => BODY_LIMIT,
+        (false, false) => OPENING_LIMIT,
     }
+}
+
+fn is_right_len(version: u8, kind: u8, len: u32) -> bool
+    ensures { result ≡ is_body_len version kind len }
+{
+    let least = if kind == 1 { 60 } else { 49 };
+    least <= len && len as usize <= longest(version, kind)
 }
 
 #[tactic(auto, using(crate::proofs::bytes::Numbers::little_32), unfolding(crate::specs::Streams::head_of))]
@@ -42,7 +53,7 @@ fn head(bytes: &[u8]) -> Result<Option<usize>, FrameFault>
     if differs_at(bytes, 0, 0x56) || differs_at(bytes, 1, 0x46) {
         return Err(FrameFault::Magic);
     }
-    if differs_at(bytes, 2, FRAME_VERSION) {
+    if differs_at(bytes, 2, FIRST_VERSION) && differs_at(bytes, 2, FRAME_VERSION) {
         return Err(FrameFault::Version);
     }
     if differs_at(bytes, 3, 1) && differs_at(bytes, 3, 2) {
@@ -54,7 +65,7 @@ fn head(bytes: &[u8]) -> Result<Option<usize>, FrameFault>
     let (_, behind) = bytes.split_at(4);
     let (len, _) = behind.split_at(4);
     let len = LittleEndian::read_u32(len);
-    if is_right_len(bytes[3], len) {
+    if is_right_len(bytes[2], bytes[3], len) {
         Ok(Some(len as usize + 40))
     } else {
         Err(FrameFault::Length)
@@ -71,13 +82,13 @@ fn is_sealed(bytes: &[u8]) -> bool
 }
 
 #[tactic(auto, unfolding(crate::specs::Reading::frame_of))]
-fn read_body(alloc: Global, kind: u8, body: &[u8]) -> Result<Frame, BodyError>
-    ensures { Makes IsFrame result (frame_of kind body.now) }
+fn read_body(alloc: Global, version: u8, kind: u8, body: &[u8]) -> Result<Frame, BodyError>
+    ensures { Makes IsFrame result (frame_of version kind body.now) }
 {
     if kind == 1 {
-        Ok(Frame::Log(read_log(alloc, body)?))
+        Ok(Frame::Log(read_log(alloc, version, body)?))
     } else {
-        Ok(Frame::Opening(read_opening(body)?))
+        Ok(Frame::Opening(read_opening(version, body)?))
     }
 }
 
@@ -98,7 +109,7 @@ fn front(alloc: Global, bytes: &[u8]) -> Result<Front, FrameFault>
     }
     let (text, _) = whole.split_at(n - 32);
     let (_, body) = text.split_at(8);
-    match read_body(alloc, bytes[3], body) {
+    match read_body(alloc, bytes[2], bytes[3], body) {
         Ok(frame) => Ok(Front::Whole(frame, n)),
         Err(BodyError::Memory) => Err(FrameFault::Memory),
         Err(BodyError::Broken) => Err(FrameFault::Body),
@@ -144,8 +155,7 @@ fn read_frames<'a>(
     bytes: &'a [u8],
     frames: &mut Vec<Frame>,
 ) -> Result<(&'a [u8], Option<FrameFault>), AllocError>
-    ensures stream { IfOk result (λ x. flat_map spelling frames.new.items ++ x.0.now ≡ flat_map spelling frames.old.items ++ bytes.now) }
-    ensures frames { AllByRecursion IsFrame frames.old.items → AllByRecursion IsFrame frames.new.items }
+    ensures splits { IfOk result (λ x. (stream : List ℕ) → Splits stream frames.old.items bytes.now → Splits stream frames.new.items x.0.now) }
     ensures rest { IfOk result (λ x. Keeps x.0.now x.0.now x.1) }
 {
     let mut rest = bytes;

@@ -1,11 +1,11 @@
 //! A piece of a hart's log, and the opening of a term.
 
-ghost use Rattle.std.specs.Prelude.{◌+◌, ◌≡◌, ◌↔◌, ℕ, ◌<◌, ◌≤◌, Option, Some, None, length, List, All, IsTrue, IsSome, IfSome, IfOk};
+ghost use Rattle.std.specs.Prelude.{◌+◌, ◌-◌, nat_lt, ◌≡◌, ◌↔◌, ℕ, ◌<◌, ◌≤◌, Option, Some, None, length, List, All, IsTrue, IsSome, IfSome, IfOk};
 ghost use Rattle.ft_types.specs.declared.names.TheConstants.{HART_LIMIT, INPUT_LIMIT};
 ghost use Rattle.fragment_codec.specs.Rules.{IsKey, AreRecords, FragmentParts, OpeningParts, IsFragment, IsOpening, count_of};
 ghost use Rattle.fragment_codec.specs.Slots.{is_source, slot_after};
 
-use crate::types::{Key, RECORD_LIMIT, Record};
+use crate::types::{FIRST_HARTS, Key, RECORD_LIMIT, Record, SPAN_LIMIT};
 use ft_types::{COUNT_LIMIT, Count, Counts, Guest, HART_LIMIT, Hart, INPUT_LIMIT, Memory, Term};
 use input_log::Input;
 use std::alloc::Global;
@@ -150,6 +150,14 @@ fn are_zero(base: &[Count]) -> bool
     base.iter().all(|count| *count == 0)
 }
 
+/// Whether these are so few counts that the second version can tell of them in one fragment.
+pub(crate) fn is_short(from: Count, to: Count) -> bool
+    ensures value { result ≡ nat_lt (to - from) SPAN_LIMIT }
+    ensures exact { IsTrue result ↔ (to - from < SPAN_LIMIT) }
+{
+    to.saturating_sub(from) < SPAN_LIMIT
+}
+
 fn is_fragment(guest: &Guest, key: &Key, from: Count, to: Count, records: &[Record]) -> bool
     ensures { let parts : FragmentParts = record { guest = guest.now; key = key.now; from = from; to = to; records = records.now } in
         IsTrue result ↔ IsFragment parts }
@@ -158,6 +166,7 @@ fn is_fragment(guest: &Guest, key: &Key, from: Count, to: Count, records: &[Reco
     is_key(harts, key)
         && from < to
         && to < COUNT_LIMIT
+        && (harts <= FIRST_HARTS || is_short(from, to))
         && are_records(records, harts, key.hart, from, to)
 }
 

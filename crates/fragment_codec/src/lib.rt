@@ -21,8 +21,10 @@ pub use feed::Feed;
 pub use frame::{Fragment, Frame, Opening};
 pub use laws::{
     any_cutting, faults_by_bytes, has_reading, lasting_fault, one_fault, one_reading, one_spelling,
-    short_rest,
+    short_rest, some_spelling,
 };
 pub use sealed::Sealed;
-pub use types::{FRAME_LIMIT, FRAME_VERSION, Key, RECORD_LIMIT, Record};
+pub use types::{
+    FIRST_HARTS, FIRST_VERSION, FRAME_LIMIT, FRAME_VERSION, Key, RECORD_LIMIT, Record, SPAN_LIMIT,
+};
 pub use writing::write_frame;

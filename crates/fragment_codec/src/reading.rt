@@ -4,14 +4,14 @@ ghost use Rattle.std.specs.Prelude.{◌≡◌, ◌≤◌, List, length, Option, 
 ghost use Rattle.fragment_codec.specs.Rules.{OpeningParts, IsFragment, IsOpening};
 ghost use Rattle.std.specs.Int.{w16, w32, w64};
 ghost use Rattle.fragment_codec.specs.Reading.{Gives, Makes, number_at, byte_at, digest_at, guest_at, input_of, edge_at, heard_at, record_at, many, place_at, rest_of};
-ghost use Rattle.fragment_codec.specs.Reading.{log_of, opening_of};
+ghost use Rattle.fragment_codec.specs.Reading.{log_of, opening_of, stand_at, is_span, harts_limit};
 
-use crate::frame::{Fragment, Opening};
-use crate::types::{Key, Record};
+use crate::frame::{Fragment, Opening, is_short};
+use crate::types::{FIRST_HARTS, FIRST_VERSION, Key, Record};
 use arrayvec::ArrayVec;
 use byteorder::{ByteOrder, LittleEndian};
 use edge_log::Edge;
-use ft_types::{Counts, Guest, HART_LIMIT, HART_ROW, Hart, Term};
+use ft_types::{Count, Counts, Guest, HART_LIMIT, HART_ROW, Hart, Term};
 use input_log::Input;
 use std::alloc::{AllocError, AllocFailed, Global};
 
@@ -112,11 +112,31 @@ fn make_input(kind: u8, value: u32) -> Result<Input, BodyError>
     }
 }
 
-#[tactic(auto, unfolding(crate::specs::Reading::edge_at))]
-fn read_edge(hart: Hart, bytes: &[u8]) -> Result<(Record, &[u8]), BodyError>
-    ensures { Gives (λ x. (x.0, x.1.now)) result (edge_at hart bytes.now) }
+/// The count at which a record stands.
+#[tactic(auto, unfolding(crate::specs::Reading::stand_at))]
+fn read_stand(version: u8, from: Count, bytes: &[u8]) -> Result<(Count, &[u8]), BodyError>
+    ensures { Gives (λ x. (x.0, x.1.now)) result (stand_at version from bytes.now) }
 {
-    let (at, rest) = u64_at(bytes)?;
+    if version == FIRST_VERSION {
+        return u64_at(bytes);
+    }
+    let (distance, rest) = u32_at(bytes)?;
+    match from.checked_add(u64::from(distance)) {
+        Some(at) => Ok((at, rest)),
+        None => Err(BodyError::Broken),
+    }
+}
+
+#[tactic(auto, unfolding(crate::specs::Reading::edge_at))]
+fn read_edge(
+    version: u8,
+    from: Count,
+    hart: Hart,
+    bytes: &[u8],
+) -> Result<(Record, &[u8]), BodyError>
+    ensures { Gives (λ x. (x.0, x.1.now)) result (edge_at version from hart bytes.now) }
+{
+    let (at, rest) = read_stand(version, from, bytes)?;
     let (other, rest) = u8_at(rest)?;
     let (after, rest) = u64_at(rest)?;
     if other < HART_LIMIT {
@@ -133,10 +153,10 @@ fn read_edge(hart: Hart, bytes: &[u8]) -> Result<(Record, &[u8]), BodyError>
 }
 
 #[tactic(auto, unfolding(crate::specs::Reading::heard_at))]
-fn read_heard(bytes: &[u8]) -> Result<(Record, &[u8]), BodyError>
-    ensures { Gives (λ x. (x.0, x.1.now)) result (heard_at bytes.now) }
+fn read_heard(version: u8, from: Count, bytes: &[u8]) -> Result<(Record, &[u8]), BodyError>
+    ensures { Gives (λ x. (x.0, x.1.now)) result (heard_at version from bytes.now) }
 {
-    let (at, rest) = u64_at(bytes)?;
+    let (at, rest) = read_stand(version, from, bytes)?;
     let (kind, rest) = u8_at(rest)?;
     let (value, rest) = u32_at(rest)?;
     let input = make_input(kind, value)?;
@@ -144,29 +164,36 @@ fn read_heard(bytes: &[u8]) -> Result<(Record, &[u8]), BodyError>
 }
 
 #[tactic(auto, unfolding(crate::specs::Reading::record_at))]
-fn read_record(hart: Hart, bytes: &[u8]) -> Result<(Record, &[u8]), BodyError>
-    ensures { Gives (λ x. (x.0, x.1.now)) result (record_at hart bytes.now) }
+fn read_record(
+    version: u8,
+    from: Count,
+    hart: Hart,
+    bytes: &[u8],
+) -> Result<(Record, &[u8]), BodyError>
+    ensures { Gives (λ x. (x.0, x.1.now)) result (record_at version from hart bytes.now) }
 {
     let (kind, rest) = u8_at(bytes)?;
     match kind {
-        1 => read_edge(hart, rest),
-        2 => read_heard(rest),
+        1 => read_edge(version, from, hart, rest),
+        2 => read_heard(version, from, rest),
         _ => Err(BodyError::Broken),
     }
 }
 
 fn read_records(
     alloc: Global,
+    version: u8,
+    from: Count,
     hart: Hart,
     count: u16,
     bytes: &[u8],
 ) -> Result<(Vec<Record>, &[u8]), BodyError>
-    ensures { Gives (λ x. (x.0.items, x.1.now)) result (many (record_at hart) count bytes.now) }
+    ensures { Gives (λ x. (x.0.items, x.1.now)) result (many (record_at version from hart) count bytes.now) }
 {
     let mut records = Vec::new(alloc);
     let mut rest = bytes;
     for _ in 0..count {
-        match read_record(hart, rest) {
+        match read_record(version, from, hart, rest) {
             Ok((record, after)) => {
                 records.push(record)?;
                 rest = after;
@@ -191,12 +218,26 @@ fn read_counts(count: u8, bytes: &[u8]) -> Result<(ArrayVec<u64, HART_ROW>, &[u8
     Ok((counts, rest))
 }
 
+/// How many harts a version tells of at the most.
+fn most_harts(version: u8) -> u8
+    ensures { result ≡ harts_limit version }
+{
+    if version == FIRST_VERSION {
+        FIRST_HARTS
+    } else {
+        HART_LIMIT
+    }
+}
+
 #[tactic(auto, unfolding(crate::specs::Reading::guest_at))]
-fn read_guest(bytes: &[u8]) -> Result<(Guest, &[u8]), BodyError>
-    ensures { Gives (λ x. (x.0, x.1.now)) result (guest_at bytes.now) }
+fn read_guest(version: u8, bytes: &[u8]) -> Result<(Guest, &[u8]), BodyError>
+    ensures { Gives (λ x. (x.0, x.1.now)) result (guest_at version bytes.now) }
 {
     let (digest, rest) = digest_of(bytes)?;
     let (harts, rest) = u8_at(rest)?;
+    if harts > most_harts(version) {
+        return Err(BodyError::Broken);
+    }
     match Guest::new(digest, harts) {
         Some(guest) => Ok((guest, rest)),
         None => Err(BodyError::Broken),
@@ -204,10 +245,10 @@ fn read_guest(bytes: &[u8]) -> Result<(Guest, &[u8]), BodyError>
 }
 
 #[tactic(auto, unfolding(crate::specs::Reading::place_at))]
-fn read_place(bytes: &[u8]) -> Result<(Guest, Key, &[u8]), BodyError>
-    ensures { Gives (λ x. (x.0, x.1, x.2.now)) result (place_at bytes.now) }
+fn read_place(version: u8, bytes: &[u8]) -> Result<(Guest, Key, &[u8]), BodyError>
+    ensures { Gives (λ x. (x.0, x.1, x.2.now)) result (place_at version bytes.now) }
 {
-    let (guest, rest) = match read_guest(bytes) {
+    let (guest, rest) = match read_guest(version, bytes) {
         Ok(read) => read,
         Err(error) => return Err(error),
     };
@@ -222,16 +263,29 @@ fn read_place(bytes: &[u8]) -> Result<(Guest, Key, &[u8]), BodyError>
     }
 }
 
+/// Whether the version tells of so many counts in one fragment.
+fn tells_span(version: u8, from: Count, to: Count) -> bool
+    ensures { result ≡ is_span version from to }
+{
+    version == FIRST_VERSION || is_short(from, to)
+}
+
 #[tactic(auto, unfolding(crate::specs::Reading::rest_of))]
-fn read_rest(alloc: Global, guest: Guest, key: Key, bytes: &[u8]) -> Result<Fragment, BodyError>
-    ensures { Makes IsFragment result (rest_of guest key bytes.now) }
+fn read_rest(
+    alloc: Global,
+    version: u8,
+    guest: Guest,
+    key: Key,
+    bytes: &[u8],
+) -> Result<Fragment, BodyError>
+    ensures { Makes IsFragment result (rest_of version guest key bytes.now) }
 {
     let (from, rest) = u64_at(bytes)?;
     let (to, rest) = u64_at(rest)?;
     let (count, rest) = u16_at(rest)?;
-    match read_records(alloc, key.hart, count, rest) {
+    match read_records(alloc, version, from, key.hart, count, rest) {
         Ok((records, rest)) => {
-            if !rest.is_empty() {
+            if !tells_span(version, from, to) || !rest.is_empty() {
                 return Err(BodyError::Broken);
             }
             match Fragment::new(guest, key, from, to, records) {
@@ -244,11 +298,11 @@ fn read_rest(alloc: Global, guest: Guest, key: Key, bytes: &[u8]) -> Result<Frag
 }
 
 #[tactic(auto, unfolding(crate::specs::Reading::log_of))]
-pub fn read_log(alloc: Global, body: &[u8]) -> Result<Fragment, BodyError>
-    ensures { Makes IsFragment result (log_of body.now) }
+pub fn read_log(alloc: Global, version: u8, body: &[u8]) -> Result<Fragment, BodyError>
+    ensures { Makes IsFragment result (log_of version body.now) }
 {
-    match read_place(body) {
-        Ok((guest, key, rest)) => read_rest(alloc, guest, key, rest),
+    match read_place(version, body) {
+        Ok((guest, key, rest)) => read_rest(alloc, version, guest, key, rest),
         Err(error) => Err(error),
     }
 }
@@ -267,10 +321,10 @@ fn make_opening(guest: Guest, term: Term, parent: Term, base: &[u64]) -> Result<
 }
 
 #[tactic(auto, unfolding(crate::specs::Reading::opening_of))]
-pub fn read_opening(body: &[u8]) -> Result<Opening, BodyError>
-    ensures { Makes IsOpening result (opening_of body.now) }
+pub fn read_opening(version: u8, body: &[u8]) -> Result<Opening, BodyError>
+    ensures { Makes IsOpening result (opening_of version body.now) }
 {
-    let (guest, rest) = match read_guest(body) {
+    let (guest, rest) = match read_guest(version, body) {
         Ok(read) => read,
         Err(error) => return Err(error),
     };

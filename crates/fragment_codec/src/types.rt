@@ -4,20 +4,35 @@ use edge_log::Edge;
 use ft_types::{Count, HART_ROW, Hart, Term};
 use input_log::Input;
 
-/// The version in which frames are written, and which is read.
-pub const FRAME_VERSION: u8 = 1;
+/// The first version of frames, which is read, and in which a frame is written that has no spelling in `FRAME_VERSION`.
+pub const FIRST_VERSION: u8 = 1;
+
+/// The version in which frames are written where they have a spelling in it.
+pub const FRAME_VERSION: u8 = 2;
+
+/// The number of harts of a guest of which the first version tells at the most.
+pub const FIRST_HARTS: u8 = 8;
+
+/// One more than the number of counts of which a fragment tells in `FRAME_VERSION` at the most.
+pub const SPAN_LIMIT: u64 = 1 << 32;
 
 /// The number of records of a fragment at the most.
 pub const RECORD_LIMIT: usize = 256;
 
+/// The number of bytes of a log body of the first version at the most, in which each record is an edge.
+pub const FIRST_BODY_LIMIT: usize = 60 + 18 * RECORD_LIMIT;
+
 /// The number of bytes of a log body at the most, in which each record is an edge.
-pub const BODY_LIMIT: usize = 60 + 18 * RECORD_LIMIT;
+pub const BODY_LIMIT: usize = 60 + 14 * RECORD_LIMIT;
+
+/// The number of bytes of an opening body of the first version at the most, which has a count for each hart.
+pub const FIRST_OPENING_LIMIT: usize = 41 + 8 * FIRST_HARTS as usize;
 
 /// The number of bytes of an opening body at the most, which has a count for each hart.
 pub const OPENING_LIMIT: usize = 41 + 8 * HART_ROW;
 
-/// The number of bytes of a frame at the most: head, body and digest.
-pub const FRAME_LIMIT: usize = 8 + BODY_LIMIT + 32;
+/// The number of bytes of a frame of any version at the most: head, body and digest.
+pub const FRAME_LIMIT: usize = 8 + FIRST_BODY_LIMIT + 32;
 
 /// Which fragment it is.
 #[derive(Clone, Copy, Debug, PartialEq, Eq)]

@@ -4,9 +4,9 @@ use Rattle.std.specs.List.{flat_map, AllByRecursion}
 use Rattle.ft_types.specs.Guests.{GuestParts}
 use Rattle.fragment_codec.specs.declared.frame.Frame.{Frame as LogFrame}
 use Rattle.fragment_codec.specs.declared.fault.FrameFault.{FrameFault}
-use Rattle.fragment_codec.specs.Streams.{spelling, IsFrame, IsStuck, Follows}
-use Rattle.fragment_codec.proofs.streams.Pieces.{one_reading}
+use Rattle.fragment_codec.specs.Streams.{IsStuck, Splits, Follows}
 use Rattle.fragment_codec.proofs.streams.Readings.{not_stuck, one_feed}
+use Rattle.fragment_codec.proofs.streams.Splits.{splits_nothing, splits_first, one_first as one_head}
 use Rattle.log_join.specs.Stores.{StoreView}
 use Rattle.guest_image.specs.Image.{ImageContents, guest_of}
 use Rattle.hart_replay.specs.declared.fault.ReplayFault.{ReplayFault}
@@ -15,43 +15,42 @@ use Rattle.log_streams.specs.declared.faults.StreamsFault.TheVariants.{Read, Fra
 use Rattle.log_streams.specs.Streams.{IsOf, Says, SayAll, Breaks, GoesOnWith, HasForeign, AreJoined}
 use Rattle.log_streams.specs.Faults.{IsFaultOfStream, IsFirstFault, StandsInBytes, AnswersOnly}
 
-regroup : (f : LogFrame) (fs : List LogFrame) (r : List ℕ) → flat_map spelling (f ∷ fs) ++ r ≡ spelling f ++ (flat_map spelling fs ++ r)
-regroup f fs r = append_assoc (spelling f) (flat_map spelling fs) r
-
 -- behind frames of the guest that no frame follows, no other frame stands
-no_other : (guest : GuestParts) (fs before : List LogFrame) (frame : LogFrame) (r q : List ℕ) → AllByRecursion IsFrame fs → AllByRecursion IsFrame (before ++
-    frame ∷ []) →
-    AllByRecursion (IsOf guest) fs → (IsOf guest frame → ⊥) → IsStuck r → flat_map spelling fs ++ r ≡ flat_map spelling (before ++ frame ∷ []) ++ q → ⊥
-no_other guest [] [] frame r q a b own bad stuck e = not_stuck frame ([] ++ q) b.0 (subst IsStuck (e ∙ regroup frame [] q) stuck)
-no_other guest [] (y ∷ before) frame r q a b own bad stuck e =
-    not_stuck y (flat_map spelling (before ++ frame ∷ []) ++ q) b.0 (subst IsStuck (e ∙ regroup y (before ++ frame ∷ []) q) stuck)
-no_other guest (x ∷ fs) [] frame r q a b own bad stuck e =
-    let same = one_reading x frame (flat_map spelling fs ++ r) ([] ++ q) a.0 b.0 (sym (regroup x fs r) ∙ e ∙ regroup frame [] q) in
+no_other : (guest : GuestParts) (stream : List ℕ) (fs before : List LogFrame) (frame : LogFrame) (r q : List ℕ) → Splits stream fs r →
+    Splits stream (before ++ frame ∷ []) q → AllByRecursion (IsOf guest) fs → (IsOf guest frame → ⊥) → IsStuck r → ⊥
+no_other guest stream [] [] frame r q a b own bad stuck =
+    let first = splits_first stream q frame [] b in
+    not_stuck first.spelled first.behind first.rules (subst IsStuck (sym (splits_nothing stream r a) ∙ first.whole) stuck)
+no_other guest stream [] (y ∷ before) frame r q a b own bad stuck =
+    let first = splits_first stream q y (before ++ frame ∷ []) b in
+    not_stuck first.spelled first.behind first.rules (subst IsStuck (sym (splits_nothing stream r a) ∙ first.whole) stuck)
+no_other guest stream (x ∷ fs) [] frame r q a b own bad stuck =
+    let same = one_head stream x frame fs [] r q (splits_first stream r x fs a) (splits_first stream q frame [] b) in
     bad (subst (IsOf guest) same.0 own.0)
-no_other guest (x ∷ fs) (y ∷ before) frame r q a b own bad stuck e =
-    let same = one_reading x y (flat_map spelling fs ++ r) (flat_map spelling (before ++ frame ∷ []) ++ q) a.0 b.0 (sym (regroup x fs r) ∙ e ∙
-    regroup y (before ++ frame ∷ []) q) in
-    no_other guest fs before frame r q a.1 b.1 own.1 bad stuck same.1
+no_other guest stream (x ∷ fs) (y ∷ before) frame r q a b own bad stuck =
+    let first = splits_first stream r x fs a in
+    let other = splits_first stream q y (before ++ frame ∷ []) b in
+    let same = one_head stream x y fs (before ++ frame ∷ []) r q first other in
+    no_other guest other.behind fs before frame r q (subst (λ (t : List ℕ). Splits t fs r) same.1 first.others) other.others own.1 bad stuck
 
 -- behind frames of the guest one other frame stands first
-one_other : (guest : GuestParts) (before others : List LogFrame) (frame other : LogFrame) (r q : List ℕ) → AllByRecursion IsFrame (before ++ frame ∷ []) →
-    AllByRecursion IsFrame (others ++ other ∷ []) →
-    AllByRecursion (IsOf guest) before → AllByRecursion (IsOf guest) others → (IsOf guest frame → ⊥) → (IsOf guest other → ⊥) →
-    flat_map spelling (before ++ frame ∷ []) ++ r ≡ flat_map spelling (others ++ other ∷ []) ++ q → frame ≡ other
-one_other guest [] [] frame other r q a b p o bad worse e =
-    (one_reading frame other ([] ++ r) ([] ++ q) a.0 b.0 (sym (regroup frame [] r) ∙ e ∙ regroup other [] q)).0
-one_other guest [] (y ∷ others) frame other r q a b p o bad worse e =
-    let same = one_reading frame y ([] ++ r) (flat_map spelling (others ++ other ∷ []) ++ q) a.0 b.0 (sym (regroup frame [] r) ∙ e ∙
-    regroup y (others ++ other ∷ []) q) in
+one_other : (guest : GuestParts) (stream : List ℕ) (before others : List LogFrame) (frame other : LogFrame) (r q : List ℕ) →
+    Splits stream (before ++ frame ∷ []) r → Splits stream (others ++ other ∷ []) q →
+    AllByRecursion (IsOf guest) before → AllByRecursion (IsOf guest) others → (IsOf guest frame → ⊥) → (IsOf guest other → ⊥) → frame ≡ other
+one_other guest stream [] [] frame other r q a b p o bad worse =
+    (one_head stream frame other [] [] r q (splits_first stream r frame [] a) (splits_first stream q other [] b)).0
+one_other guest stream [] (y ∷ others) frame other r q a b p o bad worse =
+    let same = one_head stream frame y [] (others ++ other ∷ []) r q (splits_first stream r frame [] a) (splits_first stream q y (others ++ other ∷ []) b) in
     absurd (bad (subst (IsOf guest) (sym same.0) o.0))
-one_other guest (x ∷ before) [] frame other r q a b p o bad worse e =
-    let same = one_reading x other (flat_map spelling (before ++ frame ∷ []) ++ r) ([] ++ q) a.0 b.0 (sym (regroup x (before ++ frame ∷ []) r) ∙ e ∙
-    regroup other [] q) in
+one_other guest stream (x ∷ before) [] frame other r q a b p o bad worse =
+    let same = one_head stream x other (before ++ frame ∷ []) [] r q (splits_first stream r x (before ++ frame ∷ []) a) (splits_first stream q other [] b) in
     absurd (worse (subst (IsOf guest) same.0 p.0))
-one_other guest (x ∷ before) (y ∷ others) frame other r q a b p o bad worse e =
-    let same = one_reading x y (flat_map spelling (before ++ frame ∷ []) ++ r) (flat_map spelling (others ++ other ∷ []) ++ q) a.0 b.0
-    (sym (regroup x (before ++ frame ∷ []) r) ∙ e ∙ regroup y (others ++ other ∷ []) q) in
-    one_other guest before others frame other r q a.1 b.1 p.1 o.1 bad worse same.1
+one_other guest stream (x ∷ before) (y ∷ others) frame other r q a b p o bad worse =
+    let first = splits_first stream r x (before ++ frame ∷ []) a in
+    let second = splits_first stream q y (others ++ other ∷ []) b in
+    let same = one_head stream x y (before ++ frame ∷ []) (others ++ other ∷ []) r q first second in
+    one_other guest second.behind before others frame other r q (subst (λ (t : List ℕ). Splits t (before ++ frame ∷ []) r) same.1 first.others) second.others
+    p.1 o.1 bad worse
 
 module _ (guest : GuestParts) (stream : List ℕ) where
   says_feed : (frames : List LogFrame) (s : Says guest stream frames) → Follows stream frames (record { rest = s.rest; fault = None })
@@ -69,11 +68,11 @@ module _ (guest : GuestParts) (stream : List ℕ) where
 
   right_goes : (frames : List LogFrame) (frame : LogFrame) → Says guest stream frames → GoesOnWith guest stream frame → (IsOf guest frame → ⊥) → ⊥
   right_goes frames frame s g bad =
-      no_other guest frames g.frames frame s.rest g.rest s.splits.each g.splits.each s.own bad (inl s.partial) (sym s.splits.whole ∙ g.splits.whole)
+      no_other guest stream frames g.frames frame s.rest g.rest s.splits g.splits s.own bad (inl s.partial)
 
   broken_goes : (f : FrameFault) (frame : LogFrame) → Breaks guest stream f → GoesOnWith guest stream frame → (IsOf guest frame → ⊥) → ⊥
   broken_goes f frame b g bad =
-      no_other guest b.frames g.frames frame b.rest g.rest b.splits.each g.splits.each b.own bad (inr (f, b.fault)) (sym b.splits.whole ∙ g.splits.whole)
+      no_other guest stream b.frames g.frames frame b.rest g.rest b.splits g.splits b.own bad (inr (f, b.fault))
 
   foreign : (h : HasForeign guest stream) → IsOf guest h.0 → ⊥
   foreign h own = h.2 own

@@ -11,7 +11,8 @@ use Rattle.interleaving.proofs.Lists.{get_set_same, get_set_other}
 use Rattle.ft_types.specs.Guests.{GuestParts}
 use Rattle.fragment_codec.specs.declared.frame.Frame.{Frame as LogFrame}
 use Rattle.fragment_codec.specs.declared.fault.FrameFault.{FrameFault}
-use Rattle.fragment_codec.specs.Streams.{spelling, HasFault, Splits}
+use Rattle.fragment_codec.specs.Streams.{HasFault}
+use Rattle.fragment_codec.proofs.streams.Splits.{splits_more}
 use Rattle.log_join.specs.Stores.{StoreView, nothing}
 use Rattle.log_streams.specs.declared.faults.StreamsFault.{StreamsFault}
 use Rattle.log_streams.specs.declared.faults.StreamsFault.TheVariants.{Read, Frame, Guest, Replay, Write, Memory}
@@ -24,17 +25,11 @@ use Rattle.log_streams.proofs.StreamLemmas.{come_more, same_guest_comes}
 abbrev pub Lasts : Type 0
 Lasts = (bytes more : List ℕ) (f : FrameFault) → HasFault bytes f → HasFault (bytes ++ more) f
 
-longer : (stream : List ℕ) (frames : List LogFrame) (rest more : List ℕ) → Splits stream frames rest → Splits (stream ++ more) frames (rest ++ more)
-longer stream frames rest more s = record {
-  whole = ap (λ (x : List ℕ). x ++ more) s.whole ∙ append_assoc (flat_map spelling frames) rest more;
-  each = s.each;
-}
-
 breaks_longer : (guest : GuestParts) (stream more : List ℕ) (f : FrameFault) → Lasts → Breaks guest stream f → Breaks guest (stream ++ more) f
 breaks_longer guest stream more f lasts b = record {
   frames = b.frames;
   rest = b.rest ++ more;
-  splits = longer stream b.frames b.rest more b.splits;
+  splits = splits_more stream b.rest more b.frames b.splits;
   own = b.own;
   fault = lasts b.rest more f b.fault;
 }
@@ -43,7 +38,7 @@ goes_longer : (guest : GuestParts) (stream more : List ℕ) (frame : LogFrame) �
 goes_longer guest stream more frame g = record {
   frames = g.frames;
   rest = g.rest ++ more;
-  splits = longer stream (g.frames ++ frame ∷ []) g.rest more g.splits;
+  splits = splits_more stream g.rest more (g.frames ++ frame ∷ []) g.splits;
   own = g.own;
 }
 

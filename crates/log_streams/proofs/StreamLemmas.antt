@@ -9,7 +9,8 @@ use Rattle.ft_types.specs.Guests.{GuestParts}
 use Rattle.fragment_codec.specs.declared.frame.Frame.{Frame as LogFrame}
 use Rattle.fragment_codec.specs.declared.fault.FrameFault.{FrameFault}
 use Rattle.fragment_codec.specs.declared.fault.FrameFault.TheVariants.{Magic, Version, Kind, Length, Digest, Body, Memory as NoMemory}
-use Rattle.fragment_codec.specs.Streams.{spelling, IsFrame, Splits, Unread, Keeps, Follows}
+use Rattle.fragment_codec.specs.Streams.{Splits, Unread, Keeps, Follows}
+use Rattle.fragment_codec.proofs.streams.Splits.{splits_none, splits_begin}
 use Rattle.fragment_codec.proofs.streams.Readings.{one_feed}
 use Rattle.log_join.specs.Stores.{StoreView, IsJoin, alone}
 use Rattle.log_join.specs.declared.answers.StoreFault.{StoreFault}
@@ -38,25 +39,17 @@ regroup : (given before : List LogFrame) (frame : LogFrame) (after : List LogFra
     after
 regroup given before frame after = simp append_assoc
 
-respell : (text rest : List ℕ) (all front back : List LogFrame) → text ≡ flat_map spelling all ++ rest → all ≡ front ++ back → text ≡ flat_map spelling front ++
-    (flat_map spelling back ++ rest)
-respell text rest all front back e s =
-    e ∙ ap (λ (x : List LogFrame). flat_map spelling x ++ rest) s ∙ ap (λ (x : List ℕ). x ++ rest) (flat_map-append spelling front back) ∙
-    append_assoc (flat_map spelling front) (flat_map spelling back) rest
-
 -- the frame that is at fault stands behind frames of the guest
 goes_on : (guest : GuestParts) (text : List ℕ) (given frames before : List LogFrame) (frame : LogFrame) (after : List LogFrame) (rest : List ℕ) →
     Splits text (given ++ frames) rest → frames ≡ before ++ frame ∷ after → AllByRecursion (IsOf guest) given → AllByRecursion (IsOf guest) before →
     GoesOnWith guest text frame
 goes_on guest text given frames before frame after rest s e own more =
     let same : given ++ frames ≡ ((given ++ before) ++ frame ∷ []) ++ after = ap (λ (x : List LogFrame). given ++ x) e ∙ regroup given before frame after in
+    let begin = splits_begin text rest ((given ++ before) ++ frame ∷ []) after (subst (λ (x : List LogFrame). Splits text x rest) same s) in
     record {
       frames = given ++ before;
-      rest = flat_map spelling after ++ rest;
-      splits = record {
-        whole = respell text rest (given ++ frames) ((given ++ before) ++ frame ∷ []) after s.whole same;
-        each = all_front IsFrame ((given ++ before) ++ frame ∷ []) after (subst (AllByRecursion IsFrame) same s.each);
-      };
+      rest = begin.0;
+      splits = begin.1;
       own = all_append (IsOf guest) given before own more;
     }
 
@@ -309,7 +302,7 @@ nothing_wrong guest left =
       read = [];
       consumed = consumes_nothing left;
       frames = [];
-      says = record { rest = []; splits = record { whole = refl; each = tt }; partial = partial_nothing; own = tt };
+      says = record { rest = []; splits = splits_none []; partial = partial_nothing; own = tt };
     }
 
 pub still_right : (first : StoreView) (old now next : Option (List ℕ)) (feed later : Unread) (p q : StoreView) (got whole : List ℕ) → got ≡ whole →

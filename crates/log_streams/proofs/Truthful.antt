@@ -6,6 +6,7 @@ use Rattle.ft_types.specs.Guests.{GuestParts}
 use Rattle.fragment_codec.specs.declared.frame.Frame.{Frame as LogFrame}
 use Rattle.fragment_codec.specs.Streams.{IsFrame}
 use Rattle.fragment_codec.proofs.streams.Readings.{one_stream}
+use Rattle.fragment_codec.proofs.streams.Splits.{splits_frames}
 use Rattle.log_join.specs.Stores.{StoreView, IsStore, guest_of as frame_guest}
 use Rattle.log_join.proofs.Told.{openings_told, fragments_told}
 use Rattle.log_join.proofs.Cells.{cells_join}
@@ -48,7 +49,7 @@ each_said guest [] frames none frame in_it =
     let c : Contains [] frame = subst (λ (fs : List LogFrame). Contains fs frame) none in_it in absurd (omega (arith, c.1))
 each_said guest (stream ∷ streams) frames (front, back, says, rest, are) frame in_it =
     elim (Contains-append_cases front back frame (subst (λ (fs : List LogFrame). Contains fs frame) are in_it)) [
-      | inl here ↦ (each_one IsFrame front says.splits.each frame here, each_one (IsOf guest) front says.own frame here)
+      | inl here ↦ (each_one IsFrame front (splits_frames stream says.rest front says.splits) frame here, each_one (IsOf guest) front says.own frame here)
       | inr there ↦ each_said guest streams back rest frame there
     ]
 

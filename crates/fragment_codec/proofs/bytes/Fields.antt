@@ -1,14 +1,14 @@
 -- A field that is read is the field that was written, and what was written is read again.
-use Rattle.std.proofs.Common.{◌≡◌, ℕ, zero, suc, ◌+◌, ◌^◌, ◌<◌, ◌≤◌, Bool, true, false, cond, ltb, List, [], ◌∷◌, ◌++◌, length, slice_index, take, drop}
+use Rattle.std.proofs.Common.{◌≡◌, ℕ, zero, suc, ◌+◌, ◌^◌, ◌<◌, ◌≤◌, Bool, true, false, cond, ltb, eqb, List, [], ◌∷◌, ◌++◌, length, slice_index, take, drop}
 use Rattle.std.proofs.Common.{Option, Some, None, refl, sym, ap, subst, ◌∙◌, append_assoc, arith, inl, inr, ◌⊎◌}
 use Rattle.std.specs.Int.{Width, w16, w32, w64, byte_len, from_le_bytes, to_le_bytes}
 use Rattle.std.specs.List.{flat_map, AllByRecursion}
-use Rattle.std.proofs.lemmas.Bool.{cases_lt, ltb-false, le-ltb}
+use Rattle.std.proofs.lemmas.Bool.{cases_lt, cases_Bool, ltb-false, le-ltb}
 use Rattle.std.proofs.lemmas.List.{take_at, drop_at, take-append-drop, length-append, length-take, get_or-drop, get_or-take, get_or_past}
 use Rattle.std.proofs.lemmas.Nat.{le_bytes_2, le_bytes_4, le_bytes_8, from_le_bytes-to_le_bytes_2, from_le_bytes-to_le_bytes_4, from_le_bytes-to_le_bytes_8}
 use Rattle.ft_types.specs.Guests.{GuestParts, IsDigest, IsGuest}
 use Rattle.fragment_codec.specs.Spelling.{number}
-use Rattle.fragment_codec.specs.Reading.{◌>>=◌, number_at, byte_at, digest_at, guest_at, many}
+use Rattle.fragment_codec.specs.Reading.{◌>>=◌, number_at, byte_at, digest_at, harts_limit, guest_at, many}
 
 abbrev pub IsBytes : List ℕ → Type 0
 IsBytes bytes = (i : ℕ) → slice_index bytes i < 256
@@ -188,49 +188,62 @@ reads_digest = record {
 abbrev pub guest_text : GuestParts → List ℕ
 guest_text guest = guest.digest ++ (guest.harts ∷ [])
 
+-- no version tells of more harts than a guest may have
+pub harts_limit_le : (version : ℕ) → harts_limit version ≤ 8
+harts_limit_le version = elim (cases_Bool (eqb version 1)) [ inl e ↦ rw e (omega arith) | inr e ↦ rw e (omega arith) ]
+
+-- a guest of which the version tells
+abbrev pub FitsGuest : ℕ → GuestParts → Type 0
+FitsGuest version guest = IsGuest guest × (guest.harts ≤ harts_limit version)
+
 -- what is found where a guest is read
-record GotGuest (bytes : List ℕ) (guest : GuestParts) (rest : List ℕ) : Type 0 where
+record GotGuest (version : ℕ) (bytes : List ℕ) (guest : GuestParts) (rest : List ℕ) : Type 0 where
   pub parts : bytes ≡ guest_text guest ++ rest
   pub rest_fits : IsBytes rest
-  pub fits : IsGuest guest
+  pub fits : FitsGuest version guest
 
-guest_found : (bytes : List ℕ) (guest : GuestParts) (rest : List ℕ) → IsBytes bytes → guest_at bytes ≡ Some (guest, rest) → GotGuest bytes guest rest
+guest_found : (version : ℕ) (bytes : List ℕ) (guest : GuestParts) (rest : List ℕ) → IsBytes bytes → guest_at version bytes ≡ Some (guest, rest) →
+    GotGuest version bytes guest rest
 unfolding guest_at
-guest_found bytes guest rest fits e =
+guest_found version bytes guest rest fits e =
     let d = bind_some (digest_at bytes) _ (guest, rest) e in
     let h = bind_some (byte_at d.0.1) _ (guest, rest) d.2 in
     let some = guard_then (ltb h.0.0 1) _ (guest, rest) h.2 in
-    let limit = guard_then (ltb 8 h.0.0) _ (guest, rest) some.1 in
+    let limit = guard_then (ltb (harts_limit version) h.0.0) _ (guest, rest) some.1 in
+    let few : h.0.0 ≤ harts_limit version = ltb-false (harts_limit version) h.0.0 limit.0 in
     let made : GuestParts = record { digest = d.0.0; harts = h.0.0 } in
     let fd = reads_digest.rest bytes d.0.0 d.0.1 fits d.1 in
     let text : bytes ≡ d.0.0 ++ (h.0.0 ∷ h.0.1) = reads_digest.parts bytes d.0.0 d.0.1 fits d.1 ∙ ap (λ (x : List ℕ). d.0.0 ++ x)
     (reads_byte.parts d.0.1 h.0.0 h.0.1 fd h.1) in
-    subst (λ (y : GuestParts × List ℕ). GotGuest bytes y.0 y.1) (some_is (made, h.0.1) (guest, rest) limit.1) (record {
+    subst (λ (y : GuestParts × List ℕ). GotGuest version bytes y.0 y.1) (some_is (made, h.0.1) (guest, rest) limit.1) (record {
       parts = text ∙ sym (append_assoc d.0.0 (h.0.0 ∷ []) h.0.1);
       rest_fits = reads_byte.rest d.0.1 h.0.0 h.0.1 fd h.1;
-      fits = record {
-        digest = reads_digest.fits bytes d.0.0 d.0.1 fits d.1;
-        some = ltb-false h.0.0 1 some.0;
-        limit = ltb-false 8 h.0.0 limit.0;
-      };
+      fits = (
+        record {
+          digest = reads_digest.fits bytes d.0.0 d.0.1 fits d.1;
+          some = ltb-false h.0.0 1 some.0;
+          limit = omega (arith, few, harts_limit_le version);
+        },
+        few,
+      );
     })
 
-guest_again : (guest : GuestParts) (rest : List ℕ) → IsGuest guest → guest_at (guest_text guest ++ rest) ≡ Some (guest, rest)
+guest_again : (version : ℕ) (guest : GuestParts) (rest : List ℕ) → FitsGuest version guest → guest_at version (guest_text guest ++ rest) ≡ Some (guest, rest)
 unfolding guest_at byte_at
-guest_again guest rest h =
+guest_again version guest rest h =
     rw (
       append_assoc guest.digest (guest.harts ∷ []) rest,
-      reads_digest.again guest.digest (guest.harts ∷ rest) h.digest,
-      le-ltb guest.harts 1 h.some,
-      le-ltb 8 guest.harts h.limit,
+      reads_digest.again guest.digest (guest.harts ∷ rest) h.0.digest,
+      le-ltb guest.harts 1 h.0.some,
+      le-ltb (harts_limit version) guest.harts h.1,
     ) refl
 
-pub reads_guest : Reads guest_at guest_text IsGuest
-reads_guest = record {
-  parts = λ bytes guest rest fits e. (guest_found bytes guest rest fits e).parts;
-  rest = λ bytes guest rest fits e. (guest_found bytes guest rest fits e).rest_fits;
-  fits = λ bytes guest rest fits e. (guest_found bytes guest rest fits e).fits;
-  again = λ guest rest h. guest_again guest rest h;
+pub reads_guest : (version : ℕ) → Reads (guest_at version) guest_text (FitsGuest version)
+reads_guest version = record {
+  parts = λ bytes guest rest fits e. (guest_found version bytes guest rest fits e).parts;
+  rest = λ bytes guest rest fits e. (guest_found version bytes guest rest fits e).rest_fits;
+  fits = λ bytes guest rest fits e. (guest_found version bytes guest rest fits e).fits;
+  again = λ guest rest h. guest_again version guest rest h;
 }
 
 -- ---- so many of one kind

@@ -1,12 +1,12 @@
 -- What the head of a frame says.
-use Rattle.std.proofs.Common.{◌≡◌, ℕ, ◌+◌, ◌-◌, ◌<◌, ◌≤◌, Bool, true, false, cond, ltb, ◌&&◌, ◌||◌, List, [], ◌∷◌, ◌++◌, length, slice_index, take, drop, min}
+use Rattle.std.proofs.Common.{◌≡◌, ℕ, ◌+◌, ◌-◌, ◌<◌, ◌≤◌, Bool, true, false, cond, ltb, eqb, not, ◌&&◌, ◌||◌, List, [], ◌∷◌, ◌++◌, length, slice_index, take, drop, min}
 use Rattle.std.proofs.Common.{Option, Some, None, Result, Ok, Err, refl, sym, ap, ◌∙◌, append_assoc, arith, inl, inr, ◌⊎◌}
-use Rattle.std.proofs.lemmas.Bool.{le-ltb}
+use Rattle.std.proofs.lemmas.Bool.{le-ltb, cases_Bool}
 use Rattle.std.proofs.Math.Seq.{take-add}
 use Rattle.std.proofs.lemmas.Bool.Decides.{nat_tests}
 use Rattle.fragment_codec.specs.declared.fault.FrameFault.{FrameFault}
 use Rattle.fragment_codec.specs.declared.fault.FrameFault.TheVariants.{Magic, Version, Kind, Length, Digest, Body, Memory}
-use Rattle.fragment_codec.specs.Streams.{is_other, body_len, is_body_len, head_of, IsPartial, HasFault}
+use Rattle.fragment_codec.specs.Streams.{is_other, body_len, longest_body, is_body_len, head_of, IsPartial, HasFault}
 
 past : {A : Type 0} (b : Bool) (f : FrameFault) (y : Result A FrameFault) (z : A) → cond b (Err f) y ≡ Ok z → (b ≡ false) × (y ≡ Ok z)
 past true f y z e = absurd cc
@@ -24,10 +24,10 @@ pub record IsHead (bytes : List ℕ) (n : ℕ) : Type 0 where
   pub len : 8 ≤ length bytes
   pub magic : slice_index bytes 0 ≡ 0x56
   pub magic2 : slice_index bytes 1 ≡ 0x46
-  pub version : slice_index bytes 2 ≡ 1
+  pub version : (slice_index bytes 2 ≡ 1) ⊎ (slice_index bytes 2 ≡ 2)
   pub kind : (slice_index bytes 3 ≡ 1) ⊎ (slice_index bytes 3 ≡ 2)
   pub n-is : body_len bytes + 40 ≡ n
-  pub right : is_body_len (slice_index bytes 3) (body_len bytes) ≡ true
+  pub right : is_body_len (slice_index bytes 2) (slice_index bytes 3) (body_len bytes) ≡ true
 
 is_same : (bytes : List ℕ) (i byte : ℕ) → i < length bytes → is_other bytes i byte ≡ false → slice_index bytes i ≡ byte
 is_same bytes i byte lt e = grind (arith, nat_tests)
@@ -37,36 +37,55 @@ neither false false e = (refl, refl)
 neither false true e = absurd cc
 neither true b e = absurd cc
 
-one_of : (bytes : List ℕ) → 3 < length bytes → (is_other bytes 3 1 && is_other bytes 3 2) ≡ false → (slice_index bytes 3 ≡ 1) ⊎ (slice_index bytes 3 ≡ 2)
-one_of bytes lt e = grind (arith, nat_tests)
+one_of : (bytes : List ℕ) (i : ℕ) → i < length bytes → (is_other bytes i 1 && is_other bytes i 2) ≡ false → (slice_index bytes i ≡ 1) ⊎ (slice_index bytes i ≡ 2)
+one_of bytes i lt e = grind (arith, nat_tests)
 
 pub head_is : (bytes : List ℕ) (n : ℕ) → head_of bytes ≡ Ok (Some n) → IsHead bytes n
 unfolding head_of
 head_is bytes n e =
     let a = past (is_other bytes 0 0x56 || is_other bytes 1 0x46) Magic _ (Some n) e in
-    let b = past (is_other bytes 2 1) Version _ (Some n) a.1 in
+    let b = past (is_other bytes 2 1 && is_other bytes 2 2) Version _ (Some n) a.1 in
     let c = past (is_other bytes 3 1 && is_other bytes 3 2) Kind _ (Some n) b.1 in
     let d = long (ltb (length bytes) 8) _ n c.1 in
-    let f = sized (is_body_len (slice_index bytes 3) (body_len bytes)) (body_len bytes + 40) n d.1 in
+    let f = sized (is_body_len (slice_index bytes 2) (slice_index bytes 3) (body_len bytes)) (body_len bytes + 40) n d.1 in
     let len : 8 ≤ length bytes = (let g = d.0 in grind (arith, nat_tests)) in
     let m = neither (is_other bytes 0 0x56) (is_other bytes 1 0x46) a.0 in
     record {
       len = len;
       magic = is_same bytes 0 0x56 (omega (arith, len)) m.0;
       magic2 = is_same bytes 1 0x46 (omega (arith, len)) m.1;
-      version = is_same bytes 2 1 (omega (arith, len)) b.0;
-      kind = one_of bytes (omega (arith, len)) c.0;
+      version = one_of bytes 2 (omega (arith, len)) b.0;
+      kind = one_of bytes 3 (omega (arith, len)) c.0;
       n-is = f.1;
       right = f.0;
     }
 
-bounds : (kind n : ℕ) → is_body_len kind n ≡ true → (49 ≤ n) × (n ≤ 4668)
-bounds kind n e = (grind (arith, nat_tests), grind (arith, nat_tests))
+-- the two tests of a length
+pub least_most : (least most n : ℕ) → (not (ltb n least) && not (ltb most n)) ≡ true → (least ≤ n) × (n ≤ most)
+least_most least most n e = (grind (arith, nat_tests), grind (arith, nat_tests))
+
+pub right_len : (version kind n : ℕ) → cond (eqb kind 1) 60 49 ≤ n → n ≤ longest_body version kind → is_body_len version kind n ≡ true
+right_len version kind n a b = rw (le-ltb n (cond (eqb kind 1) 60 49) a, le-ltb (longest_body version kind) n b) refl
+
+least_body : (kind : ℕ) → 49 ≤ cond (eqb kind 1) 60 49
+least_body kind = elim (cases_Bool (eqb kind 1)) [ inl e ↦ rw e (omega arith) | inr e ↦ rw e (omega arith) ]
+
+pub most_body : (version kind : ℕ) → longest_body version kind ≤ 4668
+most_body version kind =
+    elim (cases_Bool (eqb version 1)) [
+      | inl v ↦ elim (cases_Bool (eqb kind 1)) [ inl k ↦ rw (v, k) (omega arith) | inr k ↦ rw (v, k) (omega arith) ]
+      | inr v ↦ elim (cases_Bool (eqb kind 1)) [ inl k ↦ rw (v, k) (omega arith) | inr k ↦ rw (v, k) (omega arith) ]
+    ]
+
+bounds : (version kind n : ℕ) → is_body_len version kind n ≡ true → (49 ≤ n) × (n ≤ 4668)
+bounds version kind n e =
+    let l = least_most (cond (eqb kind 1) 60 49) (longest_body version kind) n e in
+    (omega (arith, l.0, least_body kind), omega (arith, l.1, most_body version kind))
 
 pub head_bounds : (bytes : List ℕ) (n : ℕ) → head_of bytes ≡ Ok (Some n) → (49 + 40 ≤ n) × (n ≤ 4708)
 head_bounds bytes n e =
     let h = head_is bytes n e in
-    let l = bounds (slice_index bytes 3) (body_len bytes) h.right in
+    let l = bounds (slice_index bytes 2) (slice_index bytes 3) (body_len bytes) h.right in
     (omega (arith, l, h.n-is), omega (arith, l, h.n-is))
 
 short : (b1 b2 b3 b4 b5 : Bool) (m : ℕ) → cond b1 (Err Magic) (cond b2 (Err Version)
@@ -123,8 +142,8 @@ head_fault bytes Memory e = inl refl
 is_not_other : (bytes : List ℕ) (i byte : ℕ) → slice_index bytes i ≡ byte → is_other bytes i byte ≡ false
 is_not_other bytes i byte e = grind (arith, nat_tests)
 
-kind_is : (bytes : List ℕ) → (slice_index bytes 3 ≡ 1) ⊎ (slice_index bytes 3 ≡ 2) → (is_other bytes 3 1 && is_other bytes 3 2) ≡ false
-kind_is bytes k = grind (arith, nat_tests)
+is_one_of : (bytes : List ℕ) (i : ℕ) → (slice_index bytes i ≡ 1) ⊎ (slice_index bytes i ≡ 2) → (is_other bytes i 1 && is_other bytes i 2) ≡ false
+is_one_of bytes i k = grind (arith, nat_tests)
 
 pub head_from : (bytes : List ℕ) (n : ℕ) → IsHead bytes n → head_of bytes ≡ Ok (Some n)
 unfolding head_of
@@ -132,8 +151,8 @@ head_from bytes n h =
     let len = h.len in
     let e0 = is_not_other bytes 0 0x56 h.magic in
     let e1 = is_not_other bytes 1 0x46 h.magic2 in
-    let e2 = is_not_other bytes 2 1 h.version in
-    let e3 = kind_is bytes h.kind in
+    let e2 = is_one_of bytes 2 h.version in
+    let e3 = is_one_of bytes 3 h.kind in
     let e4 : ltb (length bytes) 8 ≡ false = le-ltb (length bytes) 8 len in
     rw (e0, e1, e2, e3, e4, h.right) (ap (λ (m : ℕ). Ok (Some m)) h.n-is)
 

@@ -1,5 +1,5 @@
 -- One piece more.
-use Rattle.std.proofs.Common.{◌≡◌, ◌≢◌, ◌⊎◌, ℕ, ◌+◌, ◌<◌, ◌≤◌, ◌^◌, ◌&&◌, true, nat_le, nat_lt, ◌==◌, eq-eqb, List, [], ◌∷◌, ◌++◌, length, map, get_or, set}
+use Rattle.std.proofs.Common.{◌≡◌, ◌≢◌, ◌⊎◌, ℕ, ◌+◌, ◌-◌, min, slice_get, ◌<◌, ◌≤◌, ◌^◌, ◌&&◌, true, nat_le, nat_lt, ◌==◌, eq-eqb, List, [], ◌∷◌, ◌++◌, length, map, get_or, set}
 use Rattle.std.proofs.Common.{filter, slice_index, arith, refl, sym, ap, subst, ◌∙◌, inl, inr, append_assoc, append-nil, get_or-set_same, get_or-set_other}
 use Rattle.std.proofs.Common.{length-set}
 use Rattle.std.proofs.ByRecursion.{all_kept_by, kept_by_passes}
@@ -24,8 +24,55 @@ use Rattle.fragment_codec.proofs.cuts.Records.{rising, logged_filter, told_betwe
 pub record Ends (from to settled : ℕ) (rest : List Record) : Type 0 where
   pub some : from < to
   pub inside : to ≤ settled
+  pub short : to - from < 2 ^ 32
   pub limit : length (filter (λ fact. nat_lt (count_of fact) to) rest) ≤ 256
-  pub far : (to ≡ settled) ⊎ ((to < settled) × (256 < length (filter (λ fact. nat_lt (count_of fact) (to + 1)) rest)))
+  pub far : (to ≡ settled) ⊎ ((to < settled) × ((256 < length (filter (λ fact. nat_lt (count_of fact) (to + 1)) rest)) ⊎ (to + 1 - from ≡ 2 ^ 32)))
+
+-- the same, as far as records have room
+record RecordsEnd (from to settled : ℕ) (rest : List Record) : Type 0 where
+  some : from < to
+  inside : to ≤ settled
+  limit : length (filter (λ fact. nat_lt (count_of fact) to) rest) ≤ 256
+  far : (to ≡ settled) ⊎ ((to < settled) × (256 < length (filter (λ fact. nat_lt (count_of fact) (to + 1)) rest)))
+
+-- fewer records stand before an earlier count
+fewer : (a b : ℕ) (rs : List Record) → a ≤ b → length (filter (λ fact. nat_lt (count_of fact) a) rs) ≤ length (filter (λ fact. nat_lt (count_of fact) b) rs)
+fewer a b rs le =
+    let both : filter (λ fact. nat_lt (count_of fact) a) (filter (λ fact. nat_lt (count_of fact) b) rs) ≡ filter (λ fact. nat_lt (count_of fact) a) rs =
+    filter-filter (λ fact. nat_lt (count_of fact) a) (λ fact. nat_lt (count_of fact) b) rs ∙
+    filter_agree (λ fact. nat_lt (count_of fact) b && nat_lt (count_of fact) a) (λ fact. nat_lt (count_of fact) a)
+    (λ fact. agree (count_of fact) (cases_lt (count_of fact) a)) rs in
+    omega (arith, filter-le-length (λ fact. nat_lt (count_of fact) a) (filter (λ fact. nat_lt (count_of fact) b) rs), ap length both)
+  where
+    agree : (n : ℕ) → (n < a) ⊎ (a ≤ n) → (nat_lt n b && nat_lt n a) ≡ nat_lt n a
+    agree n (inl less) = rw (lt-ltb n b (omega arith)) refl
+    agree n (inr past) = let no = le-ltb n a past in and_right (nat_lt n b) (nat_lt n a) no ∙ sym no
+
+-- and no more counts than a piece may have
+cut_short : (from end settled : ℕ) (rest : List Record) → RecordsEnd from end settled rest → Ends from (min end (from + (2 ^ 32 - 1))) settled rest
+cut_short from end settled rest e =
+    let some = e.some in
+    let inside = e.inside in
+    elim (cases_lt (from + (2 ^ 32 - 1)) end) [
+      | inl long ↦
+          let to : min end (from + (2 ^ 32 - 1)) ≡ from + (2 ^ 32 - 1) = omega (arith, long) in
+          subst (λ n. Ends from n settled rest) (sym to) (record {
+            some = omega arith;
+            inside = omega (arith, long, inside);
+            short = omega arith;
+            limit = (let l = e.limit in omega (arith, l, fewer (from + (2 ^ 32 - 1)) end rest (omega (arith, long))));
+            far = inr (omega (arith, long, inside), inr (omega arith));
+          })
+      | inr near ↦
+          let to : min end (from + (2 ^ 32 - 1)) ≡ end = omega (arith, near) in
+          subst (λ n. Ends from n settled rest) (sym to) (record {
+            some = some;
+            inside = inside;
+            short = omega (arith, near, some);
+            limit = e.limit;
+            far = elim e.far [ inl all ↦ inl all | inr more ↦ inr (more.0, inl more.1) ];
+          })
+    ]
 
 module _ (harts hart from settled : ℕ) (rest : List Record) (few : harts ≤ 8) (logged : AreLogged harts hart rest) (there : StandBetween from settled rest)
     (some : from < settled) where
@@ -36,7 +83,7 @@ module _ (harts hart from settled : ℕ) (rest : List Record) (few : harts ≤ 8
   at i d below = All-from_recursion (λ fact. (from ≤ count_of fact) × (count_of fact < settled)) rest there i d below
 
   -- the record that has no room
-  over : (fact : Record) → 256 < length rest → get_or rest 256 fact ≡ fact → Ends from (count_of fact) settled rest
+  over : (fact : Record) → 256 < length rest → get_or rest 256 fact ≡ fact → RecordsEnd from (count_of fact) settled rest
   over fact long is =
       record {
         some = later (cases_lt from (count_of fact));
@@ -68,12 +115,12 @@ module _ (harts hart from settled : ℕ) (rest : List Record) (few : harts ≤ 8
           (λ k d a b. eq-eqb _ _ (let low = (at k d (omega arith)).0 in omega (arith, low, before k d b))) in
           absurd (omega (arith, few_at harts hart from rest few logged, many))
 
-  pub ends : Ends from (end_of rest settled) settled rest
-  ends =
+  records_end : RecordsEnd from (end_at (slice_get rest 256) settled) settled rest
+  records_end =
       elim (slice_get_cases rest 256).1 [
-        | inl found ↦ subst (λ o. Ends from (end_at o settled) settled rest) (sym found.2) (over found.0 found.1 found.3)
+        | inl found ↦ subst (λ o. RecordsEnd from (end_at o settled) settled rest) (sym found.2) (over found.0 found.1 found.3)
         | inr past ↦
-            subst (λ o. Ends from (end_at o settled) settled rest) (sym past.1)
+            subst (λ o. RecordsEnd from (end_at o settled) settled rest) (sym past.1)
             (record {
               some = some;
               inside = omega arith;
@@ -81,6 +128,9 @@ module _ (harts hart from settled : ℕ) (rest : List Record) (few : harts ≤ 8
               far = inl refl;
             })
       ]
+
+  pub ends : Ends from (end_of rest from settled) settled rest
+  ends = cut_short from (end_at (slice_get rest 256) settled) settled rest records_end
 
 -- ---- what is left, and the piece at its front
 
@@ -107,7 +157,7 @@ module _ (origin : Origin) (records : List Record) (mark : Mark) (may : MayCut o
       (filter (λ fact. nat_le from (count_of fact)) records) (kept_by_passes (λ fact. nat_le from (count_of fact)) records)
       (all_kept_by (λ fact. nat_le from (count_of fact)) (λ fact. (mark.count ≤ count_of fact) × (count_of fact < origin.settled)) records may.there))
 
-  pub rest_ends : from < origin.settled → Ends from (end_of rest origin.settled) origin.settled rest
+  pub rest_ends : from < origin.settled → Ends from (end_of rest from origin.settled) origin.settled rest
   rest_ends some = ends origin.guest.harts origin.hart from origin.settled rest may.guest.limit rest_logged rest_there some
 
   module _ (to : ℕ) (right : Ends from to origin.settled rest) (part : List Record) (is_part : IsPart to rest part) where
@@ -145,6 +195,7 @@ module _ (origin : Origin) (records : List Record) (mark : Mark) (may : MayCut o
           key = record { hart = may.own; granted = may.granted; term = may.fits; place = below };
           some = right.some;
           end = (let high = may.end in let inside = right.inside in omega arith);
+          short = λ more. right.short;
           records = part_records;
         }
 
@@ -169,10 +220,11 @@ module _ (origin : Origin) (records : List Record) (mark : Mark) (may : MayCut o
           key = refl;
           begins = refl;
           exact = ap told_by is_part ∙ facts_are to;
+          short = right.short;
           far =
               elim right.far [
                 | inl all ↦ inl all
-                | inr more ↦ inr (more.0, subst (λ n. 256 < n) (sym (number_is (to + 1))) more.1)
+                | inr (less, full) ↦ inr (less, elim full [ inl many ↦ inl (subst (λ n. 256 < n) (sym (number_is (to + 1))) many) | inr long ↦ inr long ])
               ];
         }
 
@@ -263,10 +315,10 @@ module _ {origin : Origin} {records : List Record} {old : SealedView} {before : 
 module _ {origin : Origin} {records : List Record} {old : SealedView} {before : List Frame} {seals : SealedView} {after : List Frame} {rest : List
     Record} {from : ℕ}
     (may : MayCut origin records (mark_of old origin.hart)) (h : SoFar origin records old before seals after rest from) (some : from < origin.settled) where
-  pub ends_left : Ends from (end_of rest origin.settled) origin.settled rest
+  pub ends_left : Ends from (end_of rest from origin.settled) origin.settled rest
   ends_left = rest_ends origin records (mark_of old origin.hart) may from rest h.left some
 
-  module _ {to : ℕ} (is_end : to ≡ end_of rest origin.settled) {part : List Record} (is_part : IsPart to rest part) where
+  module _ {to : ℕ} (is_end : to ≡ end_of rest from origin.settled) {part : List Record} (is_part : IsPart to rest part) where
     right : Ends from to origin.settled rest
     right = rw is_end ends_left
 

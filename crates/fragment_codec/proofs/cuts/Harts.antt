@@ -61,14 +61,16 @@ piece_of_whole from log mark piece low is =
       key = is.key;
       begins = is.begins;
       exact = is.exact ∙ between_between from log.settled piece.from piece.to (omega arith) inside log.facts;
+      short = is.short;
       far =
           elim is.far [
             | inl all ↦ inl all
-            | inr more ↦
+            | inr (less, inr long) ↦ inr (less, inr long)
+            | inr (less, inl many) ↦
                 inr (
-                  more.0,
-                  subst (λ f. 256 < number_of f) (between_between from log.settled piece.from (piece.to + 1) (omega arith) (omega (arith, more.0))
-                      log.facts) more.1,
+                  less,
+                  inl (subst (λ f. 256 < number_of f) (between_between from log.settled piece.from (piece.to + 1) (omega arith) (omega (arith, less))
+                      log.facts) many),
                 )
           ];
     }

@@ -83,10 +83,14 @@ no_longer : (log : HartLog) (mark : Mark) (p q : FragmentParts) → IsPiece log 
 no_longer log mark p q is_p is_q less =
     elim is_p.far [
       | inl all ↦ elim is_q.far [ inl also ↦ omega arith | inr more ↦ omega (arith, more.0) ]
-      | inr over ↦
+      | inr (end, inr long) ↦
+          let begins : p.from ≡ q.from = is_p.begins ∙ sym is_q.begins in
+          let short = is_q.short in
+          omega (arith, long, short, begins)
+      | inr (end, inl over) ↦
           let begins : p.from ≡ q.from = is_p.begins ∙ sym is_q.begins in
           let many : 256 < number_of (facts_between q.from (p.to + 1) log.facts) = subst (λ n. 256 < number_of (facts_between n (p.to + 1) log.facts)) begins
-          over.1 in
+          over in
           let more = number_less q.from (p.to + 1) q.to log.facts (omega arith) in
           let limit = is_q.rules.records.limit in
           omega (arith, many, more, limit, ap number_of is_q.exact, number_told q.records)

@@ -1,20 +1,15 @@
 -- One piece after another.
-use Rattle.std.proofs.Common.{◌≡◌, ℕ, List, [], ◌∷◌, ◌++◌, Option, Some, None, refl, sym, ap, subst, ◌∙◌, append_assoc}
-use Rattle.std.specs.List.{flat_map, AllByRecursion}
+use Rattle.std.proofs.Common.{◌≡◌, ℕ, List, [], ◌∷◌, ◌++◌, Option, Some, None, refl, sym, ap, subst, ◌∙◌}
 use Rattle.std.proofs.lemmas.List.{append-nil}
-use Rattle.std.proofs.lemmas.List.Concat.{flat_map-append}
 use Rattle.fragment_codec.specs.declared.fault.FrameFault.{FrameFault}
 use Rattle.fragment_codec.specs.declared.frame.Frame.{Frame}
-use Rattle.fragment_codec.specs.Streams.{spelling, IsFrame, IsPartial, Splits, Unread, Keeps, Follows, HasFault}
+use Rattle.fragment_codec.specs.Streams.{IsPartial, Splits, Unread, Keeps, Follows, HasFault}
 use Rattle.fragment_codec.specs.Fronts.{Advances}
 use Rattle.fragment_codec.proofs.streams.Faults.{fault_more}
-
-all_append : (fs gs : List Frame) → AllByRecursion IsFrame fs → AllByRecursion IsFrame gs → AllByRecursion IsFrame (fs ++ gs)
-all_append [] gs h k = k
-all_append (f ∷ fs) gs h k = (h.0, all_append fs gs h.1 k)
+use Rattle.fragment_codec.proofs.streams.Splits.{splits_none, splits_more, splits_on}
 
 pub nothing_yet : (feed : Unread) → feed ≡ record { rest = []; fault = None } → IsPartial [] → Follows [] [] feed
-nothing_yet feed e p = rw e (record { rest = []; splits = record { whole = refl; each = tt }; keeps = (refl, p) })
+nothing_yet feed e p = rw e (record { rest = []; splits = splits_none []; keeps = (refl, p) })
 
 -- a feed without a fault goes on
 pub follows_on : (stream piece : List ℕ) (given frames : List Frame) (old new : Unread) → old.fault ≡ None → Advances old.rest piece frames new.fault new.rest →
@@ -23,13 +18,9 @@ follows_on stream piece given frames old new none a f =
     let k = subst (λ (o : Option FrameFault). Keeps f.rest old.rest o) none f.keeps in
     record {
       rest = a.rest;
-      splits = record {
-        whole = ap (λ (x : List ℕ). x ++ piece) f.splits.whole ∙ append_assoc (flat_map spelling given) f.rest piece ∙
-            ap (λ (x : List ℕ). flat_map spelling given ++ (x ++ piece)) (sym k.0)
-            ∙ ap (λ (x : List ℕ). flat_map spelling given ++ x) a.splits.whole ∙ sym (append_assoc (flat_map spelling given) (flat_map spelling frames)
-            a.rest) ∙ ap (λ (x : List ℕ). x ++ a.rest) (sym (flat_map-append spelling given frames));
-        each = all_append given frames f.splits.each a.splits.each;
-      };
+      splits =
+          splits_on (stream ++ piece) (f.rest ++ piece) a.rest given frames (splits_more stream f.rest piece given f.splits)
+          (subst (λ (x : List ℕ). Splits (x ++ piece) frames a.rest) k.0 a.splits);
       keeps = a.keeps;
     }
 
@@ -47,14 +38,10 @@ follows_fault stream piece given old fault some f =
     let k : HasFault f.rest fault = subst (λ (o : Option FrameFault). Keeps f.rest old.rest o) some f.keeps in
     record {
       rest = f.rest ++ piece;
-      splits = record { whole = ap (λ (x : List ℕ). x ++ piece) f.splits.whole ∙ append_assoc (flat_map spelling given) f.rest piece; each = f.splits.each };
+      splits = splits_more stream f.rest piece given f.splits;
       keeps = subst (λ (o : Option FrameFault). Keeps (f.rest ++ piece) old.rest o) (sym some) (fault_more f.rest piece fault k);
     }
 
 pub no_fault : (o : Option FrameFault) → ((f : FrameFault) → o ≡ Some f → ⊥) → o ≡ None
 no_fault None h = refl
 no_fault (Some f) h = absurd (h f refl)
-
--- one frame alone
-pub alone : (f : Frame) → IsFrame f → Splits (spelling f) (f ∷ []) []
-alone f h = record { whole = sym (append-nil (spelling f)) ∙ sym (append-nil (spelling f ++ [])); each = (h, tt) }

@@ -1,5 +1,5 @@
 -- What the walk through the records of a fragment keeps, and what reading a frame again needs of the rules.
-use Rattle.std.proofs.Common.{◌≡◌, ◌+◌, ◌<◌, ◌≤◌, ◌^◌, ℕ, suc, Bool, true, false, List, ◌∷◌, Some, None, length, drop, get_or, refl, sym, ap, ◌∙◌, add-one}
+use Rattle.std.proofs.Common.{◌≡◌, ◌≢◌, ◌+◌, ◌-◌, ◌<◌, ◌≤◌, ◌^◌, ℕ, suc, Bool, true, false, List, ◌∷◌, Some, None, length, drop, get_or, refl, sym, ap, ◌∙◌, add-one}
 use Rattle.std.proofs.Common.{drop-cons, arith}
 use Rattle.std.specs.List.{AllByRecursion}
 use Rattle.std.proofs.lemmas.List.{drop_all}
@@ -40,21 +40,33 @@ FitsInput Timer = Unit {0}
 FitsInput (Word w) = w < 2 ^ 32
 FitsInput (Bell source) = source < 8
 
-abbrev pub FitsRecord : ℕ → Record → Type 0
-FitsRecord hart (EdgeRecord edge) = (edge.hart ≡ hart) × (edge.at < 2 ^ 64) × (edge.other < 8) × (edge.after < 2 ^ 64)
-FitsRecord hart (InputRecord at input) = (at < 2 ^ 64) × FitsInput input
+-- a count that the version can tell, in a fragment that begins at `from`
+abbrev pub FitsStand : ℕ → ℕ → ℕ → Type 0
+FitsStand version from at = (at < 2 ^ 64) × (version ≢ 1 → (from ≤ at) × (at - from < 2 ^ 32))
+
+abbrev pub FitsRecord : ℕ → ℕ → ℕ → Record → Type 0
+FitsRecord version from hart (EdgeRecord edge) = (edge.hart ≡ hart) × FitsStand version from edge.at × (edge.other < 8) × (edge.after < 2 ^ 64)
+FitsRecord version from hart (InputRecord at input) = FitsStand version from at × FitsInput input
 
 input_fits : (harts : ℕ) (i : HartInput) → harts ≤ 8 → IsInputOf harts i → FitsInput i
 input_fits harts Timer le h = tt
 input_fits harts (Word w) le h = h
 input_fits harts (Bell source) le h = omega (arith, h)
 
-record_fits : (harts hart from to : ℕ) → harts ≤ 8 → to < 2 ^ 48 → (r : Record) → IsRecordOf harts hart from to r → FitsRecord hart r
-record_fits harts hart from to le small (EdgeRecord e) h = (h.0.0, omega (arith, h.2), omega (arith, h.0.1), omega (arith, h.0.4))
-record_fits harts hart from to le small (InputRecord c i) h = (omega (arith, h.2), input_fits harts i le h.0)
+stand_fits : (version from to at : ℕ) → to < 2 ^ 48 → (version ≢ 1 → to - from < 2 ^ 32) → from ≤ at → at < to → FitsStand version from at
+stand_fits version from to at small short low high = (omega (arith, high), λ ne. (low, omega (arith, short ne)))
 
-pub records_fit : (f : FragmentParts) → IsFragment f → AllByRecursion (FitsRecord f.key.hart) f.records
-records_fit f h = all_map _ (FitsRecord f.key.hart) (record_fits f.guest.harts f.key.hart f.from f.to h.guest.limit h.end) f.records h.records.each
+record_fits : (version harts hart from to : ℕ) → harts ≤ 8 → to < 2 ^ 48 → (version ≢ 1 → to - from < 2 ^ 32) → (r : Record) →
+    IsRecordOf harts hart from to r → FitsRecord version from hart r
+record_fits version harts hart from to le small short (EdgeRecord e) h =
+    (h.0.0, stand_fits version from to e.at small short h.1 h.2, omega (arith, h.0.1), omega (arith, h.0.4))
+record_fits version harts hart from to le small short (InputRecord c i) h =
+    (stand_fits version from to c small short h.1 h.2, input_fits harts i le h.0)
+
+pub records_fit : (version : ℕ) (f : FragmentParts) → IsFragment f → (version ≢ 1 → f.to - f.from < 2 ^ 32) →
+    AllByRecursion (FitsRecord version f.from f.key.hart) f.records
+records_fit version f h short =
+    all_map _ (FitsRecord version f.from f.key.hart) (record_fits version f.guest.harts f.key.hart f.from f.to h.guest.limit h.end short) f.records h.records.each
 
 pub counts_fit : (o : OpeningParts) → IsOpening o → AllByRecursion (λ n. n < 2 ^ 64) o.base
 counts_fit o h = all_map IsCount (λ n. n < 2 ^ 64) (λ n lt. omega (arith, lt)) o.base h.counts

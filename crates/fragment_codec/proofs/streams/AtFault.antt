@@ -1,13 +1,13 @@
 -- Faults as a reader finds them, and by their bytes.
 use Rattle.std.proofs.Common.{◌≡◌, ℕ, ◌<◌, ◌≤◌, Bool, true, false, cond, ltb, ◌&&◌, ◌||◌, List, length, slice_index}
-use Rattle.std.proofs.Common.{Option, Some, None, Result, Ok, Err, refl, sym, ◌∙◌, arith, inl, inr, ◌⊎◌}
+use Rattle.std.proofs.Common.{Option, Some, None, Result, Ok, Err, refl, sym, subst, ◌∙◌, arith, inl, inr, ◌⊎◌}
 use Rattle.std.proofs.lemmas.Bool.{le-ltb}
 use Rattle.std.proofs.lemmas.Bool.Decides.{nat_tests}
 use Rattle.fragment_codec.specs.declared.fault.FrameFault.{FrameFault}
 use Rattle.fragment_codec.specs.declared.fault.FrameFault.TheVariants.{Magic, Version, Kind, Length, Digest, Body, Memory}
-use Rattle.fragment_codec.specs.Streams.{is_other, body_len, is_body_len, head_of, IsWhole}
+use Rattle.fragment_codec.specs.Streams.{is_other, body_len, longest_body, is_body_len, head_of, IsWhole}
 use Rattle.fragment_codec.specs.AtFault.{Has, HasOther, IsBodyLen, HasVersion, IsAllThere, IsAtFault, FaultsByBytes}
-use Rattle.fragment_codec.proofs.bytes.Heads.{head_is, head_from}
+use Rattle.fragment_codec.proofs.bytes.Heads.{head_is, head_from, least_most, right_len}
 
 -- which test of a head has failed
 abbrev outcome : Bool → Bool → Bool → Bool → Bool → ℕ → Result (Option ℕ) FrameFault
@@ -73,30 +73,39 @@ is_it bytes i byte there e = (there, grind (arith, nat_tests))
 it_is : (bytes : List ℕ) (i byte : ℕ) → Has bytes i byte → is_other bytes i byte ≡ false
 it_is bytes i byte (there, e) = grind (arith, nat_tests)
 
-kinds : (bytes : List ℕ) → Has bytes 3 1 ⊎ Has bytes 3 2 → (is_other bytes 3 1 && is_other bytes 3 2) ≡ false
-kinds bytes (inl (there, e)) = grind (arith, nat_tests)
-kinds bytes (inr (there, e)) = grind (arith, nat_tests)
+-- versions, and kinds
+one_of : (bytes : List ℕ) (i : ℕ) → Has bytes i 1 ⊎ Has bytes i 2 → (is_other bytes i 1 && is_other bytes i 2) ≡ false
+one_of bytes i (inl (there, e)) = grind (arith, nat_tests)
+one_of bytes i (inr (there, e)) = grind (arith, nat_tests)
 
-one_kind : (bytes : List ℕ) → 3 < length bytes → (is_other bytes 3 1 && is_other bytes 3 2) ≡ false → Has bytes 3 1 ⊎ Has bytes 3 2
-one_kind bytes there e = grind (arith, nat_tests)
+is_one : (bytes : List ℕ) (i : ℕ) → i < length bytes → (is_other bytes i 1 && is_other bytes i 2) ≡ false → Has bytes i 1 ⊎ Has bytes i 2
+is_one bytes i there e = grind (arith, nat_tests)
+
+and_true : (a b : Bool) → a ≡ true → b ≡ true → (a && b) ≡ true
+and_true true b e h = h
+and_true false b e h = absurd cc
 
 -- ---- lengths of bodies
 
-len_is : (kind n : ℕ) → (kind ≡ 1) ⊎ (kind ≡ 2) → is_body_len kind n ≡ true → IsBodyLen kind n
-len_is kind n (inl e) is = inl (e, grind (arith, nat_tests), grind (arith, nat_tests))
-len_is kind n (inr e) is = inr (e, grind (arith, nat_tests), grind (arith, nat_tests))
+len_is : (version kind n : ℕ) → (kind ≡ 1) ⊎ (kind ≡ 2) → is_body_len version kind n ≡ true → IsBodyLen version kind n
+len_is version kind n (inl e) is =
+    let l = least_most 60 (longest_body version 1) n (subst (λ (k : ℕ). is_body_len version k n ≡ true) e is) in
+    inl (e, l.0, l.1)
+len_is version kind n (inr e) is =
+    let l = least_most 49 (longest_body version 2) n (subst (λ (k : ℕ). is_body_len version k n ≡ true) e is) in
+    inr (e, l.0, l.1)
 
-is_len : (kind n : ℕ) → IsBodyLen kind n → is_body_len kind n ≡ true
-is_len kind n (inl (e, least, most)) = grind (arith, nat_tests)
-is_len kind n (inr (e, least, most)) = grind (arith, nat_tests)
+is_len : (version kind n : ℕ) → IsBodyLen version kind n → is_body_len version kind n ≡ true
+is_len version kind n (inl (e, least, most)) = subst (λ (k : ℕ). is_body_len version k n ≡ true) (sym e) (right_len version 1 n least most)
+is_len version kind n (inr (e, least, most)) = subst (λ (k : ℕ). is_body_len version k n ≡ true) (sym e) (right_len version 2 n least most)
 
 not_len : (b : Bool) → (b ≡ true → ⊥) → b ≡ false
 not_len true ne = absurd (ne refl)
 not_len false ne = refl
 
-kind_of : (bytes : List ℕ) → Has bytes 3 1 ⊎ Has bytes 3 2 → (slice_index bytes 3 ≡ 1) ⊎ (slice_index bytes 3 ≡ 2)
-kind_of bytes (inl h) = inl h.1
-kind_of bytes (inr h) = inr h.1
+which : (bytes : List ℕ) (i : ℕ) → Has bytes i 1 ⊎ Has bytes i 2 → (slice_index bytes i ≡ 1) ⊎ (slice_index bytes i ≡ 2)
+which bytes i (inl h) = inl h.1
+which bytes i (inr h) = inr h.1
 
 -- ---- faults of the head
 
@@ -124,22 +133,25 @@ unfolding head_of
 version bytes e =
     let t = version_by _ _ _ _ _ _ e in
     let m = neither (is_other bytes 0 0x56) (is_other bytes 1 0x46) t.0 in
-    let other = is_another bytes 2 1 t.1 in
-    (is_it bytes 0 0x56 (omega (arith, other)) m.0, is_it bytes 1 0x46 (omega (arith, other)) m.1, other)
+    let b = both (is_other bytes 2 1) (is_other bytes 2 2) t.1 in
+    let other = is_another bytes 2 1 b.0 in
+    (is_it bytes 0 0x56 (omega (arith, other)) m.0, is_it bytes 1 0x46 (omega (arith, other)) m.1, other, is_another bytes 2 2 b.1)
 
 version_back : (bytes : List ℕ) → IsAtFault bytes Version → head_of bytes ≡ Err Version
 unfolding head_of
-version_back bytes (first, second, other) = rw (it_is bytes 0 0x56 first, it_is bytes 1 0x46 second, another_is bytes 2 1 other) refl
+version_back bytes (first, second, other, another) =
+    rw (it_is bytes 0 0x56 first, it_is bytes 1 0x46 second, another_is bytes 2 1 other, another_is bytes 2 2 another) refl
 
 module _ (bytes : List ℕ) where
-  -- the bytes of version 1 are there, where the fourth byte is
-  version1 : 3 < length bytes → (is_other bytes 0 0x56 || is_other bytes 1 0x46) ≡ false → is_other bytes 2 1 ≡ false → HasVersion bytes
-  version1 there none same =
+  -- the bytes of a version are there, where the fourth byte is
+  has_version : 3 < length bytes → (is_other bytes 0 0x56 || is_other bytes 1 0x46) ≡ false → (is_other bytes 2 1 && is_other bytes 2 2) ≡ false →
+      HasVersion bytes
+  has_version there none same =
       let m = neither (is_other bytes 0 0x56) (is_other bytes 1 0x46) none in
       record {
         first = is_it bytes 0 0x56 (omega (arith, there)) m.0;
         second = is_it bytes 1 0x46 (omega (arith, there)) m.1;
-        version = is_it bytes 2 1 (omega (arith, there)) same;
+        version = is_one bytes 2 (omega (arith, there)) same;
       }
 
 kind : (bytes : List ℕ) → head_of bytes ≡ Err Kind → IsAtFault bytes Kind
@@ -148,12 +160,12 @@ kind bytes e =
     let t = kind_by _ _ _ _ _ _ e in
     let b = both (is_other bytes 3 1) (is_other bytes 3 2) t.2 in
     let other = is_another bytes 3 1 b.0 in
-    (version1 bytes other.0 t.0 t.1, other, is_another bytes 3 2 b.1)
+    (has_version bytes other.0 t.0 t.1, other, is_another bytes 3 2 b.1)
 
 kind_back : (bytes : List ℕ) → IsAtFault bytes Kind → head_of bytes ≡ Err Kind
 unfolding head_of
 kind_back bytes (v, one, two) =
-    rw (it_is bytes 0 0x56 v.first, it_is bytes 1 0x46 v.second, it_is bytes 2 1 v.version, another_is bytes 3 1 one, another_is bytes 3 2 two) refl
+    rw (it_is bytes 0 0x56 v.first, it_is bytes 1 0x46 v.second, one_of bytes 2 v.version, another_is bytes 3 1 one, another_is bytes 3 2 two) refl
 
 length_fault : (bytes : List ℕ) → head_of bytes ≡ Err Length → IsAtFault bytes Length
 unfolding head_of
@@ -161,11 +173,11 @@ length_fault bytes e =
     let t = length_by _ _ _ _ _ _ e in
     let there : 8 ≤ length bytes = (let g = t.3 in grind (arith, nat_tests)) in (
       record {
-        version = version1 bytes (omega (arith, there)) t.0 t.1;
-        kind = one_kind bytes (omega (arith, there)) t.2;
+        version = has_version bytes (omega (arith, there)) t.0 t.1;
+        kind = is_one bytes 3 (omega (arith, there)) t.2;
         there = there;
       },
-      λ is. let right = is_len (slice_index bytes 3) (body_len bytes) is in let wrong = t.4 in let same = sym wrong ∙ right in cc,
+      λ is. let right = is_len (slice_index bytes 2) (slice_index bytes 3) (body_len bytes) is in let wrong = t.4 in let same = sym wrong ∙ right in cc,
     )
 
 length_back : (bytes : List ℕ) → IsAtFault bytes Length → head_of bytes ≡ Err Length
@@ -173,9 +185,10 @@ unfolding head_of
 length_back bytes (tells, ne) =
     let v = tells.version in
     let short : ltb (length bytes) 8 ≡ false = le-ltb (length bytes) 8 tells.there in
-    let wrong : is_body_len (slice_index bytes 3) (body_len bytes) ≡ false =
-    not_len (is_body_len (slice_index bytes 3) (body_len bytes)) (λ right. ne (len_is (slice_index bytes 3) (body_len bytes) (kind_of bytes tells.kind) right)) in
-    rw (it_is bytes 0 0x56 v.first, it_is bytes 1 0x46 v.second, it_is bytes 2 1 v.version, kinds bytes tells.kind, short, wrong) refl
+    let wrong : is_body_len (slice_index bytes 2) (slice_index bytes 3) (body_len bytes) ≡ false =
+    not_len (is_body_len (slice_index bytes 2) (slice_index bytes 3) (body_len bytes))
+    (λ right. ne (len_is (slice_index bytes 2) (slice_index bytes 3) (body_len bytes) (which bytes 3 tells.kind) right)) in
+    rw (it_is bytes 0 0x56 v.first, it_is bytes 1 0x46 v.second, one_of bytes 2 v.version, one_of bytes 3 tells.kind, short, wrong) refl
 
 -- ---- whole frames
 
@@ -190,12 +203,12 @@ all_there bytes n whole =
                 record {
                   first = (omega (arith, len), h.magic);
                   second = (omega (arith, len), h.magic2);
-                  version = (omega (arith, len), h.version);
+                  version = elim h.version [ inl e ↦ inl (omega (arith, len), e) | inr e ↦ inr (omega (arith, len), e) ];
                 };
             kind = elim h.kind [ inl e ↦ inl (omega (arith, len), e) | inr e ↦ inr (omega (arith, len), e) ];
             there = len;
           };
-      body = len_is (slice_index bytes 3) (body_len bytes) h.kind h.right;
+      body = len_is (slice_index bytes 2) (slice_index bytes 3) (body_len bytes) h.kind h.right;
       size = h.n-is;
       there = whole.there;
     }
@@ -208,10 +221,10 @@ whole bytes n all =
         len = all.tells.there;
         magic = v.first.1;
         magic2 = v.second.1;
-        version = v.version.1;
-        kind = kind_of bytes all.tells.kind;
+        version = which bytes 2 v.version;
+        kind = which bytes 3 all.tells.kind;
         n-is = all.size;
-        right = is_len (slice_index bytes 3) (body_len bytes) all.body;
+        right = is_len (slice_index bytes 2) (slice_index bytes 3) (body_len bytes) all.body;
       });
       there = all.there;
     }

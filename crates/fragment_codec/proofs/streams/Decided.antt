@@ -1,5 +1,5 @@
 -- Whether a frame keeps the rules is decided by tests of numbers.
-use Rattle.std.proofs.Common.{◌≡◌, ◌<◌, ◌≤◌, ◌^◌, ℕ, List, [], ◌∷◌, length, slice_index, refl, sym, ◌∙◌, arith, inl, inr, ◌⊎◌}
+use Rattle.std.proofs.Common.{◌≡◌, ◌<◌, ◌≤◌, ◌-◌, ◌^◌, Bool, true, false, ℕ, List, [], ◌∷◌, length, slice_index, refl, sym, ◌∙◌, arith, inl, inr, ◌⊎◌}
 use Rattle.std.specs.List.{AllByRecursion}
 use Rattle.std.proofs.lemmas.Bool.{cases_lt, cases_eq, cases_Bool}
 use Rattle.std.proofs.lemmas.List.{get_or_past}
@@ -12,7 +12,7 @@ use Rattle.fragment_codec.specs.declared.types.Key.{Key}
 use Rattle.fragment_codec.specs.declared.types.Record.{Record}
 use Rattle.fragment_codec.specs.Rules.{IsKey, AreRecords, FragmentParts, IsFragment, OpeningParts, IsOpening}
 use Rattle.fragment_codec.specs.Slots.{are_right}
-use Rattle.fragment_codec.specs.Streams.{IsFrame}
+use Rattle.fragment_codec.specs.Streams.{Spelled, harts_of, is_short, IsSpelled, IsFrame}
 use Rattle.fragment_codec.proofs.records.Slots.{right_records, records_right}
 
 -- it holds, or it does not
@@ -90,9 +90,10 @@ fragment : (f : FragmentParts) → Decided (IsFragment f)
 fragment f =
     elim (guest f.guest) [
       | inl g ↦
-          by_same (λ h. record { guest = g; key = h.0; some = h.1.0; end = h.1.1.0; records = h.1.1.1 }) (λ h. (h.key, (h.some, (h.end, h.records))))
+          by_same (λ h. record { guest = g; key = h.0; some = h.1.0; end = h.1.1.0; short = h.1.1.1.0; records = h.1.1.1.1 })
+          (λ h. (h.key, (h.some, (h.end, (h.short, h.records)))))
           (both (key f.guest.harts f.key) (both (below f.from f.to) (both (below f.to (2 ^ 48))
-          (records f.guest.harts f.key.hart f.from f.to f.records g.limit))))
+          (both (given (below 8 f.guest.harts) (below (f.to - f.from) (2 ^ 32))) (records f.guest.harts f.key.hart f.from f.to f.records g.limit)))))
       | inr fails ↦ inr (λ h. fails h.guest)
     ]
 
@@ -105,6 +106,22 @@ opening o =
     (both (guest o.guest) (both (at_most 1 o.term) (both (below o.term (2 ^ 32)) (both (below o.parent o.term)
     (both (cases_eq (length o.base) o.guest.harts) (both (all IsCount (λ n. below n (2 ^ 48)) o.base) (given (cases_eq o.parent 0) zeros)))))))
 
-pub frame : (f : Frame) → Decided (IsFrame f)
+frame : (f : Frame) → Decided (IsFrame f)
 frame (Log f) = fragment f
 frame (Opening o) = opening o
+
+-- ---- versions
+
+either : {P Q : Type 0} → Decided P → Decided Q → Decided (P ⊎ Q)
+either (inl p) q = inl (inl p)
+either (inr fails) (inl q) = inl (inr q)
+either (inr fails) (inr ends) = inr (λ h. elim h [ inl p ↦ fails p | inr q ↦ ends q ])
+
+is_true : (b : Bool) → Decided (b ≡ true)
+is_true true = inl refl
+is_true false = inr (λ e. cc)
+
+pub spelled : (s : Spelled) → Decided (IsSpelled s)
+spelled s =
+    by_same (λ h. record { rules = h.0; told = h.1 }) (λ h. (h.rules, h.told))
+    (both (frame s.frame) (either (both (cases_eq s.version 1) (at_most (harts_of s.frame) 8)) (both (cases_eq s.version 2) (is_true (is_short s.frame)))))

@@ -54,15 +54,18 @@ unfolding head_of
 long_head b more t =
     let e0 = is_other-append b more 0 0x56 (omega (arith, t)) in
     let e1 = is_other-append b more 1 0x46 (omega (arith, t)) in
+    let v1 = is_other-append b more 2 1 (omega (arith, t)) in
+    let v2 = is_other-append b more 2 2 (omega (arith, t)) in
     let e3 = is_other-append b more 3 1 (omega (arith, t)) in
     let e4 = is_other-append b more 3 2 (omega (arith, t)) in
     chain_same _ _ _ _ _ _ _ _ _ _ _ _
     (ap (λ (x : Bool). x || is_other (b ++ more) 1 0x46) e0 ∙ ap (λ (x : Bool). is_other b 0 0x56 || x) e1)
-    (is_other-append b more 2 1 (omega (arith, t)))
+    (ap (λ (x : Bool). x && is_other (b ++ more) 2 2) v1 ∙ ap (λ (x : Bool). is_other b 2 1 && x) v2)
     (ap (λ (x : Bool). x && is_other (b ++ more) 3 2) e3 ∙ ap (λ (x : Bool). is_other b 3 1 && x) e4)
     (le-ltb (length (b ++ more)) 8 (omega (arith, t, length-append b more)) ∙ sym (le-ltb (length b) 8 t))
-    (ap (λ (x : ℕ). is_body_len x (body_len (b ++ more))) (get_or_append_left b more 0 3 (omega (arith, t))) ∙ ap (λ (x : ℕ). is_body_len (slice_index b 3) x)
-    (body_len-append b more t))
+    (ap (λ (x : ℕ). is_body_len x (slice_index (b ++ more) 3) (body_len (b ++ more))) (get_or_append_left b more 0 2 (omega (arith, t))) ∙
+    ap (λ (x : ℕ). is_body_len (slice_index b 2) x (body_len (b ++ more))) (get_or_append_left b more 0 3 (omega (arith, t))) ∙
+    ap (λ (x : ℕ). is_body_len (slice_index b 2) (slice_index b 3) x) (body_len-append b more t))
     (ap (λ (x : ℕ). x + 40) (body_len-append b more t))
 
 pub head_fault_more : (b more : List ℕ) (f : FrameFault) → head_of b ≡ Err f → head_of (b ++ more) ≡ Err f
@@ -77,13 +80,14 @@ head_fault_more b more f e =
           ] in
           rw m h.1
       | inr h ↦
-          elim (chosen (is_other b 2 1) _ _ _ h.1) [
+          elim (chosen (is_other b 2 1 && is_other b 2 2) _ _ _ h.1) [
             | inl v ↦
-                let t = there b 2 1 v.0 in
+                let t = there b 2 1 (and_parts (is_other b 2 1) (is_other b 2 2) v.0).0 in
                 rw (
                   is_other-append b more 0 0x56 (omega (arith, t)),
                   is_other-append b more 1 0x46 (omega (arith, t)),
                   is_other-append b more 2 1 t,
+                  is_other-append b more 2 2 t,
                   h.0,
                   v.0,
                 ) v.1
@@ -94,8 +98,8 @@ head_fault_more b more f e =
                       rw (
                         is_other-append b more 0 0x56 (omega (arith, t)),
                         is_other-append b more 1 0x46 (omega (arith, t)),
-                        is_other-append b more 2 1
-                            (omega (arith, t)),
+                        is_other-append b more 2 1 (omega (arith, t)),
+                        is_other-append b more 2 2 (omega (arith, t)),
                         is_other-append b more 3 1 t,
                         is_other-append b more 3 2 t,
                         h.0,

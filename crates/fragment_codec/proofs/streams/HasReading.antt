@@ -1,20 +1,21 @@
 -- Every stream has a reading: what stands at its front is decided, and behind a frame stands a shorter stream.
 use Rattle.std.proofs.Common.{◌≡◌, ◌≤◌, ◌-◌, ℕ, zero, suc, List, [], ◌∷◌, ◌++◌, length, take, drop, slice_index, Option, Some, None, Result, Ok, Err}
-use Rattle.std.proofs.Common.{refl, sym, ap, subst, ◌∙◌, append_assoc, arith, inl, inr, ◌⊎◌}
-use Rattle.std.specs.List.{flat_map}
+use Rattle.std.proofs.Common.{refl, sym, ap, subst, ◌∙◌, arith, inl, inr, ◌⊎◌}
 use Rattle.std.proofs.lemmas.Bool.{cases_lt}
-use Rattle.std.proofs.lemmas.List.{take-append-drop, length-drop}
+use Rattle.std.proofs.lemmas.List.{length-drop}
 use Rattle.fragment_codec.specs.declared.fault.FrameFault.{FrameFault}
 use Rattle.fragment_codec.specs.declared.fault.FrameFault.TheVariants.{Digest, Body}
 use Rattle.fragment_codec.specs.declared.frame.Frame.{Frame}
 use Rattle.fragment_codec.specs.declared.front.Front.TheVariants.{Whole}
-use Rattle.fragment_codec.specs.Fronts.{IsFront}
+use Rattle.fragment_codec.specs.Fronts.{IsFront, spelled_in}
 use Rattle.fragment_codec.specs.Reading.{frame_of}
 use Rattle.fragment_codec.specs.Spelling.{sealed}
-use Rattle.fragment_codec.specs.Streams.{spelling, IsFrame, head_of, IsWhole, HasDigest, IsStuck, HasReading}
+use Rattle.fragment_codec.specs.Streams.{Spelled, text_of, IsSpelled, head_of, IsWhole, HasDigest, IsStuck, HasReading}
 use Rattle.fragment_codec.proofs.bytes.Heads.{head_bounds, head_fault, not_memory}
-use Rattle.fragment_codec.proofs.bytes.Frames.{frame_back}
-use Rattle.fragment_codec.proofs.streams.Decided.{Decided, both, same_list, frame}
+use Rattle.fragment_codec.proofs.bytes.Fields.{some_is}
+use Rattle.fragment_codec.proofs.bytes.Frames.{IsAgain, frame_back, frame_same}
+use Rattle.fragment_codec.proofs.streams.Decided.{Decided, both, same_list, spelled}
+use Rattle.fragment_codec.proofs.streams.Splits.{splits_none, splits_front, splits_on}
 
 -- no frame stands at the front, or this one
 abbrev AtFront : List ℕ → Type 0
@@ -29,13 +30,18 @@ digest bytes = same_list bytes (sealed (take (length bytes - 32) bytes))
 
 module _ (bytes : List ℕ) where
   -- a frame that the first n bytes spell is read there
-  again : (n : ℕ) → IsWhole bytes n → (f : Frame) → IsFrame f → take n bytes ≡ spelling f → frame_of (slice_index bytes 3) (body_in bytes n) ≡ Some f
+  again : (n : ℕ) → IsWhole bytes n → (s : Spelled) → IsSpelled s → take n bytes ≡ text_of s → IsAgain s.version s.frame bytes (body_in bytes n)
   again n w = frame_back bytes n _ _ _ (record { head = w.head; there = w.there; whole-is = refl; text-is = refl }) refl
 
-  by_body : (n : ℕ) → IsWhole bytes n → HasDigest (take n bytes) → (read : Option Frame) → frame_of (slice_index bytes 3) (body_in bytes n) ≡ read → AtFront bytes
-  by_body n w d None e = inl (inr (Body, (n, w, d, λ f h s. let same = sym e ∙ again n w f h s in cc)))
+  same_frame : (n : ℕ) → IsWhole bytes n → (s : Spelled) → IsSpelled s → take n bytes ≡ text_of s →
+      frame_of (slice_index bytes 2) (slice_index bytes 3) (body_in bytes n) ≡ Some s.frame
+  same_frame n w = frame_same bytes n _ _ _ (record { head = w.head; there = w.there; whole-is = refl; text-is = refl }) refl
+
+  by_body : (n : ℕ) → IsWhole bytes n → HasDigest (take n bytes) → (read : Option Frame) →
+      frame_of (slice_index bytes 2) (slice_index bytes 3) (body_in bytes n) ≡ read → AtFront bytes
+  by_body n w d None e = inl (inr (Body, (n, w, d, λ s h t. let same = sym e ∙ same_frame n w s h t in cc)))
   by_body n w d (Some f) e =
-      elim (both (frame f) (same_list (take n bytes) (spelling f))) [
+      elim (both (spelled (spelled_in bytes f)) (same_list (take n bytes) (text_of (spelled_in bytes f)))) [
         | inl is ↦ inr (f, n, (w, omega (arith, head_bounds bytes n w.head), is.0, is.1))
         | inr fails ↦ inl (inr (
           Body,
@@ -43,10 +49,13 @@ module _ (bytes : List ℕ) where
             n,
             w,
             d,
-            λ g h s.
-                let both_read = sym e ∙ again n w g h s in
-                let same : f ≡ g = cc in
-                fails (subst IsFrame (sym same) h, s ∙ ap spelling (sym same)),
+            λ s h t.
+                let frame : f ≡ s.frame = some_is f s.frame (sym e ∙ same_frame n w s h t) in
+                let version : slice_index bytes 2 ≡ s.version = (again n w s h t).byte in
+                let same : s ≡ spelled_in bytes f =
+                ap (λ (v : ℕ). record { version = v; frame = s.frame }) (sym version)
+                ∙ ap (λ (g : Frame). record { version = slice_index bytes 2; frame = g }) (sym frame) in
+                fails (subst IsSpelled same h, t ∙ ap text_of same),
           ),
         ))
       ]
@@ -65,13 +74,10 @@ module _ (bytes : List ℕ) where
   step : ((n : ℕ) → 40 ≤ n → n ≤ length bytes → HasReading (drop n bytes)) → HasReading bytes
   step behind =
       elim (by_head (head_of bytes) refl) [
-        | inl stuck ↦ ([], bytes, record { whole = refl; each = tt }, stuck)
+        | inl stuck ↦ ([], bytes, splits_none bytes, stuck)
         | inr (f, n, (w, least, h, text)) ↦
             let r = behind n least w.there in
-            let whole : bytes ≡ flat_map spelling (f ∷ r.0) ++ r.1 =
-            sym (take-append-drop n bytes) ∙ ap (λ (x : List ℕ). x ++ drop n bytes) text ∙ ap (λ (x : List ℕ). spelling f ++ x) r.2.whole
-            ∙ sym (append_assoc (spelling f) (flat_map spelling r.0) r.1) in
-            (f ∷ r.0, r.1, record { whole = whole; each = (h, r.2.each) }, r.3)
+            (f ∷ r.0, r.1, splits_on bytes (drop n bytes) r.1 (f ∷ []) r.0 (splits_front bytes f n (w, least, h, text)) r.2, r.3)
       ]
 
 by_length : (limit : ℕ) (bytes : List ℕ) → length bytes ≤ limit → HasReading bytes

@@ -1,17 +1,16 @@
 -- A stream has one reading: its whole right frames, and then a rest that is no whole frame or has its one fault.
-use Rattle.std.proofs.Common.{◌≡◌, ◌≢◌, ℕ, ◌-◌, ◌<◌, ◌≤◌, List, [], ◌∷◌, ◌++◌, length, take, Option, Some, None, Ok, Err, refl, sym, ap, subst, ◌∙◌}
+use Rattle.std.proofs.Common.{◌≡◌, ◌≢◌, ℕ, ◌-◌, ◌<◌, ◌≤◌, List, [], ◌∷◌, ◌++◌, length, map, take, Option, Some, None, Ok, Err, refl, sym, ap, subst, ◌∙◌}
 use Rattle.std.proofs.Common.{append_assoc, arith, inl, inr, ◌⊎◌}
 use Rattle.std.specs.List.{flat_map, AllByRecursion}
 use Rattle.std.proofs.lemmas.List.{take_at, length-append}
 use Rattle.sha2.specs.Sha256.{sha256}
 use Rattle.sha2.proofs.Facts256.{length-sha256}
-use Rattle.fragment_codec.specs.declared.types.TheConstants.{FRAME_VERSION}
 use Rattle.fragment_codec.specs.declared.fault.FrameFault.{FrameFault}
 use Rattle.fragment_codec.specs.declared.fault.FrameFault.TheVariants.{Magic, Version, Kind, Length, Digest, Body, Memory}
 use Rattle.fragment_codec.specs.declared.frame.Frame.{Frame}
 use Rattle.fragment_codec.specs.declared.frame.Frame.TheVariants.{Log, Opening}
 use Rattle.fragment_codec.specs.Spelling.{headed, sealed, log_body, opening_body}
-use Rattle.fragment_codec.specs.Streams.{spelling, IsFrame, head_of, HasDigest, IsPartial, HasFault, IsStuck, Splits, Unread, Keeps, Follows}
+use Rattle.fragment_codec.specs.Streams.{Spelled, text_of, spelled, IsSpelled, head_of, HasDigest, IsPartial, HasFault, IsStuck, Splits, Unread, Keeps, Follows}
 use Rattle.fragment_codec.proofs.bytes.Heads.{one_size, no_size}
 use Rattle.fragment_codec.proofs.streams.Pieces.{spelling_head, one_reading}
 
@@ -22,14 +21,14 @@ sealed_digest x =
     let front : take (length (x ++ sha256 x) - 32) (x ++ sha256 x) ≡ x = ap (λ (n : ℕ). take n (x ++ sha256 x)) len ∙ take_at x (sha256 x) (length x) refl in
     ap (λ (y : List ℕ). y ++ sha256 y) (sym front)
 
-spelling_digest : (f : Frame) → HasDigest (spelling f)
-spelling_digest (Log g) = sealed_digest (headed FRAME_VERSION 1 (log_body g))
-spelling_digest (Opening o) = sealed_digest (headed FRAME_VERSION 2 (opening_body o))
+spelled_digest : (version : ℕ) (f : Frame) → HasDigest (spelled version f)
+spelled_digest version (Log g) = sealed_digest (headed version 1 (log_body version g))
+spelled_digest version (Opening o) = sealed_digest (headed version 2 (opening_body o))
 
 -- a fault of the head, or one behind it
 abbrev Seen : List ℕ → FrameFault → Type 0
 Seen b f = (head_of b ≡ Err f) ⊎ ((n : ℕ) × ((head_of b ≡ Ok (Some n)) × (((f ≡ Digest) × (HasDigest (take n b) → ⊥)) ⊎
-    ((f ≡ Body) × (HasDigest (take n b) × ((g : Frame) → IsFrame g → take n b ≢ spelling g))))))
+    ((f ≡ Body) × (HasDigest (take n b) × ((s : Spelled) → IsSpelled s → take n b ≢ text_of s))))))
 
 seen : (b : List ℕ) (f : FrameFault) → HasFault b f → Seen b f
 seen b Magic e = inl e
@@ -60,43 +59,45 @@ one_fault b f g p q =
     ]
 
 -- where a frame stands, the stream isn't stuck
-pub not_stuck : (f : Frame) (x : List ℕ) → IsFrame f → IsStuck (spelling f ++ x) → ⊥
+pub not_stuck : (f : Spelled) (x : List ℕ) → IsSpelled f → IsStuck (text_of f ++ x) → ⊥
 not_stuck f x h s =
     let head = spelling_head f x h in
-    let front : take (length (spelling f)) (spelling f ++ x) ≡ spelling f = take_at (spelling f) x (length (spelling f)) refl in
+    let front : take (length (text_of f)) (text_of f ++ x) ≡ text_of f = take_at (text_of f) x (length (text_of f)) refl in
     elim s [
       | inl p ↦ elim p [
-        | inl e ↦ no_size (spelling f ++ x) _ e head
-        | inr e ↦ (let same = one_size (spelling f ++ x) e.0 (length (spelling f)) e.1 head in let lt = e.2 in
-            absurd (omega (arith, same, lt, length-append (spelling f) x)))
+        | inl e ↦ no_size (text_of f ++ x) _ e head
+        | inr e ↦ (let same = one_size (text_of f ++ x) e.0 (length (text_of f)) e.1 head in let lt = e.2 in
+            absurd (omega (arith, same, lt, length-append (text_of f) x)))
       ]
-      | inr q ↦ elim (seen (spelling f ++ x) q.0 q.1) [
+      | inr q ↦ elim (seen (text_of f ++ x) q.0 q.1) [
         | inl e ↦ absurd (let k = sym e ∙ head in cc)
         | inr e ↦
-            let same = one_size (spelling f ++ x) e.0 (length (spelling f)) e.1.0 head in
-            let at : take e.0 (spelling f ++ x) ≡ spelling f = ap (λ (n : ℕ). take n (spelling f ++ x)) same ∙ front in
+            let same = one_size (text_of f ++ x) e.0 (length (text_of f)) e.1.0 head in
+            let at : take e.0 (text_of f ++ x) ≡ text_of f = ap (λ (n : ℕ). take n (text_of f ++ x)) same ∙ front in
             elim e.1.1 [
-              | inl d ↦ d.1 (subst HasDigest (sym at) (spelling_digest f))
+              | inl d ↦ d.1 (subst HasDigest (sym at) (spelled_digest f.version f.frame))
               | inr d ↦ d.1.1 f h at
             ]
       ]
     ]
 
-pub one_split : (fs gs : List Frame) (r q : List ℕ) → AllByRecursion IsFrame fs → AllByRecursion IsFrame gs → IsStuck r → IsStuck q → flat_map spelling fs ++
-    r ≡ flat_map spelling gs ++ q → (fs ≡ gs) × (r ≡ q)
+pub one_split : (fs gs : List Spelled) (r q : List ℕ) → AllByRecursion IsSpelled fs → AllByRecursion IsSpelled gs → IsStuck r → IsStuck q →
+    flat_map text_of fs ++ r ≡ flat_map text_of gs ++ q → (fs ≡ gs) × (r ≡ q)
 one_split [] [] r q hf hg sr sq e = (refl, e)
 one_split [] (g ∷ gs) r q hf hg sr sq e =
-    absurd (not_stuck g (flat_map spelling gs ++ q) hg.0 (subst IsStuck (e ∙ append_assoc (spelling g) (flat_map spelling gs) q) sr))
+    absurd (not_stuck g (flat_map text_of gs ++ q) hg.0 (subst IsStuck (e ∙ append_assoc (text_of g) (flat_map text_of gs) q) sr))
 one_split (f ∷ fs) [] r q hf hg sr sq e =
-    absurd (not_stuck f (flat_map spelling fs ++ r) hf.0 (subst IsStuck (sym e ∙ append_assoc (spelling f) (flat_map spelling fs) r) sq))
+    absurd (not_stuck f (flat_map text_of fs ++ r) hf.0 (subst IsStuck (sym e ∙ append_assoc (text_of f) (flat_map text_of fs) r) sq))
 one_split (f ∷ fs) (g ∷ gs) r q hf hg sr sq e =
-    let a = one_reading f g (flat_map spelling fs ++ r) (flat_map spelling gs ++ q) hf.0 hg.0 (sym (append_assoc (spelling f) (flat_map spelling fs) r) ∙ e ∙
-    append_assoc (spelling g) (flat_map spelling gs) q) in
+    let a = one_reading f g (flat_map text_of fs ++ r) (flat_map text_of gs ++ q) hf.0 hg.0 (sym (append_assoc (text_of f) (flat_map text_of fs) r) ∙ e ∙
+    append_assoc (text_of g) (flat_map text_of gs) q) in
     let b = one_split fs gs r q hf.1 hg.1 sr sq a.1 in
-    (ap (λ (x : Frame). x ∷ fs) a.0 ∙ ap (λ (xs : List Frame). g ∷ xs) b.0, b.1)
+    (ap (λ (x : Spelled). x ∷ fs) a.0 ∙ ap (λ (xs : List Spelled). g ∷ xs) b.0, b.1)
 
 pub one_stream : (stream : List ℕ) (fs gs : List Frame) (r q : List ℕ) → Splits stream fs r → Splits stream gs q → IsStuck r → IsStuck q → (fs ≡ gs) × (r ≡ q)
-one_stream stream fs gs r q a b sr sq = one_split fs gs r q a.each b.each sr sq (sym a.whole ∙ b.whole)
+one_stream stream fs gs r q a b sr sq =
+    let same = one_split a.spelled b.spelled r q a.each b.each sr sq (sym a.whole ∙ b.whole) in
+    (sym a.these ∙ ap (map (λ (s : Spelled). s.frame)) same.0 ∙ b.these, same.1)
 
 -- where a fault lies behind the head, the frame is there
 there : (b : List ℕ) (f : FrameFault) (n : ℕ) → HasFault b f → head_of b ≡ Ok (Some n) → n ≤ length b

@@ -9,7 +9,7 @@ pub returns-in_err-write_all : goal.returns-in_err-write_all
 returns-in_err-write_all g c =
     let p = err_from_is_err_and c.from_residual.result c.from_residual.ensures.1 in
     let d = c.finalize-digest.ensures _ (c.update-2.ensures _ (c.update.ensures _ c.new-hasher.ensures)) in
-    let e = sealed_parts c.head_of_body-head.result _ c.args.body.now c.finalize-digest.result c.args.kind (c.head_of_body-head.ensures c.args.body.now refl)
+    let e = sealed_parts c.head_of_body-head.result _ c.args.body.now c.finalize-digest.result c.args.version c.args.kind (c.head_of_body-head.ensures c.args.body.now refl)
     c.as_slice.ensures d in
     rw (p.1) (stops_equal _ _ _ _ _ _ e (stops_front _ _ _ _ _ c.finalize-digest.result (stops_front _ _ _ _ c.head_of_body-head.result c.args.body.now
     c.in_err-write_all.ensures)))
@@ -18,7 +18,7 @@ pub returns-in_err-write_all-2 : goal.returns-in_err-write_all-2
 returns-in_err-write_all-2 g c =
     let p = err_from_is_err_and c.from_residual-in_err-write_all-2.result c.from_residual-in_err-write_all-2.ensures.1 in
     let d = c.finalize-digest.ensures _ (c.update-2.ensures _ (c.update.ensures _ c.new-hasher.ensures)) in
-    let e = sealed_parts c.head_of_body-head.result _ c.args.body.now c.finalize-digest.result c.args.kind (c.head_of_body-head.ensures c.args.body.now refl)
+    let e = sealed_parts c.head_of_body-head.result _ c.args.body.now c.finalize-digest.result c.args.version c.args.kind (c.head_of_body-head.ensures c.args.body.now refl)
     c.as_slice.ensures d in
     let first = c.in_ok-write_all.ensures in
     rw (p.1) (stops_equal _ _ _ _ _ _ e (stops_front _ _ _ _ _ c.finalize-digest.result (stops_after _ _ _ _ _ _ c.head_of_body-head.result c.args.body.now
@@ -27,7 +27,7 @@ returns-in_err-write_all-2 g c =
 pub returns : goal.returns
 returns g c =
     let d = c.finalize-digest.ensures _ (c.update-2.ensures _ (c.update.ensures _ c.new-hasher.ensures)) in
-    let e = sealed_parts c.head_of_body-head.result _ c.args.body.now c.finalize-digest.result c.args.kind (c.head_of_body-head.ensures c.args.body.now refl)
+    let e = sealed_parts c.head_of_body-head.result _ c.args.body.now c.finalize-digest.result c.args.version c.args.kind (c.head_of_body-head.ensures c.args.body.now refl)
     c.as_slice.ensures d in
     let first = c.in_ok-write_all.ensures in
     let second = c.in_ok-write_all-2.ensures in
