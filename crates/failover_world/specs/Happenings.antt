@@ -19,7 +19,7 @@ use Rattle.failover_events.specs.declared.event.Event.{Event}
 use Rattle.failover_events.specs.declared.event.Event.TheVariants as on
 use Rattle.failover_world.specs.declared.primary.Primary.{Primary}
 use Rattle.failover_world.specs.Primaries.{no_limits, IsUncut}
-use Rattle.hart_steps.specs.Steps.{HasStepped, HoldsNothing}
+use Rattle.lease_rounds.specs.Steps.{HasStepped, HoldsNothing}
 use Rattle.failover_world.specs.Worlds.{WorldView, store_at, term_of}
 use Rattle.failover_world.specs.Gating.{AreAllOffered, OffersMore, released_in}
 

@@ -18,7 +18,7 @@ use Rattle.failover_events.specs.declared.event.Event.{Event}
 use Rattle.failover_events.specs.declared.event.Event.TheVariants as on
 use Rattle.failover_world.specs.declared.fault.WorldFault.{WorldFault}
 use Rattle.failover_world.specs.declared.fault.WorldFault.TheVariants.{NoPrimary, NoKeeper, NoFrame, NotStopped, Step, Live, Ack, Memory}
-use Rattle.hart_steps.specs.Steps.{IsUnmoved, RefusesStep}
+use Rattle.lease_rounds.specs.Steps.{IsUnmoved, RefusesStep}
 use Rattle.failover_world.specs.Worlds.{WorldView, store_at, term_of}
 use Rattle.failover_world.specs.Happenings.{stores_of}
 

@@ -31,7 +31,7 @@ use log_pieces::{Sealed, cut_pieces};
 use ft_types::{Hart, Memory, Term};
 use go_live::{LiveFault, go_live};
 use guest_image::{Image, Machine};
-use hart_steps::take_step;
+use lease_rounds::take_step;
 use input_log::Input;
 use log_streams::TERM as FIRST_TERM;
 use std::alloc::Global;

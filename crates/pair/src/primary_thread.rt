@@ -4,7 +4,7 @@ ghost use Rattle.std.specs.Prelude.{◌≡◌, ◌≤◌, ℕ, length, IfOk, OnO
 ghost use Rattle.ft_types.specs.Counts.{count_at};
 ghost use Rattle.log_pieces.specs.Pieces.{IsCut, book_log};
 ghost use Rattle.hart_lease.specs.Runs.{counts_of};
-ghost use Rattle.primary_pool.specs.Running.{IsIdle};
+ghost use Rattle.lease_rounds.specs.Running.{IsIdle};
 ghost use Rattle.pair.specs.Posts.{MayLead};
 
 use crate::messages::{ToGate, ToKeeper, send};

@@ -10,7 +10,7 @@ use hart_replay::ReplayFault;
 use log_join::Store;
 use log_streams::{begin_run, first_opening};
 use page_book::{Book, Recording};
-use primary_pool::run_plain;
+use lease_rounds::run_plain;
 use replay_pool::Follower;
 use std::alloc::Global;
 use std::test::Fail;

@@ -14,9 +14,9 @@ use Rattle.lease_rounds.specs.Leading.{IsHeld, GoesOn, Rounds}
 use Rattle.lease_rounds.proofs.GoingOn.{HasGoneOn, AsFar, has_gone_on, has_fewer, round_far, steps_left}
 use Rattle.page_book.proofs.Later.{adds_nothing, adds_on}
 use Rattle.page_book.proofs.Tellings.{hears_nothing, hears_more}
-use Rattle.primary_pool.specs.Running.{IsIdle, AreThrough, IsThrough, Continues, GoWithin, recording, NoRound, OneMore, KeepsOffered, KeepHeld}
-use Rattle.primary_pool.specs.Leading.{HasRun, IsSoFar}
-use Rattle.primary_pool.proofs.Leasing.{ahead, limits, continues, offered, keep_held}
+use Rattle.lease_rounds.specs.Running.{IsIdle, AreThrough, IsThrough, Continues, GoWithin, recording, NoRound, OneMore, KeepsOffered, KeepHeld}
+use Rattle.lease_rounds.specs.SoFar.{HasRun, IsSoFar}
+use Rattle.lease_rounds.proofs.Leasing.{ahead, limits, continues, offered, keep_held}
 
 -- ---- a book goes on
 

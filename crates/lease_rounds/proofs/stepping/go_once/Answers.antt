@@ -1,8 +1,8 @@
 use Rattle.std.proofs.Common.{◌≤◌, List, ℕ, sym, subst, ◌∙◌}
 use Rattle.ft_types.specs.Counts.{count_at}
 use Rattle.hart_lease.specs.Runs.{counts_of}
-use Rattle.hart_steps.proofs.OneStep.{fits, not_held, took_step, took_within, took_rights, took_none}
-use Rattle.hart_steps.proofs.stepping.go_once.Goals as goal
+use Rattle.lease_rounds.proofs.OneStep.{fits, not_held, took_step, took_within, took_rights, took_none}
+use Rattle.lease_rounds.proofs.stepping.go_once.Goals as goal
 
 pub limit_at-requires-2 : goal.limit_at-requires-2
 limit_at-requires-2 c =

@@ -27,8 +27,8 @@ use Rattle.lease_rounds.specs.Leading.{IsFreeAlone, Fills, NoneYet, Steps, Takes
 use Rattle.lease_rounds.proofs.GoingOn.{IsAhead, lease_filled, own, harts_stay}
 use Rattle.page_book.specs.Tellings.{HearsMore}
 use Rattle.page_book.proofs.Tellings.{hears_on, edges_on}
-use Rattle.primary_pool.specs.Running.{recording, Continues, KeepsOffered, KeepHeld}
-use Rattle.primary_pool.proofs.Offered.{same_offered, filled_offered, settled_offered}
+use Rattle.lease_rounds.specs.Running.{recording, Continues, KeepsOffered, KeepHeld}
+use Rattle.lease_rounds.proofs.Offered.{same_offered, filled_offered, settled_offered}
 
 -- ---- a hart that is lent
 

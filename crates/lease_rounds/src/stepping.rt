@@ -5,11 +5,11 @@ ghost use Rattle.ft_types.specs.Counts.{count_at};
 ghost use Rattle.hart_lease.specs.declared.stretch.Stretch.{Stretch};
 ghost use Rattle.hart_lease.specs.Runs.{counts_of};
 ghost use Rattle.page_book.specs.Tellings.{TellsOn};
-ghost use Rattle.primary_pool.specs.Running.{IsIdle};
-ghost use Rattle.hart_steps.specs.Steps.{AreWithin, HasStepped, HoldsNothing, IsUnmoved, IsRefused, RefusesStep, Runs};
+ghost use Rattle.lease_rounds.specs.Running.{IsIdle};
+ghost use Rattle.lease_rounds.specs.Steps.{AreWithin, HasStepped, HoldsNothing, IsUnmoved, IsRefused, RefusesStep, Runs};
 
+use crate::rounds::go;
 use ft_types::{Counts, Hart, Memory};
-use lease_rounds::go;
 use page_book::{Book, BookFault, Keep, Recording};
 use std::alloc::Global;
 use std::result::Result;

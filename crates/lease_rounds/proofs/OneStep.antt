@@ -31,10 +31,10 @@ use Rattle.lease_rounds.specs.Leading.{IsIdle, IsHeld, GoesOn, GivesUp, Goes, Ha
 use Rattle.lease_rounds.proofs.Filling.{HasFilled, has_filled}
 use Rattle.lease_rounds.proofs.Lending.{hart_at}
 use Rattle.lease_rounds.proofs.GoingOn.{HasGoneOn, count_is, from, stop, went_far, has_gone_on, lease_filled, own, harts_stay}
-use Rattle.primary_pool.specs.Running.{recording}
-use Rattle.primary_pool.proofs.Leasing.{KeepsRest, ahead, continues, filled_keeps, keeps_rest, offered}
-use Rattle.primary_pool.proofs.Offered.{filled_offered}
-use Rattle.hart_steps.specs.Steps.{AreWithin, inputs_next, IsGiven, HasStepped, HoldsNothing, IsUnmoved, Runs}
+use Rattle.lease_rounds.specs.Running.{recording}
+use Rattle.lease_rounds.proofs.Leasing.{KeepsRest, ahead, continues, filled_keeps, keeps_rest, offered}
+use Rattle.lease_rounds.proofs.Offered.{filled_offered}
+use Rattle.lease_rounds.specs.Steps.{AreWithin, inputs_next, IsGiven, HasStepped, HoldsNothing, IsUnmoved, Runs}
 
 -- ---- a book that has not moved
 

@@ -13,7 +13,7 @@ use Rattle.page_book.specs.Books.{BookView, refusal}
 use Rattle.page_book.specs.declared.answers.BookFault.{BookFault}
 use Rattle.page_book.specs.declared.answers.BookFault.TheVariants.{Memory}
 use Rattle.page_book.specs.Tellings.{TellsOn}
-use Rattle.primary_pool.specs.Running.{IsIdle, Continues, KeepsOffered}
+use Rattle.lease_rounds.specs.Running.{IsIdle, Continues, KeepsOffered}
 
 -- no hart is past its limit
 abbrev pub AreWithin : BookView RecordingView → Type 0

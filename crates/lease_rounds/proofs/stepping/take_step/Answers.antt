@@ -1,5 +1,5 @@
-use Rattle.hart_steps.proofs.OneStep.{tells_itself, unmoved_tells}
-use Rattle.hart_steps.proofs.stepping.take_step.Goals as goal
+use Rattle.lease_rounds.proofs.OneStep.{tells_itself, unmoved_tells}
+use Rattle.lease_rounds.proofs.stepping.take_step.Goals as goal
 
 pub returns-then-is_halted-clause-comes : goal.returns-then-is_halted-clause-comes
 returns-then-is_halted-clause-comes c = tells_itself c.args.book.now

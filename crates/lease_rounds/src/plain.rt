@@ -2,17 +2,17 @@
 
 ghost use Rattle.std.specs.Prelude.{◌≡◌, IfOk};
 ghost use Rattle.page_book.specs.Tellings.{TellsOn};
-ghost use Rattle.primary_pool.specs.Running.{IsIdle, AreThrough, Continues, RunsOn, GoWithin, GoesRound, KeepsOffered, KeepHeld};
-ghost use Rattle.primary_pool.specs.Leading.{HasRun};
+ghost use Rattle.lease_rounds.specs.Running.{IsIdle, AreThrough, Continues, RunsOn, GoWithin, GoesRound, KeepsOffered, KeepHeld};
+ghost use Rattle.lease_rounds.specs.SoFar.{HasRun};
 
-use crate::fault::PoolFault;
-use lease_rounds::go_round;
+use crate::rounds::go_round;
+use ft_types::Memory;
 use page_book::{Book, Keep, Recording};
 use std::alloc::Global;
 use std::result::Result;
 
 /// The book's journal led from its start to its machine.
-pub(crate) fn has_run(book: &Book<Recording>)
+pub fn has_run(book: &Book<Recording>)
     ensures { HasRun book.now }
 {
     let _machine = book.machine();
@@ -20,7 +20,7 @@ pub(crate) fn has_run(book: &Book<Recording>)
 
 /// Runs a primary's harts in rising order, again and again, each for one lease until it is full, which is settled and whose
 /// hart keeps its rights, until each hart is halted or at its limit. Where memory is refused the book is given up.
-pub fn run_plain(alloc: Global, book: Book<Recording>) -> Result<Book<Recording>, PoolFault>
+pub fn run_plain(alloc: Global, book: Book<Recording>) -> Result<Book<Recording>, Memory>
     requires idle { IsIdle book }
     ensures done { IfOk result (λ b. AreThrough b) }
     ensures idle { IfOk result (λ b. IsIdle b) }
