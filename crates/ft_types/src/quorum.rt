@@ -3,7 +3,7 @@
 ghost use Rattle.ft_types.specs.declared.names.TheConstants.{KEEPER_LIMIT};
 ghost use Rattle.std.specs.Prelude.{◌≡◌, ◌<◌, ◌≤◌, ◌↔◌, IsSome, IfSome};
 
-use ft_types::KEEPER_LIMIT;
+use crate::names::KEEPER_LIMIT;
 
 /// Keepers, and how many of them must hold an output before it goes out.
 #[derive(Clone, Copy, Debug, PartialEq, Eq)]

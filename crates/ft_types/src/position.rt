@@ -1,6 +1,7 @@
 //! What a position is.
 
-use ft_types::{Counts, Term};
+use crate::counts::Counts;
+use crate::names::Term;
 
 /// Where the walk along a store's chain stops.
 #[derive(Clone, Copy, Debug, PartialEq, Eq)]

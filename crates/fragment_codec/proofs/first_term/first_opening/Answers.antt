@@ -1,5 +1,5 @@
-use Rattle.log_streams.proofs.Openings.{opens_from_boot}
-use Rattle.log_streams.proofs.primary.first_opening.Goals as goal
+use Rattle.fragment_codec.proofs.Openings.{opens_from_boot}
+use Rattle.fragment_codec.proofs.first_term.first_opening.Goals as goal
 
 pub unwrap-requires : goal.unwrap-requires
 unwrap-requires c =
