@@ -4,7 +4,7 @@ pub mod GoingOn
 pub mod Masks
 pub mod Offered
 pub mod Leasing
-pub mod Rounds
+pub mod RoundByRound
 pub mod Onward
 pub mod Counts
 mod OneStep

@@ -8,7 +8,7 @@ use Rattle.lease_rounds.specs.Running.{Continues, GoToBudget}
 use Rattle.lease_rounds.specs.SoFar.{HasRun, IsRestOf}
 use Rattle.lease_rounds.proofs.Leasing.{free_alone}
 use Rattle.lease_rounds.proofs.Onward.{runs_on}
-use Rattle.lease_rounds.proofs.Rounds.{continues_on}
+use Rattle.lease_rounds.proofs.RoundByRound.{continues_on}
 use Rattle.primary_pool.proofs.Picking.{goes_on, goes_further, limited_rest, limits_aside, machine_stays, rest_goes_on}
 use Rattle.primary_pool.proofs.pool.run_with.Given.{Over}
 use Rattle.primary_pool.proofs.pool.run_with.Goals as goal
