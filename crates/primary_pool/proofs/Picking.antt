@@ -16,10 +16,10 @@ use Rattle.page_book.specs.Reclaims.{EndsOpen, EndsFirst, GoesOnFrom}
 use Rattle.page_book.specs.Tellings.{HearsMore, AddsLater}
 use Rattle.page_book.proofs.Later.{adds_nothing}
 use Rattle.page_book.proofs.Tellings.{hears_nothing}
-use Rattle.primary_pool.specs.Running.{Continues, KeepsOffered, offers}
-use Rattle.primary_pool.specs.Leading.{HasRun, IsRestOf}
-use Rattle.primary_pool.proofs.Offers.{kept_same}
-use Rattle.primary_pool.proofs.Offered.{offered_itself}
+use Rattle.lease_rounds.specs.Running.{Continues, KeepsOffered, offers}
+use Rattle.lease_rounds.specs.SoFar.{HasRun, IsRestOf}
+use Rattle.lease_rounds.proofs.Offers.{kept_same}
+use Rattle.lease_rounds.proofs.Offered.{offered_itself}
 
 -- ---- from book to book
 

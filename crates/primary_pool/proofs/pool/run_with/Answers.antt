@@ -4,12 +4,12 @@ use Rattle.hart_lease.specs.Runs.{counts_of}
 use Rattle.book_modes.specs.Recordings.{RecordingView, GoesOn}
 use Rattle.page_book.specs.Books.{BookView}
 use Rattle.page_book.specs.Reclaims.{GoesOnFrom}
-use Rattle.primary_pool.specs.Running.{Continues, GoToBudget, KeepsOffered}
-use Rattle.primary_pool.specs.Leading.{HasRun, IsRestOf}
-use Rattle.primary_pool.proofs.Leasing.{free_alone}
-use Rattle.primary_pool.proofs.Onward.{runs_on}
-use Rattle.primary_pool.proofs.Rounds.{continues_on}
-use Rattle.primary_pool.proofs.Offered.{offered_on}
+use Rattle.lease_rounds.specs.Running.{Continues, GoToBudget, KeepsOffered}
+use Rattle.lease_rounds.specs.SoFar.{HasRun, IsRestOf}
+use Rattle.lease_rounds.proofs.Leasing.{free_alone}
+use Rattle.lease_rounds.proofs.Onward.{runs_on}
+use Rattle.lease_rounds.proofs.RoundByRound.{continues_on}
+use Rattle.lease_rounds.proofs.Offered.{offered_on}
 use Rattle.primary_pool.proofs.Picking.{goes_on, goes_further, limited_rest, limits_aside, machine_stays, offered_stays, rest_goes_on}
 use Rattle.primary_pool.proofs.pool.run_with.Given.{Over}
 use Rattle.primary_pool.proofs.pool.run_with.Goals as goal
