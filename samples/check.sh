@@ -38,6 +38,8 @@ fail() {
 lacks() {
     if grep -q '\.ci/run' "$1"; then
         echo "it is the whole gate, for an hour or two"
+    elif grep -q 'samples/quick\.sh' "$1"; then
+        echo "it runs this script itself"
     elif grep -q 'rt run' "$1"; then
         echo "it proves every crate below the program, for half an hour"
     elif grep -q 'apt-get' "$1"; then
