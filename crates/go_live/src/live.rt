@@ -33,7 +33,7 @@ use std::result::Result;
 /// A primary that goes on where the log of its keepers ends.
 #[derive(Drop)]
 pub struct Live {
-    /// The book, in which no step is settled. No hart may go on until `limit_to` says so.
+    /// The book, in which no step is settled. No hart may go on until its limit is set higher.
     pub book: Book<Recording>,
     /// The opening of its term.
     pub opening: Opening,
