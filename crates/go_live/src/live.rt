@@ -20,13 +20,12 @@ use crate::fault::LiveFault;
 use crate::joining::join_all;
 use crate::outputs::outputs_of;
 use crate::quorum::{are_enough, are_of, is_new};
-use closed_cut::{Position, position};
+use closed_cut::position;
 use fragment_codec::Opening;
-use ft_types::{Counts, Guest, Keeper, Memory, Term};
+use ft_types::{Counts, Guest, Keeper, Memory, Output, Position, Term};
 use guest_image::{Image, Machine};
 use hart_replay::{ReplayFault, plan, replay_plain};
 use log_join::Store;
-use output_gate::Output;
 use page_book::{Book, Recording};
 use std::alloc::Global;
 use std::result::Result;
@@ -53,6 +52,7 @@ fn replay_to(
     ensures harts { IfOk result (λ p. (length p.0.counts ≡ image.now.harts) × (length p.1.harts ≡ image.now.harts)) }
     ensures fault { IfErr result (λ fault. fault ≢ ReplayFault.Memory → HasNoMachine image.now store.now fault) }
 {
+    // proof: a store's guest keeps the rules.
     let _rules = store.guest();
     let position = position(alloc, store)?;
     let plan = plan(alloc, store, &position)?;
@@ -67,8 +67,10 @@ fn opening_of(guest: Guest, term: Term, position: &Position) -> Opening
     requires boot { position.now.term ≡ 0 → (hart : ℕ) → count_at position.now.counts hart ≡ 0 }
     ensures { result ≡ opening_from guest term position.now }
 {
+    // proof: a guest has its rules by type.
     let _rules = guest.harts();
     let base = position.counts;
+    // proof: counts are below their limit.
     let _counts = base.as_slice();
     Opening::new(guest, term, position.term, base).unwrap()
 }

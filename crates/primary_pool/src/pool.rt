@@ -6,14 +6,14 @@ ghost use Rattle.hart_lease.specs.Runs.{counts_of};
 ghost use Rattle.book_modes.specs.Recordings.{GoesOn};
 ghost use Rattle.page_book.specs.Reclaims.{GoesOnFrom};
 ghost use Rattle.page_book.specs.Tellings.{TellsOn};
-ghost use Rattle.primary_pool.specs.Running.{IsIdle, AreAtBudget, Continues, GoToBudget, RunsOn, KeepsOffered};
+ghost use Rattle.lease_rounds.specs.Running.{IsIdle, AreAtBudget, Continues, GoToBudget, RunsOn, KeepsOffered};
 
 use crate::crew::run_crew;
 use crate::fault::PoolFault;
-use crate::plain::{has_run, run_plain};
 use crate::turns::Pace;
 use crate::turnstile::Turnstile;
 use ft_types::{Counts, HART_ROW, HartSet};
+use lease_rounds::{has_run, run_plain};
 use page_book::{Book, Recording};
 use std::alloc::Global;
 use std::result::Result;
@@ -24,9 +24,10 @@ use std::thread::Threads;
 fn pick(held: Book<Recording>, copy: Book<Recording>, budget: &Counts) -> Book<Recording>
     requires harts { length budget.now ≡ length copy.machine.harts }
     requires below { (hart : ℕ) → counts_of copy.machine hart ≤ count_at budget.now hart }
-    ensures goes_on { GoesOnFrom (λ r settled new. GoesOn r settled new) copy result }
+    ensures goes_on { GoesOnFrom (λ r settled new now. GoesOn r settled new now) copy result }
     ensures below { (hart : ℕ) → counts_of result.machine hart ≤ count_at budget.now hart }
 {
+    // proof: both have run.
     has_run(&held);
     has_run(&copy);
     if !held.continues(&copy) {
@@ -105,17 +106,21 @@ pub fn run_with<R: Threads + Wait + Sync, T: Turnstile + Sync>(
     ensures limits { IfOk result (λ b. b.mode.limits ≡ greater budget book.mode.limits) }
     ensures counts { IfOk result (λ b. GoToBudget budget book b) }
 {
+    // proof: the journal leads to the machine.
     has_run(&book);
     let limits = book.limits();
     let mut book = book;
     book.limit_at(budget);
+    // proof: the journal leads to the machine.
     has_run(&book);
     let copy = book.copy()?;
     let held = run_crew(rt, alloc, book, budget, turnstile, Pace::Even, here);
     let book = pick(held, copy, &budget);
+    // proof: the journal leads to the machine.
     has_run(&book);
     let mut book = finish(alloc, book, budget)?;
     book.limit_to(limits);
+    // proof: the journal leads to the machine.
     has_run(&book);
     Ok(book)
 }
