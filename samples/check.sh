@@ -40,6 +40,8 @@ lacks() {
         echo "it is the whole gate, for an hour or two"
     elif grep -q 'samples/quick\.sh' "$1"; then
         echo "it runs this script itself"
+    elif [ -n "${TRIED:-}" ] && grep -q 'rt try' "$1"; then
+        echo "this program was built by rt try"
     elif grep -q 'rt run' "$1"; then
         echo "it proves every crate below the program, for half an hour"
     elif grep -q 'apt-get' "$1"; then
