@@ -3,7 +3,8 @@
 use crate::guests::{guest, ran};
 use crate::logs::{audited, open, plan_of, put};
 use fixtures::{Dice, recorder};
-use fragment_codec::{Frame, Sealed, cut_pieces};
+use fragment_codec::Frame;
+use log_pieces::{Sealed, cut_pieces};
 use ft_types::{Count, Counts, Memory, Term};
 use guest_image::{Image, Machine};
 use log_join::Store;

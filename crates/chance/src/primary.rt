@@ -2,7 +2,8 @@
 
 use edge_log::EdgeLog;
 use failover_world::WorldFault;
-use fragment_codec::{Frame, Opening, Sealed, cut_pieces};
+use fragment_codec::{Frame, Opening};
+use log_pieces::{Sealed, cut_pieces};
 use ft_types::{COUNT_LIMIT, Count, Counts, Hart, Memory, Term};
 use guest_image::{Image, Machine};
 use input_log::Input;

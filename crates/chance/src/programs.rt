@@ -1,7 +1,8 @@
 //! Guests and calls that fall by chance: what a primary recorded is cut into pieces, shuffled over streams and replayed.
 
 use fixtures::{Crew, Dice};
-use fragment_codec::{Frame, Opening, Sealed, cut_pieces, write_frame};
+use fragment_codec::{Frame, Opening, write_frame};
+use log_pieces::{Sealed, cut_pieces};
 use ft_types::{Count, Counts, Hart, MemorySink, MemorySource};
 use guest_image::{Image, Machine, read_image};
 use input_log::Input;

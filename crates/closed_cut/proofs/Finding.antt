@@ -13,7 +13,7 @@ use Rattle.edge_log.specs.declared.Edge.{Edge as OwnedEdge}
 use Rattle.edge_log.specs.EdgeLog.{edge_as}
 use Rattle.fragment_codec.specs.declared.types.Record.{Record}
 use Rattle.fragment_codec.specs.declared.types.Record.TheVariants.{Edge as EdgeRecord, Input as InputRecord}
-use Rattle.fragment_codec.specs.Pieces.{edge_in}
+use Rattle.fragment_codec.specs.Facts.{edge_in}
 use Rattle.fragment_codec.specs.Rules.{IsRecordOf}
 use Rattle.ft_types.specs.Counts.{IsCount}
 use Rattle.log_join.specs.Stores.{IsStore}

@@ -19,7 +19,7 @@ use Rattle.fragment_codec.specs.declared.types.Record.TheVariants.{Edge as EdgeR
 use Rattle.fragment_codec.specs.Rules.{FragmentParts, OpeningParts, IsRecordOf}
 use Rattle.log_join.specs.Cells.{Cell, Absent, One, Clash}
 use Rattle.log_join.specs.Stores.{StoreView, opening_at, IsStore}
-use Rattle.fragment_codec.specs.Pieces.{edge_in}
+use Rattle.fragment_codec.specs.Facts.{edge_in}
 use Rattle.closed_cut.specs.Position.{edges_of, pieces_of, Goes, Avail, IsReached}
 use Rattle.closed_cut.specs.Lowering.{AreOf}
 use Rattle.closed_cut.specs.Walks.{cell_edges, hart_edges, all_edges, IsGathered, IsLimited}

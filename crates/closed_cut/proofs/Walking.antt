@@ -5,7 +5,7 @@ use Rattle.edge_log.specs.declared.Edge.{Edge}
 use Rattle.fragment_codec.specs.Rules.{FragmentParts}
 use Rattle.log_join.specs.Cells.{Cell, One}
 use Rattle.log_join.specs.Stores.{StoreView, IsStore}
-use Rattle.fragment_codec.specs.Pieces.{edge_in}
+use Rattle.fragment_codec.specs.Facts.{edge_in}
 use Rattle.closed_cut.specs.Position.{pieces_of, Goes}
 use Rattle.closed_cut.specs.Walks.{cell_edges, hart_edges}
 

@@ -5,7 +5,7 @@ use Rattle.ft_types.specs.Counts.{count_at}
 use Rattle.interleaving.specs.Log.{Edge}
 use Rattle.edge_log.specs.EdgeLog.{edge_as}
 use Rattle.fragment_codec.specs.Rules.{FragmentParts, OpeningParts}
-use Rattle.fragment_codec.specs.Pieces.{edge_in}
+use Rattle.fragment_codec.specs.Facts.{edge_in}
 use Rattle.log_join.specs.Cells.{Cell, One}
 use Rattle.log_join.specs.Stores.{StoreView, opening_at, fragment_at}
 use Rattle.closed_cut.specs.Chain.{Sound, IsTop}

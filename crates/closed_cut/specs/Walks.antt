@@ -10,7 +10,7 @@ use Rattle.fragment_codec.specs.Rules.{FragmentParts}
 use Rattle.log_join.specs.Cells.{Cell, Absent, One, Clash}
 use Rattle.log_join.specs.Stores.{StoreView}
 use Rattle.closed_cut.specs.Chain.{Sound}
-use Rattle.fragment_codec.specs.Pieces.{edge_in}
+use Rattle.fragment_codec.specs.Facts.{edge_in}
 use Rattle.closed_cut.specs.Position.{Goes}
 
 abbrev pub cell_edges : Cell FragmentParts → List Edge

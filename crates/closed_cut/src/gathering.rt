@@ -5,7 +5,7 @@ ghost use Rattle.std.specs.List.{filter_map};
 ghost use Rattle.fragment_codec.specs.Rules.{FragmentParts};
 ghost use Rattle.log_join.specs.Cells.{One};
 ghost use Rattle.log_join.specs.Stores.{fragment_at, IsStore};
-ghost use Rattle.fragment_codec.specs.Pieces.{edge_in};
+ghost use Rattle.fragment_codec.specs.Facts.{edge_in};
 ghost use Rattle.closed_cut.specs.Position.{pieces_of};
 ghost use Rattle.closed_cut.specs.Walks.{IsGathered};
 

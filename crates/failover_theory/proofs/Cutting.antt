@@ -13,7 +13,8 @@ use Rattle.edge_log.specs.EdgeLog.{edge_as}
 use Rattle.ft_types.specs.Guests.{GuestParts}
 use Rattle.fragment_codec.specs.declared.types.Key.{Key}
 use Rattle.fragment_codec.specs.Rules.{FragmentParts}
-use Rattle.fragment_codec.specs.Pieces.{Facts, mark_behind, is_between, edge_in}
+use Rattle.fragment_codec.specs.Facts.{Facts, is_between, edge_in}
+use Rattle.log_pieces.specs.Pieces.{mark_behind}
 use Rattle.log_join.specs.Stores.{IsFragmentOf}
 use Rattle.closed_cut.specs.Position.{edges_of, base_of}
 use Rattle.closed_cut.proofs.Lowerings.{found, contains_map}

@@ -6,7 +6,7 @@ use Rattle.interleaving.specs.Log.{Edge}
 use Rattle.edge_log.specs.EdgeLog.{edge_as}
 use Rattle.ft_types.specs.Guests.{GuestParts}
 use Rattle.fragment_codec.specs.Rules.{FragmentParts}
-use Rattle.fragment_codec.specs.Pieces.{HartLog, Mark, IsPiece, ArePieces}
+use Rattle.log_pieces.specs.Pieces.{HartLog, Mark, IsPiece, ArePieces}
 use Rattle.closed_cut.specs.Position.{base_of}
 use Rattle.failover_theory.specs.Recorders.{Recorder}
 use Rattle.failover_theory.specs.Families.{IsCutFrom}

@@ -21,7 +21,7 @@ use Rattle.fragment_codec.specs.declared.frame.Frame.{Frame}
 use Rattle.fragment_codec.specs.declared.frame.Frame.TheVariants.{Log, Opening}
 use Rattle.fragment_codec.specs.declared.types.Key.{Key}
 use Rattle.fragment_codec.specs.Rules.{FragmentParts}
-use Rattle.fragment_codec.specs.Pieces.{Mark, SealedView, IsCut, IsPiece, ArePieces, book_log, mark_of, mark_behind}
+use Rattle.log_pieces.specs.Pieces.{Mark, SealedView, IsCut, IsPiece, ArePieces, book_log, mark_of, mark_behind}
 use Rattle.log_join.specs.Families.{Past, Family, NoGap, end_of}
 use Rattle.hart_replay.specs.Primaries.{IsPieceOf, IsTermOfBook}
 use Rattle.hart_replay.proofs.honesty.Primaries.{is_piece}

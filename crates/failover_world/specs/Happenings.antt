@@ -7,7 +7,7 @@ use Rattle.guest_image.specs.Image.{guest_of}
 use Rattle.book_modes.specs.Recordings.{IsOffered, IsUnused}
 use Rattle.fragment_codec.specs.declared.frame.Frame.{Frame}
 use Rattle.fragment_codec.specs.declared.frame.Frame.TheVariants.{Opening}
-use Rattle.fragment_codec.specs.Pieces.{IsCut, book_log}
+use Rattle.log_pieces.specs.Pieces.{IsCut, book_log}
 use Rattle.log_join.specs.Stores.{StoreView, IsJoin, alone}
 use Rattle.closed_cut.specs.Position.{IsPosition}
 use Rattle.closed_cut.specs.declared.answer.Position.{Position}

@@ -6,7 +6,7 @@ use Rattle.guest_image.specs.Image.{ImageContents, guest_of}
 use Rattle.guest_image.specs.Machine.{boot_machine}
 use Rattle.book_modes.specs.Recordings.{IsUnused}
 use Rattle.fragment_codec.specs.Rules.{OpeningParts}
-use Rattle.fragment_codec.specs.Pieces.{SealedView, mark_of}
+use Rattle.log_pieces.specs.Pieces.{SealedView, mark_of}
 use Rattle.go_live.specs.Lives.{BeginsFrom}
 use Rattle.failover_world.specs.declared.primary.Primary.{Primary}
 

@@ -26,7 +26,8 @@ use crate::keepers::{are_there, empty_stores, held_by, join, keeper_at, put, sto
 use crate::primary::{Primary, boot, no_limits, tell_primary};
 use crate::released::Released;
 use failover_events::Event;
-use fragment_codec::{Frame, Sealed, cut_pieces};
+use fragment_codec::Frame;
+use log_pieces::{Sealed, cut_pieces};
 use ft_types::{Hart, Memory, Term};
 use go_live::{LiveFault, go_live};
 use guest_image::{Image, Machine};

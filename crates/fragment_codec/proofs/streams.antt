@@ -7,3 +7,4 @@ pub mod AtFault
 pub mod Decided
 pub mod HasReading
 pub mod Splits
+pub mod Rests

@@ -6,5 +6,4 @@ pub mod Reading
 pub mod Streams
 pub mod AtFault
 pub mod Fronts
-pub mod Pieces
-pub mod Cutting
+pub mod Facts

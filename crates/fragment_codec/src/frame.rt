@@ -2,7 +2,7 @@
 
 ghost use Rattle.std.specs.Prelude.{◌+◌, ◌-◌, nat_lt, ◌≡◌, ◌↔◌, ℕ, ◌<◌, ◌≤◌, Option, Some, None, length, List, All, IsTrue, IsSome, IfSome, IfOk};
 ghost use Rattle.ft_types.specs.declared.names.TheConstants.{HART_LIMIT, INPUT_LIMIT};
-ghost use Rattle.fragment_codec.specs.Rules.{IsKey, AreRecords, FragmentParts, OpeningParts, IsFragment, IsOpening, count_of};
+ghost use Rattle.fragment_codec.specs.Rules.{IsKey, AreRecords, FragmentParts, OpeningParts, IsFragment, IsOpening};
 ghost use Rattle.fragment_codec.specs.Slots.{is_source, slot_after};
 
 use crate::types::{FIRST_HARTS, Key, RECORD_LIMIT, Record, SPAN_LIMIT};
@@ -75,15 +75,6 @@ fn keeps_source(harts: u8, input: Input) -> bool
     }
 }
 
-pub(crate) fn count(record: &Record) -> Count
-    ensures { result ≡ count_of record.now }
-{
-    match record {
-        Record::Edge(edge) => edge.at,
-        Record::Input(at, _) => *at,
-    }
-}
-
 /// The slots at a count: one for each hart's edge, and behind them one for each input.
 const SLOT_LIMIT: u8 = HART_LIMIT + INPUT_LIMIT as u8;
 
@@ -136,7 +127,7 @@ fn are_records(records: &[Record], harts: u8, hart: Hart, from: Count, to: Count
         match next_slot(harts, hart, to, at, slot, record) {
             None => return false,
             Some(next) => {
-                at = count(record);
+                at = record.count();
                 slot = next;
             }
         }

@@ -1,21 +1,15 @@
 //! Frames of a log as bytes, and bytes as frames, in whatever pieces they come.
 #![tactic(auto)]
 
-mod cut_laws;
-mod cutting;
 mod fault;
 mod feed;
 mod frame;
 mod front;
 mod laws;
-mod merging;
 mod reading;
-mod sealed;
 mod types;
 mod writing;
 
-pub use cut_laws::{one_cut, one_piece, whole_counts};
-pub use cutting::{cut_logs, cut_pieces};
 pub use fault::FrameFault;
 pub use feed::Feed;
 pub use frame::{Fragment, Frame, Opening};
@@ -23,7 +17,6 @@ pub use laws::{
     any_cutting, faults_by_bytes, has_reading, lasting_fault, one_fault, one_reading, one_spelling,
     short_rest, some_spelling,
 };
-pub use sealed::Sealed;
 pub use types::{
     FIRST_HARTS, FIRST_VERSION, FRAME_LIMIT, FRAME_VERSION, Key, RECORD_LIMIT, Record, SPAN_LIMIT,
 };

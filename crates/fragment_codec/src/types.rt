@@ -1,5 +1,8 @@
 //! What a fragment of a log speaks of.
 
+ghost use Rattle.std.specs.Prelude.{◌≡◌};
+ghost use Rattle.fragment_codec.specs.Rules.{count_of};
+
 use edge_log::Edge;
 use ft_types::{Count, HART_ROW, Hart, Term};
 use input_log::Input;
@@ -52,4 +55,16 @@ pub enum Record {
     Edge(Edge),
     /// The hart is given an input at this count.
     Input(Count, Input),
+}
+
+impl Record {
+    /// The count at which the fact stands.
+    pub fn count(&self) -> Count
+        ensures { result ≡ count_of self.now }
+    {
+        match self {
+            Record::Edge(edge) => edge.at,
+            Record::Input(at, _) => *at,
+        }
+    }
 }

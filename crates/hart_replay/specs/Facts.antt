@@ -11,7 +11,7 @@ use Rattle.fragment_codec.specs.declared.types.Record.{Record}
 use Rattle.fragment_codec.specs.Rules.{FragmentParts, count_of}
 use Rattle.log_join.specs.Cells.{Cell, Absent, One, Clash}
 use Rattle.log_join.specs.Stores.{StoreView}
-use Rattle.fragment_codec.specs.Pieces.{edge_in, input_in}
+use Rattle.fragment_codec.specs.Facts.{edge_in, input_in}
 use Rattle.closed_cut.specs.Position.{pieces_of, Avail}
 use Rattle.hart_replay.specs.declared.plans.PlannedLeg.{PlannedLeg}
 use Rattle.hart_replay.specs.Plans.{log_of}

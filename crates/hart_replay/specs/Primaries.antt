@@ -17,7 +17,8 @@ use Rattle.hart_lease.specs.Runs.{counts_of, journal_turns}
 use Rattle.fragment_codec.specs.declared.frame.Frame.{Frame}
 use Rattle.fragment_codec.specs.declared.frame.Frame.TheVariants.{Log}
 use Rattle.fragment_codec.specs.Rules.{FragmentParts, OpeningParts}
-use Rattle.fragment_codec.specs.Pieces.{SealedView, mark_of, IsCut as AreCut, book_log, told_by, facts_between}
+use Rattle.fragment_codec.specs.Facts.{told_by, facts_between}
+use Rattle.log_pieces.specs.Pieces.{SealedView, mark_of, IsCut as AreCut, book_log}
 use Rattle.log_join.specs.Families.{no_terms, end_of, HasPieces, OfFamily}
 use Rattle.hart_replay.specs.Histories.{TermHistory, TellsOf, IsPlace}
 use Rattle.hart_replay.specs.Images.{GuestTerm, GuestHistory, machine_of, IsTermOf, IsHistoryOf}

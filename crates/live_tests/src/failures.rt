@@ -3,7 +3,8 @@
 use crate::keepers::{deliver, goes_on, granted};
 use crate::primaries::{Past, again, cut, raise, talking};
 use fixtures::{Crew, Dice, hart, machine_of, opening_of, recorder};
-use fragment_codec::{Frame, Sealed};
+use fragment_codec::Frame;
+use log_pieces::Sealed;
 use ft_types::{Count, Counts, Hart, Keeper, Memory, Term};
 use go_live::Live;
 use guest_image::Image;

@@ -1,7 +1,8 @@
 //! Primaries that record, and what is cut of them.
 
 use fixtures::{Crew, hart, image_of};
-use fragment_codec::{Frame, Sealed, cut_pieces};
+use fragment_codec::Frame;
+use log_pieces::{Sealed, cut_pieces};
 use ft_types::{Count, Counts, Memory, Term};
 use guest_image::{Image, Machine};
 use page_book::{Book, Keep, Leg, Recording, Replaying};

@@ -3,7 +3,8 @@
 ghost use Rattle.std.specs.Prelude.{◌≡◌};
 
 use fixtures::{Crew, hart, image_of, recorder};
-use fragment_codec::{Frame, Sealed, cut_pieces};
+use fragment_codec::Frame;
+use log_pieces::{Sealed, cut_pieces};
 use ft_types::{Count, Counts, Guest, Memory};
 use page_book::{Book, Keep, Recording};
 use std::alloc::Global;

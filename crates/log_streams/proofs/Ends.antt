@@ -23,7 +23,8 @@ use Rattle.fragment_codec.specs.declared.frame.Frame.{Frame}
 use Rattle.fragment_codec.specs.declared.frame.Frame.TheVariants.{Log, Opening}
 use Rattle.fragment_codec.specs.declared.types.Key.{Key}
 use Rattle.fragment_codec.specs.Rules.{FragmentParts, OpeningParts}
-use Rattle.fragment_codec.specs.Pieces.{HartLog, Mark, IsPiece, ArePieces, IsHartCut, mark_behind, mark_of, book_log, edge_in, Facts, is_between}
+use Rattle.fragment_codec.specs.Facts.{edge_in, Facts, is_between}
+use Rattle.log_pieces.specs.Pieces.{HartLog, Mark, IsPiece, ArePieces, IsHartCut, mark_behind, mark_of, book_log}
 use Rattle.log_join.specs.Cells.{Cell, Absent, One, join_cell, cell_of}
 use Rattle.log_join.specs.Tests.{same_opening, same_fragment}
 use Rattle.log_join.specs.Laws.{CellsJoin}

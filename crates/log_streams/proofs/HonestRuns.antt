@@ -23,7 +23,7 @@ use Rattle.guest_image.specs.Machine.{MachineState, boot_machine}
 use Rattle.page_book.specs.Books.{BookView}
 use Rattle.book_modes.specs.Recordings.{RecordingView, heard_by, log_of}
 use Rattle.fragment_codec.specs.Rules.{OpeningParts}
-use Rattle.fragment_codec.specs.Pieces.{Mark}
+use Rattle.log_pieces.specs.Pieces.{Mark}
 use Rattle.fragment_codec.specs.declared.frame.Frame.{Frame}
 use Rattle.fragment_codec.specs.declared.frame.Frame.TheVariants.{Opening}
 use Rattle.log_join.specs.Families.{no_terms, OfFamily}

@@ -8,7 +8,7 @@ use Rattle.input_script.specs.declared.script.Offered.{Offered}
 use Rattle.edge_log.specs.EdgeLog.{edges_of}
 use Rattle.guest_image.specs.Image.{ImageContents}
 use Rattle.guest_image.specs.Machine.{boot_machine}
-use Rattle.fragment_codec.specs.Pieces.{SealedView, mark_of, book_log, IsCut}
+use Rattle.log_pieces.specs.Pieces.{SealedView, mark_of, book_log, IsCut}
 use Rattle.fragment_codec.specs.declared.frame.Frame.{Frame}
 use Rattle.fragment_codec.specs.declared.frame.Frame.TheVariants.{Opening}
 use Rattle.page_book.specs.Books.{BookView}

@@ -9,7 +9,8 @@ ghost use Rattle.log_streams.specs.Primary.{AreOfferedTo, IsReady, IsRunBy, AreF
 ghost use Rattle.log_streams.specs.Ends.{ReachItsEnd};
 
 use crate::runs::Runs;
-use fragment_codec::{Frame, Opening, Sealed, cut_pieces};
+use fragment_codec::{Frame, Opening};
+use log_pieces::{Sealed, cut_pieces};
 use ft_types::{Count, Counts, Guest, Hart, Memory, Term};
 use guest_image::{Image, Machine};
 use input_script::Offered;

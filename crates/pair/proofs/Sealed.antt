@@ -4,7 +4,8 @@ use Rattle.ft_types.specs.Guests.{GuestParts}
 use Rattle.ft_types.specs.Counts.{count_at}
 use Rattle.fragment_codec.specs.declared.frame.Frame.{Frame}
 use Rattle.fragment_codec.specs.Rules.{FragmentParts}
-use Rattle.fragment_codec.specs.Pieces.{HartLog, Mark, SealedView, ArePieces, IsCut, mark_behind, mark_of, book_log, number_of, facts_between}
+use Rattle.fragment_codec.specs.Facts.{number_of, facts_between}
+use Rattle.log_pieces.specs.Pieces.{HartLog, Mark, SealedView, ArePieces, IsCut, mark_behind, mark_of, book_log}
 use Rattle.page_book.specs.Books.{BookView}
 use Rattle.book_modes.specs.Recordings.{RecordingView}
 use Rattle.hart_lease.specs.Runs.{counts_of}

@@ -2,7 +2,7 @@
 
 ghost use Rattle.std.specs.Prelude.{◌≡◌, ◌≤◌, ℕ, length, IfOk, OnOk};
 ghost use Rattle.ft_types.specs.Counts.{count_at};
-ghost use Rattle.fragment_codec.specs.Pieces.{IsCut, book_log};
+ghost use Rattle.log_pieces.specs.Pieces.{IsCut, book_log};
 ghost use Rattle.hart_lease.specs.Runs.{counts_of};
 ghost use Rattle.primary_pool.specs.Running.{IsIdle};
 ghost use Rattle.pair.specs.Posts.{MayLead};
@@ -12,7 +12,8 @@ use crate::posts::{Lines, Primary};
 use crate::rounds::{are_at_end, round_end};
 use crate::telling::{new_outputs, outputs_told};
 use crossbeam_channel::Sender;
-use fragment_codec::{Frame, Sealed, cut_pieces};
+use fragment_codec::Frame;
+use log_pieces::{Sealed, cut_pieces};
 use ft_types::{Guest, HART_ROW, Memory};
 use guest_image::Machine;
 use log_streams::{TERM, first_opening};

@@ -2,7 +2,8 @@
 
 use crate::runs::{came_to, leads_in_turn};
 use fixtures::{Dice, HALTS, image_of, key};
-use fragment_codec::{Fragment, Frame, Opening, Sealed, cut_pieces};
+use fragment_codec::{Fragment, Frame, Opening};
+use log_pieces::{Sealed, cut_pieces};
 use ft_types::{Count, Counts, Guest, Hart, Memory};
 use guest_image::{Image, Machine};
 use hart_replay::ReplayFault;

@@ -9,7 +9,7 @@ use Rattle.interleaving.proofs.Cuts.{here_or_later}
 use Rattle.edge_log.specs.declared.Edge.{Edge}
 use Rattle.fragment_codec.specs.declared.types.Record.{Record}
 use Rattle.fragment_codec.specs.declared.types.Record.TheVariants.{Edge as EdgeRecord, Input as InputRecord}
-use Rattle.fragment_codec.specs.Pieces.{edge_in}
+use Rattle.fragment_codec.specs.Facts.{edge_in}
 use Rattle.fragment_codec.specs.Rules.{FragmentParts, OpeningParts, IsRecordOf}
 use Rattle.log_join.specs.Cells.{Cell, One}
 use Rattle.log_join.specs.Stores.{StoreView, IsStore, opening_at}

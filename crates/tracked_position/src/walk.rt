@@ -3,7 +3,7 @@
 ghost use Rattle.std.specs.Prelude.{◌≡◌, ◌<◌, Contains, IfSome, IfNone};
 ghost use Rattle.std.specs.List.{filter_map};
 ghost use Rattle.edge_log.specs.declared.Edge.{Edge as edge_of_specs};
-ghost use Rattle.fragment_codec.specs.Pieces.{edge_in};
+ghost use Rattle.fragment_codec.specs.Facts.{edge_in};
 ghost use Rattle.ft_types.specs.Counts.{count_at};
 ghost use Rattle.log_join.specs.Stores.{IsStore};
 ghost use Rattle.closed_cut.specs.Position.{pieces_of};

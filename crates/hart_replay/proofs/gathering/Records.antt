@@ -14,7 +14,7 @@ use Rattle.input_log.specs.declared.Input.{Input}
 use Rattle.fragment_codec.specs.declared.types.Record.{Record}
 use Rattle.fragment_codec.specs.declared.types.Record.TheVariants.{Edge as EdgeRecord, Input as InputRecord}
 use Rattle.fragment_codec.specs.Rules.{FragmentParts, IsFragment, IsRecordOf, MayPrecede, AreInOrder, count_of}
-use Rattle.fragment_codec.specs.Pieces.{edge_in, input_in}
+use Rattle.fragment_codec.specs.Facts.{edge_in, input_in}
 use Rattle.hart_replay.specs.Facts.{below, edges_among, inputs_among}
 use Rattle.hart_replay.specs.Taking.{TakesEdges, EdgesEndBy}
 

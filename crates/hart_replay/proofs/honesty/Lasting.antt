@@ -8,7 +8,7 @@ use Rattle.edge_log.specs.Rows.{SayOn}
 use Rattle.input_log.specs.declared.Input.{Input}
 use Rattle.input_log.specs.Inputs.{inputs_of}
 use Rattle.hart_lease.specs.Runs.{counts_of}
-use Rattle.fragment_codec.specs.Pieces.{Facts, is_between}
+use Rattle.fragment_codec.specs.Facts.{Facts, is_between}
 use Rattle.hart_replay.specs.Primaries.{PiecesLast}
 
 -- what no element passes leaves nothing

@@ -22,8 +22,9 @@ use Rattle.book_modes.specs.Hearings.{IsTrueLog}
 use Rattle.hart_lease.specs.Runs.{counts_of}
 use Rattle.fragment_codec.specs.declared.frame.Frame.TheVariants.{Log}
 use Rattle.fragment_codec.specs.Rules.{FragmentParts}
-use Rattle.fragment_codec.specs.Pieces.{HartLog, Mark, IsPiece, ArePieces, mark_behind, mark_of, book_log, is_between, edge_in, Facts}
-use Rattle.fragment_codec.proofs.cuts.Between.{between_is}
+use Rattle.fragment_codec.specs.Facts.{is_between, edge_in, Facts}
+use Rattle.log_pieces.specs.Pieces.{HartLog, Mark, IsPiece, ArePieces, mark_behind, mark_of, book_log}
+use Rattle.log_pieces.proofs.cuts.Between.{between_is}
 use Rattle.closed_cut.specs.Position.{edges_of as edges_told}
 use Rattle.hart_replay.specs.Facts.{inputs_among}
 use Rattle.log_join.specs.Families.{no_terms}

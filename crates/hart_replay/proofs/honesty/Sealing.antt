@@ -16,7 +16,7 @@ use Rattle.fragment_codec.specs.declared.types.Key.{Key}
 use Rattle.fragment_codec.specs.declared.frame.Frame.{Frame}
 use Rattle.fragment_codec.specs.declared.frame.Frame.TheVariants.{Log}
 use Rattle.fragment_codec.specs.Rules.{FragmentParts}
-use Rattle.fragment_codec.specs.Pieces.{HartLog, Mark, SealedView, IsPiece, ArePieces, mark_behind, mark_of, book_log, IsCut as AreCut}
+use Rattle.log_pieces.specs.Pieces.{HartLog, Mark, SealedView, IsPiece, ArePieces, mark_behind, mark_of, book_log, IsCut as AreCut}
 use Rattle.log_join.specs.Cells.{One}
 use Rattle.log_join.specs.Families.{NoGap, end_of, fragment_in, OfFamily}
 use Rattle.log_join.proofs.Families.{piece_granted}

@@ -3,7 +3,7 @@ use Rattle.std.proofs.lemmas.List.{append-nil}
 use Rattle.std.specs.List.{filter_map}
 use Rattle.fragment_codec.specs.declared.types.Record.{Record}
 use Rattle.log_join.specs.Cells.{One}
-use Rattle.fragment_codec.specs.Pieces.{edge_in}
+use Rattle.fragment_codec.specs.Facts.{edge_in}
 use Rattle.closed_cut.specs.Position.{pieces_of}
 use Rattle.closed_cut.proofs.Walking.{goes_on, gathered_on, no_place}
 use Rattle.closed_cut.proofs.gathering.gather.Goals as goal

@@ -1,7 +1,7 @@
 use Rattle.std.proofs.Common.{subst, arith, length}
 use Rattle.std.proofs.lemmas.Grind.{common_steps}
 use Rattle.ft_types.specs.Guests.{GuestParts}
-use Rattle.fragment_codec.specs.Pieces.{book_log, IsCut}
+use Rattle.log_pieces.specs.Pieces.{book_log, IsCut}
 use Rattle.interleaving.specs.Stored.{view}
 use Rattle.interleaving.proofs.Beginnings.{ends_are_cuts}
 use Rattle.rv32_hart.specs.Hardware.{hardware}

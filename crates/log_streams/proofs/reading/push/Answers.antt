@@ -1,5 +1,5 @@
 use Rattle.std.proofs.Common.{refl, ◌++◌}
-use Rattle.fragment_codec.proofs.cuts.Rows.{no_fault}
+use Rattle.fragment_codec.proofs.streams.Rests.{no_fault}
 use Rattle.log_streams.proofs.StreamLemmas.{push_fault, feed_faults, not_both}
 use Rattle.log_streams.proofs.reading.push.Goals as goal
 

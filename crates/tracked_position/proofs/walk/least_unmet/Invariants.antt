@@ -1,6 +1,6 @@
 use Rattle.std.proofs.Common.{take}
 use Rattle.std.specs.List.{filter_map}
-use Rattle.fragment_codec.specs.Pieces.{edge_in}
+use Rattle.fragment_codec.specs.Facts.{edge_in}
 use Rattle.ft_types.specs.Counts.{count_at}
 use Rattle.tracked_position.proofs.Scans.{Scanned}
 use Rattle.tracked_position.proofs.walk.least_unmet.Given as goal

@@ -2,7 +2,7 @@ use Rattle.std.proofs.Common.{◌≡◌, ℕ, ◌++◌, Bool, not, List, if◌th
 use Rattle.guest_image.specs.Image.{guest_of}
 use Rattle.fragment_codec.specs.declared.frame.Frame.{Frame}
 use Rattle.ft_types.specs.Guests.{GuestParts}
-use Rattle.fragment_codec.specs.Pieces.{IsCut, book_log}
+use Rattle.log_pieces.specs.Pieces.{IsCut, book_log}
 use Rattle.failover_world.specs.Tied.{IsTied}
 use Rattle.failover_world.specs.Worlds.{WorldView}
 use Rattle.failover_world.proofs.Sealing.{within, sealed, sealed_parts}

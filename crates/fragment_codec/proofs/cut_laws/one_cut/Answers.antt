@@ -1,8 +1,0 @@
-use Rattle.fragment_codec.proofs.cuts.Laws.{one_hart_cut, one_whole_cut}
-use Rattle.fragment_codec.proofs.cut_laws.one_cut.Goals as goal
-
-pub returns-clause-hart : goal.returns-clause-hart
-returns-clause-hart c = one_hart_cut
-
-pub returns-clause-all : goal.returns-clause-all
-returns-clause-all c = one_whole_cut

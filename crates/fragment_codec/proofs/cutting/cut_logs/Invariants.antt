@@ -1,6 +1,0 @@
-use Rattle.fragment_codec.specs.Pieces.{hart_log}
-use Rattle.fragment_codec.proofs.cuts.Harts.{HartsCut}
-use Rattle.fragment_codec.proofs.cutting.cut_logs.Given as goal
-
-abbrev pub invariant-loop-number : goal.invariant-loop-number
-invariant-loop-number l = HartsCut (hart_log l.guest l.term l.edges l.inputs l.settled) l.number l.fn.sealed l.frames.items l.next

@@ -1,0 +1,111 @@
+//! The edges and inputs of a hart between two counts, as records in their order.
+
+ghost use Rattle.std.specs.Prelude.{◌≡◌, ℕ, ◌<◌, AllPairs, length, filter, zip, IfOk, IfNone, IfSome};
+ghost use Rattle.std.specs.List.Sorted.{IsNonDecreasing, IsNonDecreasingBy};
+ghost use Rattle.edge_log.specs.EdgeLog.{row_of};
+ghost use Rattle.edge_log.specs.Rows.{ComesBefore};
+ghost use Rattle.input_log.specs.Inputs.{inputs_of};
+ghost use Rattle.fragment_codec.specs.Rules.{AreInOrder};
+ghost use Rattle.fragment_codec.specs.Facts.{told_by, is_between, facts_between};
+ghost use Rattle.log_pieces.specs.Pieces.{AreEdgesOf, AreInputsOf};
+ghost use Rattle.log_pieces.specs.Cutting.{AreLogged, StandBetween, IsFirst};
+
+use edge_log::{Edge, EdgeLog};
+use fragment_codec::Record;
+use ft_types::{Count, Hart, Memory};
+use input_log::{Input, InputLog};
+use std::alloc::Global;
+
+/// The edges that stand at one count or later, and below another.
+fn edges_between(edges: &[Edge], from: Count, to: Count) -> &[Edge]
+    requires { IsNonDecreasingBy (λ e. e.at) edges.now }
+    ensures { result.now ≡ filter (λ e. is_between from to e.at) edges.now }
+{
+    let (_, rest) = edges.split_at(edges.partition_point(|edge| edge.at < from));
+    let (part, _) = rest.split_at(rest.partition_point(|edge| edge.at < to));
+    part
+}
+
+/// The counts of inputs and the inputs, where these counts are at least the one and below the other.
+fn inputs_between<'a>(
+    counts: &'a [Count],
+    inputs: &'a [Input],
+    from: Count,
+    to: Count,
+) -> (&'a [Count], &'a [Input])
+    requires rising { IsNonDecreasing counts.now }
+    requires paired { length inputs.now ≡ length counts.now }
+    ensures value { zip result.0.now result.1.now ≡ filter (λ x. is_between from to x.0) (zip counts.now inputs.now) }
+    ensures rising { IsNonDecreasing result.0.now }
+    ensures paired { length result.1.now ≡ length result.0.now }
+{
+    let first = counts.partition_point(|count| *count < from);
+    let (_, counts) = counts.split_at(first);
+    let (_, inputs) = inputs.split_at(first);
+    let end = counts.partition_point(|count| *count < to);
+    let (counts, _) = counts.split_at(end);
+    let (inputs, _) = inputs.split_at(end);
+    (counts, inputs)
+}
+
+/// The record that comes first: at one count edges stand before inputs.
+fn first_of(edges: &[Edge], counts: &[Count], inputs: &[Input]) -> Option<Record>
+    requires { length inputs.now ≡ length counts.now }
+    ensures first { IfSome result (IsFirst edges.now counts.now inputs.now) }
+    ensures none { IfNone result ((length edges.now ≡ 0) × (length counts.now ≡ 0)) }
+{
+    if edges.len() > 0 && (counts.len() == 0 || edges[0].at <= counts[0]) {
+        Some(Record::Edge(edges[0]))
+    } else if counts.len() > 0 {
+        Some(Record::Input(counts[0], inputs[0]))
+    } else {
+        None
+    }
+}
+
+/// These edges and inputs in one list.
+fn merged(
+    alloc: Global,
+    edges: &[Edge],
+    counts: &[Count],
+    inputs: &[Input],
+) -> Result<Vec<Record>, Memory>
+    requires edges { AllPairs ComesBefore edges.now }
+    requires counts { IsNonDecreasing counts.now }
+    requires paired { length inputs.now ≡ length counts.now }
+    ensures told { IfOk result (λ v. told_by v.items ≡ record { edges = edges.now; inputs = zip counts.now inputs.now }) }
+    ensures order { IfOk result (λ v. AreInOrder v.items) }
+{
+    let mut records = Vec::new(alloc);
+    let (mut edges_left, mut counts_left, mut inputs_left) = (edges, counts, inputs);
+    while let Some(first) = first_of(edges_left, counts_left, inputs_left) {
+        match &first {
+            Record::Edge(_) => (_, edges_left) = edges_left.split_at(1),
+            Record::Input(_, _) => {
+                (_, counts_left) = counts_left.split_at(1);
+                (_, inputs_left) = inputs_left.split_at(1);
+            }
+        }
+        records.push(first)?;
+    }
+    Ok(records)
+}
+
+/// What the logs say of a hart from one count to another, as records.
+pub(crate) fn records_between(
+    alloc: Global,
+    edges: &EdgeLog,
+    inputs: &InputLog,
+    hart: Hart,
+    from: Count,
+    to: Count,
+) -> Result<Vec<Record>, Memory>
+    ensures told { IfOk result (λ v. told_by v.items ≡ facts_between from to (record { edges = row_of edges.now hart; inputs = inputs_of inputs.now hart })) }
+    ensures there { IfOk result (λ v. StandBetween from to v.items) }
+    ensures logged { IfOk result (λ v. (harts : ℕ) → AreEdgesOf harts edges.now → AreInputsOf harts inputs.now → AreLogged harts hart v.items) }
+{
+    let edges = edges_between(edges.of_hart(hart), from, to);
+    let (counts, inputs) = inputs.of_hart(hart);
+    let (counts, inputs) = inputs_between(counts, inputs, from, to);
+    merged(alloc, edges, counts, inputs)
+}
