@@ -1,18 +1,17 @@
 //! A plain primary: the machine with which its term began, and a book of all that it did since.
 
+use crate::starts::recorder_from;
 use edge_log::EdgeLog;
 use failover_world::WorldFault;
+use fixtures::cut;
 use fragment_codec::{Frame, Opening};
-use log_pieces::{Sealed, cut_pieces};
-use ft_types::{COUNT_LIMIT, Count, Counts, Hart, Memory, Term};
+use ft_types::{COUNT_LIMIT, Counts, Hart, Memory, Term};
 use guest_image::{Image, Machine};
 use input_log::Input;
+use log_pieces::Sealed;
 use page_book::{Book, BookFault, Keep, Lease, Leg, Mode, Recording, Replaying};
 use rv32_hart::Tick;
 use std::alloc::Global;
-
-/// The greatest limit, for each hart.
-static NO_LIMITS: [Count; 8] = [COUNT_LIMIT - 1; 8];
 
 /// A primary.
 #[derive(Drop)]
@@ -21,11 +20,6 @@ pub struct Primary {
     start: Machine,
     book: Book<Recording>,
     sealed: Sealed,
-}
-
-/// The greatest limits of so many harts.
-fn no_limits(harts: u8) -> Option<Counts> {
-    Counts::from_slice(NO_LIMITS.get(..usize::from(harts))?)
 }
 
 /// Takes the lease's first step, or asks for the page that it lacks.
@@ -73,16 +67,13 @@ fn steps<M: Mode>(alloc: Global, book: &mut Book<M>, hart: Hart, many: u64) -> R
 impl Primary {
     /// A primary that goes on from the machine.
     pub fn begin(alloc: Global, opening: Opening, start: Machine) -> Result<Primary, Memory> {
-        let machine = start.copy()?;
-        match no_limits(machine.harts()) {
-            Some(limits) if limits.harts() == machine.harts() => Ok(Primary {
-                sealed: Sealed::new(opening.base()),
-                opening,
-                start,
-                book: Book::<Recording>::begin(alloc, machine, limits)?,
-            }),
-            _ => Err(Memory),
-        }
+        let book = recorder_from(alloc, start.copy()?, COUNT_LIMIT - 1)?;
+        Ok(Primary {
+            sealed: Sealed::new(opening.base()),
+            opening,
+            start,
+            book,
+        })
     }
 
     /// The opening of its term.
@@ -116,24 +107,57 @@ impl Primary {
     /// The pieces of what its log says behind what is sealed.
     pub fn seal(&mut self, alloc: Global, image: &Image) -> Result<Vec<Frame>, Memory> {
         let term = self.opening.term();
-        let counts = self.book.counts();
-        if term == 0 || counts.harts() != image.harts() || !self.sealed.is_within(&counts) {
-            return Ok(Vec::new(alloc));
-        }
-        cut_pieces(alloc, &self.book, &image.guest(), term, &mut self.sealed)
+        cut(alloc, image.guest(), &self.book, term, &mut self.sealed)
     }
 
-    /// Its machine when each hart was at this count: those of its steps that are inside, in their order, once more.
+    /// Its machine when each hart was at this count.
     pub fn machine_at(&self, alloc: Global, ends: Counts) -> Result<Machine, Memory> {
-        let leg = Leg {
-            ends,
-            edges: EdgeLog::new(alloc, self.opening.base()),
-            inputs: self.book.inputs().copy()?,
-        };
-        let mut book = Book::<Replaying>::begin(alloc, self.start.copy()?, leg)?;
-        for stretch in self.book.journal() {
-            steps(alloc, &mut book, stretch.hart, stretch.steps)?;
-        }
-        book.machine().copy()
+        machine_at(alloc, &self.start, &self.book, self.opening.base(), ends)
+    }
+}
+
+/// A book that gives what another one was given, up to these counts, and lets no step wait.
+fn begin_again(
+    alloc: Global,
+    start: &Machine,
+    recorded: &Book<Recording>,
+    base: Counts,
+    ends: Counts,
+) -> Result<Book<Replaying>, Memory> {
+    let leg = Leg {
+        ends,
+        edges: EdgeLog::new(alloc, base),
+        inputs: recorded.inputs().copy()?,
+    };
+    Ok(Book::<Replaying>::begin(alloc, start.copy()?, leg)?)
+}
+
+/// Takes the steps that were recorded once more, in their order, as far as they are inside.
+fn go_again(
+    alloc: Global,
+    book: &mut Book<Replaying>,
+    recorded: &Book<Recording>,
+) -> Result<(), Memory> {
+    for stretch in recorded.journal() {
+        steps(alloc, book, stretch.hart, stretch.steps)?;
+    }
+    Ok(())
+}
+
+/// The machine of a book that began at this one when each hart was at this count: those of its steps that are inside, in their order,
+/// once more.
+pub fn machine_at(
+    alloc: Global,
+    start: &Machine,
+    recorded: &Book<Recording>,
+    base: Counts,
+    ends: Counts,
+) -> Result<Machine, Memory> {
+    let mut book = begin_again(alloc, start, recorded, base, ends)?;
+    let went = go_again(alloc, &mut book, recorded);
+    let machine = book.into_machine();
+    match went {
+        Ok(()) => Ok(machine),
+        Err(Memory) => Err(Memory),
     }
 }
