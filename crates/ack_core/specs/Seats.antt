@@ -1,7 +1,7 @@
 -- What the contracts say of a board and its seats.
 use Rattle.std.specs.Prelude.{◌≡◌, ◌≢◌, ℕ, ◌+◌, ◌*◌, ◌<◌, ◌≤◌, List, [], ◌∷◌, ◌++◌, replicate, slice_index}
 use Rattle.ack_core.specs.declared.board.Board.{Board}
-use Rattle.closed_cut.specs.declared.answer.Position.{Position}
+use Rattle.ft_types.specs.declared.position.Position.{Position}
 use Rattle.ack_core.specs.declared.board.AckFault.{AckFault}
 use Rattle.ack_core.specs.declared.board.AckFault.TheVariants.{OtherTerm, Lower}
 use Rattle.ack_core.specs.declared.seats.KeeperSeat.{KeeperSeat}

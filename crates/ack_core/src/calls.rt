@@ -10,8 +10,7 @@ use crate::rule::{Check, Deal, Publish, Rule, See, TakeIn, Tell};
 use crate::seats::{GateSeat, KeeperSeat};
 use crate::view::{Size, View};
 use atomic_table::{Seat, Table};
-use closed_cut::Position;
-use ft_types::{Count, Counts, HART_LIMIT, Hart, KEEPER_LIMIT, Keeper, Memory, Term};
+use ft_types::{Count, Counts, HART_LIMIT, Hart, KEEPER_LIMIT, Keeper, Memory, Position, Term};
 use std::alloc::Global;
 use std::result::Result;
 

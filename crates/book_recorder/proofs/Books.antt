@@ -25,7 +25,7 @@ use Rattle.page_book.specs.Books.{BookView}
 use Rattle.page_book.specs.Tellings.{TellsOn}
 use Rattle.hart_replay.proofs.honesty.Replays.{boot_pages}
 use Rattle.hart_replay.proofs.honesty.Primaries.{passed, passing}
-use Rattle.primary_pool.proofs.Onward.{heard_before}
+use Rattle.lease_rounds.proofs.Onward.{heard_before}
 use Rattle.failover_theory.specs.Recorders.{Output}
 use Rattle.failover_theory.specs.Machines.{Outs, AreTidy, Book, RunsOn}
 use Rattle.failover_theory.proofs.Recording.{at_cut}

@@ -1,17 +1,16 @@
 //! Primaries whose harts have limits of their own, at one go and by single steps.
 
 ghost use Rattle.std.specs.Prelude.{◌≡◌, ◌<◌, length, IfSome};
-ghost use Rattle.hart_steps.specs.Steps.{AreWithin};
-ghost use Rattle.primary_pool.specs.Running.{IsIdle};
+ghost use Rattle.lease_rounds.specs.Steps.{AreWithin};
+ghost use Rattle.lease_rounds.specs.Running.{IsIdle};
 
 use crate::guests::ADDS;
 use crate::starts::harts_of;
 use fixtures::{HALTS, RING_EACH_OTHER, TWO_LOOPS, image_of};
 use ft_types::{Count, Counts, Hart};
 use guest_image::{Image, Machine};
-use hart_steps::take_step;
 use page_book::{Book, BookFault, Recording};
-use primary_pool::run_plain;
+use lease_rounds::{run_plain, take_step};
 use std::alloc::Global;
 use std::test::Fail;
 

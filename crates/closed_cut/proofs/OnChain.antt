@@ -5,7 +5,7 @@ use Rattle.ft_types.specs.Counts.{count_at}
 use Rattle.fragment_codec.specs.Rules.{OpeningParts}
 use Rattle.log_join.specs.Cells.{One}
 use Rattle.log_join.specs.Stores.{StoreView, IsStore, opening_at}
-use Rattle.closed_cut.specs.declared.answer.Position.{Position}
+use Rattle.ft_types.specs.declared.position.Position.{Position}
 use Rattle.closed_cut.specs.Chain.{IsParent, LeadsTo, IsChain, NoTerm, To}
 use Rattle.closed_cut.specs.Position.{IsReached, base_of, InChain, Self, Up, Stops, Last, Short, On, IsPosition, NoTop, Top}
 use Rattle.closed_cut.specs.OnChain.{StopsAlong, IsAt, IsOnChain, PositionsOnChains, OneWalk}

@@ -7,7 +7,7 @@ use Rattle.log_join.specs.Cells.{Cell, One}
 use Rattle.log_join.specs.Stores.{StoreView, IsStore, opening_at}
 use Rattle.closed_cut.specs.Position.{pieces_of, Goes, Avail, Fits, IsReached, base_of, InChain, Self, Up, Stops, Last, Short, On, IsPosition, NoTop}
 use Rattle.closed_cut.specs.Position.{Top}
-use Rattle.closed_cut.specs.declared.answer.Position.{Position}
+use Rattle.ft_types.specs.declared.position.Position.{Position}
 use Rattle.closed_cut.specs.Unique.{IsSamePosition, OnePosition, OrderKeepsThePosition}
 use Rattle.log_join.proofs.Told.{openings_told, fragments_told}
 use Rattle.log_join.proofs.Cells.{cells_join}

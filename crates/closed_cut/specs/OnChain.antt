@@ -7,7 +7,7 @@ use Rattle.log_join.specs.Cells.{One}
 use Rattle.log_join.specs.Stores.{StoreView, IsStore, opening_at}
 use Rattle.closed_cut.specs.Chain.{IsTop, IsChain}
 use Rattle.closed_cut.specs.Position.{Avail, IsReached, IsPosition, base_of}
-use Rattle.closed_cut.specs.declared.answer.Position.{Position}
+use Rattle.ft_types.specs.declared.position.Position.{Position}
 
 -- the position is the greatest cut of the last term
 pub record IsInLast (store : StoreView) (p : Position) (last : ℕ) : Type 0 where

@@ -9,7 +9,7 @@ use Rattle.fragment_codec.specs.Facts.{edge_in}
 use Rattle.log_join.specs.Cells.{Cell, One}
 use Rattle.log_join.specs.Stores.{StoreView, opening_at, fragment_at}
 use Rattle.closed_cut.specs.Chain.{Sound, IsTop}
-use Rattle.closed_cut.specs.declared.answer.Position.{Position}
+use Rattle.ft_types.specs.declared.position.Position.{Position}
 
 -- a hart's pieces of a term, by place
 abbrev pub pieces_of : StoreView → ℕ → ℕ → ℕ → Cell FragmentParts

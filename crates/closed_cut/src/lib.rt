@@ -2,14 +2,13 @@
 #![tactic(auto)]
 
 mod ancestry;
-mod answer;
 mod gathering;
 mod laws;
 mod lowering;
 mod walk;
 
 pub use ancestry::{chain, opening_of};
-pub use answer::Position;
+pub use ft_types::Position;
 pub use gathering::piece_from;
 pub use laws::{one_position, positions_on_chains};
 pub use walk::position;

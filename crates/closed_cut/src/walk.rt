@@ -10,11 +10,10 @@ ghost use Rattle.closed_cut.specs.Walks.{IsLimited};
 ghost use Rattle.closed_cut.specs.Position.{base_of, IsReached, Stops, IsPosition};
 
 use crate::ancestry::{chain, last_of, opening_of};
-use crate::answer::Position;
 use crate::gathering::gather;
 use crate::lowering::greatest_closed;
 use fragment_codec::Opening;
-use ft_types::{Counts, Hart, Memory, Term};
+use ft_types::{Counts, Hart, Memory, Position, Term};
 use log_join::Store;
 use std::alloc::Global;
 use std::option::Option;

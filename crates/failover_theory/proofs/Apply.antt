@@ -11,7 +11,7 @@ use Rattle.ft_types.specs.Counts.{count_at}
 use Rattle.ft_types.specs.Guests.{GuestParts, IsGuest}
 use Rattle.log_join.specs.Stores.{StoreView, alone}
 use Rattle.closed_cut.specs.Position.{base_of, IsPosition, NoTop, Top}
-use Rattle.closed_cut.specs.declared.answer.Position.{Position}
+use Rattle.ft_types.specs.declared.position.Position.{Position}
 use Rattle.failover_theory.specs.Lists.{how_many, option}
 use Rattle.failover_theory.specs.Recorders.{Recorder, IsCutOf}
 use Rattle.failover_theory.specs.Worlds.{World, Quorum, Joined, NoneYet, Skip, Take, first_world, stepped, sealed, held, granted, BeginsAt, AtBoot, AtCut, Happens, Idle, Step, Seal, Deliver, Join, Acknowledge, Release, Stop, Lose, Grant, Comes, Begins, Then}

@@ -13,7 +13,7 @@ use Rattle.fragment_codec.specs.declared.frame.Frame.TheVariants.{Log, Opening}
 use Rattle.fragment_codec.specs.Rules.{FragmentParts}
 use Rattle.log_join.specs.Stores.{StoreView, IsJoin, alone}
 use Rattle.closed_cut.specs.Position.{base_of, IsPosition, NoTop, Top}
-use Rattle.closed_cut.specs.declared.answer.Position.{Position}
+use Rattle.ft_types.specs.declared.position.Position.{Position}
 use Rattle.failover_theory.specs.Lists.{how_many}
 use Rattle.failover_theory.specs.Recorders.{Output, Recorder, IsBoot, GoesTo, LivesOn, Same, More}
 use Rattle.failover_theory.specs.Families.{IsCutFrom, Starts, Boot, At, IsHonestTerm, IsFamily, Keeps, Here, Above}

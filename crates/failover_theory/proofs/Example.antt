@@ -23,7 +23,7 @@ use Rattle.fragment_codec.specs.Rules.{FragmentParts}
 use Rattle.log_join.specs.Cells.{One, cell_of}
 use Rattle.log_join.specs.Stores.{StoreView, opening_at, IsJoin, nothing, alone}
 use Rattle.closed_cut.specs.Position.{pieces_of, Goes, base_of, IsPosition, NoTop, Top}
-use Rattle.closed_cut.specs.declared.answer.Position.{Position}
+use Rattle.ft_types.specs.declared.position.Position.{Position}
 use Rattle.failover_theory.specs.Lists.{how_many}
 use Rattle.failover_theory.specs.Recorders.{Output, Recorder, IsBoot, GoesTo, CanLive}
 use Rattle.failover_theory.specs.Families.{IsCutFrom, Keeps, Here, Above}

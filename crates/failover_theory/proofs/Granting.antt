@@ -10,7 +10,7 @@ use Rattle.log_join.proofs.Told.{openings_told, fragments_told}
 use Rattle.log_join.proofs.Cells.{cells_join}
 use Rattle.log_join.proofs.Joins.{one_join}
 use Rattle.closed_cut.specs.Position.{IsPosition, NoTop, Top}
-use Rattle.closed_cut.specs.declared.answer.Position.{Position}
+use Rattle.ft_types.specs.declared.position.Position.{Position}
 use Rattle.failover_theory.specs.Recorders.{Recorder}
 use Rattle.failover_theory.specs.Worlds.{World, Quorum, Joined, NoneYet, Skip, Take, new_opening, Comes}
 use Rattle.failover_theory.specs.Laws.{AreStores, CanGo, CanGrant}

@@ -12,7 +12,7 @@ use Rattle.log_join.specs.Cells.{One}
 use Rattle.log_join.specs.Stores.{StoreView}
 use Rattle.closed_cut.specs.Chain.{Sound, Root, Child}
 use Rattle.closed_cut.specs.Position.{IsReached, base_of, Stops, Last, Short, On, Walked, IsPosition, NoTop, Top}
-use Rattle.closed_cut.specs.declared.answer.Position.{Position}
+use Rattle.ft_types.specs.declared.position.Position.{Position}
 use Rattle.failover_theory.specs.Lists.{how_many}
 use Rattle.failover_theory.specs.Recorders.{Output, Recorder, LivesOn, IsCutOf, GoesOn, Same, More}
 use Rattle.failover_theory.specs.Families.{IsCutFrom, Starts, Boot, At, IsFamily, Keeps, Here, Above}

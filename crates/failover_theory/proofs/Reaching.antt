@@ -7,7 +7,7 @@ use Rattle.ft_types.specs.Counts.{count_at}
 use Rattle.ft_types.specs.Guests.{GuestParts}
 use Rattle.log_join.specs.Stores.{StoreView}
 use Rattle.closed_cut.specs.Position.{IsReached, base_of, IsPosition}
-use Rattle.closed_cut.specs.declared.answer.Position.{Position}
+use Rattle.ft_types.specs.declared.position.Position.{Position}
 use Rattle.failover_theory.specs.Recorders.{Recorder}
 use Rattle.failover_theory.specs.Families.{Starts, Boot, At, Keeps, Here, Above}
 use Rattle.failover_theory.specs.Worlds.{World, Quorum, Comes}

@@ -10,7 +10,7 @@ use Rattle.fragment_codec.specs.declared.types.Key.{Key}
 use Rattle.fragment_codec.specs.Rules.{FragmentParts}
 use Rattle.log_join.specs.Stores.{StoreView, IsStore, IsFragmentOf, IsJoin, nothing, alone}
 use Rattle.closed_cut.specs.Position.{base_of, IsPosition}
-use Rattle.closed_cut.specs.declared.answer.Position.{Position}
+use Rattle.ft_types.specs.declared.position.Position.{Position}
 use Rattle.failover_theory.specs.Lists.{how_many, option}
 use Rattle.failover_theory.specs.Recorders.{Recorder, IsBoot, GoesTo, LivesOn, IsCutOf}
 use Rattle.failover_theory.specs.Families.{IsCutFrom}

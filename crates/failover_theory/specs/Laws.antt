@@ -11,7 +11,7 @@ use Rattle.fragment_codec.specs.Rules.{IsOpening}
 use Rattle.log_join.specs.Cells.{One}
 use Rattle.log_join.specs.Stores.{StoreView, IsStore, opening_at}
 use Rattle.closed_cut.specs.Position.{base_of, IsReached, IsPosition}
-use Rattle.closed_cut.specs.declared.answer.Position.{Position}
+use Rattle.ft_types.specs.declared.position.Position.{Position}
 use Rattle.failover_theory.specs.Lists.{how_many}
 use Rattle.failover_theory.specs.Recorders.{Output, Recorder, IsBoot, GoesTo, CanLive}
 use Rattle.failover_theory.specs.Families.{IsHonestTerm, IsFamily, Keeps}

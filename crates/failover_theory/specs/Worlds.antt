@@ -10,7 +10,7 @@ use Rattle.fragment_codec.specs.declared.frame.Frame.TheVariants.{Log, Opening}
 use Rattle.fragment_codec.specs.Rules.{FragmentParts, OpeningParts, IsOpening}
 use Rattle.log_join.specs.Stores.{StoreView, IsFragmentOf, IsJoin, nothing, alone}
 use Rattle.closed_cut.specs.Position.{base_of, IsPosition}
-use Rattle.closed_cut.specs.declared.answer.Position.{Position}
+use Rattle.ft_types.specs.declared.position.Position.{Position}
 use Rattle.failover_theory.specs.Lists.{how_many}
 use Rattle.failover_theory.specs.Recorders.{Output, Recorder, IsBoot, GoesTo, LivesOn}
 use Rattle.failover_theory.specs.Families.{IsCutFrom}

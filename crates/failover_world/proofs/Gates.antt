@@ -13,7 +13,7 @@ use Rattle.term_gate.specs.TermGates.{TermGateView, AreAcked, acked_at}
 use Rattle.ft_types.specs.Counts.{count_at}
 use Rattle.failover_theory.specs.Lists.{how_many}
 use Rattle.failover_theory.specs.Worlds as theory
-use Rattle.hart_steps.specs.Steps.{IsUnmoved}
+use Rattle.lease_rounds.specs.Steps.{IsUnmoved}
 use Rattle.failover_world.specs.Worlds.{WorldView}
 use Rattle.failover_world.specs.Gating.{AreOffered, OffersMore}
 use Rattle.failover_world.specs.Refusals.{IsAsItWas, IsLeft}

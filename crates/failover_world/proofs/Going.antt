@@ -5,7 +5,7 @@ use Rattle.std.proofs.lemmas.Bool.{cases_lt, ltb-true, leb-true}
 use Rattle.interleaving.specs.Lists.{Each}
 use Rattle.ft_types.specs.Counts.{count_at}
 use Rattle.guest_image.specs.Machine.{MachineState}
-use Rattle.output_gate.specs.declared.output.Output.{Output}
+use Rattle.ft_types.specs.declared.output.Output.{Output}
 use Rattle.output_gate.specs.Gates.{LineView, GateView, line_of, waiting_of, offered_of, holder_count, is_held, held_outputs}
 use Rattle.term_gate.specs.TermGates.{TermGateView, AreAcked, acked_at}
 use Rattle.go_live.specs.Outputs.{numbered}

@@ -18,7 +18,7 @@ use Rattle.guest_image.specs.Machine.{MachineState, boot_machine}
 use Rattle.fragment_codec.specs.declared.frame.Frame.TheVariants.{Opening}
 use Rattle.fragment_codec.specs.Rules.{OpeningParts, IsOpening}
 use Rattle.log_join.specs.Families.{Past, Family}
-use Rattle.closed_cut.specs.declared.answer.Position.{Position}
+use Rattle.ft_types.specs.declared.position.Position.{Position}
 use Rattle.page_book.specs.Books.{BookView}
 use Rattle.book_modes.specs.Hearings.{HartMachine}
 use Rattle.book_modes.specs.Recordings.{RecordingView, heard_by}

@@ -4,7 +4,7 @@ use Rattle.guest_image.specs.Image.{guest_of}
 use Rattle.fragment_codec.specs.declared.frame.Frame.{Frame}
 use Rattle.log_join.specs.Stores.{StoreView, IsJoin, alone, nothing}
 use Rattle.closed_cut.specs.Position.{IsPosition}
-use Rattle.closed_cut.specs.declared.answer.Position.{Position}
+use Rattle.ft_types.specs.declared.position.Position.{Position}
 use Rattle.term_gate.specs.TermGates.{TermGateView}
 use Rattle.failover_theory.specs.Worlds as theory
 use Rattle.failover_world.specs.declared.released.Released.{Released}

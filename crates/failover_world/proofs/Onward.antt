@@ -6,7 +6,7 @@ use Rattle.guest_image.specs.Machine.{MachineState}
 use Rattle.hart_lease.specs.Runs.{LeadsTo}
 use Rattle.book_modes.specs.Recordings.{RecordingView, heard_by}
 use Rattle.page_book.specs.Books.{BookView}
-use Rattle.output_gate.specs.declared.output.Output.{Output}
+use Rattle.ft_types.specs.declared.output.Output.{Output}
 use Rattle.output_gate.specs.Gates.{GateView, offered_of}
 use Rattle.go_live.specs.Outputs.{numbered}
 use Rattle.failover_theory.specs.Recorders.{Output as TheoryOutput}

@@ -6,7 +6,7 @@ use Rattle.book_modes.specs.Recordings.{RecordingView}
 use Rattle.hart_lease.specs.Runs.{counts_of}
 use Rattle.fragment_codec.specs.declared.frame.Frame.{Frame}
 use Rattle.log_join.specs.Stores.{StoreView}
-use Rattle.primary_pool.specs.Running.{IsIdle}
+use Rattle.lease_rounds.specs.Running.{IsIdle}
 use Rattle.term_gate.specs.TermGates.{TermGateView}
 use Rattle.failover_world.specs.declared.released.Released.{Released}
 use Rattle.failover_world.specs.declared.primary.Primary.{Primary}

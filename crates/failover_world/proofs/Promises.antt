@@ -9,7 +9,7 @@ use Rattle.fragment_codec.specs.declared.frame.Frame.TheVariants.{Opening}
 use Rattle.ft_types.specs.Guests.{IsGuest}
 use Rattle.fragment_codec.specs.Rules.{OpeningParts}
 use Rattle.log_join.specs.Families.{Past}
-use Rattle.closed_cut.specs.declared.answer.Position.{Position}
+use Rattle.ft_types.specs.declared.position.Position.{Position}
 use Rattle.failover_world.specs.declared.released.Released.{Released}
 use Rattle.log_join.specs.Stores.{nothing}
 use Rattle.log_join.proofs.Families.{granted_opening}

@@ -11,7 +11,7 @@ use Rattle.guest_image.specs.Image.{ImageContents, guest_of}
 use Rattle.hart_lease.specs.Runs.{LeadsTo, journal_turns}
 use Rattle.hart_lease.proofs.journals.Sizes.{is_run}
 use Rattle.book_modes.specs.Recordings.{RecordingView, heard_by}
-use Rattle.output_gate.specs.declared.output.Output.{Output}
+use Rattle.ft_types.specs.declared.output.Output.{Output}
 use Rattle.term_gate.specs.TermGates.{TermGateView, acked_at}
 use Rattle.failover_theory.specs.Recorders.{Output as TheoryOutput}
 use Rattle.failover_theory.specs.Worlds as theory

@@ -4,7 +4,7 @@ use Rattle.std.specs.List.{enumerate_from}
 use Rattle.std.proofs.lemmas.Bool.{leb-true, le-leb}
 use Rattle.interleaving.specs.Lists.{Each, EachPair}
 use Rattle.guest_image.specs.Machine.{MachineState}
-use Rattle.output_gate.specs.declared.output.Output.{Output}
+use Rattle.ft_types.specs.declared.output.Output.{Output}
 use Rattle.output_gate.specs.Gates.{LineView, GateView, line_of, gone_of, waiting_of, offered_of, holder_count, is_held, is_not_held, after_release}
 use Rattle.output_gate.proofs.Fronts.{holder_count-earlier}
 use Rattle.failover_theory.proofs.Stores.{see_bool}

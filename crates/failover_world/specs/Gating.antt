@@ -2,7 +2,7 @@
 use Rattle.std.specs.Prelude.{ℕ, ◌≡◌, ◌<◌, ◌++◌, List, length, map, take}
 use Rattle.interleaving.specs.Lists.{EachPair}
 use Rattle.guest_image.specs.Machine.{MachineState}
-use Rattle.output_gate.specs.declared.output.Output.{Output}
+use Rattle.ft_types.specs.declared.output.Output.{Output}
 use Rattle.output_gate.specs.Gates.{GateView, gone_of, waiting_of, offered_of}
 use Rattle.term_gate.specs.TermGates.{TermGateView}
 use Rattle.go_live.specs.Outputs.{numbered}

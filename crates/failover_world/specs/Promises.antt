@@ -7,7 +7,7 @@ use Rattle.fragment_codec.specs.Rules.{OpeningParts}
 use Rattle.log_join.specs.Families.{OfFamily, HonestStore}
 use Rattle.log_join.specs.Stores.{StoreView}
 use Rattle.closed_cut.specs.Position.{IsPosition}
-use Rattle.closed_cut.specs.declared.answer.Position.{Position}
+use Rattle.ft_types.specs.declared.position.Position.{Position}
 use Rattle.hart_replay.specs.Images.{GuestTerm, GuestHistory, IsHistoryOf}
 use Rattle.hart_replay.specs.Primaries.{IsTermOfBook}
 use Rattle.failover_theory.specs.Lists.{how_many}

@@ -4,11 +4,11 @@ use Rattle.std.specs.List.{Any}
 use Rattle.page_book.specs.declared.answers.BookFault.{BookFault}
 use Rattle.page_book.specs.declared.answers.BookFault.TheVariants.{Memory as NoBookMemory}
 use Rattle.closed_cut.specs.Position.{IsPosition}
-use Rattle.closed_cut.specs.declared.answer.Position.{Position}
+use Rattle.ft_types.specs.declared.position.Position.{Position}
 use Rattle.log_join.specs.Stores.{StoreView}
 use Rattle.ack_core.specs.declared.board.AckFault.{AckFault}
 use Rattle.ack_core.specs.declared.board.AckFault.TheVariants.{OtherTerm}
-use Rattle.output_gate.specs.declared.output.Output.{Output}
+use Rattle.ft_types.specs.declared.output.Output.{Output}
 use Rattle.output_gate.specs.Gates.{gone_of, waiting_of}
 use Rattle.term_gate.specs.TermGates.{TermGateView}
 use Rattle.go_live.specs.declared.fault.LiveFault.{LiveFault}
@@ -18,7 +18,7 @@ use Rattle.failover_events.specs.declared.event.Event.{Event}
 use Rattle.failover_events.specs.declared.event.Event.TheVariants as on
 use Rattle.failover_world.specs.declared.fault.WorldFault.{WorldFault}
 use Rattle.failover_world.specs.declared.fault.WorldFault.TheVariants.{NoPrimary, NoKeeper, NoFrame, NotStopped, Step, Live, Ack, Memory}
-use Rattle.hart_steps.specs.Steps.{IsUnmoved, RefusesStep}
+use Rattle.lease_rounds.specs.Steps.{IsUnmoved, RefusesStep}
 use Rattle.failover_world.specs.Worlds.{WorldView, store_at, term_of}
 use Rattle.failover_world.specs.Happenings.{stores_of}
 

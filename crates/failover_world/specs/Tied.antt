@@ -18,7 +18,7 @@ use Rattle.hart_replay.specs.Primaries.{term_of as history_of, IsPrimary, IsTerm
 use Rattle.failover_theory.specs.Machines.{Book, IsRecorder}
 use Rattle.failover_theory.specs.Worlds as theory
 use Rattle.book_recorder.specs.TermBooks.{IsTermBook, AreTheory}
-use Rattle.primary_pool.specs.Running.{IsIdle}
+use Rattle.lease_rounds.specs.Running.{IsIdle}
 use Rattle.hart_lease.specs.Runs.{counts_of}
 use Rattle.term_gate.specs.TermGates.{acked_at}
 use Rattle.go_live.specs.Histories.{AreOfHistory, IsOfHistory, MakesLonger}

@@ -26,14 +26,13 @@ use crate::keepers::{are_there, empty_stores, held_by, join, keeper_at, put, sto
 use crate::primary::{Primary, boot, no_limits, tell_primary};
 use crate::released::Released;
 use failover_events::Event;
-use fragment_codec::Frame;
+use fragment_codec::{FIRST_TERM, Frame};
 use log_pieces::{Sealed, cut_pieces};
 use ft_types::{Hart, Memory, Term};
 use go_live::{LiveFault, go_live};
 use guest_image::{Image, Machine};
-use hart_steps::take_step;
+use lease_rounds::take_step;
 use input_log::Input;
-use log_streams::TERM as FIRST_TERM;
 use std::alloc::Global;
 use std::marker::Model;
 use std::mem;

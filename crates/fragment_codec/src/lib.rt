@@ -3,6 +3,7 @@
 
 mod fault;
 mod feed;
+mod first_term;
 mod frame;
 mod front;
 mod laws;
@@ -12,6 +13,7 @@ mod writing;
 
 pub use fault::FrameFault;
 pub use feed::Feed;
+pub use first_term::{FIRST_TERM, first_opening};
 pub use frame::{Fragment, Frame, Opening};
 pub use laws::{
     any_cutting, faults_by_bytes, has_reading, lasting_fault, one_fault, one_reading, one_spelling,

@@ -10,7 +10,7 @@ use Rattle.fragment_codec.specs.Rules.{OpeningParts, IsOpening}
 use Rattle.log_join.specs.Cells.{One}
 use Rattle.log_join.specs.Stores.{StoreView, opening_at, IsStore}
 use Rattle.closed_cut.specs.Position.{IsPosition, NoTop, Top}
-use Rattle.closed_cut.specs.declared.answer.Position.{Position}
+use Rattle.ft_types.specs.declared.position.Position.{Position}
 use Rattle.guest_image.specs.Image.{ImageContents, guest_of}
 use Rattle.guest_image.specs.Machine.{MachineState, boot_machine}
 use Rattle.hart_lease.specs.Runs.{counts_of}

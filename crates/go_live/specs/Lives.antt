@@ -6,7 +6,7 @@ use Rattle.ft_types.specs.Guests.{GuestParts}
 use Rattle.fragment_codec.specs.Rules.{OpeningParts}
 use Rattle.log_join.specs.Stores.{StoreView, IsStore}
 use Rattle.closed_cut.specs.Position.{IsPosition}
-use Rattle.closed_cut.specs.declared.answer.Position.{Position}
+use Rattle.ft_types.specs.declared.position.Position.{Position}
 use Rattle.guest_image.specs.Image.{ImageContents, guest_of}
 use Rattle.guest_image.specs.Machine.{MachineState}
 use Rattle.hart_lease.specs.Runs.{counts_of}

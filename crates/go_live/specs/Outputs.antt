@@ -1,7 +1,7 @@
 -- What a machine has put out.
 use Rattle.std.specs.Prelude.{ℕ, List, map}
 use Rattle.std.specs.List.{enumerate_from, flat_map}
-use Rattle.output_gate.specs.declared.output.Output.{Output}
+use Rattle.ft_types.specs.declared.output.Output.{Output}
 use Rattle.guest_image.specs.Machine.{MachineState}
 
 -- a hart's outputs, each with its number, from 0

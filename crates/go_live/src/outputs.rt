@@ -3,9 +3,8 @@
 ghost use Rattle.std.specs.Prelude.{◌≡◌, ◌++◌, IfOk, OnOk};
 ghost use Rattle.go_live.specs.Outputs.{numbered, outputs_in};
 
-use ft_types::{Count, Hart, Memory};
+use ft_types::{Count, Hart, Memory, Output};
 use guest_image::Machine;
-use output_gate::Output;
 use std::alloc::Global;
 use std::result::Result;
 

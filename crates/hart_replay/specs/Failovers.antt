@@ -15,7 +15,7 @@ use Rattle.fragment_codec.specs.Rules.{FragmentParts}
 use Rattle.log_join.specs.Stores.{StoreView, IsStore, IsLastTerm}
 use Rattle.log_join.specs.Families.{Past, Family, GrowsTo}
 use Rattle.closed_cut.specs.Position.{IsPosition}
-use Rattle.closed_cut.specs.declared.answer.Position.{Position}
+use Rattle.ft_types.specs.declared.position.Position.{Position}
 use Rattle.hart_replay.specs.declared.plans.PlannedLeg.{PlannedLeg}
 use Rattle.hart_replay.specs.Histories.{TermHistory, History, InTerm, machine_at, IsTerm, IsHistory, IsHonestStore}
 use Rattle.hart_replay.specs.Images.{GuestTerm, GuestHistory, machine_of, IsTermOf, IsHistoryOf, IsHonestStoreOf}

@@ -7,7 +7,7 @@ use Rattle.interleaving.specs.Beginnings.{order_at}
 use Rattle.input_log.specs.declared.Input.{Input}
 use Rattle.log_join.specs.Stores.{StoreView, IsStore, IsJoin}
 use Rattle.closed_cut.specs.Chain.{LeadsTo}
-use Rattle.closed_cut.specs.declared.answer.Position.{Position}
+use Rattle.ft_types.specs.declared.position.Position.{Position}
 use Rattle.hart_replay.specs.declared.plans.PlannedLeg.{PlannedLeg}
 use Rattle.hart_replay.specs.Facts.{EndsInside, HasEdges, HasInputs}
 use Rattle.hart_replay.specs.Plans.{terms_of, BeginsAtBase, EndAt, log_of}

@@ -6,7 +6,7 @@ use Rattle.interleaving.specs.Log.{Begins, IsSchedule, IsStuck, counts_after, tu
 use Rattle.interleaving.specs.Stored.{halted_of, system_of, view}
 use Rattle.input_log.specs.declared.Input.{Input}
 use Rattle.log_join.specs.Stores.{StoreView, IsStore}
-use Rattle.closed_cut.specs.declared.answer.Position.{Position}
+use Rattle.ft_types.specs.declared.position.Position.{Position}
 use Rattle.rv32_hart.specs.Hardware.{hardware}
 use Rattle.guest_image.specs.Image.{ImageContents}
 use Rattle.guest_image.specs.Machine.{MachineState, boot_machine}

@@ -1,3 +1,6 @@
 pub mod Flags
 pub mod Leading
 pub mod Pages
+pub mod Running
+pub mod SoFar
+pub mod Steps

@@ -2,7 +2,11 @@
 #![tactic(auto)]
 
 mod page_mask;
+mod plain;
 mod rounds;
+mod stepping;
 
 pub use page_mask::PageMask;
+pub use plain::{has_run, run_plain};
 pub use rounds::{bring_back, fill, give, go, go_for, go_round};
+pub use stepping::take_step;

@@ -36,7 +36,7 @@ use Rattle.log_join.specs.Coming.{Gathers, HasOnly}
 use Rattle.log_join.specs.Stores.{StoreView, key_cmp, opening_at, fragment_at, alone}
 use Rattle.closed_cut.specs.Chain.{Sound, Root, Child}
 use Rattle.closed_cut.specs.Position.{pieces_of, base_of, edges_of as edges_told, Goes, Avail, Fits, IsReached, Stops, Last, Short, On, IsPosition, NoTop, Top}
-use Rattle.closed_cut.specs.declared.answer.Position.{Position}
+use Rattle.ft_types.specs.declared.position.Position.{Position}
 use Rattle.closed_cut.proofs.Chains.{zero_row}
 use Rattle.hart_replay.proofs.honesty.Primaries.{passed}
 use Rattle.log_streams.specs.Primary.{AreFramesOf}

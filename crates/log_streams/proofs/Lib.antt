@@ -4,7 +4,6 @@ pub mod Taken
 pub mod Lifted
 pub mod FirstFault
 pub mod Outcomes
-pub mod Openings
 pub mod Truthful
 pub mod Ends
 pub mod HonestRuns

@@ -8,7 +8,7 @@ use Rattle.fragment_codec.specs.Rules.{FragmentParts}
 use Rattle.log_join.specs.Coming.{Gathers}
 use Rattle.log_join.specs.Stores.{StoreView}
 use Rattle.closed_cut.specs.Position.{IsPosition}
-use Rattle.closed_cut.specs.declared.answer.Position.{Position}
+use Rattle.ft_types.specs.declared.position.Position.{Position}
 use Rattle.hart_lease.specs.Runs.{counts_of}
 use Rattle.page_book.specs.Books.{BookView}
 use Rattle.book_modes.specs.Recordings.{RecordingView}

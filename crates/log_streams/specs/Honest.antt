@@ -6,7 +6,7 @@ use Rattle.interleaving.specs.Stored.{view}
 use Rattle.fragment_codec.specs.declared.frame.Frame.{Frame as LogFrame}
 use Rattle.log_join.specs.Stores.{StoreView}
 use Rattle.log_join.specs.Families.{no_terms}
-use Rattle.closed_cut.specs.declared.answer.Position.{Position}
+use Rattle.ft_types.specs.declared.position.Position.{Position}
 use Rattle.closed_cut.specs.Position.{IsPosition}
 use Rattle.rv32_hart.specs.Hardware.{hardware}
 use Rattle.input_script.specs.declared.script.Offered.{Offered}

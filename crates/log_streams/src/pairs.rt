@@ -5,9 +5,8 @@ ghost use Rattle.ft_types.specs.declared.names.TheConstants.{KEEPER_LIMIT};
 ghost use Rattle.input_script.specs.Script.{AreOffered};
 
 use crate::faults::StreamsFault;
-use crate::quorum::Quorum;
 use crate::runs::Runs;
-use ft_types::Sink;
+use ft_types::{Quorum, Sink};
 use guest_image::Image;
 use input_script::Offered;
 use std::alloc::Global;

@@ -3,22 +3,18 @@
 ghost use Rattle.std.specs.Prelude.{◌≡◌, ◌<◌, ◌≤◌, ◌^◌, ℕ, length, replicate, slice_index, IfOk, OnOk};
 ghost use Rattle.ft_types.specs.declared.names.TheConstants.{HART_LIMIT};
 ghost use Rattle.guest_image.specs.Image.{guest_of};
-ghost use Rattle.ft_types.specs.Guests.{IsGuest};
 ghost use Rattle.input_script.specs.Script.{AreOffered};
 ghost use Rattle.log_streams.specs.Primary.{AreOfferedTo, IsReady, IsRunBy, AreFramesOf};
 ghost use Rattle.log_streams.specs.Ends.{ReachItsEnd};
 
 use crate::runs::Runs;
-use fragment_codec::{Frame, Opening};
-use log_pieces::{Sealed, cut_pieces};
-use ft_types::{Count, Counts, Guest, Hart, Memory, Term};
+use fragment_codec::{FIRST_TERM, Frame, first_opening};
+use ft_types::{Count, Counts, Hart, Memory};
 use guest_image::{Image, Machine};
 use input_script::Offered;
+use log_pieces::{Sealed, cut_pieces};
 use page_book::{Book, Recording};
 use std::alloc::Global;
-
-/// The term of the run.
-pub const TERM: Term = 1;
 
 /// One limit for all harts.
 fn limits_of(harts: u8, limit: u32) -> Counts
@@ -78,15 +74,6 @@ pub fn run_primary<P: Runs>(
     runs.run_book(alloc, book)
 }
 
-/// The opening of the term, from boot.
-pub fn first_opening(guest: Guest) -> Opening
-    ensures opening { result ≡ record { guest = guest; term = 1; parent = 0; base = replicate guest.harts 0 } }
-    ensures guest { IsGuest guest }
-{
-    let base = Counts::zero(guest.harts());
-    Opening::new(guest, TERM, 0, base).unwrap()
-}
-
 /// The opening of the term, and the pieces of the book's log.
 pub fn frames_of(alloc: Global, image: &Image, book: &Book<Recording>) -> Result<Vec<Frame>, Memory>
     requires { length book.now.machine.harts ≡ image.now.harts }
@@ -99,7 +86,7 @@ pub fn frames_of(alloc: Global, image: &Image, book: &Book<Recording>) -> Result
     let guest = image.guest();
     let opening = first_opening(guest);
     let mut sealed = Sealed::new(Counts::zero(harts));
-    let mut frames = cut_pieces(alloc, book, &guest, TERM, &mut sealed)?;
+    let mut frames = cut_pieces(alloc, book, &guest, FIRST_TERM, &mut sealed)?;
     frames.insert(0, Frame::Opening(opening))?;
     Ok(frames)
 }

@@ -5,12 +5,12 @@ ghost use Rattle.ft_types.specs.Counts.{count_at};
 ghost use Rattle.hart_lease.specs.Runs.{counts_of};
 ghost use Rattle.book_modes.specs.Recordings.{RecordingView};
 ghost use Rattle.page_book.specs.Books.{BookView};
-ghost use Rattle.primary_pool.specs.Running.{IsIdle, AreThrough, Continues, RunsOn, GoWithin, KeepsOffered};
+ghost use Rattle.lease_rounds.specs.Running.{IsIdle, AreThrough, Continues, RunsOn, GoWithin, KeepsOffered};
 
 use crate::replays::{Plainly, Replays};
 use ft_types::Memory;
+use lease_rounds::run_plain;
 use page_book::{Book, Recording};
-use primary_pool::{PoolFault, run_plain};
 use std::alloc::Global;
 
 /// Who runs books, beside replays: in turn, or on threads.
@@ -34,14 +34,11 @@ pub trait Runs: Replays {
 }
 
 impl Runs for Plainly {
-    ghost use Rattle.primary_pool.specs.Running.{GoesRound};
+    ghost use Rattle.lease_rounds.specs.Running.{GoesRound};
 
     ghost goes = { λ _ b c. GoesRound b c };
 
     fn run_book(&self, alloc: Global, book: Book<Recording>) -> Result<Book<Recording>, Memory> {
-        match run_plain(alloc, book) {
-            Ok(book) => Ok(book),
-            Err(PoolFault::Memory) => Err(Memory),
-        }
+        run_plain(alloc, book)
     }
 }

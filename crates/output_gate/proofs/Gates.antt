@@ -5,7 +5,7 @@ use Rattle.std.specs.List.{AllByRecursion}
 use Rattle.std.proofs.lemmas.List.{get_or_default}
 use mathlib.Core.Logic.{dite}
 use native.Mathlib.Decide.{ℕ_discrete}
-use Rattle.output_gate.specs.declared.output.Output.{Output}
+use Rattle.ft_types.specs.declared.output.Output.{Output}
 use Rattle.output_gate.specs.Gates.{LineView}
 use Rattle.output_gate.specs.Orders.{ComesAfter, AreInLine, NoneIsBefore, IsLineOf}
 use Rattle.output_gate.specs.Lines.{IsGate}

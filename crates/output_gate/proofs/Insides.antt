@@ -8,7 +8,7 @@ use Rattle.ack_core.specs.declared.board.Board.{Board}
 use Rattle.ack_core.specs.declared.seats.GateSeat.{GateSeat}
 use Rattle.ack_core.specs.Seats.{keepers_of, harts_of, heard, seen}
 use Rattle.ack_core.proofs.Counts.{last_is_in}
-use Rattle.output_gate.specs.declared.output.Output.{Output}
+use Rattle.ft_types.specs.declared.output.Output.{Output}
 use Rattle.output_gate.specs.Gates.{LineView, GateView, noted_at, holder_count, is_held, held_outputs}
 use Rattle.output_gate.specs.Looks.{IsSeen, PublishedBeyond, IsInside}
 use Rattle.output_gate.proofs.Alls.{all_so, all_join, kept_pass}

@@ -5,7 +5,7 @@ use Rattle.std.specs.List.{AllByRecursion, filter}
 use Rattle.std.proofs.lemmas.Bool.{leb-true, le-leb}
 use mathlib.Core.Logic.{dite}
 use native.Mathlib.Decide.{dec_lt}
-use Rattle.output_gate.specs.declared.output.Output.{Output}
+use Rattle.ft_types.specs.declared.output.Output.{Output}
 use Rattle.output_gate.specs.Gates.{LineView, GateView, line_of, waiting_of, holder_count, is_held, is_not_held, after_release, held_outputs}
 use Rattle.output_gate.specs.Orders.{ComesAfter, AreInLine, IsLineOf, IsBefore, RiseByHart, AreLaterThan, AreEarlier}
 use Rattle.output_gate.proofs.Alls.{all_so, all_join, all_back, all_filter, kept_pass}

@@ -2,7 +2,7 @@
 use Rattle.std.specs.Prelude.{◌++◌, ℕ, Bool, List, [], not, nat_lt, nat_le, slice_index_or, length}
 use Rattle.std.specs.List.{count_by, filter, flat_map, sum_by}
 use Rattle.ft_types.specs.Counts.{count_at}
-use Rattle.output_gate.specs.declared.output.Output.{Output}
+use Rattle.ft_types.specs.declared.output.Output.{Output}
 
 -- the outputs that were offered of one hart, in that order: those that went out, and behind them those that wait
 pub record LineView : Type 0 where

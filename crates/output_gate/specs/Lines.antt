@@ -2,7 +2,7 @@
 use Rattle.std.specs.Prelude.{◌≡◌, ℕ, ◌<◌, ◌≤◌, List, length, take, drop, slice_index_or}
 use Rattle.std.specs.List.{AllByRecursion, filter}
 use Rattle.ft_types.specs.declared.names.TheConstants.{HART_LIMIT, HART_ROW, KEEPER_LIMIT, KEEPER_ROW}
-use Rattle.output_gate.specs.declared.output.Output.{Output}
+use Rattle.ft_types.specs.declared.output.Output.{Output}
 use Rattle.output_gate.specs.Gates.{LineView, is_held, is_not_held}
 use Rattle.output_gate.specs.Orders.{IsLineOf}
 

@@ -4,7 +4,7 @@ use Rattle.std.specs.List.{Contains}
 use Rattle.ack_core.specs.declared.board.Board.{Board}
 use Rattle.ack_core.specs.declared.seats.GateSeat.{GateSeat}
 use Rattle.ack_core.specs.Seats.{keepers_of, harts_of, heard, seen}
-use Rattle.output_gate.specs.declared.output.Output.{Output}
+use Rattle.ft_types.specs.declared.output.Output.{Output}
 use Rattle.output_gate.specs.Gates.{GateView, noted_at, holder_count}
 
 -- no count is noted above what the seat has seen, and none of a keeper or a hart that the board lacks

@@ -6,8 +6,7 @@ mod laws;
 mod line;
 mod look;
 mod notes;
-mod output;
 
 pub use gate::Gate;
 pub use laws::outputs_go_in_order;
-pub use output::Output;
+pub use ft_types::Output;

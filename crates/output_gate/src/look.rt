@@ -10,9 +10,8 @@ ghost use Rattle.output_gate.specs.Looks.{IsSeen, IsInside};
 ghost use Rattle.output_gate.specs.Orders.{RiseByHart, AreEarlier};
 
 use crate::gate::Gate;
-use crate::output::Output;
 use ack_core::{Board, GateSeat};
-use ft_types::{Hart, Keeper, Memory};
+use ft_types::{Hart, Keeper, Memory, Output};
 use std::alloc::Global;
 use std::result::Result;
 

@@ -7,7 +7,7 @@ use Rattle.ack_core.specs.declared.seats.GateSeat.{GateSeat}
 use Rattle.ack_core.specs.Seats.{term_of, keepers_of, IsGateOf}
 use Rattle.output_gate.specs.Gates.{GateView, line_of, gone_of, waiting_of, offered_of}
 use Rattle.output_gate.specs.Looks.{IsSeen}
-use Rattle.output_gate.specs.declared.output.Output.{Output}
+use Rattle.ft_types.specs.declared.output.Output.{Output}
 use Rattle.pair.specs.declared.messages.ToGate.{ToGate}
 use Rattle.pair.specs.declared.messages.ToGate.TheVariants.{Offer, Published, End}
 

@@ -5,7 +5,7 @@ use Rattle.ack_core.specs.declared.board.Board.{Board}
 use Rattle.ack_core.specs.declared.seats.KeeperSeat.{KeeperSeat}
 use Rattle.ack_core.specs.Seats.{harts_of, IsKeeperOf}
 use Rattle.output_gate.specs.Gates.{offered_of}
-use Rattle.primary_pool.specs.Running.{IsIdle}
+use Rattle.lease_rounds.specs.Running.{IsIdle}
 use Rattle.pair.specs.declared.posts.Post.{Post}
 use Rattle.pair.specs.declared.posts.Watch.{Watch}
 use Rattle.pair.specs.declared.posts.Primary.{Primary}

@@ -1,7 +1,7 @@
 -- What a machine has put out since it was last asked.
 use Rattle.std.specs.Prelude.{ℕ, List, map, drop, slice_index}
 use Rattle.std.specs.List.{enumerate_from, flat_map}
-use Rattle.output_gate.specs.declared.output.Output.{Output}
+use Rattle.ft_types.specs.declared.output.Output.{Output}
 use Rattle.guest_image.specs.Machine.{MachineState}
 
 -- outputs of a hart, each with its number, from the first one's on

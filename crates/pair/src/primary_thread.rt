@@ -4,7 +4,7 @@ ghost use Rattle.std.specs.Prelude.{◌≡◌, ◌≤◌, ℕ, length, IfOk, OnO
 ghost use Rattle.ft_types.specs.Counts.{count_at};
 ghost use Rattle.log_pieces.specs.Pieces.{IsCut, book_log};
 ghost use Rattle.hart_lease.specs.Runs.{counts_of};
-ghost use Rattle.primary_pool.specs.Running.{IsIdle};
+ghost use Rattle.lease_rounds.specs.Running.{IsIdle};
 ghost use Rattle.pair.specs.Posts.{MayLead};
 
 use crate::messages::{ToGate, ToKeeper, send};
@@ -12,11 +12,10 @@ use crate::posts::{Lines, Primary};
 use crate::rounds::{are_at_end, round_end};
 use crate::telling::{new_outputs, outputs_told};
 use crossbeam_channel::Sender;
-use fragment_codec::Frame;
+use fragment_codec::{FIRST_TERM, Frame, first_opening};
 use log_pieces::{Sealed, cut_pieces};
 use ft_types::{Guest, HART_ROW, Memory};
 use guest_image::Machine;
-use log_streams::{TERM, first_opening};
 use page_book::{Book, Recording};
 use primary_pool::{Free, PoolFault, run};
 use std::alloc::Global;
@@ -84,7 +83,7 @@ fn new_pieces(
     ensures sealed { OnOk result (length sealed.new.reached ≡ guest.now.harts) }
     ensures within { OnOk result ((hart : ℕ) → count_at sealed.new.reached hart ≤ counts_of book.now.machine hart) }
 {
-    let frames = cut_pieces(alloc, book, guest, TERM, sealed)?;
+    let frames = cut_pieces(alloc, book, guest, FIRST_TERM, sealed)?;
     Ok(frames)
 }
 

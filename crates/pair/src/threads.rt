@@ -12,11 +12,12 @@ use crate::printing::write_pair;
 use crate::telling::outputs_in_all;
 use ack_core::Board;
 use crossbeam_channel::unbounded;
+use fragment_codec::FIRST_TERM;
 use ft_types::{Memory, Sink};
 use guest_image::{Image, Machine};
 use hart_replay::{Plan, ReplayFault};
 use input_script::Offered;
-use log_streams::{PairOrders, Pairs, Replays, Runs, StreamsFault, TERM, begin_run};
+use log_streams::{PairOrders, Pairs, Replays, Runs, StreamsFault, begin_run};
 use output_gate::{Gate, Output};
 use page_book::{Book, Recording};
 use primary_pool::{Free, PoolFault, run};
@@ -146,8 +147,8 @@ pub fn run_pair<R: Threads + Wait + Sync>(
     requires { AreOffered image.now.harts script.now }
 {
     let book = begin_run(alloc, image, script, orders.budget())?;
-    let (board, seats, seat) = Board::new(alloc, TERM, image.harts(), orders.keepers())?;
-    let gate = Gate::new(alloc, TERM, orders.keepers(), orders.need());
+    let (board, seats, seat) = Board::new(alloc, FIRST_TERM, image.harts(), orders.keepers())?;
+    let gate = Gate::new(alloc, FIRST_TERM, orders.keepers(), orders.need());
     let (to_gate, channel) = unbounded(alloc)?;
     let guest = image.guest();
     let (posts, lines) = man_posts(alloc, &board, guest, seats, to_gate)?;

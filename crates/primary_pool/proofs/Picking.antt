@@ -16,8 +16,8 @@ use Rattle.page_book.specs.Reclaims.{EndsOpen, EndsFirst, GoesOnFrom}
 use Rattle.page_book.specs.Tellings.{HearsMore, AddsLater}
 use Rattle.page_book.proofs.Later.{adds_nothing}
 use Rattle.page_book.proofs.Tellings.{hears_nothing}
-use Rattle.primary_pool.specs.Running.{Continues}
-use Rattle.primary_pool.specs.Leading.{HasRun, IsRestOf}
+use Rattle.lease_rounds.specs.Running.{Continues}
+use Rattle.lease_rounds.specs.SoFar.{HasRun, IsRestOf}
 
 -- ---- from book to book
 

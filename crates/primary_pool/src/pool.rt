@@ -6,14 +6,14 @@ ghost use Rattle.hart_lease.specs.Runs.{counts_of};
 ghost use Rattle.book_modes.specs.Recordings.{GoesOn};
 ghost use Rattle.page_book.specs.Reclaims.{GoesOnFrom};
 ghost use Rattle.page_book.specs.Tellings.{TellsOn};
-ghost use Rattle.primary_pool.specs.Running.{IsIdle, AreAtBudget, Continues, GoToBudget, RunsOn, KeepsOffered};
+ghost use Rattle.lease_rounds.specs.Running.{IsIdle, AreAtBudget, Continues, GoToBudget, RunsOn, KeepsOffered};
 
 use crate::crew::run_crew;
 use crate::fault::PoolFault;
-use crate::plain::{has_run, run_plain};
 use crate::turns::Pace;
 use crate::turnstile::Turnstile;
 use ft_types::{Counts, HART_ROW, HartSet};
+use lease_rounds::{has_run, run_plain};
 use page_book::{Book, Recording};
 use std::alloc::Global;
 use std::result::Result;

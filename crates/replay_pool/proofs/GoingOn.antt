@@ -21,7 +21,7 @@ use Rattle.hart_lease.proofs.journals.GoingOn.{turns_of-append}
 use Rattle.hart_lease.proofs.journals.Sizes.{IsAsLarge, as_large, counts_ran}
 use Rattle.book_modes.specs.declared.mode.Leg.{Leg}
 use Rattle.page_book.specs.Books.{BookView}
-use Rattle.primary_pool.proofs.Onward.{heard_before}
+use Rattle.lease_rounds.proofs.Onward.{heard_before}
 use Rattle.hart_replay.specs.declared.plans.PlannedLeg.{PlannedLeg}
 use Rattle.hart_replay.specs.declared.fault.ReplayFault.{ReplayFault}
 use Rattle.hart_replay.specs.Plans.{IsLeg, log_of}

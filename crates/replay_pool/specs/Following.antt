@@ -6,7 +6,7 @@ use Rattle.edge_log.specs.EdgeLog.{AddsLater}
 use Rattle.input_log.specs.Inputs.{HearsMore, inputs_of}
 use Rattle.interleaving.specs.Stored.{view}
 use Rattle.log_join.specs.Stores.{StoreView, IsStore}
-use Rattle.closed_cut.specs.declared.answer.Position.{Position}
+use Rattle.ft_types.specs.declared.position.Position.{Position}
 use Rattle.rv32_hart.specs.Hardware.{hardware}
 use Rattle.guest_image.specs.Image.{ImageContents, guest_of}
 use Rattle.guest_image.specs.Machine.{MachineState}

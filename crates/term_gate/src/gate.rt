@@ -9,8 +9,7 @@ ghost use Rattle.term_gate.specs.TermGates.{acked_at, AreAcked};
 
 use crate::seeing::{know_all, see_all};
 use ack_core::{AckFault, Board, GateSeat, KeeperSeat};
-use closed_cut::Position;
-use ft_types::{Hart, Keeper, Memory, Term};
+use ft_types::{Hart, Keeper, Memory, Position, Term};
 use output_gate::{Gate, Output};
 use std::alloc::Global;
 use std::marker::Model;

@@ -2,15 +2,15 @@
 
 use crate::runs::{came_to, leads_in_turn};
 use fixtures::{Dice, HALTS, cut, image_of, key};
-use fragment_codec::{Fragment, Frame, Opening};
+use fragment_codec::{Fragment, Frame, Opening, first_opening};
 use ft_types::{Count, Counts, Guest, Hart, Memory};
 use guest_image::{Image, Machine};
 use hart_replay::ReplayFault;
+use lease_rounds::run_plain;
 use log_join::Store;
 use log_pieces::Sealed;
-use log_streams::{begin_run, first_opening};
+use log_streams::begin_run;
 use page_book::{Book, Recording};
-use primary_pool::run_plain;
 use replay_pool::Follower;
 use std::alloc::Global;
 use std::test::Fail;

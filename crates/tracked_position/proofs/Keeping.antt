@@ -18,7 +18,7 @@ use Rattle.log_join.specs.Stores.{StoreView, key_cmp, opening_at, fragment_at, I
 use Rattle.log_join.specs.Answers.{answer_to}
 use Rattle.closed_cut.specs.Chain.{Sound}
 use Rattle.closed_cut.specs.Position.{base_of, pieces_of, Goes, InChain, Stops, IsPosition, NoTop}
-use Rattle.closed_cut.specs.declared.answer.Position.{Position}
+use Rattle.ft_types.specs.declared.position.Position.{Position}
 use Rattle.closed_cut.proofs.Chains.{sound_opens, zero_row}
 use Rattle.tracked_position.specs.declared.walk.Cursor.{Cursor}
 use Rattle.tracked_position.specs.declared.walk.Ahead.TheVariants.{End}

@@ -7,7 +7,7 @@ use Rattle.log_join.specs.Cells.{One}
 use Rattle.log_join.specs.Stores.{StoreView, IsStore, opening_at, fragment_at}
 use Rattle.closed_cut.specs.Chain.{Sound, Root, Child, IsTop}
 use Rattle.closed_cut.specs.Position.{base_of, IsReached, InChain, Self, Up, Stops, Last, Short, On, IsPosition, NoTop, Top}
-use Rattle.closed_cut.specs.declared.answer.Position.{Position}
+use Rattle.ft_types.specs.declared.position.Position.{Position}
 use Rattle.closed_cut.proofs.Walking.{one_same}
 use Rattle.closed_cut.proofs.Chains.{term_above, chain_up}
 use Rattle.std.specs.Option.{option_map}

@@ -10,7 +10,7 @@ use Rattle.log_join.specs.Cells.{One}
 use Rattle.log_join.specs.Stores.{StoreView, opening_at, IsStore, IsJoin, alone}
 use Rattle.log_join.specs.Answers.{answer_to}
 use Rattle.closed_cut.specs.Position.{base_of, IsPosition}
-use Rattle.closed_cut.specs.declared.answer.Position.{Position}
+use Rattle.ft_types.specs.declared.position.Position.{Position}
 use Rattle.tracked_position.specs.declared.walk.Cursor.{Cursor}
 use Rattle.tracked_position.specs.Walks.{AreOver}
 

@@ -18,7 +18,7 @@ use Rattle.fragment_codec.specs.Rules.{OpeningParts}
 use Rattle.hart_lease.specs.Runs.{counts_of, steps_taken}
 use Rattle.log_join.specs.Stores.{StoreView, IsStore}
 use Rattle.closed_cut.specs.Position.{IsPosition, NoTop, Top}
-use Rattle.closed_cut.specs.declared.answer.Position.{Position}
+use Rattle.ft_types.specs.declared.position.Position.{Position}
 use Rattle.closed_cut.proofs.Chains.{term_above}
 use Rattle.hart_replay.specs.Histories.{IsPlace, machine_in}
 use Rattle.hart_replay.specs.Primaries.{IsTermOfBook, unsealed}

@@ -15,7 +15,7 @@ use Rattle.log_join.specs.Families.{Past}
 use Rattle.log_join.proofs.Families.{opening_known}
 use Rattle.closed_cut.specs.Chain.{LeadsTo}
 use Rattle.closed_cut.specs.Position.{Stops, Last, Short, On, NoTop, Top}
-use Rattle.closed_cut.specs.declared.answer.Position.{Position}
+use Rattle.ft_types.specs.declared.position.Position.{Position}
 use Rattle.hart_replay.specs.declared.plans.PlannedLeg.{PlannedLeg}
 use Rattle.hart_replay.specs.Plans.{terms_of, EndAt}
 use Rattle.hart_replay.specs.Histories.{TermHistory, History, InTerm, machine_in, IsHonestStore}

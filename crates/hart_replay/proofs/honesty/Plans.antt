@@ -11,7 +11,7 @@ use Rattle.log_join.specs.Stores.{StoreView, IsStore}
 use Rattle.log_join.specs.Families.{Past}
 use Rattle.log_join.proofs.Families.{opening_known}
 use Rattle.closed_cut.specs.Chain.{IsParent, LeadsTo}
-use Rattle.closed_cut.specs.declared.answer.Position.{Position}
+use Rattle.ft_types.specs.declared.position.Position.{Position}
 use Rattle.hart_replay.specs.declared.plans.PlannedLeg.{PlannedLeg}
 use Rattle.hart_replay.specs.Facts.{EndsInside, HasEdges, HasInputs}
 use Rattle.hart_replay.specs.Plans.{terms_of, BeginsAtBase, EndAt, log_of}

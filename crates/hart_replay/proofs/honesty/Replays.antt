@@ -8,7 +8,7 @@ use Rattle.interleaving.specs.Log.{IsStuck, counts_after}
 use Rattle.interleaving.specs.Stored.{system_of, view}
 use Rattle.interleaving.proofs.Cuts.{here}
 use Rattle.log_join.specs.Stores.{StoreView, IsStore}
-use Rattle.closed_cut.specs.declared.answer.Position.{Position}
+use Rattle.ft_types.specs.declared.position.Position.{Position}
 use Rattle.rv32_hart.specs.Hart.{Hart}
 use Rattle.rv32_hart.specs.Hardware.{hardware}
 use Rattle.guest_image.specs.Image.{ImageContents}

@@ -9,7 +9,7 @@ use Rattle.log_join.specs.Cells.{One}
 use Rattle.log_join.specs.Stores.{StoreView, opening_at, IsStore}
 use Rattle.closed_cut.specs.Chain.{LeadsTo}
 use Rattle.closed_cut.specs.Position.{IsPosition, pieces_of, Goes}
-use Rattle.closed_cut.specs.declared.answer.Position.{Position}
+use Rattle.ft_types.specs.declared.position.Position.{Position}
 use Rattle.hart_replay.specs.declared.plans.PlannedLeg.{PlannedLeg}
 use Rattle.hart_replay.specs.Facts.{EndsInside, HasEdges, HasInputs}
 use Rattle.hart_replay.specs.Plans.{terms_of, BeginsAtBase, EndAt, IsLeg, GoOn, IsPlan}

@@ -9,7 +9,7 @@ use Rattle.log_join.specs.Cells.{One}
 use Rattle.log_join.specs.Stores.{StoreView, opening_at, IsStore}
 use Rattle.closed_cut.specs.Chain.{Sound, Root, LeadsTo, IsChain, NoTerm, To}
 use Rattle.closed_cut.specs.Position.{base_of, InChain, Self, Up, IsReached, Stops, Last, Short, On, IsPosition, NoTop, Top}
-use Rattle.closed_cut.specs.declared.answer.Position.{Position}
+use Rattle.ft_types.specs.declared.position.Position.{Position}
 use Rattle.closed_cut.proofs.Chains.{term_above, chain_up}
 use Rattle.closed_cut.proofs.Walking.{one_same}
 

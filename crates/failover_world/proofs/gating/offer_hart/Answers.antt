@@ -1,7 +1,7 @@
 use Rattle.std.proofs.Common.{◌≤◌, slice_index_or, sym, subst, ◌∙◌, arith}
 use Rattle.std.specs.List.{AllByRecursion}
 use Rattle.std.proofs.lemmas.Option.{slice_get-get_or}
-use Rattle.output_gate.specs.declared.output.Output.{Output}
+use Rattle.ft_types.specs.declared.output.Output.{Output}
 use Rattle.go_live.specs.Outputs.{numbered}
 use Rattle.failover_world.proofs.Rows.{take_all}
 use Rattle.failover_world.proofs.Offers.{numbered_many, next_number, steps_before}

@@ -1,6 +1,6 @@
 use Rattle.std.proofs.Common.{◌++◌, ◌∷◌, [], ℕ, List, take, get_or, arith, ap, sym, ◌∙◌, append_assoc}
 use Rattle.std.proofs.lemmas.List.{take_all, append-nil}
-use Rattle.output_gate.specs.declared.output.Output.{Output}
+use Rattle.ft_types.specs.declared.output.Output.{Output}
 use Rattle.go_live.specs.Outputs.{numbered}
 use Rattle.go_live.proofs.Said.{numbered_more}
 use Rattle.go_live.proofs.outputs.add_outputs.Goals as goal

@@ -3,7 +3,7 @@ use Rattle.std.proofs.lemmas.List.{take_all}
 use Rattle.std.proofs.lemmas.Option.{get_or_from_slice_get}
 use Rattle.std.specs.List.{enumerate_from, flat_map}
 use Rattle.rv32_hart.specs.Hart.{Hart}
-use Rattle.output_gate.specs.declared.output.Output.{Output}
+use Rattle.ft_types.specs.declared.output.Output.{Output}
 use Rattle.go_live.specs.Outputs.{numbered}
 use Rattle.go_live.proofs.Said.{outputs_more}
 use Rattle.go_live.proofs.outputs.outputs_of.Goals as goal

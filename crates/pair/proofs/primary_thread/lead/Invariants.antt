@@ -1,7 +1,7 @@
 use Rattle.std.proofs.Common.{◌≡◌, ◌≤◌, ℕ, length}
 use Rattle.ft_types.specs.Counts.{count_at}
 use Rattle.hart_lease.specs.Runs.{counts_of}
-use Rattle.primary_pool.specs.Running.{IsIdle}
+use Rattle.lease_rounds.specs.Running.{IsIdle}
 use Rattle.pair.proofs.primary_thread.lead.Given as goal
 
 abbrev pub invariant-loop-round : goal.invariant-loop-round

@@ -1,6 +1,6 @@
 use Rattle.std.proofs.Common.{◌++◌, ◌+◌, ◌∷◌, [], ℕ, List, take, get_or, arith, ap, sym, ◌∙◌, append_assoc}
 use Rattle.std.proofs.lemmas.List.{take_all, append-nil}
-use Rattle.output_gate.specs.declared.output.Output.{Output}
+use Rattle.ft_types.specs.declared.output.Output.{Output}
 use Rattle.pair.specs.Telling.{numbered_from}
 use Rattle.pair.proofs.Told.{numbered_more}
 use Rattle.pair.proofs.telling.add_outputs.Goals as goal

@@ -3,7 +3,7 @@ use Rattle.std.proofs.lemmas.List.{take_all}
 use Rattle.std.proofs.lemmas.Option.{get_or_from_slice_get}
 use Rattle.std.specs.List.{enumerate_from, flat_map}
 use Rattle.rv32_hart.specs.Hart.{Hart}
-use Rattle.output_gate.specs.declared.output.Output.{Output}
+use Rattle.ft_types.specs.declared.output.Output.{Output}
 use Rattle.pair.specs.Telling.{numbered_from}
 use Rattle.pair.proofs.Told.{since_more}
 use Rattle.pair.proofs.telling.new_outputs.Goals as goal

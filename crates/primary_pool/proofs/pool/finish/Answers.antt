@@ -4,7 +4,7 @@ use Rattle.guest_image.specs.Machine.{MachineState}
 use Rattle.hart_lease.specs.Runs.{counts_of}
 use Rattle.book_modes.specs.Recordings.{RecordingView}
 use Rattle.page_book.specs.Books.{BookView}
-use Rattle.primary_pool.specs.Leading.{IsRestOf}
+use Rattle.lease_rounds.specs.SoFar.{IsRestOf}
 use Rattle.primary_pool.proofs.Picking.{ended_rest, limited_rest, machine_stays, offered_stays, rest_goes_on}
 use Rattle.primary_pool.proofs.pool.finish.Goals as goal
 

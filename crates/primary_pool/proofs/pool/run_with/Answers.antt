@@ -4,11 +4,11 @@ use Rattle.hart_lease.specs.Runs.{counts_of}
 use Rattle.book_modes.specs.Recordings.{RecordingView, GoesOn}
 use Rattle.page_book.specs.Books.{BookView}
 use Rattle.page_book.specs.Reclaims.{GoesOnFrom}
-use Rattle.primary_pool.specs.Running.{Continues, GoToBudget}
-use Rattle.primary_pool.specs.Leading.{HasRun, IsRestOf}
-use Rattle.primary_pool.proofs.Leasing.{free_alone}
-use Rattle.primary_pool.proofs.Onward.{runs_on}
-use Rattle.primary_pool.proofs.Rounds.{continues_on}
+use Rattle.lease_rounds.specs.Running.{Continues, GoToBudget}
+use Rattle.lease_rounds.specs.SoFar.{HasRun, IsRestOf}
+use Rattle.lease_rounds.proofs.Leasing.{free_alone}
+use Rattle.lease_rounds.proofs.Onward.{runs_on}
+use Rattle.lease_rounds.proofs.RoundByRound.{continues_on}
 use Rattle.primary_pool.proofs.Picking.{goes_on, goes_further, limited_rest, limits_aside, machine_stays, rest_goes_on}
 use Rattle.primary_pool.proofs.pool.run_with.Given.{Over}
 use Rattle.primary_pool.proofs.pool.run_with.Goals as goal

@@ -8,7 +8,7 @@ use Rattle.std.proofs.Common.{Result, Ok, Err, OnOk, OnErr, IfErr, length-set}
 use Rattle.ft_types.specs.Counts.{count_at}
 use Rattle.ft_types.specs.Guests.{GuestParts}
 use Rattle.closed_cut.specs.Position.{IsPosition}
-use Rattle.closed_cut.specs.declared.answer.Position.{Position}
+use Rattle.ft_types.specs.declared.position.Position.{Position}
 use Rattle.ack_core.specs.declared.board.AckFault.{AckFault}
 use Rattle.ack_core.specs.declared.board.AckFault.TheVariants.{OtherTerm, Lower}
 use Rattle.term_gate.specs.TermGates.{TermGateView, acked_at}

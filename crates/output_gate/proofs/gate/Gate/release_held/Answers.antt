@@ -1,5 +1,5 @@
 use Rattle.std.proofs.Common.{ℕ, List, ◌++◌, ◌∙◌, ap, slice_index, slice_index_or}
-use Rattle.output_gate.specs.declared.output.Output.{Output}
+use Rattle.ft_types.specs.declared.output.Output.{Output}
 use Rattle.output_gate.specs.Gates.{LineView, held_outputs}
 use Rattle.output_gate.proofs.Gates.{gate_advances, in_line-back}
 use Rattle.output_gate.proofs.Orders.{given_rises}

@@ -5,7 +5,7 @@ use Rattle.ack_core.specs.declared.board.AckFault.TheVariants.{OtherTerm, Lower}
 use Rattle.ack_core.specs.declared.seats.KeeperSeat.{KeeperSeat}
 use Rattle.ack_core.specs.Lists.{last_count}
 use Rattle.ack_core.specs.Seats.{harts_of, published, last_counts, Publishes, Refuses}
-use Rattle.closed_cut.specs.declared.answer.Position.{Position}
+use Rattle.ft_types.specs.declared.position.Position.{Position}
 use Rattle.ack_core.specs.declared.board.Board.{Board}
 use Rattle.term_gate.specs.TermGates.{TermGateView, acked_at}
 use Rattle.term_gate.proofs.Seats.{found_at, lasts_told, map_at, map_set, put_back}

@@ -1,0 +1,333 @@
+-- One step: a lease whose stop is one above its hart's count.
+use Rattle.std.proofs.Common.{◌≡◌, ℕ, zero, suc, ◌+◌, ◌<◌, ◌≤◌, List, [], ◌∷◌, ◌++◌, map, length, nat_lt, slice_get, slice_set, Option, None, Some, Bool, true, false}
+use Rattle.std.proofs.Common.{Result, Ok, Err, refl, sym, ap, subst, ◌∙◌, inl, inr, arith, if◌then◌else◌}
+use Rattle.std.proofs.lemmas.Grind.{common_steps}
+use Rattle.std.specs.Result.{IfOk, OnErr}
+use Rattle.std.proofs.lemmas.Bool.{cases_lt}
+use Rattle.std.proofs.lemmas.List.{get_or-set_same}
+use Rattle.interleaving.specs.Lists.{put}
+use Rattle.interleaving.proofs.Put.{put_same}
+use Rattle.crew_pages.specs.declared.right.PageRight.{PageRight}
+use Rattle.crew_pages.specs.Rights.{Right, Shared, Exclusive, give_up, holds, nobody}
+use Rattle.lease_ledger.specs.Calls.{kept, Nothing}
+use Rattle.rv32_hart.specs.Hart.{Hart}
+use Rattle.ft_types.specs.Counts.{count_at}
+use Rattle.ft_types.specs.declared.errors.Memory.{Memory}
+use Rattle.guest_image.specs.Machine.{MachineState}
+use Rattle.hart_lease.specs.declared.stretch.Stretch.{Stretch}
+use Rattle.hart_lease.specs.Leases.{LeaseView}
+use Rattle.hart_lease.specs.Runs.{added, counts_of, steps_taken}
+use Rattle.hart_lease.proofs.steps.LackedRights.{step_counts}
+use Rattle.book_modes.specs.declared.keep.Keep.TheVariants as told
+use Rattle.input_log.specs.declared.Input.{Input}
+use Rattle.input_log.specs.Inputs.{inputs_of}
+use Rattle.input_log.specs.Waiting.{bells_of, others_of, going}
+use Rattle.book_modes.specs.Dues.{DueView, nothing_due, due_at, due_from, is_silent}
+use Rattle.book_modes.specs.Recordings.{RecordingView, IsFilled, LogsInputs, inputs_offered, right_at, right_stored}
+use Rattle.page_book.specs.Books.{BookView}
+use Rattle.page_book.specs.Tellings.{TellsOn}
+use Rattle.page_book.proofs.Tellings.{tells_the_same}
+use Rattle.lease_rounds.specs.Leading.{IsIdle, IsHeld, GoesOn, GivesUp, Goes, HasNotGone}
+use Rattle.lease_rounds.proofs.Filling.{HasFilled, has_filled}
+use Rattle.lease_rounds.proofs.Lending.{hart_at}
+use Rattle.lease_rounds.proofs.GoingOn.{HasGoneOn, count_is, from, stop, went_far, has_gone_on, lease_filled, own, harts_stay}
+use Rattle.lease_rounds.specs.Running.{recording}
+use Rattle.lease_rounds.proofs.Leasing.{KeepsRest, ahead, continues, filled_keeps, keeps_rest, offered}
+use Rattle.lease_rounds.proofs.Offered.{filled_offered}
+use Rattle.lease_rounds.specs.Steps.{AreWithin, inputs_next, IsGiven, HasStepped, HoldsNothing, IsUnmoved, Runs}
+
+-- ---- a book that has not moved
+
+unmoved_itself : (b : BookView RecordingView) → IsUnmoved b b
+unmoved_itself b = record { book = refl; edges = refl; inputs = refl; limits = refl; offered = λ hart. refl }
+
+-- it tells on from itself
+pub tells_itself : (b : BookView RecordingView) → TellsOn b b
+tells_itself b = tells_the_same b b refl refl refl
+
+module _ (b c : BookView RecordingView) (same : IsUnmoved b c) where
+  pub machine_stays : c.machine ≡ b.machine
+  machine_stays = ap (λ (x : BookView RecordingView). x.machine) same.book
+
+  pub unmoved_tells : TellsOn b c
+  unmoved_tells = tells_the_same b c machine_stays same.inputs same.edges
+
+but_for_mode : (b c : BookView RecordingView) → c.start ≡ b.start → c.machine ≡ b.machine → c.journal ≡ b.journal → c.leases ≡ b.leases →
+    c ≡ record b { mode = c.mode }
+but_for_mode b c start machine journal leases =
+    λ i. record { start = start i; machine = machine i; journal = journal i; leases = leases i; mode = c.mode }
+
+-- a lease that was given up leaves the book unmoved
+module _ (hart : ℕ) (b d : BookView RecordingView) (up : GivesUp recording hart b d) where
+  abbrev filled : BookView RecordingView
+  filled = up.leaves.filled
+
+  opened : up.opened.mode ≡ record b.mode { due = up.opened.mode.due; desk = up.opened.mode.desk }
+  opened = filled_keeps _ b.mode hart (counts_of b.machine hart) up.opened.mode up.lends.mode.filled
+
+  rest : KeepsRest up.opened up.leaves.filled
+  rest = keeps_rest up.opened up.lease filled up.leaves.lease up.leaves.fills
+
+  book : HasFilled up.opened up.lease up.leaves.filled up.leaves.lease
+  book = has_filled recording up.opened up.lease step_counts filled up.leaves.lease up.leaves.fills
+
+  pub given_up : IsIdle b → IsIdle d → IsUnmoved b d
+  given_up idle now =
+      record {
+        book =
+            but_for_mode b d
+            (ap (λ (x : BookView RecordingView). x.start) up.leaves.ends.book
+            ∙ ap (λ (x : BookView RecordingView). x.start) book.book
+            ∙ ap (λ (x : BookView RecordingView). x.start) up.lends.book)
+            (ap (λ (x : BookView RecordingView). x.machine) up.leaves.ends.book
+            ∙ ap (λ (x : BookView RecordingView). x.machine) book.book
+            ∙ ap (λ (x : BookView RecordingView). x.machine) up.lends.book)
+            (ap (λ (x : BookView RecordingView). x.journal) up.leaves.ends.book
+            ∙ ap (λ (x : BookView RecordingView). x.journal) book.book
+            ∙ ap (λ (x : BookView RecordingView). x.journal) up.lends.book)
+            (now ∙ sym idle);
+        edges =
+            ap (λ (m : RecordingView). m.edges) up.leaves.ends.mode.rest
+            ∙ ap (λ (m : RecordingView). m.edges) rest.mode
+            ∙ ap (λ (m : RecordingView). m.edges) opened;
+        inputs =
+            ap (λ (m : RecordingView). m.inputs) up.leaves.ends.mode.rest
+            ∙ ap (λ (m : RecordingView). m.inputs) rest.mode
+            ∙ ap (λ (m : RecordingView). m.inputs) opened;
+        limits =
+            ap (λ (m : RecordingView). m.limits) up.leaves.ends.mode.rest
+            ∙ ap (λ (m : RecordingView). m.limits) rest.mode
+            ∙ ap (λ (m : RecordingView). m.limits) opened;
+        offered = λ other.
+            ap (λ (m : RecordingView). inputs_offered m other) up.leaves.ends.mode.rest
+            ∙ ap (λ (m : RecordingView). inputs_offered m other) rest.mode
+            ∙ filled_offered b.mode hart (counts_of b.machine hart) up.opened.mode (is_silent (due_at b.mode.due hart).inputs) refl up.lends.mode.filled other;
+      }
+
+-- ---- inputs
+
+-- what is due to a hart that was lent
+filled_due : (r : RecordingView) (hart count : ℕ) (new : RecordingView) (silent : Bool) → is_silent (due_at r.due hart).inputs ≡ silent →
+    IsFilled silent r hart count new → (due_at new.due hart).inputs ≡ inputs_next r hart count
+filled_due r hart count new false is same =
+    ap (λ (v : RecordingView). (due_at v.due hart).inputs) same
+    ∙ sym (ap (λ (b : Bool). if b then going count (bells_of r.desk hart) (others_of r.desk hart) else (due_at r.due hart).inputs) is)
+filled_due r hart count new true is t =
+    ap (λ (ds : List DueView). (due_at ds hart).inputs) t.due
+    ∙ ap (λ (d : DueView). d.inputs)
+    (get_or-set_same r.due hart (due_from hart count (bells_of r.desk hart) (others_of r.desk hart)) nothing_due t.row)
+    ∙ sym (ap (λ (b : Bool). if b then going count (bells_of r.desk hart) (others_of r.desk hart) else (due_at r.due hart).inputs) is)
+
+-- ---- rights
+
+-- a hart that keeps nothing has no right
+left_none : (r : Right) (hart n : ℕ) → holds (give_up r hart n) hart ≡ false
+left_none (Shared since readers left) hart n = put_same readers hart hart false refl
+left_none (Exclusive owner at since left) hart n = of (nat_lt at n)
+  where
+    of : (b : Bool) →
+        holds
+        (if b then Shared (Some (record { hart = owner; count = n })) (λ other. false) nobody else Shared since (λ other. false) (put left owner (Some n)))
+        hart ≡
+        false
+    of true = refl
+    of false = refl
+
+kept_none : (r : Right) (hart n : ℕ) → holds (kept Nothing r hart n) hart ≡ false
+kept_none r hart n = of (holds r hart) refl
+  where
+    of : (b : Bool) → holds r hart ≡ b → holds (if b then give_up r hart n else r) hart ≡ false
+    of true has = left_none r hart n
+    of false has = has
+
+beyond : (rights : List PageRight) (page : ℕ) → length rights ≤ page → slice_get rights page ≡ None
+beyond [] page le = refl
+beyond (r ∷ rights) zero le = absurd (omega (arith, le))
+beyond (r ∷ rights) (suc page) le = beyond rights page (omega (arith, le))
+
+-- ---- one step
+
+-- the counts of the harts, one of which has gone on
+set_counts : (harts : List Hart) (hart : ℕ) (h after : Hart) (limit other : ℕ) → slice_get harts hart ≡ Some h → h.count < after.count →
+    (other ≡ hart → after.count ≤ limit) → steps_taken (slice_get harts other) ≤ limit →
+    (steps_taken (slice_get harts other) ≤ steps_taken (slice_get (slice_set harts hart after) other)) ×
+    (steps_taken (slice_get (slice_set harts hart after) other) ≤ limit)
+set_counts [] hart h after limit other there lt le before = cc
+set_counts (x ∷ harts) zero h after limit zero there lt le before =
+    let same : x.count ≡ h.count = ap steps_taken there in (omega (arith, same, lt), le refl)
+set_counts (x ∷ harts) zero h after limit (suc other) there lt le before = (omega arith, before)
+set_counts (x ∷ harts) (suc hart) h after limit zero there lt le before = (omega arith, before)
+set_counts (x ∷ harts) (suc hart) h after limit (suc other) there lt le before =
+    set_counts harts hart h after limit other there lt (λ e. le (ap suc e)) before
+
+-- the book with other limits
+abbrev pub limited : BookView RecordingView → List ℕ → BookView RecordingView
+limited b limits = record b { mode = record b.mode { limits = limits } }
+
+module _ (hart : ℕ) (b : BookView RecordingView) (once : List ℕ) (d : BookView RecordingView) (idle : IsIdle b)
+    (one : count_at once hart ≡ counts_of b.machine hart + 1) (below : counts_of b.machine hart < count_at b.mode.limits hart) (within : AreWithin b) where
+  abbrev low : BookView RecordingView
+  low = limited b once
+
+  module _ (on : GoesOn recording told.Nothing hart (limited b once) d) where
+    gone : HasGoneOn recording hart (limited b once) d
+    gone = has_gone_on recording told.Nothing hart low d on ahead idle
+
+    steps_one : on.leads.lease.steps ≡ 1
+    steps_one =
+        let far = went_far recording told.Nothing hart low d on ahead idle in
+        let end = stop recording told.Nothing hart low d on ahead idle in
+        let is = count_is recording told.Nothing hart low d on ahead idle in
+        let begun = from recording told.Nothing hart low d on ahead idle in
+        let base : on.leads.lease.base.count ≡ on.lends.state.count =
+        ap (λ (h : Hart). h.count) (lease_filled recording told.Nothing hart low d on).base ∙ ap (λ (x : LeaseView). x.base.count) on.lends.lent in
+        omega (arith, far.0, far.1, end.1, is, begun, base, one, on.leads.back.mode.counts)
+
+    journal : d.journal ≡ added b.journal hart 1
+    journal =
+        let f = lease_filled recording told.Nothing hart low d on in
+        let same : on.leads.filled.journal ≡ b.journal = ap (λ (x : BookView RecordingView). x.journal) f.book ∙ ap (λ (x : BookView RecordingView). x.journal)
+        on.lends.book in
+        on.leads.back.journal
+        ∙ ap (λ (j : List Stretch). added j on.leads.lease.hart on.leads.lease.steps) same
+        ∙ ap (λ (h : ℕ). added b.journal h on.leads.lease.steps) (f.hart ∙ own recording told.Nothing hart low d on)
+        ∙ ap (λ (n : ℕ). added b.journal hart n) steps_one
+
+    counts_go : (other : ℕ) → (counts_of b.machine other ≤ counts_of d.machine other) × (counts_of d.machine other ≤ count_at b.mode.limits other)
+    counts_go other =
+        let g = gone in
+        let end = g.within in
+        subst
+        (λ (hs : List Hart). (counts_of b.machine other ≤ steps_taken (slice_get hs other)) × (steps_taken (slice_get hs other) ≤ count_at b.mode.limits other))
+        (sym g.harts)
+        (set_counts b.machine.harts hart g.before g.after (count_at b.mode.limits other) other g.there g.further
+        (λ e. subst (λ (n : ℕ). g.after.count ≤ count_at b.mode.limits n) (sym e) (omega (arith, end, one, below))) (within other))
+
+    holds_nothing : HoldsNothing d hart
+    holds_nothing page =
+        let settled = on.leads.back.mode in
+        let same : on.leads.lease.hart ≡ hart = (lease_filled recording told.Nothing hart low d on).hart ∙ own recording told.Nothing hart low d on in
+        elim (cases_lt page (length on.leads.filled.mode.rights)) [
+          | inl there ↦
+              ap (λ (r : Right). holds r hart) (settled.rights page there)
+              ∙ subst
+              (λ (h : ℕ). holds (kept Nothing (right_at on.leads.filled.mode.rights page) on.leads.lease.hart on.leads.lease.present.count) h ≡ false) same
+              (kept_none (right_at on.leads.filled.mode.rights page) on.leads.lease.hart on.leads.lease.present.count)
+          | inr past ↦ ap (λ (o : Option PageRight). holds (right_stored o) hart) (beyond d.mode.rights page (omega (arith, past, settled.many)))
+        ]
+
+    is_given : IsGiven hart b d
+    is_given =
+        let f = lease_filled recording told.Nothing hart low d on in
+        let own_hart : on.leads.lease.hart ≡ hart = f.hart ∙ own recording told.Nothing hart low d on in
+        let count : on.leads.lease.base.count ≡ counts_of b.machine hart =
+        ap (λ (h : Hart). h.count) f.base ∙ ap (λ (x : LeaseView). x.base.count) on.lends.lent ∙ sym (ap steps_taken on.lends.there) in
+        let rest : KeepsRest on.opened on.leads.filled = keeps_rest on.opened on.lease on.leads.filled on.leads.lease on.leads.fills in
+        let opened : on.opened.mode ≡ record low.mode { due = on.opened.mode.due; desk = on.opened.mode.desk } =
+        filled_keeps _ low.mode hart (counts_of b.machine hart) on.opened.mode on.lends.mode.filled in
+        let was : on.leads.filled.mode.inputs ≡ b.mode.inputs =
+        ap (λ (m : RecordingView). m.inputs) rest.mode ∙ ap (λ (m : RecordingView). m.inputs) opened in
+        let inputs : on.leads.lease.inputs ≡ inputs_next b.mode hart (counts_of b.machine hart) =
+        f.inputs ∙ on.lends.mode.inputs
+        ∙ filled_due low.mode hart (counts_of b.machine hart) on.opened.mode (is_silent (due_at b.mode.due hart).inputs) refl on.lends.mode.filled in
+        let added = subst (λ (n : ℕ). LogsInputs n on.leads.filled.mode.inputs on.leads.lease d.mode.inputs) steps_one on.leads.back.mode.inputs in
+        record {
+          own =
+              ap (inputs_of d.mode.inputs) (sym own_hart) ∙ added.row
+              ∙ (λ i. inputs_of (was i) (own_hart i) ++ map (λ (x : Input). let pair : ℕ × Input = (count i, x) in pair) (inputs i));
+          others = λ other ne.
+              added.others other (λ e. ne (e ∙ own_hart)) ∙ ap (λ (log : List (List (ℕ × Input))). inputs_of log other) was;
+        }
+
+    has_stepped : (limits : List ℕ) → limits ≡ b.mode.limits → HasStepped hart b (limited d limits)
+    has_stepped limits same =
+        let p = continues told.Nothing hart low d on gone.start in
+        record {
+          idle = on.idle;
+          journal = journal;
+          continues = record { start = p.start; harts = p.harts; journal = p.journal; inputs = p.inputs; edges = p.edges };
+          tells = record { counts = λ other. (counts_go other).0; inputs = p.inputs; edges = p.edges };
+          limits = same;
+          given = record { own = is_given.own; others = is_given.others };
+          offered = offered told.Nothing hart low d on;
+        }
+
+  -- where memory was refused
+  has_not : IsIdle d → HasNotGone recording hart (limited b once) d → IsUnmoved (limited b once) d
+  has_not now none = elim none [
+    | inl same ↦ subst (λ (x : BookView RecordingView). IsUnmoved low x) (sym same) (unmoved_itself low)
+    | inr up ↦ given_up hart low d up idle now
+  ]
+
+  stays : (limits : List ℕ) → limits ≡ b.mode.limits → IsUnmoved (limited b once) d → IsUnmoved b (limited d limits)
+  stays limits same un =
+      record {
+        book =
+            but_for_mode b (limited d limits) (ap (λ (x : BookView RecordingView). x.start) un.book) (ap (λ (x : BookView RecordingView). x.machine) un.book)
+            (ap (λ (x : BookView RecordingView). x.journal) un.book) (ap (λ (x : BookView RecordingView). x.leases) un.book);
+        edges = un.edges;
+        inputs = un.inputs;
+        limits = same;
+        offered = un.offered;
+      }
+
+  -- the book that was lent from, and the one with its limits as before
+  module _ (a f : BookView RecordingView) (limits : List ℕ) (is : a ≡ limited b once) (back : f ≡ limited d limits) (same : limits ≡ b.mode.limits) where
+    pub took_step : GoesOn recording told.Nothing hart a d → HasStepped hart b f
+    took_step on =
+        subst (λ (x : BookView RecordingView). HasStepped hart b x) (sym back)
+        (has_stepped (subst (λ (x : BookView RecordingView). GoesOn recording told.Nothing hart x d) is on) limits same)
+
+    pub took_within : GoesOn recording told.Nothing hart a d → AreWithin f
+    took_within on =
+        subst (λ (x : BookView RecordingView). AreWithin x) (sym back)
+        (λ other.
+        subst (λ (l : List ℕ). counts_of d.machine other ≤ count_at l other) (sym same)
+        (counts_go (subst (λ (x : BookView RecordingView). GoesOn recording told.Nothing hart x d) is on) other).1)
+
+    pub took_rights : GoesOn recording told.Nothing hart a d → HoldsNothing f hart
+    took_rights on =
+        subst (λ (x : BookView RecordingView). HoldsNothing x hart) (sym back)
+        (holds_nothing (subst (λ (x : BookView RecordingView). GoesOn recording told.Nothing hart x d) is on))
+
+    pub took_none : IsIdle d → HasNotGone recording hart a d → IsUnmoved b f
+    took_none now none =
+        subst (λ (x : BookView RecordingView). IsUnmoved b x) (sym back)
+        (stays limits same (has_not now (subst (λ (x : BookView RecordingView). HasNotGone recording hart x d) is none)))
+
+  -- one that runs is not held
+  module _ (runs : Runs b hart) (hart_there : hart < length b.machine.harts) where
+    pub not_held : (a : BookView RecordingView) → a ≡ limited b once → IsHeld recording a hart → ⊥
+    not_held a is held =
+        let (h, there) = hart_at b.machine.harts hart hart_there in
+        let count : counts_of b.machine hart ≡ h.count = ap steps_taken there in
+        elim ((subst (λ (x : BookView RecordingView). IsHeld recording x hart) is held) h there) [
+          | inl halted ↦ (let ran = runs h there in cc)
+          | inr other ↦ elim other [
+            | inl past ↦ omega (arith, past, count, one)
+            | inr unmet ↦ grind (arith, common_steps, unmet)
+          ]
+        ]
+
+  module _ (a : BookView RecordingView) (is : a ≡ limited b once) (r : Result Bool Memory) (goes : IfOk r (λ went. Goes recording told.Nothing went hart a d))
+      (not_gone : OnErr r (HasNotGone recording hart a d)) (now : IsIdle d) where
+    abbrev pub Fits : Type 0
+    Fits = (length d.machine.harts ≡ length b.machine.harts) × ((other : ℕ) → counts_of d.machine other ≤ count_at b.mode.limits other)
+
+    of_machine : d.machine ≡ b.machine → Fits
+    of_machine e = (
+      ap (λ (m : MachineState). length m.harts) e,
+      λ other. subst (λ (m : MachineState). counts_of m other ≤ count_at b.mode.limits other) (sym e) (within other),
+    )
+
+    pub fits : Fits
+    fits = of r goes not_gone
+      where
+        of : (s : Result Bool Memory) → IfOk s (λ went. Goes recording told.Nothing went hart a d) → OnErr s (HasNotGone recording hart a d) → Fits
+        of (Ok true) on _ =
+            let lent = subst (λ (x : BookView RecordingView). GoesOn recording told.Nothing hart x d) is on in
+            (harts_stay recording told.Nothing hart low d lent, λ other. (counts_go lent other).1)
+        of (Ok false) held _ = of_machine (ap (λ (x : BookView RecordingView). x.machine) (held.0 ∙ is))
+        of (Err e) _ refused =
+            of_machine (ap (λ (x : BookView RecordingView). x.machine)
+            (has_not now (subst (λ (x : BookView RecordingView). HasNotGone recording hart x d) is refused)).book)

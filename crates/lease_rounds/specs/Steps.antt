@@ -1,0 +1,68 @@
+-- One step of a primary's hart.
+use Rattle.std.specs.Prelude.{◌≡◌, ◌≢◌, ◌≤◌, ◌++◌, ℕ, List, map, slice_get, false, Option, None, Some, if◌then◌else◌}
+use Rattle.rv32_hart.specs.Hart.{Hart}
+use Rattle.ft_types.specs.Counts.{count_at}
+use Rattle.hart_lease.specs.Runs.{added, counts_of}
+use Rattle.crew_pages.specs.Rights.{holds}
+use Rattle.input_log.specs.declared.Input.{Input}
+use Rattle.input_log.specs.Inputs.{inputs_of}
+use Rattle.input_log.specs.Waiting.{bells_of, others_of, going}
+use Rattle.book_modes.specs.Dues.{due_at, is_silent}
+use Rattle.book_modes.specs.Recordings.{RecordingView, right_at}
+use Rattle.page_book.specs.Books.{BookView, refusal}
+use Rattle.page_book.specs.declared.answers.BookFault.{BookFault}
+use Rattle.page_book.specs.declared.answers.BookFault.TheVariants.{Memory}
+use Rattle.page_book.specs.Tellings.{TellsOn}
+use Rattle.lease_rounds.specs.Running.{IsIdle, Continues, KeepsOffered}
+
+-- no hart is past its limit
+abbrev pub AreWithin : BookView RecordingView → Type 0
+AreWithin b = (hart : ℕ) → counts_of b.machine hart ≤ count_at b.mode.limits hart
+
+-- the hart is not halted
+abbrev pub Runs : BookView RecordingView → ℕ → Type 0
+Runs b hart = (h : Hart) → slice_get b.machine.harts hart ≡ Some h → h.halted ≡ false
+
+-- what the hart's next step is given: what a lease that ended without its first step left, or else what waits for this count
+abbrev pub inputs_next : RecordingView → ℕ → ℕ → List Input
+inputs_next r hart count =
+    if is_silent (due_at r.due hart).inputs
+    then going count (bells_of r.desk hart) (others_of r.desk hart)
+    else (due_at r.due hart).inputs
+
+-- the hart's step was given these at its count, and no other hart was given any
+pub record IsGiven (hart : ℕ) (b c : BookView RecordingView) : Type 0 where
+  pub own : inputs_of c.mode.inputs hart
+      ≡ inputs_of b.mode.inputs hart ++ map (λ input. (counts_of b.machine hart, input)) (inputs_next b.mode hart (counts_of b.machine hart))
+  pub others : (other : ℕ) → other ≢ hart → inputs_of c.mode.inputs other ≡ inputs_of b.mode.inputs other
+
+-- the hart took one step, which is settled: the second book goes on from the first
+pub record HasStepped (hart : ℕ) (b c : BookView RecordingView) : Type 0 where
+  pub idle : IsIdle c
+  pub journal : c.journal ≡ added b.journal hart 1
+  pub continues : Continues b c
+  pub tells : TellsOn b c
+  pub limits : c.mode.limits ≡ b.mode.limits
+  pub given : IsGiven hart b c
+  pub offered : KeepsOffered b c
+
+-- the hart has no right to any page
+abbrev pub HoldsNothing : BookView RecordingView → ℕ → Type 0
+HoldsNothing b hart = (page : ℕ) → holds (right_at b.mode.rights page) hart ≡ false
+
+-- no step was taken: what is settled, and what was told of it, is as it was
+pub record IsUnmoved (b c : BookView RecordingView) : Type 0 where
+  pub book : c ≡ record b { mode = c.mode }
+  pub edges : c.mode.edges ≡ b.mode.edges
+  pub inputs : c.mode.inputs ≡ b.mode.inputs
+  pub limits : c.mode.limits ≡ b.mode.limits
+  pub offered : KeepsOffered b c
+
+-- why the hart can't take a step, if it can't: it is halted, or at its limit
+abbrev pub IsRefused : BookView RecordingView → ℕ → Option BookFault → Type 0
+IsRefused b hart fault = (h : Hart) → slice_get b.machine.harts hart ≡ Some h → refusal None h (count_at b.mode.limits hart) ≡ fault
+
+-- why it did not: it can't, or memory was refused
+abbrev pub RefusesStep : BookView RecordingView → ℕ → BookFault → Type 0
+RefusesStep b hart Memory = IsRefused b hart None
+RefusesStep b hart fault = IsRefused b hart (Some fault)

@@ -1,6 +1,0 @@
-use Rattle.log_streams.proofs.Openings.{opens_from_boot}
-use Rattle.log_streams.proofs.primary.first_opening.Goals as goal
-
-pub unwrap-requires : goal.unwrap-requires
-unwrap-requires c =
-    c.new.ensures.exact.1 (rw (c.zero-base.ensures, c.harts.ensures.value) (opens_from_boot c.args.guest c.harts.ensures.rules))
