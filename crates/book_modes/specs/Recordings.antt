@@ -10,7 +10,9 @@ use Rattle.ft_types.specs.Counts.{count_at}
 use Rattle.ft_types.specs.declared.names.TheConstants.{HART_LIMIT, HART_ROW, INPUT_LIMIT}
 use Rattle.input_log.specs.declared.Input.{Input}
 use Rattle.input_log.specs.declared.WaitingBell.{WaitingBell}
-use Rattle.input_log.specs.Inputs.{IsInputOf, but_bells, inputs_of, AreAddedTo, HearsMore}
+use Rattle.input_log.specs.Inputs.{IsInputOf, inputs_of, AreAddedTo, HearsMore}
+use Rattle.input_log.specs.declared.offered.Offer.{Offer}
+use Rattle.input_log.specs.Offers.{all_offers, but_bells, AreKept}
 use Rattle.input_log.specs.Waiting.{Queues, bells_of, others_of, others_staying, room_beside, next_going, IsBellAddedTo}
 use Rattle.edge_log.specs.declared.Edge.{Edge}
 use Rattle.edge_log.specs.EdgeLog.{Edges, IsLog, edge_as, edges_of, start_of, AreAdded, AddsLater}
@@ -182,10 +184,10 @@ pub record GoesOut (r : RecordingView) (hart count : ℕ) (lent : LentView) (new
   -- what is given later waits for a later lease
   pub stop : lent.stop ≡ stop_before (count_at r.limits hart) count (next_going (bells_of new.desk hart) (others_of new.desk hart))
 
--- the inputs but for bells that were offered to a hart: those that it was given, those that are due to it and those that wait
-abbrev pub inputs_offered : RecordingView → ℕ → List Input
-inputs_offered r hart =
-    but_bells (map (λ x. x.1) (inputs_of r.inputs hart) ++ ((due_at r.due hart).inputs ++ map (λ w. w.input) (others_of r.desk hart)))
+-- the inputs but for bells that were offered to a hart at this count: those that it was given, those that are due to it and those that wait
+abbrev pub offers_at : RecordingView → ℕ → ℕ → List Offer
+offers_at r hart count =
+    but_bells (all_offers (inputs_of r.inputs hart) count (due_at r.due hart).inputs (others_of r.desk hart))
 
 -- it has a row for each hart of these
 pub record HasRows (r : RecordingView) : Type 0 where
@@ -193,16 +195,16 @@ pub record HasRows (r : RecordingView) : Type 0 where
   pub due : length r.due ≡ HART_ROW
   pub desk : length r.desk ≡ HART_ROW
 
--- The hart, which had settled this count, was given more from there on alone, and of what was offered to it none is lost, made or
--- put before another.
-pub record KeepsInputs (r : RecordingView) (hart count : ℕ) (new : RecordingView) : Type 0 where
+-- The hart, which had settled this count and has now settled another, was given more from there on alone; of what was offered to
+-- it none is lost, made or put before another, none came before its count, and what still waits does so for the same count.
+pub record KeepsInputs (r : RecordingView) (hart count : ℕ) (new : RecordingView) (now : ℕ) : Type 0 where
   pub given : HearsMore (inputs_of r.inputs hart) count (inputs_of new.inputs hart)
-  pub offered : inputs_offered new hart ≡ inputs_offered r hart
+  pub offered : AreKept (offers_at r hart count) (offers_at new hart now)
 
 -- The log says of the steps before these counts what it said, and what was offered is kept.
-pub record GoesOn (r : RecordingView) (settled : ℕ → ℕ) (new : RecordingView) : Type 0 where
+pub record GoesOn (r : RecordingView) (settled : ℕ → ℕ) (new : RecordingView) (now : ℕ → ℕ) : Type 0 where
   pub edges : AddsLater r.edges settled new.edges
-  pub inputs : (hart : ℕ) → KeepsInputs r hart (settled hart) new
+  pub inputs : (hart : ℕ) → KeepsInputs r hart (settled hart) new (now hart)
 
 -- an edge that the hart's next step owes for a bell
 pub record IsDueEdge (machine : MachineState) (hart : ℕ) (e : Edge) : Type 0 where

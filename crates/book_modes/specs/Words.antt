@@ -7,7 +7,8 @@ pub use Rattle.guest_image.specs.Machine.{MachineState}
 pub use Rattle.hart_lease.specs.Leases.{LeaseView, whole}
 pub use Rattle.hart_lease.specs.OpenLeases.{has_taken, IsHolder, lent_with, LentView, open_at, OpenView, stands_against}
 pub use Rattle.hart_lease.specs.Runs.{counts_of, Heard, heard_in, IsStop, MayGoTo}
-pub use Rattle.input_log.specs.Inputs.{but_bells, inputs_of, is_bell, IsInputOf}
+pub use Rattle.input_log.specs.Inputs.{inputs_of, is_bell, IsInputOf}
+pub use Rattle.input_log.specs.Offers.{but_bells}
 pub use Rattle.input_log.specs.Waiting.{bells_of, others_of, Queues}
 pub use Rattle.lease_ledger.specs.Calls.{kept}
 pub use Rattle.smallvec.specs.SmallVec.{HasRoomFor, small_vec_len}

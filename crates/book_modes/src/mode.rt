@@ -122,16 +122,16 @@ pub trait Mode: Drop {
     /// What a lease of a hart with a settled count makes of it, which took these pages, and ends without its steps.
     ghost ends: { Self → ℕ → ℕ → List (Option taken_since) → Self → Type 0 };
 
-    /// The mode of a book that goes on from one of another mode, where the harts had settled these counts.
-    ghost goes_on: { Self → (ℕ → ℕ) → Self → Type 0 };
+    /// The mode of a book that goes on from one of another mode, where the harts had settled the first counts, and the second now.
+    ghost goes_on: { Self → (ℕ → ℕ) → Self → (ℕ → ℕ) → Type 0 };
 
     /// An equal mode.
     fn copy(&self) -> Result<Self, Memory>
         ensures { IfOk result (λ mode. mode ≡ self.now) };
 
     /// Whether it goes on so from the other.
-    fn goes_on_from(&self, settled: &Counts, before: &Self) -> bool
-        ensures { IsTrue result ↔ goes_on before.now (count_at settled.now) self.now };
+    fn goes_on_from(&self, now: &Counts, settled: &Counts, before: &Self) -> bool
+        ensures { IsTrue result ↔ goes_on before.now (count_at settled.now) self.now (count_at now.now) };
 
     /// The count that the hart does not go past.
     fn limit(&self, hart: Hart) -> Count
@@ -280,14 +280,14 @@ impl Mode for Replaying {
 
     ghost ends = { λ r hart count taken new. new ≡ r };
 
-    ghost goes_on = { λ r settled new. new ≡ r };
+    ghost goes_on = { λ r settled new now. new ≡ r };
 
     fn copy(&self) -> Result<Replaying, Memory> {
         let leg = self.leg.copy()?;
         Ok(Replaying { leg })
     }
 
-    fn goes_on_from(&self, _settled: &Counts, before: &Replaying) -> bool {
+    fn goes_on_from(&self, _now: &Counts, _settled: &Counts, before: &Replaying) -> bool {
         self.leg.same(&before.leg)
     }
 

@@ -14,7 +14,7 @@ ghost use Rattle.book_modes.specs.Dues.{nothing_due, due_at, is_silent, stop_bef
 ghost use Rattle.rv32_hart.specs.Hart.{Hart as HartRecord};
 ghost use Rattle.book_modes.specs.Recordings.{RecordingView, IsUnused, IsRecorded, heard_by, IsFilled, GoesOut, IsOffered, LogsInputs, due_after, AreLogged};
 ghost use Rattle.book_modes.specs.Recordings.{PutsBell, IsFrom, IsTaker, AreOwed, IsGiven, IsSettled, IsEnded, keep_as, right_at, right_met};
-ghost use Rattle.book_modes.specs.Recordings.{GoesOn, HasRows, inputs_offered, KeepsInputs};
+ghost use Rattle.book_modes.specs.Recordings.{GoesOn, HasRows, KeepsInputs, offers_at};
 
 use crate::due::Due;
 use crate::keep::Keep;
@@ -181,28 +181,29 @@ impl Recording {
         }
     }
 
-    /// What was offered to the hart.
-    fn offered(&self, hart: Hart) -> Offered<'_>
+    /// What was offered to the hart, which is at this count.
+    fn offered(&self, hart: Hart, count: Count) -> Offered<'_>
         ensures rows { HasRows self.now }
-        ensures value { but_bells result ≡ inputs_offered self.now hart }
+        ensures value { but_bells result ≡ offers_at self.now hart count }
     {
         let due = self.due[hart.index()].inputs();
-        Offered::new(&self.inputs, due, &self.desk, hart)
+        Offered::new(&self.inputs, count, due, &self.desk, hart)
     }
 
     /// It has a row for each hart.
     fn has_rows(&self)
         ensures { HasRows self.now }
     {
-        let _offered = self.offered(Hart::new(0));
+        let _offered = self.offered(Hart::new(0), 0);
     }
 
-    /// Whether the hart, which had settled this count, was given more from there on alone, and what was offered to it is kept.
-    fn keeps_inputs(&self, hart: Hart, count: Count, before: &Recording) -> bool
-        ensures { IsTrue result ↔ KeepsInputs before.now hart count self.now }
+    /// Whether the hart, which had settled this count and is now at another, was given more from there on alone, and what was
+    /// offered to it is kept.
+    fn keeps_inputs(&self, now: Count, hart: Hart, count: Count, before: &Recording) -> bool
+        ensures { IsTrue result ↔ KeepsInputs before.now hart count self.now now }
     {
         self.inputs.hears_more(hart, count, &before.inputs)
-            && self.offered(hart).same_but_bells(before.offered(hart))
+            && self.offered(hart, now).keeps(before.offered(hart, count))
     }
 
     /// Whether nothing is due to the hart, and nothing waits for it.
@@ -420,7 +421,7 @@ impl Mode for Recording {
 
     ghost ends = { λ r hart count taken new. IsEnded r hart count taken new };
 
-    ghost goes_on = { λ r settled new. GoesOn r settled new };
+    ghost goes_on = { λ r settled new now. GoesOn r settled new now };
 
     fn copy(&self) -> Result<Recording, Memory> {
         let alloc = *self.rights.allocator();
@@ -434,7 +435,7 @@ impl Mode for Recording {
         })
     }
 
-    fn goes_on_from(&self, settled: &Counts, before: &Recording) -> bool {
+    fn goes_on_from(&self, now: &Counts, settled: &Counts, before: &Recording) -> bool {
         if !self.edges.adds_later(settled, &before.edges) {
             return false;
         }
@@ -442,7 +443,8 @@ impl Mode for Recording {
         before.has_rows();
         for number in 0..HART_LIMIT {
             let hart = Hart::new(number);
-            if !self.keeps_inputs(hart, count_of(*settled, hart), before) {
+            let later = count_of(*now, hart);
+            if !self.keeps_inputs(later, hart, count_of(*settled, hart), before) {
                 return false;
             }
         }

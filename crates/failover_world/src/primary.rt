@@ -10,9 +10,9 @@ ghost use Rattle.hart_replay.specs.Primaries.{IsPrimary};
 ghost use Rattle.failover_world.specs.Primaries.{no_limits as greatest_limits, IsBooted};
 
 use fragment_codec::{Opening, first_opening};
-use log_pieces::Sealed;
 use ft_types::{COUNT_LIMIT, Counts, Hart, Memory};
 use guest_image::{Image, Machine};
+use log_pieces::Sealed;
 use page_book::{Book, Recording};
 use std::alloc::Global;
 use std::result::Result;

@@ -1,5 +1,5 @@
 -- What the records of a hart's log tell: its edges and its inputs.
-use Rattle.std.specs.Prelude.{◌≡◌, ℕ, ◌+◌, Bool, ◌&&◌, ◌==◌, nat_le, nat_lt, List, ◌++◌, length, map, filter, Option, Some, None}
+use Rattle.std.specs.Prelude.{ℕ, ◌+◌, Bool, ◌&&◌, ◌==◌, nat_le, nat_lt, List, ◌++◌, length, map, filter, Option, Some, None}
 use Rattle.std.specs.List.{filter_map}
 use Rattle.edge_log.specs.declared.Edge.{Edge as OwnedEdge}
 use Rattle.input_log.specs.declared.Input.{Input as HartInput}

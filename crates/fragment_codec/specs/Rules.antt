@@ -1,5 +1,5 @@
 -- What a fragment and an opening are: the rules of frames.
-use Rattle.std.specs.Prelude.{◌≡◌, ◌≢◌, ℕ, ◌<◌, ◌≤◌, ◌-◌, ◌^◌, Bool, false, ◌==◌, List, [], ◌∷◌, length, slice_index, All, count_by, ◌⊎◌}
+use Rattle.std.specs.Prelude.{◌≡◌, ◌≢◌, ℕ, ◌<◌, ◌≤◌, ◌-◌, ◌^◌, Bool, false, ◌==◌, List, [], ◌∷◌, length, All, count_by, ◌⊎◌}
 use Rattle.std.specs.List.{AllByRecursion}
 use Rattle.ft_types.specs.Counts.{IsCount}
 use Rattle.ft_types.specs.Guests.{GuestParts, IsGuest}

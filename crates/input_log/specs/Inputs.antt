@@ -1,5 +1,5 @@
 -- Inputs at counts.
-use Rattle.std.specs.Prelude.{ℕ, ◌≡◌, ◌≢◌, ◌<◌, ◌≤◌, ◌==◌, ◌++◌, ◌^◌, Bool, true, false, not, List, [], map, filter, zip, length, slice_index_or, All}
+use Rattle.std.specs.Prelude.{ℕ, ◌≡◌, ◌≢◌, ◌<◌, ◌≤◌, ◌==◌, ◌++◌, ◌^◌, Bool, true, false, List, [], map, filter, zip, length, slice_index_or, All}
 use Rattle.std.specs.List.Sorted.{IsNonDecreasing}
 use Rattle.ft_types.specs.declared.names.TheConstants.{HART_ROW, INPUT_LIMIT}
 use Rattle.input_log.specs.declared.Input.{Input}
@@ -10,10 +10,6 @@ abbrev pub is_bell : Input → Bool
 is_bell input.Timer = false
 is_bell (input.Word w) = false
 is_bell (input.Bell source) = true
-
--- those that are no bells
-abbrev pub but_bells : List Input → List Input
-but_bells inputs = filter (λ i. not (is_bell i)) inputs
 
 -- of a machine with so many harts: a word has 32 bits, and a bell was rung by one of them
 abbrev pub IsInputOf : ℕ → Input → Type 0

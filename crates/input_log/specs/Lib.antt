@@ -1,3 +1,4 @@
 pub mod Inputs
 pub mod Alike
 pub mod Waiting
+pub mod Offers

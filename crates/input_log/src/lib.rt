@@ -13,7 +13,7 @@ mod row;
 pub use desk::Desk;
 use ft_types::{Count, Hart};
 pub use log::InputLog;
-pub use offered::Offered;
+pub use offered::{Offer, Offered};
 
 /// What a hart is given at a step, before it takes it.
 #[derive(Clone, Copy, Debug, PartialEq, Eq)]

@@ -1,20 +1,36 @@
 //! The inputs that were offered to a hart.
 
-ghost use Rattle.std.specs.Prelude.{◌≡◌, ◌↔◌, ◌<◌, ℕ, ◌++◌, map, Some, [], length, IsTrue, IfNone};
+ghost use Rattle.std.specs.Prelude.{◌≡◌, ◌↔◌, ◌<◌, ℕ, ◌++◌, Some, [], length, zip, IsTrue, IfNone};
 ghost use Rattle.std.specs.Option.{option_to_list};
 ghost use Rattle.input_log.specs.Alike.{same_input};
-ghost use Rattle.input_log.specs.Inputs.{but_bells, inputs_of};
+ghost use Rattle.input_log.specs.Inputs.{inputs_of};
+ghost use Rattle.input_log.specs.Offers.{all_offers, AreKept, but_bells, IsKept};
 ghost use Rattle.input_log.specs.Waiting.{others_of};
+ghost use Rattle.input_log.specs.declared.offered.Offer.{Offer as offer_of_specs};
 
 use crate::{Desk, Input, InputLog, WaitingInput};
-use ft_types::{HART_ROW, Hart};
+use ft_types::{Count, HART_ROW, Hart};
 use std::collections::VecDeque;
 use std::marker::Model;
+
+/// An input that was offered to a hart.
+#[derive(Clone, Copy)]
+pub struct Offer {
+    /// Whether it waits.
+    pub waits: bool,
+    /// The count at which it was given or is due, or the least at which it may be given.
+    pub count: Count,
+    /// What is given.
+    pub input: Input,
+}
 
 /// The inputs that were offered to a hart, in their order: those that it was given, those that are due to it and those that wait.
 #[derive(Drop)]
 pub struct Offered<'a> {
+    counts: &'a [Count],
     given: &'a [Input],
+    // The count of the hart, at which it is given what is due.
+    settled: Count,
     due: &'a [Input],
     waiting: &'a VecDeque<WaitingInput>,
     // How many of those that wait have been passed.
@@ -22,18 +38,29 @@ pub struct Offered<'a> {
 }
 
 impl<'a> Model for Offered<'a> {
-    ghost use Rattle.std.specs.Prelude.{List, map, drop, ◌++◌};
-    ghost use Rattle.input_log.specs.declared.Input.{Input};
+    ghost use Rattle.std.specs.Prelude.{List, zip, drop};
+    ghost use Rattle.input_log.specs.Offers.{all_offers};
+    ghost use Rattle.input_log.specs.declared.offered.Offer.{Offer};
 
-    ghost Value = { List Input };
+    ghost Value = { List Offer };
 
-    ghost view = { λ o. o.given.now ++ (o.due.now ++ map (λ w. w.input) (drop o.passed o.waiting.now.items)) };
+    ghost view = { λ o. all_offers (zip o.counts.now o.given.now) o.settled o.due.now (drop o.passed o.waiting.now.items) };
 }
 
 fn same_input(input: &Input, other: &Input) -> bool
     ensures { result ≡ same_input input.now other.now }
 {
     input == other
+}
+
+/// Whether the second is what became of the first.
+fn is_kept(old: &Offer, new: &Offer) -> bool
+    ensures { IsTrue result ↔ IsKept old.now new.now }
+{
+    if !same_input(&new.input, &old.input) || new.count < old.count {
+        return false;
+    }
+    !new.waits || (old.waits && new.count == old.count)
 }
 
 /// Takes the first of a list.
@@ -51,16 +78,36 @@ fn pop<'a>(inputs: &mut &'a [Input]) -> Option<Input>
     }
 }
 
+/// Takes the first of two lists that go side by side.
+fn pop_both<'a>(counts: &mut &'a [Count], inputs: &mut &'a [Input]) -> Option<(Count, Input)>
+    ensures first { zip counts.old.now inputs.old.now ≡ option_to_list result ++ zip counts.new.now inputs.new.now }
+    ensures none { IfNone result (zip counts.new.now inputs.new.now ≡ []) }
+{
+    let all = *counts;
+    let count = *all.first()?;
+    let input = pop(inputs)?;
+    *counts = &all[1..];
+    Some((count, input))
+}
+
 impl<'a> Offered<'a> {
-    /// Those of a log, those that are due and those of a desk.
-    pub fn new(log: &'a InputLog, due: &'a [Input], desk: &'a Desk, hart: Hart) -> Offered<'a>
+    /// Those of a log, those that are due at this count and those of a desk.
+    pub fn new(
+        log: &'a InputLog,
+        settled: Count,
+        due: &'a [Input],
+        desk: &'a Desk,
+        hart: Hart,
+    ) -> Offered<'a>
         ensures log_rows { length log.now ≡ HART_ROW }
         ensures desk_rows { length desk.now ≡ HART_ROW }
-        ensures value { result ≡ map (λ x. x.1) (inputs_of log.now hart) ++ (due.now ++ map (λ w. w.input) (others_of desk.now hart)) }
+        ensures value { result ≡ all_offers (inputs_of log.now hart) settled due.now (others_of desk.now hart) }
     {
-        let (_, given) = log.of_hart(hart);
+        let (counts, given) = log.of_hart(hart);
         Offered {
+            counts,
             given,
+            settled,
             due,
             waiting: desk.others(hart),
             passed: 0,
@@ -68,48 +115,57 @@ impl<'a> Offered<'a> {
     }
 
     /// Takes the first.
-    fn pop(&mut self) -> Option<Input>
+    fn pop(&mut self) -> Option<Offer>
         ensures first { self.old ≡ option_to_list result ++ self.new }
         ensures none { IfNone result (self.new ≡ []) }
     {
-        if let Some(input) = pop(&mut self.given) {
-            return Some(input);
+        let settled = self.settled;
+        if let Some((count, input)) = pop_both(&mut self.counts, &mut self.given) {
+            return Some(Offer {
+                waits: false,
+                count,
+                input,
+            });
         }
         if let Some(input) = pop(&mut self.due) {
-            return Some(input);
+            return Some(Offer {
+                waits: false,
+                count: settled,
+                input,
+            });
         }
-        match self.waiting.get(self.passed) {
-            Some(waiting) => {
-                self.passed += 1;
-                Some(waiting.input)
-            }
-            None => None,
-        }
+        let first = self.waiting.get(self.passed)?;
+        self.passed += 1;
+        Some(Offer {
+            waits: true,
+            count: first.not_before,
+            input: first.input,
+        })
     }
 
     /// Takes the first that is no bell, and what is before it.
-    fn next(&mut self) -> Option<Input>
+    fn next(&mut self) -> Option<Offer>
         ensures next { but_bells self.old ≡ option_to_list result ++ but_bells self.new }
         ensures none { IfNone result (self.new ≡ []) }
-        ensures fewer { (i : Input) → result ≡ Some i → length self.new < length self.old }
+        ensures fewer { (o : offer_of_specs) → result ≡ Some o → length self.new < length self.old }
     {
-        while let Some(input) = self.pop() {
-            if !input.is_bell() {
-                return Some(input);
+        while let Some(offer) = self.pop() {
+            if !offer.input.is_bell() {
+                return Some(offer);
             }
         }
         None
     }
 
-    /// Whether both are the same but for bells.
-    pub fn same_but_bells(self, other: Offered<'a>) -> bool
-        ensures { IsTrue result ↔ (but_bells self.entry ≡ but_bells other.entry) }
+    /// Whether these are what became of those of an earlier time, bells aside.
+    pub fn keeps(self, earlier: Offered<'a>) -> bool
+        ensures { IsTrue result ↔ AreKept (but_bells earlier.entry) (but_bells self.entry) }
     {
         let mut mine = self;
-        let mut theirs = other;
-        while let Some(input) = mine.next() {
+        let mut theirs = earlier;
+        while let Some(offer) = mine.next() {
             match theirs.next() {
-                Some(other) if same_input(&input, &other) => {}
+                Some(old) if is_kept(&old, &offer) => {}
                 _ => return false,
             }
         }

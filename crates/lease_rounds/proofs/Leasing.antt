@@ -7,7 +7,9 @@ use Rattle.interleaving.proofs.Put.{same_or_not, put_same}
 use Rattle.ft_types.specs.Counts.{count_at}
 use Rattle.ft_types.specs.declared.names.Want.{Want}
 use Rattle.ft_types.specs.declared.names.Want.TheVariants.{Read, Write}
+use Rattle.input_log.specs.declared.offered.Offer.{Offer}
 use Rattle.input_log.specs.Inputs.{inputs_of}
+use Rattle.input_log.specs.Offers.{AreKept}
 use Rattle.input_log.specs.Waiting.{bells_of, others_of, next_going}
 use Rattle.crew_pages.specs.declared.right.PageRight.{PageRight}
 use Rattle.crew_pages.specs.Rights as crew
@@ -22,12 +24,13 @@ use Rattle.hart_lease.specs.Runs.{added, counts_of, steps_taken}
 use Rattle.book_modes.specs.Dues.{due_at, is_silent, stop_before}
 use Rattle.hart_lease.specs.Leases.{LeaseView}
 use Rattle.hart_lease.specs.OpenLeases.{OpenView, has_taken}
-use Rattle.book_modes.specs.Recordings.{AreLogged, RecordingView, IsFilled, IsTaker, IsGiven, right_at, right_met, right_stored}
+use Rattle.book_modes.specs.Recordings.{AreLogged, RecordingView, IsFilled, IsTaker, IsGiven, offers_at, right_at, right_met, right_stored}
 use Rattle.lease_rounds.specs.Leading.{IsFreeAlone, Fills, NoneYet, Steps, Takes, GoesOn}
 use Rattle.lease_rounds.proofs.GoingOn.{IsAhead, lease_filled, own, harts_stay}
 use Rattle.page_book.specs.Tellings.{HearsMore}
 use Rattle.page_book.proofs.Tellings.{hears_on, edges_on}
 use Rattle.lease_rounds.specs.Running.{recording, Continues, KeepsOffered, KeepHeld}
+use Rattle.lease_rounds.proofs.Offers.{kept_on}
 use Rattle.lease_rounds.proofs.Offered.{same_offered, filled_offered, settled_offered}
 
 -- ---- a hart that is lent
@@ -150,12 +153,17 @@ module _ (keep : Keep) (hart : ℕ) (b d : BookView RecordingView) (on : GoesOn 
       ∙ ap (λ (h : ℕ). (due_at on.opened.mode.due h).inputs) (sym (f.hart ∙ own recording keep hart b d on))
       ∙ ap (λ (m : RecordingView). (due_at m.due k.hart).inputs) (sym rest.mode)
 
-  pub offered : KeepsOffered b d
-  offered other =
-      settled_offered filled.mode k d.mode on.leads.back.mode.desk is_due k.steps on.leads.back.mode.inputs on.leads.back.mode.due other
-      ∙ same_offered on.opened.mode filled.mode other (ap (λ (m : RecordingView). inputs_of m.inputs other) rest.mode)
-      (ap (λ (m : RecordingView). (due_at m.due other).inputs) rest.mode) (ap (λ (m : RecordingView). others_of m.desk other) rest.mode)
-      ∙ filled_offered b.mode hart (counts_of b.machine hart) on.opened.mode (is_silent (due_at b.mode.due hart).inputs) refl on.lends.mode.filled other
+  pub offered : ((other : ℕ) → counts_of b.machine other ≤ counts_of d.machine other) → KeepsOffered b d
+  offered further other =
+      let now = counts_of b.machine in
+      kept_on (offers_at b.mode other (now other)) (offers_at filled.mode other (now other)) (offers_at d.mode other (counts_of d.machine other))
+      (subst (λ (xs : List Offer). AreKept (offers_at b.mode other (now other)) xs)
+      (sym
+      (same_offered on.opened.mode filled.mode other (now other) (ap (λ (m : RecordingView). inputs_of m.inputs other) rest.mode)
+      (ap (λ (m : RecordingView). (due_at m.due other).inputs) rest.mode) (ap (λ (m : RecordingView). others_of m.desk other) rest.mode)))
+      (filled_offered b.mode hart now on.opened.mode (is_silent (due_at b.mode.due hart).inputs) refl on.lends.mode.filled other))
+      (settled_offered filled.mode k d.mode now (counts_of d.machine) further counted on.leads.back.mode.desk is_due k.steps on.leads.back.mode.inputs
+      on.leads.back.mode.due other)
 
   pub continues : d.start ≡ b.start → Continues b d
   continues start =

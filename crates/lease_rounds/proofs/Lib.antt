@@ -2,6 +2,7 @@ pub mod Filling
 pub mod Lending
 pub mod GoingOn
 pub mod Masks
+pub mod Offers
 pub mod Offered
 pub mod Leasing
 pub mod RoundByRound

@@ -20,10 +20,12 @@ use Rattle.hart_lease.specs.Runs.{added, counts_of, steps_taken}
 use Rattle.hart_lease.proofs.steps.LackedRights.{step_counts}
 use Rattle.book_modes.specs.declared.keep.Keep.TheVariants as told
 use Rattle.input_log.specs.declared.Input.{Input}
+use Rattle.input_log.specs.declared.offered.Offer.{Offer}
 use Rattle.input_log.specs.Inputs.{inputs_of}
+use Rattle.input_log.specs.Offers.{AreKept}
 use Rattle.input_log.specs.Waiting.{bells_of, others_of, going}
 use Rattle.book_modes.specs.Dues.{DueView, nothing_due, due_at, due_from, is_silent}
-use Rattle.book_modes.specs.Recordings.{RecordingView, IsFilled, LogsInputs, inputs_offered, right_at, right_stored}
+use Rattle.book_modes.specs.Recordings.{RecordingView, IsFilled, LogsInputs, offers_at, right_at, right_stored}
 use Rattle.page_book.specs.Books.{BookView}
 use Rattle.page_book.specs.Tellings.{TellsOn}
 use Rattle.page_book.proofs.Tellings.{tells_the_same}
@@ -31,15 +33,15 @@ use Rattle.lease_rounds.specs.Leading.{IsIdle, IsHeld, GoesOn, GivesUp, Goes, Ha
 use Rattle.lease_rounds.proofs.Filling.{HasFilled, has_filled}
 use Rattle.lease_rounds.proofs.Lending.{hart_at}
 use Rattle.lease_rounds.proofs.GoingOn.{HasGoneOn, count_is, from, stop, went_far, has_gone_on, lease_filled, own, harts_stay}
-use Rattle.lease_rounds.specs.Running.{recording}
+use Rattle.lease_rounds.specs.Running.{KeepsOffered, offers, recording}
 use Rattle.lease_rounds.proofs.Leasing.{KeepsRest, ahead, continues, filled_keeps, keeps_rest, offered}
-use Rattle.lease_rounds.proofs.Offered.{filled_offered}
+use Rattle.lease_rounds.proofs.Offered.{filled_offered, offered_itself}
 use Rattle.lease_rounds.specs.Steps.{AreWithin, inputs_next, IsGiven, HasStepped, HoldsNothing, IsUnmoved, Runs}
 
 -- ---- a book that has not moved
 
 unmoved_itself : (b : BookView RecordingView) → IsUnmoved b b
-unmoved_itself b = record { book = refl; edges = refl; inputs = refl; limits = refl; offered = λ hart. refl }
+unmoved_itself b = record { book = refl; edges = refl; inputs = refl; limits = refl; offered = offered_itself b }
 
 -- it tells on from itself
 pub tells_itself : (b : BookView RecordingView) → TellsOn b b
@@ -71,6 +73,22 @@ module _ (hart : ℕ) (b d : BookView RecordingView) (up : GivesUp recording har
   book : HasFilled up.opened up.lease up.leaves.filled up.leaves.lease
   book = has_filled recording up.opened up.lease step_counts filled up.leaves.lease up.leaves.fills
 
+  machine : d.machine ≡ b.machine
+  machine =
+      ap (λ (x : BookView RecordingView). x.machine) up.leaves.ends.book
+      ∙ ap (λ (x : BookView RecordingView). x.machine) book.book
+      ∙ ap (λ (x : BookView RecordingView). x.machine) up.lends.book
+
+  up_offered : KeepsOffered b d
+  up_offered other =
+      let now = counts_of b.machine in
+      subst (λ (m : MachineState). AreKept (offers b other) (offers_at d.mode other (counts_of m other))) (sym machine)
+      (subst (λ (xs : List Offer). AreKept (offers b other) xs)
+      (sym
+      (ap (λ (m : RecordingView). offers_at m other (now other)) up.leaves.ends.mode.rest
+      ∙ ap (λ (m : RecordingView). offers_at m other (now other)) rest.mode))
+      (filled_offered b.mode hart now up.opened.mode (is_silent (due_at b.mode.due hart).inputs) refl up.lends.mode.filled other))
+
   pub given_up : IsIdle b → IsIdle d → IsUnmoved b d
   given_up idle now =
       record {
@@ -79,9 +97,7 @@ module _ (hart : ℕ) (b d : BookView RecordingView) (up : GivesUp recording har
             (ap (λ (x : BookView RecordingView). x.start) up.leaves.ends.book
             ∙ ap (λ (x : BookView RecordingView). x.start) book.book
             ∙ ap (λ (x : BookView RecordingView). x.start) up.lends.book)
-            (ap (λ (x : BookView RecordingView). x.machine) up.leaves.ends.book
-            ∙ ap (λ (x : BookView RecordingView). x.machine) book.book
-            ∙ ap (λ (x : BookView RecordingView). x.machine) up.lends.book)
+            machine
             (ap (λ (x : BookView RecordingView). x.journal) up.leaves.ends.book
             ∙ ap (λ (x : BookView RecordingView). x.journal) book.book
             ∙ ap (λ (x : BookView RecordingView). x.journal) up.lends.book)
@@ -98,10 +114,7 @@ module _ (hart : ℕ) (b d : BookView RecordingView) (up : GivesUp recording har
             ap (λ (m : RecordingView). m.limits) up.leaves.ends.mode.rest
             ∙ ap (λ (m : RecordingView). m.limits) rest.mode
             ∙ ap (λ (m : RecordingView). m.limits) opened;
-        offered = λ other.
-            ap (λ (m : RecordingView). inputs_offered m other) up.leaves.ends.mode.rest
-            ∙ ap (λ (m : RecordingView). inputs_offered m other) rest.mode
-            ∙ filled_offered b.mode hart (counts_of b.machine hart) up.opened.mode (is_silent (due_at b.mode.due hart).inputs) refl up.lends.mode.filled other;
+        offered = up_offered;
       }
 
 -- ---- inputs
@@ -249,7 +262,7 @@ module _ (hart : ℕ) (b : BookView RecordingView) (once : List ℕ) (d : BookVi
           tells = record { counts = λ other. (counts_go other).0; inputs = p.inputs; edges = p.edges };
           limits = same;
           given = record { own = is_given.own; others = is_given.others };
-          offered = offered told.Nothing hart low d on;
+          offered = offered told.Nothing hart low d on (λ other. (counts_go other).0);
         }
 
   -- where memory was refused

@@ -17,6 +17,7 @@ use Rattle.page_book.proofs.Tellings.{hears_nothing, hears_more}
 use Rattle.lease_rounds.specs.Running.{IsIdle, AreThrough, IsThrough, Continues, GoWithin, recording, NoRound, OneMore, KeepsOffered, KeepHeld}
 use Rattle.lease_rounds.specs.SoFar.{HasRun, IsSoFar}
 use Rattle.lease_rounds.proofs.Leasing.{ahead, limits, continues, offered, keep_held}
+use Rattle.lease_rounds.proofs.Offered.{offered_itself, offered_on}
 
 -- ---- a book goes on
 
@@ -85,18 +86,19 @@ pub record IsFurther (b c : BookView RecordingView) : Type 0 where
 further : (hart : ℕ) (b d : BookView RecordingView) → IsIdle b → GoesOn recording told.All hart b d → IsFurther b d
 further hart b d idle on =
     let gone : HasGoneOn recording hart b d = has_gone_on recording told.All hart b d on ahead idle in
+    let counts : GoWithin b d = λ other.
+    subst
+    (λ (hs : List Hart). (counts_of b.machine other ≤ steps_taken (slice_get hs other)) ×
+    (steps_taken (slice_get hs other) ≤ max (count_at b.mode.limits other) (counts_of b.machine other))) (sym gone.harts)
+    (set_counts b.machine.harts hart gone.before gone.after (count_at b.mode.limits other) other gone.there gone.further
+    (λ e. subst (λ (n : ℕ). gone.after.count ≤ count_at b.mode.limits n) (sym e) gone.within)) in
     record {
       idle = on.idle;
       limits = limits told.All hart b d on;
       continues = continues told.All hart b d on gone.start;
-      counts = λ other.
-          subst
-          (λ (hs : List Hart). (counts_of b.machine other ≤ steps_taken (slice_get hs other)) ×
-          (steps_taken (slice_get hs other) ≤ max (count_at b.mode.limits other) (counts_of b.machine other))) (sym gone.harts)
-          (set_counts b.machine.harts hart gone.before gone.after (count_at b.mode.limits other) other gone.there gone.further
-          (λ e. subst (λ (n : ℕ). gone.after.count ≤ count_at b.mode.limits n) (sym e) gone.within));
+      counts = counts;
       fewer = has_fewer recording hart b d gone;
-      offered = offered told.All hart b d on;
+      offered = offered told.All hart b d on (λ other. (counts other).0);
       held = keep_held hart b d on;
     }
 
@@ -107,7 +109,7 @@ further_on b c d p q =
       limits = q.limits ∙ p.limits;
       continues = continues_on b c d (λ hart. (p.counts hart).0) p.continues q.continues;
       counts = within_on b c d p.limits p.counts q.counts;
-      offered = λ hart. q.offered hart ∙ p.offered hart;
+      offered = offered_on b c d p.offered q.offered;
       held = λ page held. q.held page (p.held page held);
       fewer =
           let first = p.fewer in
@@ -135,7 +137,7 @@ begins b idle ran =
       limits = refl;
       continues = continues_none b;
       rounds = NoRound;
-      offered = λ hart. refl;
+      offered = offered_itself b;
       counts = within_none b;
       held = λ page held. held;
     }
@@ -148,7 +150,7 @@ leads_on a b c p q round =
       limits = q.limits ∙ p.limits;
       continues = continues_on a b c (λ hart. (p.counts hart).0) p.continues q.continues;
       rounds = OneMore c p.rounds round;
-      offered = λ hart. q.offered hart ∙ p.offered hart;
+      offered = offered_on a b c p.offered q.offered;
       counts = within_on a b c p.limits p.counts q.counts;
       held = λ page held. q.held page (p.held page held);
     }

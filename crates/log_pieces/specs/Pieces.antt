@@ -1,21 +1,19 @@
 -- How the logs of a guest's harts are cut into pieces.
-use Rattle.std.specs.Prelude.{◌≡◌, ℕ, ◌+◌, ◌-◌, ◌<◌, ◌^◌, Bool, ◌&&◌, ◌==◌, nat_le, nat_lt, List, [], ◌∷◌, ◌++◌, length, map, filter, slice_index, slice_index_or}
-use Rattle.std.specs.Prelude.{All, Option, Some, None, ◌⊎◌}
-use Rattle.std.specs.List.{filter_map, flat_map}
+use Rattle.std.specs.Prelude.{◌≡◌, ℕ, ◌+◌, ◌-◌, ◌<◌, ◌^◌, List, [], ◌∷◌, length, map, slice_index, slice_index_or, All, ◌⊎◌}
+use Rattle.std.specs.List.{flat_map}
 use Rattle.ft_types.specs.Counts.{count_at}
 use Rattle.ft_types.specs.Guests.{GuestParts}
-use Rattle.edge_log.specs.declared.Edge.{Edge as OwnedEdge}
 use Rattle.edge_log.specs.EdgeLog.{Edges, row_of}
 use Rattle.input_log.specs.declared.Input.{Input as HartInput}
 use Rattle.input_log.specs.Inputs.{inputs_of}
 use Rattle.page_book.specs.Books.{BookView}
 use Rattle.page_book.specs.Words.{counts_of, RecordingView}
 use Rattle.fragment_codec.specs.declared.types.TheConstants.{RECORD_LIMIT, SPAN_LIMIT}
-use Rattle.fragment_codec.specs.declared.types.Record.{Record}
 use Rattle.fragment_codec.specs.declared.types.Record.TheVariants.{Edge as EdgeRecord, Input as InputRecord}
 use Rattle.fragment_codec.specs.declared.frame.Frame.{Frame}
 use Rattle.fragment_codec.specs.declared.frame.Frame.TheVariants.{Log}
 use Rattle.fragment_codec.specs.Rules.{FragmentParts, IsFragment, IsFactOf}
+use Rattle.fragment_codec.specs.Facts.{Facts, told_by, facts_between, number_of}
 
 -- ---- the pieces of one hart
 

@@ -1,5 +1,6 @@
 -- A primary's run of an image in term 1, and the frames that tell of it.
 use Rattle.std.specs.Prelude.{◌≡◌, ℕ, ◌==◌, List, [], ◌∷◌, ◌++◌, map, filter, replicate}
+use Rattle.ft_types.specs.declared.names.TheConstants.{HART_ROW}
 use Rattle.ft_types.specs.Guests.{GuestParts}
 use Rattle.input_log.specs.declared.WaitingInput.{WaitingInput}
 use Rattle.input_log.specs.Inputs.{inputs_of}
@@ -12,6 +13,7 @@ use Rattle.log_pieces.specs.Pieces.{SealedView, mark_of, book_log, IsCut}
 use Rattle.fragment_codec.specs.declared.frame.Frame.{Frame}
 use Rattle.fragment_codec.specs.declared.frame.Frame.TheVariants.{Opening}
 use Rattle.page_book.specs.Books.{BookView}
+use Rattle.book_modes.specs.Dues.{nothing_due}
 use Rattle.book_modes.specs.Recordings.{RecordingView}
 use Rattle.lease_rounds.specs.Running.{IsIdle, AreThrough, Continues, RunsOn, GoWithin, KeepsOffered}
 
@@ -26,7 +28,8 @@ pub record AreOfferedTo (r : RecordingView) (script : List Offered) (new : Recor
   pub others : (hart : ℕ) → others_of new.desk hart ≡ others_of r.desk hart ++ offered_to script hart
   pub bells : (hart : ℕ) → bells_of new.desk hart ≡ bells_of r.desk hart
 
--- A book of the image's machine at boot, whose log is empty: each hart may go to the limit, and what the script offers waits.
+-- A book of the image's machine at boot, whose log is empty: each hart may go to the limit, nothing is due, and what the script
+-- offers waits.
 pub record IsReady (image : ImageContents) (script : List Offered) (limit : ℕ) (b : BookView RecordingView) : Type 0 where
   pub start : b.start ≡ boot_machine image
   pub machine : b.machine ≡ boot_machine image
@@ -35,6 +38,7 @@ pub record IsReady (image : ImageContents) (script : List Offered) (limit : ℕ)
   pub limits : b.mode.limits ≡ replicate image.harts limit
   pub edges : edges_of b.mode.edges ≡ []
   pub inputs : (hart : ℕ) → inputs_of b.mode.inputs hart ≡ []
+  pub due : b.mode.due ≡ replicate HART_ROW nothing_due
   pub waiting : (hart : ℕ) → others_of b.mode.desk hart ≡ offered_to script hart
 
 -- such a book went on until each hart was halted or at the limit

@@ -14,11 +14,11 @@ mod stores;
 mod streams;
 
 pub use faults::StreamsFault;
+pub use ft_types::Quorum;
 pub use laws::honest_runs;
 pub use lines::write_numbered;
 pub use pairs::{PairOrders, Pairs};
 pub use primary::{begin_run, frames_of, run_primary};
-pub use ft_types::Quorum;
 pub use reading::read_store;
 pub use replays::{Plainly, Replays};
 pub use runs::Runs;

@@ -12,7 +12,7 @@ ghost use Rattle.output_gate.specs.Lines.{IsFront};
 
 use crate::line::Line;
 use crate::notes::keepers_counted;
-use ft_types::{HART_ROW, KEEPER_ROW, Count, Hart, Keeper, KeeperSet, Memory, Output, Term};
+use ft_types::{Count, HART_ROW, Hart, KEEPER_ROW, Keeper, KeeperSet, Memory, Output, Term};
 use std::alloc::Global;
 use std::marker::Model;
 use std::result::Result;

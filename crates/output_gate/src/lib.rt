@@ -7,6 +7,6 @@ mod line;
 mod look;
 mod notes;
 
+pub use ft_types::Output;
 pub use gate::Gate;
 pub use laws::outputs_go_in_order;
-pub use ft_types::Output;

@@ -6,7 +6,7 @@ ghost use Rattle.output_gate.specs.Orders.{AreInLine};
 ghost use Rattle.output_gate.specs.Lines.{IsFront};
 
 use crate::notes::keepers_above;
-use ft_types::{HART_ROW, KEEPER_ROW, Count, Memory, Output};
+use ft_types::{Count, HART_ROW, KEEPER_ROW, Memory, Output};
 use std::alloc::Global;
 use std::marker::Model;
 use std::result::Result;

@@ -35,7 +35,7 @@ abbrev pub IsBeginning : List Stretch → List Stretch → Type 0
 IsBeginning first second = (rest : List Stretch) × (second ≡ first ++ rest)
 
 -- The second book began as the first did, the first one's journal begins its own, and its mode goes on from the first one's.
-pub record GoesOnFrom {M : Type 0} (goes_on : M → (ℕ → ℕ) → M → Type 0) (before b : BookView M) : Type 0 where
+pub record GoesOnFrom {M : Type 0} (goes_on : M → (ℕ → ℕ) → M → (ℕ → ℕ) → Type 0) (before b : BookView M) : Type 0 where
   pub start : b.start ≡ before.start
   pub journal : IsBeginning before.journal b.journal
-  pub mode : goes_on before.mode (counts_of before.machine) b.mode
+  pub mode : goes_on before.mode (counts_of before.machine) b.mode (counts_of b.machine)

@@ -556,7 +556,7 @@ impl<M: Mode> Book<M> {
 
     /// Whether it began as the other did, the other's journal begins its own, and its mode goes on from the other's: in
     /// `Replaying` an equal leg, in `Recording` the same edges and inputs of all steps that the other has settled, and all that
-    /// was offered.
+    /// was offered, none of it before its count.
     pub fn continues(&self, before: &Book<M>) -> bool
         ensures { IsTrue result ↔ GoesOnFrom (M.goes_on) before.now self.now }
     {
@@ -566,6 +566,8 @@ impl<M: Mode> Book<M> {
         if !begins(before.journal(), self.journal()) {
             return false;
         }
-        self.mode.goes_on_from(&before.counts(), &before.mode)
+        let now = self.counts();
+        let settled = before.counts();
+        self.mode.goes_on_from(&now, &settled, &before.mode)
     }
 }

@@ -10,14 +10,16 @@ use Rattle.hart_lease.specs.declared.stretch.Stretch.{Stretch}
 use Rattle.hart_lease.specs.OpenLeases.{OpenView, open_at}
 use Rattle.hart_lease.specs.Runs.{counts_of, harts_of}
 use Rattle.hart_lease.proofs.journals.GoingOn.{harts_of-append}
-use Rattle.book_modes.specs.Recordings.{RecordingView, GoesOn, IsEnded, inputs_offered}
+use Rattle.book_modes.specs.Recordings.{RecordingView, GoesOn, IsEnded, offers_at}
 use Rattle.page_book.specs.Books.{BookView}
 use Rattle.page_book.specs.Reclaims.{EndsOpen, EndsFirst, GoesOnFrom}
 use Rattle.page_book.specs.Tellings.{HearsMore, AddsLater}
 use Rattle.page_book.proofs.Later.{adds_nothing}
 use Rattle.page_book.proofs.Tellings.{hears_nothing}
-use Rattle.lease_rounds.specs.Running.{Continues}
+use Rattle.lease_rounds.specs.Running.{Continues, KeepsOffered, offers}
 use Rattle.lease_rounds.specs.SoFar.{HasRun, IsRestOf}
+use Rattle.lease_rounds.proofs.Offers.{kept_same}
+use Rattle.lease_rounds.proofs.Offered.{offered_itself}
 
 -- ---- from book to book
 
@@ -27,7 +29,7 @@ after_both now [] rest = refl
 after_both now (next ∷ order) rest = after_both (bump now next) order rest
 
 -- a book goes on from itself
-pub goes_on_itself : (b : BookView RecordingView) → GoesOnFrom (λ r settled new. GoesOn r settled new) b b
+pub goes_on_itself : (b : BookView RecordingView) → GoesOnFrom (λ r settled new now. GoesOn r settled new now) b b
 goes_on_itself b =
     record {
       start = refl;
@@ -36,11 +38,14 @@ goes_on_itself b =
           record {
             edges = adds_nothing b.mode.edges (counts_of b.machine) b.mode.edges refl;
             inputs = λ hart.
-                record { given = hears_nothing (inputs_of b.mode.inputs hart) (counts_of b.machine hart) (inputs_of b.mode.inputs hart) refl; offered = refl };
+                record {
+                  given = hears_nothing (inputs_of b.mode.inputs hart) (counts_of b.machine hart) (inputs_of b.mode.inputs hart) refl;
+                  offered = offered_itself b hart;
+                };
           };
     }
 
-module _ (b c : BookView RecordingView) (on : GoesOnFrom (λ r settled new. GoesOn r settled new) b c) (first : HasRun b) (second : HasRun c) where
+module _ (b c : BookView RecordingView) (on : GoesOnFrom (λ r settled new now. GoesOn r settled new now) b c) (first : HasRun b) (second : HasRun c) where
   pub goes_further : (hart : ℕ) → counts_of b.machine hart ≤ counts_of c.machine hart
   goes_further hart =
       let (more, is) = on.journal in
@@ -69,8 +74,11 @@ module _ (b c : BookView RecordingView) (rest : IsRestOf b c) where
   pub machine_stays : c.machine ≡ b.machine
   machine_stays = ap (λ (x : BookView RecordingView). x.machine) rest.book
 
-  pub offered_stays : (hart : ℕ) → inputs_offered c.mode hart ≡ inputs_offered b.mode hart
-  offered_stays hart = ap (λ (r : RecordingView). inputs_offered r hart) rest.mode
+  pub offered_stays : KeepsOffered b c
+  offered_stays hart =
+      kept_same (offers b hart) (offers c hart)
+      (ap (λ (r : RecordingView). offers_at r hart (counts_of c.machine hart)) rest.mode
+      ∙ ap (λ (m : MachineState). offers_at b.mode hart (counts_of m hart)) machine_stays)
 
   -- so it goes on from there
   pub rest_goes_on : (d : BookView RecordingView) → Continues c d → Continues b d

@@ -24,7 +24,7 @@ use std::thread::Threads;
 fn pick(held: Book<Recording>, copy: Book<Recording>, budget: &Counts) -> Book<Recording>
     requires harts { length budget.now ≡ length copy.machine.harts }
     requires below { (hart : ℕ) → counts_of copy.machine hart ≤ count_at budget.now hart }
-    ensures goes_on { GoesOnFrom (λ r settled new. GoesOn r settled new) copy result }
+    ensures goes_on { GoesOnFrom (λ r settled new now. GoesOn r settled new now) copy result }
     ensures below { (hart : ℕ) → counts_of result.machine hart ≤ count_at budget.now hart }
 {
     has_run(&held);

@@ -9,7 +9,7 @@ use Rattle.hart_replay.specs.declared.plans.PlannedLeg.{PlannedLeg}
 use Rattle.hart_replay.specs.Leading.{IsHeld, IsLeading, HasStopped, leg_of}
 
 -- a book goes on from itself
-pub goes_on_itself : (b : BookView Leg) → GoesOnFrom (λ r settled new. new ≡ r) b b
+pub goes_on_itself : (b : BookView Leg) → GoesOnFrom (λ r settled new now. new ≡ r) b b
 goes_on_itself b = record { start = refl; journal = ([], sym (append-nil b.journal)); mode = refl }
 
 -- ---- leases that end
@@ -40,7 +40,7 @@ left_leading b r is mode harts =
 
 module _ (m : MachineState) (leg : PlannedLeg) (begun copy picked b : BookView Leg)
     (is : begun ≡ record { start = m; machine = m; journal = []; leases = replicate 8 None; mode = leg_of leg }) (same : copy ≡ begun)
-    (on : GoesOnFrom (λ r settled new. new ≡ r) copy picked) where
+    (on : GoesOnFrom (λ r settled new now. new ≡ r) copy picked) where
   start_is : picked.start ≡ m
   start_is = on.start ∙ ap (λ (x : BookView Leg). x.start) (same ∙ is)
 

@@ -6,6 +6,7 @@ use Rattle.edge_log.specs.EdgeLog.{AddsLater}
 use Rattle.input_log.specs.Inputs.{HearsMore, inputs_of}
 use Rattle.interleaving.specs.Stored.{view}
 use Rattle.log_join.specs.Stores.{StoreView, IsStore}
+use Rattle.closed_cut.specs.Position.{IsPosition}
 use Rattle.ft_types.specs.declared.position.Position.{Position}
 use Rattle.rv32_hart.specs.Hardware.{hardware}
 use Rattle.guest_image.specs.Image.{ImageContents, guest_of}
@@ -63,6 +64,7 @@ pub record GoOnFrom (old new : List PlannedLeg) : Type 0 where
 -- why the legs planned up to the store's position lead to no machine
 pub record IsFaultOfStore (image : ImageContents) (store : StoreView) (fault : ReplayFault) : Type 0 where
   pub position : Position
+  pub is_position : IsPosition store position
   pub legs : List PlannedLeg
   pub planned : ArePlanned store position legs
   pub is_fault : IsLegsFault image legs fault

@@ -39,7 +39,7 @@ pub(crate) fn begin(
 
 /// What the threads left, where it goes on from the copy of what they were given; else the copy.
 fn pick(held: Book<Replaying>, copy: Book<Replaying>) -> Book<Replaying>
-    ensures { GoesOnFrom (λ r settled new. new ≡ r) copy result }
+    ensures { GoesOnFrom (λ r settled new now. new ≡ r) copy result }
 {
     if held.continues(&copy) {
         return held;

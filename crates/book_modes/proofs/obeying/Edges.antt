@@ -5,7 +5,7 @@ use Rattle.std.proofs.lemmas.Bool.Decides.{nat_tests}
 use Rattle.std.proofs.lemmas.Bool.{cases_lt}
 use Rattle.std.proofs.lemmas.List.Elements.{All-contains, Contains-append_right}
 use Rattle.interleaving.specs.Log as theory
-use Rattle.interleaving.specs.Log.{IsMet, HasUnmet}
+use Rattle.interleaving.specs.Log.{HasUnmet}
 use Rattle.interleaving.proofs.Cuts.{here, here_or_later}
 use Rattle.edge_log.specs.declared.Edge.{Edge}
 use Rattle.edge_log.specs.EdgeLog.{Edges, IsLog, row_of, edge_as, edges_of}

@@ -1,8 +1,8 @@
 -- A whole frame at the front of a stream.
-use Rattle.std.proofs.Common.{◌≡◌, ◌≢◌, ℕ, ◌+◌, ◌-◌, ◌<◌, ◌≤◌, ◌^◌, ltb, eqb, true, List, [], ◌∷◌, ◌++◌, length, slice_index, take, drop, Some, Ok, refl, sym, ap, subst, ◌∙◌}
+use Rattle.std.proofs.Common.{◌≡◌, ◌≢◌, ℕ, ◌+◌, ◌-◌, ◌<◌, ◌≤◌, ◌^◌, eqb, true, List, [], ◌∷◌, ◌++◌, length, slice_index, take, drop, Some, Ok, refl, sym, ap, subst, ◌∙◌}
 use Rattle.std.proofs.Common.{append_assoc, arith, inl, inr, ◌⊎◌}
 use Rattle.std.specs.Int.{w32, from_le_bytes, to_le_bytes}
-use Rattle.std.proofs.lemmas.Bool.{eqb-true, eqb-false, lt-ltb, ltb-true}
+use Rattle.std.proofs.lemmas.Bool.{eqb-true, eqb-false, ltb-true}
 use Rattle.std.proofs.lemmas.List.{take_at, take-append-drop, length-append, length-take}
 use Rattle.std.proofs.lemmas.Nat.{le_bytes_4}
 use Rattle.sha2.specs.Sha256.{sha256}
@@ -10,7 +10,7 @@ use Rattle.sha2.proofs.Facts256.{length-sha256}
 use Rattle.fragment_codec.specs.declared.frame.Frame.{Frame}
 use Rattle.fragment_codec.specs.declared.frame.Frame.TheVariants.{Log, Opening}
 use Rattle.fragment_codec.specs.Spelling.{number, headed, sealed, log_body, opening_body}
-use Rattle.fragment_codec.specs.Rules.{FragmentParts, OpeningParts, IsFragment, IsOpening}
+use Rattle.fragment_codec.specs.Rules.{FragmentParts, OpeningParts}
 use Rattle.fragment_codec.specs.Reading.{harts_limit, is_span, log_of, opening_of, frame_of}
 use Rattle.fragment_codec.specs.Streams.{Spelled, text_of, spelled, harts_of, HasSpelling, IsSpelled, IsFrame, head_of, HasDigest}
 use Rattle.fragment_codec.proofs.bytes.Heads.{IsHead, head_is, head_bounds}

@@ -33,7 +33,7 @@ replaying =
       gives = λ r settled asked new. new ≡ r;
       settles = λ r lease keep new. new ≡ r;
       ends = λ r hart count taken new. new ≡ r;
-      goes_on = λ r settled new. new ≡ r;
+      goes_on = λ r settled new now. new ≡ r;
     }
 
 -- where no other lease is open, a page is free

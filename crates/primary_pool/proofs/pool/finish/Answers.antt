@@ -5,6 +5,7 @@ use Rattle.hart_lease.specs.Runs.{counts_of}
 use Rattle.book_modes.specs.Recordings.{RecordingView}
 use Rattle.page_book.specs.Books.{BookView}
 use Rattle.lease_rounds.specs.SoFar.{IsRestOf}
+use Rattle.lease_rounds.proofs.Offered.{offered_on}
 use Rattle.primary_pool.proofs.Picking.{ended_rest, limited_rest, machine_stays, offered_stays, rest_goes_on}
 use Rattle.primary_pool.proofs.pool.finish.Goals as goal
 
@@ -23,7 +24,7 @@ returns c =
           subst (λ (l : List ℕ). (h.halted ≡ true) ⊎ (count_at l hart ≤ h.count)) (p.limits ∙ limits) (p.done hart h there);
       idle = p.idle;
       continues = rest_goes_on a d rest b p.continues;
-      offered = λ hart. p.offered hart ∙ offered_stays a d rest hart;
+      offered = offered_on a d b (offered_stays a d rest) p.offered;
       counts = λ hart.
           let same = ap (λ (m : MachineState). counts_of m hart) (machine_stays a d rest) in
           let limit = ap (λ (l : List ℕ). count_at l hart) limits in

@@ -4,18 +4,19 @@ use Rattle.hart_lease.specs.Runs.{counts_of}
 use Rattle.book_modes.specs.Recordings.{RecordingView, GoesOn}
 use Rattle.page_book.specs.Books.{BookView}
 use Rattle.page_book.specs.Reclaims.{GoesOnFrom}
-use Rattle.lease_rounds.specs.Running.{Continues, GoToBudget}
+use Rattle.lease_rounds.specs.Running.{Continues, GoToBudget, KeepsOffered}
 use Rattle.lease_rounds.specs.SoFar.{HasRun, IsRestOf}
 use Rattle.lease_rounds.proofs.Leasing.{free_alone}
 use Rattle.lease_rounds.proofs.Onward.{runs_on}
 use Rattle.lease_rounds.proofs.RoundByRound.{continues_on}
-use Rattle.primary_pool.proofs.Picking.{goes_on, goes_further, limited_rest, limits_aside, machine_stays, rest_goes_on}
+use Rattle.lease_rounds.proofs.Offered.{offered_on}
+use Rattle.primary_pool.proofs.Picking.{goes_on, goes_further, limited_rest, limits_aside, machine_stays, offered_stays, rest_goes_on}
 use Rattle.primary_pool.proofs.pool.run_with.Given.{Over}
 use Rattle.primary_pool.proofs.pool.run_with.Goals as goal
 
 -- the book as it was handed in, with its budgets, as it was picked, once it was finished, and with its limits
 module _ (a l p b f : BookView RecordingView) (budget limits : List ℕ) (limited : l ≡ record a { mode = record a.mode { limits = budget } }) (first : HasRun l)
-    (on : GoesOnFrom (λ r settled new. GoesOn r settled new) l p) (second : HasRun p) (finished : Continues p b) (counts : GoToBudget budget p b)
+    (on : GoesOnFrom (λ r settled new now. GoesOn r settled new now) l p) (second : HasRun p) (finished : Continues p b) (counts : GoToBudget budget p b)
     (raised : f ≡ record b { mode = record b.mode { limits = limits } }) where
   rest : IsRestOf a l
   rest = limited_rest a a l a.leases budget refl refl limited
@@ -24,6 +25,11 @@ module _ (a l p b f : BookView RecordingView) (budget limits : List ℕ) (limite
   continues =
       rest_goes_on a l rest f
       (continues_on l p f (goes_further l p on first second) (goes_on l p on first second) (limits_aside p b f limits raised finished))
+
+  keeps_offered : KeepsOffered p b → KeepsOffered a f
+  keeps_offered kept =
+      subst (λ (x : BookView RecordingView). KeepsOffered a x) (sym raised)
+      (offered_on a l b (offered_stays a l rest) (offered_on l p b (λ hart. (on.mode.inputs hart).offered) kept))
 
   to_budget : GoToBudget budget a f
   to_budget hart =
@@ -37,14 +43,21 @@ module _ (a l p b f : BookView RecordingView) (budget limits : List ℕ) (limite
 continues_is : (g : Over) (c : goal.After-has_run-4 g) → Continues c.args.book c.limit_to.new.self
 continues_is g c =
     continues c.args.book c.limit_at.new.self c.pick-book.result c.in_ok-book.book c.limit_to.new.self c.args.budget _ c.limit_at.ensures c.has_run-2.ensures
-    (subst (λ (x : BookView RecordingView). GoesOnFrom (λ r settled new. GoesOn r settled new) x c.pick-book.result) c.in_ok-copy.ensures
+    (subst (λ (x : BookView RecordingView). GoesOnFrom (λ r settled new now. GoesOn r settled new now) x c.pick-book.result) c.in_ok-copy.ensures
     c.pick-book.ensures.goes_on) c.has_run-3.ensures c.in_ok-book.ensures.continues c.in_ok-book.ensures.counts c.limit_to.ensures
 
 counts_are : (g : Over) (c : goal.After-has_run-4 g) → GoToBudget c.args.budget c.args.book c.limit_to.new.self
 counts_are g c =
     to_budget c.args.book c.limit_at.new.self c.pick-book.result c.in_ok-book.book c.limit_to.new.self c.args.budget _ c.limit_at.ensures c.has_run-2.ensures
-    (subst (λ (x : BookView RecordingView). GoesOnFrom (λ r settled new. GoesOn r settled new) x c.pick-book.result) c.in_ok-copy.ensures
+    (subst (λ (x : BookView RecordingView). GoesOnFrom (λ r settled new now. GoesOn r settled new now) x c.pick-book.result) c.in_ok-copy.ensures
     c.pick-book.ensures.goes_on) c.has_run-3.ensures c.in_ok-book.ensures.continues c.in_ok-book.ensures.counts c.limit_to.ensures
+
+pub returns-clause-offered : goal.returns-clause-offered
+returns-clause-offered g c =
+    keeps_offered c.args.book c.limit_at.new.self c.pick-book.result c.in_ok-book.book c.limit_to.new.self c.args.budget _ c.limit_at.ensures c.has_run-2.ensures
+    (subst (λ (x : BookView RecordingView). GoesOnFrom (λ r settled new now. GoesOn r settled new now) x c.pick-book.result) c.in_ok-copy.ensures
+    c.pick-book.ensures.goes_on) c.has_run-3.ensures c.in_ok-book.ensures.continues c.in_ok-book.ensures.counts c.limit_to.ensures
+    c.in_ok-book.ensures.offered
 
 pub run_crew-held-requires-clause-free : goal.run_crew-held-requires-clause-free
 run_crew-held-requires-clause-free g c lifetimes order = free_alone

@@ -4,4 +4,4 @@ use Rattle.book_modes.specs.Recordings.{KeepsInputs}
 use Rattle.book_modes.proofs.recording.RecordingMode.goes_on_from.Given as goal
 
 abbrev pub invariant-loop-number : goal.invariant-loop-number
-invariant-loop-number l = (h : ℕ) → h < l.number → KeepsInputs l.before h (count_at l.settled h) l.self
+invariant-loop-number l = (h : ℕ) → h < l.number → KeepsInputs l.before h (count_at l.settled h) l.self (count_at l.now h)
