@@ -41,7 +41,7 @@ static TWO_SHARED_PAGES: Rounds = Rounds {
     ],
 };
 
-fn guest(alloc: Global, harts: u8, dice: &mut Dice) -> Result<Image, Memory> {
+fn guest_by(alloc: Global, harts: u8, dice: &mut Dice) -> Result<Image, Memory> {
     image_in(alloc, &TWO_SHARED_PAGES.file(alloc, harts, dice)?)
 }
 
@@ -160,7 +160,7 @@ fn leads_on(
 /// Whether the audit of what a guest records in a term comes to its machine, and that of a second term too, if it is to be.
 fn is_covered(alloc: Global, harts: u8, seed: u64, in_two: bool) -> Result<bool, Memory> {
     let mut dice = Dice::new(seed);
-    let image = guest(alloc, harts, &mut dice)?;
+    let image = guest_by(alloc, harts, &mut dice)?;
     let mut store = Store::new(alloc, image.guest());
     let book = recorded(alloc, &image, &mut dice)?;
     let begun = (1, Counts::zero(image.harts()));
@@ -208,7 +208,7 @@ fn plan_of(alloc: Global, guest: Guest, pieces: Vec<Frame>) -> Result<Plan, Memo
 fn verdict_on(alloc: Global, seed: u64, later: bool) -> Result<Verdict, Memory> {
     let mut dice = Dice::new(seed);
     let harts = 2 + dice.roll() % 3;
-    let image = guest(alloc, harts, &mut dice)?;
+    let image = guest_by(alloc, harts, &mut dice)?;
     let pieces = pieces_recorded(alloc, &image, &mut dice)?;
     let plan = plan_of(
         alloc,

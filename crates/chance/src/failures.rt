@@ -1,7 +1,7 @@
 //! Primaries that fail one after the other, of whose frames each keeper lost some.
 
+use crate::again::machine_at;
 use crate::calls::make_many;
-use crate::primary::machine_at;
 use crate::starts::{image_in, opens, recorder_of};
 use fixtures::{Crew, Dice, cut, file_of};
 use fragment_codec::Frame;
@@ -24,15 +24,40 @@ static TALKS: &[u8] = b"800010b7\nf0000237\nf14022f3\nffe2f293\n\
 /// No hart comes so far.
 const FAR: Count = 1_000_000;
 
-/// Where those who went live began.
+/// With what a primary that goes live begins.
+#[derive(Clone, Copy)]
+enum Begins {
+    /// With all that the term before recorded.
+    Whole,
+    /// With a part of it.
+    Part,
+    /// With what an older term recorded, or at boot.
+    Older,
+}
+
+/// How many primaries began so.
 #[derive(Clone, Copy, Debug, Default, PartialEq, Eq)]
 struct Tally {
-    /// With all that the term before recorded.
     whole: u32,
-    /// With a part of it.
     part: u32,
-    /// With what an older term recorded, or at boot.
     older: u32,
+}
+
+impl Tally {
+    fn add(&mut self, begins: Begins) {
+        let many = match begins {
+            Begins::Whole => &mut self.whole,
+            Begins::Part => &mut self.part,
+            Begins::Older => &mut self.older,
+        };
+        *many = many.saturating_add(1);
+    }
+
+    fn add_all(&mut self, other: Tally) {
+        self.whole = self.whole.saturating_add(other.whole);
+        self.part = self.part.saturating_add(other.part);
+        self.older = self.older.saturating_add(other.older);
+    }
 }
 
 /// A term: the counts and the machine with which it began, and what it recorded from there.
@@ -197,19 +222,18 @@ impl World {
         Ok(is_unused(live) && machine.same(live.book.machine()))
     }
 
-    /// Notes where the primary begins.
-    fn note(&mut self, live: &Live) {
-        let many = match self.pasts.last() {
+    /// With what the primary begins.
+    fn begins_with(&self, live: &Live) -> Begins {
+        match self.pasts.last() {
             Some(past) if live.opening.parent() as usize == self.pasts.len() => {
-                if live.book.counts() == past.book.counts() {
-                    &mut self.tally.whole
+                if live.opening.base() == past.book.counts() {
+                    Begins::Whole
                 } else {
-                    &mut self.tally.part
+                    Begins::Part
                 }
             }
-            _ => &mut self.tally.older,
-        };
-        *many = many.saturating_add(1);
+            _ => Begins::Older,
+        }
     }
 
     /// A primary goes on until it fails again.
@@ -231,7 +255,8 @@ impl World {
         if !self.is_right(alloc, &live)? {
             return Ok(false);
         }
-        self.note(&live);
+        let begins = self.begins_with(&live);
+        self.tally.add(begins);
         self.go_on(alloc, live)?;
         Ok(true)
     }
@@ -268,10 +293,7 @@ fn each_primary_begins_with_what_was_recorded(rt: HostRuntime) -> Result<(), Fai
                 Ok(seen) => seen,
                 Err(Memory) => begun_in(rt.alloc(), harts, seed)?,
             };
-            let seen = seen.ok_or("another machine")?;
-            tally.whole = tally.whole.saturating_add(seen.whole);
-            tally.part = tally.part.saturating_add(seen.part);
-            tally.older = tally.older.saturating_add(seen.older);
+            tally.add_all(seen.ok_or("another machine")?);
         }
     }
     let seen = tally.whole > 0 && tally.part > 0 && tally.older > 0;

@@ -5,6 +5,8 @@
 #[cfg(test)]
 mod acts;
 #[cfg(test)]
+mod again;
+#[cfg(test)]
 mod audits;
 #[cfg(test)]
 mod beside;

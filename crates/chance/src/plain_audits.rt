@@ -178,7 +178,7 @@ fn crew_of(alloc: Global, image: &Image, leg: &PlannedLeg) -> Result<Crew<Replay
 }
 
 /// What a run that left this book took.
-fn outcome(
+fn outcome_from(
     alloc: Global,
     steps: &[Taken],
     machine: Machine,
@@ -199,7 +199,7 @@ pub fn outcome_of(alloc: Global, image: &Image, leg: &PlannedLeg) -> Result<Outc
     let ended = book.counts() == leg.ends;
     let machine = book.into_machine();
     match steps {
-        Some(steps) => outcome(alloc, &steps, machine, ended),
+        Some(steps) => outcome_from(alloc, &steps, machine, ended),
         None => Err(Memory),
     }
 }

@@ -37,9 +37,10 @@ fn recorded(
     let early = cut_more(alloc, image, &crew.book, &mut sealed, frames);
     make_many(&mut crew, alloc, 300, dice);
     let book = crew.end();
-    match early.and_then(|()| Ok(cut_more(alloc, image, &book, &mut sealed, frames)?)) {
-        Ok(()) => Ok(book),
-        Err(Memory) => Err(Memory),
+    let late = cut_more(alloc, image, &book, &mut sealed, frames);
+    match (early, late) {
+        (Ok(()), Ok(())) => Ok(book),
+        _ => Err(Memory),
     }
 }
 
