@@ -1,17 +1,29 @@
 //! What falls by chance, beside plain ones: lists of events for the world, frames for tracked positions, guests and calls for what a
-//! primary records. And rows of the world, and memory that is refused to it.
+//! primary records, for audits of it, and for primaries that fail and go live. And rows of the world, and memory that is refused to it.
 #![tactic(auto)]
 
 #[cfg(test)]
 mod acts;
 #[cfg(test)]
+mod again;
+#[cfg(test)]
+mod audits;
+#[cfg(test)]
 mod beside;
 #[cfg(test)]
+mod calls;
+#[cfg(test)]
 mod chance;
+#[cfg(test)]
+mod changes;
+#[cfg(test)]
+mod failures;
 #[cfg(test)]
 mod lists;
 #[cfg(test)]
 mod plain;
+#[cfg(test)]
+mod plain_audits;
 #[cfg(test)]
 mod positions;
 #[cfg(test)]
@@ -23,6 +35,10 @@ mod refused;
 #[cfg(test)]
 mod rows;
 #[cfg(test)]
+mod starts;
+#[cfg(test)]
 mod subject;
 #[cfg(test)]
 mod tally;
+#[cfg(test)]
+mod verdicts;

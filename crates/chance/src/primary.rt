@@ -1,18 +1,16 @@
 //! A plain primary: the machine with which its term began, and a book of all that it did since.
 
-use edge_log::EdgeLog;
+use crate::again::{machine_at, one_step};
+use crate::starts::recorder_from;
 use failover_world::WorldFault;
+use fixtures::cut;
 use fragment_codec::{Frame, Opening};
-use log_pieces::{Sealed, cut_pieces};
-use ft_types::{COUNT_LIMIT, Count, Counts, Hart, Memory, Term};
+use ft_types::{COUNT_LIMIT, Counts, Hart, Memory, Term};
 use guest_image::{Image, Machine};
 use input_log::Input;
-use page_book::{Book, BookFault, Keep, Lease, Leg, Mode, Recording, Replaying};
-use rv32_hart::Tick;
+use log_pieces::Sealed;
+use page_book::{Book, BookFault, Recording};
 use std::alloc::Global;
-
-/// The greatest limit, for each hart.
-static NO_LIMITS: [Count; 8] = [COUNT_LIMIT - 1; 8];
 
 /// A primary.
 #[derive(Drop)]
@@ -23,66 +21,16 @@ pub struct Primary {
     sealed: Sealed,
 }
 
-/// The greatest limits of so many harts.
-fn no_limits(harts: u8) -> Option<Counts> {
-    Counts::from_slice(NO_LIMITS.get(..usize::from(harts))?)
-}
-
-/// Takes the lease's first step, or asks for the page that it lacks.
-fn try_step<M: Mode>(book: &mut Book<M>, lease: &mut Lease) {
-    if lease.full() || lease.steps() > 0 {
-        return;
-    }
-    if let Tick::Miss(page, want) = lease.tick() {
-        if page.number() < book.machine().pages() {
-            let _need = book.need(lease, page, want);
-        }
-    }
-}
-
-/// One step of the hart, which keeps no rights. It lacks three pages at most, and may be refused memory for a while.
-fn one_step<M: Mode>(alloc: Global, book: &mut Book<M>, hart: Hart) -> Result<(), BookFault> {
-    if hart.number() >= book.machine().harts() {
-        return Err(BookFault::Foreign);
-    }
-    let mut lease = book.lease(alloc, hart)?;
-    for _turn in 0..8 {
-        try_step(book, &mut lease);
-    }
-    match book.settle(lease, Keep::Nothing) {
-        Ok(()) => Ok(()),
-        Err((lease, fault)) => {
-            let _gone = book.discard(lease);
-            Err(fault)
-        }
-    }
-}
-
-/// So many steps of the hart, as long as it may go on.
-fn steps<M: Mode>(alloc: Global, book: &mut Book<M>, hart: Hart, many: u64) -> Result<(), Memory> {
-    for _step in 0..many {
-        match one_step(alloc, book, hart) {
-            Ok(()) => {}
-            Err(BookFault::Memory) => return Err(Memory),
-            Err(_) => return Ok(()),
-        }
-    }
-    Ok(())
-}
-
 impl Primary {
     /// A primary that goes on from the machine.
     pub fn begin(alloc: Global, opening: Opening, start: Machine) -> Result<Primary, Memory> {
-        let machine = start.copy()?;
-        match no_limits(machine.harts()) {
-            Some(limits) if limits.harts() == machine.harts() => Ok(Primary {
-                sealed: Sealed::new(opening.base()),
-                opening,
-                start,
-                book: Book::<Recording>::begin(alloc, machine, limits)?,
-            }),
-            _ => Err(Memory),
-        }
+        let book = recorder_from(alloc, start.copy()?, COUNT_LIMIT - 1)?;
+        Ok(Primary {
+            sealed: Sealed::new(opening.base()),
+            opening,
+            start,
+            book,
+        })
     }
 
     /// The opening of its term.
@@ -116,24 +64,11 @@ impl Primary {
     /// The pieces of what its log says behind what is sealed.
     pub fn seal(&mut self, alloc: Global, image: &Image) -> Result<Vec<Frame>, Memory> {
         let term = self.opening.term();
-        let counts = self.book.counts();
-        if term == 0 || counts.harts() != image.harts() || !self.sealed.is_within(&counts) {
-            return Ok(Vec::new(alloc));
-        }
-        cut_pieces(alloc, &self.book, &image.guest(), term, &mut self.sealed)
+        cut(alloc, image.guest(), &self.book, term, &mut self.sealed)
     }
 
-    /// Its machine when each hart was at this count: those of its steps that are inside, in their order, once more.
+    /// Its machine when each hart was at this count.
     pub fn machine_at(&self, alloc: Global, ends: Counts) -> Result<Machine, Memory> {
-        let leg = Leg {
-            ends,
-            edges: EdgeLog::new(alloc, self.opening.base()),
-            inputs: self.book.inputs().copy()?,
-        };
-        let mut book = Book::<Replaying>::begin(alloc, self.start.copy()?, leg)?;
-        for stretch in self.book.journal() {
-            steps(alloc, &mut book, stretch.hart, stretch.steps)?;
-        }
-        book.machine().copy()
+        machine_at(alloc, &self.start, &self.book, self.opening.base(), ends)
     }
 }

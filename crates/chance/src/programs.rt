@@ -1,173 +1,62 @@
 //! Guests and calls that fall by chance: what a primary recorded is cut into pieces, shuffled over streams and replayed.
 
-use fixtures::{Crew, Dice};
-use fragment_codec::{Frame, Opening, write_frame};
-use log_pieces::{Sealed, cut_pieces};
-use ft_types::{Count, Counts, Hart, MemorySink, MemorySource};
-use guest_image::{Image, Machine, read_image};
-use input_log::Input;
+use crate::calls::make_many;
+use crate::starts::{image_in, opens, recorder_of};
+use fixtures::{Crew, Dice, ONE_SHARED_PAGE, cut};
+use fragment_codec::{Frame, write_frame};
+use ft_types::{Counts, Memory, MemorySink, MemorySource};
+use guest_image::Image;
+use log_pieces::Sealed;
 use log_streams::{Plainly, replay_streams};
-use page_book::{Book, Keep, Recording};
+use page_book::{Book, Recording};
 use std::alloc::Global;
 use std::test::Fail;
 
-/// Before the loop: lui x1, 80001; lui x4, f0000; csrrs x5, mhartid, x0; andi x5, x5, -2.
-static FRONT: &[u8] = b"800010b7\nf0000237\nf14022f3\nffe2f293\n";
-
-/// Behind twelve words of the loop: a jump to the first of them.
-static BACK: &[u8] = b"fd1ff06f\n";
-
-/// lw x2, 0(x1); sw x2, 0(x1); lw x3, 4(x1); sw x3, 4(x1); amoadd.w x3, x2, (x1); add x2, x2, x3; addi x3, x3, 1; sw x2, 8(x4),
-/// an output; lw x2, 0(x4), the input word; sw x5, 16(x4), which rings.
-static WORDS: [&[u8]; 10] = [
-    b"0000a103\n",
-    b"0020a023\n",
-    b"0040a183\n",
-    b"0030a223\n",
-    b"0020a1af\n",
-    b"00310133\n",
-    b"00118193\n",
-    b"00222423\n",
-    b"00022103\n",
-    b"00522823\n",
-];
-
-/// A guest whose harts go round twelve words that fall by chance.
-fn guest(alloc: Global, harts: u8, dice: &mut Dice) -> Result<Image, Fail> {
-    let mut text = b"harts ".to_vec(alloc)?;
-    text.push(b'0'.saturating_add(harts))?;
-    text.extend_from_slice(b"\npages 2\n")?;
-    text.extend_from_slice(FRONT)?;
-    for _word in 0..12 {
-        text.extend_from_slice(WORDS[usize::from(dice.roll() % 10)])?;
-    }
-    text.extend_from_slice(BACK)?;
-    Ok(read_image(alloc, &text).map_err(|_| "image")?)
-}
-
-/// Leases over a recording book of the image, each hart with this limit.
-fn primary_of(alloc: Global, image: &Image, limit: Count) -> Result<Crew<Recording>, Fail> {
-    let start = Machine::boot(alloc, image)?;
-    let limits = Counts::from_slice(&[limit; 8][..usize::from(image.harts())]);
-    let limits = limits.ok_or("limits")?;
-    if start.harts() != limits.harts() {
-        return Err("limits".into());
-    }
-    Ok(Crew::new(Book::<Recording>::begin(alloc, start, limits)?))
-}
-
-fn offer(book: &mut Book<Recording>, hart: Hart, not_before: Count, input: Input) {
-    if hart.number() < book.machine().harts() && !input.is_bell() {
-        let _offered = book.offer(hart, not_before, input);
-    }
-}
-
-fn settle(crew: &mut Crew<Recording>, hart: Hart, keep: Keep) {
-    let _settled = crew.settle(hart, keep);
-}
-
-/// One call that falls by chance.
-fn act(crew: &mut Crew<Recording>, alloc: Global, dice: &mut Dice) {
-    let hart = Hart::new(dice.roll() % crew.book.machine().harts());
-    match dice.roll() % 12 {
-        0 => settle(crew, hart, Keep::All),
-        1 => settle(crew, hart, Keep::Readable),
-        2 => settle(crew, hart, Keep::Nothing),
-        3 => {
-            let _gone = crew.discard(hart);
-        }
-        4 => offer(&mut crew.book, hart, u64::from(dice.roll()), Input::Timer),
-        5 => offer(&mut crew.book, hart, 0, Input::Word(u32::from(dice.roll()))),
-        _ => {
-            let _lent = crew.lend(alloc, hart);
-            let _steps = crew.go(hart, u32::from(dice.roll() % 32));
-        }
-    }
-}
-
-fn act_often(crew: &mut Crew<Recording>, alloc: Global, dice: &mut Dice) {
-    for _call in 0..300 {
-        act(crew, alloc, dice);
-    }
-}
-
-/// What the log says behind what is sealed, after many calls more.
-fn go_on(
-    crew: &mut Crew<Recording>,
-    alloc: Global,
-    image: &Image,
-    dice: &mut Dice,
-    sealed: &mut Sealed,
-) -> Result<Vec<Frame>, Fail> {
-    act_often(crew, alloc, dice);
-    cut(alloc, image, &crew.book, sealed)
-}
-
-/// What the book's log says from the sealed counts on.
-fn cut(
+/// What the book's log says behind what is sealed comes to the other frames.
+fn cut_more(
     alloc: Global,
     image: &Image,
     book: &Book<Recording>,
     sealed: &mut Sealed,
-) -> Result<Vec<Frame>, Fail> {
-    let counts = book.counts();
-    if counts.harts() != image.harts() || !sealed.is_within(&counts) {
-        return Err("counts".into());
-    }
-    Ok(cut_pieces(alloc, book, &image.guest(), 1, sealed)?)
+    frames: &mut Vec<Frame>,
+) -> Result<(), Memory> {
+    let mut pieces = cut(alloc, image.guest(), book, 1, sealed)?;
+    Ok(frames.append(&mut pieces)?)
 }
 
-fn opening_of(image: &Image) -> Result<Opening, Fail> {
-    let base = Counts::zero(image.harts());
-    Ok(Opening::new(image.guest(), 1, 0, base).ok_or("opening")?)
-}
-
-/// What a primary logs that makes many calls, and is cut once on the way and once at the end, and its book.
-fn log_of(
-    alloc: Global,
-    image: &Image,
-    dice: &mut Dice,
-) -> Result<(Vec<Frame>, Book<Recording>), Fail> {
-    let mut sealed = Sealed::new(Counts::zero(image.harts()));
-    let mut primary = primary_of(alloc, image, 5000)?;
-    let early = go_on(&mut primary, alloc, image, dice, &mut sealed);
-    act_often(&mut primary, alloc, dice);
-    let book = primary.end();
-    let frames = with_rest(alloc, image, &book, &mut sealed, early?)?;
-    Ok((frames, book))
-}
-
-/// These frames, and what the book's log says behind what is sealed.
-fn with_rest(
-    alloc: Global,
-    image: &Image,
-    book: &Book<Recording>,
-    sealed: &mut Sealed,
-    mut frames: Vec<Frame>,
-) -> Result<Vec<Frame>, Fail> {
-    for frame in cut(alloc, image, book, sealed)? {
-        frames.push(frame)?;
-    }
-    Ok(frames)
-}
-
-fn text_of(alloc: Global, book: &Book<Recording>) -> Result<MemorySink, Fail> {
-    let mut text = MemorySink::new(alloc, 1 << 20);
-    match book.machine().write_text(&mut text) {
-        Ok(()) => Ok(text),
-        Err(_) => Err(Fail::from("text")),
-    }
-}
-
-/// The frames of a primary that has made many calls, the opening last, and the text of its machine.
+/// The book of a primary that makes many calls. Its log is cut once on the way and once at the end.
 fn recorded(
     alloc: Global,
     image: &Image,
     dice: &mut Dice,
-) -> Result<(Vec<Frame>, MemorySink), Fail> {
-    let (mut frames, book) = log_of(alloc, image, dice)?;
-    frames.push(Frame::Opening(opening_of(image)?))?;
-    Ok((frames, text_of(alloc, &book)?))
+    frames: &mut Vec<Frame>,
+) -> Result<Book<Recording>, Memory> {
+    let mut sealed = Sealed::new(Counts::zero(image.harts()));
+    let mut crew = Crew::new(recorder_of(alloc, image, 5000)?);
+    make_many(&mut crew, alloc, 300, dice);
+    let early = cut_more(alloc, image, &crew.book, &mut sealed, frames);
+    make_many(&mut crew, alloc, 300, dice);
+    let book = crew.end();
+    let late = cut_more(alloc, image, &book, &mut sealed, frames);
+    match (early, late) {
+        (Ok(()), Ok(())) => Ok(book),
+        _ => Err(Memory),
+    }
+}
+
+/// The text of the machine of a primary that makes many calls, and its frames, the opening last.
+fn text_recorded(
+    alloc: Global,
+    image: &Image,
+    dice: &mut Dice,
+    frames: &mut Vec<Frame>,
+) -> Result<MemorySink, Memory> {
+    let book = recorded(alloc, image, dice, frames)?;
+    let mut text = MemorySink::new(alloc, 1 << 20);
+    match book.machine().write_text(&mut text) {
+        Ok(()) => Ok(text),
+        Err(_) => Err(Memory),
+    }
 }
 
 /// Writes a frame to one of the streams.
@@ -245,13 +134,27 @@ fn are_replayed(alloc: Global, image: &Image, readers: &mut [MemorySource], text
     replayed && out.bytes() == text
 }
 
+/// Whether a replay of these frames, from so many streams, writes this text.
+fn lead_to(
+    alloc: Global,
+    image: &Image,
+    frames: &[Frame],
+    streams: u8,
+    dice: &mut Dice,
+    text: &[u8],
+) -> Result<bool, Fail> {
+    let mut readers = shuffled(alloc, frames, streams, dice)?;
+    Ok(records(frames) > 10 && are_replayed(alloc, image, &mut readers, text))
+}
+
 /// Whether a guest of so many harts that was recorded so is replayed to the recorded machine, from so many streams.
 fn is_replayed(alloc: Global, harts: u8, streams: u8, seed: u64) -> Result<bool, Fail> {
     let mut dice = Dice::new(seed);
-    let image = guest(alloc, harts, &mut dice)?;
-    let (frames, text) = recorded(alloc, &image, &mut dice)?;
-    let mut readers = shuffled(alloc, &frames, streams, &mut dice)?;
-    Ok(records(&frames) > 10 && are_replayed(alloc, &image, &mut readers, text.bytes()))
+    let image = image_in(alloc, &ONE_SHARED_PAGE.file(alloc, harts, &mut dice)?)?;
+    let mut frames = Vec::new(alloc);
+    let text = text_recorded(alloc, &image, &mut dice, &mut frames)?;
+    frames.push(opens(image.guest(), 1, 0, Counts::zero(image.harts()))?)?;
+    lead_to(alloc, &image, &frames, streams, &mut dice, text.bytes())
 }
 
 /// The first of three seeds whose guest of so many harts is replayed to another machine.

@@ -1,7 +1,7 @@
 //! Guests that fall by chance, which run on threads, are replayed on threads and in turn, and audited.
 
 use crate::runs::{Left, came_to, leads, left_by, planned};
-use fixtures::{Dice, image_of};
+use fixtures::{Dice, ONE_SHARED_PAGE, image_of};
 use ft_types::Memory;
 use guest_image::Image;
 use input_script::read_script;
@@ -12,40 +12,6 @@ use std::alloc::Global;
 use std::sync::Wait;
 use std::test::Fail;
 use std::thread::Threads;
-
-/// Before the loop: lui x1, 80001; lui x4, f0000; csrrs x5, mhartid, x0; andi x5, x5, -2.
-static FRONT: &[u8] = b"800010b7\nf0000237\nf14022f3\nffe2f293\n";
-
-/// Behind twelve words of the loop: a jump to the first of them.
-static BACK: &[u8] = b"fd1ff06f\n";
-
-/// lw x2, 0(x1); sw x2, 0(x1); lw x3, 4(x1); sw x3, 4(x1); amoadd.w x3, x2, (x1); add x2, x2, x3; addi x3, x3, 1; sw x2, 8(x4),
-/// an output; lw x2, 0(x4), the input word; sw x5, 16(x4), which rings.
-static WORDS: [&[u8]; 10] = [
-    b"0000a103\n",
-    b"0020a023\n",
-    b"0040a183\n",
-    b"0030a223\n",
-    b"0020a1af\n",
-    b"00310133\n",
-    b"00118193\n",
-    b"00222423\n",
-    b"00022103\n",
-    b"00522823\n",
-];
-
-fn file_of(alloc: Global, harts: u8, dice: &mut Dice) -> Result<Vec<u8>, Memory> {
-    let mut text = Vec::new(alloc);
-    text.extend_from_slice(b"harts ")?;
-    text.push(b'0'.saturating_add(harts))?;
-    text.extend_from_slice(b"\npages 2\n")?;
-    text.extend_from_slice(FRONT)?;
-    for _word in 0..12 {
-        text.extend_from_slice(WORDS[usize::from(dice.roll() % 10)])?;
-    }
-    text.extend_from_slice(BACK)?;
-    Ok(text)
-}
 
 /// A script that offers each hart, by chance, timers from counts of two digits on, and words.
 fn script_of(alloc: Global, harts: u8, dice: &mut Dice) -> Result<Vec<u8>, Memory> {
@@ -109,9 +75,9 @@ fn is_replayed<R: Threads + Wait + Sync>(
 fn what_runs_by_chance_is_replayed(rt: HostRuntime) -> Result<(), Fail> {
     for harts in 2..9u8 {
         let seed = 0x9e37 + u64::from(harts);
-        let file = match file_of(rt.alloc(), harts, &mut Dice::new(seed)) {
+        let file = match ONE_SHARED_PAGE.file(rt.alloc(), harts, &mut Dice::new(seed)) {
             Ok(file) => file,
-            Err(Memory) => file_of(rt.alloc(), harts, &mut Dice::new(seed))?,
+            Err(Memory) => ONE_SHARED_PAGE.file(rt.alloc(), harts, &mut Dice::new(seed))?,
         };
         let image = image_of(rt.alloc(), &file)?;
         let replayed = match is_replayed(&rt, rt.alloc(), &image, seed) {

@@ -1,16 +1,16 @@
 //! Followers that keep up with stores.
 
 use crate::runs::{came_to, leads_in_turn};
-use fixtures::{Dice, HALTS, image_of, key};
+use fixtures::{Dice, HALTS, cut, image_of, key};
 use fragment_codec::{Fragment, Frame, Opening, first_opening};
-use log_pieces::{Sealed, cut_pieces};
 use ft_types::{Count, Counts, Guest, Hart, Memory};
 use guest_image::{Image, Machine};
 use hart_replay::ReplayFault;
+use lease_rounds::run_plain;
 use log_join::Store;
+use log_pieces::Sealed;
 use log_streams::begin_run;
 use page_book::{Book, Recording};
-use lease_rounds::run_plain;
 use replay_pool::Follower;
 use std::alloc::Global;
 use std::test::Fail;
@@ -191,21 +191,7 @@ fn gone_to(alloc: Global, book: Book<Recording>, count: Count) -> Result<Book<Re
     }
 }
 
-/// The pieces of a book's log behind what is sealed.
-fn pieces_of(
-    alloc: Global,
-    image: &Image,
-    book: &Book<Recording>,
-    sealed: &mut Sealed,
-) -> Result<Vec<Frame>, Memory> {
-    let counts = book.counts();
-    if counts.harts() != image.harts() || !sealed.is_within(&counts) {
-        return Err(Memory);
-    }
-    Ok(cut_pieces(alloc, book, &image.guest(), 1, sealed)?)
-}
-
-/// Adds them to the others.
+/// The pieces of a book's log behind what is sealed come to the others.
 fn add_pieces(
     alloc: Global,
     image: &Image,
@@ -213,10 +199,8 @@ fn add_pieces(
     sealed: &mut Sealed,
     pieces: &mut Vec<Frame>,
 ) -> Result<(), Memory> {
-    for piece in pieces_of(alloc, image, book, sealed)? {
-        pieces.push(piece)?;
-    }
-    Ok(())
+    let mut more = cut(alloc, image.guest(), book, 1, sealed)?;
+    Ok(pieces.append(&mut more)?)
 }
 
 /// The pieces of a primary that was cut again and again.

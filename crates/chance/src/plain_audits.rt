@@ -7,7 +7,6 @@ use hart_replay::PlannedLeg;
 use page_book::{Book, BookFault, Keep, Leg, Replaying};
 use rv32_hart::Tick;
 use std::alloc::Global;
-use std::test::Fail;
 
 /// A page that a step asked for, and what for.
 type Use = (PageNo, Want);
@@ -178,21 +177,29 @@ fn crew_of(alloc: Global, image: &Image, leg: &PlannedLeg) -> Result<Crew<Replay
     Ok(Crew::new(Book::<Replaying>::begin(alloc, start, obeyed)?))
 }
 
-fn outcome_once(alloc: Global, image: &Image, leg: &PlannedLeg) -> Option<Outcome> {
-    let mut crew = crew_of(alloc, image, leg).ok()?;
-    let steps = run(&mut crew, alloc, leg);
-    let book = crew.end();
-    Some(Outcome {
-        pairs: pairs_of(alloc, &steps?).ok()?,
-        ended: book.counts() == leg.ends,
-        machine: book.machine().copy().ok()?,
+/// What a run that left this book took.
+fn outcome_from(
+    alloc: Global,
+    steps: &[Taken],
+    machine: Machine,
+    ended: bool,
+) -> Result<Outcome, Memory> {
+    Ok(Outcome {
+        pairs: pairs_of(alloc, steps)?,
+        ended,
+        machine,
     })
 }
 
-/// What the leg comes to from boot, asked for again where memory was refused.
-pub fn outcome_of(alloc: Global, image: &Image, leg: &PlannedLeg) -> Result<Outcome, Fail> {
-    match outcome_once(alloc, image, leg) {
-        Some(outcome) => Ok(outcome),
-        None => Ok(outcome_once(alloc, image, leg).ok_or("an outcome")?),
+/// What the leg comes to from boot.
+pub fn outcome_of(alloc: Global, image: &Image, leg: &PlannedLeg) -> Result<Outcome, Memory> {
+    let mut crew = crew_of(alloc, image, leg)?;
+    let steps = run(&mut crew, alloc, leg);
+    let book = crew.end();
+    let ended = book.counts() == leg.ends;
+    let machine = book.into_machine();
+    match steps {
+        Some(steps) => outcome_from(alloc, &steps, machine, ended),
+        None => Err(Memory),
     }
 }

@@ -1,0 +1,113 @@
+//! What an audit says of a plan, beside an audit by the definition.
+
+use crate::plain_audits::{Outcome, Pair, outcome_of};
+use ft_types::Memory;
+use guest_image::{Image, Machine};
+use hart_replay::{Plan, ReplayFault, replay_plain};
+use log_audit::{AuditFault, audit};
+use std::alloc::Global;
+
+/// What both audits say of a plan.
+#[derive(Clone, Copy)]
+pub enum Verdict {
+    /// The one machine, and no pair.
+    Covered,
+    /// A pair that is found.
+    Uncovered,
+    /// The same, of a replay that is stuck.
+    StuckUncovered,
+    /// Why the replay is stuck, and no pair.
+    Stuck,
+    /// Not the same.
+    Unlike,
+}
+
+/// Whether the fault is one of the pairs.
+fn is_among(fault: AuditFault, pairs: &[Pair]) -> bool {
+    for (page, one, other) in pairs {
+        if fault == AuditFault::Uncovered(*page, *one, *other) {
+            return true;
+        }
+    }
+    false
+}
+
+/// What both say where the audit has this fault, and the replay that one.
+fn verdict_no(fault: AuditFault, replay: Option<ReplayFault>, plain: &Outcome) -> Verdict {
+    if is_among(fault, &plain.pairs) {
+        return if plain.ended {
+            Verdict::Uncovered
+        } else {
+            Verdict::StuckUncovered
+        };
+    }
+    match replay {
+        Some(stuck) if plain.pairs.is_empty() && fault == AuditFault::Replay(stuck) => {
+            Verdict::Stuck
+        }
+        _ => Verdict::Unlike,
+    }
+}
+
+/// What both say where the audit comes to this machine.
+fn verdict_yes(machine: &Machine, plain: &Outcome) -> Verdict {
+    if plain.pairs.is_empty() && plain.ended && machine.same(&plain.machine) {
+        Verdict::Covered
+    } else {
+        Verdict::Unlike
+    }
+}
+
+/// Why the replay of the plan is stuck, where it is.
+fn stuck_by(alloc: Global, image: &Image, plan: &Plan) -> Result<Option<ReplayFault>, Memory> {
+    match replay_plain(alloc, image, plan) {
+        Ok(_) => Ok(None),
+        Err(ReplayFault::Memory) => Err(Memory),
+        Err(fault) => Ok(Some(fault)),
+    }
+}
+
+/// What the audit says beside the plain one.
+fn verdict_beside(
+    alloc: Global,
+    image: &Image,
+    plan: &Plan,
+    plain: &Outcome,
+) -> Result<Verdict, Memory> {
+    match audit(alloc, image, plan) {
+        Ok(machine) => Ok(verdict_yes(&machine, plain)),
+        Err(AuditFault::Replay(ReplayFault::Memory)) => Err(Memory),
+        Err(fault) => Ok(verdict_no(fault, stuck_by(alloc, image, plan)?, plain)),
+    }
+}
+
+/// What both audits say of a plan of one term.
+pub fn verdict_of(alloc: Global, image: &Image, plan: &Plan) -> Result<Verdict, Memory> {
+    match plan.legs() {
+        [leg] => verdict_beside(alloc, image, plan, &outcome_of(alloc, image, leg)?),
+        _ => Err(Memory),
+    }
+}
+
+/// How many cases have which verdict.
+#[derive(Clone, Copy, Debug, Default)]
+pub struct Tally {
+    pub covered: u32,
+    pub uncovered: u32,
+    pub stuck_uncovered: u32,
+    pub stuck: u32,
+    pub unlike: u32,
+}
+
+impl Tally {
+    pub fn add(&mut self, verdict: Verdict) {
+        let many = match verdict {
+            Verdict::Covered => &mut self.covered,
+            Verdict::Uncovered => &mut self.uncovered,
+            Verdict::StuckUncovered => &mut self.stuck_uncovered,
+            Verdict::Stuck => &mut self.stuck,
+            Verdict::Unlike => &mut self.unlike,
+        };
+        *many = many.saturating_add(1);
+    }
+}
