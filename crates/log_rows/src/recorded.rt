@@ -1,11 +1,13 @@
-//! Pieces of a recording book.
+//! Pieces of a recording book, and of a log of many counts.
 
 ghost use Rattle.std.specs.Prelude.{◌≡◌};
 
+use edge_log::EdgeLog;
 use fixtures::{Crew, hart, image_of, recorder};
 use fragment_codec::Frame;
-use log_pieces::{Sealed, cut_pieces};
 use ft_types::{Count, Counts, Guest, Memory};
+use input_log::InputLog;
+use log_pieces::{Sealed, cut_logs, cut_pieces};
 use page_book::{Book, Keep, Recording};
 use std::alloc::Global;
 use std::test::Fail;
@@ -76,5 +78,47 @@ fn a_book_in_pieces(rt: HostRuntime) -> Result<(), Fail> {
     }
     let next = (sealed.next_place(hart(0)), sealed.next_place(hart(1)));
     assert_eq!(rt; next, (Some(0), Some(2)));
+    Ok(())
+}
+
+fn one_hart() -> Guest
+    ensures { result.harts ≡ 1 }
+{
+    Guest::new([7; 32], 1).unwrap()
+}
+
+/// The frames of a hart that has no facts and is settled at a count, asked for again where memory was refused.
+fn plain_pieces(alloc: Global, settled: Count) -> Result<Vec<Frame>, Fail> {
+    let (zero, guest) = (Counts::zero(1), one_hart());
+    let settled = Counts::from_slice(&[settled]).ok_or("a count")?;
+    let (edges, inputs) = (EdgeLog::new(alloc, zero), InputLog::new(alloc));
+    let mut sealed = Sealed::new(zero);
+    match cut_logs(alloc, &edges, &inputs, &settled, &guest, 1, &mut sealed) {
+        Ok(frames) => Ok(frames),
+        Err(Memory) => Ok(cut_logs(alloc, &edges, &inputs, &settled, &guest, 1, &mut sealed)?),
+    }
+}
+
+/// How many counts each of the pieces has.
+fn lengths(alloc: Global, settled: Count) -> Result<Vec<Count>, Fail> {
+    let mut lengths = Vec::new(alloc);
+    for frame in plain_pieces(alloc, settled)? {
+        if let Frame::Log(piece) = frame {
+            lengths.push(piece.to().saturating_sub(piece.from()))?;
+        }
+    }
+    Ok(lengths)
+}
+
+/// A piece ends behind as many counts as version 2 of frames tells of.
+#[test]
+fn many_counts_in_pieces(rt: HostRuntime) -> Result<(), Fail> {
+    let one = lengths(rt.alloc(), 4_294_967_295)?;
+    assert_eq!(rt; one.as_slice(), [4_294_967_295u64].as_slice());
+    let three = lengths(rt.alloc(), 1 << 33)?;
+    assert_eq!(rt;
+        three.as_slice(),
+        [4_294_967_295u64, 4_294_967_295, 2].as_slice()
+    );
     Ok(())
 }
