@@ -1,6 +1,7 @@
 // A library to be loaded before a program's own (LD_PRELOAD): it counts the program's growths, and refuses the one with the number REFUSE_AT, as if memory
 // were at its end. Growths are the calls of malloc, calloc, realloc, posix_memalign and aligned_alloc, in all threads, from 1 on; a realloc counts whatever
 // its size. With REFUSE_AT 0, or none, nothing is refused. When the program ends, how many growths there were is written to the file that REFUSE_TELL names.
+// Where REFUSE_IN names a program, without its folder, all this is so in that program alone, and not in one that starts it.
 #define _GNU_SOURCE
 #include <dlfcn.h>
 #include <errno.h>
@@ -8,6 +9,7 @@
 #include <stdatomic.h>
 #include <stdio.h>
 #include <stdlib.h>
+#include <string.h>
 #include <sys/syscall.h>
 #include <unistd.h>
 
@@ -19,6 +21,11 @@ static void *(*next_aligned_alloc)(size_t, size_t);
 static atomic_ulong growths;
 static unsigned long refused;
 
+static int is_meant(void) {
+    const char *name = getenv("REFUSE_IN");
+    return !name || strcmp(name, program_invocation_short_name) == 0;
+}
+
 // The C library's own. Looked up before any thread is there, since the loader's first growth comes before the constructor below.
 static void find(void) {
     if (next_aligned_alloc) return;
@@ -28,7 +35,7 @@ static void find(void) {
     next_posix_memalign = dlsym(RTLD_NEXT, "posix_memalign");
     next_aligned_alloc = dlsym(RTLD_NEXT, "aligned_alloc");
     const char *at = getenv("REFUSE_AT");
-    refused = at ? strtoul(at, 0, 10) : 0;
+    refused = at && is_meant() ? strtoul(at, 0, 10) : 0;
 }
 
 // Counts a growth, and tells whether it is the one to be refused.
@@ -67,7 +74,7 @@ __attribute__((constructor)) static void begin(void) {
 __attribute__((destructor)) static void tell(void) {
     static atomic_flag told = ATOMIC_FLAG_INIT;
     const char *name = getenv("REFUSE_TELL");
-    if (!name || atomic_flag_test_and_set(&told)) return;
+    if (!name || !is_meant() || atomic_flag_test_and_set(&told)) return;
     char line[24];
     int length = snprintf(line, sizeof line, "%lu\n", (unsigned long)growths);
     int file = open(name, O_WRONLY | O_CREAT | O_TRUNC, 0666);
