@@ -11,5 +11,6 @@ program=${1:-$here/../../crates/workbench/out/workbench}
 work=$(mktemp -d)
 trap 'rm -rf "$work"' EXIT
 
+ulimit -c 0
 cc -O2 -shared -fPIC -o "$work/refuse.so" "$here/refuse.c" -ldl
 python3 -B "$here/sweep.py" "$program" "$work/refuse.so" ${2:-}
