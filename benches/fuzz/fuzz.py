@@ -6,8 +6,9 @@ then get the digest that belongs to them, so that what is wrong is the body; an 
 SEED (by itself by chance, and printed) and its number, from FIRST on, and so can be made again.
 
 A call must end in time with status 0 and no word on standard error, or with 1 or 2 and one line of fault. And where memory is ample it is not refused; what `join`
-writes leads `cut` and `replay` to what its logs led to, if nothing clashed; so do the logs in another order; the log of a `run` replays to the text that was
-printed, and the text of an `audit` that says yes is that of a `replay`. Whatever is otherwise is printed, and its files are kept in the temporary folder.
+writes leads `cut` to what its logs led to, if nothing clashed, and `replay` too, if `audit` says yes; so do the logs in another order; the log of a `run` replays to
+the text that was printed, and the text of an `audit` that says yes is that of a `replay`. Whatever is otherwise is printed, and its files are kept in the
+temporary folder.
 """
 
 import collections
@@ -262,21 +263,23 @@ def broken(program, words, answer):
     if words[0] == "run":
         return None if again("replay", image, words[4]) == answer else "the log of the run replays otherwise"
     logs = words[LOGS[words[0]] :]
+    orders = lambda: again("audit", image, *logs)[0] == 0
     if words[0] == "audit":
         return None if again("replay", image, *logs) == (0, out.removeprefix(b"audit yes\n"), b"") else "the replay of what was audited is another one"
-    if words[0] != "join":
-        return None if again(words[0], image, *reversed(logs)) == answer else "the logs in another order lead elsewhere"
+    if words[0] in ("replay", "cut"):
+        as_well = again(words[0], image, *reversed(logs)) == answer
+        return None if as_well or words[0] == "replay" and not orders() else "the logs in another order lead elsewhere"
     if not out.endswith(b" clashes 0\n"):
         return None
-    for verb in ["cut"] + ["replay"] * (not is_long(contents(words[2]))):
+    for verb in ["cut"] + ["replay"] * (not is_long(contents(words[2])) and orders()):
         if again(verb, image, words[2]) != again(verb, image, *logs):
             return f"{verb} of what was joined leads elsewhere"
     return None
 
 
 def batch(program, seed, first, count, cases):
-    """So many calls; how they ended, and what was otherwise."""
-    found, others = collections.Counter(), []
+    """So many calls; how they ended, what was otherwise, and which was the slowest."""
+    found, others, slowest = collections.Counter(), [], (0, first)
     folder = tempfile.mkdtemp(prefix="fuzz-", dir="/dev/shm")
     try:
         for number in range(first, first + count):
@@ -295,7 +298,7 @@ def batch(program, seed, first, count, cases):
             fault = re.match(rb"fault (?:\w+(?= [a-z])|\w+)", answer[2])
             found[f"{words[0] if words and words[0] in (*LOGS, 'run', 'pair', 'failover') else 'other'} {answer[0]}"] += 1
             found[fault.group().decode() if fault else "no fault"] += 1
-            found["slow"] += took > 5
+            slowest = max(slowest, (took, number))
             if wrong:
                 kept = os.path.join(tempfile.gettempdir(), f"fuzz-{seed}-{number}")
                 shutil.copytree(at, kept, dirs_exist_ok=True)
@@ -305,7 +308,7 @@ def batch(program, seed, first, count, cases):
     finally:
         os.chdir("/")
         shutil.rmtree(folder)
-    return found, others
+    return found, others, slowest
 
 
 def main():
@@ -314,16 +317,18 @@ def main():
     seed = sys.argv[3] if sys.argv[3:] else str(random.SystemRandom().getrandbits(32))
     first = int(sys.argv[4]) if sys.argv[4:] else 0
     print(f"seed {seed}, calls {first} to {first + count - 1}", flush=True)
-    cases, found, others = corpus(), collections.Counter(), []
+    cases, found, others, slowest = corpus(), collections.Counter(), [], (0, first)
     with ProcessPoolExecutor(int(os.environ.get("JOBS", "2"))) as pool:
         ends = range(first, first + count, 500)
         todo = [pool.submit(batch, program, seed, at, min(500, first + count - at), cases) for at in ends]
-        for some, wrong in (it.result() for it in todo):
+        for some, wrong, slow in (it.result() for it in todo):
             found.update(some)
             others += wrong
+            slowest = max(slowest, slow)
             print("\n".join(wrong), end="\n" * bool(wrong), flush=True)
     for name in sorted(found):
         print(f"  {name}: {found[name]}")
+    print(f"  the slowest was call {slowest[1]}, of {slowest[0]:.2f} seconds")
     print(f"{count} calls, {len(others)} otherwise than they must be")
     sys.exit(bool(others))
 
