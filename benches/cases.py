@@ -102,6 +102,7 @@ class Case:
         self.status, self.out, self.err = 0, b"", b""
         self.made, self.makes = None, None
         self.on_disk = True  # whether files can show it
+        self.is_told = True  # whether it says what must be written
 
     def harts(self):
         image = self.files.get(self.words[1]) if len(self.words) > 1 else None

@@ -1,7 +1,7 @@
 #!/usr/bin/env python3
 """sweep.py PROGRAM LIBRARY [quick|every|leaks]: refuses the growths of worked rows in turn, by the library that refuse.c is, and prints a line a row.
 
-The list of rows stands in `rows`. A row's ample answer is what is printed, how it ends, and the file that it makes, where nothing is refused. With each
+The list of rows stands in `rows`. A row's ample answer is what is printed, how it ends, and the file that it makes, where nothing is refused; it is what its case says. With each
 growth refused once it must be that answer, or status 1 with `fault memory` alone on standard error, a beginning of the ample output, and a
 beginning of the ample file. Where harts or keepers are threads, how many growths there are differs from run to run: there each number up to the greatest that was
 seen is refused three times, and a log, which differs too, must replay to the ample text, or its beginning must replay.
@@ -38,7 +38,7 @@ def row_of(line):
         return name, found[0], []
     *before, words = [it.split(" ") for it in what.split("; ")]
     case = Case(place, what)
-    case.words = words
+    case.words, case.is_told = words, False
     for file in {word for it in [words, *before] for word in it}:
         data = contents(f"{TOP}/{place}/{file}")
         if data is not None:
@@ -138,6 +138,9 @@ def sweep(program, library, name, case, before, how):
         title = f"{name}, {' '.join(case.words)}: "
         if any(row.kind(ample, answer) != "ample" for answer, _ in first):
             return title + "not tried, since its answer differs from run to run", how != "every"
+        in_turn = row.on_threads and not case.threads and case.words[0] == "run"  # what the case says came in turn
+        if most == 0 or case.is_told and not in_turn and ample[:3] != (case.status, case.out, case.err):
+            return title + f"its ample answer is another one: ended {ample[0]}, errors {ample[2]}, {most} growths", True
         found = tries(row, ample, most, how)
         kinds = [kind for kind, _, _ in found]
         others = [line for _, lines, _ in found for line in lines]
