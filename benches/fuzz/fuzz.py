@@ -1,14 +1,14 @@
 #!/usr/bin/env python3
 """fuzz.py PROGRAM [COUNT [SEED [FIRST]]]: calls the program COUNT times, 100,000 by itself, on images, scripts, events and logs that are changed by chance.
 
-What is changed are the files and words of the cases of crates/cases/data, with their frames in version 1 or 2. Of logs bytes are changed, and frames too, which
-then get the digest that belongs to them, so that what is wrong is the body; an image that was changed may take its logs along. Each call is made from
+What is changed are the files and words of the cases of crates/cases/data, with their frames in version 1 or 2. Of logs bytes are changed, and frames too,
+which then get the digest that belongs to them, so that what is wrong is the body; an image that was changed may take its logs along. Each call is made from
 SEED (by itself by chance, and printed) and its number, from FIRST on, and so can be made again.
 
-A call must end in time with status 0 and no word on standard error, or with 1 or 2 and one line of fault. And where memory is ample it is not refused; what `join`
-writes leads `cut` to what its logs led to, if nothing clashed, and `replay` too, if `audit` says yes; so do the logs in another order; the log of a `run` replays to
-the text that was printed, and the text of an `audit` that says yes is that of a `replay`. Whatever is otherwise is printed, and its files are kept in the
-temporary folder.
+A call must end in time with status 0 and no word on standard error, or with 1 or 2 and one line of fault. And where memory is ample it is not refused; what
+`join` writes leads `cut` to what its logs led to, if nothing clashed, and `replay` too, if `audit` says yes; so do the logs in another order; the log of a
+`run` replays to the text that was printed, and the text of an `audit` that says yes is that of a `replay`. Whatever is otherwise is printed, and its files
+are kept in the temporary folder.
 """
 
 import collections

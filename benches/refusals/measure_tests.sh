@@ -1,8 +1,8 @@
 #!/bin/sh
 # measure_tests.sh [FOLDER]: refuses each growth of the tests of `tests` in turn, a process each, and prints for each test with how many growths refused
 # it passed, gave up and failed (sweep_tests.py says what each is). The test programs are those that `.ci/run`, or `rt test` in their crates, leave
-# as crates/NAME/out/NAME_tests, or those of FOLDER. Of a test of many growths MOST are refused, by itself 1,000. JOBS says how many tests at a time, by
-# itself 2. The status is 1 where a test failed. Needs a C compiler, python3 and /dev/shm.
+# as crates/NAME/out/NAME_tests, or those of FOLDER. Of a test of more than 1,000 growths 100 are refused. JOBS says how many tests at a time, by itself 2.
+# The status is 1 where a test failed. Needs a C compiler, python3 and /dev/shm.
 set -eu
 here=$(cd "$(dirname "$0")" && pwd)
 work=$(mktemp -d)

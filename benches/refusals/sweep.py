@@ -1,10 +1,10 @@
 #!/usr/bin/env python3
 """sweep.py PROGRAM LIBRARY [quick|every|leaks]: refuses the growths of worked rows in turn, by the library that refuse.c is, and prints a line a row.
 
-The list of rows stands in `rows`. A row's ample answer is what is printed, how it ends, and the file that it makes, where nothing is refused; it is what its case says. With each
-growth refused once it must be that answer, or status 1 with `fault memory` alone on standard error, a beginning of the ample output, and a
-beginning of the ample file. Where harts or keepers are threads, how many growths there are differs from run to run: there each number up to the greatest that was
-seen is refused three times, and a log, which differs too, must replay to the ample text, or its beginning must replay.
+The list of rows stands in `rows`. A row's ample answer is what is printed, how it ends, and the file that it makes, where nothing is refused; it is what its
+case says. With each growth refused once it must be that answer, or status 1 with `fault memory` alone on standard error, a beginning of the ample output, and
+a beginning of the ample file. Where harts or keepers are threads, how many growths there are differs from run to run: there each number up to the greatest
+that was seen is refused TIMES times, by itself three, and a log, which differs too, must replay to the ample text, or its beginning must replay.
 
 With `quick` at most 40 numbers of a row are tried, spread over all. With `every` the rows are all cases of crates/cases/data that files can show, but those
 whose answer differs from run to run. With `leaks` two or three numbers of a row are tried, under valgrind, which must find no bad access and no block that is
@@ -26,6 +26,7 @@ from calls import call, contents
 from cases import Case, cases_of
 
 SECONDS, TOLD, MEMORY = 30, ".told", b"fault memory\n"
+TIMES = int(os.environ.get("TIMES", "3"))
 
 
 def row_of(line):
@@ -122,7 +123,7 @@ def tries(row, ample, most, how):
     if how == "leaks":
         return [lost_at(row, most * part // 100, ample) for part in {43, 97} | ({71} if row.on_threads else set())]
     every = spread(most, 40 if how == "quick" else most)
-    return [told_of(row, at, ample) for at in every * (3 if row.on_threads and how != "quick" else 1)]
+    return [told_of(row, at, ample) for at in every * (TIMES if row.on_threads and how != "quick" else 1)]
 
 
 def sweep(program, library, name, case, before, how):

@@ -2,9 +2,10 @@
 """sweep_tests.py LIBRARY FOLDER: refuses the growths of tests in turn, and prints a line a test.
 
 The list of tests stands in `tests`. They ask again where memory is refused, and compare what the refusal left and what then comes with what they must be; so
-each must pass with any one growth refused. FOLDER has the test programs, NAME_tests; by itself each is where `rt test` leaves it. Of a test with more than MOST
-growths so many are tried, spread over all. Where harts or keepers are threads the number of growths differs from run to run. Where a test passes no more because
-a call of its own, which makes what it tests, was refused and is not asked for again, it gives up; that is no failure. The status is 1 where one fails.
+each must pass with any one growth refused. FOLDER has the test programs, NAME_tests; by itself each is where `rt test` leaves it. Of a test with more than
+1,000 growths 100 are tried, spread over all. Where harts or keepers are threads the number of growths differs from run to run. Where a test passes no more
+because a call of its own, which makes what it tests, was refused and is not asked for again, it gives up; that is no failure. The status is 1 where one
+fails.
 """
 
 import os
@@ -20,7 +21,7 @@ sys.path.insert(0, os.path.dirname(HERE))
 sys.dont_write_bytecode = True
 from calls import call, contents
 
-SECONDS, TOLD, MOST = 120, ".told", int(os.environ.get("MOST", "1000"))
+SECONDS, TOLD, WHOLE, PART = 120, ".told", 1000, 100
 GIVEN_UP = rb"error: (AllocError|Memory)\nthe test failed: its result gives status 1\n"
 
 
@@ -40,9 +41,10 @@ def refusing(library, program, name, at):
 
 
 def spread(most):
-    if most <= MOST:
+    """The growths that are refused, of so many."""
+    if most <= WHOLE:
         return range(1, most + 1)
-    return sorted({1 + at * (most - 1) // (MOST - 1) for at in range(MOST)})
+    return [1 + at * (most - 1) // (PART - 1) for at in range(PART)]
 
 
 def sweep(library, folder, crate, name):
