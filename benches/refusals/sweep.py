@@ -53,6 +53,7 @@ class Row:
 
     def __init__(self, program, library, case):
         self.program, self.library, self.case = program, library, case
+        self.said_again = "and no log"
         self.on_threads = case.words[:1] == ["pair"] or case.words[:1] in (["run"], ["replay"]) and case.harts() > 1
 
     def refusing(self, at, before=()):
@@ -80,14 +81,17 @@ class Row:
             return out is None
         with open(".log", "wb") as file:
             file.write(made)
-        status, text, _ = call(self.program, ["replay", self.case.words[1], ".log"], SECONDS)
-        return status == 0 and out in (None, text)
+        again = call(self.program, ["replay", self.case.words[1], ".log"], SECONDS)
+        is_right = again[0] == 0 and out in (None, again[1])
+        self.said_again = "and its log replays" if is_right else f"and its log replays so: {again}"
+        return is_right
 
     def kind(self, ample, answer):
-        """Whether an answer is the ample one, or one that may stand where memory is refused."""
+        """Whether an answer is the ample one, or one that may stand where memory is refused. A case that came in turn may come otherwise on threads."""
         status, out, err, made = answer
         logs = self.on_threads and self.case.words[0] == "run"
-        if answer[:3] == ample[:3] and (made == ample[3] or logs and self.replays(made, out)):
+        as_well = answer[:3] == ample[:3] or logs and not self.case.threads and self.case.is_told and (status, err) == (0, b"")
+        if as_well and (made == ample[3] or logs and self.replays(made, out)):
             return "ample"
         whole = made is None or (ample[3] or b"").startswith(made) or logs and self.replays(made)
         if (status, err) == (1, MEMORY) and ample[1].startswith(out) and whole:
@@ -106,7 +110,8 @@ def told_of(row, at, ample):
     """What kind of answer comes with this growth refused, what is to be told of one that may not stand, and whether the run had so many."""
     answer, told = row.refusing(at)
     kind = row.kind(ample, answer)
-    other = f"  growth {at} refused: ended {answer[0]}, {len(answer[1])} bytes of output, errors {answer[2]}"
+    differs = "another" if answer[1] != ample[1] else "the ample"
+    other = f"  growth {at} of {told} refused: ended {answer[0]}, {differs} output, errors {answer[2]}, {row.said_again}"
     return kind, [other] * (kind == "other"), told >= at
 
 
@@ -138,7 +143,7 @@ def sweep(program, library, name, case, before, how):
         ample, most = first[0][0], max(told for _, told in first)
         title = f"{name}, {' '.join(case.words)}: "
         if any(row.kind(ample, answer) != "ample" for answer, _ in first):
-            return title + "not tried, since its answer differs from run to run", how != "every"
+            return title + f"not tried, since its answer differs from run to run, {row.said_again}", how != "every"
         in_turn = row.on_threads and not case.threads and case.words[0] == "run"  # what the case says came in turn
         if most == 0 or case.is_told and not in_turn and ample[:3] != (case.status, case.out, case.err):
             return title + f"its ample answer is another one: ended {ample[0]}, errors {ample[2]}, {most} growths", True
