@@ -1,7 +1,8 @@
 #!/bin/sh
 # check.sh [PROGRAM]: runs what README.md, docs/GUIDE.md and docs/FAILOVER.md print, as printed, in a fresh copy of the repository, and compares
-# the answers that they show; then runs each guest of guests/ and replays its log, and looks for each name that the documents cite (tools/names). PROGRAM is the built workbench, by itself the one that `.ci/run`
-# and `rt run` leave. The last line is 'N passed, N failed'. Needs rt; what needs more is left out where that is not there.
+# the answers that they show; then runs each guest of guests/ and replays its log, looks for each name that the documents cite (tools/names), and refuses
+# memory to the rows of benches/refusals. PROGRAM is the built workbench, by itself the one that `.ci/run` and `rt run` leave. The last line is 'N passed, N
+# failed'. Needs rt; what needs more is left out where that is not there.
 #
 # In these documents each indented block is typed into a shell of its own at the top of the repository. Where it has lines that begin with
 # '$ ', these are the commands, and the lines below each are all that it answers. Where it has none, each line is a command.
@@ -144,6 +145,18 @@ elif "$top/tools/names" > "$work/names"; then
     pass
 else
     fail "the names that the documents cite" < "$work/names"
+fi
+
+# At most 40 growths of each row are refused, in some ten seconds.
+if command -v cc > /dev/null && command -v python3 > /dev/null && [ -d /dev/shm ]; then
+    if sh "$top/benches/refusals/measure.sh" "$program" quick > "$work/refused" 2>&1; then
+        pass
+    else
+        grep -v ' 0 other' "$work/refused" > "$work/differs"
+        fail "rows to which memory is refused" < "$work/differs"
+    fi
+else
+    echo "left out benches/refusals, since a C compiler, python3 or /dev/shm is not there"
 fi
 
 echo "$passed passed, $failed failed"
