@@ -1,6 +1,6 @@
 #!/bin/sh
 # check.sh [PROGRAM]: runs what README.md, docs/GUIDE.md and docs/FAILOVER.md print, as printed, in a fresh copy of the repository, and compares
-# the answers that they show; then runs each guest of guests/ and replays its log. PROGRAM is the built workbench, by itself the one that `.ci/run`
+# the answers that they show; then runs each guest of guests/ and replays its log, and looks for each name that the documents cite (tools/names). PROGRAM is the built workbench, by itself the one that `.ci/run`
 # and `rt run` leave. The last line is 'N passed, N failed'. Needs rt; what needs more is left out where that is not there.
 #
 # In these documents each indented block is typed into a shell of its own at the top of the repository. Where it has lines that begin with
@@ -38,6 +38,10 @@ fail() {
 lacks() {
     if grep -q '\.ci/run' "$1"; then
         echo "it is the whole gate, for an hour or two"
+    elif grep -q 'samples/quick\.sh' "$1"; then
+        echo "it runs this script itself"
+    elif [ -n "${TRIED:-}" ] && grep -q 'rt try' "$1"; then
+        echo "this program was built by rt try"
     elif grep -q 'rt run' "$1"; then
         echo "it proves every crate below the program, for half an hour"
     elif grep -q 'apt-get' "$1"; then
@@ -132,6 +136,15 @@ for image in "$top"/guests/images/*.image; do
     "$program" replay "$image" "$at.log" > "$at.replayed" 2>&1
     if diff "$at.text" "$at.replayed" > "$at.differs"; then pass; else fail "the replay of $guest" < "$at.differs"; fi
 done
+
+# Each name that the documents cite is there.
+if ! command -v python3 > /dev/null; then
+    echo "left out tools/names, since no python3 is installed"
+elif "$top/tools/names" > "$work/names"; then
+    pass
+else
+    fail "the names that the documents cite" < "$work/names"
+fi
 
 echo "$passed passed, $failed failed"
 [ "$failed" = 0 ]

@@ -194,6 +194,7 @@ impl Recording {
     fn has_rows(&self)
         ensures { HasRows self.now }
     {
+        // proof: rows are there, by its clause.
         let _offered = self.offered(Hart::new(0), 0);
     }
 
@@ -439,6 +440,7 @@ impl Mode for Recording {
         if !self.edges.adds_later(settled, &before.edges) {
             return false;
         }
+        // proof: both have a row for each hart.
         self.has_rows();
         before.has_rows();
         for number in 0..HART_LIMIT {

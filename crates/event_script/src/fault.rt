@@ -7,7 +7,7 @@ use ft_types::Memory;
 pub enum EventsFault {
     /// The line of this number, from 1, has another form.
     BadLine(u64),
-    /// Memory ran out.
+    /// A growth was refused.
     Memory,
 }
 

@@ -62,6 +62,7 @@ pub enum Frame {
 fn is_key(harts: u8, key: &Key) -> bool
     ensures { IsTrue result ↔ IsKey harts key.now }
 {
+    // proof: a place has 32 bits.
     let _place = key.place;
     key.hart.number() < harts && 1 <= key.term
 }

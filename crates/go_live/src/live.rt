@@ -33,7 +33,7 @@ use std::result::Result;
 /// A primary that goes on where the log of its keepers ends.
 #[derive(Drop)]
 pub struct Live {
-    /// The book, in which no step is settled. No hart may go on until `limit_to` says so.
+    /// The book, in which no step is settled. No hart may go on until its limit is set higher.
     pub book: Book<Recording>,
     /// The opening of its term.
     pub opening: Opening,
@@ -52,6 +52,7 @@ fn replay_to(
     ensures harts { IfOk result (λ p. (length p.0.counts ≡ image.now.harts) × (length p.1.harts ≡ image.now.harts)) }
     ensures fault { IfErr result (λ fault. fault ≢ ReplayFault.Memory → HasNoMachine image.now store.now fault) }
 {
+    // proof: a store's guest keeps the rules.
     let _rules = store.guest();
     let position = position(alloc, store)?;
     let plan = plan(alloc, store, &position)?;
@@ -66,8 +67,10 @@ fn opening_of(guest: Guest, term: Term, position: &Position) -> Opening
     requires boot { position.now.term ≡ 0 → (hart : ℕ) → count_at position.now.counts hart ≡ 0 }
     ensures { result ≡ opening_from guest term position.now }
 {
+    // proof: a guest has its rules by type.
     let _rules = guest.harts();
     let base = position.counts;
+    // proof: counts are below their limit.
     let _counts = base.as_slice();
     Opening::new(guest, term, position.term, base).unwrap()
 }

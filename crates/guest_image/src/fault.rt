@@ -9,6 +9,6 @@ pub enum ImageFault {
     TooLarge,
     /// The first line isn't one of a number of harts.
     NoHarts,
-    /// Memory ran out.
+    /// A growth was refused.
     Memory,
 }

@@ -5,6 +5,6 @@
 pub enum ScriptFault {
     /// The line of this number, from 1, has another form.
     BadLine(u64),
-    /// Memory ran out.
+    /// A growth was refused.
     Memory,
 }

@@ -15,6 +15,7 @@ use std::result::Result;
 pub fn has_run(book: &Book<Recording>)
     ensures { HasRun book.now }
 {
+    // proof: the journal leads to the machine, by the book's clause.
     let _machine = book.machine();
 }
 
@@ -34,9 +35,11 @@ pub fn run_plain(alloc: Global, book: Book<Recording>) -> Result<Book<Recording>
     ensures held { IfOk result (λ b. KeepHeld book b) }
 {
     let mut book = book;
+    // proof: it has run before.
     has_run(&book);
     loop {
         if !go_round(alloc, &mut book, Keep::All)? {
+            // proof: and it has run now.
             has_run(&book);
             return Ok(book);
         }

@@ -45,6 +45,7 @@ impl AskedPages {
     pub(crate) fn unasked(alloc: Global, machine: &Machine) -> Result<AskedPages, Memory>
         ensures { IfOk result (λ p. p.contents ≡ machine.now.pages) }
     {
+        // proof: a machine has at most so many pages.
         let _whole = machine.pages();
         let pages = pages_of(alloc, machine)?;
         Ok(AskedPages {

@@ -50,6 +50,7 @@ fn audit_leg(alloc: Global, start: Machine, leg: &PlannedLeg) -> Result<Machine,
     ensures fault { IfErr result (λ fault. IsLegFault leg.now start fault) }
 {
     // No edge of the log is of a step before its start.
+    // proof: a log keeps the rules by type.
     let _rules = leg.edges.at(Hart::new(0), 0);
     let machine = match run_leg(alloc, start, leg) {
         Ok(Ended::Stopped(machine)) => machine,

@@ -67,6 +67,7 @@ pub(crate) fn run_leg(alloc: Global, start: Machine, leg: &PlannedLeg) -> Result
     ensures { IfOk result (Ends leg.now start) }
 {
     // No edge of the log is of a step before its start.
+    // proof: a log keeps the rules by type.
     let _rules = leg.edges.at(Hart::new(0), 0);
     let mut harts = Harts::begin(alloc, start)?;
     let many = harts.many();

@@ -84,6 +84,7 @@ impl Store {
     fn put_opening(&mut self, opening: Opening) -> Result<Put, Memory>
         ensures { Puts self.old (frame_of_specs.Opening opening) result self.new }
     {
+        // proof: an opening keeps the rules by type.
         let _rules = opening.base();
         if !is_same_guest(&opening.guest(), &self.guest) {
             return Ok(Put::OtherGuest);
@@ -95,6 +96,7 @@ impl Store {
     fn put_fragment(&mut self, fragment: Fragment) -> Result<Put, Memory>
         ensures { Puts self.old (frame_of_specs.Log fragment) result self.new }
     {
+        // proof: a fragment keeps the rules by type.
         let _rules = fragment.records();
         if !is_same_guest(&fragment.guest(), &self.guest) {
             return Ok(Put::OtherGuest);

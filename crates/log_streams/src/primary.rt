@@ -81,6 +81,7 @@ pub fn frames_of(alloc: Global, image: &Image, book: &Book<Recording>) -> Result
     // Whoever gathers them has its position at the end of the run.
     ensures end { IfOk result (λ frames. ReachItsEnd (guest_of image.now) book.now frames.items) }
 {
+    // proof: the log keeps the rules by type.
     let _edges = book.edges();
     let harts = image.harts();
     let guest = image.guest();

@@ -13,14 +13,15 @@ pub record IsSeen (board : Board) (gate : GateView) (seat : GateSeat) : Type 0 w
   pub no_keeper : (keeper hart : ℕ) → keepers_of board ≤ keeper → noted_at gate keeper hart ≡ 0
   pub no_hart : (keeper hart : ℕ) → harts_of board ≤ hart → noted_at gate keeper hart ≡ 0
 
--- one of the board's keepers published a position that has this step of the hart inside: its list for the hart has a count above the step
+-- Of one of the board's keepers the seat has heard a count of the hart above this step. What a seat has heard of a keeper is a beginning of what that
+-- keeper published, by `beside` of ack_core's board.
 pub record PublishedBeyond (board : Board) (seat : GateSeat) (keeper hart step : ℕ) : Type 0 where
   pub of_board : keeper < keepers_of board
   pub count : ℕ
   pub published : Contains (heard seat keeper hart) count
   pub beyond : step < count
 
--- enough keepers are counted, and each keeper that is counted published a position that has the output inside
+-- enough keepers are counted, and of each keeper that is counted the seat has heard a count that has the output inside
 pub record IsInside (board : Board) (gate : GateView) (seat : GateSeat) (o : Output) : Type 0 where
   pub enough : gate.need ≤ holder_count gate.noted o.hart o.step
   pub inside : (keeper : ℕ) → o.step < noted_at gate keeper o.hart → PublishedBeyond board seat keeper o.hart o.step

@@ -59,6 +59,7 @@ pub(crate) fn take_back(
     ensures steps { result ≡ lease.steps }
     ensures kept { IsBareLease lease }
 {
+    // proof: a machine has at most so many pages.
     let _pages = machine.pages();
     let hart = lease.hart();
     let (present, slots, steps) = lease.spend();

@@ -27,6 +27,7 @@ fn pick(held: Book<Recording>, copy: Book<Recording>, budget: &Counts) -> Book<R
     ensures goes_on { GoesOnFrom (λ r settled new now. GoesOn r settled new now) copy result }
     ensures below { (hart : ℕ) → counts_of result.machine hart ≤ count_at budget.now hart }
 {
+    // proof: both have run.
     has_run(&held);
     has_run(&copy);
     if !held.continues(&copy) {
@@ -105,17 +106,21 @@ pub fn run_with<R: Threads + Wait + Sync, T: Turnstile + Sync>(
     ensures limits { IfOk result (λ b. b.mode.limits ≡ greater budget book.mode.limits) }
     ensures counts { IfOk result (λ b. GoToBudget budget book b) }
 {
+    // proof: the journal leads to the machine.
     has_run(&book);
     let limits = book.limits();
     let mut book = book;
     book.limit_at(budget);
+    // proof: the journal leads to the machine.
     has_run(&book);
     let copy = book.copy()?;
     let held = run_crew(rt, alloc, book, budget, turnstile, Pace::Even, here);
     let book = pick(held, copy, &budget);
+    // proof: the journal leads to the machine.
     has_run(&book);
     let mut book = finish(alloc, book, budget)?;
     book.limit_to(limits);
+    // proof: the journal leads to the machine.
     has_run(&book);
     Ok(book)
 }

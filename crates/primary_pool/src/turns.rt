@@ -20,7 +20,7 @@ pub(crate) enum Stop {
     Full,
     /// The next step lacks a page.
     Lacks(PageNo, Want),
-    /// Memory was refused.
+    /// A growth was refused.
     Memory,
 }
 

@@ -146,6 +146,7 @@ impl Follower {
         let planned = plan.legs();
         if on {
             let first = self.legs().len() - 1;
+            // proof: a log keeps the rules by type.
             let _rules = planned[first].edges.next(Hart::new(0), 0);
             let machine = self.machine.copy()?;
             return lead_all(alloc, &self.image, machine, planned, first);

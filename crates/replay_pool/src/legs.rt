@@ -54,6 +54,7 @@ pub(crate) fn finish(alloc: Global, book: Book<Replaying>) -> Result<Book<Replay
 {
     let mut book = book;
     book.reclaim();
+    // proof: the journal leads to the machine.
     let _machine = book.machine();
     loop {
         if !go_round(alloc, &mut book, Keep::Nothing)? {

@@ -105,6 +105,7 @@ pub(crate) fn take_elsewhere(
     ensures tracked { IsTracked store.new position.now cursors.now }
 {
     let put = store.put(Frame::Log(fragment));
+    // proof: a store's guest keeps the rules.
     let _rules = store.guest();
     put
 }
@@ -150,6 +151,7 @@ pub(crate) fn take_here(
     let key = fragment.key();
     let from = fragment.from();
     let put = store.put(Frame::Log(fragment))?;
+    // proof: a store's guest keeps the rules.
     let _rules = store.guest();
     if !may_go_on(cursors, key, from) {
         return Ok(put);
