@@ -1,8 +1,9 @@
 //! The cases of a case file.
 
-use crate::files::File;
+use crate::files::{Change, File};
 use crate::frames::{bytes_of_hex, stream_of, turn};
 use crate::reading::{Block, Line, LineNumber, blocks_of};
+use crate::sweeps::Sweep;
 use std::alloc::Global;
 
 /// Room for what is written, where a case says nothing of it.
@@ -25,8 +26,11 @@ pub struct Case<'t> {
     /// How many bytes standard output has room for.
     pub room: usize,
     pub status: usize,
-    pub out: Vec<u8>,
+    /// What is written to standard output in the end, as far as it has room.
+    out: Vec<u8>,
     pub err: Vec<u8>,
+    /// Where it is called in many ways, in which.
+    pub sweep: Option<Sweep>,
 }
 
 fn text_named<'a>(texts: &'a [File<'_>], name: &str) -> Option<&'a [u8]> {
@@ -88,6 +92,7 @@ impl<'t> Case<'t> {
             status: 0,
             out: Vec::new(alloc),
             err: Vec::new(alloc),
+            sweep: None,
         }
     }
 
@@ -106,9 +111,9 @@ impl<'t> Case<'t> {
     fn change(&mut self, how: &str, place: usize) -> Option<()> {
         let file = self.files.last_mut()?;
         match how {
-            "front" => file.bytes.truncate(place),
+            "front" => file.change = Change::Front(place),
             "turned" => turn(&mut file.bytes, place)?,
-            _ => file.fails_at = Some(place),
+            _ => file.change = Change::Failing(place),
         }
         Some(())
     }
@@ -124,6 +129,11 @@ impl<'t> Case<'t> {
             Some(bytes) => bytes.get(..self.holds).unwrap_or(bytes),
             None => made,
         }
+    }
+
+    /// What is written to standard output in the end.
+    pub fn wanted_out(&self) -> &[u8] {
+        self.out.get(..self.room).unwrap_or(&self.out)
     }
 
     /// Takes a stream of frames: the file that is made, or one that can be read.
@@ -178,6 +188,7 @@ impl<'t> Case<'t> {
             "makes-any" => self.make(rest, None),
             "holds" => self.holds = rest.parse::<usize>().ok()?,
             "status" => self.status = rest.parse::<usize>().ok()?,
+            "each" => self.sweep = Some(Sweep::of_words(alloc, rest)?),
             _ => return None,
         }
         Some(())

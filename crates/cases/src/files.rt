@@ -5,13 +5,24 @@ use command_line::Files;
 use ft_types::{Failed, MemorySink, MemorySource, Sink};
 use std::cell::RefCell;
 
+/// What a reader of a file finds in place of all its bytes.
+#[derive(Clone, Copy)]
+pub enum Change {
+    Nothing,
+    /// Only so many bytes.
+    Front(usize),
+    /// Only so many bytes, behind which the reader fails.
+    Failing(usize),
+    /// Another byte at a place.
+    Byte(usize, u8),
+}
+
 /// Bytes by name: a text of a case file, or a file of a case.
 #[derive(Drop)]
 pub struct File<'t> {
     pub name: &'t str,
     pub bytes: Vec<u8>,
-    /// How many bytes can be read, where not all can.
-    pub fails_at: Option<usize>,
+    pub change: Change,
 }
 
 impl<'t> File<'t> {
@@ -20,18 +31,25 @@ impl<'t> File<'t> {
         File {
             name,
             bytes,
-            fails_at: None,
+            change: Change::Nothing,
         }
     }
 
     fn source(&self) -> Result<MemorySource, Failed> {
-        let Ok(bytes) = self.bytes.clone() else {
+        let Ok(mut bytes) = self.bytes.clone() else {
             return Err(Failed);
         };
-        match self.fails_at {
-            None => Ok(MemorySource::new(bytes)),
-            Some(place) => Ok(MemorySource::failing_at(bytes, place)),
+        match self.change {
+            Change::Nothing => {}
+            Change::Front(length) => bytes.truncate(length),
+            Change::Failing(length) => return Ok(MemorySource::failing_at(bytes, length)),
+            Change::Byte(place, value) => {
+                if let Some(byte) = bytes.get_mut(place) {
+                    *byte = value;
+                }
+            }
         }
+        Ok(MemorySource::new(bytes))
     }
 }
 

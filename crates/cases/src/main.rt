@@ -7,6 +7,7 @@ mod files;
 mod frames;
 mod reading;
 mod running;
+mod sweeps;
 
 use crate::cases::cases_of;
 use crate::running::run_cases;
@@ -26,7 +27,7 @@ fn run_text<R: Print + AllocGlobal, P: Pairs>(
     requires { P.may_run threads.now }
 {
     match cases_of(rt.alloc(), text) {
-        Ok(cases) => run_cases(rt, name, &cases, threads),
+        Ok(mut cases) => run_cases(rt, name, &mut cases, threads),
         Err(line) => {
             println!(rt; "{name}: line {line} is at fault")?;
             Ok(false)

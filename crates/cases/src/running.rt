@@ -2,6 +2,7 @@
 
 use crate::cases::Case;
 use crate::files::MemoryFiles;
+use crate::sweeps::Sweep;
 use command_line::{PairOrders, Pairs, command};
 use ft_types::{Memory, MemorySink, Sink};
 use guest_image::{Image, Machine};
@@ -84,10 +85,10 @@ fn tell<R: Print>(rt: &R, case: &str, what: &str, bytes: &[u8], wanted: &[u8]) -
     Ok(right)
 }
 
-/// Runs a case, and tells what comes out otherwise.
+/// Runs a case, and tells under this label what comes out otherwise.
 fn run_case<R: Print + AllocGlobal, P: Pairs>(
     rt: &R,
-    file: &str,
+    label: &str,
     case: &Case<'_>,
     threads: &P,
 ) -> io::Result<bool>
@@ -100,30 +101,60 @@ fn run_case<R: Print + AllocGlobal, P: Pairs>(
         perform(alloc, case, &InTurn)
     };
     let wanted = case.wanted(done.made.bytes());
-    let label = format!(in alloc; "{file}: {}", case.name)?;
     let mut right = usize::from(done.status) == case.status;
     if !right {
         println!(rt; "{label}: status {}", done.status)?;
     }
-    right &= tell(rt, label.as_str(), "out", done.out.bytes(), &case.out)?;
-    right &= tell(rt, label.as_str(), "err", done.err.bytes(), &case.err)?;
-    right &= tell(rt, label.as_str(), "made", done.made.bytes(), wanted)?;
+    right &= tell(rt, label, "out", done.out.bytes(), case.wanted_out())?;
+    right &= tell(rt, label, "err", done.err.bytes(), &case.err)?;
+    right &= tell(rt, label, "made", done.made.bytes(), wanted)?;
     Ok(right)
+}
+
+/// Runs a case in each way of a sweep, and adds how many these are.
+fn run_sweep<R: Print + AllocGlobal, P: Pairs>(
+    rt: &R,
+    label: &str,
+    case: &mut Case<'_>,
+    sweep: Sweep,
+    threads: &P,
+    calls: &mut usize,
+) -> io::Result<bool>
+    requires { P.may_run threads.now }
+{
+    let mut all_right = true;
+    for place in sweep.places.0..=sweep.places.1 {
+        for value in sweep.values.0..=sweep.values.1 {
+            if case.set(sweep, place, value) {
+                let label = format!(in rt.alloc(); "{label}, {place}, {value}")?;
+                all_right &= run_case(rt, label.as_str(), case, threads)?;
+                *calls = calls.saturating_add(1);
+            }
+        }
+    }
+    Ok(all_right)
 }
 
 /// Runs the cases of a file, and tells how many there are, and which come out otherwise.
 pub fn run_cases<R: Print + AllocGlobal, P: Pairs>(
     rt: &R,
     file: &str,
-    cases: &[Case<'_>],
+    cases: &mut [Case<'_>],
     threads: &P,
 ) -> io::Result<bool>
     requires { P.may_run threads.now }
 {
-    let mut all_right = true;
-    for case in cases {
-        all_right &= run_case(rt, file, case, threads)?;
+    let (mut all_right, mut swept) = (true, 0usize);
+    for case in cases.iter_mut() {
+        let label = format!(in rt.alloc(); "{file}: {}", case.name)?;
+        all_right &= match case.sweep {
+            None => run_case(rt, label.as_str(), case, threads)?,
+            Some(sweep) => run_sweep(rt, label.as_str(), case, sweep, threads, &mut swept)?,
+        };
     }
-    println!(rt; "{file}: {} cases", cases.len())?;
+    match swept {
+        0 => println!(rt; "{file}: {} cases", cases.len())?,
+        _ => println!(rt; "{file}: {} cases, some of them in {swept} ways", cases.len())?,
+    }
     Ok(all_right)
 }
