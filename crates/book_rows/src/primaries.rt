@@ -9,8 +9,8 @@ use crate::starts::harts_of;
 use fixtures::{HALTS, RING_EACH_OTHER, TWO_LOOPS, image_of};
 use ft_types::{Count, Counts, Hart};
 use guest_image::{Image, Machine};
-use page_book::{Book, BookFault, Recording};
 use lease_rounds::{run_plain, take_step};
+use page_book::{Book, BookFault, Recording};
 use std::alloc::Global;
 use std::test::Fail;
 

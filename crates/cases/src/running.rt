@@ -154,7 +154,10 @@ pub fn run_cases<R: Print + AllocGlobal, P: Pairs>(
     }
     match swept {
         0 => println!(rt; "{file}: {} cases", cases.len())?,
-        _ => println!(rt; "{file}: {} cases, some of them in {swept} ways", cases.len())?,
+        _ => println!(rt;
+            "{file}: {} cases, some of them in {swept} ways",
+            cases.len()
+        )?,
     }
     Ok(all_right)
 }
