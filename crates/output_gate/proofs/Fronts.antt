@@ -1,13 +1,14 @@
 -- The outputs of a line that are held are its first.
-use Rattle.std.proofs.Common.{◌≡◌, ℕ, zero, suc, ◌+◌, ◌<◌, ◌≤◌, Bool, true, false, not, cond, nat_lt, nat_le, List, [], ◌∷◌, length, take, drop, get_or}
+use Rattle.std.proofs.Common.{◌≡◌, ℕ, zero, suc, ◌+◌, ◌<◌, ◌≤◌, Bool, true, false, not, cond, nat_lt, nat_le, List, [], ◌∷◌, ◌++◌, length, take, drop, get_or}
 use Rattle.std.proofs.Common.{filter, refl, ap, sym, ◌∙◌, subst, arith}
 use Rattle.std.specs.List.{AllByRecursion}
 use Rattle.std.proofs.lemmas.List.Sums.{sum_by-cons}
+use Rattle.std.proofs.Math.Seq.{take-append_seam, drop-append_seam}
 use Rattle.std.proofs.lemmas.Bool.{lt-leb, leb-false}
 use Rattle.std.proofs.lemmas.Bool.Decides.{leb_tells}
 use Rattle.ft_types.specs.Counts.{count_at}
 use Rattle.ft_types.specs.declared.output.Output.{Output}
-use Rattle.output_gate.specs.Gates.{holder_count, is_held}
+use Rattle.output_gate.specs.Gates.{holder_count, is_held, is_not_held}
 use Rattle.output_gate.specs.Orders.{ComesAfter, AreInLine}
 use Rattle.output_gate.specs.Lines.{IsFront}
 use Rattle.output_gate.proofs.Alls.{all_so}
@@ -63,3 +64,33 @@ pub is_front : (need : ℕ) (noted : List (List ℕ)) (n : ℕ) (waiting : List 
     → (n < length waiting → (d : Output) → is_held need noted (get_or waiting n d) ≡ false) → IsFront need noted n waiting
 is_front need noted n waiting within line held stop = let f = front (is_held need noted) (later_not_held need noted) n waiting line held stop in
     record { within = within; held = f.0; rest = f.1 }
+
+-- where none that passes stands behind one that does not, those that pass and those that do not are the list
+in_order : (p : Output → Bool) → ((o later : Output) → ComesAfter o later → p o ≡ false → p later ≡ false) → (xs : List Output) → AreInLine xs →
+    filter p xs ++ filter (λ o. not (p o)) xs ≡ xs
+in_order p later [] line = refl
+in_order p later (x ∷ xs) line =
+    elim (p x) as (λ b. p x ≡ b → cond b (x ∷ filter p xs) (filter p xs) ++ cond (not b) (x ∷ filter (λ o. not (p o)) xs) (filter (λ o. not (p o)) xs)
+    ≡ x ∷ xs) [
+      | true ↦ λ e. ap (λ (l : List Output). x ∷ l) (in_order p later xs line.1)
+      | false ↦ λ e.
+          let rest : AllByRecursion (λ o. p o ≡ false) xs = all_so (ComesAfter x) (λ o. p o ≡ false) (λ o after. later x o after e) xs line.0 in
+          ap (λ (l : List Output). l ++ (x ∷ filter (λ o. not (p o)) xs)) (none_kept p xs rest)
+          ∙ ap (λ (l : List Output). x ∷ l) (all_kept (λ o. not (p o)) xs (all_so (λ o. p o ≡ false) (λ o. not (p o) ≡ true) (λ o e. ap not e) xs rest))
+    ] refl
+
+-- of outputs in line, those that are held are the first
+pub held_first : (need : ℕ) (noted : List (List ℕ)) (waiting : List Output) → AreInLine waiting →
+    filter (is_held need noted) waiting ++ filter (is_not_held need noted) waiting ≡ waiting
+held_first need noted waiting line = in_order (is_held need noted) (later_not_held need noted) waiting line
+
+-- so many as these are
+pub first_are_held : (need : ℕ) (noted : List (List ℕ)) (waiting : List Output) (held : ℕ) → AreInLine waiting →
+    held ≡ length (filter (is_held need noted) waiting) →
+    (take held waiting ≡ filter (is_held need noted) waiting) × (drop held waiting ≡ filter (is_not_held need noted) waiting)
+first_are_held need noted waiting held line many =
+    let front : List Output = filter (is_held need noted) waiting in
+    let back : List Output = filter (is_not_held need noted) waiting in
+    let whole : front ++ back ≡ waiting = held_first need noted waiting line in
+    subst (λ (n : ℕ). (take n waiting ≡ front) × (drop n waiting ≡ back)) (sym many)
+    (subst (λ (l : List Output). (take (length front) l ≡ front) × (drop (length front) l ≡ back)) whole (take-append_seam front back, drop-append_seam front back))

@@ -1,15 +1,21 @@
 -- What a gate's type keeps, where its lines change.
-use Rattle.std.proofs.Common.{◌≡◌, ◌≢◌, ℕ, ◌+◌, ◌<◌, ◌≤◌, List, [], ◌∷◌, ◌++◌, length, take, drop, slice_index_or, Result, Ok, Err, OnOk, OnErr, refl, ap, sym}
-use Rattle.std.proofs.Common.{◌∙◌, subst, arith, append_assoc, take-append-drop, take-add, drop-drop, length-append}
-use Rattle.std.specs.List.{AllByRecursion}
-use Rattle.std.proofs.lemmas.List.{get_or_default}
+use Rattle.std.proofs.Common.{◌≡◌, ◌≢◌, ℕ, ◌+◌, ◌-◌, ◌<◌, ◌≤◌, List, [], ◌∷◌, ◌++◌, length, take, drop, get_or, slice_index_or, Result, Ok, Err, OnOk, OnErr, refl}
+use Rattle.std.proofs.Common.{ap, sym, inr, ◌∙◌, subst, arith, append_assoc, take-add, drop-drop, take-append-drop, length-append}
+use Rattle.std.proofs.Math.Seq.{take-append_seam, drop-append_seam}
+use Rattle.std.specs.List.{All, AllByRecursion, Contains, filter}
+use Rattle.std.specs.List.Sorted.{IsPermutation}
+use Rattle.std.proofs.lemmas.List.{get_or_default, length-drop}
+use Rattle.std.proofs.lemmas.List.Elements.{All-from_recursion, recursion_from_All, All-contains, Contains-get_or, Contains-append_left, Contains-push}
+use Rattle.std.proofs.lemmas.List.Sorted.{length_permutation, All-permutation, Contains-permutation, IsPermutation-append_right, IsPermutation-filter_both}
 use mathlib.Core.Logic.{dite}
 use native.Mathlib.Decide.{ℕ_discrete}
 use Rattle.ft_types.specs.declared.output.Output.{Output}
-use Rattle.output_gate.specs.Gates.{LineView}
-use Rattle.output_gate.specs.Orders.{ComesAfter, AreInLine, NoneIsBefore, IsLineOf}
+use Rattle.output_gate.specs.Gates.{LineView, is_held, is_not_held, after_release}
+use Rattle.output_gate.specs.Orders.{ComesAfter, AreInLine, NoneIsBefore, StepsRise, IsBefore, AreBehind, AreUpTo, IsLineOf}
 use Rattle.output_gate.specs.Lines.{IsGate}
 use Rattle.output_gate.proofs.Alls.{all_so, all_both, all_join, all_front, all_back}
+use Rattle.output_gate.proofs.Fronts.{held_first}
+use Rattle.output_gate.proofs.Orders.{rise-filter, rise_join}
 
 -- the first of those in line are in line
 pub in_line-front : (xs ys : List Output) → AreInLine (xs ++ ys) → AreInLine xs
@@ -30,44 +36,94 @@ in_line-more : (xs : List Output) (x : Output) → AreInLine xs → AllByRecursi
 in_line-more [] x line last = (tt, tt)
 in_line-more (y ∷ ys) x line last = (all_join (ComesAfter y) ys (x ∷ []) line.0 (last.0, tt), in_line-more ys x line.1 last.1)
 
--- the same outputs, of which more went out
-line_same : (hart : ℕ) (old new : LineView) → new.gone ++ new.waiting ≡ old.gone ++ old.waiting → IsLineOf hart old → IsLineOf hart new
-line_same hart old new e is = let p = subst (λ (l : List Output). AreInLine l × AllByRecursion (λ o. (o.hart ≡ hart) × (o.number < length l)) l) (sym e)
-    (is.in_line, is.of_hart) in record { in_line = p.0; of_hart = p.1 }
+abbrev AreOfHart : ℕ → List Output → Type 0
+AreOfHart hart xs = AllByRecursion (λ o. (o.hart ≡ hart) × (o.number < length xs)) xs
 
--- a line of which the first so many that wait went out has the same outputs
-pub same_offered : (n : ℕ) (gone waiting : List Output) → (gone ++ take n waiting) ++ drop n waiting ≡ gone ++ waiting
-same_offered n gone waiting = append_assoc gone (take n waiting) (drop n waiting) ∙ ap (λ (l : List Output). gone ++ l) (take-append-drop n waiting)
+-- what holds of whatever the list has
+all_had : (P : Output → Type 0) (xs : List Output) → ((o : Output) → Contains xs o → P o) → AllByRecursion P xs
+all_had P xs each = recursion_from_All P xs (λ k d below. each (get_or xs k d) (Contains-get_or xs k d below))
 
-line_advances : (hart n : ℕ) (line : LineView) → IsLineOf hart line → IsLineOf hart (record {
-  gone = line.gone ++ take n line.waiting;
-  waiting = drop n line.waiting;
-})
-line_advances hart n line is = line_same hart line (record { gone = line.gone ++ take n line.waiting; waiting = drop n line.waiting })
-    (same_offered n line.gone line.waiting) is
+-- those of the hart stand behind one another
+pub behind_all : (hart : ℕ) (xs : List Output) (x : Output) → AreOfHart hart xs → x.hart ≡ hart → x.number ≡ length xs → AreBehind x xs
+behind_all hart xs x its same number = all_so (λ o. (o.hart ≡ hart) × (o.number < length xs)) (λ o. (o.hart ≡ x.hart) × (o.number < x.number))
+    (λ o h. let below = h.1 in (h.0 ∙ sym same, omega arith)) xs its
 
--- outputs of a hart, with one more
-more_in_line : (hart : ℕ) (xs : List Output) (x : Output) → AreInLine xs → AllByRecursion (λ o. (o.hart ≡ hart) × (o.number < length xs)) xs → x.hart ≡ hart →
-    x.number ≡ length xs
-    → AllByRecursion (λ o. o.step ≤ x.step) xs → AreInLine (xs ++ x ∷ []) × AllByRecursion (λ o. (o.hart ≡ hart) × (o.number < length (xs ++ x ∷ [])))
-    (xs ++ x ∷ [])
-more_in_line hart xs x line its same number steps = let more : length (xs ++ x ∷ []) ≡ length xs + 1 = length-append xs (x ∷ []) in (
-  in_line-more xs x line (all_so (λ o. ((o.hart ≡ hart) × (o.number < length xs)) × (o.step ≤ x.step)) (λ o. ComesAfter o x)
-      (λ o h. let below = h.0.1 in record { hart = same ∙ sym h.0.0; number = omega arith; step = h.1 }) xs
-      (all_both (λ o. (o.hart ≡ hart) × (o.number < length xs)) (λ o. o.step ≤ x.step) xs its steps)),
-  all_join (λ o. (o.hart ≡ hart) × (o.number < length (xs ++ x ∷ []))) xs (x ∷ [])
-      (all_so (λ o. (o.hart ≡ hart) × (o.number < length xs)) (λ o. (o.hart ≡ hart) × (o.number < length (xs ++ x ∷ []))) (λ o h. let below = h.1 in
-      (h.0, omega arith)) xs its)
-      ((same, omega arith), tt),
-)
+of_hart-more : (hart : ℕ) (xs : List Output) (x : Output) → AreOfHart hart xs → x.hart ≡ hart → x.number ≡ length xs → AreOfHart hart (xs ++ x ∷ [])
+of_hart-more hart xs x its same number =
+    let more : length (xs ++ x ∷ []) ≡ length xs + 1 = length-append xs (x ∷ []) in
+    all_join (λ o. (o.hart ≡ hart) × (o.number < length (xs ++ x ∷ []))) xs (x ∷ [])
+    (all_so (λ o. (o.hart ≡ hart) × (o.number < length xs)) (λ o. (o.hart ≡ hart) × (o.number < length (xs ++ x ∷ [])))
+    (λ o h. let below = h.1 in (h.0, omega arith)) xs its)
+    ((same, omega arith), tt)
 
-line_grows : (hart : ℕ) (line : LineView) (x : Output) → IsLineOf hart line → x.hart ≡ hart → x.number ≡ length (line.gone ++ line.waiting) →
-    AllByRecursion (λ o. o.step ≤ x.step) (line.gone ++ line.waiting)
+-- one more of these, whose step is not earlier
+pub line-more : (xs : List Output) (x : Output) → AreInLine xs → AreBehind x xs → AreUpTo x.step xs → AreInLine (xs ++ x ∷ [])
+line-more xs x line behind steps = in_line-more xs x line
+    (all_so (λ o. ((o.hart ≡ x.hart) × (o.number < x.number)) × (o.step ≤ x.step)) (λ o. ComesAfter o x)
+    (λ o h. record { hart = sym h.0.0; number = h.0.1; step = h.1 }) xs
+    (all_both (λ o. (o.hart ≡ x.hart) × (o.number < x.number)) (λ o. o.step ≤ x.step) xs behind steps))
+
+-- where their steps rise with it, they are in line with it
+line_if_rising-more : (xs : List Output) (x : Output) → (StepsRise xs → AreInLine xs) → AreBehind x xs → StepsRise (xs ++ x ∷ []) → AreInLine (xs ++ x ∷ [])
+line_if_rising-more xs x line behind rise =
+    let numbers : All (λ o. (o.hart ≡ x.hart) × (o.number < x.number)) xs
+    = All-from_recursion (λ o. (o.hart ≡ x.hart) × (o.number < x.number)) xs behind in
+    line-more xs x (line (λ o later a b. rise o later (Contains-append_left xs (x ∷ []) o a) (Contains-append_left xs (x ∷ []) later b))) behind
+    (all_had (λ o. o.step ≤ x.step) xs
+    (λ o a. rise o x (Contains-append_left xs (x ∷ []) o a) (Contains-push xs x) (All-contains (λ o. (o.hart ≡ x.hart) × (o.number < x.number)) xs o numbers
+    a).1))
+
+line_grows : (hart : ℕ) (line : LineView) (x : Output) → IsLineOf hart line → x.hart ≡ hart → x.number ≡ length (line.gone ++ line.waiting)
     → IsLineOf hart (record { gone = line.gone; waiting = line.waiting ++ x ∷ [] })
-line_grows hart line x is same number steps =
-    let p = subst (λ (l : List Output). AreInLine l × AllByRecursion (λ o. (o.hart ≡ hart) × (o.number < length l)) l) (append_assoc line.gone line.waiting
-    (x ∷ []))
-    (more_in_line hart (line.gone ++ line.waiting) x is.in_line is.of_hart same number steps) in record { in_line = p.0; of_hart = p.1 }
+line_grows hart line x is same number =
+    let xs : List Output = line.gone ++ line.waiting in
+    let behind : AreBehind x xs = behind_all hart xs x is.of_hart same number in
+    let p : AreOfHart hart (line.gone ++ (line.waiting ++ x ∷ [])) × (StepsRise (line.gone ++ (line.waiting ++ x ∷ [])) →
+    AreInLine (line.gone ++ (line.waiting ++ x ∷ [])))
+    = subst (λ (l : List Output). AreOfHart hart l × (StepsRise l → AreInLine l)) (append_assoc line.gone line.waiting (x ∷ []))
+    (of_hart-more hart xs x is.of_hart same number, line_if_rising-more xs x is.in_line behind) in record {
+      of_hart = p.0;
+      by_number = rise_join line.waiting (x ∷ []) is.by_number (tt, tt)
+          (all_so (λ o. (o.hart ≡ x.hart) × (o.number < x.number)) (λ o. AllByRecursion (IsBefore o) (x ∷ [])) (λ o h. (inr h, tt)) line.waiting
+          (all_back (λ o. (o.hart ≡ x.hart) × (o.number < x.number)) line.gone line.waiting behind));
+      in_line = p.1;
+    }
+
+-- ---- releases
+
+-- what was offered is so still
+pub release_moves : (need : ℕ) (noted : List (List ℕ)) (line : LineView) →
+    IsPermutation (line.gone ++ line.waiting)
+    ((line.gone ++ filter (is_held need noted) line.waiting) ++ filter (is_not_held need noted) line.waiting)
+release_moves need noted line =
+    let front : List Output = filter (is_held need noted) line.waiting in
+    let back : List Output = filter (is_not_held need noted) line.waiting in
+    subst (λ (l : List Output). IsPermutation (line.gone ++ line.waiting) l) (sym (append_assoc line.gone front back))
+    (IsPermutation-append_right line.gone line.waiting (front ++ back)
+    (IsPermutation-filter_both (is_held need noted) (is_not_held need noted) (λ _. refl) line.waiting))
+
+-- in the same order, where those that wait are in line
+pub release_keeps : (need : ℕ) (noted : List (List ℕ)) (line : LineView) → AreInLine line.waiting →
+    (line.gone ++ filter (is_held need noted) line.waiting) ++ filter (is_not_held need noted) line.waiting ≡ line.gone ++ line.waiting
+release_keeps need noted line waits =
+    append_assoc line.gone (filter (is_held need noted) line.waiting) (filter (is_not_held need noted) line.waiting)
+    ∙ ap (λ (l : List Output). line.gone ++ l) (held_first need noted line.waiting waits)
+
+pub line_releases : (need : ℕ) (noted : List (List ℕ)) (hart : ℕ) (line : LineView) → IsLineOf hart line → IsLineOf hart (after_release need noted line)
+line_releases need noted hart line is =
+    let old : List Output = line.gone ++ line.waiting in
+    let new : List Output = (line.gone ++ filter (is_held need noted) line.waiting) ++ filter (is_not_held need noted) line.waiting in
+    let moves : IsPermutation old new = release_moves need noted line in
+    let P : Output → Type 0 = λ o. (o.hart ≡ hart) × (o.number < length old) in
+    record {
+      of_hart = subst (λ (n : ℕ). AllByRecursion (λ o. (o.hart ≡ hart) × (o.number < n)) new) (sym (length_permutation old new moves))
+          (recursion_from_All P new (All-permutation P old new moves (All-from_recursion P old is.of_hart)));
+      by_number = rise-filter (is_not_held need noted) line.waiting is.by_number;
+      in_line = λ rise.
+          let line_is : AreInLine old
+          = is.in_line (λ o later a b. rise o later (Contains-permutation old new o moves a) (Contains-permutation old new later moves b)) in
+          subst AreInLine (sym (release_keeps need noted line (in_line-back line.gone line.waiting line_is))) line_is;
+    }
 
 abbrev line_with : List Output → List Output → LineView
 line_with gone waiting = record { gone = gone; waiting = waiting }
@@ -80,22 +136,18 @@ line_goes_on released more offered line is =
     ∙ ap (λ (waiting : List Output). line_with (take released offered ++ take more (drop released offered)) waiting) (sym (drop-drop more released offered))
     ∙ ap (λ (l : LineView). line_with (l.gone ++ take more l.waiting) (drop more l.waiting)) is
 
--- the first outputs of each line went out
-pub gate_advances : (keepers need : ℕ) (noted : List (List ℕ)) (old new : List LineView) (held : ℕ → ℕ) → IsGate keepers need noted old → length new ≡ 8
-    → ((hart : ℕ) (other : LineView) → hart < 8 → slice_index_or new hart other
-    ≡ record {
-      gone = (slice_index_or old hart other).gone ++ take (held hart) (slice_index_or old hart other).waiting;
-      waiting = drop (held hart) (slice_index_or old hart other).waiting;
-    })
+-- of each line, what is held went out
+pub gate_releases : (keepers need : ℕ) (noted : List (List ℕ)) (old new : List LineView) → IsGate keepers need noted old → length new ≡ 8
+    → ((hart : ℕ) (other : LineView) → hart < 8 → slice_index_or new hart other ≡ after_release need noted (slice_index_or old hart other))
     → IsGate keepers need noted new
-gate_advances keepers need noted old new held gate len at = record {
+gate_releases keepers need noted old new gate len at = record {
   few = gate.few;
   some = gate.some;
   enough = gate.enough;
   rows = gate.rows;
   wide = gate.wide;
   harts = len;
-  each = λ hart other below. subst (IsLineOf hart) (sym (at hart other below)) (line_advances hart (held hart) (slice_index_or old hart other)
+  each = λ hart other below. subst (IsLineOf hart) (sym (at hart other below)) (line_releases need noted hart (slice_index_or old hart other)
       (gate.each hart other below));
 }
 
@@ -109,9 +161,8 @@ gate_grows : (keepers need : ℕ) (noted : List (List ℕ)) (old new : List Line
     })
     → ((hart : ℕ) (d : LineView) → hart ≢ x.hart → slice_index_or new hart d ≡ slice_index_or old hart d)
     → x.number ≡ length ((slice_index_or old x.hart other).gone ++ (slice_index_or old x.hart other).waiting)
-    → AllByRecursion (λ o. o.step ≤ x.step) ((slice_index_or old x.hart other).gone ++ (slice_index_or old x.hart other).waiting)
     → IsGate keepers need noted new
-gate_grows keepers need noted old new x other gate len below here elsewhere number steps = record {
+gate_grows keepers need noted old new x other gate len below here elsewhere number = record {
   few = gate.few;
   some = gate.some;
   enough = gate.enough;
@@ -122,8 +173,7 @@ gate_grows keepers need noted old new x other gate len below here elsewhere numb
       (λ e. subst (λ (h : ℕ). IsLineOf h (slice_index_or new h d)) (sym e) (subst (IsLineOf x.hart) (sym (here d))
       (let q : (P : LineView → Type 0) → P (slice_index_or old x.hart other) → P (slice_index_or old x.hart d) = λ P. subst P (get_or_default old x.hart other d
       (let eight = gate.harts in omega arith)) in
-      line_grows x.hart (slice_index_or old x.hart d) x (gate.each x.hart d below) refl (q (λ l. x.number ≡ length (l.gone ++ l.waiting)) number)
-      (q (λ l. AllByRecursion (λ o. o.step ≤ x.step) (l.gone ++ l.waiting)) steps))))
+      line_grows x.hart (slice_index_or old x.hart d) x (gate.each x.hart d below) refl (q (λ l. x.number ≡ length (l.gone ++ l.waiting)) number))))
       (λ ne. subst (IsLineOf hart) (sym (elsewhere hart d ne)) (gate.each hart d in_harts));
 }
 
@@ -137,8 +187,85 @@ pub gate_offered : {X Y : Type 0} (r : Result X Y) (keepers need : ℕ) (noted :
     → ((hart : ℕ) (d : LineView) → hart ≢ x.hart → slice_index_or new hart d ≡ slice_index_or old hart d)
     → OnErr r (new ≡ old)
     → x.number ≡ length ((slice_index_or old x.hart other).gone ++ (slice_index_or old x.hart other).waiting)
-    → AllByRecursion (λ o. o.step ≤ x.step) ((slice_index_or old x.hart other).gone ++ (slice_index_or old x.hart other).waiting)
     → IsGate keepers need noted new
-gate_offered (Ok v) keepers need noted old new x other gate len below here elsewhere same number steps = gate_grows keepers need noted old new x other gate len
-    below here elsewhere number steps
-gate_offered (Err e) keepers need noted old new x other gate len below here elsewhere same number steps = subst (IsGate keepers need noted) (sym same) gate
+gate_offered (Ok v) keepers need noted old new x other gate len below here elsewhere same number = gate_grows keepers need noted old new x other gate len
+    below here elsewhere number
+gate_offered (Err e) keepers need noted old new x other gate len below here elsewhere same number = subst (IsGate keepers need noted) (sym same) gate
+
+-- ---- a line of which so many are held
+
+-- where those that wait are in line, those that are held are the first
+pub brought : (need : ℕ) (noted : List (List ℕ)) (line : LineView) → AreInLine line.waiting →
+    line ≡ line_with line.gone (filter (is_held need noted) line.waiting ++ filter (is_not_held need noted) line.waiting)
+brought need noted line waits = ap (line_with line.gone) (sym (held_first need noted line.waiting waits))
+
+-- the first so many went out, once those that are held were brought forward
+pub line_released : (need : ℕ) (noted : List (List ℕ)) (released held : ℕ) (offered : List Output) (line brought : LineView) →
+    line_with (take released offered) (drop released offered) ≡ brought →
+    brought ≡ line_with line.gone (filter (is_held need noted) line.waiting ++ filter (is_not_held need noted) line.waiting) →
+    held ≡ length (filter (is_held need noted) line.waiting) →
+    line_with (take (released + held) offered) (drop (released + held) offered) ≡ after_release need noted line
+line_released need noted released held offered line brought view is many =
+    let front : List Output = filter (is_held need noted) line.waiting in
+    let back : List Output = filter (is_not_held need noted) line.waiting in
+    line_goes_on released held offered brought view
+    ∙ ap (λ (l : LineView). line_with (l.gone ++ take held l.waiting) (drop held l.waiting)) is
+    ∙ ap (λ n. line_with (line.gone ++ take n (front ++ back)) (drop n (front ++ back))) many
+    ∙ ap (λ (l : List Output). line_with (line.gone ++ l) (drop (length front) (front ++ back))) (take-append_seam front back)
+    ∙ ap (λ (l : List Output). line_with (line.gone ++ front) l) (drop-append_seam front back)
+
+-- so many wait
+pub released_within : (need : ℕ) (noted : List (List ℕ)) (released held : ℕ) (offered : List Output) (line brought : LineView) →
+    released ≤ length offered → line_with (take released offered) (drop released offered) ≡ brought →
+    brought ≡ line_with line.gone (filter (is_held need noted) line.waiting ++ filter (is_not_held need noted) line.waiting) →
+    held ≡ length (filter (is_held need noted) line.waiting) → released + held ≤ length offered
+released_within need noted released held offered line brought within view is many =
+    let front : List Output = filter (is_held need noted) line.waiting in
+    let back : List Output = filter (is_not_held need noted) line.waiting in
+    let long : length (drop released offered) ≡ length (front ++ back) = ap (λ (l : LineView). length l.waiting) (view ∙ is) in
+    let both : length (front ++ back) ≡ length front + length back = length-append front back in
+    let rest : length (drop released offered) ≡ length offered - released = length-drop released offered in
+    omega arith
+
+-- what then waits is in line, where what waited was
+pub line_still : (released held : ℕ) (offered : List Output) → AreInLine (drop released offered) → AreInLine (drop (released + held) offered)
+line_still released held offered line =
+    let waiting : List Output = drop released offered in
+    subst AreInLine (drop-drop held released offered)
+    (in_line-back (take held waiting) (drop held waiting) (subst AreInLine (sym (take-append-drop held waiting)) line))
+
+-- ---- what the calls of a gate ask
+
+abbrev no_line : LineView
+no_line = record { gone = []; waiting = [] }
+
+-- the next output of a hart is behind those of its hart
+pub next_is_behind : (keepers need : ℕ) (noted : List (List ℕ)) (lines : List LineView) (x : Output) → IsGate keepers need noted lines →
+    x.number ≡ length ((slice_index_or lines x.hart no_line).gone ++ (slice_index_or lines x.hart no_line).waiting) → x.hart < 8 → (other : LineView) →
+    AreBehind x (slice_index_or lines x.hart other).waiting
+next_is_behind keepers need noted lines x gate number below other =
+    let line : LineView = slice_index_or lines x.hart other in
+    let same : slice_index_or lines x.hart no_line ≡ line = get_or_default lines x.hart no_line other (let eight = gate.harts in omega arith) in
+    all_back (λ o. (o.hart ≡ x.hart) × (o.number < x.number)) line.gone line.waiting
+    (behind_all x.hart (line.gone ++ line.waiting) x (gate.each x.hart other below).of_hart refl
+    (subst (λ (l : LineView). x.number ≡ length (l.gone ++ l.waiting)) same number))
+
+abbrev AreReleased : ℕ → List (List ℕ) → List LineView → List LineView → Type 0
+AreReleased need noted old new =
+    (hart : ℕ) (other : LineView) → hart < 8 → slice_index_or new hart other ≡ after_release need noted (slice_index_or old hart other)
+
+pub offered_moves : (need : ℕ) (noted : List (List ℕ)) (old new : List LineView) → AreReleased need noted old new → (hart : ℕ) → hart < 8 →
+    IsPermutation ((slice_index_or old hart no_line).gone ++ (slice_index_or old hart no_line).waiting)
+    ((slice_index_or new hart no_line).gone ++ (slice_index_or new hart no_line).waiting)
+offered_moves need noted old new at hart below =
+    let line : LineView = slice_index_or old hart no_line in
+    subst (λ (l : LineView). IsPermutation (line.gone ++ line.waiting) (l.gone ++ l.waiting)) (sym (at hart no_line below)) (release_moves need noted line)
+
+pub offered_stays : (keepers need : ℕ) (noted : List (List ℕ)) (old new : List LineView) → IsGate keepers need noted old → AreReleased need noted old new →
+    (hart : ℕ) → hart < 8 → StepsRise ((slice_index_or old hart no_line).gone ++ (slice_index_or old hart no_line).waiting) →
+    (slice_index_or new hart no_line).gone ++ (slice_index_or new hart no_line).waiting
+    ≡ (slice_index_or old hart no_line).gone ++ (slice_index_or old hart no_line).waiting
+offered_stays keepers need noted old new gate at hart below rise =
+    let line : LineView = slice_index_or old hart no_line in
+    ap (λ (l : LineView). l.gone ++ l.waiting) (at hart no_line below)
+    ∙ release_keeps need noted line (in_line-back line.gone line.waiting ((gate.each hart no_line below).in_line rise))

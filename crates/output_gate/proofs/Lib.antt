@@ -3,5 +3,6 @@ pub mod Fronts
 pub mod Gates
 pub mod Insides
 pub mod Members
+mod Moves
 pub mod NotedRows
 pub mod Orders

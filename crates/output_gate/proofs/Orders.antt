@@ -7,10 +7,9 @@ use mathlib.Core.Logic.{dite}
 use native.Mathlib.Decide.{dec_lt}
 use Rattle.ft_types.specs.declared.output.Output.{Output}
 use Rattle.output_gate.specs.Gates.{LineView, GateView, line_of, waiting_of, holder_count, is_held, is_not_held, after_release, held_outputs}
-use Rattle.output_gate.specs.Orders.{ComesAfter, AreInLine, IsLineOf, IsBefore, RiseByHart, AreLaterThan, AreEarlier}
+use Rattle.output_gate.specs.Orders.{IsLineOf, IsBefore, RiseByHart, AreLaterThan, AreEarlier}
 use Rattle.output_gate.proofs.Alls.{all_so, all_join, all_back, all_filter, kept_pass}
 use Rattle.output_gate.proofs.Fronts.{holder_count-earlier}
-use Rattle.output_gate.proofs.Gates.{in_line-back}
 use Rattle.output_gate.proofs.Insides.{all_held}
 
 -- both clauses of an Ok
@@ -44,19 +43,15 @@ earlier need noted old new given is lines = λ hart below.
     (kept_pass (is_not_held need noted) (waiting_of old hart)))
     (held_outputs need noted old.lines) (all_held need noted old.lines)))
 
-passed : (x : Output) (rest : List Output) (b : Bool) → AllByRecursion (ComesAfter x) rest → AreInLine rest → AreInLine (cond b (x ∷ rest) rest)
-passed x rest true after line = (after, line)
-passed x rest false after line = line
+passed : (x : Output) (rest : List Output) (b : Bool) → AllByRecursion (IsBefore x) rest → RiseByHart rest → RiseByHart (cond b (x ∷ rest) rest)
+passed x rest true before rise = (before, rise)
+passed x rest false before rise = rise
 
-in_line-filter : (p : Output → Bool) (xs : List Output) → AreInLine xs → AreInLine (filter p xs)
-in_line-filter p [] line = tt
-in_line-filter p (x ∷ xs) line = passed x (filter p xs) (p x) (all_filter (ComesAfter x) p xs line.0) (in_line-filter p xs line.1)
+pub rise-filter : (p : Output → Bool) (xs : List Output) → RiseByHart xs → RiseByHart (filter p xs)
+rise-filter p [] rise = tt
+rise-filter p (x ∷ xs) rise = passed x (filter p xs) (p x) (all_filter (IsBefore x) p xs rise.0) (rise-filter p xs rise.1)
 
-line_rises : (xs : List Output) → AreInLine xs → RiseByHart xs
-line_rises [] line = tt
-line_rises (x ∷ xs) line = (all_so (ComesAfter x) (IsBefore x) (λ o after. inr (sym after.hart, after.number)) xs line.0, line_rises xs line.1)
-
-rise_join : (xs ys : List Output) → RiseByHart xs → RiseByHart ys → AllByRecursion (λ x. AllByRecursion (IsBefore x) ys) xs → RiseByHart (xs ++ ys)
+pub rise_join : (xs ys : List Output) → RiseByHart xs → RiseByHart ys → AllByRecursion (λ x. AllByRecursion (IsBefore x) ys) xs → RiseByHart (xs ++ ys)
 rise_join [] ys a b before = b
 rise_join (x ∷ xs) ys a b before = (all_join (IsBefore x) xs ys a.0 before.0, rise_join xs ys a.1 b before.1)
 
@@ -92,14 +87,14 @@ held_rise : (need : ℕ) (noted : List (List ℕ)) (n : ℕ) (lines : List LineV
 held_rise need noted n [] each = tt
 held_rise need noted n (line ∷ lines) each = let p : Output → Bool = is_held need noted in
     rise_join (filter p line.waiting) (held_outputs need noted lines)
-    (line_rises (filter p line.waiting) (in_line-filter p line.waiting (in_line-back line.gone line.waiting each.0.in_line)))
+    (rise-filter p line.waiting each.0.by_number)
     (held_rise need noted (suc n) lines each.1)
     (all_so (λ o. o.hart ≡ n) (λ o. AllByRecursion (IsBefore o) (held_outputs need noted lines))
     (λ o e. all_so (λ later. suc n ≤ later.hart) (IsBefore o) (λ later le. inl (omega arith)) (held_outputs need noted lines)
     (harts_from need noted (suc n) lines each.1))
     (filter p line.waiting) (its_hart p n line each.0))
 
--- what is given of lines in line rises by hart, then number
+-- what is given rises by hart, then number
 pub given_rises : (need : ℕ) (noted : List (List ℕ)) (lines : List LineView) (given : List Output) → length lines ≡ 8 → ((hart : ℕ) (other : LineView) →
     hart < 8 → IsLineOf hart (slice_index_or lines hart other))
     → given ≡ held_outputs need noted lines → RiseByHart given

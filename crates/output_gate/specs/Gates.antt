@@ -4,7 +4,7 @@ use Rattle.std.specs.List.{count_by, filter, flat_map, sum_by}
 use Rattle.ft_types.specs.Counts.{count_at}
 use Rattle.ft_types.specs.declared.output.Output.{Output}
 
--- the outputs that were offered of one hart, in that order: those that went out, and behind them those that wait
+-- the outputs that were offered of one hart: those that went out, in that order, and those that wait, in the order of their numbers
 pub record LineView : Type 0 where
   pub gone : List Output
   pub waiting : List Output

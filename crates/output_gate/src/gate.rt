@@ -1,14 +1,13 @@
 //! The gate.
 
-ghost use Rattle.std.specs.Prelude.{◌≡◌, ◌≢◌, ◌↔◌, ◌⊎◌, ℕ, ◌+◌, ◌<◌, ◌≤◌, ◌++◌, ◌∷◌, [], max, take, drop, count_by, length, slice_index, slice_index_or, IfOk};
+ghost use Rattle.std.specs.Prelude.{◌≡◌, ◌≢◌, ◌↔◌, ◌⊎◌, ℕ, ◌+◌, ◌<◌, ◌≤◌, ◌++◌, ◌∷◌, [], max, filter, count_by, length, slice_index, slice_index_or, IfOk};
 ghost use Rattle.std.specs.Prelude.{OnOk, OnErr};
-ghost use Rattle.std.specs.List.{AllByRecursion};
+ghost use Rattle.std.specs.List.Sorted.{IsPermutation};
 ghost use Rattle.ft_types.specs.declared.names.TheConstants.{HART_LIMIT, KEEPER_LIMIT};
 ghost use Rattle.ft_types.specs.Sets.{IsMember};
 ghost use Rattle.output_gate.specs.Gates.{LineView, noted_at, line_of, gone_of, waiting_of, offered_of, holder_count, after_release, held_outputs};
-ghost use Rattle.output_gate.specs.Gates.{waiting_count};
-ghost use Rattle.output_gate.specs.Orders.{AreInLine, RiseByHart, AreEarlier, IsLineOf};
-ghost use Rattle.output_gate.specs.Lines.{IsFront};
+ghost use Rattle.output_gate.specs.Gates.{is_held, waiting_count};
+ghost use Rattle.output_gate.specs.Orders.{StepsRise, RiseByHart, AreEarlier, AreBehind, IsLineOf};
 
 use crate::line::Line;
 use crate::notes::keepers_counted;
@@ -59,10 +58,9 @@ fn give_all(
     lines: &[Line; HART_ROW],
     given: &mut Vec<Output>,
 ) -> Result<[usize; HART_ROW], Memory>
-    requires { (hart : ℕ) (other : LineView) → hart < HART_LIMIT → AreInLine (slice_index_or lines.now hart other).waiting }
     ensures given { OnOk result (given.new.items ≡ given.old.items ++ held_outputs need noted.now lines.now) }
-    ensures front { IfOk result (λ held. (hart : ℕ) (other : LineView) → hart < HART_LIMIT →
-        IsFront need noted.now (slice_index held hart) (slice_index_or lines.now hart other).waiting) }
+    ensures number { IfOk result (λ held. (hart : ℕ) (other : LineView) → hart < HART_LIMIT →
+        slice_index held hart ≡ length (filter (is_held need noted.now) (slice_index_or lines.now hart other).waiting)) }
 {
     let mut held = [0usize; HART_ROW];
     for hart in 0..8usize {
@@ -71,23 +69,27 @@ fn give_all(
     Ok(held)
 }
 
-/// The first outputs of each hart wait no more: they went out.
-fn advance_all(lines: &mut [Line; HART_ROW], held: [usize; HART_ROW])
-    requires { (hart : ℕ) (other : LineView) → hart < HART_LIMIT → slice_index held hart ≤ length (slice_index_or lines.old hart other).waiting }
+/// The outputs that are held, of which there are so many of each hart, wait no more: they went out.
+fn advance_all(
+    need: u8,
+    noted: &[[Count; HART_ROW]; KEEPER_ROW],
+    lines: &mut [Line; HART_ROW],
+    held: [usize; HART_ROW],
+)
+    requires { (hart : ℕ) (other : LineView) → hart < HART_LIMIT →
+        slice_index held hart ≡ length (filter (is_held need noted.now) (slice_index_or lines.old hart other).waiting) }
     ensures harts { length lines.new ≡ HART_ROW }
-    ensures each { (hart : ℕ) (other : LineView) → hart < HART_LIMIT → slice_index_or lines.new hart other
-        ≡ record {
-          gone = (slice_index_or lines.old hart other).gone ++ take (slice_index held hart) (slice_index_or lines.old hart other).waiting;
-          waiting = drop (slice_index held hart) (slice_index_or lines.old hart other).waiting;
-        } }
+    ensures each { (hart : ℕ) (other : LineView) → hart < HART_LIMIT →
+        slice_index_or lines.new hart other ≡ after_release need noted.now (slice_index_or lines.old hart other) }
 {
     for hart in 0..8usize {
-        lines[hart].advance(held[hart]);
+        lines[hart].advance(need, noted, held[hart]);
     }
 }
 
 /// Puts an output behind the others of its hart.
 fn offer_in(lines: &mut [Line; HART_ROW], output: Output) -> Result<(), Memory>
+    requires { output.hart < HART_LIMIT → (other : LineView) → AreBehind output (slice_index_or lines.old output.hart other).waiting }
     ensures hart { output.hart < HART_LIMIT }
     ensures harts { length lines.new ≡ HART_ROW }
     ensures line { OnOk result ((other : LineView) → slice_index_or lines.new output.hart other
@@ -124,10 +126,10 @@ impl Gate {
         }
     }
 
-    /// Takes a hart's next output, which isn't of an earlier step than those before it.
+    /// Takes a hart's next output. While one waits whose step is later than that of one behind it, a release goes over all that wait
+    /// of this hart.
     pub fn offer(&mut self, output: Output) -> Result<(), Memory>
         requires number { output.number ≡ length (offered_of self.old output.hart) }
-        requires steps { AllByRecursion (λ o. o.step ≤ output.step) (offered_of self.old output.hart) }
         ensures line { OnOk result (line_of self.new output.hart
             ≡ record { gone = gone_of self.old output.hart; waiting = waiting_of self.old output.hart ++ output ∷ [] }) }
         ensures others { (hart : ℕ) → hart ≢ output.hart → line_of self.new hart ≡ line_of self.old hart }
@@ -185,13 +187,15 @@ impl Gate {
         ensures given { IfOk result (λ given. given.items ≡ held_outputs self.old.need self.old.noted self.old.lines) }
         ensures rising { IfOk result (λ given. RiseByHart given.items) }
         ensures lines { OnOk result ((hart : ℕ) → hart < HART_LIMIT → line_of self.new hart ≡ after_release self.old.need self.old.noted (line_of self.old hart)) }
-        ensures offered { OnOk result ((hart : ℕ) → hart < HART_LIMIT → offered_of self.new hart ≡ offered_of self.old hart) }
+        ensures same { OnOk result ((hart : ℕ) → hart < HART_LIMIT → IsPermutation (offered_of self.old hart) (offered_of self.new hart)) }
+        ensures offered { OnOk result ((hart : ℕ) → hart < HART_LIMIT → StepsRise (offered_of self.old hart) →
+            offered_of self.new hart ≡ offered_of self.old hart) }
         ensures rest { self.new ≡ record self.old { lines = self.new.lines } }
         ensures err { OnErr result (self.new ≡ self.old) }
     {
         let mut given = Vec::new(alloc);
         let held = give_all(self.need, &self.noted, &self.lines, &mut given)?;
-        advance_all(&mut self.lines, held);
+        advance_all(self.need, &self.noted, &mut self.lines, held);
         Ok(given)
     }
 
@@ -200,7 +204,9 @@ impl Gate {
         ensures given { IfOk result (λ given. given.items ≡ held_outputs self.old.need self.old.noted self.old.lines) }
         ensures rising { IfOk result (λ given. RiseByHart given.items) }
         ensures lines { OnOk result ((hart : ℕ) → hart < HART_LIMIT → line_of self.new hart ≡ after_release self.old.need self.old.noted (line_of self.old hart)) }
-        ensures offered { OnOk result ((hart : ℕ) → hart < HART_LIMIT → offered_of self.new hart ≡ offered_of self.old hart) }
+        ensures same { OnOk result ((hart : ℕ) → hart < HART_LIMIT → IsPermutation (offered_of self.old hart) (offered_of self.new hart)) }
+        ensures offered { OnOk result ((hart : ℕ) → hart < HART_LIMIT → StepsRise (offered_of self.old hart) →
+            offered_of self.new hart ≡ offered_of self.old hart) }
         // What still waits has a later step than what is given of its hart.
         ensures earlier { IfOk result (λ given. AreEarlier given.items self.new) }
         ensures rest { self.new ≡ record self.old { lines = self.new.lines } }

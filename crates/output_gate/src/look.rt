@@ -2,12 +2,13 @@
 
 ghost use Rattle.std.specs.Prelude.{◌≡◌, ◌≢◌, ◌⊎◌, ℕ, ◌<◌, ◌≤◌, IfOk, OnOk, OnErr};
 ghost use Rattle.std.specs.List.{AllByRecursion};
+ghost use Rattle.std.specs.List.Sorted.{IsPermutation};
 ghost use Rattle.ft_types.specs.declared.names.TheConstants.{HART_LIMIT};
 ghost use Rattle.ack_core.specs.Lists.{StartsWith};
 ghost use Rattle.ack_core.specs.Seats.{term_of, harts_of, keepers_of, heard, seen, IsGateOf};
 ghost use Rattle.output_gate.specs.Gates.{noted_at, line_of, offered_of, after_release, held_outputs};
 ghost use Rattle.output_gate.specs.Looks.{IsSeen, IsInside};
-ghost use Rattle.output_gate.specs.Orders.{RiseByHart, AreEarlier};
+ghost use Rattle.output_gate.specs.Orders.{StepsRise, RiseByHart, AreEarlier};
 
 use crate::gate::Gate;
 use ack_core::{Board, GateSeat};
@@ -73,7 +74,9 @@ impl Gate {
         ensures inside { IfOk result (λ given. AllByRecursion (IsInside board.now self.new seat.new) given.items) }
         ensures rising { IfOk result (λ given. RiseByHart given.items) }
         ensures lines { OnOk result ((hart : ℕ) → hart < HART_LIMIT → line_of self.new hart ≡ after_release self.new.need self.new.noted (line_of self.old hart)) }
-        ensures offered { OnOk result ((hart : ℕ) → hart < HART_LIMIT → offered_of self.new hart ≡ offered_of self.old hart) }
+        ensures same { OnOk result ((hart : ℕ) → hart < HART_LIMIT → IsPermutation (offered_of self.old hart) (offered_of self.new hart)) }
+        ensures offered { OnOk result ((hart : ℕ) → hart < HART_LIMIT → StepsRise (offered_of self.old hart) →
+            offered_of self.new hart ≡ offered_of self.old hart) }
         ensures earlier { IfOk result (λ given. AreEarlier given.items self.new) }
         ensures rest { self.new ≡ record self.old { noted = self.new.noted; lines = self.new.lines } }
         ensures err { OnErr result (self.new.lines ≡ self.old.lines) }

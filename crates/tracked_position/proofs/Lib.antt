@@ -7,3 +7,4 @@ mod Growth
 mod Positions
 mod Legs
 mod Keeping
+mod Clashes

@@ -1,13 +1,14 @@
 -- What is kept of a store whose position is kept up, and what a frame does to it.
-use Rattle.std.specs.Prelude.{◌≡◌, ◌≢◌, ◌≤◌, List, length, Result, Ok, IfOk, OnErr}
+use Rattle.std.specs.Prelude.{◌≡◌, ◌≢◌, ◌≤◌, ◌⊎◌, List, length, Result, Ok, IfOk, OnErr}
 use Rattle.ft_types.specs.Counts.{count_at}
 use Rattle.ft_types.specs.declared.errors.Memory.{Memory}
-use Rattle.fragment_codec.specs.Rules.{OpeningParts}
+use Rattle.fragment_codec.specs.Rules.{OpeningParts, FragmentParts}
 use Rattle.fragment_codec.specs.declared.frame.Frame.{Frame}
+use Rattle.fragment_codec.specs.declared.frame.Frame.TheVariants.{Log, Opening}
 use Rattle.log_join.specs.declared.answers.Put.{Put}
-use Rattle.log_join.specs.declared.answers.Put.TheVariants.{Same, OtherGuest}
-use Rattle.log_join.specs.Cells.{One}
-use Rattle.log_join.specs.Stores.{StoreView, opening_at, IsStore, IsJoin, alone}
+use Rattle.log_join.specs.declared.answers.Put.TheVariants.{New, Same, Clash as Clashes, OtherGuest}
+use Rattle.log_join.specs.Cells.{One, Clash}
+use Rattle.log_join.specs.Stores.{StoreView, opening_at, fragment_at, IsStore, IsJoin, alone}
 use Rattle.log_join.specs.Answers.{answer_to}
 use Rattle.closed_cut.specs.Position.{base_of, IsPosition}
 use Rattle.ft_types.specs.declared.position.Position.{Position}
@@ -20,6 +21,20 @@ pub record IsTracked (store : StoreView) (p : Position) (cursors : List Cursor) 
   pub position : IsPosition store p
   pub harts : length p.counts ≡ store.guest.harts
   pub over : (o : OpeningParts) → opening_at store p.term ≡ One o → AreOver store p.term (base_of o) (count_at p.counts) cursors
+
+-- unequal contents came at the frame's key
+abbrev pub IsClashAt : StoreView → Frame → Type 0
+IsClashAt store (Opening o) = opening_at store o.term ≡ Clash
+IsClashAt store (Log f) = fragment_at store f.key ≡ Clash
+
+-- one content came at the frame's key
+abbrev pub IsOneAt : StoreView → Frame → Type 0
+IsOneAt store (Opening o) = (there : OpeningParts) × (opening_at store o.term ≡ One there)
+IsOneAt store (Log f) = (there : FragmentParts) × (fragment_at store f.key ≡ One there)
+
+-- the store would change with the frame: nothing came at its key yet, or one other content, which then clashes
+abbrev pub MayGrow : StoreView → Frame → Type 0
+MayGrow store frame = (answer_to store frame ≡ New) ⊎ ((answer_to store frame ≡ Clashes) × IsOneAt store frame)
 
 -- a frame came
 pub record Takes (old : StoreView) (frame : Frame) (result : Result Put Memory) (new : StoreView) : Type 0 where

@@ -1,9 +1,10 @@
 //! What a store will answer to a frame, told before it comes.
 
-ghost use Rattle.std.specs.Prelude.{◌≡◌};
+ghost use Rattle.std.specs.Prelude.{◌≡◌, ◌↔◌, IsTrue};
 ghost use Rattle.log_join.specs.Tests.{same_guest, same_opening, same_fragment};
 ghost use Rattle.log_join.specs.Answers.{answer_to};
 ghost use Rattle.fragment_codec.specs.declared.frame.Frame.{Frame as frame_of_specs};
+ghost use Rattle.tracked_position.specs.Keeping.{IsClashAt};
 
 use fragment_codec::{Fragment, Frame, Opening};
 use ft_types::Guest;
@@ -67,5 +68,15 @@ pub(crate) fn answer_of(store: &Store, frame: &Frame) -> Put
     match frame {
         Frame::Log(fragment) => answer_to_fragment(store, fragment),
         Frame::Opening(opening) => answer_to_opening(store, opening),
+    }
+}
+
+/// Whether unequal contents came at the frame's key. No frame changes that.
+pub(crate) fn is_clash_at(store: &Store, frame: &Frame) -> bool
+    ensures { IsTrue result ↔ IsClashAt store.now frame.now }
+{
+    match frame {
+        Frame::Log(fragment) => matches!(store.get(fragment.key()), Found::Clash),
+        Frame::Opening(opening) => matches!(store.opening(opening.term()), Found::Clash),
     }
 }

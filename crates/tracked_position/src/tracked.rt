@@ -5,9 +5,9 @@ ghost use Rattle.fragment_codec.specs.declared.frame.Frame.{Frame as frame_of_sp
 ghost use Rattle.log_join.specs.Stores.{IsJoin, nothing, alone};
 ghost use Rattle.log_join.specs.Answers.{answer_to};
 ghost use Rattle.closed_cut.specs.Position.{IsPosition};
-ghost use Rattle.tracked_position.specs.Keeping.{Takes};
+ghost use Rattle.tracked_position.specs.Keeping.{Takes, IsOneAt, MayGrow};
 
-use crate::answering::{answer_of, is_same_guest};
+use crate::answering::{answer_of, is_clash_at, is_same_guest};
 use crate::starting::start;
 use crate::taking::{take_elsewhere, take_here};
 use crate::walk::{Ahead, Cursor};
@@ -133,6 +133,18 @@ impl Tracked {
         }
     }
 
+    /// Takes a frame that clashes. Where what came at its key does so already, nothing changes.
+    fn put_clashing(&mut self, alloc: Global, frame: Frame) -> Result<Put, Memory>
+        requires { answer_to self.old frame ≡ Put.Clash }
+        ensures takes { Takes self.old frame result self.new }
+        ensures memory { OnErr result (IsOneAt self.old frame) }
+    {
+        if is_clash_at(&self.store, &frame) {
+            return self.store.put(frame);
+        }
+        self.put_anew(alloc, frame)
+    }
+
     /// Takes a frame.
     pub fn put(&mut self, alloc: Global, frame: Frame) -> Result<Put, Memory>
         // The answer is as its key stood, and OtherGuest first.
@@ -144,14 +156,14 @@ impl Tracked {
         ensures other_guest { result ≡ Ok Put.OtherGuest → self.new ≡ self.old }
 
         // Memory is refused only where the store would change, and then nothing changes.
-        ensures memory { OnErr result (answer_to self.old frame ≢ Put.Same) }
-        ensures own_guest { OnErr result (answer_to self.old frame ≢ Put.OtherGuest) }
+        ensures memory { OnErr result (MayGrow self.old frame) }
         ensures err { OnErr result (self.new ≡ self.old) }
     {
         match (answer_of(&self.store, &frame), frame) {
             (Put::New, Frame::Log(fragment)) => self.put_new(alloc, fragment),
+            (Put::New, frame) => self.put_anew(alloc, frame),
             (Put::Same | Put::OtherGuest, frame) => self.store.put(frame),
-            (_, frame) => self.put_anew(alloc, frame),
+            (Put::Clash, frame) => self.put_clashing(alloc, frame),
         }
     }
 

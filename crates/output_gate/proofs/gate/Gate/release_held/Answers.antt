@@ -1,19 +1,33 @@
-use Rattle.std.proofs.Common.{ℕ, List, ◌++◌, ◌∙◌, ap, slice_index, slice_index_or}
+use Rattle.std.proofs.Common.{◌≡◌, ◌<◌, ℕ, List, [], ◌++◌, ◌∙◌, ap, subst, slice_index_or}
+use Rattle.std.specs.List.Sorted.{IsPermutation}
 use Rattle.ft_types.specs.declared.output.Output.{Output}
-use Rattle.output_gate.specs.Gates.{LineView, held_outputs}
-use Rattle.output_gate.proofs.Gates.{gate_advances, in_line-back}
+use Rattle.output_gate.specs.Gates.{LineView, GateView, offered_of, held_outputs}
+use Rattle.output_gate.specs.Orders.{StepsRise}
+use Rattle.output_gate.proofs.Gates.{gate_releases, offered_moves, offered_stays}
 use Rattle.output_gate.proofs.Orders.{given_rises}
 use Rattle.output_gate.proofs.gate.Gate.release_held.Goals as goal
 
-pub give_all-requires : goal.give_all-requires
-give_all-requires c = λ hart other below. let line : LineView = slice_index_or c.self.inside.lines hart other in in_line-back line.gone line.waiting
-    (c.self.invariant.each hart other below).in_line
-
 pub invariant_of-self : goal.invariant_of-self
-invariant_of-self c = gate_advances c.self.inside.keepers c.self.inside.need c.self.inside.noted c.self.inside.lines c.advance_all.new.lines
-    (λ (h : ℕ). slice_index c.in_ok-held.held h) c.self.invariant c.advance_all.ensures.harts c.advance_all.ensures.each
+invariant_of-self c = gate_releases c.self.inside.keepers c.self.inside.need c.self.inside.noted c.self.inside.lines c.advance_all.new.lines
+    c.self.invariant c.advance_all.ensures.harts c.advance_all.ensures.each
 
 pub returns-clause-rising : goal.returns-clause-rising
 returns-clause-rising c = given_rises c.self.inside.need c.self.inside.noted c.self.inside.lines _ c.self.invariant.harts c.self.invariant.each
     (c.in_ok-held.ensures.given ∙ ap (λ (l : List Output). l ++ held_outputs c.self.inside.need c.self.inside.noted c.self.inside.lines)
     c.new-given.ensures.items)
+
+abbrev now_offered : List LineView → ℕ → List Output
+now_offered lines hart =
+    (slice_index_or lines hart (record { gone = []; waiting = [] })).gone ++ (slice_index_or lines hart (record { gone = []; waiting = [] })).waiting
+
+pub returns-clause-same : goal.returns-clause-same
+returns-clause-same c =
+    subst (λ (v : GateView). (hart : ℕ) → hart < 8 → IsPermutation (offered_of v hart) (now_offered c.advance_all.new.lines hart)) c.self.view_is
+    (offered_moves c.self.inside.need c.self.inside.noted c.self.inside.lines c.advance_all.new.lines c.advance_all.ensures.each)
+
+pub returns-clause-offered : goal.returns-clause-offered
+returns-clause-offered c =
+    subst (λ (v : GateView). (hart : ℕ) → hart < 8 → StepsRise (offered_of v hart) → now_offered c.advance_all.new.lines hart ≡ offered_of v hart)
+    c.self.view_is
+    (offered_stays c.self.inside.keepers c.self.inside.need c.self.inside.noted c.self.inside.lines c.advance_all.new.lines c.self.invariant
+    c.advance_all.ensures.each)
