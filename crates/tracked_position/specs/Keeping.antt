@@ -1,5 +1,5 @@
 -- What is kept of a store whose position is kept up, and what a frame does to it.
-use Rattle.std.specs.Prelude.{◌≡◌, ◌≢◌, ◌≤◌, ◌⊎◌, List, length, Result, Ok, IfOk, OnErr}
+use Rattle.std.specs.Prelude.{◌≡◌, ◌≢◌, ◌⊎◌, List, length, Result, Ok, IfOk, OnErr}
 use Rattle.ft_types.specs.Counts.{count_at}
 use Rattle.ft_types.specs.declared.errors.Memory.{Memory}
 use Rattle.fragment_codec.specs.Rules.{OpeningParts, FragmentParts}
