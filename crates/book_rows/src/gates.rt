@@ -205,6 +205,57 @@ fn two_of_three_release(rt: HostRuntime) -> Result<(), Fail> {
     Ok(())
 }
 
+/// A gate of three keepers, of which two are needed, with three outputs of the first hart: the first has the latest step, and the
+/// second the earliest.
+fn falling_outputs(alloc: Global) -> Result<Gate, Memory>
+    ensures { IfOk result (λ gate. gate.keepers ≡ 3) }
+{
+    let mut gate = Gate::new(alloc, 1, 3, 2);
+    gate.offer(output(0, 0, 9))?;
+    gate.offer(output(0, 1, 5))?;
+    gate.offer(output(0, 2, 7))?;
+    Ok(gate)
+}
+
+/// What came of each release, as two keepers come to hold one step after the other.
+fn one_by_one(alloc: Global) -> Result<[bool; 4], Memory> {
+    let mut gate = falling_outputs(alloc)?;
+    note_all(&mut gate, 5, 0, 9);
+    let none = releases(alloc, &mut gate, &[], 3)?;
+    note_all(&mut gate, 6, 0, 9);
+    let second = releases(alloc, &mut gate, &[(0, 1, 5)], 2)?;
+    note_all(&mut gate, 8, 0, 9);
+    let third = releases(alloc, &mut gate, &[(0, 2, 7)], 1)?;
+    note_all(&mut gate, 10, 0, 10);
+    let first = releases(alloc, &mut gate, &[(0, 0, 9)], 0)?;
+    Ok([none, second, third, first])
+}
+
+/// What came of a release of the last two, which go out by number, and of one behind it.
+fn two_at_once(alloc: Global) -> Result<[bool; 2], Memory> {
+    let mut gate = falling_outputs(alloc)?;
+    note_all(&mut gate, 8, 8, 0);
+    let last_two = releases(alloc, &mut gate, &[(0, 1, 5), (0, 2, 7)], 1)?;
+    note_all(&mut gate, 10, 8, 11);
+    let first = releases(alloc, &mut gate, &[(0, 0, 9)], 0)?;
+    Ok([last_two, first])
+}
+
+#[test]
+fn an_earlier_step_behind_a_later_one(rt: HostRuntime) -> Result<(), Fail> {
+    let made = match one_by_one(rt.alloc()) {
+        Ok(made) => made,
+        Err(Memory) => one_by_one(rt.alloc())?,
+    };
+    assert_eq!(rt; made, [true; 4]);
+    let made = match two_at_once(rt.alloc()) {
+        Ok(made) => made,
+        Err(Memory) => two_at_once(rt.alloc())?,
+    };
+    assert_eq!(rt; made, [true; 2]);
+    Ok(())
+}
+
 /// A gate of two keepers, of which both are needed, with two outputs of the first hart and one of the second.
 fn three_outputs(alloc: Global) -> Result<Gate, Memory>
     ensures parts { IfOk result (λ gate. (gate.term ≡ 1) × (gate.keepers ≡ 2)) }

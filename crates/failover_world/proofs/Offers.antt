@@ -1,7 +1,6 @@
 -- Outputs that are offered one after the other.
 use Rattle.std.proofs.Common.{◌≡◌, ◌≢◌, inl, inr, ℕ, zero, suc, ◌+◌, ◌<◌, ◌≤◌, List, [], ◌∷◌, ◌++◌, append_assoc, append-nil, length, length-append, map, take, slice_get, Some, None, refl, sym, ap, subst, ◌∙◌, arith}
-use Rattle.std.specs.List.{AllByRecursion, enumerate_from}
-use Rattle.interleaving.specs.Lists.{Each, EachPair}
+use Rattle.std.specs.List.{enumerate_from}
 use Rattle.interleaving.proofs.Put.{same_or_not}
 use Rattle.ft_types.specs.declared.output.Output.{Output}
 use Rattle.output_gate.specs.Gates.{LineView, line_of, gone_of, waiting_of, offered_of}
@@ -49,24 +48,6 @@ pub numbered_at : (hart k : ℕ) (said : List (ℕ × ℕ)) (o : ℕ × ℕ) →
 numbered_at hart k said o is =
     numbers_at hart 0 k said o is
     ∙ ap (λ (m : ℕ). let z : Output = record { hart = hart; number = m; step = o.0; word = o.1 } in Some z) (let e : 0 + k ≡ k = omega arith in e)
-
--- those before one are of earlier steps
-each_at : {A : Type 0} (P : A → Type 0) (xs : List A) (k : ℕ) (x : A) → Each P xs → slice_get xs k ≡ Some x → P x
-each_at P [] k x all is = absurd cc
-each_at P (y ∷ xs) zero x (first, rest) is = subst P (let e : y ≡ x = cc in e) first
-each_at P (y ∷ xs) (suc k) x (first, rest) is = each_at P xs k x rest is
-
-earlier : (hart n k : ℕ) (said : List (ℕ × ℕ)) (o : ℕ × ℕ) → EachPair (λ a b. a.0 < b.0) said → slice_get said k ≡ Some o →
-    AllByRecursion (λ (x : Output). x.step ≤ o.0) (take k (numbers hart n said))
-earlier hart n k [] o rising is = absurd cc
-earlier hart n zero (x ∷ said) o rising is = tt
-earlier hart n (suc k) (x ∷ said) o (first, rest) is =
-    let less : x.0 < o.0 = each_at (λ b. x.0 < b.0) said k o first is in
-    (omega (arith, less), earlier hart (n + 1) k said o rest is)
-
-pub steps_before : (hart k : ℕ) (said : List (ℕ × ℕ)) (o : ℕ × ℕ) → EachPair (λ a b. a.0 < b.0) said → slice_get said k ≡ Some o →
-    AllByRecursion (λ (x : Output). x.step ≤ o.0) (take k (numbered hart said))
-steps_before hart k said o rising is = earlier hart 0 k said o rising is
 
 -- one more is offered
 pub next_number : (g h i : TermGateView) (hart number : ℕ) (outputs : List (ℕ × ℕ)) (o : ℕ × ℕ) → AtNumber g h hart outputs number →

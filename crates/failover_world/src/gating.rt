@@ -1,10 +1,9 @@
 //! The outputs of a machine, at the gate.
 
-ghost use Rattle.std.specs.Prelude.{◌≡◌, ◌≢◌, ◌≤◌, ◌<◌, ◌+◌, ◌++◌, ℕ, length, take, OnOk, vec_len, vec_capacity};
-ghost use Rattle.interleaving.specs.Lists.{EachPair};
+ghost use Rattle.std.specs.Prelude.{◌≡◌, ◌≢◌, ◌≤◌, ◌+◌, ◌++◌, ℕ, length, take, OnOk, vec_len, vec_capacity};
 ghost use Rattle.output_gate.specs.Gates.{line_of, offered_of};
 ghost use Rattle.go_live.specs.Outputs.{numbered};
-ghost use Rattle.failover_world.specs.Gating.{AreRising, AreOffered, AreAllOffered, OffersMore, released_in};
+ghost use Rattle.failover_world.specs.Gating.{AreOffered, AreAllOffered, OffersMore, released_in};
 
 use crate::released::Released;
 use ft_types::{Count, Hart, Memory, Term};
@@ -15,8 +14,7 @@ use term_gate::TermGate;
 
 /// Offers a hart's outputs from the one of this number on.
 fn offer_hart(gate: &mut TermGate, hart: Hart, outputs: &[(Count, u32)]) -> Result<(), Memory>
-    requires rising { EachPair (λ a b. a.0 < b.0) outputs.now }
-    requires offered { offered_of gate.old.gate hart ≡ take (length (offered_of gate.old.gate hart)) (numbered hart outputs.now) }
+    requires { offered_of gate.old.gate hart ≡ take (length (offered_of gate.old.gate hart)) (numbered hart outputs.now) }
     ensures more { OffersMore gate.old gate.new }
     ensures offered { offered_of gate.new.gate hart ≡ take (length (offered_of gate.new.gate hart)) (numbered hart outputs.now) }
     ensures others { (other : ℕ) → other ≢ hart → line_of gate.new.gate other ≡ line_of gate.old.gate other }
@@ -36,8 +34,7 @@ fn offer_hart(gate: &mut TermGate, hart: Hart, outputs: &[(Count, u32)]) -> Resu
 
 /// Offers the outputs of the machine that were not offered yet.
 pub(crate) fn offer_all(gate: &mut TermGate, machine: &Machine) -> Result<(), Memory>
-    requires rising { AreRising machine.now }
-    requires offered { AreOffered gate.old.gate machine.now }
+    requires { AreOffered gate.old.gate machine.now }
     ensures more { OffersMore gate.old gate.new }
     ensures offered { AreOffered gate.new.gate machine.now }
     ensures all { OnOk result (AreAllOffered gate.new.gate machine.now) }

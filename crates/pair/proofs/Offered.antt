@@ -4,7 +4,10 @@ use Rattle.std.proofs.Common.{length, slice_index, slice_set, inl, inr, ap, arit
 use Rattle.std.proofs.lemmas.Bool.{cases_eq}
 use Rattle.std.proofs.lemmas.Bool.Decides.{nat_tests}
 use Rattle.std.proofs.lemmas.List.{get_or-set_same, get_or-set_other}
+use Rattle.std.proofs.lemmas.List.Elements.{All-from_recursion, recursion_from_All}
+use Rattle.std.proofs.lemmas.List.Sorted.{All-permutation, IsPermutation-sym}
 use Rattle.std.specs.List.{AllByRecursion}
+use Rattle.std.specs.List.Sorted.{IsPermutation}
 use Rattle.ft_types.specs.declared.output.Output.{Output}
 use Rattle.output_gate.specs.Gates.{LineView, GateView, gone_of, waiting_of, offered_of}
 use Rattle.output_gate.proofs.Alls.{all_so, all_join, all_back}
@@ -67,10 +70,19 @@ last_offered old new steps o place at there last next is hart below = elim (case
       (ap (λ (l : LineView). l.gone ++ l.waiting) (is.others hart (λ e. ne (e ∙ sym at)))) (get_or-set_other steps place hart o.step 0 ne) (last hart below)
 ]
 
+moved_all : (P : Output → Type 0) (xs ys : List Output) → IsPermutation xs ys → AllByRecursion P xs → AllByRecursion P ys
+moved_all P xs ys moves all = recursion_from_All P ys (All-permutation P xs ys moves (All-from_recursion P xs all))
+
 -- what goes out was offered all the same
-pub last_kept : (old new : GateView) → ((hart : ℕ) → hart < 8 → offered_of new hart ≡ offered_of old hart) → (steps : List ℕ) → AreLast old steps →
-    AreLast new steps
-last_kept old new same steps last hart below = last_same old new steps steps hart (same hart below) refl (last hart below)
+pub last_kept : (old new : GateView) → ((hart : ℕ) → hart < 8 → IsPermutation (offered_of old hart) (offered_of new hart)) → (steps : List ℕ) →
+    AreLast old steps → AreLast new steps
+last_kept old new same steps last hart below =
+    let moves = same hart below in (
+      moved_all (λ (x : Output). x.step ≤ slice_index steps hart) (offered_of old hart) (offered_of new hart) moves (last hart below).0,
+      λ n all. (last hart below).1 n
+          (moved_all (λ (x : Output). x.step ≤ n) (offered_of new hart) (offered_of old hart)
+          (IsPermutation-sym (offered_of old hart) (offered_of new hart) moves) all),
+    )
 
 -- nothing yet
 pub none_offered : (gate : GateView) (steps : List ℕ) → ((hart : ℕ) → hart < 8 → offered_of gate hart ≡ []) →

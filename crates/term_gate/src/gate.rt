@@ -1,7 +1,6 @@
 //! The gate.
 
 ghost use Rattle.std.specs.Prelude.{◌≡◌, ◌≢◌, ◌↔◌, ℕ, ◌<◌, ◌≤◌, ◌++◌, ◌∷◌, [], Err, length, replicate, slice_index, slice_set, IfOk, IfErr, OnOk, OnErr};
-ghost use Rattle.std.specs.List.{AllByRecursion};
 ghost use Rattle.ft_types.specs.declared.names.TheConstants.{HART_LIMIT, HART_ROW, KEEPER_LIMIT};
 ghost use Rattle.output_gate.specs.Gates.{noted_at, line_of, gone_of, waiting_of, offered_of, waiting_count, held_outputs, after_release};
 ghost use Rattle.output_gate.specs.Orders.{RiseByHart};
@@ -89,10 +88,9 @@ impl TermGate {
         self.gate.offered(hart)
     }
 
-    /// Takes a hart's next output, which isn't of an earlier step than those before it.
+    /// Takes a hart's next output.
     pub fn offer(&mut self, output: Output) -> Result<(), Memory>
         requires number { output.number ≡ length (offered_of self.old.gate output.hart) }
-        requires steps { AllByRecursion (λ o. o.step ≤ output.step) (offered_of self.old.gate output.hart) }
         ensures line { OnOk result (line_of self.new.gate output.hart
             ≡ record { gone = gone_of self.old.gate output.hart; waiting = waiting_of self.old.gate output.hart ++ output ∷ [] }) }
         ensures others { (hart : ℕ) → hart ≢ output.hart → line_of self.new.gate hart ≡ line_of self.old.gate hart }

@@ -1,18 +1,9 @@
-use Rattle.std.proofs.Common.{◌≤◌, slice_index_or, sym, subst, ◌∙◌, arith}
-use Rattle.std.specs.List.{AllByRecursion}
+use Rattle.std.proofs.Common.{slice_index_or, ◌∙◌, arith}
 use Rattle.std.proofs.lemmas.Option.{slice_get-get_or}
-use Rattle.ft_types.specs.declared.output.Output.{Output}
 use Rattle.go_live.specs.Outputs.{numbered}
 use Rattle.failover_world.proofs.Rows.{take_all}
-use Rattle.failover_world.proofs.Offers.{numbered_many, next_number, steps_before}
+use Rattle.failover_world.proofs.Offers.{numbered_many, next_number}
 use Rattle.failover_world.proofs.gating.offer_hart.Goals as goal
-
-pub offer-requires-clause-steps : goal.offer-requires-clause-steps
-offer-requires-clause-steps c =
-    let lt = c.loop-number-test.true in
-    subst (AllByRecursion (λ (o : Output). o.step ≤ (slice_index_or c.args.outputs.now c.loop-number.number (0, 0)).0)) (sym c.loop-number.invariant.offered)
-    (steps_before c.args.hart c.loop-number.number c.args.outputs.now (slice_index_or c.args.outputs.now c.loop-number.number (0, 0)) c.requires.rising
-    (slice_get-get_or c.args.outputs.now c.loop-number.number (0, 0) (omega (arith, lt))))
 
 pub loop-number-preserved : goal.loop-number-preserved
 loop-number-preserved c =

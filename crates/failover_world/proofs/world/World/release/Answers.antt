@@ -5,7 +5,7 @@ use Rattle.std.proofs.Common.{◌++◌, ◌+◌, Result, Ok, Err, OnErr, vec_len
 use Rattle.output_gate.specs.Gates.{line_of, held_outputs, after_release}
 use Rattle.term_gate.specs.TermGates.{TermGateView, AreAcked}
 use Rattle.failover_world.specs.declared.released.Released.{Released}
-use Rattle.failover_world.specs.Gating.{AreRising, AreOffered, AreAllOffered, OffersMore, released_in}
+use Rattle.failover_world.specs.Gating.{AreOffered, AreAllOffered, OffersMore, released_in}
 use Rattle.failover_world.specs.Happenings.{Releases}
 use Rattle.failover_world.specs.Refusals.{IsLeft}
 use Rattle.failover_world.specs.Tied.{AreParts, IsWorld}
@@ -14,22 +14,6 @@ use Rattle.failover_world.proofs.Waiting.{still_offered, released_offered}
 use Rattle.failover_world.specs.declared.fault.WorldFault.{WorldFault}
 use Rattle.failover_world.proofs.Gates.{noted_world, offers_rest, left_with, rest_after, was_offered, same_lines, every_line, all_going, few_held, on_ok}
 use Rattle.failover_world.proofs.world.World.release.Goals as goal
-
-pub offer_all-requires-clause-rising : goal.offer_all-requires-clause-rising
-offer_all-requires-clause-rising c =
-    let v : WorldView = record {
-      image = c.self.inside.image;
-      keepers = c.self.inside.keepers;
-      need = c.self.inside.need;
-      primary = c.self.inside.primary;
-      runs = c.self.inside.runs;
-      stopped = c.self.inside.stopped.items;
-      sent = c.self.inside.sent.items;
-      stores = c.self.inside.stores.items;
-      gate = c.self.inside.gate;
-      released = c.self.inside.released.items;
-    } in
-    subst AreRising (sym c.machine.ensures.value) (rising v c.self.invariant.tied c.machine.ensures.run)
 
 pub invariant_of-self : goal.invariant_of-self
 invariant_of-self c =

@@ -14,11 +14,10 @@ use Rattle.go_live.specs.Quorums.{AreEnough, IsNew}
 use Rattle.failover_world.specs.declared.primary.Primary.{Primary}
 use Rattle.failover_world.specs.Primaries.{no_limits}
 use Rattle.failover_world.specs.Worlds.{WorldView, term_of}
-use Rattle.failover_world.specs.Gating.{AreRising, AreAllOffered}
+use Rattle.failover_world.specs.Gating.{AreAllOffered}
 use Rattle.failover_world.specs.Happenings.{stores_of, GoesLive}
 use Rattle.failover_world.specs.Refusals.{CannotGoLive}
 use Rattle.failover_world.specs.Tied.{BeginsTerm}
-use Rattle.failover_world.proofs.Granting.{rising}
 use Rattle.failover_world.proofs.Reviving.{in_limits, begins_too, unused_too, IsAsked, IsGiven, given, begins_term, cannot, fresh}
 use Rattle.failover_world.proofs.world.World.revived.Goals.{then-term, else-term}
 use Rattle.failover_world.proofs.world.World.revived.Goals as goal
@@ -99,58 +98,6 @@ limit_at-requires-clause-settled c =
     (ap (λ (o : OpeningParts). o.guest.harts) opened ∙ sym c.harts-harts.ensures.value)
     (λ hart. ap (λ (m : MachineState). counts_of m hart) machine ∙ c.in_ok-live.ensures.position.replayed.counts hart
     ∙ ap (λ (o : OpeningParts). count_at o.base hart) (sym opened)))
-
-pub offer_all-requires-clause-rising : goal.offer_all-requires-clause-rising
-offer_all-requires-clause-rising c =
-    let v : WorldView = record {
-      image = c.self.inside.image;
-      keepers = c.self.inside.keepers;
-      need = c.self.inside.need;
-      primary = c.self.inside.primary;
-      runs = c.self.inside.runs;
-      stopped = c.self.inside.stopped.items;
-      sent = c.self.inside.sent.items;
-      stores = c.self.inside.stores.items;
-      gate = c.self.inside.gate;
-      released = c.self.inside.released.items;
-    } in
-    let stores : List StoreView = map (λ s. s.1.now) c.as_slice.result.now in
-    let are : stores ≡ map (λ s. s.1) (stores_of v.stores c.args.keepers.now) =
-    ap (λ named. map (λ s. s.1.now) named) c.as_slice.ensures.value ∙ c.in_ok-stores.ensures.stores
-    ∙ ap (λ xs. map (λ s. s.1) (stores_of xs c.args.keepers.now)) c.deref.ensures.value in
-    let keepers : List ℕ = map (λ s. s.0) c.as_slice.result.now in
-    let are_keepers : keepers ≡ map (λ s. s.0) (stores_of v.stores c.args.keepers.now) =
-    ap (λ named. map (λ s. s.0) named) c.as_slice.ensures.value ∙ c.in_ok-stores.ensures.keepers
-    ∙ ap (λ xs. map (λ s. s.0) (stores_of xs c.args.keepers.now)) c.deref.ensures.value in
-    let last : c.term.result ≡ term_of v = c.term.ensures ∙ ap (λ (w : WorldView). w.primary.opening.term) (sym c.self.view_is) in
-    let asks : IsAsked v c.args.term c.if-term.asked =
-    elim c.if-term.branch [
-      | then-term w ↦ let under = w.if-term in inr (w.asked-is, omega (arith, last, under))
-      | else-term w ↦ let over = w.if-term in inl (w.asked-is, omega (arith, last, over))
-    ] in
-    let is : IsGiven v c.args.term c.if-term.asked stores = given v c.args.term c.if-term.asked stores asks c.in_ok-live.ensures.new in
-    let live = c.in_ok-live.live in
-    let p : Primary = record { opening = c.in_ok-live.live.opening; book = c.limit_at.new.self; sealed = c.new-sealed.result } in
-    let start : p.book.start ≡ c.in_ok-live.live.book.start = ap (λ (b : BookView RecordingView). b.start) c.limit_at.ensures in
-    let unused = unused_too c.in_ok-live.live.book c.limit_at.new.self c.in_ok-live.live.opening.base c.no_limits.result c.limit_at.ensures c.in_ok-live.ensures.mode in
-    let begins_from : BeginsFrom p.book.start p.book =
-    begins_too c.in_ok-live.live.book c.limit_at.new.self c.no_limits.result c.limit_at.ensures c.in_ok-live.ensures.book in
-    let primary : IsPrimary c.limit_at.new.self = record {
-      log = unused.log;
-      honest =
-          subst (λ e. HasHonestLog e (heard_by c.limit_at.new.self.mode) c.limit_at.new.self.start c.limit_at.new.self.journal c.limit_at.new.self.machine)
-          c.edges-edges.ensures.value c.edges-edges.ensures.honest;
-    } in
-    let begins : BeginsTerm v c.args.term c.args.keepers.now p =
-    begins_term v c.args.term c.if-term.asked c.args.keepers.now stores p c.in_ok-live.live.book.start are is.same start primary c.base.ensures.rules
-    c.in_ok-live.ensures.history c.in_ok-live.ensures.longer in
-    let at : IsAtPosition v.image (map (λ s. s.1) (stores_of v.stores c.args.keepers.now)) c.args.term p.book.start p.opening =
-    subst (λ (m : MachineState). IsAtPosition v.image (map (λ s. s.1) (stores_of v.stores c.args.keepers.now)) c.args.term m p.opening) (sym start)
-    (subst (λ n. IsAtPosition v.image (map (λ s. s.1) (stores_of v.stores c.args.keepers.now)) n c.in_ok-live.live.book.start p.opening) is.same
-    (subst (λ xs. IsAtPosition v.image xs c.if-term.asked c.in_ok-live.live.book.start p.opening) are c.in_ok-live.ensures.position)) in
-    subst (λ (m : MachineState). AreRising m) (sym c.machine.ensures.value)
-    (rising v c.self.invariant.tied c.args.term c.args.keepers.now p at is.later unused.log_start begins
-    (ap (λ (b : BookView RecordingView). b.machine) begins_from))
 
 pub returns-clause-begins : goal.returns-clause-begins
 returns-clause-begins c =
