@@ -148,7 +148,9 @@ else
 fi
 
 # At most 40 growths of each row are refused, in some ten seconds.
-if command -v cc > /dev/null && command -v python3 > /dev/null && [ -d /dev/shm ]; then
+if [ -n "${TRIED:-}" ]; then
+    echo "left out benches/refusals, since a program of rt try has a malloc of its own"
+elif command -v cc > /dev/null && command -v python3 > /dev/null && [ -d /dev/shm ]; then
     if sh "$top/benches/refusals/measure.sh" "$program" quick > "$work/refused" 2>&1; then
         pass
     else
