@@ -40,7 +40,7 @@ use Rattle.lease_rounds.specs.Steps.{AreWithin, inputs_next, IsGiven, HasStepped
 
 -- ---- a book that has not moved
 
-unmoved_itself : (b : BookView RecordingView) → IsUnmoved b b
+pub unmoved_itself : (b : BookView RecordingView) → IsUnmoved b b
 unmoved_itself b = record { book = refl; edges = refl; inputs = refl; limits = refl; offered = offered_itself b }
 
 -- it tells on from itself

@@ -1,5 +1,11 @@
-use Rattle.lease_rounds.proofs.OneStep.{tells_itself, unmoved_tells}
+use Rattle.lease_rounds.proofs.OneStep.{tells_itself, unmoved_itself, unmoved_tells}
 use Rattle.lease_rounds.proofs.stepping.take_step.Goals as goal
+
+pub returns-then-is_halted-clause-unmoved : goal.returns-then-is_halted-clause-unmoved
+returns-then-is_halted-clause-unmoved c = unmoved_itself c.args.book.now
+
+pub returns-then-count-get-clause-unmoved : goal.returns-then-count-get-clause-unmoved
+returns-then-count-get-clause-unmoved c = unmoved_itself c.args.book.now
 
 pub returns-then-is_halted-clause-comes : goal.returns-then-is_halted-clause-comes
 returns-then-is_halted-clause-comes c = tells_itself c.args.book.now
