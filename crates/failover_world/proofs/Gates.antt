@@ -7,13 +7,10 @@ use Rattle.interleaving.specs.Lists.{Each}
 use Rattle.guest_image.specs.Machine.{MachineState}
 use Rattle.guest_image.specs.Image.{guest_of}
 use Rattle.output_gate.specs.Gates.{LineView, GateView, line_of, gone_of, waiting_of, offered_of, is_held, held_outputs, after_release, waiting_count}
-use Rattle.page_book.specs.Books.{BookView}
-use Rattle.book_modes.specs.Recordings.{RecordingView}
 use Rattle.term_gate.specs.TermGates.{TermGateView, AreAcked, acked_at}
 use Rattle.ft_types.specs.Counts.{count_at}
 use Rattle.failover_theory.specs.Lists.{how_many}
 use Rattle.failover_theory.specs.Worlds as theory
-use Rattle.lease_rounds.specs.Steps.{IsUnmoved}
 use Rattle.failover_world.specs.Worlds.{WorldView}
 use Rattle.failover_world.specs.Gating.{AreOffered, OffersMore}
 use Rattle.failover_world.specs.Refusals.{IsAsItWas, IsLeft}
@@ -51,11 +48,8 @@ offers_rest g h more =
     ∙ ap (λ (noted : List (List ℕ)). let x : TermGateView = record g { gate = record g.gate { noted = noted; lines = h.gate.lines } } in x)
     (sym (ap (λ (x : TermGateView). x.gate.noted) more.rest))
 
-pub still : (b : BookView RecordingView) → IsUnmoved b b
-still b = record { book = refl; edges = refl; inputs = refl; limits = refl; offered = λ hart. refl }
-
 pub left_with : (v : WorldView) (gate : TermGateView) → IsAsItWas v.gate gate → IsLeft v (record v { gate = gate })
-left_with v gate was = record { book = still v.primary.book; gate = was; rest = refl }
+left_with v gate was = record { book = inl refl; gate = was; rest = refl }
 
 -- one change after another
 pub rest_after : (g h i : TermGateView) → OffersMore g h →

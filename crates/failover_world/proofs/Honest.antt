@@ -1,14 +1,14 @@
 -- What was sent, and what keepers hold, are of one history of the image.
-use Rattle.std.proofs.Common.{◌≡◌, ℕ, Contains, Option, Some, None, refl, sym, ap, subst, ◌∙◌}
+use Rattle.std.proofs.Common.{ℕ, Option, Some, refl, sym, ap, ◌∙◌}
 use Rattle.guest_image.specs.Image.{guest_of}
 use Rattle.fragment_codec.specs.declared.frame.Frame.{Frame}
 use Rattle.fragment_codec.specs.declared.frame.Frame.TheVariants.{Log, Opening}
-use Rattle.log_join.specs.Families.{Past, OfFamily, HonestStore}
+use Rattle.log_join.specs.Families.{Past, OfFamily}
 use Rattle.log_join.specs.Stores.{nothing}
 use Rattle.hart_replay.specs.Primaries.{term_of as history_of}
 use Rattle.failover_theory.proofs.Events.{always}
 use Rattle.failover_world.specs.declared.primary.Primary.{Primary}
-use Rattle.failover_world.specs.Worlds.{WorldView, store_at, term_of}
+use Rattle.failover_world.specs.Worlds.{WorldView, term_of}
 use Rattle.failover_world.specs.Promises.{IsItsTerm, AreHonest}
 use Rattle.failover_world.specs.Tied.{TermBook, retold, retold_in, history, told_as, live_term, IsBefore, IsTied, quorum_of}
 use Rattle.failover_world.proofs.Places.{there_too}

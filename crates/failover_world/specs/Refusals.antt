@@ -126,8 +126,8 @@ pub record IsAsItWas (g h : TermGateView) : Type 0 where
   pub waiting : (hart : ℕ) → (more : List Output) × (waiting_of h.gate hart ≡ waiting_of g.gate hart ++ more)
 
 -- Nothing happened: page rights, which of the waiting inputs the hart's next lease has, and what the gate was offered and has
--- noted may be others.
+-- noted may be others. A book is unmoved that is the same.
 pub record IsLeft (v w : WorldView) : Type 0 where
-  pub book : IsUnmoved v.primary.book w.primary.book
+  pub book : (w.primary.book ≡ v.primary.book) ⊎ IsUnmoved v.primary.book w.primary.book
   pub gate : IsAsItWas v.gate w.gate
   pub rest : w ≡ record v { primary = record v.primary { book = w.primary.book }; gate = w.gate }
