@@ -1,5 +1,5 @@
 -- A post for each seat.
-use Rattle.std.proofs.Common.{◌≡◌, ◌<◌, ℕ, zero, suc, All, List, [], ◌∷◌, ◌++◌, length, get_or, arith}
+use Rattle.std.proofs.Common.{◌<◌, ℕ, zero, suc, All, List, [], ◌∷◌, ◌++◌, length, get_or, arith}
 
 -- what holds of each of a list holds of one in its middle
 pub at_middle : {X : Type 0} (P : X → Type 0) (before : List X) (x : X) (behind : List X) →

@@ -1,5 +1,5 @@
 -- Where a round goes.
-use Rattle.std.proofs.Common.{◌≡◌, ◌+◌, ◌<◌, ◌≤◌, ℕ, List, length, max, min, slice_index, inl, inr, arith}
+use Rattle.std.proofs.Common.{◌≡◌, ◌+◌, ℕ, List, length, max, min, slice_index, inl, inr, arith}
 use Rattle.std.proofs.lemmas.Bool.{cases_lt}
 use Rattle.std.proofs.lemmas.List.{get_or_past}
 use Rattle.ft_types.specs.Counts.{count_at, IsWithin}

@@ -1,11 +1,10 @@
 -- What was cut is settled.
-use Rattle.std.proofs.Common.{◌≡◌, ◌<◌, ◌≤◌, ◌⊎◌, ⊎_elim, ℕ, ◌+◌, List, [], ◌∷◌, length, slice_index_or, ap, arith, OnOk, Result, Ok, Err, IfOk}
+use Rattle.std.proofs.Common.{◌≡◌, ◌<◌, ◌≤◌, ◌⊎◌, ⊎_elim, ℕ, List, [], ◌∷◌, slice_index_or, ap, arith}
 use Rattle.ft_types.specs.Guests.{GuestParts}
 use Rattle.ft_types.specs.Counts.{count_at}
 use Rattle.fragment_codec.specs.declared.frame.Frame.{Frame}
 use Rattle.fragment_codec.specs.Rules.{FragmentParts}
-use Rattle.fragment_codec.specs.Facts.{number_of, facts_between}
-use Rattle.log_pieces.specs.Pieces.{HartLog, Mark, SealedView, ArePieces, IsCut, mark_behind, mark_of, book_log}
+use Rattle.log_pieces.specs.Pieces.{HartLog, IsFull, Mark, SealedView, ArePieces, IsCut, mark_behind, mark_of, book_log}
 use Rattle.page_book.specs.Books.{BookView}
 use Rattle.book_modes.specs.Recordings.{RecordingView}
 use Rattle.hart_lease.specs.Runs.{counts_of}
@@ -15,7 +14,7 @@ pieces_within : (log : HartLog) (old : Mark) (pieces : List FragmentParts) (new 
 pieces_within log old [] new le at = (let e : new.count ≡ old.count = ap (λ (m : Mark). m.count) at in omega (arith, e))
 pieces_within log old (piece ∷ pieces) new le at =
     let to : piece.to ≤ log.settled = ⊎_elim (λ (e : piece.to ≡ log.settled). omega (arith, e))
-    (λ (t : (piece.to < log.settled) × (256 < number_of (facts_between piece.from (piece.to + 1) log.facts))). (let l : piece.to < log.settled = t.0 in omega (arith, l)))
+    (λ (t : (piece.to < log.settled) × IsFull log.facts piece.from piece.to). (let l : piece.to < log.settled = t.0 in omega (arith, l)))
     at.0.far in
     pieces_within log (mark_behind piece) pieces new to at.1
 

@@ -1,6 +1,5 @@
 -- The rounds of a primary.
 use Rattle.std.specs.Prelude.{◌≡◌, ◌+◌, ◌<◌, ◌≤◌, ◌⊎◌, ℕ, List, length, max, min, slice_get, slice_index, true, Some}
-use Rattle.ft_types.specs.Counts.{count_at}
 use Rattle.rv32_hart.specs.Hart.{Hart}
 use Rattle.guest_image.specs.Machine.{MachineState}
 

@@ -1,4 +1,3 @@
-use Rattle.std.proofs.Common.{◌≡◌}
 use Rattle.pair.specs.Exits.{AreLast, IsAtBoard}
 use Rattle.pair.proofs.gate_thread.guard.Given as goal
 

@@ -1,6 +1,5 @@
-use Rattle.std.proofs.Common.{◌≡◌, Ok, [], ◌∷◌, ◌++◌, ap, append_assoc, ◌∙◌}
+use Rattle.std.proofs.Common.{◌≡◌, Ok, [], ◌∷◌, ap, append_assoc, ◌∙◌}
 use Rattle.std.specs.Vec.Iter.{into_iter_items}
-use Rattle.fragment_codec.specs.declared.frame.Frame.{Frame}
 use Rattle.pair.specs.Keeping.{IsTaken}
 use Rattle.pair.proofs.Taken.{put_taken, taken_more, taken_guest}
 use Rattle.pair.proofs.keeping.take_all.Goals as goal
