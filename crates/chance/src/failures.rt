@@ -187,22 +187,35 @@ impl World {
         recorded
     }
 
+    /// A book that records from boot.
+    fn boots(&self, alloc: Global) -> Result<Book<Recording>, Memory> {
+        recorder_of(alloc, &self.image, FAR)
+    }
+
     fn first_term(&mut self, alloc: Global) -> Result<(), Memory> {
         let base = Counts::zero(self.image.harts());
-        self.scatter(alloc, &opens(self.image.guest(), 1, 0, base)?)?;
-        let book = recorder_of(alloc, &self.image, FAR)?;
+        let opening = opens(self.image.guest(), 1, 0, base)?;
+        self.scatter(alloc, &opening)?;
+        let book = self.boots(alloc)?;
         self.term(alloc, book)
+    }
+
+    /// The next primary goes live from the stores of two of the three keepers.
+    fn live(&self, alloc: Global, lost: u8) -> Result<Live, Memory> {
+        let term = self.next_term();
+        let [first, second, third] = &self.stores;
+        let stores = match lost {
+            0 => [(Keeper::new(1), second), (Keeper::new(2), third)],
+            1 => [(Keeper::new(2), third), (Keeper::new(0), first)],
+            _ => [(Keeper::new(0), first), (Keeper::new(1), second)],
+        };
+        live_from(alloc, &self.image, &stores, term)
     }
 
     /// Two of the three keepers are there, and the next primary goes live.
     fn grant(&mut self, alloc: Global) -> Result<Live, Memory> {
         let lost = self.dice.roll() % 3;
-        let (one, other) = ((lost + 1) % 3, (lost + 2) % 3);
-        let stores = [
-            (Keeper::new(one), &self.stores[usize::from(one)]),
-            (Keeper::new(other), &self.stores[usize::from(other)]),
-        ];
-        live_from(alloc, &self.image, &stores, self.next_term())
+        self.live(alloc, lost)
     }
 
     /// The machine that the terms recorded where the opening goes on.

@@ -60,11 +60,14 @@ fn verdict_yes(machine: &Machine, plain: &Outcome) -> Verdict {
 
 /// Why the replay of the plan is stuck, where it is.
 fn stuck_by(alloc: Global, image: &Image, plan: &Plan) -> Result<Option<ReplayFault>, Memory> {
-    match replay_plain(alloc, image, plan) {
-        Ok(_) => Ok(None),
-        Err(ReplayFault::Memory) => Err(Memory),
-        Err(fault) => Ok(Some(fault)),
+    let fault = match replay_plain(alloc, image, plan) {
+        Ok(_) => return Ok(None),
+        Err(fault) => fault,
+    };
+    if fault == ReplayFault::Memory {
+        return Err(Memory);
     }
+    Ok(Some(fault))
 }
 
 /// What the audit says beside the plain one.
@@ -74,11 +77,14 @@ fn verdict_beside(
     plan: &Plan,
     plain: &Outcome,
 ) -> Result<Verdict, Memory> {
-    match audit(alloc, image, plan) {
-        Ok(machine) => Ok(verdict_yes(&machine, plain)),
-        Err(AuditFault::Replay(ReplayFault::Memory)) => Err(Memory),
-        Err(fault) => Ok(verdict_no(fault, stuck_by(alloc, image, plan)?, plain)),
+    let fault = match audit(alloc, image, plan) {
+        Ok(machine) => return Ok(verdict_yes(&machine, plain)),
+        Err(fault) => fault,
+    };
+    if fault == AuditFault::Replay(ReplayFault::Memory) {
+        return Err(Memory);
     }
+    Ok(verdict_no(fault, stuck_by(alloc, image, plan)?, plain))
 }
 
 /// What both audits say of a plan of one term.
