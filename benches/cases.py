@@ -101,7 +101,7 @@ class Case:
         self.words, self.files, self.threads = [], {}, False
         self.status, self.out, self.err = 0, b"", b""
         self.made, self.makes = None, None
-        self.on_disk = True  # whether files can show it
+        self.on_disk = True  # whether files can show it, in one call
         self.is_told = True  # whether it says what must be written
 
     def harts(self):
@@ -172,7 +172,7 @@ def cases_of(path, version=1):
             case.out += given
         elif verb == "err":
             case.err += given
-        elif verb in ("failing", "room", "holds"):
+        elif verb in ("failing", "room", "holds", "each"):
             case.on_disk = False
         elif verb != "absent":
             raise ValueError(f"{path}: {heading}")
