@@ -174,6 +174,6 @@ def cases_of(path, version=1):
             case.err += given
         elif verb in ("failing", "room", "holds", "each"):
             case.on_disk = False
-        elif verb != "absent":
+        elif verb not in ("absent", "unread"):
             raise ValueError(f"{path}: {heading}")
     return found

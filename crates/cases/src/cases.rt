@@ -184,6 +184,7 @@ impl<'t> Case<'t> {
             "threads" => self.on_threads = true,
             "front" | "turned" | "failing" => self.change(verb, rest.parse::<usize>().ok()?)?,
             "absent" => {}
+            "unread" => self.files.last_mut()?.is_unread = true,
             "room" => self.room = rest.parse::<usize>().ok()?,
             "makes-any" => self.make(rest, None),
             "holds" => self.holds = rest.parse::<usize>().ok()?,

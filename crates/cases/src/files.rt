@@ -2,8 +2,8 @@
 
 use crate::cases::Case;
 use command_line::Files;
-use ft_types::{Failed, MemorySink, MemorySource, Sink};
-use std::cell::RefCell;
+use ft_types::{Failed, MemorySink, MemorySource, Sink, Source};
+use std::cell::{Cell, RefCell};
 
 /// What a reader of a file finds in place of all its bytes.
 #[derive(Clone, Copy)]
@@ -23,6 +23,10 @@ pub struct File<'t> {
     pub name: &'t str,
     pub bytes: Vec<u8>,
     pub change: Change,
+    /// Whether nobody may read it.
+    pub is_unread: bool,
+    /// Whether somebody did.
+    was_read: Cell<bool>,
 }
 
 impl<'t> File<'t> {
@@ -32,7 +36,14 @@ impl<'t> File<'t> {
             name,
             bytes,
             change: Change::Nothing,
+            is_unread: false,
+            was_read: Cell::new(false),
         }
+    }
+
+    /// Whether nobody read it who may not.
+    pub fn is_right(&self) -> bool {
+        !(self.is_unread && self.was_read.get())
     }
 
     fn source(&self) -> Result<MemorySource, Failed> {
@@ -50,6 +61,26 @@ impl<'t> File<'t> {
             }
         }
         Ok(MemorySource::new(bytes))
+    }
+}
+
+/// A reader of a file in memory, which the file knows of once anything is asked of it.
+#[derive(Drop)]
+pub struct WatchedSource<'c> {
+    source: MemorySource,
+    was_read: &'c Cell<bool>,
+}
+
+impl Source for WatchedSource<'_> {
+    ghost use Rattle.std.specs.Prelude.{None};
+
+    ghost left = { λ _. None };
+
+    ghost failures = { λ s. s.source.failures };
+
+    fn read(&mut self, piece: &mut [u8]) -> Result<usize, Failed> {
+        self.was_read.set(true);
+        self.source.read(piece)
     }
 }
 
@@ -98,14 +129,17 @@ pub struct MemoryFiles<'c> {
 }
 
 impl<'c> Files for MemoryFiles<'c> {
-    type Reader = MemorySource;
+    type Reader = WatchedSource<'c>;
 
     type Writer = SharedSink<'c>;
 
-    fn reader(&mut self, name: &str) -> Result<MemorySource, Failed> {
+    fn reader(&mut self, name: &str) -> Result<WatchedSource<'c>, Failed> {
         for file in &self.case.files {
             if file.name == name {
-                return file.source();
+                return Ok(WatchedSource {
+                    source: file.source()?,
+                    was_read: &file.was_read,
+                });
             }
         }
         Err(Failed)

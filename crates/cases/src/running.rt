@@ -108,6 +108,12 @@ fn run_case<R: Print + AllocGlobal, P: Pairs>(
     right &= tell(rt, label, "out", done.out.bytes(), case.wanted_out())?;
     right &= tell(rt, label, "err", done.err.bytes(), &case.err)?;
     right &= tell(rt, label, "made", done.made.bytes(), wanted)?;
+    for file in &case.files {
+        if !file.is_right() {
+            println!(rt; "{label}: {} was read", file.name)?;
+            right = false;
+        }
+    }
     Ok(right)
 }
 
