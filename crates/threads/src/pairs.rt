@@ -253,7 +253,9 @@ fn a_pair_is_whole_or_refused_memory(rt: HostRuntime) -> Result<(), Fail> {
         Err(Memory) => printed(rt.alloc(), &pairs)?,
     };
     let whole = status == 0 && out.bytes() == WHOLE && err.bytes().is_empty();
-    let refused = status == 1 && out.bytes().is_empty() && err.bytes() == b"fault memory\n".as_slice();
+    let refused = status == 1
+        && out.bytes().is_empty()
+        && err.bytes() == b"fault memory\n".as_slice();
     // A writer in memory fails where its growth is refused, and so does that of the fault's own line.
     let unwritten = status == 1
         && WHOLE.starts_with(out.bytes())

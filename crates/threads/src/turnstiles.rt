@@ -3,9 +3,10 @@
 
 use crate::followers::follows_to;
 use crate::runs::{in_turn, leads, leads_on_threads, on_threads};
-use fixtures::image_of;
-use ft_types::{Count, Hart, HartSet, Memory};
+use fixtures::{image_of, key, opening_of, piece_of};
+use ft_types::{Count, Hart, HartSet, Memory, Term};
 use guest_image::Image;
+use log_join::Store;
 use primary_pool::Turnstile;
 use std::alloc::Global;
 use std::sync::Wait;
@@ -22,10 +23,15 @@ const ALONE: &[u8] =
 const FOUR: &[u8] =
     b"harts 4\npages 2\n800010b7\n00002137\n71010113\n00100193\n0030a02f\nfff10113\nfe011ce3\nf0000237\n00022a23\n";
 
-/// Sees the calls of up to four harts.
+/// Four harts count from 1,500 down to 1 and put each number out, and halt after 4,503 steps. None waits for another.
+const APART: &[u8] =
+    b"harts 4\npages 1\nf00000b7\n5dc00113\n0020a423\nfff10113\nfe011ce3\n0000aa23\n";
+
+/// Sees the calls of up to four harts, in a leg or in several.
 #[derive(Drop)]
 struct Watch {
     harts: usize,
+    legs: AtomicU64,
     begun: [AtomicU64; 4],
     settled: [AtomicU64; 4],
     counts: [AtomicU64; 4],
@@ -33,9 +39,10 @@ struct Watch {
     strays: AtomicU64,
 }
 
-/// What was seen: how many leases the first hart began, how many harts were at their second lease when each had come to its own, how
-/// many calls were out of order, and the least and the greatest count at which a hart's last lease was settled.
-type Seen = [u64; 5];
+/// What was seen: how many leases a hart that is alone began in the last leg, how many harts were at the second lease of a leg when each had come
+/// to its own, how many calls were out of order, the least and the greatest count at which a hart's last lease was settled, and how many legs
+/// the harts began, all of them together.
+type Seen = [u64; 6];
 
 fn zeros() -> [AtomicU64; 4] {
     [
@@ -51,6 +58,7 @@ impl Watch {
     fn new(harts: u8) -> Watch {
         Watch {
             harts: usize::from(harts),
+            legs: AtomicU64::new(0),
             begun: zeros(),
             settled: zeros(),
             counts: zeros(),
@@ -78,7 +86,21 @@ impl Watch {
             self.strays.load(Ordering::SeqCst),
             least,
             greatest,
+            self.legs.load(Ordering::SeqCst),
         ]
+    }
+
+    fn stray(&self) {
+        self.strays.fetch_add(1, Ordering::SeqCst);
+    }
+
+    /// The hart begins a leg. All its leases of the one before are settled.
+    fn begin_leg(&self, place: usize) {
+        let begun = self.begun[place].swap(0, Ordering::SeqCst);
+        if self.settled[place].swap(0, Ordering::SeqCst) != begun {
+            self.stray();
+        }
+        self.legs.fetch_add(1, Ordering::SeqCst);
     }
 
     fn all_came(&self) -> bool {
@@ -105,9 +127,12 @@ impl Watch {
 impl Turnstile for Watch {
     fn before_lease(&self, hart: Hart, number: u64) {
         let place = hart.index() % 4;
+        if number == 1 {
+            self.begin_leg(place);
+        }
         let begun = self.begun[place].load(Ordering::SeqCst);
         if number != begun.wrapping_add(1) || self.settled[place].load(Ordering::SeqCst) != begun {
-            self.strays.fetch_add(1, Ordering::SeqCst);
+            self.stray();
         }
         self.begun[place].store(number, Ordering::SeqCst);
         if number == 2 {
@@ -120,7 +145,7 @@ impl Turnstile for Watch {
         let begun = self.begun[place].load(Ordering::SeqCst);
         let last = self.counts[place].swap(count, Ordering::SeqCst);
         if count <= last || self.settled[place].swap(begun, Ordering::SeqCst) == begun {
-            self.strays.fetch_add(1, Ordering::SeqCst);
+            self.stray();
         }
     }
 }
@@ -140,16 +165,68 @@ fn run_leads<R: Threads + Wait + Sync>(
     leads(rt, alloc, image, &left)
 }
 
+/// The frames of a term in which each hart goes on from one count to another.
+fn put_term(
+    alloc: Global,
+    store: &mut Store,
+    term: Term,
+    from: Count,
+    to: Count,
+) -> Result<(), Fail> {
+    let guest = store.guest();
+    let base = [from; 4];
+    let harts = guest.harts().min(4);
+    let opening = opening_of(
+        guest,
+        term,
+        term.saturating_sub(1),
+        &base[..usize::from(harts)],
+    )?;
+    let _put = store.put(opening)?;
+    for number in 0..harts {
+        let _put = store.put(piece_of(alloc, guest, key(term, number, 0), from, to, &[])?)?;
+    }
+    Ok(())
+}
+
+/// A store of harts that wait for none, in a term to one count, and in another from there to the end.
+fn in_two_terms(alloc: Global, image: &Image, middle: Count, end: Count) -> Result<Store, Memory> {
+    let mut store = Store::new(alloc, image.guest());
+    match put_term(alloc, &mut store, 1, 0, middle) {
+        Ok(()) => {}
+        Err(_) => return Err(Memory),
+    }
+    match put_term(alloc, &mut store, 2, middle, end) {
+        Ok(()) => Ok(store),
+        Err(_) => Err(Memory),
+    }
+}
+
+/// What is seen.
+#[derive(Clone, Copy)]
+enum Way {
+    /// A run.
+    Run,
+    /// A replay of what harts did in turn.
+    Replay,
+    /// The same, as if a primary had failed when each hart was at the first count: its log ends at the second one.
+    InTwoTerms(Count, Count),
+}
+
 /// Whether a replay of what harts did in turn comes to their machine.
 fn replay_leads<R: Threads + Wait + Sync>(
     rt: &R,
     alloc: Global,
     image: &Image,
     budget: u32,
+    terms: Option<(Count, Count)>,
     watch: &Watch,
 ) -> Result<bool, Memory> {
-    let left = in_turn(alloc, image, budget)?;
-    leads_on_threads(rt, alloc, image, &left.1, &left.0, watch)
+    let (machine, mut store) = in_turn(alloc, image, budget)?;
+    if let Some((middle, end)) = terms {
+        store = in_two_terms(alloc, image, middle, end)?;
+    }
+    leads_on_threads(rt, alloc, image, &store, &machine, watch)
 }
 
 /// What is seen of such a run or replay, and whether its log leads where it is to.
@@ -158,38 +235,52 @@ fn seen_of<R: Threads + Wait + Sync>(
     alloc: Global,
     image: &Image,
     budget: u32,
-    is_replay: bool,
+    way: Way,
 ) -> Result<(Seen, bool), Memory> {
     let watch = Watch::new(image.harts());
-    let leads = if is_replay {
-        replay_leads(rt, alloc, image, budget, &watch)
-    } else {
-        run_leads(rt, alloc, image, budget, &watch)
+    let leads = match way {
+        Way::Run => run_leads(rt, alloc, image, budget, &watch),
+        Way::Replay => replay_leads(rt, alloc, image, budget, None, &watch),
+        Way::InTwoTerms(middle, end) => {
+            replay_leads(rt, alloc, image, budget, Some((middle, end)), &watch)
+        }
     };
     Ok((watch.saw(), leads?))
 }
 
-/// A guest and its budget, whether a replay is seen and not a run, and what is seen. Where harts come to their end by leases that the
-/// turnstile saw, nothing was left to be done in turn.
-type Row = (&'static [u8], u32, bool, Seen);
+/// A guest and its budget, what is seen, and what that is. Where harts come to their end by leases that the turnstile saw, nothing was left to be
+/// done in turn.
+type Row = (&'static [u8], u32, Way, Seen);
 
-static ROWS: [Row; 7] = [
-    (ALONE, 5000, false, [2, 1, 0, 1805, 1805]),
-    (ALONE, 1000, false, [1, 0, 0, 1000, 1000]),
-    (ALONE, 0, false, [0; 5]),
-    (ALONE, 5000, true, [2, 1, 0, 1805, 1805]),
-    (ALONE, 1000, true, [1, 0, 0, 1000, 1000]),
-    (FOUR, 100_000, false, [0, 4, 0, 30006, 30006]),
-    (FOUR, 100_000, true, [0, 4, 0, 30006, 30006]),
+static ROWS: [Row; 9] = [
+    (ALONE, 5000, Way::Run, [2, 1, 0, 1805, 1805, 1]),
+    (ALONE, 1000, Way::Run, [1, 0, 0, 1000, 1000, 1]),
+    (ALONE, 0, Way::Run, [0; 6]),
+    (ALONE, 5000, Way::Replay, [2, 1, 0, 1805, 1805, 1]),
+    (ALONE, 1000, Way::Replay, [1, 0, 0, 1000, 1000, 1]),
+    (
+        ALONE,
+        5000,
+        Way::InTwoTerms(500, 1805),
+        [2, 1, 0, 1805, 1805, 2],
+    ),
+    (FOUR, 100_000, Way::Run, [0, 4, 0, 30006, 30006, 4]),
+    (FOUR, 100_000, Way::Replay, [0, 4, 0, 30006, 30006, 4]),
+    (
+        APART,
+        5000,
+        Way::InTwoTerms(2100, 4503),
+        [0, 8, 0, 4503, 4503, 8],
+    ),
 ];
 
 #[test]
 fn each_hart_goes_through_its_turnstile(rt: HostRuntime) -> Result<(), Fail> {
-    for (number, (file, budget, is_replay, seen)) in ROWS.iter().enumerate() {
+    for (number, (file, budget, way, seen)) in ROWS.iter().enumerate() {
         let image = image_of(rt.alloc(), *file)?;
-        let (saw, leads) = match seen_of(&rt, rt.alloc(), &image, *budget, *is_replay) {
+        let (saw, leads) = match seen_of(&rt, rt.alloc(), &image, *budget, *way) {
             Ok(answer) => answer,
-            Err(Memory) => seen_of(&rt, rt.alloc(), &image, *budget, *is_replay)?,
+            Err(Memory) => seen_of(&rt, rt.alloc(), &image, *budget, *way)?,
         };
         assert!(rt; leads && saw == *seen, "row {number}: {saw:?}");
     }
