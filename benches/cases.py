@@ -147,6 +147,8 @@ def cases_of(path, version=1):
             case.words += rest.split(" ")
         elif verb == "word":
             case.words.append(rest)
+        elif verb == "spelled":
+            case.words.append(bytes.fromhex(rest).decode())
         elif verb == "threads":
             case.threads = True
         elif verb == "file":

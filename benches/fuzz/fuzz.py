@@ -243,12 +243,12 @@ def made(chance, cases):
 
 
 def otherwise(words, answer):
-    """What is not as it must be in how a call ended. The fault of a file has its name, which may have line feeds."""
+    """What is not as it must be in how a call ended."""
     status, _, err = answer
     if status not in (0, 1, 2):
         return f"ended {status}"
     right = rb"" if status == 0 else rb"fault usage\n" if status == 2 else rb"fault [^\n]+\n"
-    if not re.fullmatch(right, err) and (status != 1 or err not in [f"fault file {word}\n".encode() for word in words]):
+    if not re.fullmatch(right, err):
         return f"status {status}, errors {err[:200]}"
     return "memory refused" if err == b"fault memory\n" else None
 

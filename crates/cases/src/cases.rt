@@ -100,6 +100,12 @@ impl<'t> Case<'t> {
         self.words.push(String::from_str(alloc, word).ok()?).ok()
     }
 
+    /// One more word, which is spelled in hexadecimal.
+    fn add_spelled(&mut self, alloc: Global, word: &str) -> Option<()> {
+        let bytes = bytes_of_hex(alloc, word)?;
+        self.add_word(alloc, str::from_utf8(&bytes).ok()?)
+    }
+
     fn add_words(&mut self, alloc: Global, words: &str) -> Option<()> {
         for word in words.split(' ') {
             self.add_word(alloc, word)?;
@@ -181,6 +187,7 @@ impl<'t> Case<'t> {
         match verb {
             "words" => self.add_words(alloc, rest)?,
             "word" => self.add_word(alloc, rest)?,
+            "spelled" => self.add_spelled(alloc, rest)?,
             "threads" => self.on_threads = true,
             "front" | "turned" | "failing" => self.change(verb, rest.parse::<usize>().ok()?)?,
             "absent" => {}

@@ -166,6 +166,19 @@ fn write_uncovered<W: Sink>(
     write_all(out, b"\n")
 }
 
+/// Writes a file's name, with `\n` for each line feed, so that it stays in its line.
+fn write_name<W: Sink>(name: &str, out: &mut W) -> Result<(), Failed> {
+    let mut is_first = true;
+    for part in name.split('\n') {
+        if !is_first {
+            write_all(out, b"\\n")?;
+        }
+        write_all(out, part.as_bytes())?;
+        is_first = false;
+    }
+    Ok(())
+}
+
 /// Writes the line that says what went wrong with a request.
 pub fn write_fault<W: Sink>(
     fault: &CommandFault,
@@ -176,7 +189,7 @@ pub fn write_fault<W: Sink>(
         CommandFault::Usage => write_all(out, b"fault usage\n"),
         CommandFault::File(file) => {
             write_all(out, b"fault file ")?;
-            write_all(out, request.name(*file).as_bytes())?;
+            write_name(request.name(*file), out)?;
             write_all(out, b"\n")
         }
         CommandFault::Image(fault) => write_image_fault(*fault, out),
