@@ -1,5 +1,5 @@
 -- What a keeper has, and what it may acknowledge.
-use Rattle.std.specs.Prelude.{ℕ, ◌≡◌, ◌<◌, ◌≤◌, ⊥, Option, None, IfSome}
+use Rattle.std.specs.Prelude.{ℕ, ◌≡◌, ◌<◌, ◌≤◌, Option, None, IfSome}
 use Rattle.log_join.specs.Stores.{StoreView}
 use Rattle.closed_cut.specs.Position.{IsPosition}
 use Rattle.ft_types.specs.declared.position.Position.{Position}
@@ -16,7 +16,7 @@ pub record KeeperView (Place : Type 0) : Type 0 where
 -- what is known of the store that is written down is its position, and no fence that is written down is below the keeper's
 pub record IsSound (written : StoreView) (written_fence : ℕ) (saved : Option Position) (fence : ℕ) : Type 0 where
   pub position : IfSome saved (λ p. IsPosition written p)
-  pub fence : fence ≤ written_fence
+  pub below : fence ≤ written_fence
 
 -- the position of what is written down, of no term below the fence
 pub record Acknowledges (written : StoreView) (fence : ℕ) (p : Position) : Type 0 where

@@ -17,12 +17,12 @@ impl From<Memory> for PlaceFault {
     }
 }
 
-/// Why a store isn't given to a term.
+/// Why a fence isn't raised.
 #[derive(Clone, Copy, Debug, PartialEq, Eq, Drop)]
-pub enum GiveFault {
-    /// A later term was given it.
+pub enum RaiseFault {
+    /// It is above the term.
     Fenced,
-    /// The fence could not be written down.
+    /// It could not be written down.
     Place(PlaceFault),
 }
 

@@ -1,12 +1,12 @@
 //! The keeper.
 
-ghost use Rattle.std.specs.Prelude.{◌≡◌, ◌≢◌, ◌<◌, ◌≤◌, ◌⊎◌, ◌↔◌, false, true, Ok, Err, IfOk, IfErr, OnOk, OnErr};
+ghost use Rattle.std.specs.Prelude.{◌≡◌, ◌≢◌, ◌<◌, ◌≤◌, ◌⊎◌, ◌↔◌, false, true, Ok, Err, IfOk, IfErr, IsSome, OnOk, OnErr};
 ghost use Rattle.log_join.specs.Stores.{IsJoin, alone};
 ghost use Rattle.log_join.specs.Answers.{answer_to};
 ghost use Rattle.tracked_position.specs.Keeping.{MayGrow};
 ghost use Rattle.fenced_keeper.specs.Keepers.{Acknowledges, IsRefused};
 
-use crate::faults::{GiveFault, KeepFault, PlaceFault};
+use crate::faults::{KeepFault, PlaceFault, RaiseFault};
 use crate::places::Place;
 use fragment_codec::Frame;
 use ft_types::{Keeper, Memory, Position, Term};
@@ -16,7 +16,7 @@ use std::marker::Model;
 use std::result::Result;
 use tracked_position::Tracked;
 
-/// A keeper's store as it was given to a term.
+/// A keeper's store, given to a term.
 #[derive(Clone, Copy)]
 pub struct Given<'k> {
     pub keeper: Keeper,
@@ -24,7 +24,7 @@ pub struct Given<'k> {
     pub store: &'k Store,
 }
 
-/// A keeper: its store, what of it is written down, and its fence, which is the greatest term to which it gave its store.
+/// A keeper: its store, what of it is written down, and its fence, the greatest term to which it gave its store.
 #[derive(Drop)]
 pub struct FencedKeeper<P: Place> {
     number: Keeper,
@@ -39,6 +39,11 @@ impl<P: Place> Model for FencedKeeper<P> {
     ghost use Rattle.fenced_keeper.specs.Keepers.{KeeperView, IsSound};
 
     ghost Value = { KeeperView P };
+
+    ghost use Rattle.std.specs.Coded.{codes};
+    ghost use Rattle.log_join.specs.Stores.{coded_store};
+
+    ghost coded = { Prim.hlevel (codes, coded_store) };
 
     ghost view = { λ k. record { number = k.number; store = k.held; saved = k.saved; fence = k.fence; place = k.place } };
 
@@ -113,6 +118,7 @@ impl<P: Place> FencedKeeper<P> {
         ensures failed { OnErr result ((P.store self.new.place ≡ P.store self.old.place) ⊎ (P.store self.new.place ≡ self.old.store)) }
         ensures store { (self.new.number ≡ self.old.number) × (self.new.store ≡ self.old.store) }
         ensures fence { (self.new.fence ≡ self.old.fence) × (P.fence self.new.place ≡ P.fence self.old.place) }
+        ensures known { OnOk result (IsSome self.new.saved) }
     {
         self.saved = None;
         self.place.write_store(alloc, self.held.store())?;
@@ -120,27 +126,36 @@ impl<P: Place> FencedKeeper<P> {
         Ok(())
     }
 
-    /// Gives the store to a term that is not below the fence. The fence is written down and raised to it first.
-    pub fn give(&mut self, term: Term) -> Result<Given<'_>, GiveFault>
-        ensures given { IfOk result (λ g. (g.keeper ≡ self.old.number) × (g.term ≡ term) × (g.store.now ≡ self.old.store)) }
+    /// Raises the fence to a term that is not below it. It is written down first.
+    pub fn raise(&mut self, term: Term) -> Result<(), RaiseFault>
         ensures raised { OnOk result ((self.new.fence ≡ term) × (P.fence self.new.place ≡ term)) }
-        ensures fenced { (result ≡ Err GiveFault.Fenced) ↔ (term < self.old.fence) }
+        ensures fenced { (result ≡ Err RaiseFault.Fenced) ↔ (term < self.old.fence) }
         ensures err { OnErr result (self.new.fence ≡ self.old.fence) }
         ensures written { OnErr result ((P.fence self.new.place ≡ P.fence self.old.place) ⊎ (P.fence self.new.place ≡ term)) }
         ensures store { (self.new.number ≡ self.old.number) × (self.new.store ≡ self.old.store) × (P.store self.new.place ≡ P.store self.old.place) }
+        ensures saved { self.new.saved ≡ self.old.saved }
     {
         if term < self.fence {
-            return Err(GiveFault::Fenced);
+            return Err(RaiseFault::Fenced);
         }
         if let Err(fault) = self.place.write_fence(term) {
-            return Err(GiveFault::Place(fault));
+            return Err(RaiseFault::Place(fault));
         }
         self.fence = term;
-        Ok(Given {
+        Ok(())
+    }
+
+    /// Gives the store, as it is, to the term to which the fence was raised.
+    pub fn give(&self) -> Given<'_>
+        ensures keeper { result.keeper ≡ self.now.number }
+        ensures term { result.term ≡ self.now.fence }
+        ensures store { result.store.now ≡ self.now.store }
+    {
+        Given {
             keeper: self.number,
-            term,
+            term: self.fence,
             store: self.held.store(),
-        })
+        }
     }
 
     /// The position that the keeper may acknowledge: that of the store that is written down, unless its term is below the fence.
