@@ -1,5 +1,5 @@
 -- Each call of a keeper is the event of its name.
-use Rattle.std.proofs.Common.{ℕ, ◌≡◌, ◌≤◌, sym, subst}
+use Rattle.std.proofs.Common.{ℕ, ◌≤◌, sym, subst}
 use Rattle.ft_types.specs.Guests.{GuestParts}
 use Rattle.log_join.specs.Stores.{StoreView}
 use Rattle.failover_theory.specs.Recorders.{Recorder}
@@ -11,10 +11,10 @@ module _ {Book Fact : Type 0} (recorder : Recorder Book Fact) (guest : GuestPart
   pub keepers_follow : KeepersFollow recorder guest quorum
   keepers_follow w number store written fence s =
       record {
-        put = λ f joined sent is. Deliver number store joined f s.store sent is;
-        join = λ other theirs joined at is. Join number other store theirs joined s.store at is;
-        save = Save number store s.store;
-        begin = Restart number written s.written;
-        give = λ term le. Fence number term store s.store (subst (λ f. f ≤ term) (sym s.fence) le);
-        acknowledged = λ p a. Acknowledge number written p s.written a.is (subst (λ f. f ≤ p.term) (sym s.fence) a.above);
+        put = λ f joined sent is. Deliver number store joined f s.has sent is;
+        join = λ other theirs joined at is. Join number other store theirs joined s.has at is;
+        save = Save number store s.has;
+        begin = Restart number written s.wrote;
+        give = λ term le. Fence number term store s.has (subst (λ f. f ≤ term) (sym s.fenced) le);
+        acknowledged = λ p a. Acknowledge number written p s.wrote a.is (subst (λ f. f ≤ p.term) (sym s.fenced) a.above);
       }

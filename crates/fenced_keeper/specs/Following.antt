@@ -12,9 +12,9 @@ use Rattle.fenced_keeper.specs.Keepers.{Acknowledges}
 
 -- in the world, the keeper of this number has this store, wrote that one down, and has this fence
 pub record Stands {Book : Type 0} (w : World Book) (number : ℕ) (store written : StoreView) (fence : ℕ) : Type 0 where
-  pub store : w.stores number ≡ Some store
-  pub written : w.saved number ≡ Some written
-  pub fence : w.fence number ≡ fence
+  pub has : w.stores number ≡ Some store
+  pub wrote : w.saved number ≡ Some written
+  pub fenced : w.fence number ≡ fence
 
 module _ {Book Fact : Type 0} (recorder : Recorder Book Fact) (guest : GuestParts) (quorum : Quorum) where
   -- what each call does to the keeper's part of the world may happen
