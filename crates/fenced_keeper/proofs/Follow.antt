@@ -1,7 +1,6 @@
 -- Each call of a keeper is the event of its name.
-use Rattle.std.proofs.Common.{ℕ, ◌≤◌, sym, subst}
+use Rattle.std.proofs.Common.{◌≤◌, sym, subst}
 use Rattle.ft_types.specs.Guests.{GuestParts}
-use Rattle.log_join.specs.Stores.{StoreView}
 use Rattle.failover_theory.specs.Recorders.{Recorder}
 use Rattle.failover_theory.specs.Worlds.{Quorum}
 use Rattle.fenced_theory.specs.Worlds.{World, Deliver, Join, Save, Restart, Fence, Acknowledge}
