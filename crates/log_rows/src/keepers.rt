@@ -108,7 +108,7 @@ fn begin(alloc: Global, drawer: Drawer) -> Result<Kept, Fail> {
     Ok(FencedKeeper::begin(alloc, Keeper::new(0), drawer).map_err(|_| "a place")?)
 }
 
-fn told(keeper: &Kept) -> Told {
+fn says(keeper: &Kept) -> Told {
     match keeper.acknowledged() {
         Ok(position) => {
             let count = position.counts.as_slice().first().copied().unwrap_or(0);
@@ -147,7 +147,7 @@ fn first_wrong(alloc: Global, failing: u32, rows: &[Row]) -> Result<Option<usize
     for (number, (deed, done, acknowledged, term)) in rows.iter().enumerate() {
         let (next, was_done) = after(alloc, keeper, *deed)?;
         keeper = next;
-        if was_done != *done || told(&keeper) != *acknowledged || keeper.give().term != *term {
+        if was_done != *done || says(&keeper) != *acknowledged || keeper.give().term != *term {
             return Ok(Some(number));
         }
     }
