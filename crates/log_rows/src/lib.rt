@@ -7,6 +7,8 @@ mod bytes;
 #[cfg(test)]
 mod come;
 #[cfg(test)]
+mod keepers;
+#[cfg(test)]
 mod recorded;
 #[cfg(test)]
 mod replays;
