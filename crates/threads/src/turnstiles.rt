@@ -3,8 +3,9 @@
 
 use crate::followers::follows_to;
 use crate::runs::{in_turn, leads, leads_on_threads, on_threads};
-use fixtures::{image_of, key, opening_of, piece_of};
-use ft_types::{Count, Hart, HartSet, Memory, Term};
+use fixtures::{image_of, key};
+use fragment_codec::{Fragment, Frame, Opening};
+use ft_types::{Count, Counts, Guest, Hart, HartSet, Memory, Term};
 use guest_image::Image;
 use log_join::Store;
 use primary_pool::Turnstile;
@@ -165,26 +166,40 @@ fn run_leads<R: Threads + Wait + Sync>(
     leads(rt, alloc, image, &left)
 }
 
-/// The frames of a term in which each hart goes on from one count to another.
+/// A hart's piece of a term, without records.
+fn piece(
+    alloc: Global,
+    guest: Guest,
+    (term, hart): (Term, u8),
+    from: Count,
+    to: Count,
+) -> Result<Frame, Memory> {
+    let records = Vec::new(alloc);
+    let piece = Fragment::new(guest, key(term, hart, 0), from, to, records).ok_or(Memory)?;
+    Ok(Frame::Log(piece))
+}
+
+/// The opening of a term in which each hart goes on from a count.
+fn opens(guest: Guest, term: Term, from: Count) -> Result<Frame, Memory> {
+    let base = [from; 4];
+    let harts = usize::from(guest.harts()).min(4);
+    let base = Counts::from_slice(base.get(..harts).unwrap_or(&[])).ok_or(Memory)?;
+    let opening = Opening::new(guest, term, term.saturating_sub(1), base).ok_or(Memory)?;
+    Ok(Frame::Opening(opening))
+}
+
+/// Puts the frames of a term in which each hart goes on from one count to another.
 fn put_term(
     alloc: Global,
     store: &mut Store,
     term: Term,
     from: Count,
     to: Count,
-) -> Result<(), Fail> {
+) -> Result<(), Memory> {
     let guest = store.guest();
-    let base = [from; 4];
-    let harts = guest.harts().min(4);
-    let opening = opening_of(
-        guest,
-        term,
-        term.saturating_sub(1),
-        &base[..usize::from(harts)],
-    )?;
-    let _put = store.put(opening)?;
-    for number in 0..harts {
-        let _put = store.put(piece_of(alloc, guest, key(term, number, 0), from, to, &[])?)?;
+    let _put = store.put(opens(guest, term, from)?)?;
+    for hart in 0..guest.harts() {
+        let _put = store.put(piece(alloc, guest, (term, hart), from, to)?)?;
     }
     Ok(())
 }
@@ -192,14 +207,9 @@ fn put_term(
 /// A store of harts that wait for none, in a term to one count, and in another from there to the end.
 fn in_two_terms(alloc: Global, image: &Image, middle: Count, end: Count) -> Result<Store, Memory> {
     let mut store = Store::new(alloc, image.guest());
-    match put_term(alloc, &mut store, 1, 0, middle) {
-        Ok(()) => {}
-        Err(_) => return Err(Memory),
-    }
-    match put_term(alloc, &mut store, 2, middle, end) {
-        Ok(()) => Ok(store),
-        Err(_) => Err(Memory),
-    }
+    put_term(alloc, &mut store, 1, 0, middle)?;
+    put_term(alloc, &mut store, 2, middle, end)?;
+    Ok(store)
 }
 
 /// What is seen.
