@@ -1,6 +1,11 @@
-pub mod Manned
+pub mod Places
 pub mod Offered
 pub mod Onward
+pub mod Heard
+pub mod Held
+pub mod Served
+pub mod Among
+pub mod Leading
 pub mod Sealed
 pub mod Taken
 pub mod Told

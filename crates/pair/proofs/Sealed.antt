@@ -1,5 +1,5 @@
 -- What was cut is settled.
-use Rattle.std.proofs.Common.{◌≡◌, ◌<◌, ◌≤◌, ◌⊎◌, ⊎_elim, ℕ, List, [], ◌∷◌, slice_index_or, ap, arith}
+use Rattle.std.proofs.Common.{◌≡◌, ◌<◌, ◌≤◌, ⊎_elim, ℕ, List, [], ◌∷◌, slice_index_or, ap, arith}
 use Rattle.ft_types.specs.Guests.{GuestParts}
 use Rattle.ft_types.specs.Counts.{count_at}
 use Rattle.fragment_codec.specs.declared.frame.Frame.{Frame}

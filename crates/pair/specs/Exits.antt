@@ -4,7 +4,8 @@ use Rattle.std.specs.List.{AllByRecursion}
 use Rattle.ft_types.specs.declared.names.TheConstants.{HART_LIMIT}
 use Rattle.ack_core.specs.declared.board.Board.{Board}
 use Rattle.ack_core.specs.declared.seats.GateSeat.{GateSeat}
-use Rattle.ack_core.specs.Seats.{term_of, keepers_of, IsGateOf}
+use Rattle.ack_core.specs.Seats.{term_of, keepers_of, harts_of, heard, IsGateOf}
+use Rattle.ack_core.specs.Lists.{StartsWith}
 use Rattle.output_gate.specs.Gates.{GateView, line_of, gone_of, waiting_of, offered_of}
 use Rattle.output_gate.specs.Looks.{IsSeen}
 use Rattle.ft_types.specs.declared.output.Output.{Output}
@@ -19,6 +20,11 @@ AreLast gate steps = (hart : ℕ) → hart < HART_LIMIT → AllByRecursion (λ o
 -- the gate is one of the board's term and keepers, the seat is the board's, and no count is noted that it has not seen
 abbrev pub IsAtBoard : Board → GateView → GateSeat → Type 0
 IsAtBoard board gate seat = (term_of board ≡ gate.term) × (keepers_of board ≡ gate.keepers) × IsGateOf board seat × IsSeen board gate seat
+
+-- what the one seat has heard of each keeper begins what the other has heard of it
+abbrev pub AreLonger : Board → GateSeat → GateSeat → Type 0
+AreLonger board seat later =
+    (keeper hart : ℕ) → keeper < keepers_of board → hart < harts_of board → StartsWith (heard later keeper hart) (heard seat keeper hart)
 
 -- the output is its hart's next: its number is how many were offered, and none of them has a later step
 abbrev pub IsNext : GateView → Output → Type 0

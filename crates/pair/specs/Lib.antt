@@ -1,5 +1,8 @@
 pub mod Exits
 pub mod Keeping
+pub mod Leading
 pub mod Posts
+pub mod Released
 pub mod Rounds
+pub mod Serving
 pub mod Telling

@@ -1,9 +1,10 @@
 -- What the threads of a pair begin with.
-use Rattle.std.specs.Prelude.{◌≡◌, ℕ, ◌<◌, List, [], length, slice_index_or}
+use Rattle.std.specs.Prelude.{◌≡◌, ℕ, ◌<◌, ◌≤◌, List, [], length, slice_index_or, replicate}
 use Rattle.ft_types.specs.declared.names.TheConstants.{HART_LIMIT}
 use Rattle.ack_core.specs.declared.board.Board.{Board}
 use Rattle.ack_core.specs.declared.seats.KeeperSeat.{KeeperSeat}
-use Rattle.ack_core.specs.Seats.{harts_of, IsKeeperOf}
+use Rattle.ack_core.specs.Seats.{harts_of, keepers_of, keeper_of, published, IsKeeperOf, IsDealt}
+use Rattle.hart_lease.specs.Runs.{counts_of}
 use Rattle.output_gate.specs.Gates.{offered_of}
 use Rattle.lease_rounds.specs.Running.{IsIdle}
 use Rattle.pair.specs.declared.posts.Post.{Post}
@@ -11,20 +12,30 @@ use Rattle.pair.specs.declared.posts.Watch.{Watch}
 use Rattle.pair.specs.declared.posts.Primary.{Primary}
 use Rattle.pair.specs.Exits.{IsAtBoard}
 
--- each is a seat of one of the board's keepers
+-- the seats of the board's keepers, in their order, which have published nothing
 abbrev pub AreKeepersOf : Board → List KeeperSeat → Type 0
-AreKeepersOf board seats = (k : ℕ) (other : KeeperSeat) → k < length seats → IsKeeperOf board (slice_index_or seats k other)
+AreKeepersOf board seats =
+    (length seats ≡ keepers_of board) × ((k : ℕ) (other : KeeperSeat) → k < length seats → IsDealt board (slice_index_or seats k other) k)
 
--- the post of one of the board's keepers, whose store is of a guest with the board's harts
+-- the post of one of the board's keepers, which has published nothing, and whose store is of a guest with the board's harts
 abbrev pub IsPostOf : Board → Post → Type 0
-IsPostOf board post = IsKeeperOf board post.seat × (post.store.guest.harts ≡ harts_of board)
+IsPostOf board post =
+    IsKeeperOf board post.seat × ((hart : ℕ) → published post.seat hart ≡ []) × (post.store.guest.harts ≡ harts_of board)
+
+-- the posts of the board's keepers, in their order
+abbrev pub ArePostsOf : Board → List Post → Type 0
+ArePostsOf board posts =
+    (length posts ≡ keepers_of board)
+    × ((k : ℕ) (other : Post) → k < length posts → IsPostOf board (slice_index_or posts k other) × (keeper_of (slice_index_or posts k other).seat ≡ k))
 
 -- the board's gate, to which nothing was offered
 pub record IsWatchOf (board : Board) (watch : Watch) : Type 0 where
   pub place : IsAtBoard board watch.gate watch.seat
   pub empty : (hart : ℕ) → hart < HART_LIMIT → offered_of watch.gate hart ≡ []
 
--- a primary that no lease holds up, and whose guest has the book's harts
+-- a primary that no lease holds up, whose guest has the book's harts, and whose harts may each go to the budget, which none is past
 pub record MayLead (primary : Primary) : Type 0 where
   pub idle : IsIdle primary.book
   pub harts : length primary.book.machine.harts ≡ primary.guest.harts
+  pub limits : primary.book.mode.limits ≡ replicate (length primary.book.machine.harts) primary.budget
+  pub below : (hart : ℕ) → counts_of primary.book.machine hart ≤ primary.budget

@@ -6,7 +6,7 @@ ghost use Rattle.ft_types.specs.declared.names.TheConstants.{HART_LIMIT};
 ghost use Rattle.ack_core.specs.Seats.{harts_of, keepers_of, seen};
 ghost use Rattle.output_gate.specs.Gates.{noted_at, held_outputs};
 ghost use Rattle.output_gate.specs.Looks.{IsInside};
-ghost use Rattle.pair.specs.Exits.{AreLast, IsAtBoard, IsNext, TakesIn};
+ghost use Rattle.pair.specs.Exits.{AreLast, AreLonger, IsAtBoard, IsNext, TakesIn};
 ghost use Rattle.pair.specs.declared.messages.ToGate.TheVariants.{Offer, End};
 
 use crate::messages::ToGate;
@@ -82,6 +82,8 @@ pub(crate) fn look_on(
     ensures place { IsAtBoard board.now gate.new seat.new }
     ensures noted { (keeper hart : ℕ) → keeper < keepers_of board.now → hart < harts_of board.now →
         noted_at gate.new keeper hart ≡ seen seat.new keeper hart }
+    ensures heard { AreLonger board.now seat.old seat.new }
+    ensures need { gate.new.need ≡ gate.old.need }
     ensures released { OnOk result (released.new.items ≡ released.old.items ++ held_outputs gate.new.need gate.new.noted gate.old.lines) }
     // Each was counted above its step by as many keepers as it needs.
     ensures inside { OnOk result (AllByRecursion (IsInside board.now gate.new seat.new) (held_outputs gate.new.need gate.new.noted gate.old.lines)) }
@@ -101,9 +103,13 @@ pub(crate) fn close(
     released: Vec<Output>,
 ) -> Result<(Gate, GateSeat, Vec<Output>), Memory>
     requires { IsAtBoard board.now gate seat }
+    ensures place { IfOk result (λ r. IsAtBoard board.now r.0 r.1) }
     ensures noted { IfOk result (λ r. (keeper hart : ℕ) → keeper < keepers_of board.now → hart < harts_of board.now →
         noted_at r.0 keeper hart ≡ seen r.1 keeper hart) }
+    ensures heard { IfOk result (λ r. AreLonger board.now seat r.1) }
+    ensures need { IfOk result (λ r. r.0.need ≡ gate.need) }
     ensures released { IfOk result (λ r. r.2.items ≡ released.items ++ held_outputs r.0.need r.0.noted gate.lines) }
+    ensures inside { IfOk result (λ r. AllByRecursion (IsInside board.now r.0 r.1) (held_outputs r.0.need r.0.noted gate.lines)) }
 {
     let mut gate = gate;
     let mut seat = seat;

@@ -1,14 +1,17 @@
 //! The gate's thread.
 
-ghost use Rattle.std.specs.Prelude.{◌≡◌, ◌<◌, ℕ, [], OnOk};
+ghost use Rattle.std.specs.Prelude.{◌≡◌, ◌<◌, ℕ, [], IfOk, OnOk};
+ghost use Rattle.std.specs.List.{AllByRecursion};
+ghost use Rattle.ack_core.specs.Seats.{IsGateOf};
 ghost use Rattle.output_gate.specs.Gates.{offered_of};
 ghost use Rattle.pair.specs.Exits.{AreLast, IsAtBoard};
 ghost use Rattle.pair.specs.Posts.{IsWatchOf};
+ghost use Rattle.pair.specs.Serving.{IsHeard};
 
 use crate::exits::{LastSteps, close, look_on, no_steps, take_in};
 use crate::messages::ToGate;
 use crate::posts::Watch;
-use ack_core::Board;
+use ack_core::{Board, GateSeat};
 use crossbeam_channel::Receiver;
 use ft_types::Memory;
 use output_gate::{Gate, Output};
@@ -23,6 +26,8 @@ pub(crate) struct GateEnd {
     pub(crate) released: Vec<Output>,
     /// How many had gone out when the gate heard that the primary was at its end.
     pub(crate) early: usize,
+    /// The gate's seat, which sees no more.
+    pub(crate) seat: GateSeat,
 }
 
 /// Waits for a message to the gate, and takes with it what is there by then. Whether the primary's last one came: `None` where
@@ -61,6 +66,9 @@ pub(crate) fn guard<R: Wait>(
     watch: Watch,
 ) -> Result<GateEnd, Memory>
     requires { IsWatchOf board.now watch }
+    ensures seat { IfOk result (λ end. IsGateOf board.now end.seat) }
+    // Of each output that went out it had heard of as many keepers as the gate needs, above its step.
+    ensures heard { IfOk result (λ end. AllByRecursion (IsHeard board.now end.seat watch.gate.need) end.released.items) }
 {
     let Watch {
         mut gate,
@@ -79,6 +87,10 @@ pub(crate) fn guard<R: Wait>(
         }
         look_on(alloc, board, &mut gate, &mut seat, &mut released)?;
     }
-    let (_gate, _seat, released) = close(alloc, board, gate, seat, released)?;
-    Ok(GateEnd { released, early })
+    let (_gate, seat, released) = close(alloc, board, gate, seat, released)?;
+    Ok(GateEnd {
+        released,
+        early,
+        seat,
+    })
 }

@@ -1,11 +1,14 @@
 //! A keeper's thread.
 
+ghost use Rattle.std.specs.Prelude.{IfOk};
+ghost use Rattle.ack_core.specs.Seats.{keeper_of};
 ghost use Rattle.pair.specs.Posts.{IsPostOf};
+ghost use Rattle.pair.specs.Serving.{IsServed};
 
 use crate::keeping::keep;
 use crate::messages::{ToGate, ToKeeper, send};
 use crate::posts::Post;
-use ack_core::Board;
+use ack_core::{Board, KeeperSeat};
 use crossbeam_channel::Receiver;
 use fragment_codec::Frame;
 use ft_types::Memory;
@@ -13,6 +16,15 @@ use std::alloc::Global;
 use std::result::Result;
 use std::sync::Wait;
 use tracked_position::Tracked;
+
+/// What a keeper's thread gives.
+#[derive(Drop)]
+pub(crate) struct Served {
+    /// The keeper's seat, which publishes no more.
+    pub(crate) seat: KeeperSeat,
+    /// What the keeper holds, with its position.
+    pub(crate) store: Tracked,
+}
 
 /// Adds the frame of a message. Whether it was the last message.
 fn add(frames: &mut Vec<Frame>, message: ToKeeper) -> Result<bool, Memory> {
@@ -49,14 +61,15 @@ fn hear<R: Wait>(
 }
 
 /// A keeper's thread, which publishes its position each time it took what came, and ends at the primary's last message. Where it
-/// finds no memory, or none comes any more, it gives up.
+/// finds no memory, or none comes any more, it gives up. Each count that it published is one that its store had.
 pub(crate) fn serve<R: Wait>(
     rt: &R,
     alloc: Global,
     board: &Board,
     post: Post,
-) -> Result<Tracked, Memory>
+) -> Result<Served, Memory>
     requires { IsPostOf board.now post }
+    ensures { IfOk result (λ s. IsServed board.now (keeper_of post.seat) s) }
 {
     let Post {
         mut seat,
@@ -69,7 +82,7 @@ pub(crate) fn serve<R: Wait>(
         let ended = hear(rt, &channel, &mut fresh)?;
         keep(alloc, board, &mut seat, &mut store, fresh)?;
         if ended {
-            return Ok(store);
+            return Ok(Served { seat, store });
         }
         send(rt, &gate, ToGate::Published)?;
     }

@@ -1,7 +1,7 @@
 //! A keeper's work: frames go into its store, and the position of what it holds onto the board.
 
 ghost use Rattle.std.specs.Prelude.{◌≡◌, OnOk};
-ghost use Rattle.ack_core.specs.Seats.{harts_of, IsKeeperOf};
+ghost use Rattle.ack_core.specs.Seats.{harts_of, keeper_of, IsKeeperOf};
 ghost use Rattle.pair.specs.Keeping.{AreTaken, Tells};
 
 use ack_core::{Board, KeeperSeat};
@@ -26,7 +26,7 @@ pub(crate) fn take_all(alloc: Global, store: &mut Tracked, frames: Vec<Frame>) -
 pub(crate) fn acknowledge(board: &Board, seat: &mut KeeperSeat, store: &Tracked)
     requires seat { IsKeeperOf board.now seat.old }
     requires harts { store.now.guest.harts ≡ harts_of board.now }
-    ensures seat { IsKeeperOf board.now seat.new }
+    ensures seat { IsKeeperOf board.now seat.new × (keeper_of seat.new ≡ keeper_of seat.old) }
     ensures tells { Tells board.now seat.old store.now seat.new }
 {
     let _harts = board.harts();
@@ -43,7 +43,7 @@ pub(crate) fn keep(
 ) -> Result<(), Memory>
     requires seat { IsKeeperOf board.now seat.old }
     requires harts { store.old.guest.harts ≡ harts_of board.now }
-    ensures seat { IsKeeperOf board.now seat.new }
+    ensures seat { IsKeeperOf board.now seat.new × (keeper_of seat.new ≡ keeper_of seat.old) }
     ensures guest { store.new.guest ≡ store.old.guest }
     ensures taken { OnOk result (AreTaken store.old frames.items store.new) }
     ensures tells { OnOk result (Tells board.now seat.old store.new seat.new) }

@@ -10,7 +10,9 @@ mod messages;
 mod posts;
 mod primary_thread;
 mod printing;
+mod released;
 mod rounds;
+mod settling;
 mod telling;
 mod threads;
 

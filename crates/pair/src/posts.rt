@@ -1,8 +1,8 @@
 //! The channels of a pair: what each keeper's thread begins with, and whom the primary sends to.
 
-ghost use Rattle.std.specs.Prelude.{◌≡◌, IfOk, All};
-ghost use Rattle.ack_core.specs.Seats.{harts_of, keepers_of};
-ghost use Rattle.pair.specs.Posts.{AreKeepersOf, IsPostOf};
+ghost use Rattle.std.specs.Prelude.{◌≡◌, IfOk};
+ghost use Rattle.ack_core.specs.Seats.{harts_of};
+ghost use Rattle.pair.specs.Posts.{AreKeepersOf, ArePostsOf};
 
 use crate::messages::{ToGate, ToKeeper};
 use ack_core::{Board, GateSeat, KeeperSeat};
@@ -79,7 +79,7 @@ pub(crate) fn man_posts(
 ) -> Result<(Vec<Post>, Lines), Memory>
     requires seats { AreKeepersOf board.now seats.items }
     requires harts { guest.harts ≡ harts_of board.now }
-    ensures { IfOk result (λ r. All (IsPostOf board.now) r.0.items) }
+    ensures { IfOk result (λ r. ArePostsOf board.now r.0.items) }
 {
     let mut posts = Vec::new(alloc);
     let mut keepers = Vec::new(alloc);

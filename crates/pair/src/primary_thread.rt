@@ -1,10 +1,11 @@
 //! The primary's thread.
 
-ghost use Rattle.std.specs.Prelude.{◌≡◌, ◌≤◌, ℕ, length, IfOk, OnOk};
+ghost use Rattle.std.specs.Prelude.{◌≡◌, ◌≤◌, ℕ, length, replicate, IfOk, OnOk};
 ghost use Rattle.ft_types.specs.Counts.{count_at};
 ghost use Rattle.log_pieces.specs.Pieces.{IsCut, book_log};
 ghost use Rattle.hart_lease.specs.Runs.{counts_of};
-ghost use Rattle.lease_rounds.specs.Running.{IsIdle};
+ghost use Rattle.lease_rounds.specs.Running.{Continues, GoWithin, IsIdle, KeepsOffered};
+ghost use Rattle.pair.specs.Leading.{HasLed};
 ghost use Rattle.pair.specs.Posts.{MayLead};
 
 use crate::messages::{ToGate, ToKeeper, send};
@@ -57,10 +58,16 @@ fn go_on<R: Threads + Wait + Sync>(
     book: Book<Recording>,
     budget: u32,
 ) -> Result<Book<Recording>, Memory>
-    requires { IsIdle book }
+    requires idle { IsIdle book }
+    requires limits { book.mode.limits ≡ replicate (length book.machine.harts) budget }
+    requires below { (hart : ℕ) → counts_of book.machine hart ≤ budget }
     ensures idle { IfOk result (λ b. IsIdle b) }
     ensures harts { IfOk result (λ b. length b.machine.harts ≡ length book.machine.harts) }
-    ensures counts { IfOk result (λ b. (hart : ℕ) → counts_of book.machine hart ≤ counts_of b.machine hart) }
+    ensures continues { IfOk result (λ b. Continues book b) }
+    ensures offered { IfOk result (λ b. KeepsOffered book b) }
+    ensures counts { IfOk result (λ b. GoWithin book b) }
+    ensures limits { IfOk result (λ b. b.mode.limits ≡ book.mode.limits) }
+    ensures below { IfOk result (λ b. (hart : ℕ) → counts_of b.machine hart ≤ budget) }
 {
     let end = round_end(book.counts(), budget);
     match run(rt, alloc, book, end, &Free) {
@@ -94,6 +101,7 @@ pub(crate) fn lead<R: Threads + Wait + Sync>(
     primary: Primary,
 ) -> Result<Book<Recording>, Memory>
     requires { MayLead primary }
+    ensures { IfOk result (λ b. HasLed primary.book b) }
 {
     let Primary {
         mut book,

@@ -3,6 +3,7 @@
 ghost use Rattle.std.specs.Prelude.{◌≡◌, ◌+◌, ◌++◌, ◌<◌, ◌^◌, ℕ, Some, drop, length, slice_get, slice_index, IfOk, OnOk};
 ghost use Rattle.rv32_hart.specs.Hart.{Hart as HartRecord};
 ghost use Rattle.pair.specs.Telling.{numbered_from, outputs_since};
+ghost use Rattle.pair.specs.Released.{outputs_in};
 
 use ft_types::{Count, HART_ROW, Hart, Memory};
 use guest_image::Machine;
@@ -81,10 +82,12 @@ pub(crate) fn outputs_told(machine: &Machine) -> [usize; HART_ROW]
 }
 
 /// How many outputs all harts have.
-pub(crate) fn outputs_in_all(machine: &Machine) -> usize {
+pub(crate) fn outputs_in_all(machine: &Machine) -> usize
+    ensures { result ≡ length (outputs_in machine.now) }
+{
     let mut outputs = 0usize;
-    for told in outputs_told(machine) {
-        outputs = outputs.saturating_add(told);
+    for number in 0..machine.harts() {
+        outputs += machine.hart(Hart::new(number)).outputs().len();
     }
     outputs
 }

@@ -1,14 +1,22 @@
 //! The threads of a pair.
 
-ghost use Rattle.std.specs.Prelude.{All};
+ghost use Rattle.std.specs.Prelude.{◌≡◌, ◌+◌, ◌<◌, IfOk, filter, length};
+ghost use Rattle.std.specs.List.{AllByRecursion};
+ghost use Rattle.ack_core.specs.Seats.{term_of, harts_of, keepers_of, keeper_of, IsGateOf};
 ghost use Rattle.input_script.specs.Script.{AreOffered};
-ghost use Rattle.pair.specs.Posts.{IsPostOf, IsWatchOf, MayLead};
+ghost use Rattle.log_streams.specs.Primary.{IsRunOf};
+ghost use Rattle.pair.specs.Leading.{HasLed};
+ghost use Rattle.pair.specs.Posts.{ArePostsOf, IsPostOf, IsWatchOf, MayLead};
+ghost use Rattle.pair.specs.Released.{IsPartOf, is_among, outputs_in};
+ghost use Rattle.pair.specs.Serving.{AreHad, AreServed, IsHeard, IsHeldOnTheWay, IsServed};
 
 use crate::gate_thread::{GateEnd, guard};
-use crate::keeper_thread::serve;
+use crate::keeper_thread::{Served, serve};
 use crate::posts::{Post, Primary, Watch, man_posts};
 use crate::primary_thread::lead;
 use crate::printing::write_pair;
+use crate::released::released_in;
+use crate::settling::stores_of;
 use crate::telling::outputs_in_all;
 use ack_core::Board;
 use crossbeam_channel::unbounded;
@@ -50,21 +58,18 @@ fn serve_all<R: Threads + Wait + Sync>(
     alloc: Global,
     board: &Board,
     posts: Vec<Post>,
-) -> Result<Vec<Tracked>, Memory>
-    requires { All (IsPostOf board.now) posts.items }
+) -> Result<Vec<Result<Served, Memory>>, Memory>
+    requires { ArePostsOf board.now posts.items }
+    ensures { IfOk result (λ all. AreServed board.now all.items) }
 {
-    let given = thread::map_vec(
+    Ok(thread::map_vec(
         rt,
         posts,
-        &|post| -> Result<Tracked, Memory>
+        &|post| -> Result<Served, Memory>
             requires { IsPostOf board.now post }
+            ensures { IfOk result (λ s. IsServed board.entry.now (keeper_of post.seat) s) }
         { serve(rt, alloc, board, post) },
-    )?;
-    let mut stores = Vec::new(alloc);
-    for store in given {
-        stores.push(store?)?;
-    }
-    Ok(stores)
+    )?)
 }
 
 /// The keepers' threads beside the primary. Where no thread can be made for them they come last.
@@ -75,19 +80,23 @@ fn lead_and_serve<R: Threads + Wait + Sync>(
     posts: Vec<Post>,
     primary: Primary,
 ) -> (
-    Result<Vec<Tracked>, Memory>,
+    Result<Vec<Result<Served, Memory>>, Memory>,
     Result<Book<Recording>, Memory>,
 )
-    requires posts { All (IsPostOf board.now) posts.items }
+    requires posts { ArePostsOf board.now posts.items }
     requires primary { MayLead primary }
+    ensures served { IfOk result.0 (λ all. AreServed board.now all.items) }
+    ensures led { IfOk result.1 (λ book. HasLed primary.book book) }
 {
     thread::join(
         rt,
-        move || -> Result<Vec<Tracked>, Memory>
-            requires { All (IsPostOf board.now) posts.items }
+        move || -> Result<Vec<Result<Served, Memory>>, Memory>
+            requires { ArePostsOf board.now posts.items }
+            ensures { IfOk result (λ all. AreServed board.entry.now all.items) }
         { serve_all(rt, alloc, board, posts) },
         move || -> Result<Book<Recording>, Memory>
             requires { MayLead primary }
+            ensures { IfOk result (λ book. HasLed primary.book book) }
         { lead(rt, alloc, primary) },
     )
 }
@@ -102,37 +111,64 @@ fn run_all<R: Threads + Wait + Sync>(
     primary: Primary,
 ) -> Result<PairEnd, Memory>
     requires watch { IsWatchOf board.now watch }
-    requires posts { All (IsPostOf board.now) posts.items }
+    requires posts { ArePostsOf board.now posts.items }
     requires primary { MayLead primary }
+    requires harts { 0 < harts_of board.now }
+    ensures led { IfOk result (λ end. HasLed primary.book end.book) }
+    ensures inside { IfOk result (λ end. AllByRecursion (IsHeldOnTheWay end.stores.items (term_of board.now) watch.gate.need) end.released.items) }
+    ensures part { IfOk result (λ end. IsPartOf end.released.items (outputs_in end.book.machine)) }
+    ensures kept { IfOk result (λ end. length end.released.items + end.kept ≡ length (outputs_in end.book.machine)) }
 {
-    let (gate, (stores, book)) = thread::join(
+    let (gate, (served, book)) = thread::join(
         rt,
         move || -> Result<GateEnd, Memory>
             requires { IsWatchOf board.now watch }
+            ensures { IfOk result (λ end. IsGateOf board.entry.now end.seat × AllByRecursion (IsHeard board.entry.now end.seat watch.gate.need) end.released.items) }
         { guard(rt, alloc, board, watch) },
         move || -> (
-            Result<Vec<Tracked>, Memory>,
+            Result<Vec<Result<Served, Memory>>, Memory>,
             Result<Book<Recording>, Memory>,
         )
-            requires { All (IsPostOf board.now) posts.items × MayLead primary }
+            requires { ArePostsOf board.now posts.items × MayLead primary }
+            ensures { IfOk result.0 (λ all. AreServed board.entry.now all.items) × IfOk result.1 (λ book. HasLed primary.book book) }
         { lead_and_serve(rt, alloc, board, posts, primary) },
     );
-    Ok(end_of(gate?, stores?, book?))
+    end_of(alloc, board, gate?, served?, book?)
 }
 
-/// What a pair comes to.
-fn end_of(gate: GateEnd, stores: Vec<Tracked>, book: Book<Recording>) -> PairEnd {
-    let GateEnd { released, early } = gate;
-    let mut released = released;
-    released.sort_unstable_by_key(|output| (output.hart.number(), output.number));
-    let kept = outputs_in_all(book.machine()).saturating_sub(released.len());
-    PairEnd {
+/// What a pair comes to: of the outputs of the primary's machine those go out that the gate gave, at their numbers and with their
+/// steps and words.
+fn end_of(
+    alloc: Global,
+    board: &Board,
+    gate: GateEnd,
+    served: Vec<Result<Served, Memory>>,
+    book: Book<Recording>,
+) -> Result<PairEnd, Memory>
+    requires gate { IsGateOf board.now gate.seat }
+    requires served { AreServed board.now served.items }
+    requires harts { 0 < harts_of board.now }
+    ensures stores { IfOk result (λ end. length end.stores.items ≡ keepers_of board.now) }
+    ensures had { IfOk result (λ end. AreHad board.now gate.seat end.stores.items) }
+    ensures released { IfOk result (λ end. end.released.items ≡ filter (is_among gate.released.items) (outputs_in book.machine)) }
+    ensures kept { IfOk result (λ end. length end.released.items + end.kept ≡ length (outputs_in book.machine)) }
+    ensures rest { IfOk result (λ end. (end.early ≡ gate.early) × (end.book ≡ book)) }
+{
+    let GateEnd {
+        released,
+        early,
+        seat,
+    } = gate;
+    let stores = stores_of(alloc, board, seat, served)?;
+    let released = released_in(alloc, book.machine(), &released)?;
+    let kept = outputs_in_all(book.machine()) - released.len();
+    Ok(PairEnd {
         released,
         early,
         kept,
         book,
         stores,
-    }
+    })
 }
 
 /// Runs a primary of the image from boot, with what the script offers, until each hart is halted or at the budget, beside
@@ -145,6 +181,12 @@ pub fn run_pair<R: Threads + Wait + Sync>(
     orders: &PairOrders,
 ) -> Result<PairEnd, Memory>
     requires { AreOffered image.now.harts script.now }
+    ensures run { IfOk result (λ end. IsRunOf image.now script.now orders.now.budget end.book) }
+    // As many keepers as are needed had each output inside a position, on the way to the stores that they are left with.
+    ensures inside { IfOk result (λ end. AllByRecursion (IsHeldOnTheWay end.stores.items 1 orders.now.quorum.need) end.released.items) }
+    // What went out is a part of what the primary's machine put out, in its order, and the rest is counted.
+    ensures part { IfOk result (λ end. IsPartOf end.released.items (outputs_in end.book.machine)) }
+    ensures kept { IfOk result (λ end. length end.released.items + end.kept ≡ length (outputs_in end.book.machine)) }
 {
     let book = begin_run(alloc, image, script, orders.budget())?;
     let (board, seats, seat) = Board::new(alloc, FIRST_TERM, image.harts(), orders.keepers())?;

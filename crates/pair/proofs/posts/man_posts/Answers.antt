@@ -1,12 +1,11 @@
-use Rattle.std.proofs.Common.{◌≡◌, [], ◌∷◌, ◌++◌, All, List, ap, sym, subst, append_assoc, ◌∙◌}
-use Rattle.std.proofs.lemmas.List.Elements.{All-append}
+use Rattle.std.proofs.Common.{◌≡◌, ℕ, ◌+◌, [], ◌∷◌, ◌++◌, List, length, length-append, ap, sym, subst, append_assoc, ◌∙◌}
 use Rattle.std.specs.Vec.Iter.{into_iter_items}
 use Rattle.ft_types.specs.Guests.{GuestParts}
 use Rattle.ack_core.specs.declared.seats.KeeperSeat.{KeeperSeat}
-use Rattle.ack_core.specs.Seats.{IsKeeperOf}
+use Rattle.ack_core.specs.Seats.{IsDealt, keeper_of}
 use Rattle.pair.specs.declared.posts.Post.{Post}
 use Rattle.pair.specs.Posts.{AreKeepersOf, IsPostOf}
-use Rattle.pair.proofs.Manned.{at_middle, all_one}
+use Rattle.pair.proofs.Places.{EachAt, at_place, more_at}
 use Rattle.pair.proofs.posts.man_posts.Goals as goal
 
 pub loop-seat-preserved : goal.loop-seat-preserved
@@ -18,14 +17,15 @@ loop-seat-preserved c =
     let steps : into_iter_items at.seat-iterator ≡ seat ∷ into_iter_items c.next.new.self = c.in-Some.ensures.steps.0 in
     let parts : c.args.seats.items ≡ at.yielded ++ seat ∷ into_iter_items c.next.new.self =
     sym (ap (λ (xs : List KeeperSeat). at.yielded ++ xs) (sym steps) ∙ at.invariant.rest ∙ c.into_iter-seat-iterator.ensures.into_iter_gives.0) in
-    let own : IsKeeperOf board seat = at_middle (IsKeeperOf board) at.yielded seat (into_iter_items c.next.new.self)
-    (subst (λ (xs : List KeeperSeat). AreKeepersOf board xs) parts c.requires.seats) in
-    let posted : IsPostOf board post = (
-      subst (λ (s : KeeperSeat). IsKeeperOf board s) (sym c.in_ok-post.ensures.0) own,
-      ap (λ (g : GuestParts). g.harts) c.in_ok-post.ensures.1 ∙ c.requires.harts,
-    ) in
+    let n = length at.yielded in
+    let own : IsDealt board seat n = at_place (λ k s. IsDealt board s k) at.yielded seat (into_iter_items c.next.new.self)
+    (subst (λ (xs : List KeeperSeat). AreKeepersOf board xs) parts c.requires.seats).1 in
+    let dealt : IsDealt board post.seat n = subst (λ (s : KeeperSeat). IsDealt board s n) (sym c.in_ok-post.ensures.0) own in
+    let posted : IsPostOf board post = (dealt.0, dealt.2, ap (λ (g : GuestParts). g.harts) c.in_ok-post.ensures.1 ∙ c.requires.harts) in
+    let items : c.push.new.self.items ≡ at.posts.items ++ post ∷ [] = c.in_ok-push.ensures.items in
     record {
-      posts = subst (λ (xs : List Post). All (IsPostOf board) xs) (sym c.in_ok-push.ensures.items)
-          (All-append (IsPostOf board) at.posts.items (post ∷ []) at.invariant.posts (all_one (IsPostOf board) post posted));
+      count = ap length items ∙ length-append at.posts.items (post ∷ []) ∙ ap (λ (k : ℕ). k + 1) at.invariant.count ∙ sym (length-append at.yielded (seat ∷ []));
+      posts = subst (λ (xs : List Post). EachAt (λ k p. IsPostOf board p × (keeper_of p.seat ≡ k)) xs) (sym items)
+          (more_at (λ k p. IsPostOf board p × (keeper_of p.seat ≡ k)) at.posts.items post at.invariant.posts (posted, dealt.1 ∙ sym at.invariant.count));
       rest = append_assoc at.yielded (seat ∷ []) _ ∙ rw (← steps) at.invariant.rest;
     }

@@ -1,0 +1,27 @@
+use Rattle.std.proofs.Common.{ap, refl, ◌∙◌}
+use Rattle.ft_types.specs.Guests.{GuestParts}
+use Rattle.pair.proofs.Served.{told_on, none_told}
+use Rattle.pair.proofs.keeper_thread.serve.Goals as goal
+
+pub loop-init : goal.loop-init
+loop-init g c = record {
+  seat = c.requires.0;
+  keeper = refl;
+  harts = c.requires.2;
+  had = none_told c.args.board.now c.args.post.seat c.args.post.store c.requires.1;
+}
+
+pub loop-preserved : goal.loop-preserved
+loop-preserved g c = record {
+  seat = c.in_ok-keep.ensures.seat.0;
+  keeper = c.in_ok-keep.ensures.seat.1 ∙ c.loop.invariant.keeper;
+  harts = ap (λ (g : GuestParts). g.harts) c.in_ok-keep.ensures.guest ∙ c.loop.invariant.harts;
+  had = told_on c.args.board.now c.loop.seat c.keep.new.seat c.loop.store c.keep.new.store _ c.loop.invariant.had c.in_ok-keep.ensures.taken c.in_ok-keep.ensures.tells;
+}
+
+pub returns-then-ended : goal.returns-then-ended
+returns-then-ended g c = record {
+  seat = c.in_ok-keep.ensures.seat.0;
+  keeper = c.in_ok-keep.ensures.seat.1 ∙ c.loop.invariant.keeper;
+  had = told_on c.args.board.now c.loop.seat c.keep.new.seat c.loop.store c.keep.new.store _ c.loop.invariant.had c.in_ok-keep.ensures.taken c.in_ok-keep.ensures.tells;
+}

@@ -1,0 +1,29 @@
+use Rattle.std.proofs.Common.{◌∙◌, ℕ, sym, subst}
+use Rattle.std.specs.List.{AllByRecursion}
+use Rattle.log_streams.specs.Primary.{IsReady, IsRunOf}
+use Rattle.pair.specs.Serving.{IsHeldOnTheWay}
+use Rattle.pair.proofs.Held.{if_ok}
+use Rattle.pair.proofs.Leading.{may_lead, run_of}
+use Rattle.pair.proofs.threads.run_pair.Goals as goal
+
+pub run_all-requires-clause-primary : goal.run_all-requires-clause-primary
+run_all-requires-clause-primary g c κs order =
+    let may =
+    may_lead c.args.image.now c.args.script.now c.budget.result c.in_ok-book.book c.guest-guest.result c.budget-2.result c.in_ok-book.ensures c.guest-guest.ensures
+    (c.budget-2.ensures ∙ sym c.budget.ensures) in
+    record { idle = c.in_ok-book.ensures.idle; harts = may.0; limits = may.1; below = may.2 }
+
+pub returns-clause-run : goal.returns-clause-run
+returns-clause-run g c =
+    let ready = subst (λ (n : ℕ). IsReady c.args.image.now c.args.script.now n c.in_ok-book.book) c.budget.ensures c.in_ok-book.ensures in
+    let said = c.run_all.ensures in
+    if_ok c.run_all.result (λ end. IsRunOf c.args.image.now c.args.script.now c.args.orders.now.budget end.book) said.led said.led said.led
+    (λ end led _ _. run_of c.args.image.now c.args.script.now c.args.orders.now.budget c.in_ok-book.book end.book ready led)
+
+pub returns-clause-inside : goal.returns-clause-inside
+returns-clause-inside g c =
+    let said = c.run_all.ensures in
+    let need = c.new-gate.ensures.parts.2 ∙ c.need.ensures.value in
+    if_ok c.run_all.result (λ end. AllByRecursion (IsHeldOnTheWay end.stores.items 1 c.args.orders.now.quorum.need) end.released.items) said.inside said.inside said.inside
+    (λ end inside _ _. subst (λ (n : ℕ). AllByRecursion (IsHeldOnTheWay end.stores.items 1 n) end.released.items) need
+    (subst (λ (t : ℕ). AllByRecursion (IsHeldOnTheWay end.stores.items t c.new-gate.result.need) end.released.items) c.in_ok-board.ensures.board.0 inside))
