@@ -1,1 +1,3 @@
 pub mod Coming
+pub mod Applied
+pub mod Audited

@@ -3,21 +3,19 @@
 ghost use Rattle.std.specs.Prelude.{◌≡◌, length, IfOk};
 ghost use Rattle.input_script.specs.Script.{AreOffered};
 
+use crate::audits::audit_streams;
 use crate::failing_over::fail_over;
-use crate::faults::{CommandFault, status_of, write_fault, write_words_fault, written};
+use crate::faults::{CommandFault, named_in, status_of, write_fault, write_words_fault, written};
 use crate::files::Files;
 use crate::words::{NamedFile, Request, Task, WordsFault, read_words};
-use closed_cut::{chain, position};
 use event_script::read_events;
-use ft_types::{Sink, Source, write_all};
-use guest_image::{Image, Machine, read_image};
-use hart_replay::plan;
+use ft_types::{Sink, Source};
+use guest_image::{Image, read_image};
 use input_script::{Offered, read_script};
-use log_audit::audit;
 use log_join::Store;
 use log_streams::{
-    PairOrders, Pairs, Quorum, Replays, Runs, StreamsFault, frames_of, read_store, replay_streams,
-    run_primary, write_frames, write_position, write_size, write_store,
+    PairOrders, Pairs, Quorum, Replays, Runs, cut_streams, frames_of, read_store, replay_streams,
+    run_primary, write_frames, write_size, write_store,
 };
 use page_book::{Book, Recording};
 use std::alloc::Global;
@@ -159,13 +157,6 @@ fn write_joined<F: Files, W: Sink>(
     written(write_size(&size, out))
 }
 
-/// Tells the chain and the position of a store.
-fn tell_position<W: Sink>(alloc: Global, store: &Store, out: &mut W) -> Result<(), CommandFault> {
-    let terms = chain(alloc, store)?;
-    let position = position(alloc, store)?;
-    written(write_position(&terms, &position, out))
-}
-
 /// Joins the logs, writes the store to the file that is made, and tells how much it holds.
 fn join_logs<F: Files, W: Sink>(
     alloc: Global,
@@ -187,17 +178,8 @@ fn cut_logs<F: Files, W: Sink>(
     files: &mut F,
     out: &mut W,
 ) -> Result<(), CommandFault> {
-    let store = read_logs(alloc, image, names, files)?;
-    tell_position(alloc, &store, out)
-}
-
-/// The machine to which the plan of a store leads by every schedule.
-fn audit_store(alloc: Global, image: &Image, store: &Store) -> Result<Machine, CommandFault> {
-    let position = position(alloc, store)?;
-    match plan(alloc, store, &position) {
-        Ok(plan) => Ok(audit(alloc, image, &plan)?),
-        Err(fault) => Err(CommandFault::Streams(StreamsFault::Replay(fault))),
-    }
+    let mut readers = open_logs(alloc, names, files)?;
+    Ok(cut_streams(alloc, image, &mut readers, out)?)
 }
 
 /// Tells whether the logs lead to one machine by every schedule, and writes its text.
@@ -208,10 +190,8 @@ fn audit_logs<F: Files, W: Sink>(
     files: &mut F,
     out: &mut W,
 ) -> Result<(), CommandFault> {
-    let store = read_logs(alloc, image, names, files)?;
-    let machine = audit_store(alloc, image, &store)?;
-    written(write_all(out, b"audit yes\n"))?;
-    written(machine.write_text(out))
+    let mut readers = open_logs(alloc, names, files)?;
+    audit_streams(alloc, image, &mut readers, out)
 }
 
 /// Runs a primary with what the request's script offers.
@@ -355,7 +335,7 @@ fn run_and_tell<F: Files, P: Pairs, W: Sink, E: Sink>(
         Ok(()) => 0,
         Err(fault) => {
             // Where not even the fault can be told, the status says it alone.
-            let _told = write_fault(&fault, request, err);
+            let _told = write_fault(&fault, named_in(&fault, request), err);
             status_of(&fault)
         }
     }

@@ -1,16 +1,21 @@
 //! What can go wrong, and the one line that says so.
 
-ghost use Rattle.std.specs.Prelude.{◌≡◌, ◌≢◌};
+ghost use Rattle.std.specs.Prelude.{◌≡◌, ◌≢◌, ◌+◌, ◌≤◌, ◌++◌, length, decimal};
+ghost use Rattle.ft_types.specs.Devices.{Writes};
+ghost use Rattle.ft_types.specs.Text.{line};
+ghost use Rattle.command_line.specs.Writing.{as_told};
+ghost use Rattle.command_line.specs.Audits.{replay_fault};
+ghost use Rattle.command_line.specs.Faults.{image_line, replay_line, streams_line, step_text, uncovered_line, fault_line, words_line};
 
 use crate::words::{NamedFile, Request, WordsFault};
 use event_script::EventsFault;
 use failover_world::WorldFault;
-use ft_types::{Count, Failed, Hart, Memory, PageNo, Sink, write_all};
+use ft_types::{Count, Failed, Hart, LineBuffer, Memory, PageNo, Sink, write_all};
 use guest_image::ImageFault;
 use hart_replay::ReplayFault;
 use input_script::ScriptFault;
 use log_audit::AuditFault;
-use log_streams::{StreamsFault, write_numbered};
+use log_streams::{StreamsFault, write_counts_line, write_long_line, write_numbered, write_three};
 
 /// Why a command failed.
 #[derive(Clone, Copy)]
@@ -36,12 +41,22 @@ pub enum CommandFault {
 }
 
 impl From<StreamsFault> for CommandFault {
+    ghost use Rattle.std.specs.Prelude.{◌≡◌};
+    ghost use Rattle.command_line.specs.declared.faults.CommandFault.TheVariants.{Streams};
+
+    ghost from_gives = { λ fault e. e ≡ Streams fault };
+
     fn from(fault: StreamsFault) -> CommandFault {
         CommandFault::Streams(fault)
     }
 }
 
 impl From<Memory> for CommandFault {
+    ghost use Rattle.std.specs.Prelude.{◌≡◌};
+    ghost use Rattle.command_line.specs.declared.faults.CommandFault.TheVariants.{Memory as NoMemory};
+
+    ghost from_gives = { λ _ e. e ≡ NoMemory };
+
     fn from(_e: Memory) -> CommandFault {
         CommandFault::Memory
     }
@@ -74,17 +89,34 @@ impl From<EventsFault> for CommandFault {
     }
 }
 
+/// The fault of a command for that of a replay.
+fn replayed(fault: ReplayFault) -> CommandFault
+    ensures { result ≡ replay_fault fault }
+{
+    match fault {
+        ReplayFault::Memory => CommandFault::Memory,
+        fault => CommandFault::Streams(StreamsFault::Replay(fault)),
+    }
+}
+
 impl From<AuditFault> for CommandFault {
+    ghost use Rattle.std.specs.Prelude.{◌≡◌};
+    ghost use Rattle.command_line.specs.Audits.{fault_of};
+
+    ghost from_gives = { λ fault e. e ≡ fault_of fault };
+
     fn from(fault: AuditFault) -> CommandFault {
         match fault {
             AuditFault::Uncovered(page, one, other) => CommandFault::Uncovered(page, one, other),
-            AuditFault::Replay(fault) => CommandFault::Streams(StreamsFault::Replay(fault)),
+            AuditFault::Replay(fault) => replayed(fault),
         }
     }
 }
 
 /// What came of writing to standard output.
-pub fn written(done: Result<(), Failed>) -> Result<(), CommandFault> {
+pub fn written(done: Result<(), Failed>) -> Result<(), CommandFault>
+    ensures { result ≡ as_told done }
+{
     match done {
         Ok(()) => Ok(()),
         Err(_) => Err(CommandFault::Streams(StreamsFault::Write)),
@@ -102,7 +134,9 @@ pub fn status_of(fault: &CommandFault) -> u8
     }
 }
 
-fn write_image_fault<W: Sink>(fault: ImageFault, out: &mut W) -> Result<(), Failed> {
+fn write_image_fault<W: Sink>(fault: ImageFault, out: &mut W) -> Result<(), Failed>
+    ensures { Writes result (W.bytes out.old) (W.bytes out.new) (W.failures out.old) (W.failures out.new) (image_line fault) }
+{
     match fault {
         ImageFault::BadLine(line) => write_numbered(b"fault image 1 line ", line, b"\n", out),
         ImageFault::TooLarge => write_all(out, b"fault image 2\n"),
@@ -111,37 +145,51 @@ fn write_image_fault<W: Sink>(fault: ImageFault, out: &mut W) -> Result<(), Fail
     }
 }
 
-fn write_replay_fault<W: Sink>(fault: ReplayFault, out: &mut W) -> Result<(), Failed> {
+/// Writes a line of two numbers, each behind a text.
+fn write_two<W: Sink>(
+    front: &[u8],
+    first: u64,
+    between: &[u8],
+    second: u64,
+    out: &mut W,
+) -> Result<(), Failed>
+    requires { length front.now + length between.now ≤ 50 }
+    ensures { Writes result (W.bytes out.old) (W.bytes out.new) (W.failures out.old) (W.failures out.new) (line (front.now ++ decimal first ++ between.now ++ decimal second)) }
+{
+    let mut text = LineBuffer::new();
+    text.push(front);
+    text.push_number(first);
+    text.push(between);
+    text.push_number(second);
+    text.write(out)
+}
+
+fn write_replay_fault<W: Sink>(fault: ReplayFault, out: &mut W) -> Result<(), Failed>
+    ensures { Writes result (W.bytes out.old) (W.bytes out.new) (W.failures out.old) (W.failures out.new) (replay_line fault) }
+{
     match fault {
         ReplayFault::Cyclic(counts) => {
-            write_all(out, b"fault replay 1 counts")?;
-            for count in counts.as_slice() {
-                write_numbered(b" ", *count, b"", out)?;
-            }
-            write_all(out, b"\n")
+            write_counts_line(b"fault replay 1 counts", counts.as_slice(), out)
         }
         ReplayFault::HaltedInside(hart, count) => {
-            write_numbered(
-                b"fault replay 2 hart ",
-                u64::from(hart.number()),
-                b" count ",
-                out,
-            )?;
-            write_numbered(b"", count, b"\n", out)
+            let hart = u64::from(hart.number());
+            write_two(b"fault replay 2 hart ", hart, b" count ", count, out)
         }
         ReplayFault::OtherGuest => write_all(out, b"fault replay 3\n"),
         ReplayFault::Memory => write_all(out, b"fault memory\n"),
     }
 }
 
-fn write_streams_fault<W: Sink>(fault: StreamsFault, out: &mut W) -> Result<(), Failed> {
+fn write_streams_fault<W: Sink>(fault: StreamsFault, out: &mut W) -> Result<(), Failed>
+    ensures { Writes result (W.bytes out.old) (W.bytes out.new) (W.failures out.old) (W.failures out.new) (streams_line fault) }
+{
     match fault {
         StreamsFault::Read(stream) => {
             write_numbered(b"fault stream ", stream as u64, b" read\n", out)
         }
         StreamsFault::Frame(stream, fault) => {
-            write_numbered(b"fault stream ", stream as u64, b" frame ", out)?;
-            write_numbered(b"", u64::from(fault.number()), b"\n", out)
+            let fault = u64::from(fault.number());
+            write_two(b"fault stream ", stream as u64, b" frame ", fault, out)
         }
         StreamsFault::Guest(stream) => {
             write_numbered(b"fault stream ", stream as u64, b" guest\n", out)
@@ -152,52 +200,55 @@ fn write_streams_fault<W: Sink>(fault: StreamsFault, out: &mut W) -> Result<(), 
     }
 }
 
+fn push_step(text: &mut LineBuffer, step: (Hart, Count))
+    requires { length text.old + 52 ≤ 96 }
+    ensures text { text.new ≡ text.old ++ step_text step }
+    ensures short { length text.new ≤ length text.old + 52 }
+{
+    text.push(b" hart ");
+    text.push_number(u64::from(step.0.number()));
+    text.push(b" step ");
+    text.push_number(step.1);
+}
+
 fn write_uncovered<W: Sink>(
     page: PageNo,
     one: (Hart, Count),
     other: (Hart, Count),
     out: &mut W,
-) -> Result<(), Failed> {
-    write_numbered(b"fault audit 1 page ", u64::from(page.number()), b"", out)?;
-    for (hart, step) in [one, other] {
-        write_numbered(b" hart ", u64::from(hart.number()), b" step ", out)?;
-        write_numbered(b"", step, b"", out)?;
-    }
-    write_all(out, b"\n")
+) -> Result<(), Failed>
+    ensures { Writes result (W.bytes out.old) (W.bytes out.new) (W.failures out.old) (W.failures out.new) (uncovered_line page one other) }
+{
+    let mut front = LineBuffer::new();
+    front.push(b"fault audit 1 page ");
+    front.push_number(u64::from(page.number()));
+    push_step(&mut front, one);
+    let mut back = LineBuffer::new();
+    push_step(&mut back, other);
+    write_long_line(front, back, out)
 }
 
-/// Writes a file's name, with `\n` for each line feed, so that it stays in its line.
-fn write_name<W: Sink>(name: &str, out: &mut W) -> Result<(), Failed> {
-    let mut is_first = true;
-    for part in name.split('\n') {
-        if !is_first {
-            write_all(out, b"\\n")?;
-        }
-        write_all(out, part.as_bytes())?;
-        is_first = false;
+/// The name of the file that the fault names, empty where it names none.
+pub fn named_in<'a>(fault: &CommandFault, request: &Request<'a>) -> &'a str {
+    match fault {
+        CommandFault::File(file) => request.name(*file),
+        _ => "",
     }
-    Ok(())
 }
 
-/// Writes the line that says what went wrong with a request.
-pub fn write_fault<W: Sink>(
-    fault: &CommandFault,
-    request: &Request<'_>,
-    out: &mut W,
-) -> Result<(), Failed> {
+/// Writes the line that says what went wrong with a request, with the name of the file that the fault names.
+pub fn write_fault<W: Sink>(fault: &CommandFault, name: &str, out: &mut W) -> Result<(), Failed>
+    ensures { Writes result (W.bytes out.old) (W.bytes out.new) (W.failures out.old) (W.failures out.new) (fault_line name.now fault.now) }
+{
     match fault {
         CommandFault::Usage => write_all(out, b"fault usage\n"),
-        CommandFault::File(file) => {
-            write_all(out, b"fault file ")?;
-            write_name(request.name(*file), out)?;
-            write_all(out, b"\n")
-        }
+        CommandFault::File(_) => write_three(b"fault file ", name.as_bytes(), b"\n", out),
         CommandFault::Image(fault) => write_image_fault(*fault, out),
         CommandFault::Script(line) => write_numbered(b"fault script line ", *line, b"\n", out),
         CommandFault::Events(line) => write_numbered(b"fault events line ", *line, b"\n", out),
         CommandFault::World(line, fault) => {
-            write_numbered(b"fault events line ", *line, b" world ", out)?;
-            write_numbered(b"", u64::from(fault.number()), b"\n", out)
+            let fault = u64::from(fault.number());
+            write_two(b"fault events line ", *line, b" world ", fault, out)
         }
         CommandFault::Uncovered(page, one, other) => write_uncovered(*page, *one, *other, out),
         CommandFault::Streams(fault) => write_streams_fault(*fault, out),
@@ -206,7 +257,9 @@ pub fn write_fault<W: Sink>(
 }
 
 /// Writes the line that says why the words are no request.
-pub fn write_words_fault<W: Sink>(fault: WordsFault, out: &mut W) -> Result<(), Failed> {
+pub fn write_words_fault<W: Sink>(fault: WordsFault, out: &mut W) -> Result<(), Failed>
+    ensures { Writes result (W.bytes out.old) (W.bytes out.new) (W.failures out.old) (W.failures out.new) (words_line fault) }
+{
     match fault {
         WordsFault::Usage => write_all(out, b"fault usage\n"),
         WordsFault::Memory => write_all(out, b"fault memory\n"),

@@ -2,6 +2,7 @@
 //! status.
 #![tactic(auto)]
 
+mod audits;
 mod commands;
 mod failing_over;
 mod faults;

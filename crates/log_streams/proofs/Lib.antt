@@ -7,3 +7,4 @@ pub mod Outcomes
 pub mod Truthful
 pub mod Ends
 pub mod HonestRuns
+pub mod Writing

@@ -5,3 +5,5 @@ pub mod Outcome
 pub mod Primary
 pub mod Ends
 pub mod Honest
+pub mod Writing
+pub mod Stores

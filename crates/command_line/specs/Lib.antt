@@ -1,0 +1,4 @@
+pub mod Writing
+pub mod FailingOver
+pub mod Audits
+pub mod Faults
