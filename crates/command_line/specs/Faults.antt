@@ -1,5 +1,6 @@
 -- The lines that tell faults.
-use Rattle.std.specs.Prelude.{ℕ, List, ◌++◌, codes, decimal}
+use Rattle.std.specs.Prelude.{ℕ, List, [], ◌∷◌, ◌++◌, ◌==◌, if◌then◌else◌, codes, decimal}
+use Rattle.std.specs.List.{flat_map}
 use Rattle.ft_types.specs.Text.{line}
 use Rattle.guest_image.specs.declared.fault.ImageFault.{ImageFault}
 use Rattle.guest_image.specs.declared.fault.ImageFault.TheVariants.{BadLine, TooLarge, NoHarts, Memory as NoImageMemory}
@@ -46,10 +47,17 @@ step_text s = codes " hart " ++ decimal s.0 ++ codes " step " ++ decimal s.1
 abbrev pub uncovered_line : ℕ → ℕ × ℕ → ℕ × ℕ → List ℕ
 uncovered_line page one other = line (codes "fault audit 1 page " ++ decimal page ++ step_text one ++ step_text other)
 
+-- a byte of a name: a line feed is written as `\n`, so that the name stays in its line
+abbrev pub shown : ℕ → List ℕ
+shown byte = if byte == 10 then codes "\\n" else byte ∷ []
+
+abbrev pub in_one_line : List ℕ → List ℕ
+in_one_line name = flat_map shown name
+
 -- of a command; the name is that of the file that the fault names
 abbrev pub fault_line : List ℕ → CommandFault → List ℕ
 fault_line name Usage = line (codes "fault usage")
-fault_line name (File file) = line (codes "fault file " ++ name)
+fault_line name (File file) = line (codes "fault file " ++ in_one_line name)
 fault_line name (Image fault) = image_line fault
 fault_line name (Script n) = line (codes "fault script line " ++ decimal n)
 fault_line name (Events n) = line (codes "fault events line " ++ decimal n)

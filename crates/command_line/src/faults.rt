@@ -1,11 +1,11 @@
 //! What can go wrong, and the one line that says so.
 
-ghost use Rattle.std.specs.Prelude.{◌≡◌, ◌≢◌, ◌+◌, ◌≤◌, ◌++◌, length, decimal};
+ghost use Rattle.std.specs.Prelude.{◌≡◌, ◌≢◌, ◌+◌, ◌≤◌, ◌++◌, codes, length, decimal};
 ghost use Rattle.ft_types.specs.Devices.{Writes};
 ghost use Rattle.ft_types.specs.Text.{line};
 ghost use Rattle.command_line.specs.Writing.{as_told};
 ghost use Rattle.command_line.specs.Audits.{replay_fault};
-ghost use Rattle.command_line.specs.Faults.{image_line, replay_line, streams_line, step_text, uncovered_line, fault_line, words_line};
+ghost use Rattle.command_line.specs.Faults.{image_line, in_one_line, replay_line, shown, streams_line, step_text, uncovered_line, fault_line, words_line};
 
 use crate::words::{NamedFile, Request, WordsFault};
 use event_script::EventsFault;
@@ -15,7 +15,7 @@ use guest_image::ImageFault;
 use hart_replay::ReplayFault;
 use input_script::ScriptFault;
 use log_audit::AuditFault;
-use log_streams::{StreamsFault, write_counts_line, write_long_line, write_numbered, write_three};
+use log_streams::{StreamsFault, write_counts_line, write_long_line, write_numbered};
 
 /// Why a command failed.
 #[derive(Clone, Copy)]
@@ -236,13 +236,42 @@ pub fn named_in<'a>(fault: &CommandFault, request: &Request<'a>) -> &'a str {
     }
 }
 
+/// Writes a byte of a name, a line feed as `\n`.
+fn write_shown<W: Sink>(byte: u8, out: &mut W) -> Result<(), Failed>
+    ensures { Writes result (W.bytes out.old) (W.bytes out.new) (W.failures out.old) (W.failures out.new) (shown byte) }
+{
+    match byte {
+        b'\n' => write_all(out, b"\\n"),
+        _ => write_all(out, &[byte]),
+    }
+}
+
+/// Writes a name so that it stays in its line.
+fn write_name<W: Sink>(name: &[u8], out: &mut W) -> Result<(), Failed>
+    ensures { Writes result (W.bytes out.old) (W.bytes out.new) (W.failures out.old) (W.failures out.new) (in_one_line name.now) }
+{
+    for byte in name {
+        write_shown(*byte, out)?;
+    }
+    Ok(())
+}
+
+/// Writes the line of a file that could not be opened, read or made.
+fn write_file_fault<W: Sink>(name: &[u8], out: &mut W) -> Result<(), Failed>
+    ensures { Writes result (W.bytes out.old) (W.bytes out.new) (W.failures out.old) (W.failures out.new) (line (codes "fault file " ++ in_one_line name.now)) }
+{
+    write_all(out, b"fault file ")?;
+    write_name(name, out)?;
+    write_all(out, b"\n")
+}
+
 /// Writes the line that says what went wrong with a request, with the name of the file that the fault names.
 pub fn write_fault<W: Sink>(fault: &CommandFault, name: &str, out: &mut W) -> Result<(), Failed>
     ensures { Writes result (W.bytes out.old) (W.bytes out.new) (W.failures out.old) (W.failures out.new) (fault_line name.now fault.now) }
 {
     match fault {
         CommandFault::Usage => write_all(out, b"fault usage\n"),
-        CommandFault::File(_) => write_three(b"fault file ", name.as_bytes(), b"\n", out),
+        CommandFault::File(_) => write_file_fault(name.as_bytes(), out),
         CommandFault::Image(fault) => write_image_fault(*fault, out),
         CommandFault::Script(line) => write_numbered(b"fault script line ", *line, b"\n", out),
         CommandFault::Events(line) => write_numbered(b"fault events line ", *line, b"\n", out),
