@@ -87,7 +87,8 @@ abbrev pub RefusesGrant : WorldView → ℕ → List ℕ → WorldFault → Type
 RefusesGrant v term named NoKeeper = Any (λ keeper. store_at v.stores keeper ≡ None) named
 RefusesGrant v term named NotStopped = All (λ keeper. store_at v.stores keeper ≢ None) named × (v.runs ≡ true)
 RefusesGrant v term named (Live fault) = All (λ keeper. store_at v.stores keeper ≢ None) named × (v.runs ≡ false) × CannotGoLive v term named fault
-RefusesGrant v term named Memory = All (λ keeper. store_at v.stores keeper ≢ None) named × (v.runs ≡ false)
+RefusesGrant v term named Memory =
+    All (λ keeper. store_at v.stores keeper ≢ None) named × (v.runs ≡ false) × ((fault : LiveFault) → CannotGoLive v term named fault → ⊥)
 RefusesGrant v term named _ = ⊥
 
 -- the event makes something grow: a book, a frame, a store, what went out
@@ -97,7 +98,7 @@ Grows (on.Lose keeper) = ⊥
 Grows (on.Acknowledge keeper) = ⊥
 Grows _ = Unit {0}
 
--- memory may be refused where something grows and no other fault is due; to a grant, before its stores and its term are looked at
+-- memory may be refused where something grows and no other fault is due
 pub record MayLackMemory (v : WorldView) (event : Event) : Type 0 where
   pub grows : Grows event
   pub runs : NeedsPrimary event → v.runs ≡ true
@@ -105,6 +106,7 @@ pub record MayLackMemory (v : WorldView) (event : Event) : Type 0 where
   pub frame : LacksFrame v event → ⊥
   pub quiet : IsGrant event → v.runs ≡ false
   pub steps : (fault : BookFault) → CannotStep v event fault → ⊥
+  pub lives : (fault : LiveFault) → IsNotGranted v event fault → ⊥
 
 -- why the event is refused
 abbrev pub Refuses : WorldView → Event → WorldFault → Type 0

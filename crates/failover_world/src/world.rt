@@ -16,13 +16,16 @@ ghost use Rattle.failover_world.specs.Worlds.{term_of};
 ghost use Rattle.failover_world.specs.Happenings.{GoesLive, IsFresh, Grants, Happens};
 ghost use Rattle.failover_world.specs.Refusals.{Refuses, RefusesGrant, CannotGoLive, IsLeft};
 ghost use Rattle.failover_world.specs.Tied.{BeginsTerm};
+ghost use Rattle.go_live.specs.declared.fault.LiveFault.{LiveFault as live_fault};
 ghost use Rattle.go_live.specs.declared.fault.LiveFault.TheVariants.{Memory as NoLive};
 ghost use Rattle.input_log.specs.Inputs.{is_bell};
 ghost use Rattle.failover_world.specs.Promises.{AreHonest, IsOne, IsOfMachine, IsKept, AreHeld, AreAckedInside};
 
 use crate::fault::WorldFault;
 use crate::gating::{add_released, offer_all};
-use crate::keepers::{are_there, empty_stores, held_by, join, keeper_at, put, stores_named};
+use crate::keepers::{
+    are_there, count_named, empty_stores, held_by, join, keeper_at, put, stores_named,
+};
 use crate::primary::{Primary, boot, no_limits, tell_primary};
 use crate::released::Released;
 use failover_events::Event;
@@ -335,6 +338,21 @@ impl World {
         Ok(())
     }
 
+    /// Why no primary can go live in the term with these keepers' stores, if none can. It is looked at before anything grows.
+    fn why_not_live(&self, term: Term, keepers: &[u64]) -> Option<LiveFault>
+        ensures due { IfSome result (λ f. CannotGoLive self.now term keepers.now f) }
+        ensures none { IfNone result ((fault : live_fault) → CannotGoLive self.now term keepers.now fault → ⊥) }
+    {
+        let (many, last) = count_named(&self.stores, keepers);
+        if many <= usize::from(self.keepers - self.need) {
+            return Some(LiveFault::TooFewStores);
+        }
+        if term <= self.term() || term <= last {
+            return Some(LiveFault::TermNotNew);
+        }
+        None
+    }
+
     /// The primary that goes live in the term, and its gate. A term that is not later than the last one is not new.
     fn revived(
         &self,
@@ -382,6 +400,9 @@ impl World {
         }
         if self.runs {
             return Err(WorldFault::NotStopped);
+        }
+        if let Some(fault) = self.why_not_live(term, keepers) {
+            return Err(WorldFault::Live(fault));
         }
         let (primary, gate) = self.revived(alloc, term, keepers)?;
         if self.stopped.reserve(1).is_err() || self.sent.reserve(1).is_err() {
