@@ -194,7 +194,7 @@ impl World {
         requires hart { hart < self.old.image.harts }
         ensures happens { OnOk result (Happens self.old (on.Step hart) self.new) }
         ensures refused { IfErr result (λ f. Refuses self.old (on.Step hart) f) }
-        ensures left { OnErr result (IsLeft self.old self.new) }
+        ensures left { OnErr result (IsLeft self.old (on.Step hart) self.new) }
         ensures image { self.new.image ≡ self.old.image }
     {
         if !self.runs {
@@ -211,7 +211,7 @@ impl World {
         requires input { is_bell input ≡ false }
         ensures happens { OnOk result (Happens self.old (on.Offer hart input) self.new) }
         ensures refused { IfErr result (λ f. Refuses self.old (on.Offer hart input) f) }
-        ensures left { OnErr result (IsLeft self.old self.new) }
+        ensures left { OnErr result (IsLeft self.old (on.Offer hart input) self.new) }
         ensures image { self.new.image ≡ self.old.image }
     {
         if !self.runs {
@@ -225,7 +225,7 @@ impl World {
     fn seal(&mut self, alloc: Global) -> Result<(), WorldFault>
         ensures happens { OnOk result (Happens self.old on.Seal self.new) }
         ensures refused { IfErr result (λ f. Refuses self.old on.Seal f) }
-        ensures left { OnErr result (IsLeft self.old self.new) }
+        ensures left { OnErr result (IsLeft self.old on.Seal self.new) }
         ensures image { self.new.image ≡ self.old.image }
     {
         if !self.runs {
@@ -245,7 +245,7 @@ impl World {
     fn deliver(&mut self, alloc: Global, keeper: u64, frame: u64) -> Result<(), WorldFault>
         ensures happens { OnOk result (Happens self.old (on.Deliver keeper frame) self.new) }
         ensures refused { IfErr result (λ f. Refuses self.old (on.Deliver keeper frame) f) }
-        ensures left { OnErr result (IsLeft self.old self.new) }
+        ensures left { OnErr result (IsLeft self.old (on.Deliver keeper frame) self.new) }
         ensures image { self.new.image ≡ self.old.image }
     {
         let Some(keeper) = keeper_at(&self.stores, keeper) else {
@@ -261,7 +261,7 @@ impl World {
     fn join(&mut self, alloc: Global, keeper: u64, other: u64) -> Result<(), WorldFault>
         ensures happens { OnOk result (Happens self.old (on.Join keeper other) self.new) }
         ensures refused { IfErr result (λ f. Refuses self.old (on.Join keeper other) f) }
-        ensures left { OnErr result (IsLeft self.old self.new) }
+        ensures left { OnErr result (IsLeft self.old (on.Join keeper other) self.new) }
         ensures image { self.new.image ≡ self.old.image }
     {
         let Some(keeper) = keeper_at(&self.stores, keeper) else {
@@ -276,7 +276,7 @@ impl World {
     fn acknowledge(&mut self, keeper: u64) -> Result<(), WorldFault>
         ensures happens { OnOk result (Happens self.old (on.Acknowledge keeper) self.new) }
         ensures refused { IfErr result (λ f. Refuses self.old (on.Acknowledge keeper) f) }
-        ensures left { OnErr result (IsLeft self.old self.new) }
+        ensures left { OnErr result (IsLeft self.old (on.Acknowledge keeper) self.new) }
         ensures image { self.new.image ≡ self.old.image }
     {
         let Some(store) = held_by(&self.stores, keeper) else {
@@ -294,7 +294,7 @@ impl World {
     fn release(&mut self, alloc: Global) -> Result<(), WorldFault>
         ensures happens { OnOk result (Happens self.old on.Release self.new) }
         ensures refused { IfErr result (λ f. Refuses self.old on.Release f) }
-        ensures left { OnErr result (IsLeft self.old self.new) }
+        ensures left { OnErr result (IsLeft self.old on.Release self.new) }
         ensures image { self.new.image ≡ self.old.image }
     {
         if !self.runs {
@@ -315,7 +315,7 @@ impl World {
     fn stop(&mut self) -> Result<(), WorldFault>
         ensures happens { OnOk result (Happens self.old on.Stop self.new) }
         ensures refused { IfErr result (λ f. Refuses self.old on.Stop f) }
-        ensures left { OnErr result (IsLeft self.old self.new) }
+        ensures left { OnErr result (IsLeft self.old on.Stop self.new) }
         ensures image { self.new.image ≡ self.old.image }
     {
         if !self.runs {
@@ -328,7 +328,7 @@ impl World {
     fn lose(&mut self, keeper: u64) -> Result<(), WorldFault>
         ensures happens { OnOk result (Happens self.old (on.Lose keeper) self.new) }
         ensures refused { IfErr result (λ f. Refuses self.old (on.Lose keeper) f) }
-        ensures left { OnErr result (IsLeft self.old self.new) }
+        ensures left { OnErr result (IsLeft self.old (on.Lose keeper) self.new) }
         ensures image { self.new.image ≡ self.old.image }
     {
         let Some(keeper) = keeper_at(&self.stores, keeper) else {
@@ -422,7 +422,7 @@ impl World {
         requires { MayCome self.old.image.harts event }
         ensures happens { OnOk result (Happens self.old event self.new) }
         ensures refused { IfErr result (λ f. Refuses self.old event f) }
-        ensures left { OnErr result (IsLeft self.old self.new) }
+        ensures left { OnErr result (IsLeft self.old event self.new) }
         ensures image { self.new.image ≡ self.old.image }
     {
         match event {
