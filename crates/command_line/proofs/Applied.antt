@@ -25,7 +25,7 @@ begins_as image k n keepers need w e f b = subst (λ (x : ℕ). Begins image x n
 
 -- one event was refused
 module _ (v : WorldView) (events front : List Event) (event : Event) (back : List Event) (n : ℕ) (before w : WorldView)
-    (parts : events ≡ front ++ event ∷ back) (number : n ≡ length front + 1) (happened : HappenAll v front before) (left : IsLeft before w) where
+    (parts : events ≡ front ++ event ∷ back) (number : n ≡ length front + 1) (happened : HappenAll v front before) (left : IsLeft before event w) where
   one : (why : WorldFault) → Refuses before event why → RefusesOne v events n why w
   one why refused = record {
     front = front;

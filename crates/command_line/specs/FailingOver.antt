@@ -50,7 +50,7 @@ pub record RefusesOne (v : WorldView) (events : List Event) (line_number : ℕ) 
   pub before : WorldView
   pub happened : HappenAll v front before
   pub refused : Refuses before event fault
-  pub left : IsLeft before w
+  pub left : IsLeft before event w
 
 -- what went out keeps what is promised of it
 pub record KeepsPromises (w : WorldView) : Type 0 where

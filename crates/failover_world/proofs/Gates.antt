@@ -1,5 +1,5 @@
 -- The world with another gate.
-use Rattle.std.proofs.Common.{◌≡◌, inl, inr, ℕ, zero, suc, ◌+◌, ◌<◌, ◌≤◌, ◌∷◌, [], List, Bool, true, false, cond, length, length-append, filter, nat_lt, slice_index_or, get_or, Result, Ok, Err, OnOk, refl, sym, ap, subst, ◌∙◌, arith}
+use Rattle.std.proofs.Common.{◌≡◌, ◌⊎◌, inl, inr, ℕ, zero, suc, ◌+◌, ◌<◌, ◌≤◌, ◌∷◌, [], List, Bool, true, false, cond, length, length-append, filter, nat_lt, slice_index_or, get_or, Result, Ok, Err, OnOk, refl, sym, ap, subst, ◌∙◌, arith}
 use Rattle.std.specs.Result.{is_err}
 use Rattle.std.proofs.lemmas.Bool.{cases_lt}
 use Rattle.std.proofs.lemmas.List.Sums.{sum_by-cons}
@@ -11,6 +11,7 @@ use Rattle.term_gate.specs.TermGates.{TermGateView, AreAcked, acked_at}
 use Rattle.ft_types.specs.Counts.{count_at}
 use Rattle.failover_theory.specs.Lists.{how_many}
 use Rattle.failover_theory.specs.Worlds as theory
+use Rattle.failover_events.specs.declared.event.Event.TheVariants as on
 use Rattle.failover_world.specs.Worlds.{WorldView}
 use Rattle.failover_world.specs.Gating.{AreOffered, OffersMore}
 use Rattle.failover_world.specs.Refusals.{IsAsItWas, IsLeft}
@@ -48,8 +49,8 @@ offers_rest g h more =
     ∙ ap (λ (noted : List (List ℕ)). let x : TermGateView = record g { gate = record g.gate { noted = noted; lines = h.gate.lines } } in x)
     (sym (ap (λ (x : TermGateView). x.gate.noted) more.rest))
 
-pub left_with : (v : WorldView) (gate : TermGateView) → IsAsItWas v.gate gate → IsLeft v (record v { gate = gate })
-left_with v gate was = record { book = inl refl; gate = was; rest = refl }
+pub left_with : (v : WorldView) (gate : TermGateView) → IsAsItWas v.gate gate → IsLeft v on.Release (record v { gate = gate })
+left_with v gate was = inr (record { gate = was; rest = refl })
 
 -- one change after another
 pub rest_after : (g h i : TermGateView) → OffersMore g h →
@@ -59,12 +60,23 @@ rest_after g h i more rest =
     rest
     ∙ ap (λ (x : TermGateView). let y : TermGateView = record x { gate = record x.gate { noted = i.gate.noted; lines = i.gate.lines } } in y) more.rest
 
--- where only more was offered, and maybe noted
+-- what was acknowledged at a gate to which more was offered
+pub acked_before : (g h : TermGateView) (noted : List (List ℕ)) → OffersMore g h → AreAcked h noted → AreAcked g noted
+acked_before g h noted more are =
+    let x = subst (λ (y : TermGateView). AreAcked y noted) more.rest are in
+    record { acked = x.acked; no_keeper = x.no_keeper; no_hart = x.no_hart }
+
+-- where only more was offered, and maybe what was acknowledged is noted
 pub was_offered : (g h i : TermGateView) → OffersMore g h →
-    i ≡ record h { gate = record h.gate { noted = i.gate.noted; lines = i.gate.lines } } → i.gate.lines ≡ h.gate.lines → IsAsItWas g i
-was_offered g h i more rest same =
+    i ≡ record h { gate = record h.gate { noted = i.gate.noted; lines = i.gate.lines } } → i.gate.lines ≡ h.gate.lines →
+    (i.gate.noted ≡ h.gate.noted) ⊎ AreAcked h i.gate.noted → IsAsItWas g i
+was_offered g h i more rest same noted =
     record {
       rest = rest_after g h i more rest;
+      noted = elim noted [
+        | inl none ↦ inl (none ∙ ap (λ (x : TermGateView). x.gate.noted) more.rest)
+        | inr acked ↦ inr (acked_before g h i.gate.noted more acked)
+      ];
       gone = λ hart. ap (λ lines. let x : GateView = record h.gate { lines = lines } in gone_of x hart) same ∙ more.gone hart;
       waiting = λ hart. (
         (more.waiting hart).0,

@@ -45,4 +45,5 @@ step_refused v hart Memory runs there is =
       frame = λ lacks. lacks;
       quiet = λ grant. absurd grant;
       steps = λ fault due. no_other v.primary.book hart there is fault due.0 due.1;
+      lives = λ fault due. absurd due;
     }

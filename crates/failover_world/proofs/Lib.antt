@@ -13,6 +13,7 @@ pub mod Honest
 pub mod Lacking
 pub mod Guests
 pub mod Chosen
+pub mod Named
 pub mod Granting
 pub mod Reviving
 pub mod Onward

@@ -1,5 +1,5 @@
 -- What each event does to the world.
-use Rattle.std.specs.Prelude.{ℕ, ◌≡◌, ◌≢◌, ◌<◌, ◌++◌, ◌∷◌, ◌==◌, [], List, true, false, map, replicate, slice_get, slice_set, Option, Some, None, All, if◌then◌else◌}
+use Rattle.std.specs.Prelude.{ℕ, ◌≡◌, ◌≢◌, ◌<◌, ◌++◌, ◌∷◌, ◌==◌, [], List, true, false, length, map, replicate, slice_get, slice_set, Option, Some, None, All, if◌then◌else◌}
 use Rattle.std.specs.List.{list_any, flat_map, enumerate_from}
 use Rattle.ft_types.specs.declared.names.TheConstants.{HART_LIMIT}
 use Rattle.input_log.specs.declared.Input.{Input}
@@ -63,12 +63,13 @@ pub record Joins (v : WorldView) (keeper other : ℕ) (w : WorldView) : Type 0 w
   pub join : IsJoin store held joined
   pub rest : w ≡ record v { stores = slice_set v.stores keeper (Some joined) }
 
--- the keeper acknowledged its store's position, which is of the live term
+-- the keeper acknowledged its store's position, which is of the live term: a count for each hart
 pub record Acknowledges (v : WorldView) (keeper : ℕ) (w : WorldView) : Type 0 where
   pub store : StoreView
   pub there : store_at v.stores keeper ≡ Some store
   pub position : Position
   pub is_position : IsPosition store position
+  pub harts : length position.counts ≡ v.image.harts
   pub term : position.term ≡ term_of v
   pub rest : w ≡ record v { gate = record v.gate { acked = slice_set v.gate.acked keeper position.counts } }
 

@@ -10,7 +10,7 @@ use Rattle.ack_core.specs.declared.board.AckFault.{AckFault}
 use Rattle.ack_core.specs.declared.board.AckFault.TheVariants.{OtherTerm}
 use Rattle.ft_types.specs.declared.output.Output.{Output}
 use Rattle.output_gate.specs.Gates.{gone_of, waiting_of}
-use Rattle.term_gate.specs.TermGates.{TermGateView}
+use Rattle.term_gate.specs.TermGates.{TermGateView, AreAcked}
 use Rattle.go_live.specs.declared.fault.LiveFault.{LiveFault}
 use Rattle.go_live.specs.declared.fault.LiveFault.TheVariants.{TooFewStores, TermNotNew, Replay, Memory as NoLiveMemory}
 use Rattle.go_live.specs.Quorums.{AreEnough, IsOld}
@@ -87,7 +87,8 @@ abbrev pub RefusesGrant : WorldView → ℕ → List ℕ → WorldFault → Type
 RefusesGrant v term named NoKeeper = Any (λ keeper. store_at v.stores keeper ≡ None) named
 RefusesGrant v term named NotStopped = All (λ keeper. store_at v.stores keeper ≢ None) named × (v.runs ≡ true)
 RefusesGrant v term named (Live fault) = All (λ keeper. store_at v.stores keeper ≢ None) named × (v.runs ≡ false) × CannotGoLive v term named fault
-RefusesGrant v term named Memory = All (λ keeper. store_at v.stores keeper ≢ None) named × (v.runs ≡ false)
+RefusesGrant v term named Memory =
+    All (λ keeper. store_at v.stores keeper ≢ None) named × (v.runs ≡ false) × ((fault : LiveFault) → CannotGoLive v term named fault → ⊥)
 RefusesGrant v term named _ = ⊥
 
 -- the event makes something grow: a book, a frame, a store, what went out
@@ -97,7 +98,7 @@ Grows (on.Lose keeper) = ⊥
 Grows (on.Acknowledge keeper) = ⊥
 Grows _ = Unit {0}
 
--- memory may be refused where something grows and no other fault is due; to a grant, before its stores and its term are looked at
+-- memory may be refused where something grows and no other fault is due
 pub record MayLackMemory (v : WorldView) (event : Event) : Type 0 where
   pub grows : Grows event
   pub runs : NeedsPrimary event → v.runs ≡ true
@@ -105,6 +106,7 @@ pub record MayLackMemory (v : WorldView) (event : Event) : Type 0 where
   pub frame : LacksFrame v event → ⊥
   pub quiet : IsGrant event → v.runs ≡ false
   pub steps : (fault : BookFault) → CannotStep v event fault → ⊥
+  pub lives : (fault : LiveFault) → IsNotGranted v event fault → ⊥
 
 -- why the event is refused
 abbrev pub Refuses : WorldView → Event → WorldFault → Type 0
@@ -119,15 +121,26 @@ Refuses v event Memory = MayLackMemory v event
 
 -- ---- what is left
 
--- what was acknowledged and what went out is as it was; more may have been offered and noted
+-- a step that was not taken: page rights, and which of the waiting inputs the hart's next lease has, may be others
+pub record IsNotStepped (v w : WorldView) : Type 0 where
+  pub book : IsUnmoved v.primary.book w.primary.book
+  pub rest : w ≡ record v { primary = record v.primary { book = w.primary.book } }
+
+-- What was acknowledged and what went out is as it was; more may have been offered. What is noted is as it was, or it is what was
+-- acknowledged.
 pub record IsAsItWas (g h : TermGateView) : Type 0 where
   pub rest : h ≡ record g { gate = record g.gate { noted = h.gate.noted; lines = h.gate.lines } }
+  pub noted : (h.gate.noted ≡ g.gate.noted) ⊎ AreAcked g h.gate.noted
   pub gone : (hart : ℕ) → gone_of h.gate hart ≡ gone_of g.gate hart
   pub waiting : (hart : ℕ) → (more : List Output) × (waiting_of h.gate hart ≡ waiting_of g.gate hart ++ more)
 
--- Nothing happened: page rights, which of the waiting inputs the hart's next lease has, and what the gate was offered and has
--- noted may be others. A book is unmoved that is the same.
-pub record IsLeft (v w : WorldView) : Type 0 where
-  pub book : (w.primary.book ≡ v.primary.book) ⊎ IsUnmoved v.primary.book w.primary.book
+-- a release that let nothing go
+pub record IsNotReleased (v w : WorldView) : Type 0 where
   pub gate : IsAsItWas v.gate w.gate
-  pub rest : w ≡ record v { primary = record v.primary { book = w.primary.book }; gate = w.gate }
+  pub rest : w ≡ record v { gate = w.gate }
+
+-- nothing happened
+abbrev pub IsLeft : WorldView → Event → WorldView → Type 0
+IsLeft v (on.Step hart) w = (w ≡ v) ⊎ IsNotStepped v w
+IsLeft v on.Release w = (w ≡ v) ⊎ IsNotReleased v w
+IsLeft v _ w = w ≡ v

@@ -1,16 +1,17 @@
 //! What each keeper holds.
 
-ghost use Rattle.std.specs.Prelude.{◌≡◌, ◌≢◌, ◌<◌, ◌≤◌, ℕ, length, map, replicate, slice_set, None, Some, IsTrue, IfOk, OnOk, OnErr, IfSome, IfNone, All, ◌↔◌, ◌+◌, ◌++◌, vec_len, vec_capacity};
+ghost use Rattle.std.specs.Prelude.{◌≡◌, ◌≢◌, ◌<◌, ◌≤◌, ℕ, length, map, replicate, slice_set, None, Some, IsTrue, IfOk, OnOk, OnErr, IfSome, IfNone, All, ◌↔◌, ◌+◌, ◌++◌, ◌∷◌, [], vec_len, vec_capacity};
 ghost use Rattle.std.specs.List.{Any};
 ghost use Rattle.ft_types.specs.declared.names.TheConstants.{KEEPER_LIMIT};
 ghost use Rattle.log_join.specs.Stores.{StoreView, IsJoin, alone, nothing};
 ghost use Rattle.log_join.specs.Answers.{answer_to};
 ghost use Rattle.log_join.specs.declared.answers.Put.TheVariants.{OtherGuest};
+ghost use Rattle.go_live.specs.Quorums.{IsNew, IsOld};
 ghost use Rattle.failover_world.specs.Worlds.{store_at};
 ghost use Rattle.failover_world.specs.Happenings.{if_named, stores_of};
 
 use fragment_codec::Frame;
-use ft_types::{Guest, Keeper, Memory};
+use ft_types::{Guest, Keeper, Memory, Term};
 use log_join::{Put, Store};
 use std::alloc::Global;
 use std::result::Result;
@@ -125,6 +126,39 @@ pub(crate) fn are_there(stores: &[Option<Tracked>], numbers: &[u64]) -> bool
     true
 }
 
+/// The store of the keeper of this number, where it is among these and is not lost.
+fn store_if_named<'a>(
+    stores: &'a [Option<Tracked>],
+    number: usize,
+    numbers: &[u64],
+) -> Option<&'a Store>
+    ensures some { IfSome result (λ s. if_named numbers.now number (store_at stores.now number) ≡ (number, s.now) ∷ []) }
+    ensures none { IfNone result (if_named numbers.now number (store_at stores.now number) ≡ []) }
+{
+    let tracked = held_by(stores, number as u64)?;
+    if !numbers.contains(&(number as u64)) {
+        return None;
+    }
+    Some(tracked.store())
+}
+
+/// How many of these keepers have a store, and the greatest term of a key in those stores, 0 where there is none.
+pub(crate) fn count_named(stores: &[Option<Tracked>], numbers: &[u64]) -> (usize, Term)
+    ensures many { result.0 ≡ length (stores_of stores.now numbers.now) }
+    ensures new { IsNew (map (λ s. s.1) (stores_of stores.now numbers.now)) (result.1 + 1) }
+    ensures old { IsOld (map (λ s. s.1) (stores_of stores.now numbers.now)) result.1 }
+{
+    let mut many = 0usize;
+    let mut last: Term = 0;
+    for number in 0..stores.len() {
+        if let Some(store) = store_if_named(stores, number, numbers) {
+            many += 1;
+            last = last.max(store.last_term());
+        }
+    }
+    (many, last)
+}
+
 /// Adds the keeper of this number with its store, where it is among these and is not lost. There is room for one more.
 fn add_if_named<'a>(
     named: &mut Vec<(Keeper, &'a Store)>,
@@ -141,11 +175,8 @@ fn add_if_named<'a>(
     ensures one_more { vec_len named.new ≤ vec_len named.old + 1 }
     ensures capacity { vec_capacity named.new ≡ vec_capacity named.old }
 {
-    let Some(tracked) = held_by(stores, number as u64) else {
-        return;
-    };
-    if numbers.contains(&(number as u64)) {
-        named.push_reserved((Keeper::new(number as u8), tracked.store()));
+    if let Some(store) = store_if_named(stores, number, numbers) {
+        named.push_reserved((Keeper::new(number as u8), store));
     }
 }
 

@@ -16,13 +16,16 @@ ghost use Rattle.failover_world.specs.Worlds.{term_of};
 ghost use Rattle.failover_world.specs.Happenings.{GoesLive, IsFresh, Grants, Happens};
 ghost use Rattle.failover_world.specs.Refusals.{Refuses, RefusesGrant, CannotGoLive, IsLeft};
 ghost use Rattle.failover_world.specs.Tied.{BeginsTerm};
+ghost use Rattle.go_live.specs.declared.fault.LiveFault.{LiveFault as live_fault};
 ghost use Rattle.go_live.specs.declared.fault.LiveFault.TheVariants.{Memory as NoLive};
 ghost use Rattle.input_log.specs.Inputs.{is_bell};
 ghost use Rattle.failover_world.specs.Promises.{AreHonest, IsOne, IsOfMachine, IsKept, AreHeld, AreAckedInside};
 
 use crate::fault::WorldFault;
 use crate::gating::{add_released, offer_all};
-use crate::keepers::{are_there, empty_stores, held_by, join, keeper_at, put, stores_named};
+use crate::keepers::{
+    are_there, count_named, empty_stores, held_by, join, keeper_at, put, stores_named,
+};
 use crate::primary::{Primary, boot, no_limits, tell_primary};
 use crate::released::Released;
 use failover_events::Event;
@@ -191,7 +194,7 @@ impl World {
         requires hart { hart < self.old.image.harts }
         ensures happens { OnOk result (Happens self.old (on.Step hart) self.new) }
         ensures refused { IfErr result (λ f. Refuses self.old (on.Step hart) f) }
-        ensures left { OnErr result (IsLeft self.old self.new) }
+        ensures left { OnErr result (IsLeft self.old (on.Step hart) self.new) }
         ensures image { self.new.image ≡ self.old.image }
     {
         if !self.runs {
@@ -208,7 +211,7 @@ impl World {
         requires input { is_bell input ≡ false }
         ensures happens { OnOk result (Happens self.old (on.Offer hart input) self.new) }
         ensures refused { IfErr result (λ f. Refuses self.old (on.Offer hart input) f) }
-        ensures left { OnErr result (IsLeft self.old self.new) }
+        ensures left { OnErr result (IsLeft self.old (on.Offer hart input) self.new) }
         ensures image { self.new.image ≡ self.old.image }
     {
         if !self.runs {
@@ -222,7 +225,7 @@ impl World {
     fn seal(&mut self, alloc: Global) -> Result<(), WorldFault>
         ensures happens { OnOk result (Happens self.old on.Seal self.new) }
         ensures refused { IfErr result (λ f. Refuses self.old on.Seal f) }
-        ensures left { OnErr result (IsLeft self.old self.new) }
+        ensures left { OnErr result (IsLeft self.old on.Seal self.new) }
         ensures image { self.new.image ≡ self.old.image }
     {
         if !self.runs {
@@ -242,7 +245,7 @@ impl World {
     fn deliver(&mut self, alloc: Global, keeper: u64, frame: u64) -> Result<(), WorldFault>
         ensures happens { OnOk result (Happens self.old (on.Deliver keeper frame) self.new) }
         ensures refused { IfErr result (λ f. Refuses self.old (on.Deliver keeper frame) f) }
-        ensures left { OnErr result (IsLeft self.old self.new) }
+        ensures left { OnErr result (IsLeft self.old (on.Deliver keeper frame) self.new) }
         ensures image { self.new.image ≡ self.old.image }
     {
         let Some(keeper) = keeper_at(&self.stores, keeper) else {
@@ -258,7 +261,7 @@ impl World {
     fn join(&mut self, alloc: Global, keeper: u64, other: u64) -> Result<(), WorldFault>
         ensures happens { OnOk result (Happens self.old (on.Join keeper other) self.new) }
         ensures refused { IfErr result (λ f. Refuses self.old (on.Join keeper other) f) }
-        ensures left { OnErr result (IsLeft self.old self.new) }
+        ensures left { OnErr result (IsLeft self.old (on.Join keeper other) self.new) }
         ensures image { self.new.image ≡ self.old.image }
     {
         let Some(keeper) = keeper_at(&self.stores, keeper) else {
@@ -273,7 +276,7 @@ impl World {
     fn acknowledge(&mut self, keeper: u64) -> Result<(), WorldFault>
         ensures happens { OnOk result (Happens self.old (on.Acknowledge keeper) self.new) }
         ensures refused { IfErr result (λ f. Refuses self.old (on.Acknowledge keeper) f) }
-        ensures left { OnErr result (IsLeft self.old self.new) }
+        ensures left { OnErr result (IsLeft self.old (on.Acknowledge keeper) self.new) }
         ensures image { self.new.image ≡ self.old.image }
     {
         let Some(store) = held_by(&self.stores, keeper) else {
@@ -291,7 +294,7 @@ impl World {
     fn release(&mut self, alloc: Global) -> Result<(), WorldFault>
         ensures happens { OnOk result (Happens self.old on.Release self.new) }
         ensures refused { IfErr result (λ f. Refuses self.old on.Release f) }
-        ensures left { OnErr result (IsLeft self.old self.new) }
+        ensures left { OnErr result (IsLeft self.old on.Release self.new) }
         ensures image { self.new.image ≡ self.old.image }
     {
         if !self.runs {
@@ -312,7 +315,7 @@ impl World {
     fn stop(&mut self) -> Result<(), WorldFault>
         ensures happens { OnOk result (Happens self.old on.Stop self.new) }
         ensures refused { IfErr result (λ f. Refuses self.old on.Stop f) }
-        ensures left { OnErr result (IsLeft self.old self.new) }
+        ensures left { OnErr result (IsLeft self.old on.Stop self.new) }
         ensures image { self.new.image ≡ self.old.image }
     {
         if !self.runs {
@@ -325,7 +328,7 @@ impl World {
     fn lose(&mut self, keeper: u64) -> Result<(), WorldFault>
         ensures happens { OnOk result (Happens self.old (on.Lose keeper) self.new) }
         ensures refused { IfErr result (λ f. Refuses self.old (on.Lose keeper) f) }
-        ensures left { OnErr result (IsLeft self.old self.new) }
+        ensures left { OnErr result (IsLeft self.old (on.Lose keeper) self.new) }
         ensures image { self.new.image ≡ self.old.image }
     {
         let Some(keeper) = keeper_at(&self.stores, keeper) else {
@@ -333,6 +336,21 @@ impl World {
         };
         self.stores[keeper.index()] = None;
         Ok(())
+    }
+
+    /// Why no primary can go live in the term with these keepers' stores, if none can. It is looked at before anything grows.
+    fn why_not_live(&self, term: Term, keepers: &[u64]) -> Option<LiveFault>
+        ensures due { IfSome result (λ f. CannotGoLive self.now term keepers.now f) }
+        ensures none { IfNone result ((fault : live_fault) → CannotGoLive self.now term keepers.now fault → ⊥) }
+    {
+        let (many, last) = count_named(&self.stores, keepers);
+        if many <= usize::from(self.keepers - self.need) {
+            return Some(LiveFault::TooFewStores);
+        }
+        if term <= self.term() || term <= last {
+            return Some(LiveFault::TermNotNew);
+        }
+        None
     }
 
     /// The primary that goes live in the term, and its gate. A term that is not later than the last one is not new.
@@ -383,6 +401,9 @@ impl World {
         if self.runs {
             return Err(WorldFault::NotStopped);
         }
+        if let Some(fault) = self.why_not_live(term, keepers) {
+            return Err(WorldFault::Live(fault));
+        }
         let (primary, gate) = self.revived(alloc, term, keepers)?;
         if self.stopped.reserve(1).is_err() || self.sent.reserve(1).is_err() {
             return Err(WorldFault::Memory);
@@ -401,7 +422,7 @@ impl World {
         requires { MayCome self.old.image.harts event }
         ensures happens { OnOk result (Happens self.old event self.new) }
         ensures refused { IfErr result (λ f. Refuses self.old event f) }
-        ensures left { OnErr result (IsLeft self.old self.new) }
+        ensures left { OnErr result (IsLeft self.old event self.new) }
         ensures image { self.new.image ≡ self.old.image }
     {
         match event {

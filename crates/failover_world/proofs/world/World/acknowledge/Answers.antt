@@ -4,7 +4,7 @@ use Rattle.failover_world.specs.Worlds.{WorldView, store_at}
 use Rattle.failover_world.proofs.Parts.{with_gate}
 use Rattle.failover_world.proofs.Keeping.{acknowledged}
 use Rattle.failover_world.proofs.Guests.{store_guest}
-use Rattle.std.proofs.Common.{Result, Ok, Err, OnOk, OnErr, IfErr, length-set}
+use Rattle.std.proofs.Common.{Result, Ok, Err, OnOk, OnErr, IfErr, length, length-set}
 use Rattle.ft_types.specs.Counts.{count_at}
 use Rattle.ft_types.specs.Guests.{GuestParts}
 use Rattle.closed_cut.specs.Position.{IsPosition}
@@ -88,6 +88,24 @@ invariant_of-self c =
 there : (c : goal.Joined-acknowledge) → store_at c.self.inside.stores.items c.args.keeper ≡ Some c.in-Some.store.now
 there c = ap (λ stores. store_at stores c.args.keeper) (sym c.deref.ensures.value) ∙ c.in-Some.ensures.some
 
+-- its position has a count for each hart
+harts : (c : goal.Joined-acknowledge) → length c.position.result.now.counts ≡ c.self.inside.image.harts
+harts c =
+    let v : WorldView = record {
+      image = c.self.inside.image;
+      keepers = c.self.inside.keepers;
+      need = c.self.inside.need;
+      primary = c.self.inside.primary;
+      runs = c.self.inside.runs;
+      stopped = c.self.inside.stopped.items;
+      sent = c.self.inside.sent.items;
+      stores = c.self.inside.stores.items;
+      gate = c.self.inside.gate;
+      released = c.self.inside.released.items;
+    } in
+    c.position.ensures.harts
+    ∙ ap (λ (g : GuestParts). g.harts) (store_guest v c.self.invariant.tied c.self.invariant.parts.guest c.args.keeper c.in-Some.store.now (there c))
+
 -- one of a term is never lower
 cause : (v : WorldView) (is : IsWorld v) (keeper : ℕ) (s : StoreView) (p : Position) (fault : AckFault) (r : Result Unit AckFault) → r ≡ Err fault →
     store_at v.stores keeper ≡ Some s → IsPosition s p → ((r ≡ Err OtherTerm) ↔ (p.term ≢ v.gate.gate.term)) →
@@ -136,6 +154,7 @@ returns-clause-happens c =
             there = there c;
             position = c.position.result.now;
             is_position = c.position.ensures.position;
+            harts = harts c;
             term = w.in-Ok.ensures.term ∙ c.self.invariant.parts.gate_term;
             rest = ap (λ (g : TermGateView). let x : WorldView = record v { gate = g } in x)
                 (w.in-Ok.ensures.acked ∙ ap (λ k. let g : TermGateView = record v.gate { acked = slice_set v.gate.acked k c.position.result.now.counts } in g)

@@ -20,7 +20,7 @@ refuses v term keepers (Step fault) is = absurd is
 refuses v term keepers (Live fault) is = is
 refuses v term keepers (Ack fault) is = absurd is
 refuses v term keepers Memory is =
-    record { grows = tt; runs = λ no. absurd no; there = is.0; frame = λ no. absurd no; quiet = λ _. is.1; steps = λ fault no. absurd no }
+    record { grows = tt; runs = λ no. absurd no; there = is.0; frame = λ no. absurd no; quiet = λ _. is.1; steps = λ fault no. absurd no; lives = is.2 }
 
 pub returns-in-Grant-clause-refused : goal.returns-in-Grant-clause-refused
 returns-in-Grant-clause-refused c =

@@ -1,18 +1,19 @@
-use Rattle.std.proofs.Common.{◌≡◌, ℕ, ◌≤◌, List, length, refl, sym, ap, subst, ◌∙◌, arith}
+use Rattle.std.proofs.Common.{◌≡◌, inl, inr, ◌≤◌, List, length, refl, sym, ap, subst, ◌∙◌, arith}
 use Rattle.failover_world.specs.Worlds.{WorldView, term_of}
 use Rattle.failover_world.proofs.Parts.{with_rows}
 use Rattle.std.proofs.Common.{◌++◌, ◌+◌, Result, Ok, Err, OnErr, vec_len, vec_capacity}
 use Rattle.output_gate.specs.Gates.{line_of, held_outputs, after_release}
-use Rattle.term_gate.specs.TermGates.{TermGateView, AreAcked}
+use Rattle.term_gate.specs.TermGates.{TermGateView}
 use Rattle.failover_world.specs.declared.released.Released.{Released}
 use Rattle.failover_world.specs.Gating.{AreOffered, AreAllOffered, OffersMore, released_in}
 use Rattle.failover_world.specs.Happenings.{Releases}
+use Rattle.failover_events.specs.declared.event.Event.TheVariants as on
 use Rattle.failover_world.specs.Refusals.{IsLeft}
 use Rattle.failover_world.specs.Tied.{AreParts, IsWorld}
 use Rattle.failover_world.proofs.Releasing.{rising, released}
 use Rattle.failover_world.proofs.Waiting.{still_offered, released_offered}
 use Rattle.failover_world.specs.declared.fault.WorldFault.{WorldFault}
-use Rattle.failover_world.proofs.Gates.{noted_world, offers_rest, left_with, rest_after, was_offered, same_lines, every_line, all_going, few_held, on_ok}
+use Rattle.failover_world.proofs.Gates.{noted_world, offers_rest, left_with, rest_after, was_offered, acked_before, same_lines, every_line, all_going, few_held, on_ok}
 use Rattle.failover_world.proofs.world.World.release.Goals as goal
 
 pub invariant_of-self : goal.invariant_of-self
@@ -68,9 +69,9 @@ returns-in_err-offer_all-clause-left c =
       gate = c.self.inside.gate;
       released = c.self.inside.released.items;
     } in
-    left_if c.from_residual.result (IsLeft c.args.self.now (record v { gate = c.offer_all.new.gate }))
-    (subst (λ x. IsLeft x (record v { gate = c.offer_all.new.gate })) c.self.view_is
-    (left_with v c.offer_all.new.gate (was_offered v.gate c.offer_all.new.gate c.offer_all.new.gate c.offer_all.ensures.more refl refl)))
+    left_if c.from_residual.result (IsLeft c.args.self.now on.Release (record v { gate = c.offer_all.new.gate }))
+    (subst (λ x. IsLeft x on.Release (record v { gate = c.offer_all.new.gate })) c.self.view_is
+    (left_with v c.offer_all.new.gate (was_offered v.gate c.offer_all.new.gate c.offer_all.new.gate c.offer_all.ensures.more refl refl (inl refl))))
 
 pub returns-then-is_err-clause-left : goal.returns-then-is_err-clause-left
 returns-then-is_err-clause-left c =
@@ -86,9 +87,9 @@ returns-then-is_err-clause-left c =
       gate = c.self.inside.gate;
       released = c.self.inside.released.items;
     } in
-    subst (λ x. IsLeft x (record v { gate = c.offer_all.new.gate; released = c.reserve.new.self.items })) c.self.view_is
-    (subst (λ (rs : List Released). IsLeft v (record v { gate = c.offer_all.new.gate; released = rs })) (sym c.reserve.ensures.items)
-    (left_with v c.offer_all.new.gate (was_offered v.gate c.offer_all.new.gate c.offer_all.new.gate c.offer_all.ensures.more refl refl)))
+    subst (λ x. IsLeft x on.Release (record v { gate = c.offer_all.new.gate; released = c.reserve.new.self.items })) c.self.view_is
+    (subst (λ (rs : List Released). IsLeft v on.Release (record v { gate = c.offer_all.new.gate; released = rs })) (sym c.reserve.ensures.items)
+    (left_with v c.offer_all.new.gate (was_offered v.gate c.offer_all.new.gate c.offer_all.new.gate c.offer_all.ensures.more refl refl (inl refl))))
 
 pub invariant_of-self-in_err-given : goal.invariant_of-self-in_err-given
 invariant_of-self-in_err-given c =
@@ -125,10 +126,11 @@ returns-in_err-given-clause-left c =
       released = c.self.inside.released.items;
     } in
     let g = c.release-given.new.self in
-    left_if c.from_residual-in_err-given.result (IsLeft c.args.self.now (record v { gate = g; released = c.reserve.new.self.items }))
-    (subst (λ x. IsLeft x (record v { gate = g; released = c.reserve.new.self.items })) c.self.view_is
-    (subst (λ (rs : List Released). IsLeft v (record v { gate = g; released = rs })) (sym c.reserve.ensures.items)
-    (left_with v g (was_offered v.gate c.offer_all.new.gate g c.offer_all.ensures.more c.release-given.ensures.rest c.in_err-given.ensures.err))))
+    left_if c.from_residual-in_err-given.result (IsLeft c.args.self.now on.Release (record v { gate = g; released = c.reserve.new.self.items }))
+    (subst (λ x. IsLeft x on.Release (record v { gate = g; released = c.reserve.new.self.items })) c.self.view_is
+    (subst (λ (rs : List Released). IsLeft v on.Release (record v { gate = g; released = rs })) (sym c.reserve.ensures.items)
+    (left_with v g (was_offered v.gate c.offer_all.new.gate g c.offer_all.ensures.more c.release-given.ensures.rest c.in_err-given.ensures.err
+    (inr c.release-given.ensures.acked)))))
 
 pub add_released-requires : goal.add_released-requires
 add_released-requires c =
@@ -142,12 +144,6 @@ add_released-requires c =
 -- the gate asks for as many keepers
 needs : (v : WorldView) → AreParts v → (g : TermGateView) → OffersMore v.gate g → g.gate.need ≡ v.need
 needs v parts g more = ap (λ (x : TermGateView). x.gate.need) more.rest ∙ parts.gate_need
-
--- what was acknowledged at a gate to which more was offered
-acked_before : (g h : TermGateView) (noted : List (List ℕ)) → OffersMore g h → AreAcked h noted → AreAcked g noted
-acked_before g h noted more are =
-    let x = subst (λ (y : TermGateView). AreAcked y noted) more.rest are in
-    record { acked = x.acked; no_keeper = x.no_keeper; no_hart = x.no_hart }
 
 pub invariant_of-self-2 : goal.invariant_of-self-2
 invariant_of-self-2 c =
