@@ -3,3 +3,4 @@ pub mod Keeping
 pub mod Posts
 pub mod Rounds
 pub mod Telling
+pub mod Printing
