@@ -6,3 +6,4 @@ pub mod Released
 pub mod Rounds
 pub mod Serving
 pub mod Telling
+pub mod Printing

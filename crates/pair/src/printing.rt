@@ -1,30 +1,66 @@
 //! What a pair prints.
 
+ghost use Rattle.std.specs.Prelude.{◌++◌};
+ghost use Rattle.std.specs.List.{flat_map};
+ghost use Rattle.ft_types.specs.Devices.{Writes};
+ghost use Rattle.guest_image.specs.Text.{machine_text};
+ghost use Rattle.pair.specs.Printing.{output_line, kept_line, pair_text};
+
 use crate::threads::PairEnd;
 use ft_types::{Failed, LineBuffer, Sink};
-use log_streams::write_numbered;
+use guest_image::Machine;
+use log_streams::write_long_line;
 use output_gate::Output;
 
-/// Writes an output that went out.
-fn write_output<W: Sink>(output: &Output, out: &mut W) -> Result<(), Failed> {
-    write_numbered(
-        b"released hart ",
-        u64::from(output.hart.number()),
-        b" number ",
-        out,
-    )?;
-    write_numbered(b"", output.number, b" step ", out)?;
-    write_numbered(b"", output.step, b" word ", out)?;
-    let mut line = LineBuffer::new();
-    line.push_word(output.word);
-    line.write(out)
+/// Writes the line of an output that went out.
+fn write_output<W: Sink>(output: &Output, out: &mut W) -> Result<(), Failed>
+    ensures { Writes result (W.bytes out.old) (W.bytes out.new) (W.failures out.old) (W.failures out.new) (output_line output.now) }
+{
+    let mut front = LineBuffer::new();
+    front.push(b"released hart ");
+    front.push_number(u64::from(output.hart.number()));
+    front.push(b" number ");
+    front.push_number(output.number);
+    let mut back = LineBuffer::new();
+    back.push(b" step ");
+    back.push_number(output.step);
+    back.push(b" word ");
+    back.push_word(output.word);
+    write_long_line(front, back, out)
+}
+
+/// Writes what went out, by hart and number.
+fn write_outputs<W: Sink>(outputs: &[Output], out: &mut W) -> Result<(), Failed>
+    ensures { Writes result (W.bytes out.old) (W.bytes out.new) (W.failures out.old) (W.failures out.new) (flat_map output_line outputs.now) }
+{
+    for output in outputs {
+        write_output(output, out)?;
+    }
+    Ok(())
+}
+
+#[tactic(auto, unfolding(crate::specs::Printing::kept_line))]
+fn write_kept<W: Sink>(kept: usize, out: &mut W) -> Result<(), Failed>
+    ensures { Writes result (W.bytes out.old) (W.bytes out.new) (W.failures out.old) (W.failures out.new) (kept_line kept) }
+{
+    let mut text = LineBuffer::new();
+    text.push(b"kept ");
+    text.push_number(kept as u64);
+    text.write(out)
+}
+
+/// Writes how many outputs did not go out, and the primary's machine.
+fn write_rest<W: Sink>(kept: usize, machine: &Machine, out: &mut W) -> Result<(), Failed>
+    ensures { Writes result (W.bytes out.old) (W.bytes out.new) (W.failures out.old) (W.failures out.new) (kept_line kept ++ machine_text machine.now) }
+{
+    write_kept(kept, out)?;
+    machine.write_text(out)
 }
 
 /// Writes what went out, how much did not, and the primary's machine.
-pub(crate) fn write_pair<W: Sink>(end: &PairEnd, out: &mut W) -> Result<(), Failed> {
-    for output in &end.released {
-        write_output(output, out)?;
-    }
-    write_numbered(b"kept ", end.kept as u64, b"\n", out)?;
-    end.book.machine().write_text(out)
+pub(crate) fn write_pair<W: Sink>(end: &PairEnd, out: &mut W) -> Result<(), Failed>
+    ensures { Writes result (W.bytes out.old) (W.bytes out.new) (W.failures out.old) (W.failures out.new) (pair_text end.now) }
+{
+    write_outputs(&end.released, out)?;
+    write_rest(end.kept, end.book.machine(), out)
 }
