@@ -1,7 +1,7 @@
 //! Books that fall by chance begin so, and what is compared of them.
 
 use edge_log::EdgeLog;
-use fixtures::{Crew, image_of, recorder};
+use fixtures::{Crew, recorder};
 use ft_types::{Count, Counts, Memory};
 use guest_image::{Image, Machine};
 use input_log::InputLog;
@@ -10,8 +10,8 @@ use std::alloc::Global;
 use std::test::Fail;
 
 /// A crew over a book that records what a guest does up to these limits.
-pub fn recording(alloc: Global, file: &[u8], limits: &[Count]) -> Result<Crew<Recording>, Fail> {
-    Ok(Crew::new(recorder(alloc, &image_of(alloc, file)?, limits)?))
+pub fn recording(alloc: Global, image: &Image, limits: &[Count]) -> Result<Crew<Recording>, Fail> {
+    Ok(Crew::new(recorder(alloc, image, limits)?))
 }
 
 fn leg_of(ends: Counts, edges: &EdgeLog, inputs: &InputLog) -> Result<Leg, Memory> {
@@ -48,11 +48,6 @@ pub fn replayer(
         Some(book) => Ok(book),
         None => Ok(begin(alloc, image, ends, edges, inputs).ok_or("book")?),
     }
-}
-
-/// Whether a book's harts have these counts, after so many stretches.
-pub fn stands_at<M: Mode>(book: &Book<M>, counts: &[Count], stretches: usize) -> bool {
-    book.counts().as_slice() == counts && book.journal().len() == stretches
 }
 
 /// Whether two books came to the same machine.

@@ -5,6 +5,8 @@
 #[cfg(test)]
 mod begun;
 #[cfg(test)]
+mod boards;
+#[cfg(test)]
 mod chances;
 #[cfg(test)]
 mod gates;

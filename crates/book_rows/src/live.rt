@@ -1,7 +1,5 @@
 //! Going live from stores that were worked out by hand.
 
-ghost use Rattle.std.specs.Prelude.{◌<◌, ◌≤◌};
-
 use crate::guests::BOTH_COUNT_ALOUD;
 use crate::rows::Edge;
 use fixtures::{HALTS, TWO_LOOPS, edge, hart, image_of, key, opening_of, piece_of};
@@ -239,33 +237,28 @@ fn frame_of(alloc: Global, guest: Guest, part: &Part) -> Result<Frame, Fail> {
     }
 }
 
-/// A keeper's store. What memory is refused once is put once more.
+/// Puts a part, once more where memory was refused.
+fn put(alloc: Global, store: &mut Store, part: &Part) -> Result<(), Fail> {
+    let guest = store.guest();
+    if store.put(frame_of(alloc, guest, part)?).is_err() {
+        let _put = store.put(frame_of(alloc, guest, part)?)?;
+    }
+    Ok(())
+}
+
+fn put_all(alloc: Global, store: &mut Store, parts: &[Part]) -> Result<(), Fail> {
+    for part in parts {
+        put(alloc, store, part)?;
+    }
+    Ok(())
+}
+
+/// A keeper's store.
 fn store_of(alloc: Global, (_, file, parts): Kept) -> Result<Store, Fail> {
     let guest = image_of(alloc, file)?.guest();
     let mut store = Store::new(alloc, guest);
-    for part in parts {
-        if store.put(frame_of(alloc, guest, part)?).is_err() {
-            let _put = store.put(frame_of(alloc, guest, part)?)?;
-        }
-    }
+    put_all(alloc, &mut store, parts)?;
     Ok(store)
-}
-
-/// What comes of going live, which is asked for once more where memory was refused.
-fn granted(
-    alloc: Global,
-    image: &Image,
-    stores: &[(Keeper, &Store)],
-    keepers: u8,
-    need: u8,
-    term: Term,
-) -> Result<Live, LiveFault>
-    requires { (0 < need) × (need ≤ keepers) × (keepers ≤ 5) }
-{
-    match go_live(alloc, image, stores, keepers, need, term) {
-        Err(LiveFault::Memory) => go_live(alloc, image, stores, keepers, need, term),
-        answer => answer,
-    }
 }
 
 /// Whether nothing is recorded in a primary's book, and no hart may go on from these counts.
@@ -304,33 +297,77 @@ fn fault_of(comes: Comes) -> Option<LiveFault> {
     }
 }
 
-/// Whether that comes which is to come.
-fn is_so(answer: &Result<Live, LiveFault>, term: Term, comes: Comes) -> bool {
-    match (answer, comes) {
-        (Ok(live), Comes::Lives(parent, base, outputs)) => lives(live, term, parent, base, outputs),
-        (Ok(_), _) => false,
-        (Err(fault), _) => fault_of(comes) == Some(*fault),
+/// Whether a primary lives as is to come.
+fn lives_so(live: &Live, term: Term, comes: Comes) -> bool {
+    match comes {
+        Comes::Lives(parent, base, outputs) => lives(live, term, parent, base, outputs),
+        _ => false,
     }
 }
 
-/// Whether a row is as it says.
-fn holds(
+/// Whether that comes of going live which is to come. Where memory was refused, none.
+fn is_so(
     alloc: Global,
-    (_, file, [keepers, need], term, kept, asked, comes): Row,
-) -> Result<bool, Fail> {
+    image: &Image,
+    stores: &[(Keeper, &Store)],
+    [keepers, need]: [u8; 2],
+    (term, comes): (Term, Comes),
+) -> Option<bool> {
     if need == 0 || need > keepers || keepers > 5 {
-        return Err("a quorum".into());
+        return None;
     }
-    let image = image_of(alloc, file)?;
-    let [one, other] = kept;
-    let (first, second) = (store_of(alloc, one)?, store_of(alloc, other)?);
+    let fault = match go_live(alloc, image, stores, keepers, need, term) {
+        Ok(live) => return Some(lives_so(&live, term, comes)),
+        Err(fault) => fault,
+    };
+    if fault == LiveFault::Memory {
+        return None;
+    }
+    Some(fault_of(comes) == Some(fault))
+}
+
+/// Whether a row is as it says of these stores, of which so many are asked, once more where memory was refused.
+fn holds_of(alloc: Global, image: &Image, stores: &[(Keeper, &Store)], row: &Row) -> Option<bool> {
+    let (_, _, quorum, term, _, asked, comes) = *row;
+    let stores = stores.get(..asked)?;
+    match is_so(alloc, image, stores, quorum, (term, comes)) {
+        None => is_so(alloc, image, stores, quorum, (term, comes)),
+        so => so,
+    }
+}
+
+/// Whether it is of these two stores.
+fn holds_of_both<'a>(
+    alloc: Global,
+    image: &Image,
+    first: &'a Store,
+    second: &'a Store,
+    row: &Row,
+) -> bool {
+    let [one, other] = row.4;
     let stores = [
-        (Keeper::new(one.0 % 5), &first),
-        (Keeper::new(other.0 % 5), &second),
+        (Keeper::new(one.0 % 5), first),
+        (Keeper::new(other.0 % 5), second),
     ];
-    let stores = stores.as_slice().get(..asked).ok_or("stores")?;
-    let answer = granted(alloc, &image, stores, keepers, need, term);
-    Ok(is_so(&answer, term, comes))
+    holds_of(alloc, image, &stores, row) == Some(true)
+}
+
+/// Whether it is of the first keeper's store.
+fn holds_with(alloc: Global, image: &Image, first: &Store, row: &Row) -> Result<bool, Fail> {
+    let second = store_of(alloc, row.4[1])?;
+    Ok(holds_of_both(alloc, image, first, &second, row))
+}
+
+/// Whether it is of the image.
+fn holds_in(alloc: Global, image: &Image, row: &Row) -> Result<bool, Fail> {
+    let first = store_of(alloc, row.4[0])?;
+    holds_with(alloc, image, &first, row)
+}
+
+/// Whether a row is as it says.
+fn holds(alloc: Global, row: Row) -> Result<bool, Fail> {
+    let image = image_of(alloc, row.1)?;
+    holds_in(alloc, &image, &row)
 }
 
 #[test]

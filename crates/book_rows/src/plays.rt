@@ -6,7 +6,7 @@ use fixtures::{Crew, hart};
 use ft_types::{Count, Hart, HartSet, PageNo};
 use guest_image::Machine;
 use input_log::Input;
-use page_book::{Book, BookFault, Keep, Lease, Mode, Need, Recording};
+use page_book::{Book, BookFault, Keep, Lease, Mode, Need, Recording, Replaying};
 use std::alloc::Global;
 use std::mem;
 use std::test::Fail;
@@ -18,6 +18,13 @@ struct Stage<M: Mode> {
 }
 
 impl<M: Mode> Stage<M> {
+    fn new(book: Book<M>, other: Book<M>) -> Stage<M> {
+        Stage {
+            crew: Crew::new(book),
+            other: Crew::new(other),
+        }
+    }
+
     /// The machine of the crew's book, once each open lease has gone back.
     fn end(self) -> Machine {
         let Stage { crew, other } = self;
@@ -160,12 +167,17 @@ fn is_recorded(book: &Book<Recording>, row: &Row) -> bool {
     }
 }
 
+/// Plays a book on, and no more the crew's one.
+fn play_on(crew: &mut Crew<Recording>, book: Book<Recording>) {
+    let before = mem::replace(crew, Crew::new(book));
+    let _before = before.end();
+}
+
 /// Plays a book on that begins where the crew's one ends.
-fn begin_next(stage: &mut Stage<Recording>, alloc: Global) -> bool {
-    match next_book(alloc, &stage.crew.book) {
+fn begin_next(crew: &mut Crew<Recording>, alloc: Global) -> bool {
+    match next_book(alloc, &crew.book) {
         Some(book) => {
-            let before = mem::replace(&mut stage.crew, Crew::new(book));
-            let _before = before.end();
+            play_on(crew, book);
             true
         }
         None => false,
@@ -179,7 +191,7 @@ fn is_done(stage: &mut Stage<Recording>, alloc: Global, row: &Row) -> bool {
             offer(&mut stage.crew.book, hart(number), count, &heard.input())
         }
         Row::Raise(limits) => raise(&mut stage.crew.book, limits),
-        Row::Begin => begin_next(stage, alloc),
+        Row::Begin => begin_next(&mut stage.crew, alloc),
         _ => holds(stage, alloc, row) || is_recorded(&stage.crew.book, row),
     }
 }
@@ -187,35 +199,37 @@ fn is_done(stage: &mut Stage<Recording>, alloc: Global, row: &Row) -> bool {
 /// What a play came to: how many rows from the first on are as they say, and the machine.
 type Played = (usize, Machine);
 
+/// How many rows from the first on a book that records does as they say.
+fn rows_recorded(stage: &mut Stage<Recording>, alloc: Global, rows: &[Row]) -> usize {
+    for (number, row) in rows.iter().enumerate() {
+        if !is_done(stage, alloc, row) {
+            return number;
+        }
+    }
+    rows.len()
+}
+
+/// How many a book that replays.
+fn rows_replayed(stage: &mut Stage<Replaying>, alloc: Global, rows: &[Row]) -> usize {
+    for (number, row) in rows.iter().enumerate() {
+        if !holds(stage, alloc, row) {
+            return number;
+        }
+    }
+    rows.len()
+}
+
 fn record(alloc: Global, play: &Play) -> Result<Played, Fail> {
     let (book, other) = (recorder_of(alloc, play)?, recorder_of(alloc, play)?);
-    let mut stage = Stage {
-        crew: Crew::new(book),
-        other: Crew::new(other),
-    };
-    let mut rows = 0usize;
-    for row in play.rows {
-        if !is_done(&mut stage, alloc, row) {
-            break;
-        }
-        rows = rows.saturating_add(1);
-    }
+    let mut stage = Stage::new(book, other);
+    let rows = rows_recorded(&mut stage, alloc, play.rows);
     Ok((rows, stage.end()))
 }
 
 fn replay(alloc: Global, play: &Play) -> Result<Played, Fail> {
     let (book, other) = (replayer_of(alloc, play)?, replayer_of(alloc, play)?);
-    let mut stage = Stage {
-        crew: Crew::new(book),
-        other: Crew::new(other),
-    };
-    let mut rows = 0usize;
-    for row in play.rows {
-        if !holds(&mut stage, alloc, row) {
-            break;
-        }
-        rows = rows.saturating_add(1);
-    }
+    let mut stage = Stage::new(book, other);
+    let rows = rows_replayed(&mut stage, alloc, play.rows);
     Ok((rows, stage.end()))
 }
 
@@ -234,15 +248,34 @@ fn is_alike(play: &Play, last: &Option<Machine>, machine: &Machine) -> bool {
     }
 }
 
-/// The first play, and its first row, that comes otherwise than is said; one behind its last row where its machine does.
-pub fn first_wrong(alloc: Global, plays: &[Play]) -> Result<Option<(&'static str, usize)>, Fail> {
-    let mut last = None;
+/// Plays after the play that came to the last machine. The number of the row that comes otherwise than is said; one behind the
+/// last row where the machine does.
+fn wrong_row(
+    alloc: Global,
+    play: &Play,
+    last: &mut Option<Machine>,
+) -> Result<Option<usize>, Fail> {
+    let (rows, machine) = played(alloc, play)?;
+    let right = rows == play.rows.len() && is_alike(play, &*last, &machine);
+    *last = Some(machine);
+    Ok(if right { None } else { Some(rows) })
+}
+
+fn first_wrong_after(
+    alloc: Global,
+    plays: &[Play],
+    last: &mut Option<Machine>,
+) -> Result<Option<(&'static str, usize)>, Fail> {
     for play in plays {
-        let (rows, machine) = played(alloc, play)?;
-        if rows < play.rows.len() || !is_alike(play, &last, &machine) {
-            return Ok(Some((play.name, rows)));
+        if let Some(row) = wrong_row(alloc, play, last)? {
+            return Ok(Some((play.name, row)));
         }
-        last = Some(machine);
     }
     Ok(None)
+}
+
+/// The first play, and its first row, that comes otherwise than is said.
+pub fn first_wrong(alloc: Global, plays: &[Play]) -> Result<Option<(&'static str, usize)>, Fail> {
+    let mut last = None;
+    first_wrong_after(alloc, plays, &mut last)
 }

@@ -48,14 +48,20 @@ static RUNS: [Run; 6] = [
     (ADDS, &[1500, 100, 2000, 1024], &[1500, 100, 1805, 1024], 6),
 ];
 
+/// Whether the image's primary runs so, where memory is not refused.
+fn runs_once(alloc: Global, image: &Image, (_, limits, counts, leases): Run) -> Option<bool> {
+    let book = ran(alloc, image, limits)?;
+    Some(stands_at(&book, counts, leases))
+}
+
 /// Whether a primary runs so. Where memory is refused it runs anew.
-fn runs_so(alloc: Global, (file, limits, counts, leases): Run) -> Result<bool, Fail> {
-    let image = image_of(alloc, file)?;
-    let book = match ran(alloc, &image, limits) {
-        Some(book) => book,
-        None => ran(alloc, &image, limits).ok_or("memory")?,
+fn runs_so(alloc: Global, run: Run) -> Result<bool, Fail> {
+    let image = image_of(alloc, run.0)?;
+    let runs = match runs_once(alloc, &image, run) {
+        None => runs_once(alloc, &image, run),
+        runs => runs,
     };
-    Ok(stands_at(&book, counts, leases))
+    Ok(runs == Some(true))
 }
 
 #[test]
@@ -132,19 +138,26 @@ static STEPS: [Steps; 3] = [
     ),
 ];
 
-/// Whether a primary's steps tell so, and leave its limits.
-fn steps_so(alloc: Global, (file, limits, steps, counts, leases): Steps) -> Result<bool, Fail> {
-    let image = image_of(alloc, file)?;
-    let mut book = match begin(alloc, &image, limits) {
-        Some(book) => book,
-        None => begin(alloc, &image, limits).ok_or("memory")?,
-    };
+/// Whether the steps of the image's primary tell so, and leave its limits, where memory is not refused.
+fn steps_once(
+    alloc: Global,
+    image: &Image,
+    (_, limits, steps, counts, leases): Steps,
+) -> Option<bool> {
+    let mut book = begin(alloc, image, limits)?;
     let right = steps_of(alloc, &mut book, steps);
-    Ok(
-        right == steps.len()
-            && stands_at(&book, counts, leases)
-            && book.limits().as_slice() == limits,
-    )
+    let stands = stands_at(&book, counts, leases) && book.limits().as_slice() == limits;
+    Some(right == steps.len() && stands)
+}
+
+/// Whether a primary's steps do. Where memory is refused it begins anew.
+fn steps_so(alloc: Global, steps: Steps) -> Result<bool, Fail> {
+    let image = image_of(alloc, steps.0)?;
+    let right = match steps_once(alloc, &image, steps) {
+        None => steps_once(alloc, &image, steps),
+        right => right,
+    };
+    Ok(right == Some(true))
 }
 
 #[test]

@@ -1,8 +1,9 @@
 //! Leases that run beside leases that tick, on words that fall by chance.
 
-use crate::begun::{recording, same_machine, stands_at};
-use fixtures::{Crew, Dice, hart};
+use crate::begun::{recording, same_machine};
+use fixtures::{Crew, Dice, hart, image_of};
 use ft_types::{Count, Memory};
+use guest_image::Image;
 use page_book::{Book, Keep, Need, Recording};
 use rv32_hart::Tick;
 use std::alloc::Global;
@@ -118,20 +119,70 @@ fn go(crew: &mut Crew<Recording>, way: Way) {
     }
 }
 
-/// The book of a guest, led this way up to a limit.
-fn led(alloc: Global, file: &[u8], limit: Count, way: Way) -> Result<Book<Recording>, Fail> {
-    let mut crew = recording(alloc, file, &[limit])?;
+/// Twenty leases at most, this way.
+fn lead(crew: &mut Crew<Recording>, alloc: Global, way: Way) {
     for _lease in 0..20 {
         if crew.lend(alloc, hart(0)).is_err() {
-            break;
+            return;
         }
         if way == Way::LongRuns {
-            lengthen(&mut crew);
+            lengthen(crew);
         }
-        go(&mut crew, way);
+        go(crew, way);
         let _settled = crew.settle(hart(0), Keep::All);
     }
+}
+
+/// The book of a guest, led this way up to a limit.
+fn led(alloc: Global, image: &Image, limit: Count, way: Way) -> Result<Book<Recording>, Fail> {
+    let mut crew = recording(alloc, image, &[limit])?;
+    lead(&mut crew, alloc, way);
     Ok(crew.end())
+}
+
+/// By how many leases a guest comes to the machine and the counts of this book, led this way, if it does.
+fn leases_to(
+    alloc: Global,
+    image: &Image,
+    limit: Count,
+    way: Way,
+    ticked: &Book<Recording>,
+) -> Result<Option<usize>, Fail> {
+    let book = led(alloc, image, limit, way)?;
+    let comes = same_machine(&book, ticked) && book.counts() == ticked.counts();
+    Ok(if comes {
+        Some(book.journal().len())
+    } else {
+        None
+    })
+}
+
+/// Whether the other ways lead to the machine of a book that ticked, one of them in as many leases; and if they do, whether
+/// longer leases are fewer.
+fn are_fewer_than(
+    alloc: Global,
+    image: &Image,
+    limit: Count,
+    ticked: &Book<Recording>,
+) -> Result<Option<bool>, Fail> {
+    let ran = leases_to(alloc, image, limit, Way::Runs, ticked)?;
+    let far = leases_to(alloc, image, limit, Way::LongRuns, ticked)?;
+    match (ran, far) {
+        (Some(ran), Some(far)) if ran == ticked.journal().len() => Ok(Some(far < ran)),
+        _ => Ok(None),
+    }
+}
+
+/// The same of a guest of which one book ticks.
+fn are_fewer(alloc: Global, image: &Image, limit: Count) -> Result<Option<bool>, Fail> {
+    let ticked = led(alloc, image, limit, Way::Ticks)?;
+    are_fewer_than(alloc, image, limit, &ticked)
+}
+
+/// The same of the guest of a seed.
+fn are_fewer_of(alloc: Global, seed: u64) -> Result<Option<bool>, Fail> {
+    let image = image_of(alloc, &guest(alloc, seed.wrapping_mul(0x9e37_79b9))?)?;
+    are_fewer(alloc, &image, seed.saturating_mul(40).saturating_add(1))
 }
 
 // All ways lead to the same machine, the first two in as many leases, also where the words store among themselves, trap and put
@@ -140,18 +191,9 @@ fn led(alloc: Global, file: &[u8], limit: Count, way: Way) -> Result<Book<Record
 fn a_run_is_its_ticks(rt: HostRuntime) -> Result<(), Fail> {
     let mut fewer = 0u32;
     for seed in 1..60u64 {
-        let limit = 40 * seed + 1;
-        let file = guest(rt.alloc(), seed * 0x9e37_79b9)?;
-        let ticked = led(rt.alloc(), &file, limit, Way::Ticks)?;
-        let ran = led(rt.alloc(), &file, limit, Way::Runs)?;
-        assert!(rt; same_machine(&ticked, &ran), "{seed}");
-        assert!(rt;
-            stands_at(&ran, ticked.counts().as_slice(), ticked.journal().len()),
-            "{seed}"
-        );
-        let far = led(rt.alloc(), &file, limit, Way::LongRuns)?;
-        assert!(rt; same_machine(&ticked, &far), "{seed}");
-        if far.journal().len() < ran.journal().len() {
+        let longer = are_fewer_of(rt.alloc(), seed)?;
+        assert!(rt; longer.is_some(), "{seed}");
+        if longer == Some(true) {
             fewer = fewer.saturating_add(1);
         }
     }

@@ -24,59 +24,88 @@ fn add_edge(log: &mut EdgeLog, number: u8, (at, other, after): Edge) -> bool {
     log.may_add(&edge) && log.add(edge).is_ok()
 }
 
+fn add_edges(log: &mut EdgeLog, edges: &[(u8, Edge)]) -> bool {
+    for (number, edge) in edges {
+        if !add_edge(log, *number, *edge) {
+            return false;
+        }
+    }
+    true
+}
+
 /// A log of these edges from a start at 0.
 fn edges_of(alloc: Global, harts: u8, edges: &[(u8, Edge)]) -> Option<EdgeLog> {
     let mut log = EdgeLog::new(alloc, Counts::zero(harts.min(HART_LIMIT)));
-    for (number, edge) in edges {
-        if !add_edge(&mut log, *number, *edge) {
-            return None;
+    if add_edges(&mut log, edges) {
+        Some(log)
+    } else {
+        None
+    }
+}
+
+fn add_input(log: &mut InputLog, number: u8, count: Count, heard: Heard) -> bool {
+    let hart = hart(number);
+    log.may_add(hart, count) && log.add(hart, count, heard.input()).is_ok()
+}
+
+fn add_inputs(log: &mut InputLog, inputs: &[(u8, Count, Heard)]) -> bool {
+    for (number, count, heard) in inputs {
+        if !add_input(log, *number, *count, *heard) {
+            return false;
         }
     }
-    Some(log)
+    true
 }
 
 fn inputs_of(alloc: Global, inputs: &[(u8, Count, Heard)]) -> Option<InputLog> {
     let mut log = InputLog::new(alloc);
-    for (number, count, heard) in inputs {
-        let hart = hart(*number);
-        if !log.may_add(hart, *count) || log.add(hart, *count, heard.input()).is_err() {
-            return None;
-        }
+    if add_inputs(&mut log, inputs) {
+        Some(log)
+    } else {
+        None
     }
-    Some(log)
 }
 
 fn leg_of(alloc: Global, harts: u8, play: &Play) -> Option<Leg> {
     let obeyed = play.obeyed?;
+    let ends = Counts::from_slice(play.limits)?;
+    let edges = edges_of(alloc, harts, obeyed.edges)?;
+    let inputs = inputs_of(alloc, obeyed.inputs)?;
     Some(Leg {
-        ends: Counts::from_slice(play.limits)?,
-        edges: edges_of(alloc, harts, obeyed.edges)?,
-        inputs: inputs_of(alloc, obeyed.inputs)?,
+        ends,
+        edges,
+        inputs,
     })
 }
 
-fn replayer_once(alloc: Global, image: &Image, play: &Play) -> Option<Book<Replaying>> {
+fn begin(alloc: Global, image: &Image, leg: Leg) -> Option<Book<Replaying>> {
     let start = Machine::boot(alloc, image).ok()?;
-    let leg = leg_of(alloc, image.harts(), play)?;
     Book::<Replaying>::begin(alloc, start, leg).ok()
+}
+
+fn replayer_once(alloc: Global, image: &Image, play: &Play) -> Option<Book<Replaying>> {
+    begin(alloc, image, leg_of(alloc, image.harts(), play)?)
+}
+
+fn replayer(alloc: Global, image: &Image, play: &Play) -> Result<Book<Replaying>, Fail> {
+    match replayer_once(alloc, image, play) {
+        Some(book) => Ok(book),
+        None => Ok(replayer_once(alloc, image, play).ok_or("book")?),
+    }
 }
 
 /// A book that obeys what a play gives.
 pub fn replayer_of(alloc: Global, play: &Play) -> Result<Book<Replaying>, Fail> {
     let image = image_of(alloc, play.file)?;
-    match replayer_once(alloc, &image, play) {
-        Some(book) => Ok(book),
-        None => Ok(replayer_once(alloc, &image, play).ok_or("book")?),
-    }
+    replayer(alloc, &image, play)
 }
 
 fn next_once(alloc: Global, machine: &Machine) -> Option<Book<Recording>> {
-    let start = machine.copy().ok()?;
-    let limits = Counts::from_slice([100; 8].get(..usize::from(start.harts()))?)?;
-    if start.harts() != limits.harts() {
+    let limits = Counts::from_slice([100; 8].get(..usize::from(machine.harts()))?)?;
+    if machine.harts() != limits.harts() {
         return None;
     }
-    Book::<Recording>::begin(alloc, start, limits).ok()
+    Book::<Recording>::begin(alloc, machine.copy().ok()?, limits).ok()
 }
 
 /// A book that begins where another one ended.

@@ -1,33 +1,40 @@
 //! Single steps of books, and what a book recorded, step by step once more.
 
 use edge_log::EdgeLog;
-use ft_types::{Counts, Hart, Memory};
+use ft_types::{Counts, Hart, Memory, PageNo, Want};
 use guest_image::Machine;
 use page_book::{Book, BookFault, Keep, Lease, Leg, Mode, Recording, Replaying};
 use rv32_hart::Tick;
 use std::alloc::Global;
 
-/// Takes the lease's first step, or asks for the page that it lacks.
-fn try_step<M: Mode>(book: &mut Book<M>, lease: &mut Lease) {
+/// The lease's first step.
+fn first_tick(lease: &mut Lease) -> Tick {
     if lease.full() || lease.steps() > 0 {
-        return;
+        Tick::Halted
+    } else {
+        lease.tick()
     }
-    if let Tick::Miss(page, want) = lease.tick() {
-        if page.number() < book.machine().pages() {
-            let _need = book.need(lease, page, want);
+}
+
+/// Asks for a page that the lease lacks.
+fn ask<M: Mode>(book: &mut Book<M>, lease: &mut Lease, page: PageNo, want: Want) {
+    if page.number() < book.machine().pages() {
+        let _need = book.need(lease, page, want);
+    }
+}
+
+/// Takes the lease's first step, or asks for the page that it lacks. It lacks three pages at most, and may be refused memory for a
+/// while.
+fn take_one<M: Mode>(book: &mut Book<M>, lease: &mut Lease) {
+    for _turn in 0..8 {
+        if let Tick::Miss(page, want) = first_tick(lease) {
+            ask(book, lease, page, want);
         }
     }
 }
 
-/// One step of the hart, which keeps no rights. It lacks three pages at most, and may be refused memory for a while.
-pub fn one_step<M: Mode>(alloc: Global, book: &mut Book<M>, hart: Hart) -> Result<(), BookFault> {
-    if hart.number() >= book.machine().harts() {
-        return Err(BookFault::Foreign);
-    }
-    let mut lease = book.lease(alloc, hart)?;
-    for _turn in 0..8 {
-        try_step(book, &mut lease);
-    }
+/// Settles a lease, which keeps no rights.
+fn settle<M: Mode>(book: &mut Book<M>, lease: Lease) -> Result<(), BookFault> {
     match book.settle(lease, Keep::Nothing) {
         Ok(()) => Ok(()),
         Err((lease, fault)) => {
@@ -35,6 +42,16 @@ pub fn one_step<M: Mode>(alloc: Global, book: &mut Book<M>, hart: Hart) -> Resul
             Err(fault)
         }
     }
+}
+
+/// One step of the hart.
+pub fn one_step<M: Mode>(alloc: Global, book: &mut Book<M>, hart: Hart) -> Result<(), BookFault> {
+    if hart.number() >= book.machine().harts() {
+        return Err(BookFault::Foreign);
+    }
+    let mut lease = book.lease(alloc, hart)?;
+    take_one(book, &mut lease);
+    settle(book, lease)
 }
 
 /// So many steps of the hart, as long as it may go on.
@@ -57,12 +74,18 @@ fn begin_again(
     base: Counts,
     ends: Counts,
 ) -> Result<Book<Replaying>, Memory> {
-    let leg = Leg {
-        ends,
-        edges: EdgeLog::new(alloc, base),
-        inputs: recorded.inputs().copy()?,
-    };
-    Ok(Book::<Replaying>::begin(alloc, start.copy()?, leg)?)
+    let inputs = recorded.inputs().copy()?;
+    let start = start.copy()?;
+    let edges = EdgeLog::new(alloc, base);
+    Ok(Book::<Replaying>::begin(
+        alloc,
+        start,
+        Leg {
+            ends,
+            edges,
+            inputs,
+        },
+    )?)
 }
 
 /// Takes the steps that were recorded once more, in their order, as far as they are inside.

@@ -67,16 +67,21 @@ fn fallen(dice: &mut Dice) -> Call {
     }
 }
 
-/// The book after some hundred calls for each hart, with what is offered by chance.
-fn ran(alloc: Global, mut book: Book<Recording>, dice: &mut Dice) -> Book<Recording> {
-    offer_all(&mut book, dice);
-    let harts = book.machine().harts();
-    let mut crew = Crew::new(book);
+/// Some hundred calls for each hart by chance.
+fn make_all(crew: &mut Crew<Recording>, alloc: Global, dice: &mut Dice) {
+    let harts = crew.book.machine().harts();
     for _call in 0..100 * u32::from(harts) {
         let hart = fallen_hart(harts, dice);
         let call = fallen(dice);
-        make(&mut crew, alloc, hart, call);
+        make(crew, alloc, hart, call);
     }
+}
+
+/// The book after some hundred calls for each hart, with what is offered by chance.
+fn ran(alloc: Global, mut book: Book<Recording>, dice: &mut Dice) -> Book<Recording> {
+    offer_all(&mut book, dice);
+    let mut crew = Crew::new(book);
+    make_all(&mut crew, alloc, dice);
     crew.end()
 }
 
@@ -99,6 +104,13 @@ fn put(store: &mut Store, frame: Frame) -> Result<(), Memory> {
     Ok(())
 }
 
+fn put_all(store: &mut Store, frames: Vec<Frame>) -> Result<(), Memory> {
+    for frame in frames {
+        put(store, frame)?;
+    }
+    Ok(())
+}
+
 /// Puts a term of the book's log, which goes on from the one before.
 fn put_log(
     alloc: Global,
@@ -108,10 +120,8 @@ fn put_log(
 ) -> Result<(), Memory> {
     let guest = store.guest();
     put(store, opens(guest, term, term.saturating_sub(1), base)?)?;
-    for piece in cut(alloc, guest, book, term, &mut Sealed::new(base))? {
-        put(store, piece)?;
-    }
-    Ok(())
+    let pieces = cut(alloc, guest, book, term, &mut Sealed::new(base))?;
+    put_all(store, pieces)
 }
 
 /// The plan of the store.
@@ -142,7 +152,7 @@ fn leads_to(
 ) -> Result<bool, Memory> {
     put_log(alloc, store, book, begun)?;
     let plan = planned(alloc, store)?;
-    Ok(comes_to(alloc, image, &plan, book.machine())?)
+    comes_to(alloc, image, &plan, book.machine())
 }
 
 /// Whether the audit of what the guest of this book goes on to record in a second term comes to its machine.
@@ -157,15 +167,40 @@ fn leads_on(
     leads_to(alloc, image, store, &next, (2, first.counts()))
 }
 
-/// Whether the audit of what a guest records in a term comes to its machine, and that of a second term too, if it is to be.
+/// Whether the audit of what the book recorded comes to its machine, and that of a second term too, if it is to be.
+fn both_lead(
+    alloc: Global,
+    image: &Image,
+    store: &mut Store,
+    book: &Book<Recording>,
+    dice: &mut Dice,
+    in_two: bool,
+) -> Result<bool, Memory> {
+    let leads = leads_to(alloc, image, store, book, (1, Counts::zero(image.harts())))?;
+    if leads && in_two {
+        leads_on(alloc, image, store, book, dice)
+    } else {
+        Ok(leads)
+    }
+}
+
+/// The same of what the guest of an image records.
+fn is_covered_of(
+    alloc: Global,
+    image: &Image,
+    dice: &mut Dice,
+    in_two: bool,
+) -> Result<bool, Memory> {
+    let book = recorded(alloc, image, dice)?;
+    let mut store = Store::new(alloc, image.guest());
+    both_lead(alloc, image, &mut store, &book, dice, in_two)
+}
+
+/// The same of a guest by chance.
 fn is_covered(alloc: Global, harts: u8, seed: u64, in_two: bool) -> Result<bool, Memory> {
     let mut dice = Dice::new(seed);
     let image = guest_by(alloc, harts, &mut dice)?;
-    let mut store = Store::new(alloc, image.guest());
-    let book = recorded(alloc, &image, &mut dice)?;
-    let begun = (1, Counts::zero(image.harts()));
-    let leads = leads_to(alloc, &image, &mut store, &book, begun)?;
-    Ok(leads && (!in_two || leads_on(alloc, &image, &mut store, &book, &mut dice)?))
+    is_covered_of(alloc, &image, &mut dice, in_two)
 }
 
 /// The same, once more where memory was refused.
@@ -191,31 +226,41 @@ fn what_is_recorded_is_covered(rt: HostRuntime) -> Result<(), Fail> {
 fn pieces_recorded(alloc: Global, image: &Image, dice: &mut Dice) -> Result<Vec<Frame>, Memory> {
     let book = recorded(alloc, image, dice)?;
     let mut sealed = Sealed::new(Counts::zero(image.harts()));
-    Ok(cut(alloc, image.guest(), &book, 1, &mut sealed)?)
+    cut(alloc, image.guest(), &book, 1, &mut sealed)
+}
+
+/// The plan of a store to which the opening of term 1 comes, and these pieces of it.
+fn plan_with(alloc: Global, store: &mut Store, pieces: Vec<Frame>) -> Result<Plan, Memory> {
+    put_all(store, pieces)?;
+    let guest = store.guest();
+    put(store, opens(guest, 1, 0, Counts::zero(guest.harts()))?)?;
+    planned(alloc, store)
 }
 
 /// The plan of these pieces of term 1.
 fn plan_of(alloc: Global, guest: Guest, pieces: Vec<Frame>) -> Result<Plan, Memory> {
     let mut store = Store::new(alloc, guest);
-    put(&mut store, opens(guest, 1, 0, Counts::zero(guest.harts()))?)?;
-    for piece in pieces {
-        put(&mut store, piece)?;
-    }
-    planned(alloc, &store)
+    plan_with(alloc, &mut store, pieces)
 }
 
-/// What both audits say of what a guest recorded, where one edge is taken out, and maybe another one is of later steps.
+/// What both audits say of what the guest of an image recorded, where one edge is taken out, and maybe another one is of later steps.
+fn verdict_in(
+    alloc: Global,
+    image: &Image,
+    later: bool,
+    dice: &mut Dice,
+) -> Result<Verdict, Memory> {
+    let pieces = pieces_recorded(alloc, image, dice)?;
+    let plan = plan_of(alloc, image.guest(), changed(alloc, &pieces, later, dice)?)?;
+    verdict_of(alloc, image, &plan)
+}
+
+/// The same of a guest by chance.
 fn verdict_on(alloc: Global, seed: u64, later: bool) -> Result<Verdict, Memory> {
     let mut dice = Dice::new(seed);
     let harts = 2 + dice.roll() % 3;
     let image = guest_by(alloc, harts, &mut dice)?;
-    let pieces = pieces_recorded(alloc, &image, &mut dice)?;
-    let plan = plan_of(
-        alloc,
-        image.guest(),
-        changed(alloc, &pieces, later, &mut dice)?,
-    )?;
-    verdict_of(alloc, &image, &plan)
+    verdict_in(alloc, &image, later, &mut dice)
 }
 
 /// The verdicts on 150 logs. Where memory is refused for one it is asked for once more.
@@ -278,11 +323,17 @@ fn fault_in_the_end(alloc: Global, image: &Image, plan: &Plan) -> Option<AuditFa
     }
 }
 
-/// Why the audit of such a plan of this file's guest says no, for the image of which both harts store into the second page.
-fn fault_told(alloc: Global, file: &[u8], edges: &[Record]) -> Result<Option<AuditFault>, Memory> {
+/// Why the audit of such a plan of this guest says no, for the image of which both harts store into the second page.
+fn fault_of(alloc: Global, guest: Guest, edges: &[Record]) -> Result<Option<AuditFault>, Memory> {
+    let plan = plan_of_four(alloc, guest, edges)?;
     let image = image_in(alloc, BOTH_STORE)?;
-    let plan = plan_of_four(alloc, image_in(alloc, file)?.guest(), edges)?;
     Ok(fault_in_the_end(alloc, &image, &plan))
+}
+
+/// The same of this file's guest.
+fn fault_told(alloc: Global, file: &[u8], edges: &[Record]) -> Result<Option<AuditFault>, Memory> {
+    let guest = image_in(alloc, file)?.guest();
+    fault_of(alloc, guest, edges)
 }
 
 /// An audit refuses the plan of another guest. One to which memory is refused says so, and says the same as ever when it is asked again:

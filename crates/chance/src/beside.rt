@@ -39,9 +39,11 @@ impl Beside {
     pub fn new(alloc: Global, image: &Image, keepers: u8, need: u8) -> Result<Beside, Memory>
         requires { (0 < need) × (need ≤ keepers) × (keepers ≤ 5) }
     {
+        let plain = PlainWorld::new(alloc, image, keepers, need)?;
+        let subject = Subject::new(alloc, image, keepers, need)?;
         Ok(Beside {
-            subject: Subject::new(alloc, image, keepers, need)?,
-            plain: PlainWorld::new(alloc, image, keepers, need)?,
+            subject,
+            plain,
             tally: Tally::default(),
         })
     }
@@ -51,9 +53,9 @@ impl Beside {
         &self.plain
     }
 
-    /// The outputs that went out.
-    pub fn released(&self) -> &[Released] {
-        self.subject.world().released()
+    /// The world.
+    pub fn subject(&self) -> &Subject {
+        &self.subject
     }
 
     /// What happened.
@@ -63,13 +65,18 @@ impl Beside {
 
     /// Whether the worlds have the same machine, or none, and it has all that went out.
     pub fn have_same_machine(&self) -> bool {
-        match (self.subject.world().machine(), self.plain.machine()) {
+        match (self.subject.machine(), self.plain.machine()) {
             (Some(machine), Some(other)) => {
-                machine.same(other) && has_all(machine, self.released())
+                machine.same(other) && has_all(machine, self.subject.released())
             }
             (None, None) => true,
             _ => false,
         }
+    }
+
+    /// Whether the same went out.
+    fn released_the_same(&self) -> bool {
+        self.subject.released() == self.plain.released()
     }
 
     /// Applies the act to both worlds. Says whether they answer the same, and the same went out.
@@ -82,20 +89,37 @@ impl Beside {
             return Err(Memory);
         }
         self.tally.count(act, answer);
-        Ok(answer == wanted && self.released() == self.plain.released())
+        Ok(answer == wanted && self.released_the_same())
+    }
+
+    /// Whether both worlds refuse the act with this fault.
+    pub fn refuse(&mut self, alloc: Global, act: Act, fault: WorldFault) -> Result<bool, Memory> {
+        let wanted = self.plain.apply(alloc, act);
+        if wanted == Err(WorldFault::Memory) {
+            return Err(Memory);
+        }
+        let answer = self.subject.answer(alloc, act);
+        Ok(wanted == Err(fault) && answer == Some(Err(fault)) && self.released_the_same())
     }
 
     /// Whether the worlds sent the same frames.
     pub fn sent_the_same(&self, alloc: Global, image: &Image) -> Result<bool, Memory> {
-        let frames = self.subject.world().frames();
-        let sent = self.plain.sent();
         let mut store = Store::new(alloc, image.guest());
-        Ok(
-            frames.len() == sent.len()
-                && put_all(alloc, &mut store, sent, Put::New)?
-                && put_all(alloc, &mut store, frames, Put::Same)?,
-        )
+        are_the_same(alloc, &mut store, self.plain.sent(), self.subject.frames())
     }
+}
+
+/// Whether these are the same frames, for a store to which nothing came.
+fn are_the_same(
+    alloc: Global,
+    store: &mut Store,
+    sent: &[Frame],
+    frames: &[Frame],
+) -> Result<bool, Memory> {
+    if frames.len() != sent.len() || !put_all(alloc, store, sent, Put::New)? {
+        return Ok(false);
+    }
+    put_all(alloc, store, frames, Put::Same)
 }
 
 /// Puts these frames. Says whether each was answered so.

@@ -36,7 +36,7 @@ enum Begins {
 }
 
 /// How many primaries began so.
-#[derive(Clone, Copy, Debug, Default, PartialEq, Eq)]
+#[derive(Clone, Copy, Debug, Default)]
 struct Tally {
     whole: u32,
     part: u32,
@@ -104,13 +104,21 @@ fn is_unused(live: &Live) -> bool {
     book.counts() == base && book.limits() == base && book.journal().is_empty()
 }
 
+fn is_machine_of(machine: &Machine, book: &Book<Recording>) -> bool {
+    machine.same(book.machine())
+}
+
+/// Limits of so many harts that no hart comes to.
+fn far(harts: u8) -> Option<Counts> {
+    Counts::from_slice([FAR; 8].get(..usize::from(harts))?)
+}
+
 /// Each hart of the book may go on.
 fn raise(book: &mut Book<Recording>) {
-    let harts = usize::from(book.machine().harts());
-    if let Some(limits) = Counts::from_slice([FAR; 8].get(..harts).unwrap_or(&[])) {
-        if limits.harts() == book.machine().harts() {
-            book.limit_to(limits);
-        }
+    let harts = book.machine().harts();
+    match far(harts) {
+        Some(limits) if limits.harts() == harts => book.limit_to(limits),
+        _ => {}
     }
 }
 
@@ -148,6 +156,13 @@ impl World {
         Ok(())
     }
 
+    fn scatter_all(&mut self, alloc: Global, frames: &[Frame]) -> Result<(), Memory> {
+        for frame in frames {
+            self.scatter(alloc, frame)?;
+        }
+        Ok(())
+    }
+
     /// What a primary did behind what is sealed is cut and sent.
     fn send(
         &mut self,
@@ -155,10 +170,8 @@ impl World {
         book: &Book<Recording>,
         sealed: &mut Sealed,
     ) -> Result<(), Memory> {
-        for piece in cut(alloc, self.image.guest(), book, self.next_term(), sealed)? {
-            self.scatter(alloc, &piece)?;
-        }
-        Ok(())
+        let pieces = cut(alloc, self.image.guest(), book, self.next_term(), sealed)?;
+        self.scatter_all(alloc, &pieces)
     }
 
     /// Calls of a primary, which are cut and sent three times.
@@ -176,13 +189,23 @@ impl World {
         Ok(())
     }
 
+    /// What a primary records from here on, until it fails.
+    fn failed(
+        &mut self,
+        alloc: Global,
+        book: Book<Recording>,
+    ) -> (Book<Recording>, Result<(), Memory>) {
+        let base = book.counts();
+        let mut crew = Crew::new(book);
+        let recorded = self.record(alloc, &mut crew, base);
+        (crew.end(), recorded)
+    }
+
     /// A term of a book, until it fails.
     fn term(&mut self, alloc: Global, book: Book<Recording>) -> Result<(), Memory> {
         let base = book.counts();
         let start = book.machine().copy()?;
-        let mut crew = Crew::new(book);
-        let recorded = self.record(alloc, &mut crew, base);
-        let book = crew.end();
+        let (book, recorded) = self.failed(alloc, book);
         self.pasts.push(Past { base, start, book })?;
         recorded
     }
@@ -232,7 +255,7 @@ impl World {
     /// Whether a primary begins with what was recorded, and nothing is recorded yet.
     fn is_right(&self, alloc: Global, live: &Live) -> Result<bool, Memory> {
         let machine = self.recorded_at(alloc, live.opening.parent(), live.opening.base())?;
-        Ok(is_unused(live) && machine.same(live.book.machine()))
+        Ok(is_unused(live) && is_machine_of(&machine, &live.book))
     }
 
     /// With what the primary begins.
@@ -265,13 +288,14 @@ impl World {
     /// The next primary goes live and fails again. Whether it begins with what was recorded.
     fn next_fails(&mut self, alloc: Global) -> Result<bool, Memory> {
         let live = self.grant(alloc)?;
-        if !self.is_right(alloc, &live)? {
-            return Ok(false);
-        }
+        let right = self.is_right(alloc, &live);
         let begins = self.begins_with(&live);
         self.tally.add(begins);
-        self.go_on(alloc, live)?;
-        Ok(true)
+        let went = self.go_on(alloc, live);
+        match (right, went) {
+            (Ok(true), Err(Memory)) => Err(Memory),
+            _ => right,
+        }
     }
 
     /// A primary fails, and the next one, and the one after it, and one more. Whether each begins with what was recorded.
@@ -289,8 +313,10 @@ impl World {
 /// Where the primaries of a world began, if each began with what was recorded.
 fn begun_in(alloc: Global, harts: u8, seed: u64) -> Result<Option<Tally>, Memory> {
     let mut world = World::new(alloc, harts, seed)?;
-    match world.all_fail(alloc) {
-        Ok(true) => Ok(Some(world.tally)),
+    let right = world.all_fail(alloc);
+    let tally = world.tally;
+    match right {
+        Ok(true) => Ok(Some(tally)),
         Ok(false) => Ok(None),
         Err(Memory) => Err(Memory),
     }

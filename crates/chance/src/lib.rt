@@ -31,8 +31,6 @@ mod primary;
 #[cfg(test)]
 mod programs;
 #[cfg(test)]
-mod refused;
-#[cfg(test)]
 mod rows;
 #[cfg(test)]
 mod starts;

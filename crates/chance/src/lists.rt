@@ -40,6 +40,16 @@ fn agree_on_list(alloc: Global, chance: &mut Chance, worlds: &mut Beside) -> Res
     Ok(true)
 }
 
+/// The same, and whether they sent the same frames then.
+fn agree_to_the_end(
+    alloc: Global,
+    image: &Image,
+    chance: &mut Chance,
+    worlds: &mut Beside,
+) -> Result<bool, Memory> {
+    Ok(agree_on_list(alloc, chance, worlds)? && worlds.sent_the_same(alloc, image)?)
+}
+
 /// Two worlds of a few keepers, to which nothing happened.
 fn begin(alloc: Global, image: &Image, chance: &mut Chance) -> Result<Beside, Memory> {
     let keepers = chance.number(5).min(chance.number(5));
@@ -51,11 +61,9 @@ fn begin(alloc: Global, image: &Image, chance: &mut Chance) -> Result<Beside, Me
 fn agree_by(alloc: Global, image: &Image, seed: u64, tally: &mut Tally) -> Result<bool, Memory> {
     let mut chance = Chance::new(seed);
     let mut worlds = begin(alloc, image, &mut chance)?;
-    let agreed = agree_on_list(alloc, &mut chance, &mut worlds).and_then(|agreed| Ok(
-        agreed && worlds.sent_the_same(alloc, image)?,
-    ));
+    let agreed = agree_to_the_end(alloc, image, &mut chance, &mut worlds);
     if agreed == Ok(true) {
-        tally.add_list(worlds.tally(), worlds.released());
+        tally.add_list(worlds.tally(), worlds.subject().released());
     }
     agreed
 }

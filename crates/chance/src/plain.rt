@@ -79,21 +79,33 @@ fn has_inside(counts: &Counts, hart: Hart, step: Count) -> bool {
 impl PlainWorld {
     /// A primary that runs from boot, whose opening is sent, and keepers that took nothing.
     pub fn new(alloc: Global, image: &Image, keepers: u8, need: u8) -> Result<PlainWorld, Memory> {
+        let own = image.copy()?;
         let primary = first_primary(alloc, image)?;
-        let mut sent = Vec::new(alloc);
-        sent.push(Frame::Opening(primary.opening().copy()))?;
-        Ok(PlainWorld {
-            image: image.copy()?,
+        let mut world = PlainWorld {
+            image: own,
             keepers,
             need,
             primary,
             runs: true,
             past: Vec::new(alloc),
-            sent,
-            taken: nothing_taken(alloc, keepers)?,
+            sent: Vec::new(alloc),
+            taken: Vec::new(alloc),
             acknowledged: Vec::new(alloc),
             released: Vec::new(alloc),
-        })
+        };
+        world.fill(alloc)?;
+        Ok(world)
+    }
+
+    fn opening(&self) -> Frame {
+        Frame::Opening(self.primary.opening().copy())
+    }
+
+    /// The opening is sent, and keepers took nothing.
+    fn fill(&mut self, alloc: Global) -> Result<(), Memory> {
+        self.taken = nothing_taken(alloc, self.keepers)?;
+        let opening = self.opening();
+        Ok(self.sent.push(opening)?)
     }
 
     /// Whether a primary runs.
@@ -206,10 +218,21 @@ impl PlainWorld {
     /// The position of all that these keepers took.
     fn position_of(&self, alloc: Global, keepers: &[u64]) -> Result<Position, Memory> {
         let mut store = Store::new(alloc, self.image.guest());
-        for keeper in keepers {
-            self.put_taken(alloc, &mut store, *keeper)?;
-        }
+        self.put_all_taken(alloc, &mut store, keepers)?;
         position(alloc, &store)
+    }
+
+    /// Puts what these keepers took.
+    fn put_all_taken(
+        &self,
+        alloc: Global,
+        store: &mut Store,
+        keepers: &[u64],
+    ) -> Result<(), Memory> {
+        for keeper in keepers {
+            self.put_taken(alloc, store, *keeper)?;
+        }
+        Ok(())
     }
 
     fn acknowledge(&mut self, alloc: Global, keeper: u64) -> Result<(), WorldFault> {
@@ -218,20 +241,22 @@ impl PlainWorld {
         }
         let position = self.position_of(alloc, &[keeper])?;
         if position.term != self.term() {
-            return Err(WorldFault::Ack(AckFault::OtherTerm));
+            Err(WorldFault::Ack(AckFault::OtherTerm))
+        } else if self.acknowledged_more(keeper, &position.counts) {
+            Err(WorldFault::Ack(AckFault::Lower))
+        } else {
+            match self.acknowledged.push((keeper, position.counts)) {
+                Ok(()) => Ok(()),
+                Err(_) => Err(WorldFault::Memory),
+            }
         }
-        let counts = position.counts;
-        if self
-            .acknowledged
+    }
+
+    /// Whether the keeper acknowledged a greater count of some hart.
+    fn acknowledged_more(&self, keeper: u64, counts: &Counts) -> bool {
+        self.acknowledged
             .iter()
-            .any(|(by, before)| *by == keeper && are_lower(&counts, before))
-        {
-            return Err(WorldFault::Ack(AckFault::Lower));
-        }
-        match self.acknowledged.push((keeper, counts)) {
-            Ok(()) => Ok(()),
-            Err(_) => Err(WorldFault::Memory),
-        }
+            .any(|(by, before)| *by == keeper && are_lower(counts, before))
     }
 
     /// Whether the keeper acknowledged counts with the hart's step inside.
@@ -332,22 +357,31 @@ impl PlainWorld {
 
     /// A primary begins its term, and nothing is acknowledged in it.
     fn begin(&mut self, alloc: Global, primary: Primary) -> Result<(), Memory> {
-        self.sent.push(Frame::Opening(primary.opening().copy()))?;
-        let before = mem::replace(&mut self.primary, primary);
-        self.past.push(before)?;
         self.acknowledged = Vec::new(alloc);
         self.runs = true;
-        Ok(())
+        let before = mem::replace(&mut self.primary, primary);
+        Ok(self.past.push(before)?)
     }
 
-    /// A primary of the term goes live where what these keepers took leads to.
-    fn go_live(&mut self, alloc: Global, term: Term, keepers: &[u64]) -> Result<(), Memory> {
-        let position = self.position_of(alloc, keepers)?;
-        let start = self.machine_at(alloc, &position)?;
-        let guest = self.image.guest();
-        let opening = Opening::new(guest, term, position.term, position.counts).ok_or(Memory)?;
+    /// The primary of the opening's term goes live from the position.
+    fn go_on(
+        &mut self,
+        alloc: Global,
+        opening: Opening,
+        position: &Position,
+    ) -> Result<(), Memory> {
+        let start = self.machine_at(alloc, position)?;
         let primary = Primary::begin(alloc, opening, start)?;
         self.begin(alloc, primary)
+    }
+
+    /// A primary of the term goes live where what these keepers took leads to, and its opening is sent.
+    fn go_live(&mut self, alloc: Global, term: Term, keepers: &[u64]) -> Result<(), Memory> {
+        let position = self.position_of(alloc, keepers)?;
+        let guest = self.image.guest();
+        let opening = Opening::new(guest, term, position.term, position.counts).ok_or(Memory)?;
+        self.sent.push(Frame::Opening(opening.copy()))?;
+        self.go_on(alloc, opening, &position)
     }
 
     fn grant(&mut self, alloc: Global, term: Term, keepers: &[u64]) -> Result<(), WorldFault> {

@@ -91,6 +91,10 @@ fn before_of(
     Ok(before)
 }
 
+fn count_of(crew: &Crew<Replaying>, hart: Hart) -> Option<Count> {
+    crew.book.counts().as_slice().get(hart.index()).copied()
+}
+
 /// Takes the hart's next step, where it may go on. Whether memory was there for it.
 fn take(
     crew: &mut Crew<Replaying>,
@@ -104,7 +108,7 @@ fn take(
         Err(BookFault::Memory) => return None,
         Err(_) => return Some(()),
     }
-    let count = crew.book.counts().as_slice().get(hart.index()).copied()?;
+    let count = count_of(crew, hart)?;
     let uses = uses_of(crew, alloc, hart)?;
     crew.settle(hart, Keep::Nothing).ok()?;
     let before = before_of(alloc, leg, steps, hart, count).ok()?;
@@ -166,40 +170,45 @@ fn pairs_of(alloc: Global, steps: &[Taken]) -> Result<Vec<Pair>, Memory> {
     Ok(pairs)
 }
 
-/// A crew over a book that obeys a leg from boot.
-fn crew_of(alloc: Global, image: &Image, leg: &PlannedLeg) -> Result<Crew<Replaying>, Memory> {
+fn begin(alloc: Global, image: &Image, obeyed: Leg) -> Result<Crew<Replaying>, Memory> {
     let start = Machine::boot(alloc, image)?;
-    let obeyed = Leg {
-        ends: leg.ends,
-        edges: leg.edges.copy()?,
-        inputs: leg.inputs.copy()?,
-    };
     Ok(Crew::new(Book::<Replaying>::begin(alloc, start, obeyed)?))
 }
 
-/// What a run that left this book took.
-fn outcome_from(
+/// A crew over a book that obeys a leg from boot.
+fn crew_of(alloc: Global, image: &Image, leg: &PlannedLeg) -> Result<Crew<Replaying>, Memory> {
+    let edges = leg.edges.copy()?;
+    let inputs = leg.inputs.copy()?;
+    let obeyed = Leg {
+        ends: leg.ends,
+        edges,
+        inputs,
+    };
+    begin(alloc, image, obeyed)
+}
+
+/// The pairs of a run of the crew.
+fn pairs_run(
+    crew: &mut Crew<Replaying>,
     alloc: Global,
-    steps: &[Taken],
-    machine: Machine,
-    ended: bool,
-) -> Result<Outcome, Memory> {
-    Ok(Outcome {
-        pairs: pairs_of(alloc, steps)?,
-        ended,
-        machine,
-    })
+    leg: &PlannedLeg,
+) -> Result<Vec<Pair>, Memory> {
+    match run(crew, alloc, leg) {
+        Some(steps) => pairs_of(alloc, &steps),
+        None => Err(Memory),
+    }
 }
 
 /// What the leg comes to from boot.
 pub fn outcome_of(alloc: Global, image: &Image, leg: &PlannedLeg) -> Result<Outcome, Memory> {
     let mut crew = crew_of(alloc, image, leg)?;
-    let steps = run(&mut crew, alloc, leg);
+    let pairs = pairs_run(&mut crew, alloc, leg);
     let book = crew.end();
     let ended = book.counts() == leg.ends;
     let machine = book.into_machine();
-    match steps {
-        Some(steps) => outcome_from(alloc, &steps, machine, ended),
-        None => Err(Memory),
-    }
+    Ok(Outcome {
+        pairs: pairs?,
+        ended,
+        machine,
+    })
 }

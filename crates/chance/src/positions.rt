@@ -49,6 +49,25 @@ fn below(dice: &mut Dice, limit: u8) -> u8 {
     dice.roll() % limit.max(1)
 }
 
+/// The same piece, most often with an edge to another hart.
+fn waiting_piece(
+    alloc: Global,
+    harts: u8,
+    (term, hart, place): (Term, u8, u32),
+    (from, to): (Count, Count),
+    dice: &mut Dice,
+) -> Result<Frame, Fail> {
+    let other = below(dice, harts);
+    let after = from.saturating_add(u64::from(below(dice, 6)));
+    let fact = [Record::Edge(edge(hart, to.saturating_sub(1), other, after))];
+    let facts = if other == hart || after == 0 {
+        &fact[..0]
+    } else {
+        &fact[..]
+    };
+    piece(alloc, harts, (term, hart, place), (from, to), facts)
+}
+
 /// The pieces of a hart in a term, each of a few steps and most with an edge to another hart. Now and then a second content
 /// comes at a place.
 fn pieces(
@@ -63,42 +82,47 @@ fn pieces(
         let to = from
             .saturating_add(u64::from(below(dice, 3)))
             .saturating_add(1);
-        let other = below(dice, harts);
-        let at = to.saturating_sub(1);
-        let after = from.saturating_add(u64::from(below(dice, 6)));
-        let fact = [Record::Edge(edge(hart, at, other, after))];
-        let facts = if other == hart || after == 0 {
-            &fact[..0]
-        } else {
-            &fact[..]
-        };
-        frames.push(piece(alloc, harts, (term, hart, place), (from, to), facts)?)?;
+        let key = (term, hart, place);
+        frames.push(waiting_piece(alloc, harts, key, (from, to), dice)?)?;
         if below(dice, 40) == 0 {
-            let longer = to.saturating_add(1);
-            frames.push(piece(alloc, harts, (term, hart, place), (from, longer), &[])?)?;
+            frames.push(piece(alloc, harts, key, (from, to.saturating_add(1)), &[])?)?;
         }
         from = to;
     }
     Ok(())
 }
 
-/// The frames of two terms; now and then an opening comes with two contents.
-fn log(alloc: Global, harts: u8, dice: &mut Dice) -> Result<Vec<Frame>, Fail> {
-    let mut frames = Vec::new(alloc);
-    let zero = [0; 8];
-    let left = u64::from(below(dice, 6));
-    let base = [left; 8];
-    let many = usize::from(harts.min(8));
-    frames.push(opening_of(guest_of(harts), 1, 0, &zero[..many])?)?;
-    frames.push(opening_of(guest_of(harts), 2, 1, &base[..many])?)?;
+/// The opening of a term whose harts all go on from this count.
+fn opening(harts: u8, term: Term, from: Count) -> Result<Frame, Fail> {
+    let base = [from; 8];
+    let base = &base[..usize::from(harts.min(8))];
+    opening_of(guest_of(harts), term, term.saturating_sub(1), base)
+}
+
+/// Adds the openings of two terms, of which the second one goes on from this count; now and then it comes with two contents.
+fn add_openings(
+    frames: &mut Vec<Frame>,
+    harts: u8,
+    left: Count,
+    dice: &mut Dice,
+) -> Result<(), Fail> {
+    frames.push(opening(harts, 1, 0)?)?;
+    frames.push(opening(harts, 2, left)?)?;
     if below(dice, 8) == 0 {
-        frames.push(opening_of(guest_of(harts), 2, 1, &zero[..many])?)?;
+        frames.push(opening(harts, 2, 0)?)?;
     }
+    Ok(())
+}
+
+/// Adds the frames of two terms.
+fn add_log(alloc: Global, frames: &mut Vec<Frame>, harts: u8, dice: &mut Dice) -> Result<(), Fail> {
+    let left = u64::from(below(dice, 6));
+    add_openings(frames, harts, left, dice)?;
     for hart in 0..harts.min(8) {
-        pieces(alloc, &mut frames, harts, (1, hart, 0), dice)?;
-        pieces(alloc, &mut frames, harts, (2, hart, left), dice)?;
+        pieces(alloc, frames, harts, (1, hart, 0), dice)?;
+        pieces(alloc, frames, harts, (2, hart, left), dice)?;
     }
-    Ok(frames)
+    Ok(())
 }
 
 /// Puts the frames into an order that looks random.
@@ -109,17 +133,33 @@ fn shuffle(frames: &mut [Frame], dice: &mut Dice) {
     }
 }
 
-/// Logs of so many harts, each put twice, in two orders.
+/// Puts these frames twice, in two orders.
+fn put_twice(
+    alloc: Global,
+    harts: u8,
+    frames: &mut [Frame],
+    dice: &mut Dice,
+) -> Result<bool, Fail> {
+    let mut tracked = Tracked::new(alloc, guest_of(harts));
+    shuffle(frames, dice);
+    let once = put_all(alloc, &mut tracked, frames)?;
+    shuffle(frames, dice);
+    Ok(once && put_all(alloc, &mut tracked, frames)?)
+}
+
+/// The same of the log of a seed.
+fn holds(alloc: Global, harts: u8, seed: u64) -> Result<bool, Fail> {
+    let mut dice = Dice::new(u64::from(harts) * 1000 + seed % 1000 + 1);
+    let mut frames = Vec::new(alloc);
+    add_log(alloc, &mut frames, harts, &mut dice)?;
+    put_twice(alloc, harts, &mut frames, &mut dice)
+}
+
+/// Logs of so many harts.
 fn hold(alloc: Global, harts: u8, seeds: u64) -> Result<bool, Fail> {
     for seed in 0..seeds {
-        let mut dice = Dice::new(u64::from(harts) * 1000 + seed % 1000 + 1);
-        let mut tracked = Tracked::new(alloc, guest_of(harts));
-        let mut frames = log(alloc, harts, &mut dice)?;
-        for _ in 0..2 {
-            shuffle(&mut frames, &mut dice);
-            if !put_all(alloc, &mut tracked, &frames)? {
-                return Ok(false);
-            }
+        if !holds(alloc, harts, seed)? {
+            return Ok(false);
         }
     }
     Ok(true)

@@ -24,39 +24,69 @@ fn cut_more(
     Ok(frames.append(&mut pieces)?)
 }
 
-/// The book of a primary that makes many calls. Its log is cut once on the way and once at the end.
+/// Many calls. What they recorded is cut once on the way.
+fn record(
+    alloc: Global,
+    image: &Image,
+    crew: &mut Crew<Recording>,
+    sealed: &mut Sealed,
+    dice: &mut Dice,
+    frames: &mut Vec<Frame>,
+) -> Result<(), Memory> {
+    make_many(crew, alloc, 300, dice);
+    let cut = cut_more(alloc, image, &crew.book, sealed, frames);
+    make_many(crew, alloc, 300, dice);
+    cut
+}
+
+/// The book of a primary that makes many calls.
 fn recorded(
     alloc: Global,
     image: &Image,
+    sealed: &mut Sealed,
     dice: &mut Dice,
     frames: &mut Vec<Frame>,
 ) -> Result<Book<Recording>, Memory> {
-    let mut sealed = Sealed::new(Counts::zero(image.harts()));
     let mut crew = Crew::new(recorder_of(alloc, image, 5000)?);
-    make_many(&mut crew, alloc, 300, dice);
-    let early = cut_more(alloc, image, &crew.book, &mut sealed, frames);
-    make_many(&mut crew, alloc, 300, dice);
+    let recorded = record(alloc, image, &mut crew, sealed, dice, frames);
     let book = crew.end();
-    let late = cut_more(alloc, image, &book, &mut sealed, frames);
-    match (early, late) {
-        (Ok(()), Ok(())) => Ok(book),
-        _ => Err(Memory),
+    match recorded {
+        Ok(()) => Ok(book),
+        Err(Memory) => Err(Memory),
     }
 }
 
-/// The text of the machine of a primary that makes many calls, and its frames, the opening last.
+/// The text of the book's machine.
+fn text_of(alloc: Global, book: &Book<Recording>) -> Result<MemorySink, Memory> {
+    let mut text = MemorySink::new(alloc, 1 << 20);
+    match book.machine().write_text(&mut text) {
+        Ok(()) => Ok(text),
+        Err(_) => Err(Memory),
+    }
+}
+
+/// The same, once the rest of what it recorded is cut.
+fn text_behind(
+    alloc: Global,
+    image: &Image,
+    book: &Book<Recording>,
+    sealed: &mut Sealed,
+    frames: &mut Vec<Frame>,
+) -> Result<MemorySink, Memory> {
+    cut_more(alloc, image, book, sealed, frames)?;
+    text_of(alloc, book)
+}
+
+/// The text of the machine of a primary that makes many calls, and its frames. Its log is cut once on the way and once at the end.
 fn text_recorded(
     alloc: Global,
     image: &Image,
     dice: &mut Dice,
     frames: &mut Vec<Frame>,
 ) -> Result<MemorySink, Memory> {
-    let book = recorded(alloc, image, dice, frames)?;
-    let mut text = MemorySink::new(alloc, 1 << 20);
-    match book.machine().write_text(&mut text) {
-        Ok(()) => Ok(text),
-        Err(_) => Err(Memory),
-    }
+    let mut sealed = Sealed::new(Counts::zero(image.harts()));
+    let book = recorded(alloc, image, &mut sealed, dice, frames)?;
+    text_behind(alloc, image, &book, &mut sealed, frames)
 }
 
 /// Writes a frame to one of the streams.
@@ -94,6 +124,13 @@ fn scatter_each(sinks: &mut [MemorySink], frames: &[Frame], dice: &mut Dice) -> 
     Ok(())
 }
 
+/// Each frame once or more often, in any order.
+fn scatter_all(sinks: &mut [MemorySink], frames: &[Frame], dice: &mut Dice) -> Result<(), Fail> {
+    scatter(sinks, frames, dice)?;
+    scatter(sinks, frames, dice)?;
+    scatter_each(sinks, frames, dice)
+}
+
 fn readers_of(alloc: Global, sinks: &[MemorySink]) -> Result<Vec<MemorySource>, Fail> {
     let mut readers = Vec::new(alloc);
     for sink in sinks {
@@ -110,9 +147,7 @@ fn shuffled(
     dice: &mut Dice,
 ) -> Result<Vec<MemorySource>, Fail> {
     let mut sinks = empty_streams(alloc, streams)?;
-    scatter(&mut sinks, frames, dice)?;
-    scatter(&mut sinks, frames, dice)?;
-    scatter_each(&mut sinks, frames, dice)?;
+    scatter_all(&mut sinks, frames, dice)?;
     readers_of(alloc, &sinks)
 }
 
@@ -147,14 +182,35 @@ fn lead_to(
     Ok(records(frames) > 10 && are_replayed(alloc, image, &mut readers, text))
 }
 
+/// Whether the frames of a guest that was recorded so, and the opening behind them, lead to the recorded machine.
+fn are_frames_so(
+    alloc: Global,
+    image: &Image,
+    frames: &mut Vec<Frame>,
+    streams: u8,
+    dice: &mut Dice,
+) -> Result<bool, Fail> {
+    let text = text_recorded(alloc, image, dice, frames)?;
+    frames.push(opens(image.guest(), 1, 0, Counts::zero(image.harts()))?)?;
+    lead_to(alloc, image, frames, streams, dice, text.bytes())
+}
+
+/// Whether the guest of an image is replayed so.
+fn is_replayed_so(
+    alloc: Global,
+    image: &Image,
+    streams: u8,
+    dice: &mut Dice,
+) -> Result<bool, Fail> {
+    let mut frames = Vec::new(alloc);
+    are_frames_so(alloc, image, &mut frames, streams, dice)
+}
+
 /// Whether a guest of so many harts that was recorded so is replayed to the recorded machine, from so many streams.
 fn is_replayed(alloc: Global, harts: u8, streams: u8, seed: u64) -> Result<bool, Fail> {
     let mut dice = Dice::new(seed);
     let image = image_in(alloc, &ONE_SHARED_PAGE.file(alloc, harts, &mut dice)?)?;
-    let mut frames = Vec::new(alloc);
-    let text = text_recorded(alloc, &image, &mut dice, &mut frames)?;
-    frames.push(opens(image.guest(), 1, 0, Counts::zero(image.harts()))?)?;
-    lead_to(alloc, &image, &frames, streams, &mut dice, text.bytes())
+    is_replayed_so(alloc, &image, streams, &mut dice)
 }
 
 /// The first of three seeds whose guest of so many harts is replayed to another machine.

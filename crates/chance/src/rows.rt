@@ -1,19 +1,20 @@
-//! Lists of events that were worked out by hand.
+//! Lists of events that were worked out by hand, beside a plain world.
 
 use crate::acts::Act;
-use crate::subject::Subject;
+use crate::beside::Beside;
 use ack_core::AckFault;
-use failover_world::{World, WorldFault};
+use failover_world::{Released, WorldFault};
 use fixtures::{HALTS, image_of};
 use fragment_codec::Frame;
-use ft_types::{Count, Hart, Term};
+use ft_types::{Count, Hart, Memory, Term};
 use go_live::LiveFault;
+use guest_image::{Image, Machine};
 use page_book::BookFault;
 use std::alloc::Global;
 use std::test::Fail;
 
 /// One output, which goes out in its term, and again after a failover. The frames come to the keepers in two orders.
-pub static FAILS_OVER: &[Act] = &[
+const FAILS_OVER: &[Act] = &[
     Act::Step(0),
     Act::Step(0),
     Act::Step(0),
@@ -36,7 +37,7 @@ pub static FAILS_OVER: &[Act] = &[
 ];
 
 /// The same, with the orders exchanged: the new primary's keepers took them the other way round.
-pub static FAILS_OVER_TURNED: &[Act] = &[
+const FAILS_OVER_TURNED: &[Act] = &[
     Act::Step(0),
     Act::Step(0),
     Act::Step(0),
@@ -59,7 +60,7 @@ pub static FAILS_OVER_TURNED: &[Act] = &[
 ];
 
 /// The second term goes live from keepers that hold nothing, and the output goes out in it alone.
-static GOES_LIVE_FROM_NOTHING: &[Act] = &[
+const GOES_LIVE_FROM_NOTHING: &[Act] = &[
     Act::Step(0),
     Act::Step(0),
     Act::Seal,
@@ -81,45 +82,31 @@ static GOES_LIVE_FROM_NOTHING: &[Act] = &[
     Act::Step(0),
 ];
 
-/// A world of the guest that puts out one word, with three keepers, of which two hold what goes out.
-fn of_three(alloc: Global) -> Result<Subject, Fail> {
-    let image = image_of(alloc, HALTS)?;
-    match Subject::new(alloc, &image, 3, 2) {
-        Ok(subject) => Ok(subject),
-        Err(_) => Ok(Subject::new(alloc, &image, 3, 2)?),
-    }
-}
-
-/// Whether each act is done.
-fn all_done(alloc: Global, subject: &mut Subject, acts: &[Act]) -> bool {
-    for act in acts {
-        if subject.answer(alloc, *act) != Some(Ok(())) {
-            return false;
-        }
-    }
-    true
-}
-
 /// What goes out: its term, hart, number, step and word.
 type Said = (Term, u8, u64, Count, u32);
 
-/// Whether that is what went out.
-fn went_out(world: &World, expected: &[Said]) -> bool {
-    let released = world.released();
+/// Whether this is what went out.
+fn is_said(released: &Released, (term, hart, number, step, word): Said) -> bool {
+    let output = &released.output;
+    released.term == term
+        && output.hart.number() == hart
+        && (output.number, output.step, output.word) == (number, step, word)
+}
+
+/// Whether that is all that went out.
+fn went_out(released: &[Released], expected: &[Said]) -> bool {
+    for (released, said) in released.iter().zip(expected) {
+        if !is_said(released, *said) {
+            return false;
+        }
+    }
     released.len() == expected.len()
-        && released.iter().zip(expected).all(|(released, expected)| {
-            let output = &released.output;
-            let (term, hart, number, step, word) = *expected;
-            released.term == term
-                && output.hart.number() == hart
-                && (output.number, output.step, output.word) == (number, step, word)
-        })
 }
 
 /// Whether the opening that was sent last goes on from this count of this term.
-fn goes_on(world: &World, parent: Term, base: Count) -> bool {
+fn goes_on(frames: &[Frame], parent: Term, base: Count) -> bool {
     let mut last = false;
-    for frame in world.frames() {
+    for frame in frames {
         if let Frame::Opening(opening) = frame {
             last = opening.parent() == parent && opening.base().as_slice() == [base].as_slice();
         }
@@ -127,64 +114,86 @@ fn goes_on(world: &World, parent: Term, base: Count) -> bool {
     last
 }
 
-/// Whether the live machine's hart has halted after four steps.
-fn has_halted(world: &World) -> bool {
-    match world.machine() {
-        Some(machine) if machine.harts() == 1 => {
-            let hart = machine.hart(Hart::new(0));
-            hart.is_halted() && hart.count() == 4
-        }
-        _ => false,
+/// Whether the machine's hart has halted after four steps.
+fn has_halted(machine: &Machine) -> bool {
+    if machine.harts() != 1 {
+        return false;
     }
+    let hart = machine.hart(Hart::new(0));
+    hart.is_halted() && hart.count() == 4
 }
 
-/// Whether the events are done, this goes out, the last term goes on from this count of this one, and its hart has halted.
-fn ends_so(
-    alloc: Global,
-    acts: &[Act],
-    said: &[Said],
-    (parent, base): (Term, Count),
-) -> Result<bool, Fail> {
-    let mut subject = of_three(alloc)?;
-    let done = all_done(alloc, &mut subject, acts);
-    let world = subject.world();
-    Ok(done && went_out(world, said) && goes_on(world, parent, base) && has_halted(world))
+/// Events that are done, what goes out, the term and the count that the last term goes on from. Its hart has halted then.
+type List = (&'static [Act], &'static [Said], Term, Count);
+
+static LISTS: [List; 3] = [
+    (FAILS_OVER, &[(1, 0, 0, 2, 42), (2, 0, 0, 2, 42)], 1, 3),
+    (
+        FAILS_OVER_TURNED,
+        &[(1, 0, 0, 2, 42), (2, 0, 0, 2, 42)],
+        1,
+        3,
+    ),
+    (GOES_LIVE_FROM_NOTHING, &[(2, 0, 0, 2, 42)], 0, 0),
+];
+
+/// Whether the worlds agree at each of these events, and none is refused.
+fn all_done(alloc: Global, acts: &[Act], worlds: &mut Beside) -> Result<bool, Memory> {
+    for act in acts {
+        if !worlds.agree_on(alloc, *act)? || !worlds.have_same_machine() {
+            return Ok(false);
+        }
+    }
+    Ok(worlds.tally().refused == 0)
+}
+
+/// Whether the worlds end so.
+fn ends_so(worlds: &Beside, (_, said, parent, base): List) -> bool {
+    let subject = worlds.subject();
+    let halted = match subject.machine() {
+        Some(machine) => has_halted(machine),
+        None => false,
+    };
+    halted && went_out(subject.released(), said) && goes_on(subject.frames(), parent, base)
+}
+
+/// Whether the worlds agree at each event of a list, send the same frames and end so.
+fn agree_on(alloc: Global, image: &Image, list: List, worlds: &mut Beside) -> Result<bool, Memory> {
+    let done = all_done(alloc, list.0, worlds)?;
+    Ok(done && ends_so(&*worlds, list) && worlds.sent_the_same(alloc, image)?)
+}
+
+/// The same, of worlds with three keepers, of which two hold what goes out.
+fn agree_once(alloc: Global, image: &Image, list: List) -> Result<bool, Memory> {
+    let mut worlds = Beside::new(alloc, image, 3, 2)?;
+    agree_on(alloc, image, list, &mut worlds)
+}
+
+/// Whether they do, once more where the plain world was refused memory. Run with each allocation refused in turn: an event that is
+/// refused memory leaves what is seen of the world as it was, and comes out as it should when it is asked for again.
+fn agree(alloc: Global, list: List) -> Result<bool, Fail> {
+    let image = image_of(alloc, HALTS)?;
+    match agree_once(alloc, &image, list) {
+        Err(Memory) => Ok(agree_once(alloc, &image, list)?),
+        agreed => Ok(agreed?),
+    }
 }
 
 #[test]
 fn an_output_goes_out_in_both_terms(rt: HostRuntime) -> Result<(), Fail> {
-    let both = [(1, 0, 0, 2, 42), (2, 0, 0, 2, 42)];
-    assert!(rt; ends_so(rt.alloc(), FAILS_OVER, &both, (1, 3))?);
-    assert!(rt; ends_so(rt.alloc(), FAILS_OVER_TURNED, &both, (1, 3))?);
+    assert!(rt; agree(rt.alloc(), LISTS[0])?);
+    assert!(rt; agree(rt.alloc(), LISTS[1])?);
     Ok(())
 }
 
 #[test]
 fn a_term_goes_live_from_nothing(rt: HostRuntime) -> Result<(), Fail> {
-    let second = [(2, 0, 0, 2, 42)];
-    assert!(rt; ends_so(rt.alloc(), GOES_LIVE_FROM_NOTHING, &second, (0, 0))?);
+    assert!(rt; agree(rt.alloc(), LISTS[2])?);
     Ok(())
 }
 
-/// Why the last of these events is refused, where the others are not.
-fn refused_as(alloc: Global, acts: &[Act], subject: &mut Subject) -> Option<WorldFault> {
-    let (last, before) = acts.split_last()?;
-    if !all_done(alloc, subject, before) {
-        return None;
-    }
-    match subject.answer(alloc, *last) {
-        Some(Err(fault)) => Some(fault),
-        _ => None,
-    }
-}
-
-fn refusal(alloc: Global, acts: &[Act]) -> Result<Option<WorldFault>, Fail> {
-    let mut subject = of_three(alloc)?;
-    Ok(refused_as(alloc, acts, &mut subject))
-}
-
 /// Five steps of a hart that halts after four.
-static FIVE_STEPS: &[Act] = &[
+const FIVE_STEPS: &[Act] = &[
     Act::Step(0),
     Act::Step(0),
     Act::Step(0),
@@ -193,7 +202,7 @@ static FIVE_STEPS: &[Act] = &[
 ];
 
 /// A keeper that holds nothing of its log acknowledges to a new term.
-static OLD_KEEPER: &[Act] = &[
+const OLD_KEEPER: &[Act] = &[
     Act::Deliver(0, 0),
     Act::Ack(0),
     Act::Stop,
@@ -201,48 +210,101 @@ static OLD_KEEPER: &[Act] = &[
     Act::Ack(0),
 ];
 
-#[test]
-fn events_that_are_refused(rt: HostRuntime) -> Result<(), Fail> {
-    for (acts, fault) in [
-        (&[Act::Stop, Act::Seal][..], WorldFault::NoPrimary),
-        (&[Act::Stop, Act::Timer(0)], WorldFault::NoPrimary),
-        (&[Act::Deliver(3, 0)], WorldFault::NoKeeper),
-        (&[Act::Join(0, 3)], WorldFault::NoKeeper),
-        (&[Act::Lose(1), Act::Ack(1)], WorldFault::NoKeeper),
-        (&[Act::Deliver(0, 1)], WorldFault::NoFrame),
-        (FIVE_STEPS, WorldFault::Step(BookFault::Halted)),
-        (&[Act::Ack(0)], WorldFault::Ack(AckFault::OtherTerm)),
-        (OLD_KEEPER, WorldFault::Ack(AckFault::OtherTerm)),
-    ] {
-        assert_eq!(rt; refusal(rt.alloc(), acts)?, Some(fault));
-    }
-    Ok(())
+/// Why an event is refused.
+#[derive(Clone, Copy)]
+enum Why {
+    NoPrimary,
+    NoKeeper,
+    NoFrame,
+    NotStopped,
+    Halted,
+    OtherTerm,
+    TooFewStores,
+    TermNotNew,
 }
 
+impl Why {
+    fn fault(self) -> WorldFault {
+        match self {
+            Why::NoPrimary => WorldFault::NoPrimary,
+            Why::NoKeeper => WorldFault::NoKeeper,
+            Why::NoFrame => WorldFault::NoFrame,
+            Why::NotStopped => WorldFault::NotStopped,
+            Why::Halted => WorldFault::Step(BookFault::Halted),
+            Why::OtherTerm => WorldFault::Ack(AckFault::OtherTerm),
+            Why::TooFewStores => WorldFault::Live(LiveFault::TooFewStores),
+            Why::TermNotNew => WorldFault::Live(LiveFault::TermNotNew),
+        }
+    }
+}
+
+/// Events, of which the last one is refused, and why.
+type Refused = (&'static [Act], Why);
+
+static EVENTS: [Refused; 9] = [
+    (&[Act::Stop, Act::Seal], Why::NoPrimary),
+    (&[Act::Stop, Act::Timer(0)], Why::NoPrimary),
+    (&[Act::Deliver(3, 0)], Why::NoKeeper),
+    (&[Act::Join(0, 3)], Why::NoKeeper),
+    (&[Act::Lose(1), Act::Ack(1)], Why::NoKeeper),
+    (&[Act::Deliver(0, 1)], Why::NoFrame),
+    (FIVE_STEPS, Why::Halted),
+    (&[Act::Ack(0)], Why::OtherTerm),
+    (OLD_KEEPER, Why::OtherTerm),
+];
+
 /// A grant of a term before the last one.
-static AN_OLDER_TERM: &[Act] = &[
+const AN_OLDER_TERM: &[Act] = &[
     Act::Stop,
     Act::Grant(5, &[0, 1]),
     Act::Stop,
     Act::Grant(4, &[0, 1]),
 ];
 
+static GRANTS: [Refused; 6] = [
+    (&[Act::Lose(1), Act::Grant(2, &[0, 1])], Why::NoKeeper),
+    (&[Act::Grant(1, &[0])], Why::NotStopped),
+    (&[Act::Stop, Act::Grant(2, &[0])], Why::TooFewStores),
+    (&[Act::Stop, Act::Grant(1, &[1, 1])], Why::TooFewStores),
+    (&[Act::Stop, Act::Grant(1, &[0, 1])], Why::TermNotNew),
+    (AN_OLDER_TERM, Why::TermNotNew),
+];
+
+/// Whether the last of these events is refused so in both worlds, and the others are done.
+fn are_refused(alloc: Global, worlds: &mut Beside, (acts, why): Refused) -> Result<bool, Memory> {
+    let Some((last, before)) = acts.split_last() else {
+        return Ok(false);
+    };
+    Ok(all_done(alloc, before, worlds)? && worlds.refuse(alloc, *last, why.fault())?)
+}
+
+/// The same, of worlds with three keepers, of which two hold what goes out.
+fn is_refused_once(alloc: Global, image: &Image, refused: Refused) -> Result<bool, Memory> {
+    let mut worlds = Beside::new(alloc, image, 3, 2)?;
+    are_refused(alloc, &mut worlds, refused)
+}
+
+/// The same, once more where the plain world was refused memory.
+fn is_refused(alloc: Global, refused: Refused) -> Result<bool, Fail> {
+    let image = image_of(alloc, HALTS)?;
+    match is_refused_once(alloc, &image, refused) {
+        Err(Memory) => Ok(is_refused_once(alloc, &image, refused)?),
+        answer => Ok(answer?),
+    }
+}
+
+#[test]
+fn events_that_are_refused(rt: HostRuntime) -> Result<(), Fail> {
+    for row in EVENTS {
+        assert!(rt; is_refused(rt.alloc(), row)?);
+    }
+    Ok(())
+}
+
 #[test]
 fn grants_that_are_refused(rt: HostRuntime) -> Result<(), Fail> {
-    let too_few = WorldFault::Live(LiveFault::TooFewStores);
-    let not_new = WorldFault::Live(LiveFault::TermNotNew);
-    for (acts, fault) in [
-        (
-            &[Act::Lose(1), Act::Grant(2, &[0, 1])][..],
-            WorldFault::NoKeeper,
-        ),
-        (&[Act::Grant(1, &[0])], WorldFault::NotStopped),
-        (&[Act::Stop, Act::Grant(2, &[0])], too_few),
-        (&[Act::Stop, Act::Grant(1, &[1, 1])], too_few),
-        (&[Act::Stop, Act::Grant(1, &[0, 1])], not_new),
-        (AN_OLDER_TERM, not_new),
-    ] {
-        assert_eq!(rt; refusal(rt.alloc(), acts)?, Some(fault));
+    for row in GRANTS {
+        assert!(rt; is_refused(rt.alloc(), row)?);
     }
     Ok(())
 }

@@ -3,7 +3,8 @@
 ghost use Rattle.std.specs.Prelude.{◌≡◌, ◌<◌, ◌≤◌};
 
 use crate::acts::{Act, event_of};
-use failover_world::{World, WorldFault};
+use failover_world::{Released, World, WorldFault};
+use fragment_codec::Frame;
 use ft_types::{Hart, Memory, Term};
 use guest_image::{Image, Machine};
 use std::alloc::Global;
@@ -19,8 +20,8 @@ pub struct Subject {
 
 /// What is seen of a world: how many outputs went out and how many frames, the term, how many primaries stopped before, and how
 /// many steps the live one's machine has taken.
-#[derive(Clone, Copy, Debug, PartialEq, Eq)]
-pub struct Outline {
+#[derive(Clone, Copy, PartialEq, Eq)]
+struct Outline {
     released: usize,
     frames: usize,
     term: Term,
@@ -49,45 +50,63 @@ impl Subject {
         })
     }
 
-    /// The world.
-    pub fn world(&self) -> &World {
-        &self.world
+    /// The outputs that went out.
+    pub fn released(&self) -> &[Released] {
+        self.world.released()
+    }
+
+    /// The frames that were sent.
+    pub fn frames(&self) -> &[Frame] {
+        self.world.frames()
+    }
+
+    /// The machine of the primary that runs.
+    pub fn machine(&self) -> Option<&Machine> {
+        self.world.machine()
+    }
+
+    fn term(&self) -> Term {
+        self.world.term()
+    }
+
+    /// How many primaries stopped before.
+    fn stopped(&self) -> usize {
+        self.world.stopped().len()
     }
 
     /// What is seen of it.
-    pub fn outline(&self) -> Outline {
+    fn outline(&self) -> Outline {
         Outline {
-            released: self.world.released().len(),
-            frames: self.world.frames().len(),
-            term: self.world.term(),
-            stopped: self.world.stopped().len(),
-            steps: self.world.machine().map(steps_of),
+            released: self.released().len(),
+            frames: self.frames().len(),
+            term: self.term(),
+            stopped: self.stopped(),
+            steps: self.machine().map(steps_of),
         }
     }
 
     /// What comes of the act.
-    pub fn apply(&mut self, alloc: Global, act: Act) -> Result<(), WorldFault> {
+    fn apply(&mut self, alloc: Global, act: Act) -> Result<(), WorldFault> {
         let event = event_of(alloc, act, self.harts)?;
         self.world.apply(alloc, event)
     }
 
-    /// What comes of the act, which is tried again where memory was refused. `None` where what is seen of a world that refused it
-    /// is not what it was.
-    pub fn answer(&mut self, alloc: Global, act: Act) -> Option<Result<(), WorldFault>> {
+    /// What comes of the act. `None` where what is seen of a world that refused it is not what it was.
+    fn answer_once(&mut self, alloc: Global, act: Act) -> Option<Result<(), WorldFault>> {
         let before = self.outline();
-        let answer = match self.apply(alloc, act) {
-            Err(WorldFault::Memory) => {
-                if self.outline() != before {
-                    return None;
-                }
-                self.apply(alloc, act)
-            }
-            answer => answer,
-        };
+        let answer = self.apply(alloc, act);
         if answer.is_err() && self.outline() != before {
             None
         } else {
             Some(answer)
+        }
+    }
+
+    /// The same, which is tried again where memory was refused.
+    pub fn answer(&mut self, alloc: Global, act: Act) -> Option<Result<(), WorldFault>> {
+        match self.answer_once(alloc, act) {
+            Some(Err(WorldFault::Memory)) => self.answer_once(alloc, act),
+            answer => answer,
         }
     }
 }

@@ -4,7 +4,7 @@ use crate::acts::Act;
 use failover_world::{Released, WorldFault};
 
 /// How often something happened in lists of events.
-#[derive(Clone, Copy, Debug, Default, PartialEq, Eq)]
+#[derive(Clone, Copy, Default)]
 pub struct Tally {
     /// Lists that were applied.
     pub lists: u64,
