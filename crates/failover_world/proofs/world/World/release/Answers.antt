@@ -1,4 +1,4 @@
-use Rattle.std.proofs.Common.{◌≡◌, inl, inr, ℕ, ◌≤◌, List, length, refl, sym, ap, subst, ◌∙◌, arith}
+use Rattle.std.proofs.Common.{◌≡◌, inl, inr, ◌≤◌, List, length, refl, sym, ap, subst, ◌∙◌, arith}
 use Rattle.failover_world.specs.Worlds.{WorldView, term_of}
 use Rattle.failover_world.proofs.Parts.{with_rows}
 use Rattle.std.proofs.Common.{◌++◌, ◌+◌, Result, Ok, Err, OnErr, vec_len, vec_capacity}
