@@ -73,8 +73,8 @@ StopsAt image keepers need events line_number fault w =
 
 -- an output that went out, with the term in which it did
 unfoldable pub released_line : Released → List ℕ
-released_line r = line (codes "term " ++ decimal r.term ++ codes " hart " ++ decimal r.output.hart ++ codes " number " ++ decimal r.output.number
-    ++ codes " step " ++ decimal r.output.step ++ codes " word " ++ word r.output.word)
+released_line r = codes "term " ++ decimal r.term ++ codes " hart " ++ decimal r.output.hart ++ codes " number " ++ decimal r.output.number
+    ++ line (codes " step " ++ decimal r.output.step ++ codes " word " ++ word r.output.word)
 
 -- all that went out, in the order in which it did
 abbrev pub released_text : WorldView → List ℕ

@@ -43,7 +43,6 @@ fn apply_all(alloc: Global, world: &mut World, events: Vec<Event>) -> Result<(),
 }
 
 /// Writes the line of an output that went out.
-#[tactic(auto, unfolding(crate::specs::FailingOver::released_line))]
 fn write_one_released<W: Sink>(released: &Released, out: &mut W) -> Result<(), Failed>
     ensures { Writes result (W.bytes out.old) (W.bytes out.new) (W.failures out.old) (W.failures out.new) (released_line released.now) }
 {
