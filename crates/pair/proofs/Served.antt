@@ -11,7 +11,6 @@ use Rattle.ack_core.specs.declared.seats.GateSeat.{GateSeat}
 use Rattle.ack_core.specs.Lists.{StartsWith}
 use Rattle.ack_core.specs.Seats.{harts_of, keeper_of, published, heard, Publishes, Refuses, term_of}
 use Rattle.pair.specs.Keeping.{AreTaken, Tells}
-use Rattle.pair.specs.declared.keeper_thread.Served.{Served}
 use Rattle.pair.specs.Serving.{Had, HadAll, IsServed}
 
 taken_then : (old between new : StoreView) (first second : List Frame) → AreTaken old first between → AreTaken between second new →
@@ -70,9 +69,9 @@ pub in_longer : (whole part : List ℕ) (count : ℕ) → StartsWith whole part 
 in_longer whole part count begins there = subst (λ (xs : List ℕ). Contains xs count) (sym begins.1) (Contains-append_left part begins.0 count there)
 
 -- what the gate has heard of a keeper, its store had
-pub heard_had : (board : Board) (gate : GateSeat) (k : ℕ) (s : Served) → IsServed board k s →
-    ((hart : ℕ) → hart < harts_of board → StartsWith (published s.seat hart) (heard gate (keeper_of s.seat) hart)) → (hart count : ℕ) →
-    hart < harts_of board → Contains (heard gate k hart) count → Had s.store (term_of board) hart count
+pub heard_had : (board : Board) (gate : GateSeat) (k : ℕ) (s : KeeperSeat × StoreView) → IsServed board k s →
+    ((hart : ℕ) → hart < harts_of board → StartsWith (published s.0 hart) (heard gate (keeper_of s.0) hart)) → (hart count : ℕ) →
+    hart < harts_of board → Contains (heard gate k hart) count → Had s.1 (term_of board) hart count
 heard_had board gate k s is begins hart count within there =
-    is.had hart count within (in_longer (published s.seat hart) (heard gate (keeper_of s.seat) hart) count (begins hart within)
+    is.had hart count within (in_longer (published s.0 hart) (heard gate (keeper_of s.0) hart) count (begins hart within)
     (subst (λ (n : ℕ). Contains (heard gate n hart) count) (sym is.keeper) there))

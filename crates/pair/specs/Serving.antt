@@ -13,7 +13,6 @@ use Rattle.ack_core.specs.declared.seats.GateSeat.{GateSeat}
 use Rattle.ack_core.specs.Seats.{term_of, harts_of, keepers_of, keeper_of, published, heard, IsKeeperOf}
 use Rattle.ft_types.specs.declared.output.Output.{Output}
 use Rattle.pair.specs.Keeping.{AreTaken}
-use Rattle.pair.specs.declared.keeper_thread.Served.{Served}
 
 -- on the way to what it is, by the frames that it took, the store had a position of this term with this count of the hart
 pub record Had (store : StoreView) (term hart count : ℕ) : Type 0 where
@@ -31,15 +30,15 @@ HadAll board seat store =
     (hart count : ℕ) → hart < harts_of board → Contains (published seat hart) count → Had store (term_of board) hart count
 
 -- what keeper k's thread leaves: its seat and its store
-pub record IsServed (board : Board) (k : ℕ) (s : Served) : Type 0 where
-  pub seat : IsKeeperOf board s.seat
-  pub keeper : keeper_of s.seat ≡ k
-  pub had : HadAll board s.seat s.store
+pub record IsServed (board : Board) (k : ℕ) (s : KeeperSeat × StoreView) : Type 0 where
+  pub seat : IsKeeperOf board s.0
+  pub keeper : keeper_of s.0 ≡ k
+  pub had : HadAll board s.0 s.1
 
 -- what each keeper's thread leaves, in their order
-abbrev pub AreServed : Board → List (Result Served Memory) → Type 0
+abbrev pub AreServed : Board → List (Result (KeeperSeat × StoreView) Memory) → Type 0
 AreServed board all =
-    (length all ≡ keepers_of board) × ((k : ℕ) (other : Result Served Memory) → k < length all → IfOk (slice_index_or all k other) (IsServed board k))
+    (length all ≡ keepers_of board) × ((k : ℕ) (other : Result (KeeperSeat × StoreView) Memory) → k < length all → IfOk (slice_index_or all k other) (IsServed board k))
 
 -- the gate has heard of a count of keeper k above the step of the hart
 pub record IsHeardBeyond (board : Board) (seat : GateSeat) (k hart step : ℕ) : Type 0 where

@@ -17,25 +17,8 @@ use std::result::Result;
 use std::sync::Wait;
 use tracked_position::Tracked;
 
-/// What a keeper's thread gives.
-#[derive(Drop)]
-pub(crate) struct Served {
-    /// The keeper's seat, which publishes no more.
-    pub(crate) seat: KeeperSeat,
-    /// What the keeper holds, with its position.
-    pub(crate) store: Tracked,
-}
-
-/// Adds the frame of a message. Whether it was the last message.
-fn add(frames: &mut Vec<Frame>, message: ToKeeper) -> Result<bool, Memory> {
-    match message {
-        ToKeeper::Frame(frame) => {
-            frames.push(frame)?;
-            Ok(false)
-        }
-        ToKeeper::End => Ok(true),
-    }
-}
+/// What a keeper's thread gives: the keeper's seat, which publishes no more, and what the keeper holds, with its position.
+pub(crate) type Served = (KeeperSeat, Tracked);
 
 /// Waits for a message to a keeper, and takes with it what is there by then. Whether the last one came.
 fn hear<R: Wait>(
@@ -43,18 +26,16 @@ fn hear<R: Wait>(
     channel: &Receiver<ToKeeper, Global>,
     frames: &mut Vec<Frame>,
 ) -> Result<bool, Memory> {
-    let Ok(first) = channel.recv(rt) else {
-        return Err(Memory);
-    };
-    if add(frames, first)? {
-        return Ok(true);
+    match channel.recv(rt) {
+        Ok(Some(frame)) => frames.push(frame)?,
+        Ok(None) => return Ok(true),
+        Err(_) => return Err(Memory),
     }
     for _more in 0..channel.len() {
-        let Ok(message) = channel.try_recv(rt) else {
-            break;
-        };
-        if add(frames, message)? {
-            return Ok(true);
+        match channel.try_recv(rt) {
+            Ok(Some(frame)) => frames.push(frame)?,
+            Ok(None) => return Ok(true),
+            Err(_) => break,
         }
     }
     Ok(false)
@@ -82,7 +63,7 @@ pub(crate) fn serve<R: Wait>(
         let ended = hear(rt, &channel, &mut fresh)?;
         keep(alloc, board, &mut seat, &mut store, fresh)?;
         if ended {
-            return Ok(Served { seat, store });
+            return Ok((seat, store));
         }
         send(rt, &gate, ToGate::Published)?;
     }

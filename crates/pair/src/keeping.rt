@@ -22,18 +22,7 @@ pub(crate) fn take_all(alloc: Global, store: &mut Tracked, frames: Vec<Frame>) -
     Ok(())
 }
 
-/// Publishes the position of what the store holds, where it is one of the board's term.
-pub(crate) fn acknowledge(board: &Board, seat: &mut KeeperSeat, store: &Tracked)
-    requires seat { IsKeeperOf board.now seat.old }
-    requires harts { store.now.guest.harts ≡ harts_of board.now }
-    ensures seat { IsKeeperOf board.now seat.new × (keeper_of seat.new ≡ keeper_of seat.old) }
-    ensures tells { Tells board.now seat.old store.now seat.new }
-{
-    let _harts = board.harts();
-    let _published = board.publish(seat, store.position());
-}
-
-/// Takes frames, and then publishes the position of all that the store holds.
+/// Takes frames, and then publishes the position of all that the store holds, where it is one of the board's term.
 pub(crate) fn keep(
     alloc: Global,
     board: &Board,
@@ -49,6 +38,7 @@ pub(crate) fn keep(
     ensures tells { OnOk result (Tells board.now seat.old store.new seat.new) }
 {
     take_all(alloc, store, frames)?;
-    acknowledge(board, seat, store);
+    let _harts = board.harts();
+    let _published = board.publish(seat, store.position());
     Ok(())
 }

@@ -7,13 +7,8 @@ use output_gate::Output;
 use std::alloc::Global;
 use std::sync::Wait;
 
-/// What a keeper is sent.
-#[derive(Drop)]
-pub(crate) enum ToKeeper {
-    Frame(Frame),
-    /// There are no more.
-    End,
-}
+/// What a keeper is sent: a frame, or that there are no more.
+pub(crate) type ToKeeper = Option<Frame>;
 
 /// What the gate is sent.
 #[derive(Drop)]

@@ -38,12 +38,7 @@ pub(crate) struct Primary {
     pub(crate) guest: Guest,
     /// The limit of each hart.
     pub(crate) budget: u32,
-    pub(crate) lines: Lines,
-}
-
-/// Whom the primary sends to.
-#[derive(Drop)]
-pub(crate) struct Lines {
+    /// Whom it sends to.
     pub(crate) keepers: Vec<Sender<ToKeeper, Global>>,
     pub(crate) gate: Sender<ToGate, Global>,
 }
@@ -69,14 +64,14 @@ fn new_post(
     Ok((post, sender))
 }
 
-/// A post for each seat, and whom the primary sends to.
+/// A post for each seat, and the senders of their frames.
 pub(crate) fn man_posts(
     alloc: Global,
     board: &Board,
     guest: Guest,
     seats: Vec<KeeperSeat>,
-    gate: Sender<ToGate, Global>,
-) -> Result<(Vec<Post>, Lines), Memory>
+    gate: &Sender<ToGate, Global>,
+) -> Result<(Vec<Post>, Vec<Sender<ToKeeper, Global>>), Memory>
     requires seats { AreKeepersOf board.now seats.items }
     requires harts { guest.harts ≡ harts_of board.now }
     ensures { IfOk result (λ r. ArePostsOf board.now r.0.items) }
@@ -84,9 +79,9 @@ pub(crate) fn man_posts(
     let mut posts = Vec::new(alloc);
     let mut keepers = Vec::new(alloc);
     for seat in seats {
-        let (post, sender) = new_post(alloc, guest, seat, &gate)?;
+        let (post, sender) = new_post(alloc, guest, seat, gate)?;
         posts.push(post)?;
         keepers.push(sender)?;
     }
-    Ok((posts, Lines { keepers, gate }))
+    Ok((posts, keepers))
 }

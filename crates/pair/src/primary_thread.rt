@@ -9,7 +9,7 @@ ghost use Rattle.pair.specs.Leading.{HasLed};
 ghost use Rattle.pair.specs.Posts.{MayLead};
 
 use crate::messages::{ToGate, ToKeeper, send};
-use crate::posts::{Lines, Primary};
+use crate::posts::Primary;
 use crate::rounds::{are_at_end, round_end};
 use crate::telling::{new_outputs, outputs_told};
 use crossbeam_channel::Sender;
@@ -24,6 +24,17 @@ use std::result::Result;
 use std::sync::Wait;
 use std::thread::Threads;
 
+/// Sends a frame to a keeper.
+fn send_copy<R: Wait>(
+    rt: &R,
+    alloc: Global,
+    keeper: &Sender<ToKeeper, Global>,
+    frame: &Frame,
+) -> Result<(), Memory> {
+    let copy = frame.copy(alloc)?;
+    send(rt, keeper, Some(copy))
+}
+
 /// Sends a frame to each keeper.
 fn send_frame<R: Wait>(
     rt: &R,
@@ -32,7 +43,7 @@ fn send_frame<R: Wait>(
     frame: &Frame,
 ) -> Result<(), Memory> {
     for keeper in keepers {
-        send(rt, keeper, ToKeeper::Frame(frame.copy(alloc)?))?;
+        send_copy(rt, alloc, keeper, frame)?;
     }
     Ok(())
 }
@@ -107,9 +118,9 @@ pub(crate) fn lead<R: Threads + Wait + Sync>(
         mut book,
         guest,
         budget,
-        lines,
+        keepers,
+        gate,
     } = primary;
-    let Lines { keepers, gate } = lines;
     send_frame(rt, alloc, &keepers, &Frame::Opening(first_opening(guest)))?;
     let mut sealed = Sealed::new(book.counts());
     for _round in rt.forever() {
@@ -125,7 +136,7 @@ pub(crate) fn lead<R: Threads + Wait + Sync>(
     }
     send(rt, &gate, ToGate::End)?;
     for keeper in &keepers {
-        send(rt, keeper, ToKeeper::End)?;
+        send(rt, keeper, None)?;
     }
     Ok(book)
 }

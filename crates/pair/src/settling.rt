@@ -27,7 +27,7 @@ pub(crate) fn stores_of(
     let mut gate = gate;
     let mut stores = Vec::new(alloc);
     for one in served {
-        let Served { mut seat, store } = one?;
+        let (mut seat, store) = one?;
         // proof: what the gate has heard of this keeper begins what the keeper published.
         let _last = board.beside(&mut gate, &mut seat, Hart::new(0));
         stores.push(store)?;

@@ -193,12 +193,13 @@ pub fn run_pair<R: Threads + Wait + Sync>(
     let gate = Gate::new(alloc, FIRST_TERM, orders.keepers(), orders.need());
     let (to_gate, channel) = unbounded(alloc)?;
     let guest = image.guest();
-    let (posts, lines) = man_posts(alloc, &board, guest, seats, to_gate)?;
+    let (posts, keepers) = man_posts(alloc, &board, guest, seats, &to_gate)?;
     let primary = Primary {
         book,
         guest,
         budget: orders.budget(),
-        lines,
+        keepers,
+        gate: to_gate,
     };
     let watch = Watch {
         gate,
