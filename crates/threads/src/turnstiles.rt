@@ -96,7 +96,8 @@ impl Watch {
     }
 
     /// The hart begins a leg. All its leases of the one before are settled.
-    fn begin_leg(&self, place: usize) {
+    fn begin_leg(&self, hart: Hart) {
+        let place = hart.index() % 4;
         let begun = self.begun[place].swap(0, Ordering::SeqCst);
         if self.settled[place].swap(0, Ordering::SeqCst) != begun {
             self.stray();
@@ -129,7 +130,7 @@ impl Turnstile for Watch {
     fn before_lease(&self, hart: Hart, number: u64) {
         let place = hart.index() % 4;
         if number == 1 {
-            self.begin_leg(place);
+            self.begin_leg(hart);
         }
         let begun = self.begun[place].load(Ordering::SeqCst);
         if number != begun.wrapping_add(1) || self.settled[place].load(Ordering::SeqCst) != begun {
