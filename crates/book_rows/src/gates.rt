@@ -1,6 +1,7 @@
 //! The board, the gate and a term's gate, by calls.
 
 ghost use Rattle.std.specs.Prelude.{◌≡◌, ◌≢◌, ◌<◌, ℕ, length, IfOk};
+ghost use Rattle.ft_types.specs.declared.names.TheConstants.{HART_LIMIT};
 ghost use Rattle.ack_core.specs.Seats.{term_of, harts_of, keepers_of, IsKeeperOf, IsGateOf};
 ghost use Rattle.output_gate.specs.Gates.{noted_at};
 ghost use Rattle.output_gate.specs.Looks.{IsSeen};
@@ -118,7 +119,7 @@ fn a_board_shows_what_was_published(rt: HostRuntime) -> Result<(), Fail> {
 
 /// An output of a hart.
 fn output(hart: u8, number: u64, step: u64) -> Output
-    requires { hart < 8 }
+    requires { hart < HART_LIMIT }
     ensures { result ≡ record { hart = hart; number = number; step = step; word = 7 } }
 {
     Output {

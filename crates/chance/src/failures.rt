@@ -5,7 +5,7 @@ use crate::calls::make_many;
 use crate::starts::{image_in, opens, recorder_of};
 use fixtures::{Crew, Dice, cut, file_of};
 use fragment_codec::Frame;
-use ft_types::{Count, Counts, Keeper, Memory, Term};
+use ft_types::{Count, Counts, HART_ROW, Keeper, Memory, Term};
 use go_live::{Live, go_live};
 use guest_image::{Image, Machine};
 use log_join::Store;
@@ -107,7 +107,7 @@ fn is_unused(live: &Live) -> bool {
 /// Each hart of the book may go on.
 fn raise(book: &mut Book<Recording>) {
     let harts = usize::from(book.machine().harts());
-    if let Some(limits) = Counts::from_slice([FAR; 8].get(..harts).unwrap_or(&[])) {
+    if let Some(limits) = Counts::from_slice([FAR; HART_ROW].get(..harts).unwrap_or(&[])) {
         if limits.harts() == book.machine().harts() {
             book.limit_to(limits);
         }

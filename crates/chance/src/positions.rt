@@ -3,7 +3,7 @@
 use closed_cut::position;
 use fixtures::{Dice, edge, guest_with, key, opening_of, piece_of};
 use fragment_codec::{Frame, Record};
-use ft_types::{Count, Guest, Term};
+use ft_types::{Count, Guest, HART_LIMIT, HART_ROW, Term};
 use input_log::Input;
 use std::alloc::Global;
 use std::test::Fail;
@@ -85,16 +85,16 @@ fn pieces(
 /// The frames of two terms; now and then an opening comes with two contents.
 fn log(alloc: Global, harts: u8, dice: &mut Dice) -> Result<Vec<Frame>, Fail> {
     let mut frames = Vec::new(alloc);
-    let zero = [0; 8];
+    let zero = [0; HART_ROW];
     let left = u64::from(below(dice, 6));
-    let base = [left; 8];
-    let many = usize::from(harts.min(8));
+    let base = [left; HART_ROW];
+    let many = usize::from(harts.min(HART_LIMIT));
     frames.push(opening_of(guest_of(harts), 1, 0, &zero[..many])?)?;
     frames.push(opening_of(guest_of(harts), 2, 1, &base[..many])?)?;
     if below(dice, 8) == 0 {
         frames.push(opening_of(guest_of(harts), 2, 1, &zero[..many])?)?;
     }
-    for hart in 0..harts.min(8) {
+    for hart in 0..harts.min(HART_LIMIT) {
         pieces(alloc, &mut frames, harts, (1, hart, 0), dice)?;
         pieces(alloc, &mut frames, harts, (2, hart, left), dice)?;
     }
