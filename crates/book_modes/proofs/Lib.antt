@@ -1,3 +1,4 @@
 pub mod bells
 pub mod ledger
 pub mod obeying
+mod Copies

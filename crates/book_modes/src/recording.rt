@@ -32,6 +32,7 @@ use hart_lease::{Asked, Lease, Lent, OpenLease, Taken};
 use input_log::{Desk, Input, InputLog, Offered, WaitingBell};
 use smallvec::SmallVec;
 use std::alloc::Global;
+use std::array;
 use std::marker::Model;
 use std::option::Option;
 
@@ -68,16 +69,7 @@ fn unused_rights(alloc: Global, pages: u8) -> Result<Vec<PageRight>, Memory>
 fn nothing_due(alloc: Global) -> [Due; HART_ROW]
     ensures { result ≡ replicate HART_ROW nothing_due }
 {
-    [
-        Due::nothing(alloc),
-        Due::nothing(alloc),
-        Due::nothing(alloc),
-        Due::nothing(alloc),
-        Due::nothing(alloc),
-        Due::nothing(alloc),
-        Due::nothing(alloc),
-        Due::nothing(alloc),
-    ]
+    array::from_fn(|_| Due::nothing(alloc))
 }
 
 fn rights_copied(rights: &Vec<PageRight>) -> Result<Vec<PageRight>, Memory>
@@ -89,7 +81,11 @@ fn rights_copied(rights: &Vec<PageRight>) -> Result<Vec<PageRight>, Memory>
 fn dues_copied(alloc: Global, due: &[Due; HART_ROW]) -> [Due; HART_ROW]
     ensures { result ≡ due.now }
 {
-    due.each_ref().map(|due| due.copy(alloc))
+    let mut copied = nothing_due(alloc);
+    for hart in 0..HART_ROW {
+        copied[hart] = due[hart].copy(alloc);
+    }
+    copied
 }
 
 /// How far a hart at this count goes, where the next of what waits for it may be given at this other count.

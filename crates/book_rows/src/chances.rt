@@ -3,7 +3,7 @@
 use crate::begun::{recording, replayer, same_machine};
 use edge_log::EdgeLog;
 use fixtures::{Crew, Dice, hart, image_of};
-use ft_types::{Count, Counts, Memory};
+use ft_types::{Count, Counts, HART_ROW, Memory};
 use guest_image::Image;
 use input_log::InputLog;
 use page_book::{Book, Keep, Mode, Recording, Replaying};
@@ -66,7 +66,7 @@ fn recorded_turns(
     limit: Count,
     seed: u64,
 ) -> Result<Book<Recording>, Fail> {
-    let mut crew = recording(alloc, image, &[limit; 8])?;
+    let mut crew = recording(alloc, image, &[limit; HART_ROW])?;
     turns(&mut crew, alloc, seed);
     let waited = crew.waits > 0 && crew.refusals < 2;
     let book = crew.end();

@@ -3,7 +3,7 @@
 use crate::reading::{Block, LineNumber};
 use edge_log::Edge;
 use fragment_codec::{Fragment, Frame, Key, Opening, Record, write_frame};
-use ft_types::{Counts, Guest, Hart, MemorySink};
+use ft_types::{Counts, Guest, HART_LIMIT, Hart, MemorySink};
 use guest_image::read_image;
 use input_log::Input;
 use std::alloc::Global;
@@ -13,7 +13,7 @@ const AMPLE: usize = 10_000;
 
 fn hart(text: &str) -> Option<Hart> {
     match text.parse::<u8>().ok()? {
-        number if number < 8 => Some(Hart::new(number)),
+        number if number < HART_LIMIT => Some(Hart::new(number)),
         _ => None,
     }
 }

@@ -1,6 +1,7 @@
 //! Events as tests write them.
 
 ghost use Rattle.std.specs.Prelude.{◌<◌, ◌≤◌, IfOk};
+ghost use Rattle.ft_types.specs.declared.names.TheConstants.{HART_LIMIT};
 ghost use Rattle.failover_events.specs.Events.{MayCome};
 
 use failover_world::Event;
@@ -27,7 +28,7 @@ pub enum Act {
 
 /// The hart that a number names, of so many.
 pub fn hart_of(number: u8, harts: u8) -> Hart
-    requires { (0 < harts) × (harts ≤ 8) }
+    requires { (0 < harts) × (harts ≤ HART_LIMIT) }
     ensures { result < harts }
 {
     Hart::new(number % harts)
@@ -35,7 +36,7 @@ pub fn hart_of(number: u8, harts: u8) -> Hart
 
 /// The event, for a guest of so many harts.
 pub fn event_of(alloc: Global, act: Act, harts: u8) -> Result<Event, Memory>
-    requires { (0 < harts) × (harts ≤ 8) }
+    requires { (0 < harts) × (harts ≤ HART_LIMIT) }
     ensures { IfOk result (λ event. MayCome harts event) }
 {
     Ok(match act {

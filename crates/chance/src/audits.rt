@@ -7,7 +7,7 @@ use crate::verdicts::{Tally, Verdict, verdict_of};
 use closed_cut::position;
 use fixtures::{BOTH_STORE, Crew, Dice, Rounds, TWO_LOOPS, cut, edge, hart, key, offer};
 use fragment_codec::{Fragment, Frame, Record};
-use ft_types::{Counts, Guest, Memory, PageNo, Term};
+use ft_types::{Counts, Guest, HART_LIMIT, Memory, PageNo, Term};
 use guest_image::{Image, Machine};
 use hart_replay::{Plan, ReplayFault, plan};
 use input_log::Input;
@@ -47,7 +47,7 @@ fn guest_by(alloc: Global, harts: u8, dice: &mut Dice) -> Result<Image, Memory> 
 
 /// Offers each hart timers and words by chance.
 fn offer_all(book: &mut Book<Recording>, dice: &mut Dice) {
-    for number in 0..8u8 {
+    for number in 0..HART_LIMIT {
         offer(book, hart(number), u64::from(dice.roll()), Input::Timer);
         for _word in 0..4 {
             let word = Input::Word(u32::from(dice.roll()));

@@ -1,7 +1,7 @@
 //! Audits by the definition: one run of a leg, step by step, and all pairs of its steps.
 
 use fixtures::{Crew, hart};
-use ft_types::{Count, Hart, Memory, PageNo, Want};
+use ft_types::{Count, HART_LIMIT, Hart, Memory, PageNo, Want};
 use guest_image::{Image, Machine};
 use hart_replay::PlannedLeg;
 use page_book::{Book, BookFault, Keep, Leg, Replaying};
@@ -126,8 +126,9 @@ fn run(crew: &mut Crew<Replaying>, alloc: Global, leg: &PlannedLeg) -> Option<Ve
     let mut steps = Vec::new(alloc);
     for _round in 0..1000 {
         let taken = steps.len();
-        for number in 0..8u8 {
-            take(crew, alloc, leg, &mut steps, hart(7 - number))?;
+        for number in 0..HART_LIMIT {
+            let last = HART_LIMIT - 1 - number;
+            take(crew, alloc, leg, &mut steps, hart(last))?;
         }
         if steps.len() == taken {
             return Some(steps);

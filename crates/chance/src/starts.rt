@@ -1,7 +1,7 @@
 //! What lists and logs that fall by chance start from. What is refused memory is asked for once more by who began.
 
 use fragment_codec::{Frame, Opening};
-use ft_types::{Count, Counts, Guest, Memory, Term};
+use ft_types::{Count, Counts, Guest, HART_ROW, Memory, Term};
 use guest_image::{Image, Machine, read_image};
 use page_book::{Book, Recording};
 use std::alloc::Global;
@@ -28,7 +28,7 @@ pub fn recorder_from(
     start: Machine,
     limit: Count,
 ) -> Result<Book<Recording>, Memory> {
-    let limits = [limit; 8];
+    let limits = [limit; HART_ROW];
     let limits = limits.get(..usize::from(start.harts())).unwrap_or(&[]);
     match Counts::from_slice(limits) {
         Some(limits) if limits.harts() == start.harts() => {

@@ -1,6 +1,7 @@
 //! The world that is tested.
 
 ghost use Rattle.std.specs.Prelude.{◌≡◌, ◌<◌, ◌≤◌};
+ghost use Rattle.ft_types.specs.declared.names.TheConstants.{HART_LIMIT};
 
 use crate::acts::{Act, event_of};
 use failover_world::{Released, World, WorldFault};
@@ -15,7 +16,7 @@ pub struct Subject {
     world: World,
     harts: u8,
     ghost of_world: { world.image.harts ≡ harts },
-    ghost some: { (0 < harts) × (harts ≤ 8) },
+    ghost some: { (0 < harts) × (harts ≤ HART_LIMIT) },
 }
 
 /// What is seen of a world: how many outputs went out and how many frames, the term, how many primaries stopped before, and how

@@ -7,6 +7,7 @@ use Rattle.std.proofs.lemmas.Bool.{cases_lt, cases_eq}
 use Rattle.std.proofs.lemmas.List.{get_or-map, get_or_default, length-map}
 use Rattle.std.proofs.lemmas.List.Sorted.{IsPermutation-map, IsPermutation-sym, Contains-permutation}
 use Rattle.ft_types.specs.Counts.{count_at}
+use Rattle.ft_types.specs.declared.names.TheConstants.{HART_LIMIT}
 use Rattle.interleaving.specs.Lists as theory
 use Rattle.interleaving.specs.Log.{Edge as EdgeOfTheory, IsClosed}
 use Rattle.interleaving.specs.Cuts.{IsGreatest, IsLowering, lowered}
@@ -136,22 +137,22 @@ module _ (edges : List Edge) (ends : List ℕ) (at end : ℕ) (there : at < leng
       ]
 
   pub stopped_after : (old new : List ℕ) → theory.IsWithin (count_at new) (count_at old) → AreStopped edges new at end (get_or ends at 0) →
-      ((h : ℕ) → h < 8 → AreStopped edges old h (get_or ends h 0) (length edges)) →
-      (h : ℕ) → h < 8 → AreStopped edges new h (get_or (set ends at end) h 0) (length edges)
+      ((h : ℕ) → h < HART_LIMIT → AreStopped edges old h (get_or ends h 0) (length edges)) →
+      (h : ℕ) → h < HART_LIMIT → AreStopped edges new h (get_or (set ends at end) h 0) (length edges)
   stopped_after old new within fell stopped h less =
       elim (cases_eq h at) [
         | inl same ↦
             subst (λ n. AreStopped edges new n (get_or (set ends at end) n 0) (length edges)) (sym same)
             (rw (get_or-set_same ends at end 0 there)
             (stopped_join edges new at end (get_or ends at 0) (length edges) fell
-            (stopped_below edges old new at (get_or ends at 0) (length edges) within (stopped at (subst (λ n. n < 8) same less)))))
+            (stopped_below edges old new at (get_or ends at 0) (length edges) within (stopped at (subst (λ n. n < HART_LIMIT) same less)))))
         | inr ne ↦
             rw (get_or-set_other ends at h end 0 ne) (stopped_below edges old new h (get_or ends h 0) (length edges) within (stopped h less))
       ]
 
 -- where each edge was stopped or is met, the counts are closed
-pub closed_after : (edges : List Edge) (ends cut : List ℕ) → AreOf (length cut) edges → length cut ≤ 8 →
-    ((h : ℕ) → h < 8 → AreStopped edges cut h (get_or ends h 0) (length edges)) →
+pub closed_after : (edges : List Edge) (ends cut : List ℕ) → AreOf (length cut) edges → length cut ≤ HART_LIMIT →
+    ((h : ℕ) → h < HART_LIMIT → AreStopped edges cut h (get_or ends h 0) (length edges)) →
     ((h : ℕ) → h < length cut → AllWithin (λ e. e.after ≤ count_at cut h) edges 0 (get_or ends h 0)) →
     IsClosed (map edge_as edges) (count_at cut)
 closed_after edges ends cut are limit stopped met x is_edge below =

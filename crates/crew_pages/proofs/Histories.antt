@@ -3,6 +3,7 @@ use Rattle.std.proofs.Common.{◌≡◌, ◌≢◌, ◌⊎◌, inl, inr, ℕ, ze
 use Rattle.std.proofs.Common.{◌∙◌, arith, le_trans, le_refl, le_of_eq, true≢false}
 use Rattle.std.proofs.lemmas.List.Elements.{Contains-append_cases, Contains-append_left, Contains-append_right}
 use Rattle.ft_types.specs.declared.names.Want.{Want}
+use Rattle.ft_types.specs.declared.names.TheConstants.{HART_LIMIT}
 use Rattle.interleaving.specs.Lists.{EachPair}
 use Rattle.interleaving.specs.Log.{Edge, Place, Before, bump}
 use Rattle.interleaving.proofs.Each.{pairs_append, pairs_more}
@@ -52,7 +53,7 @@ kept_begun crew counts =
       deeds = tt;
     }
 
-kept_asked : (crew : ℕ) (s : History) (h : ℕ) (want : Want) (edges : List Edge) → IsKept crew s → crew ≤ 8 → h < crew → IsFree s.right h want →
+kept_asked : (crew : ℕ) (s : History) (h : ℕ) (want : Want) (edges : List Edge) → IsKept crew s → crew ≤ HART_LIMIT → h < crew → IsFree s.right h want →
     ((e : Edge) → IsOwed s.right h want (s.counts h) e → Contains edges e) → ((e : Edge) → Contains edges e → IsOwed s.right h want (s.counts h) e) →
     IsKept crew (asked s h want edges)
 kept_asked crew s h want edges kept few below free has only =
@@ -147,7 +148,7 @@ one_deed crew s h writes kept held may = kept_stepped crew s h (record { place =
 numbered_place : (crew : ℕ) (s : History) → IsKept crew s → (a : Place) → Touched s.deeds a → a.step < s.counts a.hart
 numbered_place crew s kept a (w, is_in) = kept.numbered (record { place = a; writes = w }) is_in
 
-kept : (crew : ℕ) (s : History) → crew ≤ 8 → Reached crew s → IsKept crew s
+kept : (crew : ℕ) (s : History) → crew ≤ HART_LIMIT → Reached crew s → IsKept crew s
 kept crew s few (Begun counts) = kept_begun crew counts
 kept crew s few (Asked {s = t} h want edges before below free has only) = kept_asked crew t h want edges (kept crew t few before) few below free has only
 kept crew s few (Elsewhere {s = t} h before) = kept_stepped crew t h [] (kept crew t few before) tt (λ d (k, below, is). absurd (omega arith))

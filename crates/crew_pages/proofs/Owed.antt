@@ -7,6 +7,7 @@ use Rattle.std.proofs.lemmas.List.{length_push}
 use Rattle.smallvec.specs.SmallVec.{SmallVec}
 use Rattle.std.proofs.lemmas.List.Quantifiers.{all_pairs_push}
 use Rattle.ft_types.specs.declared.names.Want.{Want}
+use Rattle.ft_types.specs.declared.names.TheConstants.{HART_LIMIT, HART_ROW}
 use Rattle.interleaving.proofs.Cuts.{here, here_or_later}
 use Rattle.edge_log.specs.declared.Edge.{Edge}
 use Rattle.edge_log.specs.EdgeLog.{edge_as}
@@ -38,7 +39,7 @@ module _ (r : Right) (h : ℕ) (want : Want) (at : ℕ) (n : ℕ) (xs : List Edg
   )
 
   -- an edge is
-  module _ (after : ℕ) (lacks : has_it r h want ≡ false) (ne : n ≢ h) (small : n < 8) (is : after_count r want n ≡ Some after) where
+  module _ (after : ℕ) (lacks : has_it r h want ≡ false) (ne : n ≢ h) (small : n < HART_LIMIT) (is : after_count r want n ≡ Some after) where
     abbrev e : Edge
     e = record { hart = h; at = at; other = n; after = after }
 
@@ -80,7 +81,7 @@ module _ (r : Right) (h : ℕ) (want : Want) (at : ℕ) (n : ℕ) (xs : List Edg
 -- what a loop over the first n harts has found so far
 pub record SoFar (r : Right) (h : ℕ) (want : Want) (at n : ℕ) (v : SmallVec Edge) : Type 0 where
   pub room : length v.items ≤ n
-  pub inline : v.capacity ≡ 8
+  pub inline : v.capacity ≡ HART_ROW
   pub below : All (λ e. e.other < n) v.items
   pub exact : AreOwedTo r h want at n v.items n v.items
   pub rising : AllPairs (λ a b. a.other < b.other) v.items
@@ -98,7 +99,7 @@ goes_on_same r h want at n v w so same none =
     })
 
 pub goes_on_one : (r : Right) (h : ℕ) (want : Want) (at n after : ℕ) (v w : SmallVec Edge) → SoFar r h want at n v → has_it r h want ≡ false →
-    n ≢ h → n < 8 → after_count r want n ≡ Some after → w.items ≡ v.items ++ record { hart = h; at = at; other = n; after = after } ∷ [] →
+    n ≢ h → n < HART_LIMIT → after_count r want n ≡ Some after → w.items ≡ v.items ++ record { hart = h; at = at; other = n; after = after } ∷ [] →
     w.capacity ≡ v.capacity → SoFar r h want at (n + 1) w
 goes_on_one r h want at n after v w so lacks ne small is items capacity =
     record {
@@ -119,10 +120,10 @@ pub same_hart : (a b : ℕ) → not (a == b) ≡ false → a ≡ b
 same_hart a b is = elim (cases_eq a b) [ inl same ↦ same | inr ne ↦ absurd (true≢false (sym (ap not (ne_eqb a b ne)) ∙ is)) ]
 
 -- of all harts
-pub all_owed : (r : Right) (h : ℕ) (want : Want) (at n : ℕ) (v : SmallVec Edge) → SoFar r h want at n v → 8 ≤ n → (x : Edge) →
+pub all_owed : (r : Right) (h : ℕ) (want : Want) (at n : ℕ) (v : SmallVec Edge) → SoFar r h want at n v → HART_LIMIT ≤ n → (x : Edge) →
     Contains v.items x ↔ IsOwed r h want at (edge_as x)
 all_owed r h want at n v so all x =
-    ((λ is_in. ((so.exact x).0 is_in).1), (λ owed. (so.exact x).1 (let l : x.other < 8 = owed.is_hart in omega arith, owed)))
+    ((λ is_in. ((so.exact x).0 is_in).1), (λ owed. (so.exact x).1 (let l : x.other < HART_LIMIT = owed.is_hart in omega arith, owed)))
 
 pub count_is : (right : PageRight) (since : Option LastWriter) (readers : List Bool) (left : List (Option ℕ)) (want : Want) (n other : ℕ) (result : Option ℕ) →
     right ≡ stored.Shared since readers left → other ≡ n →

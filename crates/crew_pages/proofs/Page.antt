@@ -4,6 +4,7 @@ use Rattle.std.proofs.Common.{refl, sym, ap, subst, ◌∙◌, arith, le_trans, 
 use Rattle.std.proofs.lemmas.Bool.{ltb-true, ltb-false, ne_eqb}
 use Rattle.ft_types.specs.declared.names.Want.{Want}
 use Rattle.ft_types.specs.declared.names.Want.TheVariants.{Read, Write}
+use Rattle.ft_types.specs.declared.names.TheConstants.{HART_LIMIT}
 use Rattle.interleaving.specs.Lists.{put}
 use Rattle.interleaving.specs.Log.{Edge, Place, Before, Own, Across, Through}
 use Rattle.interleaving.proofs.Put.{same_or_not, put_same, put_other}
@@ -351,7 +352,7 @@ greater_of None b m is = inr (m, is)
 greater_of (Some x) b m is = inl (x, refl)
 
 -- the edge that is owed to a hart
-knows_by : (edges : List Edge) (r : Right) (h : ℕ) (want : Want) (n g m : ℕ) → has_it r h want ≡ false → after_count r want g ≡ Some m → g ≢ h → g < 8 →
+knows_by : (edges : List Edge) (r : Right) (h : ℕ) (want : Want) (n g m : ℕ) → has_it r h want ≡ false → after_count r want g ≡ Some m → g ≢ h → g < HART_LIMIT →
     ((e : Edge) → IsOwed r h want n e → Contains edges e) → Knows edges h n g m
 knows_by edges r h want n g m lacks is ne small owed =
     record {
@@ -441,7 +442,7 @@ module _ (crew : ℕ) (edges : List Edge) (settled : ℕ → ℕ) (own : ℕ →
   owes_settled r ok h want n e owed = (after_other r ok want e.other e.count owed.after, after_le r ok want e.other e.count owed.after)
 
   -- a right that is given at count n covers what was before it by its edges
-  pub given_ok : crew ≤ 8 → (r : Right) (h : ℕ) (want : Want) (n : ℕ) → IsRight crew edges settled own now late W T r → h < crew →
+  pub given_ok : crew ≤ HART_LIMIT → (r : Right) (h : ℕ) (want : Want) (n : ℕ) → IsRight crew edges settled own now late W T r → h < crew →
       (owns r h ≡ false → owns (given r h want n) h ≡ true → n ≤ late h) → (holds r h ≡ false → now h ≡ n) → IsFree r h want →
       ((e : Edge) → IsOwed r h want n e → Contains (own h) e) → IsRight crew edges settled own now late W T (given r h want n)
   given_ok few (Exclusive owner at since left) h want n ok below bound first free owed = ok

@@ -7,6 +7,7 @@ use Rattle.std.proofs.lemmas.Bool.{cases_lt, cases_eq}
 use Rattle.std.proofs.lemmas.List.{length-map, map-set, set-get_or}
 use Rattle.std.proofs.lemmas.List.Elements.{Contains-append_cases, Contains-append_left, Contains-append_right, All-contains}
 use Rattle.ft_types.specs.Counts.{count_at}
+use Rattle.ft_types.specs.declared.names.TheConstants.{HART_LIMIT, HART_ROW}
 use Rattle.interleaving.specs.Log as theory
 use Rattle.interleaving.specs.Cuts.{IsImplied, IsEnough, IsSameOrder}
 use Rattle.interleaving.proofs.Cuts.{here, here_or_later, same_order}
@@ -123,7 +124,7 @@ module _ (start : List ℕ) (rows : List (List Edge)) (log : IsLog start rows) w
     log_after other from later =
         record {
           harts = log.harts;
-          eight = length-set rows e.hart row ∙ log.eight;
+          many = length-set rows e.hart row ∙ log.many;
           own =
               λ h.
               elim (cases_eq h e.hart) [
@@ -245,21 +246,21 @@ not_said : (result : Result Added Memory) (e : Edge) (row : List Edge) → ((res
 not_said result e row implied is says = let f = implied.1 says in cc
 
 -- a row of the log, and the same with an edge added
-module _ (start : List ℕ) (inner : List EdgesOfOne) (log : IsLog start (map (λ r. r.edges) inner)) (e : Edge) (i : ℕ) (is : i ≡ e.hart) (small : i < 8)
+module _ (start : List ℕ) (inner : List EdgesOfOne) (log : IsLog start (map (λ r. r.edges) inner)) (e : Edge) (i : ℕ) (is : i ≡ e.hart) (small : i < HART_LIMIT)
     (r new : EdgesOfOne) where
-  eight : length inner ≡ 8
-  eight = sym (length-map inner (λ r. r.edges)) ∙ log.eight
+  many : length inner ≡ HART_ROW
+  many = sym (length-map inner (λ r. r.edges)) ∙ log.many
 
   pub old_is : get_or (map (λ r. r.edges) inner) e.hart [] ≡ (get_or inner i r).edges
   old_is =
-      let e8 : length inner ≡ 8 = eight in
+      let rows : length inner ≡ HART_ROW = many in
       ap (λ n. get_or (map (λ r. r.edges) inner) n []) (sym is) ∙ edges_at_map inner i r (omega arith)
 
   pub rows_are : map (λ r. r.edges) (set inner i new) ≡ set (map (λ r. r.edges) inner) e.hart new.edges
   rows_are = map-set (λ r. r.edges) inner i new ∙ ap (λ n. set (map (λ r. r.edges) inner) n new.edges) is
 
   there : e.hart < length (map (λ r. r.edges) inner)
-  there = let h : length (map (λ r. r.edges) inner) ≡ 8 = log.eight in omega arith
+  there = let h : length (map (λ r. r.edges) inner) ≡ HART_ROW = log.many in omega arith
 
   pub new_is : get_or (map (λ r. r.edges) (set inner i new)) e.hart [] ≡ new.edges
   new_is = ap (λ rows. get_or rows e.hart []) rows_are ∙ get_or-set_same (map (λ r. r.edges) inner) e.hart new.edges [] there

@@ -8,6 +8,7 @@ use Rattle.std.proofs.lemmas.Bool.{cases_lt, cases_eq, lt-ltb, le-ltb}
 use Rattle.std.proofs.lemmas.List.{get_or_read, get_or-take, get_or-drop, get_or_append_left, get_or-append_right, get_or-append-add, drop_more, set_split}
 use Rattle.std.proofs.lemmas.List.{get_or_default}
 use Rattle.std.proofs.lemmas.List.Elements.{All-head, All-tail, filter-append, Contains-append_cases, Contains-append_left, Contains-append_right, All-contains}
+use Rattle.ft_types.specs.declared.names.TheConstants.{HART_LIMIT, HART_ROW}
 use Rattle.edge_log.specs.declared.Edge.{Edge}
 use Rattle.edge_log.specs.Rows.{ComesBefore, CannotComeBefore, IsTwin, TwinStands, IsPut, AsksAsMuch, SayOn, SaysAsMuch, AsksFor, IsRow, Takes, Said, Put, TakesAll}
 
@@ -358,7 +359,7 @@ first_at xs n i rising within before f k d below from =
 
 -- ---- a row and the counts that it asks for
 
-pub asks_as_much : (xs : List Edge) (reached : List ℕ) (e : Edge) → IsRow xs reached → All (λ y. y.at ≤ e.at) xs → 0 < e.after → e.other < 8 →
+pub asks_as_much : (xs : List Edge) (reached : List ℕ) (e : Edge) → IsRow xs reached → All (λ y. y.at ≤ e.at) xs → 0 < e.after → e.other < HART_LIMIT →
     e.after ≤ get_or reached e.other 0 → SaysAsMuch xs e
 asks_as_much xs reached e row last some hart le =
     let (by, is_edge, asks) = row.asked e.other hart (omega arith) in (
@@ -377,13 +378,13 @@ asked_before xs reached e row (by, is_edge, asks) =
     let more : e.after ≤ by.after = asks.after in
     le_trans more (subst (λ o. by.after ≤ get_or reached o 0) asks.other most)
 
-pub row_after : (old new : List Edge) (reached : List ℕ) (e : Edge) → IsRow old reached → IsPut old e new → e.other < 8 →
+pub row_after : (old new : List Edge) (reached : List ℕ) (e : Edge) → IsRow old reached → IsPut old e new → e.other < HART_LIMIT →
     get_or reached e.other 0 < e.after → IsRow new (set reached e.other e.after)
 row_after old new reached e row put hart more =
     record {
       harts = length-set reached e.other e.after ∙ row.harts;
       rising = put_rising old e new put row.rising;
-      others = all_put (λ y. y.other < 8) old e new put hart row.others;
+      others = all_put (λ y. y.other < HART_LIMIT) old e new put hart row.others;
       most =
           all_put (λ y. y.after ≤ get_or (set reached e.other e.after) y.other 0) old e new put
           (rw (get_or-set_same reached e.other e.after 0 there) (le_refl e.after))
@@ -392,7 +393,7 @@ row_after old new reached e row put hart more =
     }
   where
     there : e.other < length reached
-    there = let h : length reached ≡ 8 = row.harts in omega arith
+    there = let h : length reached ≡ HART_ROW = row.harts in omega arith
 
     most : (y : Edge) → y.after ≤ get_or reached y.other 0 → y.after ≤ get_or (set reached e.other e.after) y.other 0
     most y le =
@@ -403,7 +404,7 @@ row_after old new reached e row put hart more =
           | inr ne ↦ rw (get_or-set_other reached e.other y.other e.after 0 ne) le
         ]
 
-    asked : (g : ℕ) → g < 8 → 0 < get_or (set reached e.other e.after) g 0 → (g ≡ e.other) ⊎ (g ≢ e.other) →
+    asked : (g : ℕ) → g < HART_LIMIT → 0 < get_or (set reached e.other e.after) g 0 → (g ≡ e.other) ⊎ (g ≢ e.other) →
         (x : Edge) × Contains new x × AsksFor g (get_or (set reached e.other e.after) g 0) x
     asked g small some (inl same) =
         (e, put_has old e new put, record { other = sym same; after = rw (same, get_or-set_same reached e.other e.after 0 there) refl })

@@ -6,6 +6,7 @@ use Rattle.std.proofs.lemmas.Bool.{cases_lt}
 use Rattle.std.proofs.lemmas.List.{set-get_or, set-set, map-set, length-map}
 use Rattle.std.proofs.lemmas.List.Elements.{All-head, All-tail}
 use Rattle.ft_types.specs.Counts.{count_at}
+use Rattle.ft_types.specs.declared.names.TheConstants.{HART_LIMIT, HART_ROW}
 use Rattle.interleaving.specs.Log as theory
 use Rattle.interleaving.specs.Cuts.{IsImplied, IsEnough}
 use Rattle.ft_types.specs.declared.errors.Memory.{Memory}
@@ -126,12 +127,12 @@ all_own log hart edges own each k d below =
     }
 
 -- a row of the log, and the same after edges were added
-module _ (start : List ℕ) (inner : List EdgesOfOne) (log : IsLog start (map (λ r. r.edges) inner)) (i : ℕ) (small : i < 8) (r new : EdgesOfOne) where
+module _ (start : List ℕ) (inner : List EdgesOfOne) (log : IsLog start (map (λ r. r.edges) inner)) (i : ℕ) (small : i < HART_LIMIT) (r new : EdgesOfOne) where
   rows_are : map (λ r. r.edges) (set inner i new) ≡ set (map (λ r. r.edges) inner) i new.edges
   rows_are = map-set (λ r. r.edges) inner i new
 
   there : i < length (map (λ r. r.edges) inner)
-  there = let h : length (map (λ r. r.edges) inner) ≡ 8 = log.eight in omega arith
+  there = let h : length (map (λ r. r.edges) inner) ≡ HART_ROW = log.many in omega arith
 
   row_is : get_or (map (λ r. r.edges) inner) i [] ≡ (get_or inner i r).edges
   row_is = edges_at_map inner i r (omega (arith, there, length-map inner (λ r. r.edges)))

@@ -64,7 +64,7 @@ IsLater start e = count_at start e.other < e.after
 
 pub record IsLog (start : List ℕ) (rows : List (List Edge)) : Type 0 where
   pub harts : length start ≤ HART_LIMIT
-  pub eight : length rows ≡ HART_ROW
+  pub many : length rows ≡ HART_ROW
   pub own : (hart : ℕ) → All (IsOfHart start hart) (slice_index_or rows hart [])
   pub later : (hart : ℕ) → All (IsLater start) (slice_index_or rows hart [])
 

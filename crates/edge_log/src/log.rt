@@ -77,6 +77,17 @@ fn rows_say_on(rows: &[Row; HART_ROW], settled: &Counts, before: &[Row; HART_ROW
     true
 }
 
+fn rows_copied(rows: &[Row; HART_ROW]) -> Result<[Row; HART_ROW], Memory>
+    ensures { IfOk result (λ copied. copied ≡ rows.now) }
+{
+    let alloc = rows[0].allocator();
+    let mut copied = array::from_fn(|_| Row::new(alloc));
+    for row in 0..HART_ROW {
+        copied[row] = rows[row].copy()?;
+    }
+    Ok(copied)
+}
+
 impl EdgeLog {
     /// A log without edges, from these counts on.
     pub fn new(alloc: Global, start: Counts) -> EdgeLog
@@ -94,9 +105,10 @@ impl EdgeLog {
     pub fn copy(&self) -> Result<EdgeLog, Memory>
         ensures { IfOk result (λ log. log ≡ self.now) }
     {
+        let rows = rows_copied(&self.rows)?;
         Ok(EdgeLog {
             start: self.start,
-            rows: self.rows.each_ref().try_map(|row| row.copy())?,
+            rows,
         })
     }
 

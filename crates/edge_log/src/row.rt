@@ -209,6 +209,11 @@ impl Row {
         }
     }
 
+    /// Where its edges lie.
+    pub(crate) fn allocator(&self) -> Global {
+        *self.edges.allocator()
+    }
+
     /// An equal row.
     pub(crate) fn copy(&self) -> Result<Row, Memory>
         ensures { IfOk result (λ r. r ≡ self.now) }

@@ -4,6 +4,7 @@ use Rattle.std.specs.Result.{is_err}
 use Rattle.std.proofs.lemmas.Bool.{cases_lt}
 use Rattle.std.proofs.lemmas.List.Sums.{sum_by-cons}
 use Rattle.interleaving.specs.Lists.{Each}
+use Rattle.ft_types.specs.declared.names.TheConstants.{HART_LIMIT, HART_ROW}
 use Rattle.guest_image.specs.Machine.{MachineState}
 use Rattle.guest_image.specs.Image.{guest_of}
 use Rattle.output_gate.specs.Gates.{LineView, GateView, line_of, gone_of, waiting_of, offered_of, is_held, held_outputs, after_release, waiting_count}
@@ -94,15 +95,15 @@ none_past (x ∷ xs) zero d le = absurd (omega (arith, le))
 none_past (x ∷ xs) (suc k) d le = none_past xs k d (omega (arith, le))
 
 -- a line that is not there is as it was
-pub every_line : (need : ℕ) (noted : List (List ℕ)) (h i : GateView) → length h.lines ≡ 8 → length i.lines ≡ 8 →
-    ((hart : ℕ) → hart < 8 → line_of i hart ≡ after_release need noted (line_of h hart)) → (hart : ℕ) →
+pub every_line : (need : ℕ) (noted : List (List ℕ)) (h i : GateView) → length h.lines ≡ HART_ROW → length i.lines ≡ HART_ROW →
+    ((hart : ℕ) → hart < HART_LIMIT → line_of i hart ≡ after_release need noted (line_of h hart)) → (hart : ℕ) →
     line_of i hart ≡ after_release need noted (line_of h hart)
-every_line need noted h i eight too lines hart =
-    elim (cases_lt hart 8) [
+every_line need noted h i many too lines hart =
+    elim (cases_lt hart HART_ROW) [
       | inl less ↦ lines hart less
       | inr over ↦
           none_past i.lines hart (record { gone = []; waiting = [] }) (omega (arith, too, over))
-          ∙ ap (after_release need noted) (sym (none_past h.lines hart (record { gone = []; waiting = [] }) (omega (arith, eight, over))))
+          ∙ ap (after_release need noted) (sym (none_past h.lines hart (record { gone = []; waiting = [] }) (omega (arith, many, over))))
     ]
 
 both_then : {A : Type 0} (P Q : A → Type 0) (xs : List A) → ((x : A) → P x → Q x) → Each P xs → Each Q xs

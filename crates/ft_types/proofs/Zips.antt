@@ -6,6 +6,7 @@ use Rattle.std.proofs.lemmas.List.{take_more, take_more_set, drop-set-lt, drop-d
 use Rattle.std.proofs.lemmas.Grind.{common_steps}
 use Rattle.ft_types.specs.Rows.{IsRow, length_of_view}
 use Rattle.ft_types.specs.Counts.{zipped, IsCount}
+use Rattle.ft_types.specs.declared.names.TheConstants.{HART_LIMIT, HART_ROW}
 
 -- a list whose elements are each what another list's element is made into is that list, each made so
 pub all_made : {A B : Type 0} (make : A → B) (R : A → B → Type 0) → ((x : A) (y : B) → R x y → y ≡ make x) → (xs : List A) (ys : List B) → AllZip R xs ys →
@@ -19,6 +20,22 @@ all_made make R is (x ∷ xs) (y ∷ ys) zip = rw (is x y zip.0, all_made make R
 pub each_at : {A : Type 0} (P : A → Type 0) (xs : List A) → ((i : ℕ) (d : A) → i < length xs → P (slice_index_or xs i d)) → AllByRecursion P xs
 each_at P [] at = tt
 each_at P (x ∷ xs) at = (at 0 x (omega arith), each_at P xs (λ i d lt. at (suc i) d (omega (arith, lt))))
+
+-- a row with the same at each place
+pub all_alike : {A : Type 0} (xs : List A) (n : ℕ) (x : A) → length xs ≡ n → ((i : ℕ) (d : A) → i < length xs → slice_index_or xs i d ≡ x) → xs ≡ replicate n x
+all_alike [] n x long at = ap (λ k. replicate k x) long
+all_alike (y ∷ ys) n x long at =
+    ap (λ z. z ∷ ys) (at 0 y (omega arith))
+    ∙ ap (λ zs. x ∷ zs) (all_alike ys (length ys) x refl (λ i d lt. at (suc i) d (omega (arith, lt))))
+    ∙ ap (λ k. replicate k x) long
+
+-- a row that has what another one has at each place is that one
+pub all_equal : {A : Type 0} (xs ys : List A) → length xs ≡ length ys → ((i : ℕ) (d : A) → i < length xs → slice_index_or xs i d ≡ slice_index_or ys i d) → xs ≡ ys
+all_equal [] [] long at = refl
+all_equal [] (y ∷ ys) long at = absurd (omega arith)
+all_equal (x ∷ xs) [] long at = absurd (omega arith)
+all_equal (x ∷ xs) (y ∷ ys) long at =
+    ap (λ z. z ∷ xs) (at 0 x (omega arith)) ∙ ap (λ zs. y ∷ zs) (all_equal xs ys (omega arith) (λ i d lt. at (suc i) d (omega (arith, lt))))
 
 pub length-zipped : (f : ℕ → ℕ → ℕ) (xs ys : List ℕ) → length xs ≡ length ys → length (zipped f xs ys) ≡ length xs
 length-zipped f [] ys e = refl
@@ -72,14 +89,14 @@ zips_more f xs ys zs i p q r so_far =
       so_far,
     ) refl
 
--- what f makes of two rows in eight words is such a row
+-- what f makes of two rows in HART_ROW words is such a row
 pub row_of_zip : (f : ℕ → ℕ → ℕ) (xs ys : List ℕ) (harts : ℕ) → f 0 0 ≡ 0 → ((x y : ℕ) → IsCount x → IsCount y → IsCount (f x y)) →
     IsRow xs harts → IsRow ys harts → IsRow (zipped f xs ys) harts
 row_of_zip f xs ys harts none keeps p q = record {
   limit = p.limit;
   words = length-zipped f xs ys (p.words ∙ sym q.words) ∙ p.words;
   counts = zipped_kept IsCount f keeps xs ys p.counts q.counts;
-  rest = drop-zipped f harts xs ys ∙ rw (p.rest, q.rest) (zipped-replicate f (8 - harts) none);
+  rest = drop-zipped f harts xs ys ∙ rw (p.rest, q.rest) (zipped-replicate f (HART_ROW - harts) none);
 }
 
 pub min_counts : (x y : ℕ) → IsCount x → IsCount y → IsCount (min x y)
@@ -108,13 +125,13 @@ counts-set (x ∷ xs) zero v p q = (q, p.1)
 counts-set (x ∷ xs) (suc i) v p q = (p.0, counts-set xs i v p.1 q)
 
 -- a row that takes one more count
-pub row_grows : (row : List ℕ) (i v : ℕ) → i < 8 → IsCount v → IsRow row i → IsRow (slice_set row i v) (i + 1)
+pub row_grows : (row : List ℕ) (i v : ℕ) → i < HART_LIMIT → IsCount v → IsRow row i → IsRow (slice_set row i v) (i + 1)
 row_grows row i v lt q p = record {
   limit = omega arith;
   words = length-set row i v ∙ p.words;
   counts = counts-set row i v p.counts q;
   rest =
-      drop-set-lt (i + 1) row i v (omega arith) ∙ sym (drop-drop 1 i row) ∙ ap (drop 1) p.rest ∙ drop-replicate 1 (8 - i) 0
+      drop-set-lt (i + 1) row i v (omega arith) ∙ sym (drop-drop 1 i row) ∙ ap (drop 1) p.rest ∙ drop-replicate 1 (HART_ROW - i) 0
       ∙ ap (λ (k : ℕ). replicate k 0) (omega arith);
 }
 

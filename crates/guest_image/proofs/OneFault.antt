@@ -5,6 +5,7 @@ use Rattle.std.specs.Prelude.{decimal, ◌⊎◌, IfOk, IfErr, MatchResult}
 use Rattle.std.proofs.lemmas.Grind.{common_steps, flat_map-append}
 use Rattle.std.proofs.lemmas.Fmt.{decimal_injective}
 use Rattle.ft_types.specs.Text.{word}
+use Rattle.ft_types.specs.declared.names.TheConstants.{PAGE_LIMIT}
 use Rattle.ft_types.proofs.Texts.{word_same}
 use Rattle.guest_image.specs.declared.fault.ImageFault.{ImageFault}
 use Rattle.guest_image.specs.declared.fault.ImageFault.TheVariants.{BadLine, TooLarge, NoHarts, Memory}
@@ -88,7 +89,7 @@ harts_one bytes TooLarge Memory p q = absurd q
 harts_one bytes NoHarts (BadLine k) p q = absurd q
 harts_one bytes NoHarts Memory p q = absurd q
 
-pages_ends : (bytes behind : List ℕ) (n : ℕ) (e : ImageFault) → IsPagesFault bytes e → n ≤ 64 →
+pages_ends : (bytes behind : List ℕ) (n : ℕ) (e : ImageFault) → IsPagesFault bytes e → n ≤ PAGE_LIMIT →
     Sets bytes pages_name n behind → ⊥
 pages_ends bytes behind n (BadLine k) p small a = p.1 n behind a
 pages_ends bytes behind n TooLarge p small a = let q = same_sets bytes pages_name p.0 n p.1 behind pages_plain p.3 a

@@ -1,6 +1,6 @@
 pub mod Added
 mod Backs
-mod Eights
+mod Tables
 mod Rows
 mod Taking
 pub mod Told

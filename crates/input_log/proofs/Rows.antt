@@ -9,6 +9,7 @@ use Rattle.std.proofs.lemmas.List.{get_or-take, get_or-drop, get_or_default, len
 use Rattle.std.proofs.lemmas.List.Elements.{All-head, All-tail, All-push, filter-append}
 use Rattle.std.proofs.lemmas.List.Sorted.{IsNonDecreasingBy-push, IsNonDecreasingBy-take}
 use Rattle.std.proofs.lemmas.Slice.Zip.{get_or-zip, firsts-zip, seconds-zip}
+use Rattle.ft_types.specs.declared.names.TheConstants.{INPUT_LIMIT}
 use Rattle.input_log.specs.declared.Input.{Input}
 use Rattle.input_log.specs.declared.Input.TheVariants.{Timer}
 use Rattle.input_log.specs.Inputs.{inputs_at, MayFollow, IsRow}
@@ -149,13 +150,13 @@ module _ (ks : List ℕ) (vs : List Input) (same : length vs ≡ length ks) wher
 
 -- ---- one input more
 
-few_push : (row : List (ℕ × Input)) (k : ℕ) (v : Input) → MayFollow row k → ((n : ℕ) → length (inputs_at row n) ≤ 8) →
-    (n : ℕ) → length (inputs_at (row ++ (k, v) ∷ []) n) ≤ 8
+few_push : (row : List (ℕ × Input)) (k : ℕ) (v : Input) → MayFollow row k → ((n : ℕ) → length (inputs_at row n) ≤ INPUT_LIMIT) →
+    (n : ℕ) → length (inputs_at (row ++ (k, v) ∷ []) n) ≤ INPUT_LIMIT
 few_push row k v may few n =
     rw (at_append row ((k, v) ∷ []) n)
     (elim (cases_eq k n) [
       | inl same ↦
-          let room : length (inputs_at row n) < 8 = subst (λ m. length (inputs_at row m) < 8) same may.room in
+          let room : length (inputs_at row n) < INPUT_LIMIT = subst (λ m. length (inputs_at row m) < INPUT_LIMIT) same may.room in
           rw (eq-eqb k n same) (omega (arith, length_push (inputs_at row n) v))
       | inr ne ↦ rw (ne_eqb k n ne, append-nil (inputs_at row n)) (few n)
     ])
@@ -192,7 +193,7 @@ room_push row k v =
     ap length (at_append row ((k, v) ∷ []) k ∙ ap (λ l. inputs_at row k ++ l) (at_same k (v ∷ []))) ∙ length_push (inputs_at row k) v
 
 pub row_push_all : (ks : List ℕ) (vs : List Input) (k : ℕ) (more : List Input) → IsRow ks vs → All (λ x. x.0 ≤ k) (zip ks vs) →
-    length (inputs_at (zip ks vs) k) + length more ≤ 8 → IsRow (ks ++ replicate (length more) k) (vs ++ more)
+    length (inputs_at (zip ks vs) k) + length more ≤ INPUT_LIMIT → IsRow (ks ++ replicate (length more) k) (vs ++ more)
 row_push_all ks vs k [] row last room = rw (append-nil ks, append-nil vs) row
 row_push_all ks vs k (v ∷ more) row last room =
     let may : MayFollow (zip ks vs) k = record { last = last; room = omega arith } in

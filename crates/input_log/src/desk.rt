@@ -36,6 +36,17 @@ impl Model for Desk {
     ghost invariant = { λ d. length d.queues ≡ HART_ROW };
 }
 
+fn queues_copied(queues: &[Queue; HART_ROW]) -> Result<[Queue; HART_ROW], Memory>
+    ensures { IfOk result (λ copied. copied ≡ queues.now) }
+{
+    let alloc = queues[0].allocator();
+    let mut copied = array::from_fn(|_| Queue::new(alloc));
+    for hart in 0..HART_ROW {
+        copied[hart] = queues[hart].copy()?;
+    }
+    Ok(copied)
+}
+
 impl Desk {
     /// A desk where nothing waits.
     pub fn new(alloc: Global) -> Desk
@@ -51,9 +62,8 @@ impl Desk {
     pub fn copy(&self) -> Result<Desk, Memory>
         ensures { IfOk result (λ desk. desk ≡ self.now) }
     {
-        Ok(Desk {
-            queues: self.queues.each_ref().try_map(|queue| queue.copy())?,
-        })
+        let queues = queues_copied(&self.queues)?;
+        Ok(Desk { queues })
     }
 
     /// The inputs but bells that wait for the hart.
@@ -111,8 +121,8 @@ impl Desk {
         self.queues[hart.index()].bells_next()
     }
 
-    /// Takes what the hart is given at this count: bells first, then others from the front while they may be given, eight
-    /// in all. Takes no memory.
+    /// Takes what the hart is given at this count: bells first, then others from the front while they may be given,
+    /// `INPUT_LIMIT` in all. Takes no memory.
     pub fn take(&mut self, hart: Hart, count: Count) -> SmallVec<Input, INPUT_LIMIT>
         ensures taken { result.items ≡ going count (bells_of self.old hart) (others_of self.old hart) }
         ensures few { small_vec_len result ≤ INPUT_LIMIT }

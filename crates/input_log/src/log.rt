@@ -34,6 +34,17 @@ impl Model for InputLog {
     ghost invariant = { λ l. length l.rows ≡ HART_ROW };
 }
 
+fn rows_copied(rows: &[Row; HART_ROW]) -> Result<[Row; HART_ROW], Memory>
+    ensures { IfOk result (λ copied. copied ≡ rows.now) }
+{
+    let alloc = rows[0].allocator();
+    let mut copied = array::from_fn(|_| Row::new(alloc));
+    for hart in 0..HART_ROW {
+        copied[hart] = rows[hart].copy()?;
+    }
+    Ok(copied)
+}
+
 impl InputLog {
     /// A log without inputs.
     pub fn new(alloc: Global) -> InputLog
@@ -48,9 +59,8 @@ impl InputLog {
     pub fn copy(&self) -> Result<InputLog, Memory>
         ensures { IfOk result (λ log. log ≡ self.now) }
     {
-        Ok(InputLog {
-            rows: self.rows.each_ref().try_map(|row| row.copy())?,
-        })
+        let rows = rows_copied(&self.rows)?;
+        Ok(InputLog { rows })
     }
 
     /// Whether the logs are equal.

@@ -113,6 +113,11 @@ impl Queue {
         }
     }
 
+    /// Where its items lie.
+    pub(crate) fn allocator(&self) -> Global {
+        *self.bells.allocator()
+    }
+
     /// An equal queue.
     pub(crate) fn copy(&self) -> Result<Queue, Memory>
         ensures { IfOk result (λ q. q ≡ self.now) }

@@ -147,6 +147,11 @@ impl Row {
         }
     }
 
+    /// Where its inputs lie.
+    pub(crate) fn allocator(&self) -> Global {
+        *self.counts.allocator()
+    }
+
     /// An equal row.
     pub(crate) fn copy(&self) -> Result<Row, Memory>
         ensures { IfOk result (λ r. r ≡ self.now) }

@@ -4,6 +4,7 @@ use Rattle.std.proofs.Common.{sym, ap, subst, ◌∙◌, arith, le_trans, le_ref
 use Rattle.std.proofs.lemmas.List.Elements.{Contains-append_cases, Contains-append_left, Contains-append_right}
 use Rattle.ft_types.specs.declared.names.Want.{Want}
 use Rattle.ft_types.specs.declared.names.Want.TheVariants.{Read, Write}
+use Rattle.ft_types.specs.declared.names.TheConstants.{HART_LIMIT}
 use Rattle.interleaving.specs.Lists.{put, EachPair}
 use Rattle.interleaving.specs.Machine.{System, Machine, Step, counts, steps}
 use Rattle.interleaving.specs.Log.{Edge}
@@ -91,7 +92,7 @@ module _ {Hart Page Input : Type 0} (system : System Hart Page Input) (crew : �
       }
 
   -- the right is given at count n
-  module _ (few : crew ≤ 8) (h page : ℕ) (want : Want) (s : Stub) (n : ℕ) (is : b.stubs h ≡ Some s) (above : counts system m h ≤ n)
+  module _ (few : crew ≤ HART_LIMIT) (h page : ℕ) (want : Want) (s : Stub) (n : ℕ) (is : b.stubs h ≡ Some s) (above : counts system m h ≤ n)
       (reads : (page k : ℕ) → s.read_at page ≡ Some k → k ≤ n) (writes : (page k : ℕ) → s.write_at page ≡ Some k → k ≤ n) (r : Right)
       (right : IsAt b.stubs page r) (stay : StaysFor page r) (free : IsFree r h want) (fresh : List Edge) (owed : AreOwed r h want n fresh) where
     abbrev new : Right
@@ -285,7 +286,7 @@ module _ {Hart Page Input : Type 0} (system : System Hart Page Input) (crew : �
   not_behind l lease ours =
       subst (λ x. system.count x ≤ present system l) ours.state (counts_grow system (lent l) l.turns lease.runs l.hart)
 
-  pub needed_ok : crew ≤ 8 → (l : Lease Hart Page Input) (page : ℕ) (want : Want) (r : Right) (answer : Answer) → IsLease system l → IsOurs b l →
+  pub needed_ok : crew ≤ HART_LIMIT → (l : Lease Hart Page Input) (page : ℕ) (want : Want) (r : Right) (answer : Answer) → IsLease system l → IsOurs b l →
       IsYielded system b l.hart page want r → IsAnswered r l.hart want (present system l) answer →
       Ok system crew start (needed system b l page want r answer)
   needed_ok few l page want r (HeldBy harts) lease ours yielded answered =

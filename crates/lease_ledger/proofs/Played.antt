@@ -1,6 +1,7 @@
 -- Leases that only the calls change, over every list of calls.
 use Rattle.std.proofs.Common.{◌≡◌, ◌≢◌, ℕ, ◌<◌, ◌≤◌, List, Option, Some, None, Contains, refl, subst, ◌∙◌}
 use Rattle.ft_types.specs.declared.names.Want.{Want}
+use Rattle.ft_types.specs.declared.names.TheConstants.{HART_LIMIT}
 use Rattle.interleaving.specs.Lists.{put}
 use Rattle.interleaving.specs.Machine.{System, Machine, Turn}
 use Rattle.interleaving.specs.Log.{Edge}
@@ -14,7 +15,7 @@ use Rattle.lease_ledger.proofs.Invariant.{at_put, some_put}
 use Rattle.lease_ledger.proofs.Reached.{reached_ok}
 use Rattle.lease_ledger.proofs.GoesOn.{goes_on}
 
-module _ {Hart Page Input : Type 0} (system : System Hart Page Input) (crew : ℕ) (few : crew ≤ 8) (start : Machine Hart Page) where
+module _ {Hart Page Input : Type 0} (system : System Hart Page Input) (crew : ℕ) (few : crew ≤ HART_LIMIT) (start : Machine Hart Page) where
   -- the ledger is reached, its open leases are those that are out, and each is the ledger's
   record Goes (b : Ledger Hart Page Input) (out : ℕ → Option (Lease Hart Page Input)) : Type 0 where
     reached : Reached system crew start b

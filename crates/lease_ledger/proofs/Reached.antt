@@ -1,5 +1,6 @@
 -- What holds of a ledger holds of every one that calls lead to.
 use Rattle.std.proofs.Common.{ℕ, ◌≤◌}
+use Rattle.ft_types.specs.declared.names.TheConstants.{HART_LIMIT}
 use Rattle.interleaving.specs.Machine.{System, Machine}
 use Rattle.lease_ledger.specs.Ledger.{Ledger}
 use Rattle.lease_ledger.specs.Calls.{Reached, Begun, Opened, Needed, Settled, Dropped}
@@ -9,7 +10,7 @@ use Rattle.lease_ledger.proofs.Needing.{needed_ok}
 use Rattle.lease_ledger.proofs.Settling.{settled_ok}
 use Rattle.lease_ledger.proofs.Dropping.{dropped_ok}
 
-module _ {Hart Page Input : Type 0} (system : System Hart Page Input) (crew : ℕ) (few : crew ≤ 8) (start : Machine Hart Page) where
+module _ {Hart Page Input : Type 0} (system : System Hart Page Input) (crew : ℕ) (few : crew ≤ HART_LIMIT) (start : Machine Hart Page) where
   pub reached_ok : (b : Ledger Hart Page Input) → Reached system crew start b → Ok system crew start b
   reached_ok _ Begun = begun_ok system crew start
   reached_ok _ (Opened {b = b} h edges before is_hart none heard) =

@@ -13,7 +13,7 @@ use Rattle.hart_lease.specs.Leases.{LeaseView, fresh}
 use Rattle.page_book.specs.Books.{BookView, IsOurs, refusal}
 use Rattle.hart_lease.specs.OpenLeases.{OpenView, open_at, nothing_taken}
 use Rattle.lease_rounds.specs.Leading.{IsIdle, IsAlone, IsHeld, Lends, lent_as}
-use Rattle.ft_types.specs.declared.names.TheConstants.{LEASE_STEPS}
+use Rattle.ft_types.specs.declared.names.TheConstants.{HART_ROW, LEASE_STEPS}
 use Rattle.lease_rounds.proofs.Filling.{row_kept}
 
 none_open : (n hart : ℕ) → open_at (replicate n None) hart ≡ None
@@ -22,7 +22,7 @@ none_open (suc n) zero = refl
 none_open (suc n) (suc hart) = none_open n hart
 
 pub idle_at : {M : Type 0} (b : BookView M) → IsIdle b → (hart : ℕ) → open_at b.leases hart ≡ None
-idle_at b idle hart = ap (λ (x : List (Option OpenView)). open_at x hart) idle ∙ none_open 8 hart
+idle_at b idle hart = ap (λ (x : List (Option OpenView)). open_at x hart) idle ∙ none_open HART_ROW hart
 
 -- a hart that is not refused runs, and is below its limit
 pub lent_runs : (h : Hart) (limit : ℕ) → refusal None h limit ≡ None → (h.halted ≡ false) × (h.count < limit)

@@ -3,6 +3,7 @@ use Rattle.std.proofs.Common.{◌≡◌, ◌≢◌, ◌⊎◌, inl, ℕ, zero, s
 use Rattle.std.proofs.Common.{Contains, refl}
 use Rattle.interleaving.specs.Machine.{Effect, Writes}
 use Rattle.ft_types.specs.declared.names.Want.TheVariants.{Read, Write}
+use Rattle.ft_types.specs.declared.names.TheConstants.{PAGE_ROW}
 use Rattle.input_log.specs.declared.Input.{Input}
 use Rattle.rv32_hart.specs.Hart.{Hart}
 use Rattle.rv32_hart.specs.Ram.{Ram, may_read, may_write}
@@ -26,8 +27,8 @@ pub record IsAsking (hart : ℕ) (h : Hart) (inputs : List Input) (before : List
     Type 0 where
   pub same : r.contents ≡ contents
   pub many : length now ≡ length uses
-  pub rights : length r.readable ≡ 64
-  pub rights_to_write : length r.writable ≡ 64
+  pub rights : length r.readable ≡ PAGE_ROW
+  pub rights_to_write : length r.writable ≡ PAGE_ROW
   pub others : (page other : ℕ) → other ≢ hart →
       (slice_index (uses_at now page).read other ≡ slice_index (uses_at uses page).read other) ×
       (slice_index (uses_at now page).written other ≡ slice_index (uses_at uses page).written other)
@@ -55,6 +56,6 @@ asking_begins hart h inputs before contents uses =
       others = λ page other ne. (refl, refl);
       read = λ page. inl refl;
       written = λ page. inl refl;
-      may_read_marked = λ page e. absurd (no_right 64 page e);
-      may_write_marked = λ page e. absurd (no_right 64 page e);
+      may_read_marked = λ page e. absurd (no_right PAGE_ROW page e);
+      may_write_marked = λ page e. absurd (no_right PAGE_ROW page e);
     }

@@ -5,6 +5,7 @@ use Rattle.interleaving.specs.Machine.{Writes}
 use Rattle.interleaving.proofs.Put.{same_or_not}
 use Rattle.ft_types.specs.declared.names.Want.{Want}
 use Rattle.ft_types.specs.declared.names.Want.TheVariants.{Read, Write}
+use Rattle.ft_types.specs.declared.names.TheConstants.{HART_LIMIT, HART_ROW}
 use Rattle.input_log.specs.declared.Input.{Input}
 use Rattle.rv32_hart.specs.Hart.{Hart}
 use Rattle.rv32_hart.specs.Ram.{Ram, may_read, may_write}
@@ -41,7 +42,7 @@ module _ (hart : ℕ) (h : Hart) (inputs : List Input) (before : List ℕ) (cont
           | inr ne ↦ inr (get_or-set_other now page p (noted hart want (h.count + 1) (uses_at now page)) unused ne)
         ]
 
-  module _ (row : length (uses_at now page).read ≡ 8) (few : hart < 8) (clear : IsClear now page hart Read before) where
+  module _ (row : length (uses_at now page).read ≡ HART_ROW) (few : hart < HART_LIMIT) (clear : IsClear now page hart Read before) where
     n : List Uses
     n = noted_at now page hart Read (h.count + 1)
 
@@ -117,7 +118,7 @@ module _ (hart : ℕ) (h : Hart) (inputs : List Input) (before : List ℕ) (cont
           may_write_marked = λ p may. written_stays p ∙ asking.may_write_marked p may;
         }
 
-  module _ (row : length (uses_at now page).written ≡ 8) (few : hart < 8) (clear : IsClear now page hart Write before)
+  module _ (row : length (uses_at now page).written ≡ HART_ROW) (few : hart < HART_LIMIT) (clear : IsClear now page hart Write before)
       (writes : Writes (step_on contents h inputs) page) where
     own : slice_index (slice_set (uses_at now page).written hart (h.count + 1)) hart ≡ h.count + 1
     own = get_or-set_same (uses_at now page).written hart (h.count + 1) 0 (omega (arith, row, few))

@@ -4,6 +4,7 @@ use Rattle.std.proofs.lemmas.Bool.{cases_lt}
 use Rattle.std.proofs.lemmas.List.{get_or-replicate, get_or_past, length-replicate}
 use Rattle.ft_types.specs.Counts.{count_at}
 use Rattle.interleaving.specs.Log.{Edge}
+use Rattle.ft_types.specs.declared.names.TheConstants.{HART_ROW}
 use Rattle.edge_log.specs.EdgeLog.{IsOfHart, row_of}
 use Rattle.guest_image.specs.Machine.{MachineState}
 use Rattle.hart_lease.specs.Runs.{counts_of}
@@ -17,10 +18,10 @@ use Rattle.log_audit.specs.Covered.{IsCovered, IsOn, begun}
 use Rattle.log_audit.proofs.Agreeing.{from_start}
 use Rattle.log_audit.proofs.Knowing.{known_none}
 
-zero_at : (g : ℕ) → slice_index (replicate 8 0) g ≡ 0
-zero_at g = elim (cases_lt g 8) [
-  | inl lt ↦ get_or-replicate 8 g 0 0 lt
-  | inr ge ↦ get_or_past (replicate 8 0) g 0 ge
+zero_at : (g : ℕ) → slice_index (replicate HART_ROW 0) g ≡ 0
+zero_at g = elim (cases_lt g HART_ROW) [
+  | inl lt ↦ get_or-replicate HART_ROW g 0 0 lt
+  | inr ge ↦ get_or_past (replicate HART_ROW 0) g 0 ge
 ]
 
 all_unused : (n page : ℕ) → slice_index_or (replicate n unused) page unused ≡ unused
@@ -59,7 +60,7 @@ module _ (leg : PlannedLeg) (m : MachineState) (is_leg : IsLeg (length m.harts) 
         noted = tt;
         read_marks = λ page hart. inl (unread m.pages page hart);
         written_marks = λ page hart. inl (unwritten m.pages page hart);
-        eights = λ hart b there. absurd (no_entry 8 hart b there);
+        wide = λ hart b there. absurd (no_entry HART_ROW hart b there);
         known = known_none (log_of leg).edges (counts_of m) later;
       }
 

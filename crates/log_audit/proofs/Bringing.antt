@@ -4,6 +4,7 @@ use Rattle.std.proofs.lemmas.Bool.{cases_lt}
 use Rattle.std.proofs.lemmas.Bool.Decides.{eqb_tells}
 use Rattle.std.proofs.lemmas.List.Elements.{All-contains}
 use Rattle.interleaving.specs.Log.{Edge as TheoryEdge, IsMet, HasUnmet, bump}
+use Rattle.ft_types.specs.declared.names.TheConstants.{HART_LIMIT, HART_ROW}
 use Rattle.edge_log.specs.declared.Edge.{Edge}
 use Rattle.edge_log.specs.EdgeLog.{IsLog, row_of as edges_at, edge_as}
 use Rattle.edge_log.proofs.Logs.{in_row, of_row, to_edges}
@@ -14,7 +15,7 @@ use Rattle.log_audit.specs.declared.befores.Before.{Before as Entry}
 use Rattle.log_audit.specs.Befores.{Brings}
 use Rattle.log_audit.specs.Covered.{HartsView, machine_of, IsCovered, InForce}
 use Rattle.log_audit.proofs.Knowing.{known_brought}
-use Rattle.log_audit.proofs.Eights.{brought_eight}
+use Rattle.log_audit.proofs.Widths.{brought_many}
 
 chosen : {A : Type 0} (b : Bool) (y : A) (rest : List A) (x : A) → Contains rest x → Contains (if b then y ∷ rest else rest) x
 chosen true y rest x (i, below, at) = (suc i, omega (arith, below), at)
@@ -36,7 +37,7 @@ pub of_filter : {A : Type 0} (p : A → Bool) (xs : List A) (x : A) → Contains
 of_filter p [] x (k, lt, is) = absurd (omega (arith, lt))
 of_filter p (y ∷ ys) x there = picked p y ys x (p y) refl (λ t. of_filter p ys x t) there
 
-module _ (leg : PlannedLeg) (order : List ℕ) (v : HartsView) (covered : IsCovered leg order (counts_of (machine_of v)) v) (hart : ℕ) (lt : hart < 8)
+module _ (leg : PlannedLeg) (order : List ℕ) (v : HartsView) (covered : IsCovered leg order (counts_of (machine_of v)) v) (hart : ℕ) (lt : hart < HART_LIMIT)
     (rules : IsLog leg.edges.start leg.edges.rows) (here : List Edge) (count : ℕ) (now : count ≡ counts_of (machine_of v) hart)
     (here_is : here ≡ filter (λ e. e.at == count) (edges_at leg.edges hart)) (met : All (λ e. e.after ≤ counts_of (machine_of v) e.other) here) where
   own : (x : Edge) → Contains here x → Contains (edges_at leg.edges hart) x × (x.at ≡ count)
@@ -67,9 +68,9 @@ module _ (leg : PlannedLeg) (order : List ℕ) (v : HartsView) (covered : IsCove
       IsCovered leg order (bump (counts_of (machine_of v)) hart) (record v { befores = new }) × InForce new hart steps
   brought_covered steps new brings =
       let brings_now : Brings v.befores hart (counts_of (machine_of v) hart) here steps new = subst (λ (n : ℕ). Brings v.befores hart n here steps new) now brings in
-      let many : length v.befores ≡ 8 = covered.known.eight in
+      let many : length v.befores ≡ HART_ROW = covered.known.many in
       let (known, force) =
-      known_brought (log_of leg).edges (counts_of (machine_of v)) v.befores hart here steps new covered.known covered.eights lt brings_now each
+      known_brought (log_of leg).edges (counts_of (machine_of v)) v.befores hart here steps new covered.known covered.wide lt brings_now each
       (λ x there.
       let (stands, at) = own x there in
       let of = of_row leg.edges.start leg.edges.rows rules hart x stands in
@@ -87,7 +88,7 @@ module _ (leg : PlannedLeg) (order : List ℕ) (v : HartsView) (covered : IsCove
           noted = covered.noted;
           read_marks = covered.read_marks;
           written_marks = covered.written_marks;
-          eights = (brought_eight v.befores covered.eights hart (counts_of (machine_of v) hart) here steps new (omega (arith, many, lt)) brings_now).1;
+          wide = (brought_many v.befores covered.wide hart (counts_of (machine_of v) hart) here steps new (omega (arith, many, lt)) brings_now).1;
           known = known;
         },
         force,

@@ -6,12 +6,13 @@ use Rattle.std.proofs.lemmas.List.{length-replicate}
 use Rattle.std.proofs.lemmas.List.Elements.{Contains-append_cases, Contains-append_left, Contains-push}
 use Rattle.ft_types.specs.Counts.{greater}
 use Rattle.interleaving.specs.Log.{Edge, Place, Before, Own, Across, Through}
+use Rattle.ft_types.specs.declared.names.TheConstants.{HART_LIMIT, HART_ROW}
 use Rattle.edge_log.specs.declared.Edge.{Edge as LogEdge}
 use Rattle.edge_log.specs.EdgeLog.{edge_as}
 use Rattle.log_audit.specs.declared.befores.Before.{Before as Entry}
 use Rattle.log_audit.specs.Befores.{row_of, no_steps, IsLatest, IsBrought, Nothing, More, AreBrought, NoneYet, Next}
 use Rattle.log_audit.specs.Covered.{IsKnown}
-use Rattle.log_audit.proofs.Latest.{none_at, none_in, in_one, latest_covers, latest_is, IsGreatest, greatest, eight_all}
+use Rattle.log_audit.proofs.Latest.{none_at, none_in, in_one, latest_covers, latest_is, IsGreatest, greatest, many_all}
 
 abbrev pub place_at : ℕ → ℕ → Place
 place_at hart step = record { hart = hart; step = step }
@@ -25,10 +26,10 @@ before_later edges a hart n m le before = elim (cases_lt n m) [
 ]
 
 module _ (edges : List Edge) (now : ℕ → ℕ) (rows : List (List Entry)) (known : IsKnown edges now now rows)
-    (eights : (h : ℕ) (b : Entry) → Contains (row_of rows h) b → length b.steps ≡ 8) where
+    (wide : (h : ℕ) (b : Entry) → Contains (row_of rows h) b → length b.steps ≡ HART_ROW) where
   -- what comes before a step, and all that comes before that
   pub record IsPast (hart count : ℕ) (steps : List ℕ) : Type 0 where
-    pub eight : length steps ≡ 8
+    pub many : length steps ≡ HART_ROW
     pub bound : (g : ℕ) → slice_index steps g ≤ now g
     pub sound : (g x : ℕ) → x < slice_index steps g → (n : ℕ) × (n ≤ count) × Before edges (place_at g x) (place_at hart n)
     pub closed : (other x : ℕ) → x < slice_index steps other → (a : Entry) → Contains (row_of rows other) a → a.since ≤ x → (g : ℕ) →
@@ -36,7 +37,7 @@ module _ (edges : List Edge) (now : ℕ → ℕ) (rows : List (List Entry)) (kno
 
   past_none : (hart count : ℕ) → IsPast hart count no_steps
   past_none hart count = record {
-    eight = length-replicate {A = ℕ} 8 0;
+    many = length-replicate {A = ℕ} HART_ROW 0;
     bound = λ g. let none = none_at g in omega (arith, none);
     sound = λ g x less. let none = none_at g in absurd (omega (arith, none, less));
     closed = λ other x less. let none = none_at other in absurd (omega (arith, none, less));
@@ -44,7 +45,7 @@ module _ (edges : List Edge) (now : ℕ → ℕ) (rows : List (List Entry)) (kno
 
   past_entry : (hart count : ℕ) (b : Entry) → Contains (row_of rows hart) b → b.since ≤ count → IsPast hart count b.steps
   past_entry hart count b there early = record {
-    eight = eights hart b there;
+    many = wide hart b there;
     bound = known.bound hart b there;
     sound = λ g x less. (b.since, early, known.sound hart b there g x less);
     closed = known.closed hart b there;
@@ -69,7 +70,7 @@ module _ (edges : List Edge) (now : ℕ → ℕ) (rows : List (List Entry)) (kno
       pub there : Contains edges (edge_as e)
       pub of_hart : e.hart ≡ hart
       pub at : e.at ≡ now hart
-      pub other : e.other < 8
+      pub other : e.other < HART_LIMIT
       pub met : e.after ≤ now e.other
 
     module _ (e : LogEdge) (done : List LogEdge) (steps all : List ℕ) (next : IsNext e) (got : IsGathered done steps) where
@@ -95,7 +96,7 @@ module _ (edges : List Edge) (now : ℕ → ℕ) (rows : List (List Entry)) (kno
         grown = slice_set (greater steps below) e.other (max (slice_index (greater steps below) e.other) e.after)
 
         r : IsGreatest steps below grown e.other e.after
-        r = greatest steps below e.other e.after got.past.eight p.eight next.other
+        r = greatest steps below e.other e.after got.past.many p.many next.other
 
         across : (g n : ℕ) → g ≡ e.other → n < e.after → Before edges (place_at g n) (place_at hart (now hart))
         across g n same less =
@@ -145,7 +146,7 @@ module _ (edges : List Edge) (now : ℕ → ℕ) (rows : List (List Entry)) (kno
         gather_some : IsGathered (done ++ e ∷ []) grown
         gather_some = record {
           past = record {
-            eight = eight_all steps below e.other e.after got.past.eight p.eight next.other;
+            many = many_all steps below e.other e.after got.past.many p.many next.other;
             bound = grown_bound;
             sound = grown_sound;
             closed = grown_closed;

@@ -3,6 +3,7 @@ use Rattle.std.proofs.Common.{◌≡◌, inl, inr, ℕ, zero, suc, slice_set, �
 use Rattle.std.proofs.lemmas.Bool.{cases_lt}
 use Rattle.std.proofs.lemmas.Option.{slice_get_within}
 use Rattle.interleaving.proofs.Lists.{get_set_same}
+use Rattle.ft_types.specs.declared.names.TheConstants.{HART_LIMIT}
 use Rattle.rv32_hart.specs.Local.{step_counted}
 use Rattle.ft_types.specs.Counts.{count_at}
 use Rattle.interleaving.specs.Machine.{Writes}
@@ -78,7 +79,7 @@ module _ (leg : PlannedLeg) (order : List ℕ) (b : HartsView) (hart : ℕ) (h :
   reach_is : bump (counts_of (machine_of b)) hart hart ≡ h.count + 1
   reach_is = let own = bump_own (counts_of (machine_of b)) hart in omega (arith, own, now_is)
 
-  went_on : (c : HartsView) → TakesStep hart h inputs before b c → IsLeg (length b.start.harts) leg → length b.start.harts ≤ 8 →
+  went_on : (c : HartsView) → TakesStep hart h inputs before b c → IsLeg (length b.start.harts) leg → length b.start.harts ≤ HART_LIMIT →
       IsCovered leg (order ++ hart ∷ []) (counts_of (machine_of c)) c × InForce c.befores hart before
   went_on c took is_leg few =
       let next = counts_next leg order (bump (counts_of (machine_of b)) hart) b covered hart h inputs before c took in
@@ -98,7 +99,7 @@ module _ (leg : PlannedLeg) (order : List ℕ) (b : HartsView) (hart : ℕ) (h :
         subst (λ (rows : List (List Entry)). InForce rows hart before) (sym took.befores) force,
       )
 
-  pub has_gone : (c : HartsView) → TakesStep hart h inputs before b c → IsLeg (length b.start.harts) leg → length b.start.harts ≤ 8 →
+  pub has_gone : (c : HartsView) → TakesStep hart h inputs before b c → IsLeg (length b.start.harts) leg → length b.start.harts ≤ HART_LIMIT →
       HasGone leg hart h.count before b c
   has_gone c took is_leg few =
       let went = went_on c took is_leg few in
@@ -160,7 +161,7 @@ quiet_covered leg order b hart stop covered quiet lt =
       noted = covered.noted;
       read_marks = covered.read_marks;
       written_marks = covered.written_marks;
-      eights = covered.eights;
+      wide = covered.wide;
       known =
           known_further (log_of leg).edges (counts_of (machine_of b)) (bump (counts_of (machine_of b)) hart) (counts_of (machine_of b)) b.befores covered.known
           (bump_grows (counts_of (machine_of b)) hart)

@@ -7,6 +7,7 @@ use Rattle.std.proofs.lemmas.List.Elements.{Contains-append_cases, Contains-appe
 use Rattle.std.proofs.lemmas.List.Quantifiers.{all_pairs_push}
 use Rattle.interleaving.specs.Log.{Edge, Before, bump}
 use Rattle.interleaving.proofs.Put.{same_or_not, put_same, bump_same, bump_other, bump_le}
+use Rattle.ft_types.specs.declared.names.TheConstants.{HART_LIMIT, HART_ROW}
 use Rattle.edge_log.specs.declared.Edge.{Edge as LogEdge}
 use Rattle.edge_log.specs.EdgeLog.{edge_as}
 use Rattle.log_audit.specs.declared.befores.Before.{Before as Entry}
@@ -17,9 +18,9 @@ use Rattle.log_audit.proofs.Gathering.{place_at, before_later, IsGathered, gathe
 
 -- no edge is of a step below the counts
 pub known_none : (edges : List Edge) (now : ℕ → ℕ) → ((e : Edge) → Contains edges e → now e.hart ≤ e.step) →
-    IsKnown edges now now (replicate 8 [])
+    IsKnown edges now now (replicate HART_ROW [])
 known_none edges now later = record {
-  eight = length-replicate {A = List Entry} 8 [];
+  many = length-replicate {A = List Entry} HART_ROW [];
   rising = λ hart i j d less within. absurd (nowhere hart j within);
   growing = λ hart i j d less within. absurd (nowhere hart j within);
   since = λ hart b c. absurd (none_in (row_of none hart) b (empty hart) c);
@@ -30,11 +31,11 @@ known_none edges now later = record {
 }
   where
     none : List (List Entry)
-    none = replicate 8 []
+    none = replicate HART_ROW []
 
     empty : (hart : ℕ) → row_of none hart ≡ []
-    empty hart = elim (cases_lt hart 8) [
-      | inl lt ↦ get_or-replicate 8 hart [] [] lt
+    empty hart = elim (cases_lt hart HART_ROW) [
+      | inl lt ↦ get_or-replicate HART_ROW hart [] [] lt
       | inr ge ↦ get_or_past none hart [] ge
     ]
 
@@ -45,7 +46,7 @@ known_none edges now later = record {
 pub known_later : (edges : List Edge) (reach now later : ℕ → ℕ) (rows : List (List Entry)) → IsKnown edges reach now rows →
     ((h : ℕ) → now h ≤ later h) → IsKnown edges reach later rows
 known_later edges reach now later rows known more = record {
-  eight = known.eight;
+  many = known.many;
   rising = known.rising;
   growing = known.growing;
   since = known.since;
@@ -60,7 +61,7 @@ pub known_further : (edges : List Edge) (reach further now : ℕ → ℕ) (rows 
     ((h : ℕ) → reach h ≤ further h) → ((e : Edge) → Contains edges e → e.step < further e.hart → e.step < reach e.hart) →
     IsKnown edges further now rows
 known_further edges reach further now rows known more none = record {
-  eight = known.eight;
+  many = known.many;
   rising = known.rising;
   growing = known.growing;
   since = λ h b there. let before = known.since h b there in let on = more h in omega (arith, before, on);
@@ -92,7 +93,7 @@ nothing_brought rows own done steps (Next {edges = before} e all brought one) no
     absurd (none_in (before ++ e ∷ []) e none (Contains-push before e))
 
 module _ (edges : List Edge) (now : ℕ → ℕ) (rows : List (List Entry)) (known : IsKnown edges now now rows)
-    (eights : (h : ℕ) (b : Entry) → Contains (row_of rows h) b → length b.steps ≡ 8) (hart : ℕ) (within : hart < 8) (own : List ℕ)
+    (wide : (h : ℕ) (b : Entry) → Contains (row_of rows h) b → length b.steps ≡ HART_ROW) (hart : ℕ) (within : hart < HART_LIMIT) (own : List ℕ)
     (latest : IsLatest (row_of rows hart) (now hart) own) where
   -- what the entries have is in what is latest
   own_covers : (b : Entry) → Contains (row_of rows hart) b → (g : ℕ) → slice_index b.steps g ≤ slice_index own g
@@ -122,7 +123,7 @@ module _ (edges : List Edge) (now : ℕ → ℕ) (rows : List (List Entry)) (kno
         ];
   }
 
-  module _ (here : List LogEdge) (steps : List ℕ) (got : IsGathered edges now rows known eights hart own latest here steps)
+  module _ (here : List LogEdge) (steps : List ℕ) (got : IsGathered edges now rows known wide hart own latest here steps)
       (each : (e : Edge) → Contains edges e → e.hart ≡ hart → e.step ≡ now hart → (x : LogEdge) × Contains here x × (edge_as x ≡ e)) where
     abbrev entry : Entry
     entry = record { since = now hart; steps = steps }
@@ -134,7 +135,7 @@ module _ (edges : List Edge) (now : ℕ → ℕ) (rows : List (List Entry)) (kno
     grown = slice_set rows hart row
 
     at : (h : ℕ) → ((h ≡ hart) × (row_of grown h ≡ row)) ⊎ ((h ≢ hart) × (row_of grown h ≡ row_of rows h))
-    at h = let eight = known.eight in row_at rows hart h row (omega (arith, eight, within))
+    at h = let many = known.many in row_at rows hart h row (omega (arith, many, within))
 
     here_is : row_of grown hart ≡ row
     here_is = elim (at hart) [ inl same ↦ same.1 | inr other ↦ absurd (other.0 refl) ]
@@ -201,7 +202,7 @@ module _ (edges : List Edge) (now : ℕ → ℕ) (rows : List (List Entry)) (kno
 
     known_on : IsKnown edges (bump now hart) now grown
     known_on = record {
-      eight = length-set rows hart row ∙ known.eight;
+      many = length-set rows hart row ∙ known.many;
       rising = pairs (λ a b. a.since ≤ b.since) known.rising (λ b there. let before = known.since hart b there in omega (arith, before));
       growing = pairs (λ a b. (g : ℕ) → slice_index a.steps g ≤ slice_index b.steps g) known.growing grows;
       since =
@@ -245,31 +246,31 @@ module _ (edges : List Edge) (now : ℕ → ℕ) (rows : List (List Entry)) (kno
 -- it is in force
 pub known_brought : (edges : List Edge) (now : ℕ → ℕ) (rows : List (List Entry)) (hart : ℕ) (here : List LogEdge) (steps : List ℕ)
     (new : List (List Entry)) →
-    IsKnown edges now now rows → ((h : ℕ) (b : Entry) → Contains (row_of rows h) b → length b.steps ≡ 8) → hart < 8 →
+    IsKnown edges now now rows → ((h : ℕ) (b : Entry) → Contains (row_of rows h) b → length b.steps ≡ HART_ROW) → hart < HART_LIMIT →
     Brings rows hart (now hart) here steps new →
     ((e : Edge) → Contains edges e → e.hart ≡ hart → e.step ≡ now hart → (x : LogEdge) × Contains here x × (edge_as x ≡ e)) →
-    ((x : LogEdge) → Contains here x → Contains edges (edge_as x) × (x.hart ≡ hart) × (x.at ≡ now hart) × (x.other < 8)) →
+    ((x : LogEdge) → Contains here x → Contains edges (edge_as x) × (x.hart ≡ hart) × (x.at ≡ now hart) × (x.other < HART_LIMIT)) →
     ((x : LogEdge) → Contains here x → x.after ≤ now x.other) → IsKnown edges (bump now hart) now new × InForce new hart steps
-known_brought edges now rows hart here steps new known eights within brings each own met = elim (some_or_none here) [
+known_brought edges now rows hart here steps new known wide within brings each own met = elim (some_or_none here) [
   | inl none ↦
       (let same : steps ≡ brings.own = nothing_brought rows brings.own here steps brings.brought none in
       let still : IsKnown edges (bump now hart) now rows =
-      known_still edges now rows known eights hart within brings.own brings.latest
+      known_still edges now rows known wide hart within brings.own brings.latest
       (λ e there of_hart at. let (x, x_there, is) = each e there of_hart at in none_in here x none x_there) in
       let force : InForce rows hart steps =
-      subst (λ (s : List ℕ). InForce rows hart s) (sym same) (own_in_force edges now rows known eights hart within brings.own brings.latest) in (
+      subst (λ (s : List ℕ). InForce rows hart s) (sym same) (own_in_force edges now rows known wide hart within brings.own brings.latest) in (
         subst (λ (r : List (List Entry)). IsKnown edges (bump now hart) now r) (sym (brings.none none)) still,
         subst (λ (r : List (List Entry)). InForce r hart steps) (sym (brings.none none)) force,
       ))
   | inr some ↦
-      (let got : IsGathered edges now rows known eights hart brings.own brings.latest here steps =
-      gather edges now rows known eights hart brings.own brings.latest here steps brings.brought
+      (let got : IsGathered edges now rows known wide hart brings.own brings.latest here steps =
+      gather edges now rows known wide hart brings.own brings.latest here steps brings.brought
       (λ e there.
       let (in_edges, of_hart, at, other) = own e there in
       record { there = in_edges; of_hart = of_hart; at = at; other = other; met = met e there }) in (
         subst (λ (r : List (List Entry)). IsKnown edges (bump now hart) now r) (sym (brings.some some))
-            (known_on edges now rows known eights hart within brings.own brings.latest here steps got each),
+            (known_on edges now rows known wide hart within brings.own brings.latest here steps got each),
         subst (λ (r : List (List Entry)). InForce r hart steps) (sym (brings.some some))
-            (now_in_force edges now rows known eights hart within brings.own brings.latest here steps got each),
+            (now_in_force edges now rows known wide hart within brings.own brings.latest here steps got each),
       ))
 ]

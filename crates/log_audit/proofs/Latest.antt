@@ -5,6 +5,7 @@ use Rattle.std.proofs.lemmas.Bool.{cases_lt}
 use Rattle.std.proofs.lemmas.List.{get_or_read, get_or-replicate, get_or_past}
 use Rattle.std.proofs.lemmas.List.Elements.{Contains-get_or}
 use Rattle.ft_types.specs.Counts.{greater, zipped}
+use Rattle.ft_types.specs.declared.names.TheConstants.{HART_LIMIT, HART_ROW}
 use Rattle.ft_types.proofs.Zips.{length-zipped}
 use Rattle.interleaving.proofs.Put.{same_or_not}
 use Rattle.log_audit.specs.declared.befores.Before.{Before as Entry}
@@ -20,8 +21,8 @@ abbrev pub IsGrowing : List Entry → Type 0
 IsGrowing row = AllPairs (λ a b. (g : ℕ) → slice_index a.steps g ≤ slice_index b.steps g) row
 
 pub none_at : (g : ℕ) → slice_index no_steps g ≡ 0
-none_at g = elim (cases_lt g 8) [
-  | inl lt ↦ get_or-replicate 8 g 0 0 lt
+none_at g = elim (cases_lt g HART_ROW) [
+  | inl lt ↦ get_or-replicate HART_ROW g 0 0 lt
   | inr ge ↦ get_or_past no_steps g 0 ge
 ]
 
@@ -101,18 +102,18 @@ pub record IsGreatest (steps below all : List ℕ) (other after : ℕ) : Type 0 
   pub named : after ≤ slice_index all other
   pub no_more : (g x : ℕ) → x < slice_index all g → (x < slice_index steps g) ⊎ ((x < slice_index below g) ⊎ ((g ≡ other) × (x < after)))
 
-module _ (steps below : List ℕ) (other after : ℕ) (eight : length steps ≡ 8) (eight_below : length below ≡ 8) (lt : other < 8) where
+module _ (steps below : List ℕ) (other after : ℕ) (many : length steps ≡ HART_ROW) (many_below : length below ≡ HART_ROW) (lt : other < HART_LIMIT) where
   abbrev pub all : List ℕ
   all = slice_set (greater steps below) other (max (slice_index (greater steps below) other) after)
 
   two : (g : ℕ) → slice_index (greater steps below) g ≡ max (slice_index steps g) (slice_index below g)
-  two g = zipped_at max steps below g refl (eight ∙ sym eight_below)
+  two g = zipped_at max steps below g refl (many ∙ sym many_below)
 
-  long : length (greater steps below) ≡ 8
-  long = length-zipped max steps below (eight ∙ sym eight_below) ∙ eight
+  long : length (greater steps below) ≡ HART_ROW
+  long = length-zipped max steps below (many ∙ sym many_below) ∙ many
 
-  pub eight_all : length all ≡ 8
-  eight_all = length-set (greater steps below) other (max (slice_index (greater steps below) other) after) ∙ long
+  pub many_all : length all ≡ HART_ROW
+  many_all = length-set (greater steps below) other (max (slice_index (greater steps below) other) after) ∙ long
 
   here : slice_index all other ≡ max (slice_index (greater steps below) other) after
   here = get_or-set_same (greater steps below) other (max (slice_index (greater steps below) other) after) 0 (omega (arith, long, lt))

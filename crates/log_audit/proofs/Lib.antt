@@ -4,7 +4,7 @@ pub mod Asking
 pub mod AskingOn
 pub mod Beginning
 pub mod Covering
-pub mod Eights
+pub mod Widths
 pub mod Ending
 pub mod Gathering
 pub mod Going

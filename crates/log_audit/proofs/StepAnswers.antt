@@ -5,6 +5,7 @@ use Rattle.interleaving.specs.Machine.{Write as MachineWrite}
 use Rattle.interleaving.specs.Stored.{written_in}
 use Rattle.interleaving.proofs.Lists.{get_set_same, get_set_other}
 use Rattle.interleaving.proofs.Put.{same_or_not}
+use Rattle.ft_types.specs.declared.names.TheConstants.{HART_LIMIT, HART_ROW, PAGE_LIMIT}
 use Rattle.guest_image.specs.Machine.{MachineState}
 use Rattle.ft_types.specs.declared.names.Want.{Want}
 use Rattle.ft_types.specs.declared.names.Want.TheVariants.{Read, Write}
@@ -72,8 +73,8 @@ module _ (hart : ℕ) (inputs : List Input) (before : List ℕ) (b : HartsView)
       let there = there_below r.contents page (missing_there h inputs r page want m).0 in
       step_clashes hart h inputs before b found (marks h found) r now (asking h found) page want other m there.0 there.1 against
 
-  pub asked_answer : (page : ℕ) (want : Want) → IsMissing inputs state r (page, want) → page < length now → length (uses_at now page).read ≡ 8 →
-      length (uses_at now page).written ≡ 8 → hart < 8 → IsClear now page hart want before → (h : Hart) → slice_get b.harts hart ≡ Some h →
+  pub asked_answer : (page : ℕ) (want : Want) → IsMissing inputs state r (page, want) → page < length now → length (uses_at now page).read ≡ HART_ROW →
+      length (uses_at now page).written ≡ HART_ROW → hart < HART_LIMIT → IsClear now page hart want before → (h : Hart) → slice_get b.harts hart ≡ Some h →
       IsAsking hart h inputs before b.pages.contents b.pages.uses (granted r page want) (noted_at now page hart want (h.count + 1))
   asked_answer page Read missing lt read written few clear h found =
       let m : IsMissing inputs h r (page, Read) = subst (λ (k : Hart). IsMissing inputs k r (page, Read)) (same_state h found) missing in
@@ -86,7 +87,7 @@ module _ (hart : ℕ) (inputs : List Input) (before : List ℕ) (b : HartsView)
       (lacked_touches hart h inputs before b found (marks h found) r now (asking h found) page Write m) written few clear
       (lacked_writes hart h inputs before b found (marks h found) r now (asking h found) page m there.0 there.1)
 
-  pub fewer_lacking : (h : Hart) → slice_get b.harts hart ≡ Some h → (page : ℕ) (want : Want) → page < 64 → IsMissing inputs state r (page, want) →
+  pub fewer_lacking : (h : Hart) → slice_get b.harts hart ≡ Some h → (page : ℕ) (want : Want) → page < PAGE_LIMIT → IsMissing inputs state r (page, want) →
       lacking (granted r page want).readable + lacking (granted r page want).writable < lacking r.readable + lacking r.writable
   fewer_lacking h found page Read few missing =
       let m = missing_there state inputs r page Read missing in

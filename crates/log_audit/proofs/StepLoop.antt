@@ -1,6 +1,7 @@
 -- A step's loop, from what its code has.
 use Rattle.std.proofs.Common.{◌≡◌, ℕ, ◌+◌, ◌<◌, ◌^◌, ◌-◌, false, List, length, slice_get, slice_set, slice_index_or, Some, ap, sym, subst, ◌∙◌, arith}
 use Rattle.ft_types.specs.declared.names.Want.{Want}
+use Rattle.ft_types.specs.declared.names.TheConstants.{HART_LIMIT, HART_ROW, PAGE_LIMIT}
 use Rattle.input_log.specs.declared.Input.{Input}
 use Rattle.rv32_hart.specs.Hart.{Hart}
 use Rattle.rv32_hart.specs.Ram.{Ram}
@@ -94,7 +95,7 @@ module _ (hart : ℕ) (inputs : List Input) (before : List ℕ) (u v : HartsView
           let many : length now ≡ length v.pages.uses = asked.many in
           omega (arith, lt, pages, marks, many)
 
-      pub fewer_rights : (left next : Ram) → page < 64 → left ≡ r → next ≡ granted left page want →
+      pub fewer_rights : (left next : Ram) → page < PAGE_LIMIT → left ≡ r → next ≡ granted left page want →
           lacking next.readable + lacking next.writable < lacking r.readable + lacking r.writable
       fewer_rights left next few kept right =
           subst (λ (x : Ram). lacking x.readable + lacking x.writable < lacking r.readable + lacking r.writable)
@@ -113,8 +114,8 @@ module _ (hart : ℕ) (inputs : List Input) (before : List ℕ) (u v : HartsView
           clash_answer hart inputs before v marks state r now state_at asking_at page want other missing against h found,
         )
 
-        pub asked_next : (left next : Ram) (then : List Uses) → AreHarts u → i < 8 → left ≡ r → next ≡ granted left page want →
-            then ≡ noted_at now page hart want (count + 1) → (length (uses_at now page).read ≡ 8) × (length (uses_at now page).written ≡ 8) →
+        pub asked_next : (left next : Ram) (then : List Uses) → AreHarts u → i < HART_LIMIT → left ≡ r → next ≡ granted left page want →
+            then ≡ noted_at now page hart want (count + 1) → (length (uses_at now page).read ≡ HART_ROW) × (length (uses_at now page).written ≡ HART_ROW) →
             IsClear now page hart want before → (k : Hart) → slice_get u.harts hart ≡ Some k →
             IsAsking hart k inputs before begun.contents u.pages.uses next then
         asked_next left next then are few kept right noted rows clear k there =

@@ -6,6 +6,7 @@ use Rattle.interleaving.specs.Machine.{Effect, Writes}
 use Rattle.interleaving.specs.Stored.{written_in}
 use Rattle.ft_types.specs.declared.names.Want.{Want}
 use Rattle.ft_types.specs.declared.names.Want.TheVariants.{Read, Write}
+use Rattle.ft_types.specs.declared.names.TheConstants.{HART_LIMIT}
 use Rattle.input_log.specs.declared.Input.{Input}
 use Rattle.rv32_hart.specs.Hart.{Hart}
 use Rattle.rv32_hart.specs.Ram.{Ram}
@@ -55,7 +56,7 @@ module _ (hart : ℕ) (h : Hart) (inputs : List Input) (before : List ℕ) (b : 
           | inr new ↦ new.2
         ]
 
-    clear : (page other : ℕ) → Contains (step_on b.pages.contents h inputs).touched page → other < 8 → other ≢ hart →
+    clear : (page other : ℕ) → Contains (step_on b.pages.contents h inputs).touched page → other < HART_LIMIT → other ≢ hart →
         written_mark b.pages page other ≤ slice_index before other
     clear page other touches lt ne =
         elim (touched page touches) [

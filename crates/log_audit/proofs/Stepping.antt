@@ -10,6 +10,7 @@ use Rattle.interleaving.specs.Log.{Place, Before, IsMet, IsOrdered, Conflict, pl
 use Rattle.interleaving.specs.Stored.{system_of, stored_after}
 use Rattle.interleaving.proofs.Cuts.{here_or_later}
 use Rattle.interleaving.proofs.Each.{each_at, each_more, each_append, pairs_append}
+use Rattle.ft_types.specs.declared.names.TheConstants.{HART_LIMIT}
 use Rattle.input_log.specs.declared.Input.{Input}
 use Rattle.rv32_hart.specs.Hart.{Hart}
 use Rattle.rv32_hart.specs.Hardware.{hardware}
@@ -35,7 +36,7 @@ module _ (leg : PlannedLeg) (order : List ℕ) (reach : ℕ → ℕ) (b : HartsV
   module _ (c : HartsView) (took : TakesStep hart h inputs before b c) where
     -- ---- conflicts are ordered
 
-    module _ (is_leg : IsLeg (length b.start.harts) leg) (few : length b.start.harts ≤ 8)
+    module _ (is_leg : IsLeg (length b.start.harts) leg) (few : length b.start.harts ≤ HART_LIMIT)
         (sound : (g x : ℕ) → x < slice_index before g →
         Before (log_of leg).edges (record { hart = g; step = x }) (record { hart = hart; step = h.count })) where
       across : (s : TakenStep) → Contains (steps_in leg b.start order) s →
@@ -47,7 +48,7 @@ module _ (leg : PlannedLeg) (order : List ℕ) (reach : ℕ → ℕ) (b : HartsV
           noted : IsNoted b.start b.pages s
           noted = each_at (IsNoted b.start b.pages) (steps_in leg b.start order) s covered.noted taken
 
-          there : s.hart < 8
+          there : s.hart < HART_LIMIT
           there =
               let less : s.hart < length b.start.harts =
               each_at (λ (s : TakenStep). s.hart < length b.start.harts) (steps_in leg b.start order) s
@@ -91,8 +92,8 @@ module _ (leg : PlannedLeg) (order : List ℕ) (reach : ℕ → ℕ) (b : HartsV
             pages = large.pages;
             harts = large.harts;
             counts = counts;
-            eights = λ g x there.
-                covered.eights g x (subst (λ (rows : List (List Entry)). Contains (row_of rows g) x) took.befores there);
+            wide = λ g x there.
+                covered.wide g x (subst (λ (rows : List (List Entry)). Contains (row_of rows g) x) took.befores there);
             ordered =
                 subst (λ (taken : List TakenStep). IsOrdered (system_of (hardware (length b.start.pages))) (log_of leg).edges taken) (sym taken_are)
                 ordered_next;

@@ -2,6 +2,7 @@
 use Rattle.std.proofs.Common.{◌≡◌, ℕ, ◌+◌, ◌<◌, ◌≤◌, ◌-◌, ◌^◌, ◌==◌, false, List, [], length, filter, All, slice_get, slice_index_or, Option, Some, None, IfSome, IfNone, refl, ap, sym, subst, ◌∙◌, arith}
 use Rattle.ft_types.specs.Counts.{count_at}
 use Rattle.interleaving.specs.Log.{IsMet, HasUnmet, bump}
+use Rattle.ft_types.specs.declared.names.TheConstants.{HART_LIMIT}
 use Rattle.edge_log.specs.declared.Edge.{Edge}
 use Rattle.edge_log.specs.EdgeLog.{IsLog, row_of}
 use Rattle.input_log.specs.declared.Input.{Input}
@@ -78,7 +79,7 @@ went_along leg hart count before v w c gone o is start on no_more =
 
 -- a turn, once the edges at its count are brought
 module _ (leg : PlannedLeg) (u v : HartsView) (view : u ≡ v) (hart : ℕ) (lt : hart < length v.harts) (index : ℕ) (index_is : index ≡ hart)
-    (index_lt : index < 8) (state : Hart) (state_is : state ≡ slice_index_or u.harts index state) (count : ℕ) (count_is : count ≡ state.count)
+    (index_lt : index < HART_LIMIT) (state : Hart) (state_is : state ≡ slice_index_or u.harts index state) (count : ℕ) (count_is : count ≡ state.count)
     (end : ℕ) (end_is : end ≡ count_at leg.ends hart) (room : count < end) (on : IsOn leg v) (rules : IsLog leg.edges.start leg.edges.rows)
     (here : List Edge) (here_is : here ≡ filter (λ e. e.at == count) (row_of leg.edges hart))
     (met : All (λ e. e.after ≤ counts_of (machine_of v) e.other) here) (inputs : List Input)
@@ -87,7 +88,7 @@ module _ (leg : PlannedLeg) (u v : HartsView) (view : u ≡ v) (hart : ℕ) (lt 
   turn : (h : Hart) × (slice_get v.harts hart ≡ Some h) × (state ≡ h) × (count ≡ h.count)
   turn = at_count u v hart index state count view lt index_is state_is count_is
 
-  few : hart < 8
+  few : hart < HART_LIMIT
   few = omega (arith, index_is, index_lt)
 
   is_now : count ≡ counts_of (machine_of v) hart
@@ -124,15 +125,15 @@ module _ (leg : PlannedLeg) (u v : HartsView) (view : u ≡ v) (hart : ℕ) (lt 
 
   pub turn_gone : (o : Option Clash) (w : HartsView) → o ≡ None →
       IfNone o ((k : Hart) → slice_get u.harts hart ≡ Some k → TakesStep hart k inputs before (record u { befores = new }) w) →
-      IsLeg (length v.start.harts) leg → length u.start.harts ≤ 8 → HasGone leg hart count before v w
-  turn_gone o w is taken is_leg eight =
+      IsLeg (length v.start.harts) leg → length u.start.harts ≤ HART_LIMIT → HasGone leg hart count before v w
+  turn_gone o w is taken is_leg small =
       let took : TakesStep hart turn.0 inputs before (record v { befores = new }) w =
       subst (λ (s : HartsView). TakesStep hart turn.0 inputs before (record s { befores = new }) w) view
       (subst (λ o. IfNone o ((k : Hart) → slice_get u.harts hart ≡ Some k → TakesStep hart k inputs before (record u { befores = new }) w)) is taken turn.0
       found_first) in
       let gone : HasGone leg hart turn.0.count before (record v { befores = new }) w =
       has_gone leg on.0 (record v { befores = new }) hart turn.0 turn.1 brought.0 inputs given below met_now before brought.1 w took is_leg
-      (subst (λ (s : HartsView). length s.start.harts ≤ 8) view eight) in
+      (subst (λ (s : HartsView). length s.start.harts ≤ HART_LIMIT) view small) in
       let counted = turn.3 in
       let next = gone.next in
       record {
@@ -192,13 +193,13 @@ module _ (leg : PlannedLeg) (first u v : HartsView) (view : u ≡ v) (start : v.
     pub quiet_nearer : stop - counts_of (machine_of w) hart < stop - counts_of (machine_of v) hart
     quiet_nearer = let more = took_counted hart at_now.0 [] before v w took in omega (arith, more, now, open_now)
 
-    pub quiet_gone : IsLeg (length first.start.harts) leg → length u.start.harts ≤ 8 →
+    pub quiet_gone : IsLeg (length first.start.harts) leg → length u.start.harts ≤ HART_LIMIT →
         steps_left leg.ends v.harts ≤ steps_left leg.ends first.harts → GoesAlong leg hart before stop first w
     quiet_gone is_leg few so_far =
         let gone : HasGone leg hart at_now.0.count before v w =
         has_gone leg on.0 v hart at_now.0 at_now.1 (quiet_covered leg on.0 v hart stop on.1 quiet open_now) [] none_given below_end
         (quiet_met leg v hart stop quiet open_now) before force w took
-        (subst (λ (m : MachineState). IsLeg (length m.harts) leg) (sym start) is_leg) (subst (λ (s : HartsView). length s.start.harts ≤ 8) view few) in
+        (subst (λ (m : MachineState). IsLeg (length m.harts) leg) (sym start) is_leg) (subst (λ (s : HartsView). length s.start.harts ≤ HART_LIMIT) view few) in
         let next = gone.next in
         let fewer = gone.fewer in
         record {

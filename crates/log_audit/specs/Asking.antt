@@ -5,7 +5,7 @@ use Rattle.ft_types.specs.declared.names.Want.{Want}
 use Rattle.ft_types.specs.declared.names.Want.TheVariants.{Read, Write}
 use Rattle.rv32_hart.specs.Ram.{Ram, IsRam, may_read, may_write}
 
--- at most 64 pages, of which the step may read each that it may write
+-- at most PAGE_ROW pages, of which the step may read each that it may write
 pub record AreAsked (r : Ram) : Type 0 where
   pub ram : IsRam r
   pub both : (page : ℕ) → may_write r page ≡ true → may_read r page ≡ true

@@ -47,7 +47,7 @@ begun m = record { start = m; harts = m.harts; pages = unmarked m.pages; befores
 -- Of the edges of steps below `reach`, by hart, where so many steps were taken: the rows tell all that they put before a step, and
 -- nothing else.
 pub record IsKnown (edges : List Edge) (reach now : ℕ → ℕ) (rows : List (List BeforeEntry)) : Type 0 where
-  pub eight : length rows ≡ HART_ROW
+  pub many : length rows ≡ HART_ROW
   pub rising : AreRising rows
   pub growing : (hart : ℕ) → AllPairs (λ a b. (g : ℕ) → slice_index a.steps g ≤ slice_index b.steps g) (row_of rows hart)
   pub since : (hart : ℕ) (b : BeforeEntry) → Contains (row_of rows hart) b → b.since < reach hart
@@ -94,7 +94,7 @@ pub record IsCovered (leg : PlannedLeg) (order : List ℕ) (reach : ℕ → ℕ)
       IsMarkOf v.start (steps_in leg v.start order) (λ s. Contains s.effect.touched page) hart (read_mark v.pages page hart)
   pub written_marks : (page hart : ℕ) → (written_mark v.pages page hart ≡ 0) ⊎
       IsMarkOf v.start (steps_in leg v.start order) (λ s. Writes s.effect page) hart (written_mark v.pages page hart)
-  pub eights : (hart : ℕ) (b : BeforeEntry) → Contains (row_of v.befores hart) b → length b.steps ≡ HART_ROW
+  pub wide : (hart : ℕ) (b : BeforeEntry) → Contains (row_of v.befores hart) b → length b.steps ≡ HART_ROW
   pub known : IsKnown (log_of leg).edges reach (counts_of (machine_of v)) v.befores
 
 -- in some order

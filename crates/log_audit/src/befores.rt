@@ -31,7 +31,7 @@ fn raise(row: &mut Row, other: &Row)
     ensures { row.new ≡ greater row.old other.now }
 {
     let before = *row;
-    for hart in 0..8usize {
+    for hart in 0..HART_ROW {
         row[hart] = before[hart].max(other[hart]);
     }
 }

@@ -15,9 +15,9 @@ use Rattle.fragment_codec.specs.Facts.{told_by}
 use Rattle.log_pieces.specs.Pieces.{HartLog, Mark, SealedView, mark_of, IsHartCut}
 use Rattle.log_pieces.specs.declared.cutting.Origin.{Origin}
 
--- a next place for each of eight harts
+-- a next place for each of HART_ROW harts
 pub record ArePlaces (places : List ℕ) : Type 0 where
-  pub eight : length places ≡ HART_ROW
+  pub many : length places ≡ HART_ROW
   pub below : AllByRecursion (λ place. place ≤ 2 ^ 32) places
 
 -- records of a hart, of any number, that keep all other rules

@@ -71,7 +71,7 @@ impl Sealed {
         requires count { to < COUNT_LIMIT }
         ensures places { self.new.places ≡ slice_set self.old.places hart (slice_index self.old.places hart + 1) }
         ensures reached { self.new.reached ≡ slice_set self.old.reached hart to }
-        ensures eight { length self.new.places ≡ HART_ROW }
+        ensures many { length self.new.places ≡ HART_ROW }
     {
         self.places[hart.index()] += 1;
         self.reached.set(hart, to);

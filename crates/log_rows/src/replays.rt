@@ -4,7 +4,7 @@ use crate::come::{Come, Fact, guest_of, records_of, store_of};
 use closed_cut::position;
 use fixtures::{HALTS, TWO_LOOPS, edge, hart, image_of};
 use fragment_codec::Record;
-use ft_types::{Count, Hart, Memory, Term};
+use ft_types::{Count, HART_LIMIT, Hart, Memory, Term};
 use guest_image::Machine;
 use hart_replay::{Plan, PlannedLeg, honest_plans, honest_primaries, plan, replay_plain};
 use log_join::Store;
@@ -174,7 +174,7 @@ const NINE: &[Fact] = &[
 /// Whether these are all edges of a leg, by hart.
 fn has_edges(leg: &PlannedLeg, edges: &[(u8, Count, u8, Count)]) -> bool {
     let mut next = 0usize;
-    for number in 0..8u8 {
+    for number in 0..HART_LIMIT {
         for there in leg.edges.of_hart(hart(number)) {
             match edges.get(next) {
                 Some((from, at, to, after)) if *there == edge(*from, *at, *to, *after) => {}

@@ -10,6 +10,7 @@ use Rattle.std.proofs.lemmas.List.Sorted.{length_permutation, All-permutation, C
 use mathlib.Core.Logic.{dite}
 use native.Mathlib.Decide.{ℕ_discrete}
 use Rattle.ft_types.specs.declared.output.Output.{Output}
+use Rattle.ft_types.specs.declared.names.TheConstants.{HART_LIMIT, HART_ROW}
 use Rattle.output_gate.specs.Gates.{LineView, is_held, is_not_held, after_release}
 use Rattle.output_gate.specs.Orders.{ComesAfter, AreInLine, NoneIsBefore, StepsRise, IsBefore, AreBehind, AreUpTo, IsLineOf}
 use Rattle.output_gate.specs.Lines.{IsGate}
@@ -137,8 +138,8 @@ line_goes_on released more offered line is =
     ∙ ap (λ (l : LineView). line_with (l.gone ++ take more l.waiting) (drop more l.waiting)) is
 
 -- of each line, what is held went out
-pub gate_releases : (keepers need : ℕ) (noted : List (List ℕ)) (old new : List LineView) → IsGate keepers need noted old → length new ≡ 8
-    → ((hart : ℕ) (other : LineView) → hart < 8 → slice_index_or new hart other ≡ after_release need noted (slice_index_or old hart other))
+pub gate_releases : (keepers need : ℕ) (noted : List (List ℕ)) (old new : List LineView) → IsGate keepers need noted old → length new ≡ HART_ROW
+    → ((hart : ℕ) (other : LineView) → hart < HART_LIMIT → slice_index_or new hart other ≡ after_release need noted (slice_index_or old hart other))
     → IsGate keepers need noted new
 gate_releases keepers need noted old new gate len at = record {
   few = gate.few;
@@ -153,7 +154,7 @@ gate_releases keepers need noted old new gate len at = record {
 
 -- one line has one more output
 gate_grows : (keepers need : ℕ) (noted : List (List ℕ)) (old new : List LineView) (x : Output) (other : LineView) → IsGate keepers need noted old →
-    length new ≡ 8 → x.hart < 8
+    length new ≡ HART_ROW → x.hart < HART_LIMIT
     → ((d : LineView) → slice_index_or new x.hart d ≡ record {
       gone = (slice_index_or old x.hart d).gone;
       waiting = (slice_index_or old x.hart d).waiting ++
@@ -172,14 +173,14 @@ gate_grows keepers need noted old new x other gate len below here elsewhere numb
   each = λ hart d in_harts. dite (ℕ_discrete hart x.hart)
       (λ e. subst (λ (h : ℕ). IsLineOf h (slice_index_or new h d)) (sym e) (subst (IsLineOf x.hart) (sym (here d))
       (let q : (P : LineView → Type 0) → P (slice_index_or old x.hart other) → P (slice_index_or old x.hart d) = λ P. subst P (get_or_default old x.hart other d
-      (let eight = gate.harts in omega arith)) in
+      (let many = gate.harts in omega arith)) in
       line_grows x.hart (slice_index_or old x.hart d) x (gate.each x.hart d below) refl (q (λ l. x.number ≡ length (l.gone ++ l.waiting)) number))))
       (λ ne. subst (IsLineOf hart) (sym (elsewhere hart d ne)) (gate.each hart d in_harts));
 }
 
 -- the same, or memory was refused
 pub gate_offered : {X Y : Type 0} (r : Result X Y) (keepers need : ℕ) (noted : List (List ℕ)) (old new : List LineView) (x : Output) (other : LineView) →
-    IsGate keepers need noted old → length new ≡ 8 → x.hart < 8
+    IsGate keepers need noted old → length new ≡ HART_ROW → x.hart < HART_LIMIT
     → OnOk r ((d : LineView) → slice_index_or new x.hart d ≡ record {
       gone = (slice_index_or old x.hart d).gone;
       waiting = (slice_index_or old x.hart d).waiting ++ x ∷ [];
@@ -236,25 +237,25 @@ line_still released held offered line =
 
 -- ---- what the calls of a gate ask
 
-abbrev no_line : LineView
+abbrev pub no_line : LineView
 no_line = record { gone = []; waiting = [] }
 
 -- the next output of a hart is behind those of its hart
 pub next_is_behind : (keepers need : ℕ) (noted : List (List ℕ)) (lines : List LineView) (x : Output) → IsGate keepers need noted lines →
-    x.number ≡ length ((slice_index_or lines x.hart no_line).gone ++ (slice_index_or lines x.hart no_line).waiting) → x.hart < 8 → (other : LineView) →
+    x.number ≡ length ((slice_index_or lines x.hart no_line).gone ++ (slice_index_or lines x.hart no_line).waiting) → x.hart < HART_LIMIT → (other : LineView) →
     AreBehind x (slice_index_or lines x.hart other).waiting
 next_is_behind keepers need noted lines x gate number below other =
     let line : LineView = slice_index_or lines x.hart other in
-    let same : slice_index_or lines x.hart no_line ≡ line = get_or_default lines x.hart no_line other (let eight = gate.harts in omega arith) in
+    let same : slice_index_or lines x.hart no_line ≡ line = get_or_default lines x.hart no_line other (let many = gate.harts in omega arith) in
     all_back (λ o. (o.hart ≡ x.hart) × (o.number < x.number)) line.gone line.waiting
     (behind_all x.hart (line.gone ++ line.waiting) x (gate.each x.hart other below).of_hart refl
     (subst (λ (l : LineView). x.number ≡ length (l.gone ++ l.waiting)) same number))
 
 abbrev AreReleased : ℕ → List (List ℕ) → List LineView → List LineView → Type 0
 AreReleased need noted old new =
-    (hart : ℕ) (other : LineView) → hart < 8 → slice_index_or new hart other ≡ after_release need noted (slice_index_or old hart other)
+    (hart : ℕ) (other : LineView) → hart < HART_LIMIT → slice_index_or new hart other ≡ after_release need noted (slice_index_or old hart other)
 
-pub offered_moves : (need : ℕ) (noted : List (List ℕ)) (old new : List LineView) → AreReleased need noted old new → (hart : ℕ) → hart < 8 →
+pub offered_moves : (need : ℕ) (noted : List (List ℕ)) (old new : List LineView) → AreReleased need noted old new → (hart : ℕ) → hart < HART_LIMIT →
     IsPermutation ((slice_index_or old hart no_line).gone ++ (slice_index_or old hart no_line).waiting)
     ((slice_index_or new hart no_line).gone ++ (slice_index_or new hart no_line).waiting)
 offered_moves need noted old new at hart below =
@@ -262,7 +263,7 @@ offered_moves need noted old new at hart below =
     subst (λ (l : LineView). IsPermutation (line.gone ++ line.waiting) (l.gone ++ l.waiting)) (sym (at hart no_line below)) (release_moves need noted line)
 
 pub offered_stays : (keepers need : ℕ) (noted : List (List ℕ)) (old new : List LineView) → IsGate keepers need noted old → AreReleased need noted old new →
-    (hart : ℕ) → hart < 8 → StepsRise ((slice_index_or old hart no_line).gone ++ (slice_index_or old hart no_line).waiting) →
+    (hart : ℕ) → hart < HART_LIMIT → StepsRise ((slice_index_or old hart no_line).gone ++ (slice_index_or old hart no_line).waiting) →
     (slice_index_or new hart no_line).gone ++ (slice_index_or new hart no_line).waiting
     ≡ (slice_index_or old hart no_line).gone ++ (slice_index_or old hart no_line).waiting
 offered_stays keepers need noted old new gate at hart below rise =

@@ -6,6 +6,7 @@ use Rattle.std.proofs.lemmas.Bool.{leb-true, le-leb}
 use mathlib.Core.Logic.{dite}
 use native.Mathlib.Decide.{dec_lt}
 use Rattle.ft_types.specs.declared.output.Output.{Output}
+use Rattle.ft_types.specs.declared.names.TheConstants.{HART_LIMIT, HART_ROW}
 use Rattle.output_gate.specs.Gates.{LineView, GateView, line_of, waiting_of, holder_count, is_held, is_not_held, after_release, held_outputs}
 use Rattle.output_gate.specs.Orders.{IsLineOf, IsBefore, RiseByHart, AreLaterThan, AreEarlier}
 use Rattle.output_gate.proofs.Alls.{all_so, all_join, all_back, all_filter, kept_pass}
@@ -33,7 +34,7 @@ later need noted given o held waits same = dite (dec_lt given.step o.step) (λ l
 
 -- what is given has earlier steps than what then waits
 pub earlier : (need : ℕ) (noted : List (List ℕ)) (old new : GateView) (given : List Output) → given ≡ held_outputs need noted old.lines
-    → ((hart : ℕ) → hart < 8 → line_of new hart ≡ after_release need noted (line_of old hart)) → AreEarlier given new
+    → ((hart : ℕ) → hart < HART_LIMIT → line_of new hart ≡ after_release need noted (line_of old hart)) → AreEarlier given new
 earlier need noted old new given is lines = λ hart below.
     let waits : waiting_of new hart ≡ filter (is_not_held need noted) (waiting_of old hart) = ap (λ (l : LineView). l.waiting) (lines hart below) in
     subst (λ (g : List Output). AllByRecursion (λ o. AreLaterThan o (waiting_of new hart)) g) (sym is)
@@ -95,9 +96,9 @@ held_rise need noted n (line ∷ lines) each = let p : Output → Bool = is_held
     (filter p line.waiting) (its_hart p n line each.0))
 
 -- what is given rises by hart, then number
-pub given_rises : (need : ℕ) (noted : List (List ℕ)) (lines : List LineView) (given : List Output) → length lines ≡ 8 → ((hart : ℕ) (other : LineView) →
-    hart < 8 → IsLineOf hart (slice_index_or lines hart other))
+pub given_rises : (need : ℕ) (noted : List (List ℕ)) (lines : List LineView) (given : List Output) → length lines ≡ HART_ROW → ((hart : ℕ) (other : LineView) →
+    hart < HART_LIMIT → IsLineOf hart (slice_index_or lines hart other))
     → given ≡ held_outputs need noted lines → RiseByHart given
-given_rises need noted lines given eight each is = subst RiseByHart (sym is)
+given_rises need noted lines given many each is = subst RiseByHart (sym is)
     (held_rise need noted 0 lines (lines_from 0 lines (λ i below. subst (λ (h : ℕ). IsLineOf h (slice_index_or lines i no_line))
     (let e : i ≡ 0 + i = omega arith in e) (each i no_line (omega arith)))))

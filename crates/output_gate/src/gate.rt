@@ -1,6 +1,6 @@
 //! The gate.
 
-ghost use Rattle.std.specs.Prelude.{◌≡◌, ◌≢◌, ◌↔◌, ◌⊎◌, ℕ, ◌+◌, ◌<◌, ◌≤◌, ◌++◌, ◌∷◌, [], max, filter, count_by, length, slice_index, slice_index_or, IfOk};
+ghost use Rattle.std.specs.Prelude.{◌≡◌, ◌≢◌, ◌↔◌, ◌⊎◌, ℕ, ◌+◌, ◌<◌, ◌≤◌, ◌++◌, ◌∷◌, [], max, filter, count_by, length, replicate, slice_index, slice_index_or, IfOk};
 ghost use Rattle.std.specs.Prelude.{OnOk, OnErr};
 ghost use Rattle.std.specs.List.Sorted.{IsPermutation};
 ghost use Rattle.ft_types.specs.declared.names.TheConstants.{HART_LIMIT, KEEPER_LIMIT};
@@ -13,6 +13,7 @@ use crate::line::Line;
 use crate::notes::keepers_counted;
 use ft_types::{Count, HART_ROW, Hart, KEEPER_ROW, Keeper, KeeperSet, Memory, Output, Term};
 use std::alloc::Global;
+use std::array;
 use std::marker::Model;
 use std::result::Result;
 
@@ -45,7 +46,7 @@ fn kept_in(lines: &[Line; HART_ROW]) -> usize
     ensures { result ≡ waiting_count lines.now }
 {
     let mut kept = 0usize;
-    for hart in 0..8usize {
+    for hart in 0..HART_ROW {
         kept += lines[hart].kept();
     }
     kept
@@ -63,7 +64,7 @@ fn give_all(
         slice_index held hart ≡ length (filter (is_held need noted.now) (slice_index_or lines.now hart other).waiting)) }
 {
     let mut held = [0usize; HART_ROW];
-    for hart in 0..8usize {
+    for hart in 0..HART_ROW {
         held[hart] = lines[hart].give(need, noted, given)?;
     }
     Ok(held)
@@ -82,7 +83,7 @@ fn advance_all(
     ensures each { (hart : ℕ) (other : LineView) → hart < HART_LIMIT →
         slice_index_or lines.new hart other ≡ after_release need noted.now (slice_index_or lines.old hart other) }
 {
-    for hart in 0..8usize {
+    for hart in 0..HART_ROW {
         lines[hart].advance(need, noted, held[hart]);
     }
 }
@@ -100,6 +101,12 @@ fn offer_in(lines: &mut [Line; HART_ROW], output: Output) -> Result<(), Memory>
     lines[output.hart.index()].push(output)
 }
 
+fn no_lines(alloc: Global) -> [Line; HART_ROW]
+    ensures { result ≡ replicate HART_ROW (record { gone = []; waiting = [] }) }
+{
+    array::from_fn(|_| Line::new(alloc))
+}
+
 impl Gate {
     /// A gate of a term with so many keepers, of which so many must hold an output. Nothing is noted and nothing waits.
     pub fn new(alloc: Global, term: Term, keepers: u8, need: u8) -> Gate
@@ -113,16 +120,7 @@ impl Gate {
             keepers,
             need,
             noted: [[0; HART_ROW]; KEEPER_ROW],
-            lines: [
-                Line::new(alloc),
-                Line::new(alloc),
-                Line::new(alloc),
-                Line::new(alloc),
-                Line::new(alloc),
-                Line::new(alloc),
-                Line::new(alloc),
-                Line::new(alloc),
-            ],
+            lines: no_lines(alloc),
         }
     }
 

@@ -1,6 +1,8 @@
 -- Open leases that are ended one after the other.
-use Rattle.std.proofs.Common.{◌≡◌, ◌≤◌, ◌+◌, ◌∙◌, ap, subst, ℕ, zero, suc, List, [], ◌∷◌, length, replicate, slice_set, Option, None, refl, arith}
-use Rattle.std.proofs.lemmas.List.{get_or-set_other}
+use Rattle.std.proofs.Common.{◌≡◌, ◌<◌, ◌≤◌, ◌+◌, ◌∙◌, ap, sym, subst, ℕ, zero, suc, List, length, replicate, slice_set, Option, None, refl, arith, inl, inr}
+use Rattle.std.proofs.Common.{length-set}
+use Rattle.std.proofs.lemmas.Bool.{cases_eq}
+use Rattle.std.proofs.lemmas.List.{ext_get_or, get_or-replicate, get_or-set_same, get_or-set_other, length-replicate}
 use Rattle.hart_lease.specs.OpenLeases.{OpenView, open_at}
 use Rattle.guest_image.specs.Machine.{MachineState}
 use Rattle.page_book.specs.Books.{BookView}
@@ -12,18 +14,25 @@ closed_later leases zero m le = refl
 closed_later leases (suc n) m le =
     get_or-set_other (closed n leases) n m None None (λ (e : m ≡ n). absurd (omega arith)) ∙ closed_later leases n m (omega arith)
 
--- after all eight none is
-pub closed_all : (leases : List (Option OpenView)) → length leases ≡ 8 → closed 8 leases ≡ replicate 8 None
-closed_all [] eight = absurd (omega arith)
-closed_all (a ∷ []) eight = absurd (omega arith)
-closed_all (a ∷ b ∷ []) eight = absurd (omega arith)
-closed_all (a ∷ b ∷ c ∷ []) eight = absurd (omega arith)
-closed_all (a ∷ b ∷ c ∷ d ∷ []) eight = absurd (omega arith)
-closed_all (a ∷ b ∷ c ∷ d ∷ e ∷ []) eight = absurd (omega arith)
-closed_all (a ∷ b ∷ c ∷ d ∷ e ∷ f ∷ []) eight = absurd (omega arith)
-closed_all (a ∷ b ∷ c ∷ d ∷ e ∷ f ∷ g ∷ []) eight = absurd (omega arith)
-closed_all (a ∷ b ∷ c ∷ d ∷ e ∷ f ∷ g ∷ h ∷ []) eight = refl
-closed_all (a ∷ b ∷ c ∷ d ∷ e ∷ f ∷ g ∷ h ∷ i ∷ rest) eight = absurd (omega arith)
+length-closed : (leases : List (Option OpenView)) (n : ℕ) → length (closed n leases) ≡ length leases
+length-closed leases zero = refl
+length-closed leases (suc n) = length-set (closed n leases) n None ∙ length-closed leases n
+
+-- those of the first harts are ended
+closed_first : (leases : List (Option OpenView)) (n hart : ℕ) → n ≤ length leases → hart < n → open_at (closed n leases) hart ≡ None
+closed_first leases zero hart within lt = absurd (omega arith)
+closed_first leases (suc n) hart within lt = elim (cases_eq hart n) [
+  | inl same ↦ rw same (get_or-set_same (closed n leases) n None None (omega (arith, length-closed leases n)))
+  | inr ne ↦ get_or-set_other (closed n leases) n hart None None ne ∙ closed_first leases n hart (omega arith) (omega arith)
+]
+
+-- after all none is open
+pub closed_all : (leases : List (Option OpenView)) (n : ℕ) → length leases ≡ n → closed n leases ≡ replicate n None
+closed_all leases n many =
+    ext_get_or None (closed n leases) (replicate n None) (length-closed leases n ∙ (many ∙ sym (length-replicate {A = Option OpenView} n None)))
+    (λ i below.
+    let within : i < n = omega (arith, length-closed leases n) in
+    closed_first leases n i (omega arith) within ∙ sym (get_or-replicate n i None None within))
 
 -- one lease more is ended
 pub closes_more : {M : Type 0} → (ends : Ending M) (b s a : BookView M) (n h : ℕ) → h ≡ n → s ≡ record b { leases = closed n b.leases; mode = s.mode } →

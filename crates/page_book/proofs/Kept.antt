@@ -3,6 +3,7 @@ use Rattle.std.proofs.Common.{◌≡◌, ℕ, ◌<◌, ◌≤◌, List, length, 
 use Rattle.std.proofs.Common.{◌∷◌, zero, suc, replicate}
 use Rattle.std.proofs.lemmas.Bool.{cases_eq}
 use Rattle.std.proofs.lemmas.List.{get_or-set_same, get_or-set_other, length-replicate}
+use Rattle.ft_types.specs.declared.names.TheConstants.{HART_ROW, PAGE_ROW}
 use Rattle.hart_lease.specs.OpenLeases.{OpenView, open_at, LentView, nothing_taken, given_more}
 use Rattle.interleaving.specs.Log.{Edge, Begins, bump}
 use Rattle.ft_types.specs.Counts.{count_at, greater}
@@ -53,9 +54,9 @@ lent_kept start m journal leases stops new_stops edges new_edges heard new_heard
           (λ lent e. let same : nothing_taken out ≡ lent = cc in subst (λ (l : OpenView). l.stop ≤ count_at stops hart) same le) p.stopped;
       unhindered = set_each (λ h lent. MayGoTo edges (counts_of m) h lent.stop) leases hart (Some (nothing_taken out)) row
           (λ lent e. let same : nothing_taken out ≡ lent = cc in subst (λ (l : OpenView). MayGoTo edges (counts_of m) hart l.stop) same may) p.unhindered;
-      rights = set_each (λ h lent. length lent.taken ≡ 64) leases hart (Some (nothing_taken out)) row
+      rights = set_each (λ h lent. length lent.taken ≡ PAGE_ROW) leases hart (Some (nothing_taken out)) row
           (λ lent e. let same : nothing_taken out ≡ lent = cc in
-          subst (λ (l : OpenView). length l.taken ≡ 64) same (length-replicate {A = Option Taken} 64 None)) p.rights;
+          subst (λ (l : OpenView). length l.taken ≡ PAGE_ROW) same (length-replicate {A = Option Taken} PAGE_ROW None)) p.rights;
       begins = p.begins;
       counted = p.counted;
       keeps = kept;
@@ -85,7 +86,7 @@ given_kept start m journal leases stops new_stops edges new_edges heard new_hear
       unhindered = set_each (λ h lent. MayGoTo edges (counts_of m) h lent.stop) leases hart new row
           (λ lent e. let i = more (open_at leases hart) page want count found lent e in
           subst (MayGoTo edges (counts_of m) hart) (sym i.stop) (p.unhindered hart i.was i.is_old)) p.unhindered;
-      rights = set_each (λ h lent. length lent.taken ≡ 64) leases hart new row
+      rights = set_each (λ h lent. length lent.taken ≡ PAGE_ROW) leases hart new row
           (λ lent e. let i = more (open_at leases hart) page want count found lent e in i.row ∙ p.rights hart i.was i.is_old) p.rights;
       begins = p.begins;
       counted = p.counted;
@@ -208,17 +209,17 @@ limits_kept start m journal leases stops higher edges heard before after p le ke
 
 -- a book without steps
 pub begun_book : (start : MachineState) (stops : List ℕ) (edges : List theory.Edge) (heard : Heard) (kept : Type 0) → kept →
-    IsBook start start [] (replicate 8 None) stops edges heard kept
+    IsBook start start [] (replicate HART_ROW None) stops edges heard kept
 begun_book start stops edges heard kept k =
     record {
       run = refl;
       harts = refl;
       pages = refl;
       rows = refl;
-      known = λ hart le. none-replicate {A = OpenView} 8 hart;
-      stopped = λ hart lent e. let same = sym (none-replicate {A = OpenView} 8 hart) ∙ e in cc;
-      unhindered = λ hart lent e. let same = sym (none-replicate {A = OpenView} 8 hart) ∙ e in cc;
-      rights = λ hart lent e. let same = sym (none-replicate {A = OpenView} 8 hart) ∙ e in cc;
+      known = λ hart le. none-replicate {A = OpenView} HART_ROW hart;
+      stopped = λ hart lent e. let same = sym (none-replicate {A = OpenView} HART_ROW hart) ∙ e in cc;
+      unhindered = λ hart lent e. let same = sym (none-replicate {A = OpenView} HART_ROW hart) ∙ e in cc;
+      rights = λ hart lent e. let same = sym (none-replicate {A = OpenView} HART_ROW hart) ∙ e in cc;
       begins = tt;
       counted = λ hart. refl;
       keeps = k;

@@ -2,6 +2,7 @@
 use Rattle.std.proofs.Common.{◌≡◌, ◌≤◌, ℕ, List, [], ◌∷◌, replicate, Option, None, subst, sym, ap, ◌∙◌, inl, inr, arith}
 use Rattle.std.proofs.lemmas.Bool.{cases_lt}
 use Rattle.std.proofs.lemmas.List.{get_or-replicate, get_or_past}
+use Rattle.ft_types.specs.declared.names.TheConstants.{HART_ROW}
 use Rattle.interleaving.proofs.Put.{bump_same}
 use Rattle.interleaving.specs.Log as theory
 use Rattle.interleaving.specs.Log.{Begins, bump, counts_after}
@@ -25,15 +26,15 @@ begins_within edges cut within now (hart ∷ order) le b =
       begins_within edges cut within (bump now hart) order le b.1,
     )
 
-open_none : (leases : List (Option OpenView)) (hart : ℕ) → leases ≡ replicate 8 None → open_at leases hart ≡ None
+open_none : (leases : List (Option OpenView)) (hart : ℕ) → leases ≡ replicate HART_ROW None → open_at leases hart ≡ None
 open_none leases hart idle =
-    ap (λ (ls : List (Option OpenView)). open_at ls hart) idle ∙ elim (cases_lt hart 8) [
-      | inl less ↦ get_or-replicate 8 hart None None less
-      | inr more ↦ get_or_past (replicate 8 None) hart None (omega arith)
+    ap (λ (ls : List (Option OpenView)). open_at ls hart) idle ∙ elim (cases_lt hart HART_ROW) [
+      | inl less ↦ get_or-replicate HART_ROW hart None None less
+      | inr more ↦ get_or_past (replicate HART_ROW None) hart None (omega arith)
     ]
 
 pub limits_set : (start m : MachineState) (journal : List Stretch) (leases : List (Option OpenView)) (stops within : List ℕ) (edges : List theory.Edge)
-    (heard : Heard) (before after : Type 0) → IsBook start m journal leases stops edges heard before → leases ≡ replicate 8 None →
+    (heard : Heard) (before after : Type 0) → IsBook start m journal leases stops edges heard before → leases ≡ replicate HART_ROW None →
     ((hart : ℕ) → counts_of m hart ≤ count_at within hart) → after →
     IsBook start m journal leases within edges heard after
 limits_set start m journal leases stops within edges heard before after p idle le kept =

@@ -9,6 +9,7 @@ use Rattle.std.proofs.lemmas.List.Sorted.{All-permutation, IsPermutation-sym}
 use Rattle.std.specs.List.{AllByRecursion}
 use Rattle.std.specs.List.Sorted.{IsPermutation}
 use Rattle.ft_types.specs.declared.output.Output.{Output}
+use Rattle.ft_types.specs.declared.names.TheConstants.{HART_LIMIT}
 use Rattle.output_gate.specs.Gates.{LineView, GateView, gone_of, waiting_of, offered_of}
 use Rattle.output_gate.proofs.Alls.{all_so, all_join, all_back}
 use Rattle.pair.specs.Exits.{AreLast, IsNext, IsOffered}
@@ -29,7 +30,7 @@ le_told : (a b : ℕ) → a ≤ b → IsTrue (nat_le a b)
 le_told a b le = grind (arith, nat_tests)
 
 -- one that has the next number is next exactly where it is not before the last
-pub next_told : (gate : GateView) (steps : List ℕ) (o : Output) (place : ℕ) → place ≡ o.hart → place < 8 → AreLast gate steps →
+pub next_told : (gate : GateView) (steps : List ℕ) (o : Output) (place : ℕ) → place ≡ o.hart → place < HART_LIMIT → AreLast gate steps →
     length (offered_of gate o.hart) ≡ o.number → IsTrue (nat_le (slice_index steps place) o.step) ↔ IsNext gate o
 next_told gate steps o place same below last number =
     let at : IsLastAt gate steps o.hart = subst (IsLastAt gate steps) same (last place below) in
@@ -74,7 +75,7 @@ moved_all : (P : Output → Type 0) (xs ys : List Output) → IsPermutation xs y
 moved_all P xs ys moves all = recursion_from_All P ys (All-permutation P xs ys moves (All-from_recursion P xs all))
 
 -- what goes out was offered all the same
-pub last_kept : (old new : GateView) → ((hart : ℕ) → hart < 8 → IsPermutation (offered_of old hart) (offered_of new hart)) → (steps : List ℕ) →
+pub last_kept : (old new : GateView) → ((hart : ℕ) → hart < HART_LIMIT → IsPermutation (offered_of old hart) (offered_of new hart)) → (steps : List ℕ) →
     AreLast old steps → AreLast new steps
 last_kept old new same steps last hart below =
     let moves = same hart below in (
@@ -85,8 +86,8 @@ last_kept old new same steps last hart below =
     )
 
 -- nothing yet
-pub none_offered : (gate : GateView) (steps : List ℕ) → ((hart : ℕ) → hart < 8 → offered_of gate hart ≡ []) →
-    ((hart : ℕ) → hart < 8 → slice_index steps hart ≡ 0) → AreLast gate steps
+pub none_offered : (gate : GateView) (steps : List ℕ) → ((hart : ℕ) → hart < HART_LIMIT → offered_of gate hart ≡ []) →
+    ((hart : ℕ) → hart < HART_LIMIT → slice_index steps hart ≡ 0) → AreLast gate steps
 none_offered gate steps empty zero hart below = (
   subst (λ (xs : List Output). NoneBehind (slice_index steps hart) xs) (sym (empty hart below)) tt,
   λ n all. (let e = zero hart below in omega arith),

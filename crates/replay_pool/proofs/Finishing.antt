@@ -1,5 +1,6 @@
 -- A leg's book, from its threads to its finisher.
 use Rattle.std.proofs.Common.{◌≡◌, ◌<◌, ℕ, zero, suc, List, [], length, replicate, Option, None, Some, refl, sym, ap, ◌∙◌, append-nil}
+use Rattle.ft_types.specs.declared.names.TheConstants.{HART_ROW}
 use Rattle.guest_image.specs.Machine.{MachineState}
 use Rattle.hart_lease.specs.OpenLeases.{OpenView, open_at}
 use Rattle.book_modes.specs.declared.mode.Leg.{Leg}
@@ -26,7 +27,7 @@ ended_same machine leases (suc n) before after (between, first, one) =
     ended_open machine (open_at leases n) n between after one ∙ ended_same machine leases n before between first
 
 -- the book goes on with the same leg, and no lease is open
-pub left_leading : (b r : BookView Leg) → r ≡ record b { leases = replicate 8 None; mode = r.mode } → r.mode ≡ b.mode →
+pub left_leading : (b r : BookView Leg) → r ≡ record b { leases = replicate HART_ROW None; mode = r.mode } → r.mode ≡ b.mode →
     length r.machine.harts ≡ length r.start.harts → IsLeading b.start b.mode r
 left_leading b r is mode harts =
     record {
@@ -39,7 +40,7 @@ left_leading b r is mode harts =
 -- ---- a leg, from its first book to where none of its harts can go on
 
 module _ (m : MachineState) (leg : PlannedLeg) (begun copy picked b : BookView Leg)
-    (is : begun ≡ record { start = m; machine = m; journal = []; leases = replicate 8 None; mode = leg_of leg }) (same : copy ≡ begun)
+    (is : begun ≡ record { start = m; machine = m; journal = []; leases = replicate HART_ROW None; mode = leg_of leg }) (same : copy ≡ begun)
     (on : GoesOnFrom (λ r settled new now. new ≡ r) copy picked) where
   start_is : picked.start ≡ m
   start_is = on.start ∙ ap (λ (x : BookView Leg). x.start) (same ∙ is)

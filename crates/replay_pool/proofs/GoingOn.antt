@@ -8,6 +8,7 @@ use Rattle.ft_types.specs.Counts.{count_at}
 use Rattle.interleaving.specs.Log as theory
 use Rattle.interleaving.specs.Log.{Begins, bump, counts_after, turns_of}
 use Rattle.interleaving.specs.Stored.{run_from}
+use Rattle.ft_types.specs.declared.names.TheConstants.{HART_LIMIT}
 use Rattle.edge_log.specs.declared.Edge.{Edge}
 use Rattle.edge_log.specs.EdgeLog.{IsLog, edges_of, edge_as, row_of}
 use Rattle.edge_log.proofs.Logs.{in_row, to_edges}
@@ -130,12 +131,12 @@ wider edges cut later le (hart ∷ order) now ((less, met), rest) =
 
 module _ (old new : PlannedLeg) (b : BeginsLeg old new) (log : IsLog new.edges.start new.edges.rows) (m now : MachineState) (was : IsLeg (length m.harts) old)
     (is : IsLeg (length m.harts) new) (base : (hart : ℕ) → count_at new.base hart ≡ counts_of m hart) (led : LegLeads old m now) where
-  few : length m.harts ≤ 8
+  few : length m.harts ≤ HART_LIMIT
   few = let many = log.harts in let same = ap length is.start ∙ is.harts in omega (arith, many, same)
 
-  -- a hart that has steps in the leg is one of eight
-  one_of_eight : (hart count : ℕ) → count < count_at old.ends hart → hart < 8
-  one_of_eight hart count less =
+  -- a hart that has steps in the leg is one of the first HART_LIMIT
+  one_of_few : (hart count : ℕ) → count < count_at old.ends hart → hart < HART_LIMIT
+  one_of_few hart count less =
       elim (cases_lt hart (length m.harts)) [
         | inl there ↦ omega (arith, there, few)
         | inr over ↦ let none = was.no_others hart over in absurd (omega (arith, none, less))
@@ -143,7 +144,7 @@ module _ (old new : PlannedLeg) (b : BeginsLeg old new) (log : IsLog new.edges.s
 
   up : (hart : ℕ) → count_at old.ends hart ≤ count_at new.ends hart
   up hart =
-      elim (cases_lt hart 8) [
+      elim (cases_lt hart HART_LIMIT) [
         | inl there ↦ b.ends hart there
         | inr over ↦ let none = was.no_others hart (omega (arith, over, few)) in omega (arith, none)
       ]
@@ -173,7 +174,7 @@ module _ (old new : PlannedLeg) (b : BeginsLeg old new) (log : IsLog new.edges.s
       ∙ same_turns (log_of new).inputs (log_of old).inputs (edges_of old.edges) (count_at old.base) (count_at old.ends)
       (λ hart count from less.
       heard_before (inputs_of old.inputs hart) (count_at old.ends hart) (inputs_of new.inputs hart) count
-      (b.inputs hart (one_of_eight hart count less)) less) led.0 (count_at old.base) (λ i. omega arith) led.1.begins
+      (b.inputs hart (one_of_few hart count less)) less) led.0 (count_at old.base) (λ i. omega arith) led.1.begins
 
   pub begun : HasCome new m now
   begun = record { is_leg = is; base = base; order = led.0; begins = begins; run = ap (run_of m) turns_are ∙ led.2 }

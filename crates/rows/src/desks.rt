@@ -2,7 +2,7 @@
 
 use crate::inputs::Given::{self, Bell, Timer, Word};
 use crate::inputs::{are, input};
-use ft_types::{Count, Hart, Memory};
+use ft_types::{Count, HART_LIMIT, Hart, Memory};
 use input_log::{Desk, Input, WaitingBell};
 use std::test::Fail;
 
@@ -46,7 +46,10 @@ fn put(desk: &mut Desk, not_before: Count, input: Input) -> Result<bool, Memory>
 }
 
 fn ring(desk: &mut Desk, number: u8, source: u8, after: Count) -> Result<bool, Memory> {
-    let (hart, source) = (Hart::new(number % 8), Hart::new(source % 8));
+    let (hart, source) = (
+        Hart::new(number % HART_LIMIT),
+        Hart::new(source % HART_LIMIT),
+    );
     desk.put_bell(hart, source, after)?;
     Ok(true)
 }
@@ -61,11 +64,14 @@ fn gives(desk: &mut Desk, count: Count, given: &[Given]) -> bool {
 }
 
 fn next(desk: &Desk, number: u8) -> Option<Count> {
-    desk.next(Hart::new(number % 8))
+    desk.next(Hart::new(number % HART_LIMIT))
 }
 
 fn rings(desk: &Desk, number: u8, bells: &[(u8, Count)]) -> bool {
-    are_bells(desk.bells_next(Hart::new(number % 8)).as_slice(), bells)
+    are_bells(
+        desk.bells_next(Hart::new(number % HART_LIMIT)).as_slice(),
+        bells,
+    )
 }
 
 fn become_copy(desk: &mut Desk) -> Result<bool, Memory> {

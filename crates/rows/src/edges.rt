@@ -1,7 +1,7 @@
 //! Logs of edges.
 
 use edge_log::{Added, Edge, EdgeLog};
-use ft_types::{Count, Counts, Hart, Memory};
+use ft_types::{Count, Counts, HART_LIMIT, Hart, Memory};
 use std::alloc::Global;
 use std::process::Abort;
 use std::test::Fail;
@@ -12,9 +12,9 @@ pub type Told = (u8, Count, u8, Count);
 fn edge(told: &Told) -> Edge {
     let (number, at, other, after) = *told;
     Edge {
-        hart: Hart::new(number % 8),
+        hart: Hart::new(number % HART_LIMIT),
         at,
-        other: Hart::new(other % 8),
+        other: Hart::new(other % HART_LIMIT),
         after,
     }
 }

@@ -1,6 +1,6 @@
 //! Logs of inputs. What memory is refused once is asked for once more, of a log that must be as it was.
 
-use ft_types::{Count, Hart, Memory};
+use ft_types::{Count, HART_LIMIT, Hart, INPUT_LIMIT, Memory};
 use input_log::{Input, InputLog};
 use std::test::Fail;
 
@@ -18,7 +18,7 @@ pub fn input(given: &Given) -> Input {
     match *given {
         Word(word) => Input::Word(word),
         Timer => Input::Timer,
-        Bell(source) => Input::Bell(Hart::new(source % 8)),
+        Bell(source) => Input::Bell(Hart::new(source % HART_LIMIT)),
     }
 }
 
@@ -37,7 +37,7 @@ pub fn are(inputs: &[Input], given: &[Given]) -> bool {
 enum Call {
     /// Adds an input, which may be added.
     Add(Count, Given),
-    /// Adds as many inputs as it may, at most eight.
+    /// Adds as many inputs as it may, at most `INPUT_LIMIT`.
     AddAll(Count, &'static [Given]),
     /// Whether an input may be added.
     May(Count, bool),
@@ -66,7 +66,7 @@ fn add(log: &mut InputLog, count: Count, input: Input) -> Result<bool, Memory> {
 }
 
 fn add_all(log: &mut InputLog, count: Count, inputs: &[Input]) -> Result<bool, Memory> {
-    let room = 8 - log.at(Hart::new(1), count).len();
+    let room = INPUT_LIMIT - log.at(Hart::new(1), count).len();
     if !log.may_add(Hart::new(1), count) || inputs.len() > room {
         return Ok(false);
     }
@@ -75,7 +75,7 @@ fn add_all(log: &mut InputLog, count: Count, inputs: &[Input]) -> Result<bool, M
 }
 
 fn add_given(log: &mut InputLog, count: Count, given: &[Given]) -> Result<bool, Memory> {
-    let mut inputs = [Input::Timer; 8];
+    let mut inputs = [Input::Timer; INPUT_LIMIT];
     for (place, given) in inputs.iter_mut().zip(given) {
         *place = input(given);
     }

@@ -1,8 +1,8 @@
 //! Rows of counts, sets, devices in memory, and the texts of numbers and words.
 
 use ft_types::{
-    COUNT_LIMIT, Count, Counts, Hart, HartSet, Keeper, KeeperSet, LineBuffer, MemorySink,
-    MemorySource, Source, first_line, read_number, read_word, write_all,
+    COUNT_LIMIT, Count, Counts, HART_LIMIT, HART_ROW, Hart, HartSet, Keeper, KeeperSet, LineBuffer,
+    MemorySink, MemorySource, Source, first_line, read_number, read_word, write_all,
 };
 use std::alloc::Global;
 use std::test::Fail;
@@ -32,13 +32,16 @@ fn beside(one: Counts, other: Counts) -> Option<([Count; 2], [Count; 2], bool)> 
     Some((numbers(&lesser), numbers(&greater), one.within(other)))
 }
 
+/// One count more than there are harts at the most.
+const TOO_MANY: usize = HART_ROW + 1;
+
 #[test]
 fn counts(rt: HostRuntime) {
     let (one, other) = (two(5, 7), two(4, 9));
     assert_eq!(rt; beside(one, other), Some(([4, 7], [5, 9], false)));
     assert_eq!(rt; beside(two(4, 7), one), Some(([4, 7], [5, 7], true)));
     let rows: [(&[Count], bool); 3] = [
-        (&[0; 9], false),
+        (&[0; TOO_MANY], false),
         (&[COUNT_LIMIT], false),
         (&[COUNT_LIMIT - 1], true),
     ];
@@ -49,9 +52,12 @@ fn counts(rt: HostRuntime) {
 
 /// A set of the first hart and the last: which harts are there, and how many.
 fn harts() -> ([bool; 4], usize, bool) {
-    let set = HartSet::new().with(Hart::new(7)).with(Hart::new(0));
-    let set = set.with(Hart::new(7));
-    let there = [0, 1, 6, 7].map(|number: u8| set.contains(Hart::new(number % 8)));
+    let last = HART_LIMIT - 1;
+    let set = HartSet::new().with(Hart::new(last)).with(Hart::new(0));
+    let set = set.with(Hart::new(last));
+    let there = [0, 1, last - 1, last].map(|number: u8| set.contains(Hart::new(
+        number % HART_LIMIT,
+    )));
     (there, set.len(), set.is_empty())
 }
 

@@ -2,7 +2,7 @@
 
 use crate::edges::{Told, are};
 use crew_pages::{Ask, PageRight};
-use ft_types::{Count, Counts, Hart, HartSet, Want};
+use ft_types::{Count, Counts, HART_LIMIT, HART_ROW, Hart, HartSet, Want};
 use std::alloc::Global;
 
 /// A call of a right for the hart of a number.
@@ -21,12 +21,12 @@ enum Call {
 use Call::{Given, HeldBy, Leave, Lower};
 
 fn hart(number: u8) -> Hart {
-    Hart::new(number % 8)
+    Hart::new(number % HART_LIMIT)
 }
 
 fn ask(alloc: Global, right: &mut PageRight, hart: Hart, want: Want, at: Count) -> Option<Ask> {
-    let counts = Counts::from_slice(&[at; 8])?;
-    if counts.harts() != 8 {
+    let counts = Counts::from_slice(&[at; HART_ROW])?;
+    if counts.harts() != HART_LIMIT {
         return None;
     }
     Some(right.ask(alloc, hart, want, &counts))

@@ -1,6 +1,7 @@
 //! Keepers and a gate on threads of their own, over one board.
 
 ghost use Rattle.std.specs.Prelude.{◌≡◌, ◌<◌, ℕ, length, IfOk};
+ghost use Rattle.ft_types.specs.declared.names.TheConstants.{HART_LIMIT};
 ghost use Rattle.ack_core.specs.Seats.{term_of, harts_of, keepers_of, IsKeeperOf, IsGateOf};
 ghost use Rattle.output_gate.specs.Gates.{noted_at};
 ghost use Rattle.output_gate.specs.Looks.{IsSeen};
@@ -69,7 +70,7 @@ fn position(term: u32, first: u32, second: u32) -> Position
 
 /// An output of a hart.
 fn output(hart: u8, number: u64, step: u64) -> Output
-    requires { hart < 8 }
+    requires { hart < HART_LIMIT }
     ensures { result ≡ record { hart = hart; number = number; step = step; word = 7 } }
 {
     Output {

@@ -4,7 +4,7 @@ use crate::runs::leads_in_turn;
 use closed_cut::position;
 use command_line::{Files, PairOrders, Pairs, command};
 use fixtures::{HALTS, image_of};
-use ft_types::{Failed, Hart, Memory, MemorySink, MemorySource};
+use ft_types::{Failed, HART_LIMIT, Hart, Memory, MemorySink, MemorySource};
 use guest_image::{Image, Machine};
 use log_join::Store;
 use output_gate::Output;
@@ -123,7 +123,7 @@ fn held(
 /// The steps of all harts.
 fn steps_of(machine: &Machine) -> usize {
     let mut steps = 0usize;
-    for number in 0..machine.harts().min(8) {
+    for number in 0..machine.harts().min(HART_LIMIT) {
         steps = steps.saturating_add(machine.hart(Hart::new(number)).count() as usize);
     }
     steps

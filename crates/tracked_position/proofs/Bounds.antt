@@ -5,6 +5,7 @@ use Rattle.std.specs.Prelude.{slice_index_or}
 use Rattle.std.proofs.lemmas.Bool.{cases_lt, cases_eq}
 use Rattle.std.proofs.lemmas.List.{get_or_past}
 use Rattle.ft_types.specs.Counts.{count_at}
+use Rattle.ft_types.specs.declared.names.TheConstants.{HART_LIMIT, HART_ROW}
 use Rattle.edge_log.specs.declared.Edge.{Edge}
 use Rattle.fragment_codec.specs.Rules.{FragmentParts, OpeningParts}
 use Rattle.log_join.specs.Cells.{One}
@@ -183,10 +184,10 @@ set_held held waits at flag are here_is hart is =
       | inr ne ↦ are hart (sym (get_or-set_other held at hart flag false ne) ∙ is)
     ]
 
-pub held_all : (held : List Bool) (waits : List (Option ℕ)) → length held ≡ 8 → length waits ≡ 8 → All (λ flag. flag ≡ true) held → AreHeld held waits →
+pub held_all : (held : List Bool) (waits : List (Option ℕ)) → length held ≡ HART_ROW → length waits ≡ HART_ROW → All (λ flag. flag ≡ true) held → AreHeld held waits →
     (hart : ℕ) → IsHeld waits hart
-held_all held waits eight many all are hart =
-    elim (cases_lt hart 8) [
+held_all held waits wide many all are hart =
+    elim (cases_lt hart HART_ROW) [
       | inl less ↦ are hart (all hart false (omega arith))
       | inr over ↦ Free (get_or_past waits hart None (omega arith))
     ]
@@ -205,10 +206,10 @@ set_over s term base cut more cursors at cursor there within are over h less =
     ]
 
 -- nothing is seen ahead of one any more
-pub unseen_over : (s : StoreView) (term : ℕ) (base cut : ℕ → ℕ) (cursors : List Cursor) (at : ℕ) → at < 8 → length cursors ≡ 8 →
+pub unseen_over : (s : StoreView) (term : ℕ) (base cut : ℕ → ℕ) (cursors : List Cursor) (at : ℕ) → at < HART_LIMIT → length cursors ≡ HART_ROW →
     AreOver s term base cut cursors →
     AreOver s term base cut (set cursors at (record { place = (cursor_at cursors at).place; end = (cursor_at cursors at).end; ahead = Unseen }))
-unseen_over s term base cut cursors at less eight are =
+unseen_over s term base cut cursors at less wide are =
     let over = are at less in
     set_over s term base cut cut cursors at (record { place = (cursor_at cursors at).place; end = (cursor_at cursors at).end; ahead = Unseen }) (omega arith)
     (λ h. le_of_eq refl) are (record { goes = over.goes; met = over.met; seen = tt })
@@ -224,9 +225,9 @@ pub room_le : (rose : Bool) (old new : List ℕ) → (rose ≡ false → new ≡
 room_le true old new same less = let l : room new < room old = less refl in omega arith
 room_le false old new same less = le_of_eq (ap room (same refl))
 
--- a guest has at most eight harts
-pub few_harts : (s : StoreView) → IsStore s → (o : OpeningParts) → opening_at s o.term ≡ One o → s.guest.harts ≤ 8
+-- a guest has at most HART_LIMIT harts
+pub few_harts : (s : StoreView) → IsStore s → (o : OpeningParts) → opening_at s o.term ≡ One o → s.guest.harts ≤ HART_LIMIT
 few_harts s rules o opens =
     let fits = rules.openings o.term o opens in
-    let limit : o.guest.harts ≤ 8 = fits.rules.guest.limit in
+    let limit : o.guest.harts ≤ HART_LIMIT = fits.rules.guest.limit in
     let same : o.guest.harts ≡ s.guest.harts = ap (λ (g : GuestParts). g.harts) fits.same_guest in omega arith

@@ -8,6 +8,7 @@ use Rattle.std.specs.Ordering.{nat_cmp}
 use Rattle.ft_types.specs.Counts.{count_at}
 use Rattle.ft_types.specs.Guests.{GuestParts}
 use Rattle.ft_types.specs.declared.errors.Memory.{Memory}
+use Rattle.ft_types.specs.declared.names.TheConstants.{HART_LIMIT}
 use Rattle.fragment_codec.specs.declared.types.Key.{Key}
 use Rattle.fragment_codec.specs.declared.frame.Frame.TheVariants.{Log}
 use Rattle.fragment_codec.specs.Rules.{FragmentParts, OpeningParts}
@@ -115,7 +116,7 @@ module _ (old new : StoreView) (f : FragmentParts) (rules : IsStore old) (grown 
       (λ end. ends_still term h cursors apart end (ended term (base h) h cut (cursor_at cursors h) (are h less) end)) (are h less)
 
   -- no walk comes to where the piece begins, where that of its hart has ended elsewhere
-  not_there : (term : ℕ) (base cut : ℕ → ℕ) (cursors : List Cursor) → f.key.hart < 8 → IsApart cursors f.key f.from →
+  not_there : (term : ℕ) (base cut : ℕ → ℕ) (cursors : List Cursor) → f.key.hart < HART_LIMIT → IsApart cursors f.key f.from →
       (cursor_at cursors f.key.hart).ahead ≡ End → AreOver old term base cut cursors → (hart place : ℕ) →
       Goes (pieces_of old term hart) (base hart) place f.from → key_at term hart place ≡ f.key → ⊥
   not_there term base cut cursors below apart end are hart place goes at =
@@ -188,7 +189,7 @@ module _ (old new : StoreView) (f : FragmentParts) (rules : IsStore old) (grown 
       }
 
   -- a piece that begins elsewhere than where the walk over its hart has ended
-  pub tracked_apart : (p : Position) (cursors : List Cursor) → f.key.hart < 8 → IsApart cursors f.key f.from →
+  pub tracked_apart : (p : Position) (cursors : List Cursor) → f.key.hart < HART_LIMIT → IsApart cursors f.key f.from →
       (cursor_at cursors f.key.hart).ahead ≡ End → IsTracked old p cursors → IsTracked new p cursors
   tracked_apart p cursors below apart end is =
       tracked_same p cursors is

@@ -1,9 +1,9 @@
 //! Whether each hart that waits, waits at last for one that goes no further anyhow.
 
-ghost use Rattle.std.specs.Prelude.{◌≡◌, ◌↔◌, ℕ, true, All, IsTrue};
+ghost use Rattle.std.specs.Prelude.{◌≡◌, ◌↔◌, ℕ, true, false, All, IsTrue, slice_index_or};
 ghost use Rattle.tracked_position.specs.Waits.{IsHeld};
 
-use ft_types::{HART_LIMIT, HART_ROW, Hart};
+use ft_types::{HART_ROW, Hart};
 use std::option::Option;
 
 /// Whether each flag is set.
@@ -13,18 +13,33 @@ fn are_set(flags: &[bool]) -> bool
     flags.iter().all(|flag| *flag)
 }
 
+/// Flags each hart that waits for none, or for one that has its flag. Whether a flag changed.
+fn hold_more(waits: &[Option<Hart>; HART_ROW], held: &mut [bool; HART_ROW]) -> bool
+    requires { (hart : ℕ) → slice_index_or held.old hart false ≡ true → IsHeld waits.now hart }
+    ensures { (hart : ℕ) → slice_index_or held.new hart false ≡ true → IsHeld waits.now hart }
+{
+    let mut more = false;
+    for index in 0..HART_ROW {
+        let waits_for = waits[index];
+        let before = held[index];
+        held[index] = match waits_for {
+            None => true,
+            Some(other) => held[other.index()],
+        };
+        more = more || held[index] != before;
+    }
+    more
+}
+
 /// Whether the chain of those for whom it waits ends, for each hart: none then waits for itself in a circle.
 pub(crate) fn all_held(waits: &[Option<Hart>; HART_ROW]) -> bool
     ensures { IsTrue result → (hart : ℕ) → IsHeld waits.now hart }
 {
     let mut held = [false; HART_ROW];
-    for turn in 0..64u8 {
-        let index = Hart::new(turn % HART_LIMIT).index();
-        let waits_for = waits[index];
-        held[index] = match waits_for {
-            None => true,
-            Some(other) => held[other.index()],
-        };
+    for _ in 0..HART_ROW {
+        if !hold_more(waits, &mut held) {
+            return are_set(&held);
+        }
     }
     are_set(&held)
 }

@@ -5,6 +5,7 @@ use Rattle.std.specs.List.{count_by}
 use Rattle.std.proofs.lemmas.Option.{slice_get_within}
 use Rattle.std.proofs.lemmas.List.{length-append, length-replicate}
 use Rattle.std.proofs.lemmas.List.Elements.{All-cons, All-append, All-drop}
+use Rattle.ft_types.specs.declared.names.TheConstants.{INPUT_LIMIT}
 use Rattle.interleaving.specs.Lists.{put}
 use Rattle.interleaving.specs.Machine.{counts}
 use Rattle.interleaving.specs.Log.{Edge}
@@ -184,7 +185,7 @@ module _ (start : MachineState) (now : Now) (past : List HartStep) (edges : List
           (ap (λ bs. bs ++ bells_from source (bells_of r.desk hart))
           (none (bells_from source (kept.due_bells hart)) (sym (sym (ap (count_by (is_bell_from source)) silent) ∙ kept.told hart source))) ∙
           ap (bells_from source)
-          (sym (take-append-drop 8 (bells_of r.desk hart)) ∙ (ap (λ bs. bs ++ drop 8 (bells_of r.desk hart)) (sym here) ∙ ap (λ bs. bells hart ++ bs)
+          (sym (take-append-drop INPUT_LIMIT (bells_of r.desk hart)) ∙ (ap (λ bs. bs ++ drop INPUT_LIMIT (bells_of r.desk hart)) (sym here) ∙ ap (λ bs. bells hart ++ bs)
           (sym t.bells))))
 
       next_left : (source target : ℕ) → IsPair (view (hardware (length start.pages)) start) source target →

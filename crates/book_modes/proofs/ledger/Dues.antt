@@ -7,6 +7,7 @@ use Rattle.std.proofs.lemmas.Bool.{eqb-false}
 use Rattle.std.proofs.lemmas.List.Sums.{take_while-cons}
 use Rattle.std.proofs.lemmas.List.{get_or-set_other}
 use Rattle.std.proofs.lemmas.List.Elements.{All-cons, All-head, All-tail, All-take, All-drop, All-append, All-map}
+use Rattle.ft_types.specs.declared.names.TheConstants.{HART_LIMIT, HART_ROW, INPUT_LIMIT}
 use Rattle.interleaving.specs.Machine.{Machine, counts, steps}
 use Rattle.interleaving.specs.Stored.{view}
 use Rattle.interleaving.proofs.Put.{same_or_not}
@@ -65,7 +66,7 @@ of_silence [] e = refl
 of_silence (i ∷ inputs) e = cc
 
 -- A hart without an open lease is given what is due to it.
-module _ (r new : RecordingView) (hart count : ℕ) (start m : MachineState) (journal : List Stretch) (leases : List (Option OpenView)) (row : hart < 8)
+module _ (r new : RecordingView) (hart count : ℕ) (start m : MachineState) (journal : List Stretch) (leases : List (Option OpenView)) (row : hart < HART_LIMIT)
     (closed : open_at leases hart ≡ None) (at : count ≡ counts_of m hart) (p : IsRecorded r start m journal leases) where
   from_desk : is_silent (due_at r.due hart).inputs ≡ true → TakesFromDesk r hart count new → IsRecorded new start m journal leases
   from_desk silent t =
@@ -84,7 +85,7 @@ module _ (r new : RecordingView) (hart count : ℕ) (start m : MachineState) (jo
           edges =
               λ h. subst (λ (due : List DueView). All (IsDueEdge m h) (due_at due h).edges) (sym t.due)
               (due_set r.due hart (due_from hart count (bells_of r.desk hart) _) (λ h d. All (IsDueEdge m h) d.edges) (omega (arith, row, p.due.many))
-              (bell_edges_due m hart count at (bells_going (bells_of r.desk hart)) (All-take (IsRung m) 8 (bells_of r.desk hart) (p.bells hart)))
+              (bell_edges_due m hart count at (bells_going (bells_of r.desk hart)) (All-take (IsRung m) INPUT_LIMIT (bells_of r.desk hart) (p.bells hart)))
               (λ h ne. p.due.edges h) h);
           given = given_left;
           given_edges = edges_left;
@@ -101,7 +102,7 @@ module _ (r new : RecordingView) (hart count : ℕ) (start m : MachineState) (jo
           elim (same_or_not hart h) [
             | inl same ↦
                 subst (λ h. All (IsRung m) (bells_of new.desk h)) same
-                (subst (All (IsRung m)) (sym t.bells) (All-drop (IsRung m) 8 (bells_of r.desk hart) (p.bells hart)))
+                (subst (All (IsRung m)) (sym t.bells) (All-drop (IsRung m) INPUT_LIMIT (bells_of r.desk hart) (p.bells hart)))
             | inr ne ↦ subst (All (IsRung m)) (sym (t.bells_of_others h (λ e. ne (sym e)))) (p.bells h)
           ]
 
@@ -122,7 +123,7 @@ module _ (r new : RecordingView) (hart count : ℕ) (start m : MachineState) (jo
           (map (λ w. w.input) (others_going count (room_beside (bells_of r.desk hart)) (others_of r.desk hart)))
           (All-map (IsInputOf crew) (λ (b : WaitingBell). Bell b.source) (bells_going (bells_of r.desk hart))
           (λ k d below.
-          let rung = All-take (IsRung m) 8 (bells_of r.desk hart) (p.bells hart) k d below in
+          let rung = All-take (IsRung m) INPUT_LIMIT (bells_of r.desk hart) (p.bells hart) k d below in
           omega (arith, rung.source, p.size.harts)))
           (All-map (IsInputOf crew) (λ (w : WaitingInput). w.input) (others_going count (room_beside (bells_of r.desk hart)) (others_of r.desk hart))
           (All-take (λ w. IsInputOf crew w.input) (room_beside (bells_of r.desk hart)) (take_while (λ w. nat_le w.not_before count) (others_of r.desk hart))
@@ -285,7 +286,7 @@ module _ (r new : RecordingView) (start m : MachineState) (journal : List Stretc
             settled = omega (arith, now_at);
           }) (its_own n)
 
-  pub dues_stay : (steps : ℕ) → new.due ≡ due_after steps r.due l.hart → length new.due ≡ 8
+  pub dues_stay : (steps : ℕ) → new.due ≡ due_after steps r.due l.hart → length new.due ≡ HART_ROW
   dues_stay zero due = ap length due ∙ p.due.many
   dues_stay (suc steps) due = ap length due ∙ (length-set r.due l.hart nothing_due ∙ p.due.many)
 
@@ -295,8 +296,8 @@ module _ (r new : RecordingView) (start m : MachineState) (journal : List Stretc
   others_due (suc steps) due hart ne = ap (λ ds. due_at ds hart) due ∙ get_or-set_other r.due l.hart hart nothing_due nothing_due (λ e. ne (sym e))
 
 -- there is room for the inputs of a hart's next step
-pub room_there : (log : List (List (ℕ × Input))) (hart n : ℕ) (inputs : List Input) → All (λ x. x.0 < n) (inputs_of log hart) → length inputs ≤ 8 →
-    length (inputs_at (inputs_of log hart) n) + length inputs ≤ 8
+pub room_there : (log : List (List (ℕ × Input))) (hart n : ℕ) (inputs : List Input) → All (λ x. x.0 < n) (inputs_of log hart) → length inputs ≤ INPUT_LIMIT →
+    length (inputs_at (inputs_of log hart) n) + length inputs ≤ INPUT_LIMIT
 room_there log hart n inputs last few = omega (arith, ap length (none_from (inputs_of log hart) n n last (omega arith)), few)
 
 pub logs_some : (steps : ℕ) (before : List (List (ℕ × Input))) (l : LeaseView) (after : List (List (ℕ × Input))) → steps ≢ 0 →

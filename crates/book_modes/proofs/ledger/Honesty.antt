@@ -2,6 +2,7 @@
 use Rattle.std.proofs.Common.{◌≡◌, ℕ, zero, suc, ◌≤◌, List, [], ◌∷◌, length, replicate, slice_get, false, Some, All, ◌<◌, ◌≢◌, ◌⊎◌, inl, inr, ◌+◌, Option}
 use Rattle.std.proofs.Common.{None, option_map, Contains, get_or, le_trans, le_of_eq, refl, sym, ap, subst, ◌∙◌, arith}
 use Rattle.std.proofs.Math.Path.{fun_ext}
+use Rattle.ft_types.specs.declared.names.TheConstants.{HART_ROW}
 use Rattle.interleaving.specs.Machine.{System, Machine, Turn, after, step_of, counts, steps, Runs}
 use Rattle.interleaving.specs.Log as theory
 use Rattle.interleaving.specs.Log.{HasInputs, IsHonest, bump, turns_of}
@@ -161,7 +162,7 @@ index_same (suc n) zero = refl
 index_same (suc n) (suc hart) = index_same n hart
 
 pub begun_kept : (r : RecordingView) (start : MachineState) (limits : List ℕ) → length limits ≡ length start.harts → IsUnused r start limits →
-    ((hart : ℕ) (h : Hart) → slice_get start.harts hart ≡ Some h → length h.received.heard ≡ 8) → IsRecorded r start start [] (replicate 8 None)
+    ((hart : ℕ) (h : Hart) → slice_get start.harts hart ≡ Some h → length h.received.heard ≡ HART_ROW) → IsRecorded r start start [] (replicate HART_ROW None)
 begun_kept r start limits many u rows =
     record {
       ledger = ledger.begin (view (hardware (length start.pages)) start);
@@ -169,7 +170,7 @@ begun_kept r start limits many u rows =
         reached = Begun;
         at_machine = refl;
         in_journal = refl;
-        stubs = λ hart. ap (option_map stub_as) (sym (none-replicate {A = OpenView} 8 hart));
+        stubs = λ hart. ap (option_map stub_as) (sym (none-replicate {A = OpenView} HART_ROW hart));
       };
       size = record { few = u.few; harts = refl; pages = refl };
       log = record {
@@ -185,13 +186,13 @@ begun_kept r start limits many u rows =
       logged = λ hart. subst (All (λ x. x.0 < counts_of start hart)) (sym (u.inputs hart)) (λ k d below. absurd (omega arith));
       begun = λ hart. subst (All (λ x. counts_of start hart ≤ x.0)) (sym (u.inputs hart)) (λ k d below. absurd (omega arith));
       due = record {
-        many = ap length u.due ∙ length-replicate {A = DueView} 8 nothing_due;
+        many = ap length u.due ∙ length-replicate {A = DueView} HART_ROW nothing_due;
         edges =
             λ hart.
             subst (λ (d : DueView). All (IsDueEdge start hart) d.edges)
-            (sym (ap (λ (ds : List DueView). due_at ds hart) u.due ∙ index_same 8 hart)) (λ k d below. absurd (omega arith));
-        given = λ hart lent e. let same = sym (none-replicate {A = OpenView} 8 hart) ∙ e in cc;
-        given_edges = λ hart lent e. let same = sym (none-replicate {A = OpenView} 8 hart) ∙ e in cc;
+            (sym (ap (λ (ds : List DueView). due_at ds hart) u.due ∙ index_same HART_ROW hart)) (λ k d below. absurd (omega arith));
+        given = λ hart lent e. let same = sym (none-replicate {A = OpenView} HART_ROW hart) ∙ e in cc;
+        given_edges = λ hart lent e. let same = sym (none-replicate {A = OpenView} HART_ROW hart) ∙ e in cc;
       };
       bells = λ hart. subst (All (IsRung start)) (sym (u.bells hart)) (unheard_rung start hart);
       inputs =
@@ -200,12 +201,12 @@ begun_kept r start limits many u rows =
             due =
                 λ hart.
                 subst (λ (d : DueView). All (IsInputOf (length start.harts)) d.inputs)
-                (sym (ap (λ (ds : List DueView). due_at ds hart) u.due ∙ index_same 8 hart)) (λ k d below. absurd (omega arith));
+                (sym (ap (λ (ds : List DueView). due_at ds hart) u.due ∙ index_same HART_ROW hart)) (λ k d below. absurd (omega arith));
             waiting = λ hart. subst (All (λ w. IsInputOf (length start.harts) w.input)) (sym (u.others hart)) (λ k d below. absurd (omega arith));
           };
       heard =
           begun_bells start r.due r.desk (λ hart h is. let row = rows hart h is in omega (arith, row, u.few))
-          (λ hart. ap (λ (ds : List DueView). due_at ds hart) u.due ∙ index_same 8 hart) u.bells u.others;
+          (λ hart. ap (λ (ds : List DueView). due_at ds hart) u.due ∙ index_same HART_ROW hart) u.bells u.others;
     }
   where
     nothing : (e : theory.Edge) → Contains [] e → ⊥

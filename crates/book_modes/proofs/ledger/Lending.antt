@@ -3,6 +3,7 @@ use Rattle.std.proofs.Common.{◌≡◌, ◌≢◌, ℕ, zero, suc, ◌<◌, ◌
 use Rattle.std.proofs.Common.{option_map, Contains, refl, sym, ap, subst, ◌∙◌, arith, true≢false, if◌then◌else◌}
 use Rattle.std.proofs.lemmas.List.{get_or-set_same, get_or-set_other, map-append}
 use Rattle.std.proofs.lemmas.List.Elements.{All-contains}
+use Rattle.ft_types.specs.declared.names.TheConstants.{HART_LIMIT}
 use Rattle.interleaving.specs.Lists.{put}
 use Rattle.interleaving.specs.Machine.{Machine, counts}
 use Rattle.interleaving.specs.Log as theory
@@ -133,7 +134,7 @@ lent_is_due r new hart count lent stop filled is at =
       stop = ap (λ (l : LentView). l.stop) is ∙ at;
     }
 
-pub lending_kept : (r new : RecordingView) (hart count : ℕ) (lent : LentView) → hart < 8 → GoesOut r hart count lent new →
+pub lending_kept : (r new : RecordingView) (hart count : ℕ) (lent : LentView) → hart < HART_LIMIT → GoesOut r hart count lent new →
     KeepsLending (IsRecorded r) (IsRecorded new) hart count lent
 lending_kept r new hart count lent below out start m journal leases is_hart row closed at p =
     lent_due new hart lent start m journal leases is_hart row closed out.inputs out.edges
@@ -171,7 +172,7 @@ module _ (r : RecordingView) (machine : MachineState) (leases : List (Option Ope
   right_is : p.ledger.rights asked.page ≡ right_at r.rights asked.page
   right_is = p.rights.each asked.page page_is
 
-  pub few_hold : (other : ℕ) → holds (right_at r.rights asked.page) other ≡ true → other < 8
+  pub few_hold : (other : ℕ) → holds (right_at r.rights asked.page) other ≡ true → other < HART_LIMIT
   few_hold other e =
       let lt = rights_are.harts asked.page other (ap (λ s. holds s other) right_is ∙ e) in
       omega (arith, lt, p.size.few)
@@ -236,7 +237,7 @@ module _ (r : RecordingView) (machine : MachineState) (leases : List (Option Ope
 
     yields : IsYielded (system pages) p.ledger asked.hart asked.page asked.want (right_met r settled asked)
     yields = record {
-      given_up = subst (GivenUp (system pages) p.ledger asked.hart asked.page asked.want) (sym (met_is r settled asked few_hold)) (gives_up 8);
+      given_up = subst (GivenUp (system pages) p.ledger asked.hart asked.page asked.want) (sym (met_is r settled asked few_hold)) (gives_up HART_LIMIT);
       taken = λ other e. absurd (true≢false (sym e ∙ nobody_there settled other));
     }
 

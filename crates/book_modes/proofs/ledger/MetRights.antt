@@ -3,6 +3,7 @@ use Rattle.std.proofs.Common.{◌≡◌, ◌≢◌, ◌==◌, ◌&&◌, not, ℕ
 use Rattle.std.proofs.Common.{sym, ap, subst, ◌∙◌, arith, true≢false, eq-eqb, ne_eqb}
 use Rattle.std.proofs.Math.Path.{fun_ext}
 use Rattle.std.proofs.lemmas.Bool.{cases_eq, cases_lt}
+use Rattle.ft_types.specs.declared.names.TheConstants.{HART_LIMIT}
 use Rattle.interleaving.specs.Lists.{put}
 use Rattle.interleaving.proofs.Put.{same_or_not, put_same, put_other}
 use Rattle.ft_types.specs.declared.names.Want.{Want}
@@ -104,11 +105,11 @@ module _ (asked : Asked) (settled : ℕ → ℕ) where
         record { now = readers; after = left; is = refl; gone = λ other below way. absurd (omega (arith, below)); stays = λ other out. (refl, refl) }
     up_to (suc n) = one_more n (yielded asked settled n shared) (up_to n)
 
-    shared_is : ((other : ℕ) → holds shared other ≡ true → other < 8) → yielded asked settled 8 shared ≡ right_yielded asked settled shared
+    shared_is : ((other : ℕ) → holds shared other ≡ true → other < HART_LIMIT) → yielded asked settled HART_LIMIT shared ≡ right_yielded asked settled shared
     shared_is few = p.is ∙ (λ i. Shared since (all_now i) (all_after i))
       where
-        p : IsUpTo 8 (yielded asked settled 8 shared)
-        p = up_to 8
+        p : IsUpTo HART_LIMIT (yielded asked settled HART_LIMIT shared)
+        p = up_to HART_LIMIT
 
         now_is : (other : ℕ) → p.now other ≡ (readers other && not (in_way shared other))
         now_is other = of (in_way shared other) refl
@@ -191,18 +192,18 @@ module _ (asked : Asked) (settled : ℕ → ℕ) where
     owner_yields zero = inl (refl, λ below. absurd (omega (arith, below)))
     owner_yields (suc n) = next_yields n (yielded asked settled n owned) (owner_yields n)
 
-    owned_is : ((other : ℕ) → holds owned other ≡ true → other < 8) → yielded asked settled 8 owned ≡ right_yielded asked settled owned
-    owned_is few = elim (owner_yields 8) [
+    owned_is : ((other : ℕ) → holds owned other ≡ true → other < HART_LIMIT) → yielded asked settled HART_LIMIT owned ≡ right_yielded asked settled owned
+    owned_is few = elim (owner_yields HART_LIMIT) [
       | inl p ↦
           p.0 ∙ sym (ap (λ (b : Bool). if b then without_owner else owned) (p.1 (few owner (eq-eqb owner owner refl))))
       | inr p ↦ p.0 ∙ sym (ap (λ (b : Bool). if b then without_owner else owned) p.1)
     ]
 
-  pub yielded_is : (right : Right) → ((other : ℕ) → holds right other ≡ true → other < 8) → yielded asked settled 8 right ≡ right_yielded asked settled right
+  pub yielded_is : (right : Right) → ((other : ℕ) → holds right other ≡ true → other < HART_LIMIT) → yielded asked settled HART_LIMIT right ≡ right_yielded asked settled right
   yielded_is (Shared since readers left) few = shared_is since readers left few
   yielded_is (Exclusive owner at since left) few = owned_is owner at since left few
 
-pub met_is : (r : RecordingView) (settled : ℕ → ℕ) (asked : Asked) → ((other : ℕ) → holds (right_at r.rights asked.page) other ≡ true → other < 8) →
-    right_met r settled asked ≡ yielded asked settled 8 (right_at r.rights asked.page)
+pub met_is : (r : RecordingView) (settled : ℕ → ℕ) (asked : Asked) → ((other : ℕ) → holds (right_at r.rights asked.page) other ≡ true → other < HART_LIMIT) →
+    right_met r settled asked ≡ yielded asked settled HART_LIMIT (right_at r.rights asked.page)
 unfolding right_met
 met_is r settled asked few = sym (yielded_is asked settled (right_at r.rights asked.page) few)

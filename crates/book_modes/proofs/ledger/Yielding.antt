@@ -4,6 +4,7 @@ use Rattle.std.proofs.Common.{if◌then◌else◌, refl, sym, ap, subst, ◌∙�
 use Rattle.std.proofs.lemmas.Bool.{cases_eq, cases_lt}
 use Rattle.std.proofs.lemmas.List.{get_or-set_same, get_or-set_other}
 use Rattle.ft_types.specs.Sets.{IsMember}
+use Rattle.ft_types.specs.declared.names.TheConstants.{HART_LIMIT}
 use Rattle.crew_pages.specs.Rights.{Right, stands, holds, give_up, IsFree}
 use Rattle.lease_ledger.proofs.Laws.{leaves_the_way}
 use Rattle.lease_ledger.proofs.Stays.{stands_holds}
@@ -49,15 +50,15 @@ module _ (asked : Asked) (settled : ℕ → ℕ) (right : Right) where
             stood = old.stood;
           }
 
-  -- so once all eight have, nobody does
-  pub nobody_stands : ((other : ℕ) → holds right other ≡ true → other < 8) → IsFree (yielded asked settled 8 right) asked.hart asked.want
-  nobody_stands few other = of (stands (yielded asked settled 8 right) asked.hart asked.want other) refl
+  -- so once all have, nobody does
+  pub nobody_stands : ((other : ℕ) → holds right other ≡ true → other < HART_LIMIT) → IsFree (yielded asked settled HART_LIMIT right) asked.hart asked.want
+  nobody_stands few other = of (stands (yielded asked settled HART_LIMIT right) asked.hart asked.want other) refl
     where
-      of : (b : Bool) → stands (yielded asked settled 8 right) asked.hart asked.want other ≡ b → stands (yielded asked settled 8 right) asked.hart asked.want
+      of : (b : Bool) → stands (yielded asked settled HART_LIMIT right) asked.hart asked.want other ≡ b → stands (yielded asked settled HART_LIMIT right) asked.hart asked.want
           other ≡ false
       of false e = e
       of true e =
-          let old = still 8 other e in
+          let old = still HART_LIMIT other e in
           let lt = few other (stands_holds right asked.hart asked.want other old.stood) in
           absurd (omega (arith, old.later, lt))
 
@@ -119,8 +120,8 @@ right_read rights inside page index x same at lt e =
 
 -- what the asker meets, from a right that was read at an index
 pub met_read : (r : RecordingView) (settled : ℕ → ℕ) (asked : Asked) (inside : RecordingView) (index : ℕ) (x y : PageRight) → inside ≡ r →
-    index ≡ asked.page → asked.page < length r.rights → x ≡ slice_index_or inside.rights index x → right_of y ≡ yielded asked settled 8 (right_of x) →
-    ((other : ℕ) → holds (right_at r.rights asked.page) other ≡ true → other < 8) → right_of y ≡ right_met r settled asked
+    index ≡ asked.page → asked.page < length r.rights → x ≡ slice_index_or inside.rights index x → right_of y ≡ yielded asked settled HART_LIMIT (right_of x) →
+    ((other : ℕ) → holds (right_at r.rights asked.page) other ≡ true → other < HART_LIMIT) → right_of y ≡ right_met r settled asked
 met_read r settled asked inside index x y same at lt read is few =
-    is ∙ (ap (yielded asked settled 8) (right_read r.rights inside.rights asked.page index x (ap (λ (v : RecordingView). v.rights) same) at lt read) ∙
+    is ∙ (ap (yielded asked settled HART_LIMIT) (right_read r.rights inside.rights asked.page index x (ap (λ (v : RecordingView). v.rights) same) at lt read) ∙
     sym (met_is r settled asked few))

@@ -6,6 +6,7 @@ use Rattle.std.specs.List.{flat_map, AllByRecursion}
 use Rattle.std.proofs.lemmas.Bool.{ltb-true, lt-ltb, eqb-true, eqb-false, cases_Bool, and_parts}
 use Rattle.std.proofs.lemmas.List.{append-nil, nil_from_length}
 use Rattle.ft_types.specs.Guests.{GuestParts}
+use Rattle.ft_types.specs.declared.names.TheConstants.{HART_LIMIT}
 use Rattle.fragment_codec.specs.declared.types.Key.{Key}
 use Rattle.input_log.specs.declared.Input.{Input as HartInput}
 use Rattle.input_log.specs.declared.Input.TheVariants.{Timer, Word, Bell}
@@ -31,8 +32,8 @@ input_of_is kind value i lt e =
             | inl k ↦ rw (eqb-true kind 1 k.0, ← some_is (Word value) i k.1) (refl, lt)
             | inr k ↦
                 let m = chosen_some (eqb kind 2) _ i k.1 in
-                let g = chosen_some (ltb value 8) (Some (Bell value)) i m.1 in
-                rw (eqb-true kind 2 m.0, ← some_is (Bell value) i g.1) (refl, ltb-true value 8 g.0)
+                let g = chosen_some (ltb value HART_LIMIT) (Some (Bell value)) i m.1 in
+                rw (eqb-true kind 2 m.0, ← some_is (Bell value) i g.1) (refl, ltb-true value HART_LIMIT g.0)
           ]
     ]
 
@@ -46,7 +47,7 @@ input_again : (i : HartInput) → FitsInput i → (kind : ℕ) × (value : ℕ) 
 unfolding input_bytes input_of
 input_again Timer h = (0, 0, refl, omega arith, refl)
 input_again (Word w) h = (1, w, refl, h, refl)
-input_again (Bell source) h = (2, source, refl, omega (arith, h), rw (lt-ltb source 8 h) refl)
+input_again (Bell source) h = (2, source, refl, omega (arith, h), rw (lt-ltb source HART_LIMIT h) refl)
 
 -- ---- where a record stands
 
@@ -104,7 +105,7 @@ edge_all version from hart bytes r rest fits e =
     let b = bind_some (byte_at a.0.1) _ (r, rest) a.2 in
     let d = bind_some (number_at w64 b.0.1) _ (r, rest) b.2 in
     let made : Record = EdgeRecord (record { hart = hart; at = a.0.0; other = b.0.0; after = d.0.0 }) in
-    let g = chosen_some (ltb b.0.0 8) (Some (made, d.0.1)) (r, rest) d.2 in
+    let g = chosen_some (ltb b.0.0 HART_LIMIT) (Some (made, d.0.1)) (r, rest) d.2 in
     let fa = reads.rest bytes a.0.0 a.0.1 fits a.1 in
     let fb = reads_byte.rest a.0.1 b.0.0 b.0.1 fa b.1 in
     let stand : List ℕ = stand_bytes version from a.0.0 in
@@ -119,7 +120,7 @@ edge_all version from hart bytes r rest fits e =
       fits = (
         refl,
         reads.fits bytes a.0.0 a.0.1 fits a.1,
-        ltb-true b.0.0 8 g.0,
+        ltb-true b.0.0 HART_LIMIT g.0,
         reads64.fits b.0.1 d.0.0 d.0.1 fb d.1,
       );
     })
@@ -172,7 +173,7 @@ record_again version from hart (EdgeRecord e) rest h =
       append_assoc (stand_bytes version from e.at) (e.other ∷ number w64 e.after) rest,
       stand_again version from e.at (e.other ∷ (number w64 e.after ++ rest)) h.1,
       reads64.again e.after rest h.3,
-      lt-ltb e.other 8 h.2,
+      lt-ltb e.other HART_LIMIT h.2,
       ← h.0,
     ) refl
 record_again version from hart (InputRecord at input) rest h =
@@ -225,7 +226,7 @@ place_all version bytes x fits e =
     let fk = reads_byte.rest g.0.1 k.0.0 k.0.1 fg k.1 in
     let ft = reads32.rest k.0.1 t.0.0 t.0.1 fk t.1 in
     let made : GuestParts × Key × List ℕ = (g.0.0, record { term = t.0.0; hart = k.0.0; place = p.0.0 }, p.0.1) in
-    let few = chosen_some (ltb k.0.0 8) (Some made) x p.2 in
+    let few = chosen_some (ltb k.0.0 HART_LIMIT) (Some made) x p.2 in
     subst (λ (y : GuestParts × Key × List ℕ). GotPlace version bytes y.0 y.1 y.2) (some_is made x few.1) (record {
       parts = guest_then version bytes g.0.0 g.0.1 fits g.1 ∙ ap (λ (x : List ℕ). g.0.0.digest ++ (g.0.0.harts ∷ x)) (
           reads_byte.parts g.0.1 k.0.0 k.0.1 fg k.1 ∙ ap (λ (x : List ℕ). k.0.0 ∷ x) (
@@ -275,12 +276,12 @@ pub log_again : (version : ℕ) (f : FragmentParts) → IsFragment f → f.guest
 unfolding log_of rest_of log_body byte_at place_at
 log_again version f h few span short =
     let limit = h.records.limit in
-    let hart : f.key.hart < 8 = omega (arith, h.key.hart, h.guest.limit) in
+    let hart : f.key.hart < HART_LIMIT = omega (arith, h.key.hart, h.guest.limit) in
     rw (
       guest_back version f.guest _ (h.guest, few),
       reads32.again f.key.term _ h.key.term,
       reads32.again f.key.place _ h.key.place,
-      lt-ltb f.key.hart 8 hart,
+      lt-ltb f.key.hart HART_LIMIT hart,
       reads64.again f.from _ (omega (arith, h.some, h.end)),
       reads64.again f.to _ (omega (arith, h.end)),
       reads16.again (length f.records) _ (omega (arith, limit)),

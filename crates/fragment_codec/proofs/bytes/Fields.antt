@@ -7,6 +7,7 @@ use Rattle.std.proofs.lemmas.Bool.{cases_lt, cases_Bool, ltb-false, le-ltb}
 use Rattle.std.proofs.lemmas.List.{take_at, drop_at, take-append-drop, length-append, length-take, get_or-drop, get_or-take, get_or_past}
 use Rattle.std.proofs.lemmas.Nat.{le_bytes_2, le_bytes_4, le_bytes_8, from_le_bytes-to_le_bytes_2, from_le_bytes-to_le_bytes_4, from_le_bytes-to_le_bytes_8}
 use Rattle.ft_types.specs.Guests.{GuestParts, IsDigest, IsGuest}
+use Rattle.ft_types.specs.declared.names.TheConstants.{HART_LIMIT}
 use Rattle.fragment_codec.specs.Spelling.{number}
 use Rattle.fragment_codec.specs.Reading.{◌>>=◌, number_at, byte_at, digest_at, harts_limit, guest_at, many}
 
@@ -189,7 +190,7 @@ abbrev pub guest_text : GuestParts → List ℕ
 guest_text guest = guest.digest ++ (guest.harts ∷ [])
 
 -- no version tells of more harts than a guest may have
-pub harts_limit_le : (version : ℕ) → harts_limit version ≤ 8
+pub harts_limit_le : (version : ℕ) → harts_limit version ≤ HART_LIMIT
 harts_limit_le version = elim (cases_Bool (eqb version 1)) [ inl e ↦ rw e (omega arith) | inr e ↦ rw e (omega arith) ]
 
 -- a guest of which the version tells

@@ -7,6 +7,7 @@ use Rattle.std.proofs.lemmas.List.{take_at, take-append-drop, length-append, len
 use Rattle.std.proofs.lemmas.Nat.{le_bytes_4}
 use Rattle.sha2.specs.Sha256.{sha256}
 use Rattle.sha2.proofs.Facts256.{length-sha256}
+use Rattle.ft_types.specs.declared.names.TheConstants.{HART_LIMIT}
 use Rattle.fragment_codec.specs.declared.frame.Frame.{Frame}
 use Rattle.fragment_codec.specs.declared.frame.Frame.TheVariants.{Log, Opening}
 use Rattle.fragment_codec.specs.Spelling.{number, headed, sealed, log_body, opening_body}
@@ -77,7 +78,7 @@ opening_told version o (inl one) few = inl (one, subst (λ (v : ℕ). o.guest.ha
 opening_told version o (inr two) few = inr (two, refl)
 
 -- and what has a spelling in a version keeps to its limits
-few_harts : (version : ℕ) (f : Frame) → harts_of f ≤ 8 → HasSpelling version f → harts_of f ≤ harts_limit version
+few_harts : (version : ℕ) (f : Frame) → harts_of f ≤ HART_LIMIT → HasSpelling version f → harts_of f ≤ harts_limit version
 few_harts version f le (inl h) = subst (λ (v : ℕ). harts_of f ≤ harts_limit v) (sym h.0) h.1
 few_harts version f le (inr h) = subst (λ (v : ℕ). harts_of f ≤ harts_limit v) (sym h.0) le
 

@@ -4,6 +4,7 @@ use Rattle.std.proofs.Common.{drop-cons, arith}
 use Rattle.std.specs.List.{AllByRecursion}
 use Rattle.std.proofs.lemmas.List.{drop_all}
 use Rattle.ft_types.specs.Counts.{IsCount}
+use Rattle.ft_types.specs.declared.names.TheConstants.{HART_LIMIT}
 use Rattle.input_log.specs.declared.Input.{Input as HartInput}
 use Rattle.input_log.specs.Inputs.{IsInputOf}
 use Rattle.input_log.specs.declared.Input.TheVariants.{Timer, Word, Bell}
@@ -38,17 +39,17 @@ are_right-all harts hart to at slot rs i le = rw (drop_all i rs le) refl
 abbrev pub FitsInput : HartInput → Type 0
 FitsInput Timer = Unit {0}
 FitsInput (Word w) = w < 2 ^ 32
-FitsInput (Bell source) = source < 8
+FitsInput (Bell source) = source < HART_LIMIT
 
 -- a count that the version can tell, in a fragment that begins at `from`
 abbrev pub FitsStand : ℕ → ℕ → ℕ → Type 0
 FitsStand version from at = (at < 2 ^ 64) × (version ≢ 1 → (from ≤ at) × (at - from < 2 ^ 32))
 
 abbrev pub FitsRecord : ℕ → ℕ → ℕ → Record → Type 0
-FitsRecord version from hart (EdgeRecord edge) = (edge.hart ≡ hart) × FitsStand version from edge.at × (edge.other < 8) × (edge.after < 2 ^ 64)
+FitsRecord version from hart (EdgeRecord edge) = (edge.hart ≡ hart) × FitsStand version from edge.at × (edge.other < HART_LIMIT) × (edge.after < 2 ^ 64)
 FitsRecord version from hart (InputRecord at input) = FitsStand version from at × FitsInput input
 
-input_fits : (harts : ℕ) (i : HartInput) → harts ≤ 8 → IsInputOf harts i → FitsInput i
+input_fits : (harts : ℕ) (i : HartInput) → harts ≤ HART_LIMIT → IsInputOf harts i → FitsInput i
 input_fits harts Timer le h = tt
 input_fits harts (Word w) le h = h
 input_fits harts (Bell source) le h = omega (arith, h)
@@ -56,7 +57,7 @@ input_fits harts (Bell source) le h = omega (arith, h)
 stand_fits : (version from to at : ℕ) → to < 2 ^ 48 → (version ≢ 1 → to - from < 2 ^ 32) → from ≤ at → at < to → FitsStand version from at
 stand_fits version from to at small short low high = (omega (arith, high), λ ne. (low, omega (arith, short ne)))
 
-record_fits : (version harts hart from to : ℕ) → harts ≤ 8 → to < 2 ^ 48 → (version ≢ 1 → to - from < 2 ^ 32) → (r : Record) →
+record_fits : (version harts hart from to : ℕ) → harts ≤ HART_LIMIT → to < 2 ^ 48 → (version ≢ 1 → to - from < 2 ^ 32) → (r : Record) →
     IsRecordOf harts hart from to r → FitsRecord version from hart r
 record_fits version harts hart from to le small short (EdgeRecord e) h =
     (h.0.0, stand_fits version from to e.at small short h.1 h.2, omega (arith, h.0.1), omega (arith, h.0.4))
@@ -71,5 +72,5 @@ records_fit version f h short =
 pub counts_fit : (o : OpeningParts) → IsOpening o → AllByRecursion (λ n. n < 2 ^ 64) o.base
 counts_fit o h = all_map IsCount (λ n. n < 2 ^ 64) (λ n lt. omega (arith, lt)) o.base h.counts
 
-pub opening_counts : (o : OpeningParts) → IsOpening o → (length o.base ≤ 8) × AllByRecursion IsCount o.base
+pub opening_counts : (o : OpeningParts) → IsOpening o → (length o.base ≤ HART_LIMIT) × AllByRecursion IsCount o.base
 opening_counts o h = (omega (arith, h.base, h.guest.limit), h.counts)

@@ -6,6 +6,8 @@ use Rattle.std.proofs.lemmas.List.{get_or_past}
 use Rattle.std.proofs.lemmas.List.Elements.{All-from_recursion, recursion_from_All, All-from_get_or}
 use Rattle.ft_types.specs.Counts.{IsCount}
 use Rattle.ft_types.specs.Guests.{GuestParts, IsDigest, IsGuest}
+use Rattle.ft_types.specs.declared.names.TheConstants.{HART_LIMIT}
+use Rattle.fragment_codec.specs.declared.types.TheConstants.{FIRST_HARTS, RECORD_LIMIT}
 use Rattle.fragment_codec.specs.declared.frame.Frame.{Frame}
 use Rattle.fragment_codec.specs.declared.frame.Frame.TheVariants.{Log, Opening}
 use Rattle.fragment_codec.specs.declared.types.Key.{Key}
@@ -67,7 +69,7 @@ digest xs = by_same (λ h. record { len = h.0; bytes = h.1 }) (λ h. (h.len, h.b
 
 guest : (g : GuestParts) → Decided (IsGuest g)
 guest g = by_same (λ h. record { digest = h.0; some = h.1.0; limit = h.1.1 }) (λ h. (h.digest, (h.some, h.limit)))
-    (both (digest g.digest) (both (at_most 1 g.harts) (at_most g.harts 8)))
+    (both (digest g.digest) (both (at_most 1 g.harts) (at_most g.harts HART_LIMIT)))
 
 key : (harts : ℕ) (k : Key) → Decided (IsKey harts k)
 key harts k = by_same (λ h. record { hart = h.0; granted = h.1.0; term = h.1.1.0; place = h.1.1.1 }) (λ h. (h.hart, (h.granted, (h.term, h.place))))
@@ -75,9 +77,9 @@ key harts k = by_same (λ h. record { hart = h.0; granted = h.1.0; term = h.1.1.
 
 -- ---- fragments and openings
 
-records : (harts hart from to : ℕ) (rs : List Record) → harts ≤ 8 → Decided (AreRecords harts hart from to rs)
+records : (harts hart from to : ℕ) (rs : List Record) → harts ≤ HART_LIMIT → Decided (AreRecords harts hart from to rs)
 records harts hart from to rs le =
-    elim (cases_lt 256 (length rs)) [
+    elim (cases_lt RECORD_LIMIT (length rs)) [
       | inl long ↦ inr (λ h. let limit = h.limit in omega (arith, limit, long))
       | inr limit ↦
           elim (cases_Bool (are_right harts hart to from 0 rs)) [
@@ -93,7 +95,7 @@ fragment f =
           by_same (λ h. record { guest = g; key = h.0; some = h.1.0; end = h.1.1.0; short = h.1.1.1.0; records = h.1.1.1.1 })
           (λ h. (h.key, (h.some, (h.end, (h.short, h.records)))))
           (both (key f.guest.harts f.key) (both (below f.from f.to) (both (below f.to (2 ^ 48))
-          (both (given (below 8 f.guest.harts) (below (f.to - f.from) (2 ^ 32))) (records f.guest.harts f.key.hart f.from f.to f.records g.limit)))))
+          (both (given (below FIRST_HARTS f.guest.harts) (below (f.to - f.from) (2 ^ 32))) (records f.guest.harts f.key.hart f.from f.to f.records g.limit)))))
       | inr fails ↦ inr (λ h. fails h.guest)
     ]
 
@@ -124,4 +126,4 @@ is_true false = inr (λ e. cc)
 pub spelled : (s : Spelled) → Decided (IsSpelled s)
 spelled s =
     by_same (λ h. record { rules = h.0; told = h.1 }) (λ h. (h.rules, h.told))
-    (both (frame s.frame) (either (both (cases_eq s.version 1) (at_most (harts_of s.frame) 8)) (both (cases_eq s.version 2) (is_true (is_short s.frame)))))
+    (both (frame s.frame) (either (both (cases_eq s.version 1) (at_most (harts_of s.frame) FIRST_HARTS)) (both (cases_eq s.version 2) (is_true (is_short s.frame)))))

@@ -9,6 +9,7 @@ use Rattle.fragment_codec.specs.declared.frame.Frame.TheVariants.{Log, Opening}
 use Rattle.fragment_codec.specs.declared.front.Front.TheVariants.{Whole}
 use Rattle.fragment_codec.specs.Streams.{Spelled, text_of, is_short, HasSpelling, IsSpelled, version_of, spelling, IsFrame, Splits}
 use Rattle.fragment_codec.specs.Fronts.{IsFront, spelled_in}
+use Rattle.fragment_codec.specs.declared.types.TheConstants.{FIRST_HARTS}
 use Rattle.fragment_codec.proofs.streams.Pieces.{one_reading}
 
 abbrev frame_in : Spelled → Frame
@@ -130,7 +131,7 @@ written (Opening o) h e = absurd cc
 written (Log g) h e =
     inl (
       refl,
-      elim (cases_lt 8 g.guest.harts) [
+      elim (cases_lt FIRST_HARTS g.guest.harts) [
         | inl more ↦ absurd (let yes = lt-ltb _ _ (h.short more) in let same = sym e ∙ yes in cc)
         | inr few ↦ few
       ],

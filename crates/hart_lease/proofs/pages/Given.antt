@@ -2,6 +2,7 @@
 use Rattle.std.proofs.Common.{◌≡◌, ℕ, zero, suc, ◌<◌, ◌≤◌, inl, inr, List, [], ◌∷◌, length, replicate, slice_get, slice_set, slice_index_or, true, false}
 use Rattle.std.proofs.Common.{Option, None, Some, refl, ap, sym, ◌∙◌, arith, length-set, ◌^◌}
 use Rattle.std.proofs.lemmas.List.{length-replicate, get_or-set_same, get_or-set_other}
+use Rattle.ft_types.specs.declared.names.TheConstants.{INPUT_LIMIT, PAGE_ROW}
 use Rattle.rv32_hart.specs.Hart.{Hart, with_earlier}
 use Rattle.guest_image.specs.Machine.{MachineState}
 use Rattle.hart_lease.specs.declared.lease_pages.Slot.{Slot}
@@ -107,13 +108,13 @@ write_runs l page base lt many unwritten lent runs m on =
     runs m before ∙ ap (λ ps. let w : MachineState = record { harts = slice_set m.harts l.hart l.present; pages = ps } in Some w)
     (sym (laid_pages-set_write m.pages l.slots page base unwritten here))
 
-pub fresh_kept : (hart : ℕ) (state : Hart) (pages : ℕ) (lent : LentView) → lent.stop < 2 ^ 48 → length lent.inputs ≤ 8 →
+pub fresh_kept : (hart : ℕ) (state : Hart) (pages : ℕ) (lent : LentView) → lent.stop < 2 ^ 48 → length lent.inputs ≤ INPUT_LIMIT →
     IsLease (fresh hart state pages lent)
 fresh_kept hart state pages lent lt few = record {
   stop = lt;
   few = few;
   as_many = length-replicate {A = Option (List ℕ)} pages None ∙ sym (length-replicate {A = Slot} pages Missing);
-  rights = λ page. ap want_of (index-replicate pages page) ∙ sym (ap right_of_taken (none-replicate {A = Taken} 64 page));
+  rights = λ page. ap want_of (index-replicate pages page) ∙ sym (ap right_of_taken (none-replicate {A = Taken} PAGE_ROW page));
   number = refl;
   harts = refl;
   count = omega arith;
@@ -123,7 +124,7 @@ fresh_kept hart state pages lent lt few = record {
   played = fresh_played hart state pages lent;
 }
 
-pub bare_fresh_kept : (hart : ℕ) (state : Hart) (pages : ℕ) (lent : LentView) → lent.stop < 2 ^ 48 → length lent.inputs ≤ 8 →
+pub bare_fresh_kept : (hart : ℕ) (state : Hart) (pages : ℕ) (lent : LentView) → lent.stop < 2 ^ 48 → length lent.inputs ≤ INPUT_LIMIT →
     IsBareLease (fresh hart state pages lent)
 bare_fresh_kept hart state pages lent lt few = record {
   bare = fresh_kept hart state pages lent lt few;

@@ -2,6 +2,7 @@
 use Rattle.std.proofs.Common.{◌≡◌, ℕ, zero, suc, ◌<◌, ◌≤◌, List, [], ◌∷◌, length, map, slice_set, slice_index_or, refl, ap, sym, ◌∙◌, arith, replicate, Option}
 use Rattle.std.proofs.Common.{None}
 use Rattle.std.proofs.lemmas.List.{get_or_default, length-replicate}
+use Rattle.ft_types.specs.declared.names.TheConstants.{PAGE_LIMIT}
 use Rattle.rv32_hart.specs.Ram.{Ram, IsRam, with_page, page_of}
 use Rattle.hart_lease.specs.declared.lease_pages.Slot.{Slot}
 use Rattle.hart_lease.specs.declared.lease_pages.Slot.TheVariants.{Missing, Readable, Writable}
@@ -74,7 +75,7 @@ length_zeros : length zeros ≡ 4096
 unfolding zeros
 length_zeros = length-replicate {A = ℕ} 4096 0
 
-pub missing_slots : (n : ℕ) → n ≤ 64 → AreSlots (replicate n Missing)
+pub missing_slots : (n : ℕ) → n ≤ PAGE_LIMIT → AreSlots (replicate n Missing)
 missing_slots n le = record {
   pages = omega (arith, length-replicate {A = Slot} n Missing, le);
   bytes = λ page lt. ap (λ (s : Slot). length (present_bytes s)) (index-replicate n page) ∙ length_zeros;

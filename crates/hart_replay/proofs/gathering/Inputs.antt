@@ -6,6 +6,7 @@ use Rattle.std.proofs.lemmas.Bool.{cases_lt}
 use Rattle.std.proofs.lemmas.List.{map-append}
 use Rattle.std.proofs.lemmas.List.Elements.{filter-append, All-head, All-tail, All-push}
 use Rattle.std.proofs.lemmas.List.Sums.{count_by_more_yes, sum_by-take-le, sum_by-cons}
+use Rattle.ft_types.specs.declared.names.TheConstants.{INPUT_LIMIT}
 use Rattle.input_log.specs.declared.Input.{Input}
 use Rattle.input_log.specs.Inputs.{inputs_of, inputs_at, MayFollow}
 use Rattle.fragment_codec.specs.declared.types.Record.{Record}
@@ -66,15 +67,15 @@ few_at end n (InputRecord at input ∷ rs) =
 
 module _ (f : FragmentParts) (end i at : ℕ) (input : Input) (rules : IsFragment f) (less : i < length f.records)
     (is : InputRecord at input ≡ get_or f.records i (InputRecord at input)) where
-  -- of the records before one there are fewer than 8 at its count
-  fewer : length (inputs_at (inputs_among (below end (take i f.records))) at) < 8
+  -- of the records before one there are fewer than INPUT_LIMIT at its count
+  fewer : length (inputs_at (inputs_among (below end (take i f.records))) at) < INPUT_LIMIT
   fewer =
       let upto = few_at end at (take i f.records) in
       let one : count_by (is_input_at at) (take (i + 1) f.records) ≡ count_by (is_input_at at) (take i f.records) + 1 =
       count_by_more_yes (is_input_at at) f.records i (InputRecord at input) less (subst (λ r. is_input_at at r ≡ true) is (eq-eqb at at refl)) in
       let all : count_by (is_input_at at) (take (i + 1) f.records) ≤ count_by (is_input_at at) f.records =
       sum_by-take-le (λ x. cond (is_input_at at x) 1 0) f.records (i + 1) in
-      let eight : count_by (is_input_at at) f.records ≤ 8 = rules.records.inputs at in
+      let few : count_by (is_input_at at) f.records ≤ INPUT_LIMIT = rules.records.inputs at in
       omega arith
 
   -- so it may follow those
@@ -84,8 +85,8 @@ module _ (f : FragmentParts) (end i at : ℕ) (input : Input) (rules : IsFragmen
       record {
         last = by;
         room =
-            subst (λ l. length (inputs_at l at) < 8) (sym taken.own)
-            (subst (λ l. length l < 8)
+            subst (λ l. length (inputs_at l at) < INPUT_LIMIT) (sym taken.own)
+            (subst (λ l. length l < INPUT_LIMIT)
             (sym (at-append (inputs_of old hart) (inputs_among (below end (take i f.records))) at ∙
             ap (λ l. l ++ inputs_at (inputs_among (below end (take i f.records))) at) (none_at (inputs_of old hart) at before)))
             fewer);

@@ -5,6 +5,7 @@ use Rattle.std.proofs.lemmas.Bool.{and_parts, leb-true, ltb-true}
 use Rattle.std.proofs.lemmas.List.{length-map}
 use Rattle.std.proofs.lemmas.List.Elements.{recursion_from_All, All-filter, filter_passes}
 use Rattle.std.proofs.lemmas.List.Sums.{length-filter, sum_by-cons}
+use Rattle.ft_types.specs.declared.names.TheConstants.{INPUT_LIMIT}
 use Rattle.edge_log.specs.declared.Edge.{Edge}
 use Rattle.input_log.specs.declared.Input.{Input as HartInput}
 use Rattle.input_log.specs.Inputs.{inputs_at}
@@ -63,7 +64,7 @@ module _ (from to : ℕ) (edges : List Edge) (inputs : List (ℕ × HartInput)) 
       (subst (AllByRecursion (λ (e : Edge). (from ≤ e.at) × (e.at < to))) (sym edges_are) (all_between (λ (e : Edge). e.at) from to edges))
       (subst (AllByRecursion (λ (x : ℕ × HartInput). (from ≤ x.0) × (x.0 < to))) (sym inputs_are) (all_between (λ (x : ℕ × HartInput). x.0) from to inputs))
 
-  pub logged_between : (harts hart : ℕ) → AreInOrder rs → ((n : ℕ) → length (inputs_at inputs n) ≤ 8) → All (λ e. IsFactOf harts hart (EdgeRecord e)) edges →
+  pub logged_between : (harts hart : ℕ) → AreInOrder rs → ((n : ℕ) → length (inputs_at inputs n) ≤ INPUT_LIMIT) → All (λ e. IsFactOf harts hart (EdgeRecord e)) edges →
       All (λ x. IsFactOf harts hart (InputRecord x.0 x.1)) inputs → AreLogged harts hart rs
   logged_between harts hart order few facts input_facts =
       record {

@@ -8,6 +8,7 @@ use Rattle.std.proofs.lemmas.List.{map-append, get_or_default}
 use Rattle.std.proofs.lemmas.List.Elements.{All-from_recursion, filter_agree}
 use Rattle.std.proofs.lemmas.Option.{slice_get_cases}
 use Rattle.ft_types.specs.Counts.{count_at}
+use Rattle.ft_types.specs.declared.names.TheConstants.{HART_LIMIT}
 use Rattle.fragment_codec.specs.declared.types.Record.{Record}
 use Rattle.fragment_codec.specs.declared.frame.Frame.{Frame}
 use Rattle.fragment_codec.specs.declared.frame.Frame.TheVariants.{Log}
@@ -75,7 +76,7 @@ cut_short from end settled rest e =
           })
     ]
 
-module _ (harts hart from settled : ℕ) (rest : List Record) (few : harts ≤ 8) (logged : AreLogged harts hart rest) (there : StandBetween from settled rest)
+module _ (harts hart from settled : ℕ) (rest : List Record) (few : harts ≤ HART_LIMIT) (logged : AreLogged harts hart rest) (there : StandBetween from settled rest)
     (some : from < settled) where
   up : (i j : ℕ) (d : Record) → i ≤ j → j < length rest → count_of (get_or rest i d) ≤ count_of (get_or rest j d)
   up = rising rest logged.order

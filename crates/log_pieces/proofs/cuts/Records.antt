@@ -7,6 +7,7 @@ use Rattle.std.proofs.ByRecursion.{all_kept_by, kept_by_passes}
 use Rattle.std.proofs.lemmas.Bool.{cond_both}
 use Rattle.std.proofs.lemmas.List.Elements.{All-from_recursion}
 use Rattle.std.proofs.lemmas.List.Sums.{sum_by-cons}
+use Rattle.ft_types.specs.declared.names.TheConstants.{HART_LIMIT, INPUT_LIMIT}
 use Rattle.edge_log.specs.declared.Edge.{Edge}
 use Rattle.input_log.specs.declared.Input.{Input as HartInput}
 use Rattle.fragment_codec.specs.declared.types.Record.{Record}
@@ -94,16 +95,16 @@ number_told (InputRecord at input ∷ rs) = let rest = number_told rs in omega a
 
 -- ---- how many stand at one count
 
--- the record stands at the count, and an edge has another hart of this number or a greater one below 8
+-- the record stands at the count, and an edge has another hart of this number or a greater one below HART_LIMIT
 abbrev StandsAt : ℕ → ℕ → Record → Type 0
-StandsAt n low (EdgeRecord e) = (e.at ≡ n) × (low ≤ e.other) × (e.other < 8)
+StandsAt n low (EdgeRecord e) = (e.at ≡ n) × (low ≤ e.other) × (e.other < HART_LIMIT)
 StandsAt n low (InputRecord at input) = at ≡ n
 
 edge_later : (n low : ℕ) (e : Edge) → e.at ≡ n → (r : Record) → MayPrecede (EdgeRecord e) r → StandsAt n low r → StandsAt n (suc e.other) r
 edge_later n low e at (EdgeRecord f) h s = elim h [ inl less ↦ absurd (omega (arith, s.0)) | inr same ↦ (s.0, omega (arith, same.1), s.2) ]
 edge_later n low e at (InputRecord c input) h s = s
 
-few_edges : (n low : ℕ) (rs : List Record) → low ≤ 8 → AreInOrder rs → AllByRecursion (StandsAt n low) rs → length (filter_map edge_in rs) + low ≤ 8
+few_edges : (n low : ℕ) (rs : List Record) → low ≤ HART_LIMIT → AreInOrder rs → AllByRecursion (StandsAt n low) rs → length (filter_map edge_in rs) + low ≤ HART_LIMIT
 few_edges n low [] le h s = omega arith
 few_edges n low (EdgeRecord e ∷ rs) le h s =
     let rest =
@@ -123,11 +124,11 @@ all_inputs n low (InputRecord at input ∷ rs) s =
     let is : cond (eqb at n) one 0 ≡ one = rw (eq-eqb at n s.0) refl in
     omega (arith, rest, is, sum_by-cons (λ r. cond (is_input_at n r) 1 0) (InputRecord at input) rs)
 
-stands_at : (harts hart n : ℕ) → harts ≤ 8 → (r : Record) → IsFactOf harts hart r → (count_of r == n) ≡ true → StandsAt n 0 r
+stands_at : (harts hart n : ℕ) → harts ≤ HART_LIMIT → (r : Record) → IsFactOf harts hart r → (count_of r == n) ≡ true → StandsAt n 0 r
 stands_at harts hart n le (EdgeRecord e) f at = (eqb-true e.at n at, omega arith, omega (arith, f.1))
 stands_at harts hart n le (InputRecord c input) f at = eqb-true c n at
 
-pub few_at : (harts hart n : ℕ) (rs : List Record) → harts ≤ 8 → AreLogged harts hart rs → length (filter (λ r. count_of r == n) rs) ≤ 16
+pub few_at : (harts hart n : ℕ) (rs : List Record) → harts ≤ HART_LIMIT → AreLogged harts hart rs → length (filter (λ r. count_of r == n) rs) ≤ HART_LIMIT + INPUT_LIMIT
 few_at harts hart n rs le h =
     let at : List Record = filter (λ r. count_of r == n) rs in
     let kept = logged_filter harts hart (λ r. count_of r == n) rs h in

@@ -2,6 +2,7 @@ use Rattle.std.proofs.Common.{◌≡◌, ◌<◌, ◌+◌, ◌-◌, length, sum_
 use Rattle.std.proofs.lemmas.List.Sums.{sum_by-set}
 use Rattle.std.specs.List.{HoldsAt}
 use Rattle.ft_types.specs.Counts.{count_at}
+use Rattle.ft_types.specs.declared.names.TheConstants.{HART_ROW}
 use Rattle.closed_cut.specs.Lowering.{AreOf}
 use Rattle.closed_cut.proofs.Lowerings.{AreStopped, lowered_on, ends_after, stopped_after, closed_after}
 use Rattle.closed_cut.proofs.lowering.lowered.Goals as goal
@@ -11,12 +12,12 @@ loop-hart-preserved c =
     let edges = c.args.edges.now in
     let ends = c.loop-hart.ends in
     let at = c.index-index.result in
-    let eight : length ends ≡ 8 = c.loop-hart.invariant.eight in
+    let wide : length ends ≡ HART_ROW = c.loop-hart.invariant.wide in
     let there : at < length ends = omega arith in
     let same : at ≡ c.in-Some.hart = c.index-index.ensures.value in
     record {
       lowered = lowered_on edges c.args.bound c.loop-hart.cut c.fall.new.cut c.loop-hart.invariant.lowered c.fall.ensures.lowered;
-      eight = length-set ends at c.fall.result ∙ eight;
+      wide = length-set ends at c.fall.result ∙ wide;
       ends = ends_after edges ends at c.fall.result there c.fall.ensures.within c.loop-hart.invariant.ends;
       stopped =
           stopped_after edges ends at c.fall.result there c.loop-hart.cut c.fall.new.cut c.fall.ensures.lowered.below
@@ -28,7 +29,7 @@ pub loop-hart-smaller : goal.loop-hart-smaller
 loop-hart-smaller c =
     let ends = c.loop-hart.ends in
     let at = c.index-index.result in
-    let eight : length ends ≡ 8 = c.loop-hart.invariant.eight in
+    let wide : length ends ≡ HART_ROW = c.loop-hart.invariant.wide in
     let there : at < length ends = omega arith in
     let back = sym c.index-index.ensures.value in
     let some : 0 < get_or ends at 0 = subst (λ n. 0 < get_or ends n 0) back c.in-Some.ensures.some in

@@ -1,6 +1,7 @@
 use Rattle.std.proofs.Common.{◌≡◌, ◌≤◌, ◌<◌, ◌++◌, get_or, Some, [], ◌∷◌, length, map, ap, sym, ◌∙◌, append-nil, arith}
 use Rattle.std.specs.Option.{option_to_list}
 use Rattle.std.proofs.lemmas.List.{length_push}
+use Rattle.ft_types.specs.declared.names.TheConstants.{INPUT_LIMIT}
 use Rattle.input_log.specs.declared.WaitingBell.{WaitingBell}
 use Rattle.input_log.specs.declared.Input.TheVariants.{Bell}
 use Rattle.input_log.proofs.Taking.{moved, taken_first, left_behind}
@@ -17,8 +18,8 @@ loop-preserved c =
     let r = c.pop_front.result in
     let value : (d : WaitingBell) → 0 < length old → r ≡ Some (get_or old 0 d) = λ d some. c.pop_front.ensures.value d (omega (arith, c.loop.bells.ok)) in
     let room : length out ≤ k = c.loop.invariant.room in
-    let more = taken_first 8 k c.loop-test.true new old r c.pop_front.ensures.items value in
-    let stay = left_behind 8 k c.loop-test.true new old r c.pop_front.ensures.items value ∙ c.loop.invariant.stay in
+    let more = taken_first INPUT_LIMIT k c.loop-test.true new old r c.pop_front.ensures.items value in
+    let stay = left_behind INPUT_LIMIT k c.loop-test.true new old r c.pop_front.ensures.items value ∙ c.loop.invariant.stay in
     elim c.match-pop_front.branch [
       | in-Some w ↦
           let one : next ≡ out ++ Bell w.in-Some.bell.source ∷ [] = ap (λ v. v.items) w.inputs-is ∙ w.push_reserved.ensures.items in

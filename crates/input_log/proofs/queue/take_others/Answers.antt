@@ -1,6 +1,7 @@
 use Rattle.std.proofs.Common.{◌≡◌, ◌≤◌, ◌+◌, ◌-◌, ◌++◌, [], ◌∷◌, length, map, ap, sym, ◌∙◌, append-nil, arith}
 use Rattle.std.specs.Option.{option_to_list}
 use Rattle.std.proofs.lemmas.List.{length_push}
+use Rattle.ft_types.specs.declared.names.TheConstants.{INPUT_LIMIT}
 use Rattle.input_log.specs.Waiting.{others_going, others_staying}
 use Rattle.input_log.proofs.Taking.{moved, steps_left}
 use Rattle.input_log.proofs.queue.take_others.Goals.{in-Some, in_default}
@@ -9,7 +10,7 @@ use Rattle.input_log.proofs.queue.take_others.Goals as goal
 pub loop-preserved : goal.loop-preserved
 loop-preserved c =
     let n = c.args.count in
-    let m = 8 - c.len-room.result in
+    let m = INPUT_LIMIT - c.len-room.result in
     let k = c.loop.counter in
     let old = c.loop.others.items in
     let new = c.pop_going.new.others.items in

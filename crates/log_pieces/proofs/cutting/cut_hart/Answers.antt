@@ -38,7 +38,7 @@ loop-from-preserved c =
     let there : c.args.origin.now.hart < length c.loop-from.sealed.places =
     (let own = c.requires.may.own in let few = c.requires.may.guest.limit in omega (
       arith,
-      c.advance.ensures.eight,
+      c.advance.ensures.many,
       ap length c.advance.ensures.places,
       length-set c.loop-from.sealed.places c.args.origin.now.hart (slice_index c.loop-from.sealed.places c.args.origin.now.hart + 1),
     )) in

@@ -1,5 +1,6 @@
 use Rattle.std.proofs.Common.{◌≡◌, ◌≤◌, ◌⊎◌, ℕ, List, true, replicate, None, ap, subst, ◌∙◌, arith}
 use Rattle.ft_types.specs.Counts.{count_at}
+use Rattle.ft_types.specs.declared.names.TheConstants.{HART_ROW}
 use Rattle.guest_image.specs.Machine.{MachineState}
 use Rattle.hart_lease.specs.Runs.{counts_of}
 use Rattle.book_modes.specs.Recordings.{RecordingView}
@@ -16,8 +17,8 @@ returns c =
     let b = c.in_ok-run_plain.field-0 in
     let p = c.in_ok-run_plain.ensures in
     let rest : IsRestOf a d =
-    limited_rest a c.reclaim.new.self d (replicate 8 None) c.args.budget c.reclaim.ensures.book
-    (ended_rest a.machine a.leases 8 a.mode c.reclaim.new.self.mode c.reclaim.ensures.mode) c.limit_at.ensures in
+    limited_rest a c.reclaim.new.self d (replicate HART_ROW None) c.args.budget c.reclaim.ensures.book
+    (ended_rest a.machine a.leases HART_ROW a.mode c.reclaim.new.self.mode c.reclaim.ensures.mode) c.limit_at.ensures in
     let limits = ap (λ (x : BookView RecordingView). x.mode.limits) c.limit_at.ensures in
     record {
       done = λ hart h there.

@@ -1,4 +1,5 @@
 use Rattle.std.proofs.Common.{◌<◌, ℕ, length, sym, subst}
+use Rattle.ft_types.specs.declared.names.TheConstants.{HART_ROW}
 use Rattle.book_modes.specs.declared.mode.Leg.{Leg}
 use Rattle.hart_lease.proofs.journals.Sizes.{as_large}
 use Rattle.page_book.specs.Books.{BookView}
@@ -14,7 +15,7 @@ pub loop-book-init : goal.loop-book-init
 loop-book-init c =
     let a = c.args.book in
     let r = c.reclaim.new.self in
-    left_leading a r c.reclaim.ensures.book (ended_same a.machine a.leases 8 a.mode r.mode c.reclaim.ensures.mode)
+    left_leading a r c.reclaim.ensures.book (ended_same a.machine a.leases HART_ROW a.mode r.mode c.reclaim.ensures.mode)
     (as_large r.start r.machine _ c.machine-machine.ensures.run).harts
 
 pub loop-book-preserved : goal.loop-book-preserved

@@ -1,6 +1,7 @@
 use Rattle.std.proofs.Common.{◌≡◌, ◌<◌, ℕ, sym, subst, ◌∙◌, inl, inr, arith}
 use Rattle.std.proofs.lemmas.Bool.{cases_lt}
 use Rattle.ft_types.specs.Counts.{count_at}
+use Rattle.ft_types.specs.declared.names.TheConstants.{HART_LIMIT}
 use Rattle.input_log.specs.Inputs.{HearsMore, inputs_of}
 use Rattle.replay_pool.proofs.onward.hear_more.Goals as goal
 
@@ -23,7 +24,7 @@ returns-then-not-hears_more c = (
   λ e. cc,
   λ all.
       let hart = c.new-hart.result in
-      let lt : hart < 8 = omega (arith, c.new-hart.ensures, c.loop-number-test.true) in
+      let lt : hart < HART_LIMIT = omega (arith, c.new-hart.ensures, c.loop-number-test.true) in
       let heard =
       c.hears_more.ensures.1
       (subst (λ (n : ℕ). HearsMore (inputs_of c.args.leg.now.inputs hart) n (inputs_of c.args.later.now.inputs hart)) (sym c.count_of.ensures)

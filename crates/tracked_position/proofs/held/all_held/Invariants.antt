@@ -2,5 +2,5 @@ use Rattle.std.proofs.Common.{◌≡◌, ℕ, true, false, get_or}
 use Rattle.tracked_position.specs.Waits.{IsHeld}
 use Rattle.tracked_position.proofs.held.all_held.Given as goal
 
-abbrev pub invariant-loop-turn : goal.invariant-loop-turn
-invariant-loop-turn l = (hart : ℕ) → get_or l.held hart false ≡ true → IsHeld l.waits hart
+abbrev pub invariant-loop : goal.invariant-loop
+invariant-loop l = (hart : ℕ) → get_or l.held hart false ≡ true → IsHeld l.waits hart

@@ -1,5 +1,6 @@
 use Rattle.std.proofs.Common.{◌≡◌, ◌<◌, ◌≤◌, ◌^◌, length, get_or, IfSome, IfNone, arith}
 use Rattle.std.proofs.lemmas.List.{get_or_default}
+use Rattle.ft_types.specs.declared.names.TheConstants.{HART_LIMIT, HART_ROW}
 use Rattle.tracked_position.specs.declared.walk.Ahead.TheVariants.{Unseen}
 use Rattle.ft_types.specs.Counts.{count_at}
 use Rattle.closed_cut.specs.Position.{base_of, pieces_of, Goes}
@@ -18,9 +19,9 @@ set-requires-clause-count c =
     let term = c.args.opening.now.term in
     let number = c.loop-number.number in
     let base = base_of c.args.opening.now in
-    let few : s.guest.harts ≤ 8 = few_harts s c.requires.rules c.args.opening.now c.requires.opening in
+    let few : s.guest.harts ≤ HART_LIMIT = few_harts s c.requires.rules c.args.opening.now c.requires.opening in
     let many : length c.args.opening.now.base ≡ s.guest.harts = base_many s c.args.opening.now c.requires.rules c.requires.opening in
-    let eight : length c.args.cursors.now ≡ 8 = c.type_inv.cursors in
+    let wide : length c.args.cursors.now ≡ HART_ROW = c.type_inv.cursors in
     let here_is : cursor_at c.args.cursors.now number ≡ get_or c.args.cursors.now number c.index-cursors-index.result =
     get_or_default c.args.cursors.now number (record { place = 0; end = 0; ahead = Unseen }) c.index-cursors-index.result (omega arith) in
     let over : IsOver (pieces_of s term number) (base number) (count_at c.args.cut.now) (cursor_at c.args.cursors.now number) =
@@ -41,9 +42,9 @@ loop-number-preserved c =
     let term = c.args.opening.now.term in
     let number = c.loop-number.number in
     let base = base_of c.args.opening.now in
-    let few : s.guest.harts ≤ 8 = few_harts s c.requires.rules c.args.opening.now c.requires.opening in
+    let few : s.guest.harts ≤ HART_LIMIT = few_harts s c.requires.rules c.args.opening.now c.requires.opening in
     let many : length c.args.opening.now.base ≡ s.guest.harts = base_many s c.args.opening.now c.requires.rules c.requires.opening in
-    let eight : length c.args.cursors.now ≡ 8 = c.type_inv.cursors in
+    let wide : length c.args.cursors.now ≡ HART_ROW = c.type_inv.cursors in
     let here_is : cursor_at c.args.cursors.now number ≡ get_or c.args.cursors.now number c.index-cursors-index.result =
     get_or_default c.args.cursors.now number (record { place = 0; end = 0; ahead = Unseen }) c.index-cursors-index.result (omega arith) in
     let over : IsOver (pieces_of s term number) (base number) (count_at c.args.cut.now) (cursor_at c.args.cursors.now number) =

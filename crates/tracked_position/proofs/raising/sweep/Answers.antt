@@ -2,6 +2,7 @@ use Rattle.std.proofs.Common.{◌≡◌, ◌<◌, ◌≤◌, inl, inr, false, No
 use Rattle.std.proofs.lemmas.Bool.{cases_lt, cases_eq}
 use Rattle.std.specs.Option.{option_map}
 use Rattle.ft_types.specs.Counts.{count_at}
+use Rattle.ft_types.specs.declared.names.TheConstants.{HART_LIMIT, HART_ROW}
 use Rattle.closed_cut.specs.Position.{base_of}
 use Rattle.closed_cut.proofs.Reach.{base_many}
 use Rattle.tracked_position.specs.Waits.{room}
@@ -19,12 +20,12 @@ loop-number-preserved c =
     let base = base_of c.args.opening.now in
     let here : c.index-in-loop-number.result ≡ c.loop-number.number = c.index-in-loop-number.ensures.value ∙ c.new-hart.ensures in
     let there : c.index-in-loop-number-2.result ≡ c.loop-number.number = c.index-in-loop-number-2.ensures.value ∙ c.new-hart.ensures in
-    let eight : length c.loop-number.cursors ≡ 8 = c.loop-number.invariant.eight in
-    let many : length c.loop-number.waits ≡ 8 = c.loop-number.invariant.many in
-    let below : c.index-in-loop-number.result < 8 = c.index-in-loop-number.ensures.below in
+    let wide : length c.loop-number.cursors ≡ HART_ROW = c.loop-number.invariant.wide in
+    let many : length c.loop-number.waits ≡ HART_ROW = c.loop-number.invariant.many in
+    let below : c.index-in-loop-number.result < HART_LIMIT = c.index-in-loop-number.ensures.below in
     rw (here, there)
     (record {
-      eight = length-set c.loop-number.cursors c.loop-number.number c.raise_hart-raised.new.cursor ∙ eight;
+      wide = length-set c.loop-number.cursors c.loop-number.number c.raise_hart-raised.new.cursor ∙ wide;
       many = length-set c.loop-number.waits c.loop-number.number c.raise_hart-raised.result.waits ∙ many;
       harts = c.raise_hart-raised.ensures.harts ∙ c.loop-number.invariant.harts;
       cut = c.raise_hart-raised.ensures.cut;

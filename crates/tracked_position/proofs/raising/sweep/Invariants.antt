@@ -1,6 +1,7 @@
 use Rattle.std.proofs.Common.{◌≡◌, ◌<◌, ◌≤◌, ℕ, true, false, None, length, get_or}
 use Rattle.std.specs.Option.{option_map}
 use Rattle.ft_types.specs.Counts.{count_at}
+use Rattle.ft_types.specs.declared.names.TheConstants.{HART_ROW}
 use Rattle.closed_cut.specs.Position.{base_of}
 use Rattle.tracked_position.specs.Cuts.{IsCutOf}
 use Rattle.tracked_position.specs.Walks.{AreOver}
@@ -10,8 +11,8 @@ use Rattle.tracked_position.proofs.raising.sweep.Given as goal
 abbrev pub invariant-loop-number : goal.invariant-loop-number
 invariant-loop-number l =
     record {
-      eight : length l.cursors ≡ 8;
-      many : length l.waits ≡ 8;
+      wide : length l.cursors ≡ HART_ROW;
+      many : length l.waits ≡ HART_ROW;
       harts : length l.cut ≡ length l.initial.cut;
       cut : IsCutOf l.store l.opening.term (base_of l.opening) (option_map count_at l.limit) (count_at l.cut);
       over : AreOver l.store l.opening.term (base_of l.opening) (count_at l.cut) l.cursors;

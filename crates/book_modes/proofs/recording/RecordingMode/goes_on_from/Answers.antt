@@ -3,6 +3,7 @@ use Rattle.std.proofs.lemmas.Bool.{cases_lt}
 use Rattle.std.proofs.lemmas.List.{get_or_past}
 use Rattle.std.proofs.lemmas.List.Elements.{All-nil}
 use Rattle.ft_types.specs.Counts.{count_at}
+use Rattle.ft_types.specs.declared.names.TheConstants.{HART_ROW}
 use Rattle.input_log.specs.declared.Input.{Input}
 use Rattle.input_log.specs.Inputs.{inputs_of}
 use Rattle.input_log.specs.declared.offered.Offer.{Offer}
@@ -13,7 +14,7 @@ use Rattle.book_modes.specs.Recordings.{RecordingView, HasRows, KeepsInputs, off
 use Rattle.book_modes.proofs.recording.RecordingMode.goes_on_from.Goals as goal
 
 -- a hart that has no row was given and offered nothing
-nothing_offered : (r : RecordingView) (hart count : ℕ) → HasRows r → 8 ≤ hart → offers_at r hart count ≡ []
+nothing_offered : (r : RecordingView) (hart count : ℕ) → HasRows r → HART_ROW ≤ hart → offers_at r hart count ≡ []
 nothing_offered r hart count rows past =
     ap (λ (row : List (ℕ × Input)). but_bells (all_offers row count (due_at r.due hart).inputs (others_of r.desk hart)))
     (get_or_past r.inputs hart [] (omega (arith, rows.inputs)))
@@ -21,7 +22,7 @@ nothing_offered r hart count rows past =
     (get_or_past r.due hart nothing_due (omega (arith, rows.due)))
     ∙ ap (λ (queues : Queues). but_bells (all_offers [] count [] queues.others)) (get_or_past r.desk hart empty (omega (arith, rows.desk)))
 
-nothing_kept : (r new : RecordingView) (hart count later : ℕ) → HasRows r → HasRows new → 8 ≤ hart → KeepsInputs r hart count new later
+nothing_kept : (r new : RecordingView) (hart count later : ℕ) → HasRows r → HasRows new → HART_ROW ≤ hart → KeepsInputs r hart count new later
 nothing_kept r new hart count later rows now past =
     record {
       given =
@@ -55,7 +56,7 @@ returns c = (
         inputs = λ h. elim (cases_lt h c.loop-number.number) [
           | inl less ↦ c.loop-number.invariant h less
           | inr more ↦
-              let past : 8 ≤ h = let end = c.loop-number-test.false in omega (arith, end) in
+              let past : HART_ROW ≤ h = let end = c.loop-number-test.false in omega (arith, end) in
               nothing_kept c.args.before.now c.args.self.now h (count_at c.args.settled.now h) (count_at c.args.now.now h) c.has_rows-2.ensures c.has_rows.ensures past
         ];
       },

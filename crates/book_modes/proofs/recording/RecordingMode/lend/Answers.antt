@@ -1,5 +1,6 @@
 use Rattle.std.proofs.Common.{rules, ◌≡◌, ◌<◌, ◌∙◌, ap, slice_index_or, length}
 use Rattle.std.proofs.lemmas.List.{get_or_default}
+use Rattle.ft_types.specs.declared.names.TheConstants.{HART_LIMIT}
 use Rattle.hart_lease.specs.OpenLeases.{lent_with}
 use Rattle.ft_types.specs.Counts.{count_at}
 use Rattle.input_log.specs.Waiting.{bells_of, others_of, next_going}
@@ -25,5 +26,5 @@ returns-clause-lent c =
 
 pub returns-clause-kept : goal.returns-clause-kept
 returns-clause-kept c =
-    let below : c.args.hart < 8 = search rules in
+    let below : c.args.hart < HART_LIMIT = search rules in
     lending_kept c.args.self.now c.fill_due.new.self c.args.hart c.args.count c.lent.result below (returns-clause-lent c)

@@ -1,4 +1,5 @@
 use Rattle.std.proofs.Common.{◌≡◌, ◌-◌, ℕ, arith, sym, subst}
+use Rattle.ft_types.specs.declared.names.TheConstants.{PAGE_ROW}
 use Rattle.rv32_hart.specs.Hart.{without_outputs}
 use Rattle.hart_lease.specs.OpenLeases.{idle}
 use Rattle.hart_lease.specs.Leases.{fresh}
@@ -8,7 +9,7 @@ use Rattle.hart_lease.proofs.pages.Given.{bare_fresh_kept}
 use Rattle.hart_lease.proofs.lease.Lease.fresh.Goals as goal
 
 pub invariant_of-result : goal.invariant_of-result
-invariant_of-result c = (omega arith, (omega arith, (λ h. absurd (omega arith), (rw c.in_ok-taken.ensures (based_none c.in_ok-bases.bases.items 64), tt))))
+invariant_of-result c = (omega arith, (omega arith, (λ h. absurd (omega arith), (rw c.in_ok-taken.ensures (based_none c.in_ok-bases.bases.items PAGE_ROW), tt))))
 
 pub invariant_of-result-2 : goal.invariant_of-result-2
 invariant_of-result-2 c =

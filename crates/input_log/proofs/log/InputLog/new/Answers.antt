@@ -1,7 +1,7 @@
 use Rattle.std.proofs.Common.{rules, ◌≡◌, [], arith}
 use Rattle.std.specs.List.{AllByRecursion}
 use Rattle.ft_types.proofs.Zips.{each_at}
-use Rattle.input_log.proofs.Eights.{all_same}
+use Rattle.input_log.proofs.Tables.{all_same}
 use Rattle.input_log.proofs.log.InputLog.new.Goals as goal
 
 each_empty : (c : goal.After-from_fn) → AllByRecursion (λ r. r ≡ []) c.from_fn.result

@@ -1,5 +1,6 @@
 use Rattle.std.proofs.Common.{◌≡◌, ◌-◌, ◌≤◌, ◌∙◌, length, take, drop, sym, ap, subst}
 use Rattle.std.proofs.lemmas.List.{take_rest}
+use Rattle.ft_types.specs.declared.names.TheConstants.{INPUT_LIMIT}
 use Rattle.input_log.specs.Inputs.{inputs_at}
 use Rattle.input_log.proofs.Rows.{inputs_are}
 use Rattle.input_log.proofs.row.Row.at.Goals as goal
@@ -16,4 +17,4 @@ returns-clause-value c =
     ap (λ r. inputs_at r c.args.count) c.columns.ensures.value)
 
 pub returns-clause-few : goal.returns-clause-few
-returns-clause-few c = subst (λ l. length l ≤ 8) (sym (returns-clause-value c)) (c.columns.ensures.few c.args.count)
+returns-clause-few c = subst (λ l. length l ≤ INPUT_LIMIT) (sym (returns-clause-value c)) (c.columns.ensures.few c.args.count)

@@ -1,6 +1,7 @@
 use Rattle.std.proofs.Common.{◌≡◌, ◌<◌, ℕ, List, [], ◌++◌, ◌∙◌, ap, subst, slice_index_or}
 use Rattle.std.specs.List.Sorted.{IsPermutation}
 use Rattle.ft_types.specs.declared.output.Output.{Output}
+use Rattle.ft_types.specs.declared.names.TheConstants.{HART_LIMIT}
 use Rattle.output_gate.specs.Gates.{LineView, GateView, offered_of, held_outputs}
 use Rattle.output_gate.specs.Orders.{StepsRise}
 use Rattle.output_gate.proofs.Gates.{gate_releases, offered_moves, offered_stays}
@@ -22,12 +23,12 @@ now_offered lines hart =
 
 pub returns-clause-same : goal.returns-clause-same
 returns-clause-same c =
-    subst (λ (v : GateView). (hart : ℕ) → hart < 8 → IsPermutation (offered_of v hart) (now_offered c.advance_all.new.lines hart)) c.self.view_is
+    subst (λ (v : GateView). (hart : ℕ) → hart < HART_LIMIT → IsPermutation (offered_of v hart) (now_offered c.advance_all.new.lines hart)) c.self.view_is
     (offered_moves c.self.inside.need c.self.inside.noted c.self.inside.lines c.advance_all.new.lines c.advance_all.ensures.each)
 
 pub returns-clause-offered : goal.returns-clause-offered
 returns-clause-offered c =
-    subst (λ (v : GateView). (hart : ℕ) → hart < 8 → StepsRise (offered_of v hart) → now_offered c.advance_all.new.lines hart ≡ offered_of v hart)
+    subst (λ (v : GateView). (hart : ℕ) → hart < HART_LIMIT → StepsRise (offered_of v hart) → now_offered c.advance_all.new.lines hart ≡ offered_of v hart)
     c.self.view_is
     (offered_stays c.self.inside.keepers c.self.inside.need c.self.inside.noted c.self.inside.lines c.advance_all.new.lines c.self.invariant
     c.advance_all.ensures.each)

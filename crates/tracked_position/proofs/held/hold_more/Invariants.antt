@@ -1,0 +1,6 @@
+use Rattle.std.proofs.Common.{◌≡◌, ℕ, true, false, get_or}
+use Rattle.tracked_position.specs.Waits.{IsHeld}
+use Rattle.tracked_position.proofs.held.hold_more.Given as goal
+
+abbrev pub invariant-loop-index : goal.invariant-loop-index
+invariant-loop-index l = (hart : ℕ) → get_or l.held hart false ≡ true → IsHeld l.waits hart
