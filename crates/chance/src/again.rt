@@ -13,7 +13,7 @@ fn try_step<M: Mode>(book: &mut Book<M>, lease: &mut Lease) {
         return;
     }
     if let Tick::Miss(page, want) = lease.tick() {
-        if page.number() < book.machine().pages() {
+        if page.index() < book.machine().pages() as usize {
             let _need = book.need(lease, page, want);
         }
     }
