@@ -67,7 +67,7 @@ abbrev pub KeepsLending : Fact → Fact → ℕ → ℕ → LentView → Type 0
 KeepsLending keeps new hart count lent =
     (start machine : MachineState) (journal : List Stretch) (leases : List (Option OpenView)) → hart < length machine.harts → hart < length leases →
     open_at leases hart ≡ None → count ≡ counts_of machine hart → keeps start machine journal leases →
-    new start machine journal (slice_set leases hart (Some (nothing_taken lent)))
+    new start machine journal (slice_set leases hart (Some (nothing_taken (length machine.pages) lent)))
 
 -- the asker has the page, and these edges wait in it
 abbrev pub KeepsGiving : Fact → (List (Option OpenView) → Asked → ℕ → Type 0) → Fact → List ℕ → Asked → List Edge → Type 0

@@ -18,7 +18,7 @@ use crate::keep::Keep;
 use crate::settled::{count_of, steps_taken};
 use edge_log::{Edge, EdgeLog};
 use ft_types::{
-    COUNT_LIMIT, Count, Counts, HART_LIMIT, HART_ROW, Hart, HartSet, Memory, PAGE_ROW, PageNo, Want,
+    COUNT_LIMIT, Count, Counts, HART_LIMIT, HART_ROW, Hart, HartSet, Memory, PageNo, Want,
 };
 use guest_image::Machine;
 use hart_lease::{Asked, Lease, Lent, OpenLease, Taken};
@@ -187,7 +187,7 @@ pub trait Mode: Drop {
         ensures err { OnErr result (self.new ≡ self.old) };
 
     /// Gives up what a lease of the hart took, which ends without its steps, at the hart's settled count.
-    fn end(&mut self, hart: Hart, count: Count, taken: &[Option<Taken>; PAGE_ROW])
+    fn end(&mut self, hart: Hart, count: Count, taken: &[Option<Taken>])
         requires { IsEnding (keeps self.old) hart count taken.now }
         ensures ended { ends self.old hart count taken.now self.new }
         ensures stops { stops self.new ≡ stops self.old }
@@ -334,5 +334,5 @@ impl Mode for Replaying {
         Ok(())
     }
 
-    fn end(&mut self, _hart: Hart, _count: Count, _taken: &[Option<Taken>; PAGE_ROW]) {}
+    fn end(&mut self, _hart: Hart, _count: Count, _taken: &[Option<Taken>]) {}
 }

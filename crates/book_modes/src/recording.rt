@@ -24,9 +24,7 @@ use crate::unheard::desk_of;
 use crate::yielding::{is_at_hand, right_yielded};
 use crew_pages::{Ask, PageRight};
 use edge_log::{Edge, EdgeLog};
-use ft_types::{
-    COUNT_LIMIT, Count, Counts, HART_LIMIT, HART_ROW, Hart, HartSet, Memory, PAGE_ROW, PageNo,
-};
+use ft_types::{COUNT_LIMIT, Count, Counts, HART_LIMIT, HART_ROW, Hart, HartSet, Memory, PageNo};
 use guest_image::Machine;
 use hart_lease::{Asked, Lease, Lent, OpenLease, Taken};
 use input_log::{Desk, Input, InputLog, Offered, WaitingBell};
@@ -57,7 +55,7 @@ impl Model for Recording {
     ghost view = { λ r. record { limits = r.limits; rights = r.rights.items; edges = r.edges; inputs = r.inputs; due = r.due; desk = r.desk } };
 }
 
-fn unused_rights(alloc: Global, pages: u8) -> Result<Vec<PageRight>, Memory>
+fn unused_rights(alloc: Global, pages: u16) -> Result<Vec<PageRight>, Memory>
     ensures many { IfOk result (λ rights. length rights.items ≡ pages) }
     ensures each { IfOk result (λ rights. (page : ℕ) → page < pages → right_at rights.items page ≡ unused) }
 {
@@ -504,8 +502,8 @@ impl Mode for Recording {
         Ok(())
     }
 
-    fn end(&mut self, hart: Hart, count: Count, taken: &[Option<Taken>; PAGE_ROW]) {
-        for page in 0..self.rights.len().min(PAGE_ROW) {
+    fn end(&mut self, hart: Hart, count: Count, taken: &[Option<Taken>]) {
+        for page in 0..self.rights.len().min(taken.len()) {
             if taken[page].is_some() {
                 self.rights[page].give_up(hart, count);
             }

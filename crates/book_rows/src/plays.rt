@@ -3,7 +3,7 @@
 use crate::rows::{Edge, Heard, Play, Row};
 use crate::starts::{next_book, offer, raise, recorder_of, replayer_of};
 use fixtures::{Crew, hart};
-use ft_types::{Count, Hart, HartSet, PageNo};
+use ft_types::{Count, Hart, HartSet, PAGE_LIMIT, PageNo};
 use guest_image::Machine;
 use input_log::Input;
 use page_book::{Book, BookFault, Keep, Lease, Mode, Need, Recording, Replaying};
@@ -99,11 +99,16 @@ fn stands<M: Mode>(crew: &Crew<M>, hart: Hart, want: [u64; 3]) -> bool {
     }
 }
 
+/// The page of a number below `PAGE_LIMIT`.
+fn page_of(number: u8) -> PageNo {
+    PageNo::new(u16::from(number) % PAGE_LIMIT)
+}
+
 /// Whether a lease is given a page, and tells of itself, as a row says.
 fn is_lease_so<M: Mode>(crew: &mut Crew<M>, row: &Row) -> bool {
     match *row {
         Row::Ask(number, page, want, said) => {
-            crew.ask(hart(number), PageNo::new(page % 64), want) == Ok(need_of(said))
+            crew.ask(hart(number), page_of(page), want) == Ok(need_of(said))
         }
         Row::Waits(number, want) => are_edges(crew.waiting(hart(number)), want),
         Row::Stands(number, want) => stands(crew, hart(number), want),

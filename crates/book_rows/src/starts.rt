@@ -6,7 +6,7 @@ ghost use Rattle.std.specs.Prelude.{◌≡◌, length};
 use crate::rows::{Edge, Heard, Play};
 use edge_log::EdgeLog;
 use fixtures::{edge, hart, image_of, recorder};
-use ft_types::{Count, Counts, HART_LIMIT, Hart, Memory};
+use ft_types::{Count, Counts, HART_LIMIT, HART_ROW, Hart, Memory};
 use guest_image::{Image, Machine};
 use input_log::{Input, InputLog};
 use page_book::{Book, Leg, Mode, Recording, Replaying};
@@ -101,7 +101,7 @@ pub fn replayer_of(alloc: Global, play: &Play) -> Result<Book<Replaying>, Fail> 
 }
 
 fn next_once(alloc: Global, machine: &Machine) -> Option<Book<Recording>> {
-    let limits = Counts::from_slice([100; 8].get(..usize::from(machine.harts()))?)?;
+    let limits = Counts::from_slice([100; HART_ROW].get(..usize::from(machine.harts()))?)?;
     if machine.harts() != limits.harts() {
         return None;
     }

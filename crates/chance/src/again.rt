@@ -18,7 +18,7 @@ fn first_tick(lease: &mut Lease) -> Tick {
 
 /// Asks for a page that the lease lacks.
 fn ask<M: Mode>(book: &mut Book<M>, lease: &mut Lease, page: PageNo, want: Want) {
-    if page.number() < book.machine().pages() {
+    if page.index() < book.machine().pages() as usize {
         let _need = book.need(lease, page, want);
     }
 }

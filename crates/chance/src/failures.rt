@@ -5,7 +5,7 @@ use crate::calls::make_many;
 use crate::starts::{image_in, opens, recorder_of};
 use fixtures::{Crew, Dice, cut, file_of};
 use fragment_codec::Frame;
-use ft_types::{Count, Counts, Keeper, Memory, Term};
+use ft_types::{Count, Counts, HART_ROW, Keeper, Memory, Term};
 use go_live::{Live, go_live};
 use guest_image::{Image, Machine};
 use log_join::Store;
@@ -110,7 +110,7 @@ fn is_machine_of(machine: &Machine, book: &Book<Recording>) -> bool {
 
 /// Limits of so many harts that no hart comes to.
 fn far(harts: u8) -> Option<Counts> {
-    Counts::from_slice([FAR; 8].get(..usize::from(harts))?)
+    Counts::from_slice([FAR; HART_ROW].get(..usize::from(harts))?)
 }
 
 /// Each hart of the book may go on.

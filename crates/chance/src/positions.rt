@@ -3,7 +3,7 @@
 use closed_cut::position;
 use fixtures::{Dice, edge, guest_with, key, opening_of, piece_of};
 use fragment_codec::{Frame, Record};
-use ft_types::{Count, Guest, Term};
+use ft_types::{Count, Guest, HART_LIMIT, HART_ROW, Term};
 use input_log::Input;
 use std::alloc::Global;
 use std::test::Fail;
@@ -94,8 +94,8 @@ fn pieces(
 
 /// The opening of a term whose harts all go on from this count.
 fn opening(harts: u8, term: Term, from: Count) -> Result<Frame, Fail> {
-    let base = [from; 8];
-    let base = &base[..usize::from(harts.min(8))];
+    let base = [from; HART_ROW];
+    let base = &base[..usize::from(harts.min(HART_LIMIT))];
     opening_of(guest_of(harts), term, term.saturating_sub(1), base)
 }
 
@@ -118,7 +118,7 @@ fn add_openings(
 fn add_log(alloc: Global, frames: &mut Vec<Frame>, harts: u8, dice: &mut Dice) -> Result<(), Fail> {
     let left = u64::from(below(dice, 6));
     add_openings(frames, harts, left, dice)?;
-    for hart in 0..harts.min(8) {
+    for hart in 0..harts.min(HART_LIMIT) {
         pieces(alloc, frames, harts, (1, hart, 0), dice)?;
         pieces(alloc, frames, harts, (2, hart, left), dice)?;
     }

@@ -18,7 +18,7 @@ pub const KEEPER_LIMIT: u8 = 5;
 pub const KEEPER_ROW: usize = KEEPER_LIMIT as usize;
 
 /// The number of pages that a machine has at the most.
-pub const PAGE_LIMIT: u8 = 64;
+pub const PAGE_LIMIT: u16 = 64;
 
 /// The length of a row with a place for each page.
 pub const PAGE_ROW: usize = PAGE_LIMIT as usize;
@@ -147,11 +147,13 @@ impl Model for PageNo {
 impl PageNo {
     /// The page of this number.
     #[inline(always)]
-    pub fn new(number: u8) -> PageNo
+    pub fn new(number: u16) -> PageNo
         requires { number < PAGE_LIMIT }
         ensures { result ≡ number }
     {
-        PageNo { number }
+        PageNo {
+            number: number as u8,
+        }
     }
 
     /// The page's number, below `PAGE_LIMIT`.

@@ -17,7 +17,7 @@ use std::vec::Vec;
 #[derive(Drop)]
 pub struct Image {
     harts: u8,
-    pages: u8,
+    pages: u16,
     words: Vec<u32>,
     digest: [u8; 32],
 }
@@ -46,7 +46,7 @@ impl Image {
     }
 
     /// The number of pages, 1 to `PAGE_LIMIT`.
-    pub fn pages(&self) -> u8
+    pub fn pages(&self) -> u16
         ensures value { result ≡ self.now.pages }
         ensures some { 0 < result }
         ensures limit { result ≤ PAGE_LIMIT }
@@ -108,11 +108,11 @@ fn read_parts(alloc: Global, bytes: &[u8]) -> Result<Image, ImageFault>
                     if pages > u64::from(PAGE_LIMIT) {
                         return Err(ImageFault::TooLarge);
                     }
-                    match read_words(alloc, pages as u8, behind) {
+                    match read_words(alloc, pages as u16, behind) {
                         Err(fault) => Err(fault),
                         Ok(words) => Ok(Image {
                             harts: harts as u8,
-                            pages: pages as u8,
+                            pages: pages as u16,
                             words,
                             digest: Sha256::digest(bytes),
                         }),

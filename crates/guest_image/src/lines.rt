@@ -49,7 +49,7 @@ fn read_word_line(bytes: &[u8]) -> Option<(u32, &[u8])>
 }
 
 /// The words of all lines.
-pub(super) fn read_words(alloc: Global, pages: u8, bytes: &[u8]) -> Result<Vec<u32>, ImageFault>
+pub(super) fn read_words(alloc: Global, pages: u16, bytes: &[u8]) -> Result<Vec<u32>, ImageFault>
     requires { pages ≤ PAGE_LIMIT }
     ensures found { IfOk result (λ v. WordsThen pages bytes.now v.items []) }
     ensures fault { IfErr result (λ e. IsWordFault pages bytes.now e) }

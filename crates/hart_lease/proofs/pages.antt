@@ -7,3 +7,4 @@ pub mod Counts
 pub mod Equal
 pub mod Places
 pub mod SlotSets
+pub mod Rows

@@ -3,7 +3,7 @@ use Rattle.std.specs.Prelude.{◌≡◌, ◌≢◌, ◌≤◌, ◌<◌, ◌⊎�
 use Rattle.std.specs.Prelude.{slice_index_or, true, Option, Some, None}
 use Rattle.ft_types.specs.declared.names.Want.{Want}
 use Rattle.ft_types.specs.declared.names.Want.TheVariants.{Read, Write}
-use Rattle.ft_types.specs.declared.names.TheConstants.{LEASE_STEPS, PAGE_ROW}
+use Rattle.ft_types.specs.declared.names.TheConstants.{LEASE_STEPS}
 use Rattle.rv32_hart.specs.Hart.{Hart, with_earlier}
 use Rattle.rv32_hart.specs.Step.{IsTaken, IsMissing, IsOutput}
 use Rattle.rv32_hart.specs.declared.outcome.Tick.{Tick}
@@ -43,7 +43,7 @@ fresh hart state pages lent =
       inputs = lent.inputs;
       bases = replicate pages None;
       slots = replicate pages Missing;
-      taken = replicate PAGE_ROW None;
+      taken = replicate pages None;
       edges = lent.edges;
       steps = 0;
       most = LEASE_STEPS;

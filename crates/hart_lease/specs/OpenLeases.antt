@@ -8,7 +8,6 @@ use Rattle.smallvec.specs.SmallVec.{SmallVec}
 use Rattle.hart_lease.specs.declared.taken.Taken.{Taken}
 use Rattle.hart_lease.specs.Taken.{taken_at, right_of_taken, taking}
 use Rattle.ft_types.specs.declared.names.Want.TheVariants.{Read, Write}
-use Rattle.ft_types.specs.declared.names.TheConstants.{PAGE_ROW}
 
 pub record OpenView : Type 0 where
   pub stop : ℕ  -- the count that it does not go past
@@ -38,9 +37,13 @@ lent_with stop inputs edges = record { stop = stop; inputs = inputs; edges = edg
 abbrev pub idle : LentView
 idle = record { stop = 0; inputs = []; edges = [] }
 
--- a lease of no page
-abbrev pub nothing_taken : LentView → OpenView
-nothing_taken lent = record { stop = lent.stop; inputs = lent.inputs; taken = replicate PAGE_ROW None; edges = lent.edges }
+-- a lease that goes out so, and took these pages
+abbrev pub opened_with : List (Option Taken) → LentView → OpenView
+opened_with taken lent = record { stop = lent.stop; inputs = lent.inputs; taken = taken; edges = lent.edges }
+
+-- a lease of none of so many pages
+abbrev pub nothing_taken : ℕ → LentView → OpenView
+nothing_taken pages lent = opened_with (replicate pages None) lent
 
 -- the right that an open lease has on a page
 abbrev pub right_of : Option OpenView → ℕ → Option Want

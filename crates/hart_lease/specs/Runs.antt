@@ -39,6 +39,7 @@ pub record IsLease (l : LeaseView) : Type 0 where
   pub stop : l.stop < COUNT_LIMIT
   pub few : length l.inputs ≤ INPUT_LIMIT
   pub as_many : length l.bases ≡ length l.slots
+  pub counted : length l.taken ≡ length l.slots
   pub rights : (page : ℕ) → want_of (slot_at l.slots page) ≡ right_of_taken (taken_at l.taken page)
   pub number : l.present.number ≡ l.base.number
   pub harts : l.present.harts ≡ l.base.harts

@@ -22,7 +22,7 @@ use crate::taken::{Taken, TakenPages};
 use edge_log::Edge;
 use ft_types::{
     COUNT_LIMIT, Count, HART_LIMIT, HART_ROW, Hart, INPUT_LIMIT, LEASE_STEPS, Memory, PAGE_LIMIT,
-    PAGE_ROW, PageNo, Want,
+    PageNo, Want,
 };
 use guest_image::{Machine, Page, SharedPage};
 use input_log::{Input, WaitingBell};
@@ -98,15 +98,15 @@ impl Model for Lease {
 
 impl Lease {
     /// A lease of a hart in this state but for its outputs, without steps and pages, which may not take any yet.
-    pub fn fresh(alloc: Global, hart: Hart, state: &HartState, pages: u8) -> Result<Lease, Memory>
+    pub fn fresh(alloc: Global, hart: Hart, state: &HartState, pages: u16) -> Result<Lease, Memory>
         requires pages { pages ≤ PAGE_LIMIT }
         ensures { IfOk result (λ l. l ≡ fresh hart (without_outputs state.now) pages idle) }
     {
         let base = state.without_outputs();
         let present = state.without_outputs();
         let bases = no_pages(alloc, pages)?;
+        let taken = TakenPages::none(alloc, pages)?;
         let pages = LeasePages::missing(alloc, pages)?;
-        let taken = TakenPages::none(alloc)?;
         Ok(Lease {
             hart,
             base,
@@ -388,7 +388,7 @@ impl Lease {
 
     /// Whether the lease's hart and pages were lent by the machine, the pages at these counts.
     #[tactic(auto, using(crate::proofs::steps::EarlierOutputs::lent_whole, crate::proofs::steps::EarlierOutputs::lent_bare))]
-    pub fn is_lent(&self, machine: &Machine, taken: &[Option<Taken>; PAGE_ROW]) -> bool
+    pub fn is_lent(&self, machine: &Machine, taken: &[Option<Taken>]) -> bool
         requires { self.now.hart < length machine.now.harts }
         ensures { IsTrue result ↔ IsLent machine.now taken.now (whole_in machine.now self.now) }
     {
@@ -413,7 +413,7 @@ impl Lease {
     }
 
     /// Whether it took its pages at these counts.
-    fn took(&self, taken: &[Option<Taken>; PAGE_ROW]) -> bool
+    fn took(&self, taken: &[Option<Taken>]) -> bool
         ensures { IsTrue result ↔ (self.now.taken ≡ taken.now) }
     {
         self.taken.same(taken)

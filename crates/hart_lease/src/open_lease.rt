@@ -1,14 +1,14 @@
 //! What a book knows of an open lease.
 
-ghost use Rattle.std.specs.Prelude.{◌≡◌, ◌<◌, ℕ, length, replicate, slice_set, None, Some};
-ghost use Rattle.hart_lease.specs.OpenLeases.{OpenView, edges_after, right_of, nothing_taken};
+ghost use Rattle.std.specs.Prelude.{◌≡◌, slice_set, Some};
+ghost use Rattle.hart_lease.specs.OpenLeases.{OpenView, edges_after, right_of, opened_with};
 ghost use Rattle.hart_lease.specs.Taken.{taken_at, taking};
 
 use crate::asked::Asked;
 use crate::lent::Lent;
 use crate::taken::{self, Taken, TakenPages};
 use edge_log::Edge;
-use ft_types::{Count, HART_ROW, INPUT_LIMIT, PAGE_ROW, PageNo, Want};
+use ft_types::{Count, HART_ROW, INPUT_LIMIT, PageNo, Want};
 use input_log::Input;
 use smallvec::SmallVec;
 use std::alloc::Global;
@@ -25,22 +25,17 @@ pub struct OpenLease {
 }
 
 impl Model for OpenLease {
-    ghost use Rattle.std.specs.Prelude.{◌≡◌, length};
     ghost use Rattle.hart_lease.specs.OpenLeases.{OpenView};
-    ghost use Rattle.ft_types.specs.declared.names.TheConstants.{PAGE_ROW};
 
     ghost Value = { OpenView };
 
     ghost view = { λ l. record { stop = l.stop; inputs = l.inputs.items; taken = l.taken; edges = l.edges.items } };
-
-    ghost invariant = { λ l. length l.taken ≡ PAGE_ROW };
 }
 
 impl OpenLease {
-    /// A lease of no page.
+    /// A lease that goes out with this, and took these pages.
     pub fn new(alloc: Global, lent: &Lent, taken: TakenPages) -> OpenLease
-        requires { taken ≡ replicate PAGE_ROW None }
-        ensures { result ≡ nothing_taken lent.now }
+        ensures { result ≡ opened_with taken lent.now }
     {
         let inputs = SmallVec::from_slice(alloc, lent.inputs()).unwrap();
         let edges = SmallVec::from_slice(alloc, lent.edges()).unwrap();
@@ -67,9 +62,8 @@ impl OpenLease {
     }
 
     /// Since when it has each page.
-    pub fn taken(&self) -> &[Option<Taken>; PAGE_ROW]
-        ensures value { result.now ≡ self.now.taken }
-        ensures row { length result.now ≡ PAGE_ROW }
+    pub fn taken(&self) -> &[Option<Taken>]
+        ensures { result.now ≡ self.now.taken }
     {
         self.taken.row()
     }
@@ -85,7 +79,7 @@ impl OpenLease {
     pub fn right(&self, page: PageNo) -> Option<Want>
         ensures { result ≡ right_of (Some self.now) page }
     {
-        taken::right_of(&self.taken.row()[page.index()])
+        taken::right_of(&self.taken.held(page))
     }
 
     /// Writes down that it was given a right, and which edges wait in it now, where others do.

@@ -1,9 +1,9 @@
 //! When a lease took a page, and with which right.
 
-ghost use Rattle.std.specs.Prelude.{◌≡◌, ◌<◌, ◌↔◌, length, replicate, slice_set, None, Some, IfOk, IsTrue};
+ghost use Rattle.std.specs.Prelude.{◌≡◌, ◌↔◌, replicate, slice_set, None, Some, IfOk, IsTrue};
 ghost use Rattle.hart_lease.specs.Taken.{right_of_taken, taken_at, taking};
 
-use ft_types::{Count, Memory, PAGE_ROW, PageNo, Want};
+use ft_types::{Count, Memory, PageNo, Want};
 use std::alloc::Global;
 use std::marker::Model;
 
@@ -48,60 +48,70 @@ pub(crate) fn with_taken(held: Option<Taken>, want: Want, count: Count) -> Taken
     Taken { read_at, write_at }
 }
 
-fn same_row(row: &[Option<Taken>; PAGE_ROW], other: &[Option<Taken>; PAGE_ROW]) -> bool
+fn same_row(row: &[Option<Taken>], other: &[Option<Taken>]) -> bool
     ensures { IsTrue result ↔ (row.now ≡ other.now) }
 {
     row == other
 }
 
-/// Since when a lease has each page. The row lies apart, so that a lease is small to move.
+/// Since when a lease has each page of its machine.
 #[derive(Drop)]
 pub struct TakenPages {
-    row: Box<[Option<Taken>; PAGE_ROW]>,
+    row: Vec<Option<Taken>>,
 }
 
 impl Model for TakenPages {
-    ghost use Rattle.std.specs.Prelude.{◌≡◌, List, Option, length};
+    ghost use Rattle.std.specs.Prelude.{List, Option};
     ghost use Rattle.hart_lease.specs.declared.taken.Taken.{Taken};
-    ghost use Rattle.ft_types.specs.declared.names.TheConstants.{PAGE_ROW};
 
     ghost Value = { List (Option Taken) };
 
-    ghost view = { λ t. t.row.value };
-
-    ghost invariant = { λ t. length t.row.value ≡ PAGE_ROW };
+    ghost view = { λ t. t.row.items };
 }
 
 impl TakenPages {
-    /// No page.
-    pub fn none(alloc: Global) -> Result<TakenPages, Memory>
-        ensures { IfOk result (λ t. t ≡ replicate PAGE_ROW None) }
+    /// None of so many pages.
+    pub fn none(alloc: Global, pages: u16) -> Result<TakenPages, Memory>
+        ensures { IfOk result (λ t. t ≡ replicate pages None) }
     {
-        let row = Box::new(alloc, [None; PAGE_ROW])?;
+        let mut row = Vec::new(alloc);
+        row.resize(pages as usize, None)?;
         Ok(TakenPages { row })
     }
 
-    /// Writes down that the page was taken at this count.
+    /// Writes down that the page was taken at this count. The machine has the page.
+    #[tactic(auto, using(crate::proofs::pages::Rows::set_beyond))]
     pub(crate) fn take(&mut self, page: PageNo, want: Want, count: Count)
-        ensures value { self.new ≡ slice_set self.old page (Some (taking (taken_at self.old page) want count)) }
-        ensures row { page < length self.old }
+        ensures { self.new ≡ slice_set self.old page (Some (taking (taken_at self.old page) want count)) }
     {
-        let held = self.row[page.index()];
-        self.row[page.index()] = Some(with_taken(held, want, count));
+        if page.index() < self.row.len() {
+            let held = self.row[page.index()];
+            self.row[page.index()] = Some(with_taken(held, want, count));
+        }
     }
 
     /// The row, by rising page.
-    pub(crate) fn row(&self) -> &[Option<Taken>; PAGE_ROW]
-        ensures value { result.now ≡ self.now }
-        ensures pages { length result.now ≡ PAGE_ROW }
+    pub(crate) fn row(&self) -> &[Option<Taken>]
+        ensures { result.now ≡ self.now }
     {
-        &*self.row
+        self.row.as_slice()
+    }
+
+    /// What was taken of a page: nothing, where the machine has no such page.
+    #[tactic(auto, using(crate::proofs::pages::Rows::none_beyond))]
+    pub(crate) fn held(&self, page: PageNo) -> Option<Taken>
+        ensures { result ≡ taken_at self.now page }
+    {
+        if page.index() < self.row.len() {
+            return self.row[page.index()];
+        }
+        None
     }
 
     /// Whether each page was taken as in this row.
-    pub(crate) fn same(&self, row: &[Option<Taken>; PAGE_ROW]) -> bool
+    pub(crate) fn same(&self, row: &[Option<Taken>]) -> bool
         ensures { IsTrue result ↔ (self.now ≡ row.now) }
     {
-        same_row(&*self.row, row)
+        same_row(self.row.as_slice(), row)
     }
 }

@@ -48,7 +48,7 @@ pub lent_out : {M : Type 0} (g : Ghosts M) (hart : ℕ) (b : BookView M) (l : Le
     IsMet (g.obeyed b.mode) (counts_of b.machine) hart →
     ((h : Hart) → slice_get b.machine.harts hart ≡ Some h → l ≡ fresh hart (without_outputs h) (length b.machine.pages) (lent_as l)) →
     g.lends b.mode hart (counts_of b.machine hart) (lent_as l) c.mode →
-    c ≡ record b { leases = slice_set b.leases hart (Some (nothing_taken (lent_as l))); mode = c.mode } → Lends g LEASE_STEPS hart b l c
+    c ≡ record b { leases = slice_set b.leases hart (Some (nothing_taken (length b.machine.pages) (lent_as l))); mode = c.mode } → Lends g LEASE_STEPS hart b l c
 lent_out g hart b l c within unrefused met lent mode book =
     let (h, there) = hart_at b.machine.harts hart within in
     record { state = h; there = there; unrefused = unrefused h there; met = met; lent = lent h there; mode = mode; book = book }
@@ -76,10 +76,10 @@ lease_alone {M} g hart b l c idle lends ours =
       ours = ours;
       alone = λ other ne.
           ap (λ (x : BookView M). open_at x.leases other) lends.book
-          ∙ row_kept b.leases hart other (Some (nothing_taken (lent_as l))) (λ e. ne (e ∙ sym own))
+          ∙ row_kept b.leases hart other (Some (nothing_taken (length b.machine.pages) (lent_as l))) (λ e. ne (e ∙ sym own))
           ∙ idle_at b idle other;
       rows = ap (λ (x : BookView M). length x.leases) lends.book
-          ∙ length-set b.leases hart (Some (nothing_taken (lent_as l)))
+          ∙ length-set b.leases hart (Some (nothing_taken (length b.machine.pages) (lent_as l)))
           ∙ ap length idle;
     }
 

@@ -1,14 +1,23 @@
--- Two numbers whose bits are flags of pages: those to be read, and those to be written.
-use Rattle.std.proofs.Common.{◌≡◌, ◌≢◌, ◌⊎◌, ◌↔◌, ℕ, zero, suc, ◌*◌, ◌/◌, ◌%◌, ◌^◌, ◌<◌, max, not, nat_eq, IsTrue, refl, sym, ap, subst, ◌∙◌, inl, inr, arith, bit_and, bit_or, true≢false, pow_pos, pos_of_ne-zero, zero-mul, one-mul, w64}
+-- Words whose bits are flags of pages: those to be read, and those to be written.
+use Rattle.std.proofs.Common.{◌≡◌, ◌≢◌, ◌⊎◌, ◌↔◌, ℕ, zero, suc, ◌+◌, ◌-◌, ◌*◌, ◌/◌, ◌%◌, ◌^◌, ◌<◌, ◌≤◌, max, not, nat_eq, IsTrue, refl, sym, ap, subst, ◌∙◌, inl, inr, arith}
+use Rattle.std.proofs.Common.{bit_and, bit_or, true≢false, false, pow_pos, pos_of_ne-zero, zero-mul, one-mul, w64, List, [], ◌∷◌, ◌++◌, length, replicate}
+use Rattle.std.proofs.Common.{slice_index, slice_index_or, slice_set, length-set, get_or-set_same, get_or-set_other}
 use mir.Val.{bits}
 use Rattle.std.specs.Int.{Width, bit_at, bit_not, trailing_zeros}
-use Rattle.std.proofs.lemmas.Bool.{cases_eq, eqb-true, eq-eqb, eqb-false, ne_eqb, not-true, not_from_false}
+use Rattle.std.specs.List.{AllByRecursion}
+use Rattle.std.proofs.Math.ListN.{get_or-append}
+use Rattle.std.proofs.Math.Seq.{get_or-append_right}
+use Rattle.std.proofs.lemmas.Bool.{cases_lt, cases_eq, cases_Bool, eqb-true, eq-eqb, eqb-false, ne_eqb, not-true, not_from_false}
+use Rattle.std.proofs.lemmas.List.{get_or-replicate, get_or_past}
 use Rattle.std.proofs.lemmas.Nat.{one_shl, or_lt, and_le_l}
+use Rattle.std.proofs.Math.Pow.{pow-lt}
 use Rattle.std.proofs.lemmas.Nat.Bits.{bit_at_lowest, bit_at-suc, bit_at-zero, bit_at_and, bit_at_or, bit_at-lt, bit_at-pow_same, bit_at-pow_other, and_pow, bit_at_not, bit_at-trailing_zeros}
 use Rattle.ft_types.specs.Sets.{IsMember}
+use Rattle.ft_types.specs.Counts.{zipped}
+use Rattle.ft_types.proofs.Zips.{length-zipped}
 use Rattle.ft_types.specs.declared.names.Want.{Want}
 use Rattle.ft_types.specs.declared.names.Want.TheVariants.{Read, Write}
-use Rattle.lease_rounds.specs.Flags.{flags_of}
+use Rattle.lease_rounds.specs.Flags.{flags_of, length-flags_of, flags_in, AreWords, left_of, IsBitOf}
 use Rattle.lease_rounds.specs.Pages.{Pages, HasFor, Has, IsAgainst}
 
 -- ---- flags of one number
@@ -32,17 +41,11 @@ one_of_two zero y one = inr (omega arith)
 one_of_two (suc zero) y one = inl refl
 one_of_two (suc (suc x)) y one = absurd (omega arith)
 
--- the bit of a page
-pub record IsBitOf (w : Width) (page bit : ℕ) : Type 0 where
-  pub within : page < bits w
-  pub is : bit ≡ 2 ^ page
-
--- as `1u64.wrapping_shl` gives it
-pub bit_of : {number shift page bit : ℕ} → number ≡ page → number < 64 → shift ≡ number →
-    bit ≡ 1 * 2 ^ (shift % 64) % 2 ^ 64 → IsBitOf w64 page bit
-bit_of {number} {shift} {page} same below shifted is =
-    let low : shift % 64 ≡ page = omega arith in
-    record { within = omega arith; is = is ∙ ap (λ n. 1 * 2 ^ n % 2 ^ 64) low ∙ one_shl page 64 (omega arith) }
+-- of its place in its word, as `1u64.wrapping_shl` gives it
+pub bit_of : {number shift page bit : ℕ} → number ≡ page → shift ≡ number → bit ≡ 1 * 2 ^ (shift % 64) % 2 ^ 64 → IsBitOf (page % 64) bit
+bit_of {number} {shift} {page} same shifted is =
+    let low : shift % 64 ≡ page % 64 = ap (λ (n : ℕ). n % 64) (shifted ∙ same) in
+    record { within = omega arith; is = is ∙ ap (λ (n : ℕ). 1 * 2 ^ n % 2 ^ 64) low ∙ one_shl (page % 64) 64 (omega arith) }
 
 module _ (w : Width) where
   abbrev Flag : ℕ → ℕ → Type 0
@@ -128,137 +131,314 @@ module _ (w : Width) where
       nonzero is = not_from_false (nat_eq n 0) (ne_eqb n 0 (λ e. no_flag is.0 (subst (λ m. Flag m is.0) e is.1)))
 
   -- what a test of one bit says of its flag
-  module _ (n page bit : ℕ) (one : IsBitOf w page bit) where
+  module _ (n page bit : ℕ) (within : page < bits w) (is : bit ≡ 2 ^ page) where
     masked : bit_and n bit ≡ bit_at n page * 2 ^ page
-    masked = ap (bit_and n) one.is ∙ and_pow n page
+    masked = ap (bit_and n) is ∙ and_pow n page
 
     pub set_flag : bit_and n bit ≢ 0 → Flag n page
     set_flag some = elim (cases_eq (bit_at n page) 1) [
-      | inl set ↦ bit_flag (bits w) n page one.within set
+      | inl set ↦ bit_flag (bits w) n page within set
       | inr clear ↦
           let unset : bit_at n page ≡ 0 = omega (arith, bit_at-lt n page) in
           absurd (some (masked ∙ ap (λ digit. digit * 2 ^ page) unset ∙ zero-mul (2 ^ page)))
     ]
 
     pub unset_flag : bit_and n bit ≡ 0 → Flag n page → ⊥
-    unset_flag none is =
-        let set = (flag_bit (bits w) n page is).1 in
+    unset_flag none has =
+        let set = (flag_bit (bits w) n page has).1 in
         let empty : 2 ^ page ≡ 0 = sym (one-mul (2 ^ page)) ∙ ap (λ digit. digit * 2 ^ page) (sym set) ∙ sym masked ∙ none in
         omega (arith, pow_pos page)
 
-  -- ---- two numbers, as pages
+-- ---- flags of words
 
-  abbrev pub pages_of : ℕ → ℕ → Pages
-  pages_of reads writes = record { reads = flags_of (bits w) reads; writes = flags_of (bits w) writes }
+abbrev pub Member : List ℕ → ℕ → Type 0
+Member words i = IsMember (flags_in words) i
 
-  pub none_has : (page : ℕ) → Has (pages_of 0 0) page → ⊥
-  none_has page (inl is) = no_flag page is
-  none_has page (inr is) = no_flag page is
+abbrev WordFlag : ℕ → ℕ → Type 0
+WordFlag n i = IsMember (flags_of 64 n) i
 
-  module _ (page bit : ℕ) (one : IsBitOf w page bit) where
-    flag_of_bit : (n : ℕ) → Flag bit n ↔ (n ≡ page)
-    flag_of_bit n = rw one.is (flag_of_one page n one.within)
+clear : (i : ℕ) → slice_index_or (flags_of 64 0) i false ≡ false
+clear i = elim (cases_Bool (slice_index_or (flags_of 64 0) i false)) [ inl set ↦ absurd (no_flag w64 i set) | inr unset ↦ unset ]
 
-    pub one_to_read : (n : ℕ) (right : Want) → HasFor (pages_of bit 0) right n ↔ ((n ≡ page) × (right ≡ Read))
-    one_to_read n Read = (λ is. ((flag_of_bit n).0 is, refl), λ h. (flag_of_bit n).1 h.0)
-    one_to_read n Write = (λ is. absurd (no_flag n is), λ h. let e = h.1 in cc)
+-- a flag stands in the word of its place
+at_word : (words : List ℕ) (i : ℕ) → slice_index_or (flags_in words) i false ≡ slice_index_or (flags_of 64 (slice_index words (i / 64))) (i % 64) false
+unfolding flags_in
+at_word [] i = sym (clear (i % 64))
+at_word (word ∷ words) i =
+    let many : length (flags_of 64 word) ≡ 64 = length-flags_of 64 word in
+    elim (cases_lt i 64) [
+      | inl low ↦
+          let here : i / 64 ≡ 0 = omega arith in
+          let place : i % 64 ≡ i = omega arith in
+          get_or-append (flags_of 64 word) (flags_in words) false i (omega (arith, many))
+          ∙ sym (ap (λ (k : ℕ). slice_index_or (flags_of 64 (slice_index (word ∷ words) k)) (i % 64) false) here
+          ∙ ap (λ (k : ℕ). slice_index_or (flags_of 64 word) k false) place)
+      | inr high ↦
+          let later : i / 64 ≡ suc ((i - 64) / 64) = omega arith in
+          let place : i % 64 ≡ (i - 64) % 64 = omega arith in
+          get_or-append_right (flags_of 64 word) (flags_in words) i false (omega (arith, many))
+          ∙ ap (λ (k : ℕ). slice_index_or (flags_in words) (i - k) false) many
+          ∙ at_word words (i - 64)
+          ∙ sym (ap (λ (k : ℕ). slice_index_or (flags_of 64 (slice_index (word ∷ words) k)) (i % 64) false) later
+          ∙ ap (λ (k : ℕ). slice_index_or (flags_of 64 (slice_index words ((i - 64) / 64))) k false) place)
+    ]
 
-    pub one_to_write : (n : ℕ) (right : Want) → HasFor (pages_of 0 bit) right n ↔ ((n ≡ page) × (right ≡ Write))
-    one_to_write n Read = (λ is. absurd (no_flag n is), λ h. let e = h.1 in cc)
-    one_to_write n Write = (λ is. ((flag_of_bit n).0 is, refl), λ h. (flag_of_bit n).1 h.0)
+to_word : (words : List ℕ) (i : ℕ) → Member words i → WordFlag (slice_index words (i / 64)) (i % 64)
+to_word words i is = sym (at_word words i) ∙ is
 
-  module _ (reads writes : ℕ) where
-    abbrev these : Pages
-    these = pages_of reads writes
+from_word : (words : List ℕ) (i : ℕ) → WordFlag (slice_index words (i / 64)) (i % 64) → Member words i
+from_word words i is = at_word words i ∙ is
 
-    -- the flags of the pages, whatever for
-    abbrev all_these : ℕ
-    all_these = bit_or reads writes
+-- of a place in a word
+from_place : (words : List ℕ) (at i : ℕ) → i < 64 → WordFlag (slice_index words at) i → Member words (at * 64 + i)
+from_place words at i low is =
+    let here : (at * 64 + i) / 64 ≡ at = omega arith in
+    let place : (at * 64 + i) % 64 ≡ i = omega arith in
+    from_word words (at * 64 + i)
+    (subst (λ (k : ℕ). WordFlag (slice_index words k) ((at * 64 + i) % 64)) (sym here) (subst (λ (k : ℕ). WordFlag (slice_index words at) k) (sym place) is))
 
-    pub written_has : (page : ℕ) (right : Want) → HasFor (pages_of 0 writes) right page ↔ ((right ≡ Write) × HasFor these Write page)
-    written_has page Read = (λ is. absurd (no_flag page is), λ h. let e = h.0 in cc)
-    written_has page Write = (λ is. (refl, is), λ h. h.1)
+fits_at : (words : List ℕ) → AllByRecursion (λ word. word < 2 ^ 64) words → (k : ℕ) → slice_index words k < 2 ^ 64
+fits_at [] fits k = omega arith
+fits_at (word ∷ words) fits zero = fits.0
+fits_at (word ∷ words) fits (suc k) = fits_at words fits.1 k
 
-    pub some_has : reads < 2 ^ bits w → writes < 2 ^ bits w → IsTrue (not (nat_eq all_these 0)) ↔ ((page : ℕ) × Has these page)
-    some_has low high =
-        let h = some_flag all_these (or_lt (bits w) reads writes low high) in
-        (λ is. let p = h.0 is in (p.0, (flag_or reads writes p.0).0 p.1), λ p. h.1 (p.0, (flag_or reads writes p.0).1 p.1))
+fits_set : (words : List ℕ) (k word : ℕ) → AllByRecursion (λ word. word < 2 ^ 64) words → word < 2 ^ 64 →
+    AllByRecursion (λ word. word < 2 ^ 64) (slice_set words k word)
+fits_set [] k word fits fit = tt
+fits_set (first ∷ words) zero word fits fit = (fit, fits.1)
+fits_set (first ∷ words) (suc k) word fits fit = (fits.0, fits_set words k word fits.1 fit)
 
-    module _ (reads' writes' : ℕ) where
-      abbrev those : Pages
-      those = pages_of reads' writes'
+fits_zipped : (f : ℕ → ℕ → ℕ) → ((x y : ℕ) → x < 2 ^ 64 → y < 2 ^ 64 → f x y < 2 ^ 64) → (xs ys : List ℕ) →
+    AllByRecursion (λ word. word < 2 ^ 64) xs → AllByRecursion (λ word. word < 2 ^ 64) ys → AllByRecursion (λ word. word < 2 ^ 64) (zipped f xs ys)
+fits_zipped f keeps [] ys p q = tt
+fits_zipped f keeps (x ∷ xs) [] p q = tt
+fits_zipped f keeps (x ∷ xs) (y ∷ ys) p q = (keeps x y p.0 q.0, fits_zipped f keeps xs ys p.1 q.1)
 
-      abbrev all_those : ℕ
-      all_those = bit_or reads' writes'
+zipped_at : (f : ℕ → ℕ → ℕ) (xs ys : List ℕ) (k : ℕ) → f 0 0 ≡ 0 → length xs ≡ length ys →
+    slice_index (zipped f xs ys) k ≡ f (slice_index xs k) (slice_index ys k)
+zipped_at f [] [] k none e = sym none
+zipped_at f [] (y ∷ ys) k none e = absurd (omega (arith, e))
+zipped_at f (x ∷ xs) [] k none e = absurd (omega (arith, e))
+zipped_at f (x ∷ xs) (y ∷ ys) zero none e = refl
+zipped_at f (x ∷ xs) (y ∷ ys) (suc k) none e = zipped_at f xs ys k none (omega (arith, e))
 
-      pub with_has : (page : ℕ) (right : Want) →
-          HasFor (pages_of (bit_or reads reads') (bit_or writes writes')) right page ↔ (HasFor these right page ⊎ HasFor those right page)
-      with_has page Read = flag_or reads reads' page
-      with_has page Write = flag_or writes writes' page
+-- ---- no page, and one
 
-      module _ (low : reads' < 2 ^ bits w) (high : writes' < 2 ^ bits w) where
-        flag_without : (n page : ℕ) → Flag (bit_and n (bit_not w all_those)) page ↔ (Flag n page × ¬ (Has those page))
-        flag_without n page = (kept, left)
-          where
-            lacking : page < bits w → Flag (bit_not w all_those) page ↔ ¬ (Flag all_those page)
-            lacking = flag_not all_those page (or_lt (bits w) reads' writes' low high)
+no_words : (k : ℕ) → slice_index (replicate 4 0) k ≡ 0
+no_words k = elim (cases_lt k 4) [ inl low ↦ get_or-replicate 4 k 0 0 low | inr high ↦ get_or_past (replicate 4 0) k 0 high ]
 
-            kept : Flag (bit_and n (bit_not w all_those)) page → Flag n page × ¬ (Has those page)
-            kept is =
-                let h = (flag_and n (bit_not w all_those) page).0 is in
-                (h.0, λ has. (lacking (flag_bit (bits w) n page h.0).0).0 h.1 ((flag_or reads' writes' page).1 has))
+pub none_has : (i : ℕ) → Member (replicate 4 0) i → ⊥
+none_has i is = no_flag w64 (i % 64) (subst (λ (n : ℕ). WordFlag n (i % 64)) (no_words (i / 64)) (to_word (replicate 4 0) i is))
 
-            left : Flag n page × ¬ (Has those page) → Flag (bit_and n (bit_not w all_those)) page
-            left h =
-                let rest = (lacking (flag_bit (bits w) n page h.0).0).1 (λ is. h.1 ((flag_or reads' writes' page).0 is)) in
-                (flag_and n (bit_not w all_those) page).1 (h.0, rest)
+module _ (page bit : ℕ) (below : page < 256) (one : IsBitOf (page % 64) bit) where
+  abbrev pub its_words : List ℕ
+  its_words = slice_set (replicate 4 0) (page / 64) bit
 
-        pub without_has : (page : ℕ) (right : Want) →
-            HasFor (pages_of (bit_and reads (bit_not w all_those)) (bit_and writes (bit_not w all_those))) right page ↔
-            (HasFor these right page × ¬ (Has those page))
-        without_has page Read = flag_without reads page
-        without_has page Write = flag_without writes page
+  own_word : slice_index its_words (page / 64) ≡ bit
+  own_word = get_or-set_same (replicate 4 0) (page / 64) bit 0 (omega arith)
 
-      module _ (low : reads < 2 ^ bits w) (high : writes < 2 ^ bits w) where
-        pub near_has : IsTrue (not (nat_eq (bit_and all_these all_those) 0)) ↔ ((page : ℕ) × (Has these page × Has those page))
-        near_has = (found, tested)
-          where
-            test : IsTrue (not (nat_eq (bit_and all_these all_those) 0)) ↔ ((i : ℕ) × Flag (bit_and all_these all_those) i)
-            test = some_flag (bit_and all_these all_those) (omega (arith, and_le_l all_these all_those, or_lt (bits w) reads writes low high))
+  own_flag : WordFlag bit (page % 64)
+  own_flag = subst (λ (n : ℕ). WordFlag n (page % 64)) (sym one.is) ((flag_of_one w64 (page % 64) (page % 64) one.within).1 refl)
 
-            found : IsTrue (not (nat_eq (bit_and all_these all_those) 0)) → (page : ℕ) × (Has these page × Has those page)
-            found is =
-                let p = test.0 is in
-                let h = (flag_and all_these all_those p.0).0 p.1 in
-                (p.0, ((flag_or reads writes p.0).0 h.0, (flag_or reads' writes' p.0).0 h.1))
+  pub one_words : AreWords its_words
+  one_words = (
+    length-set (replicate 4 0) (page / 64) bit,
+    fits_set (replicate 4 0) (page / 64) bit (omega arith, omega arith, omega arith, omega arith, tt) (subst (λ (n : ℕ). n < 2 ^ 64) (sym one.is) (pow-lt {j = 64} one.within)),
+  )
 
-            tested : ((page : ℕ) × (Has these page × Has those page)) → IsTrue (not (nat_eq (bit_and all_these all_those) 0))
-            tested p =
-                test.1 (p.0, (flag_and all_these all_those p.0).1 ((flag_or reads writes p.0).1 p.1.0, (flag_or reads' writes' p.0).1 p.1.1))
+  pub one_has : (i : ℕ) → Member its_words i ↔ (i ≡ page)
+  one_has i = (only, there)
+    where
+      only : Member its_words i → i ≡ page
+      only is = elim (cases_eq (i / 64) (page / 64)) [
+        | inl same ↦
+            let word : slice_index its_words (i / 64) ≡ 2 ^ (page % 64) = ap (slice_index its_words) same ∙ own_word ∙ one.is in
+            let place : i % 64 ≡ page % 64 =
+            (flag_of_one w64 (page % 64) (i % 64) one.within).0 (subst (λ (n : ℕ). WordFlag n (i % 64)) word (to_word its_words i is)) in
+            omega (arith, same, place)
+        | inr apart ↦
+            let word : slice_index its_words (i / 64) ≡ 0 =
+            get_or-set_other (replicate 4 0) (page / 64) (i / 64) bit 0 apart ∙ no_words (i / 64) in
+            absurd (no_flag w64 (i % 64) (subst (λ (n : ℕ). WordFlag n (i % 64)) word (to_word its_words i is)))
+      ]
 
-        -- these write a page that those have
-        pub first_against : IsTrue (not (nat_eq (bit_and writes all_those) 0)) → IsAgainst these those
-        first_against is =
-            let p = (some_flag (bit_and writes all_those) (omega (arith, and_le_l writes all_those))).0 is in
-            let h = (flag_and writes all_those p.0).0 p.1 in
-            (p.0, inl (h.0, (flag_or reads' writes' p.0).0 h.1))
+      there : i ≡ page → Member its_words i
+      there same =
+          subst (λ (k : ℕ). Member its_words k) (sym same)
+          (from_word its_words page (subst (λ (n : ℕ). WordFlag n (page % 64)) (sym own_word) own_flag))
 
-        -- these read a page that those write
-        pub second_against : IsTrue (not (nat_eq (bit_and reads writes') 0)) → IsAgainst these those
-        second_against is =
-            let p = (some_flag (bit_and reads writes') (omega (arith, and_le_l reads writes'))).0 is in
-            let h = (flag_and reads writes' p.0).0 p.1 in
-            (p.0, inr (inl h.0, h.1))
+-- ---- words of two
 
-        -- where these write no page that those have, they are against those only so
-        pub against_second : bit_and writes all_those ≡ 0 → IsAgainst these those → IsTrue (not (nat_eq (bit_and reads writes') 0))
-        against_second none against =
-            (some_flag (bit_and reads writes') (omega (arith, and_le_l reads writes'))).1 (against.0, read against.0 against.1)
-          where
-            never : (i : ℕ) → Flag writes i → Flag all_those i → ⊥
-            never i is has = no_flag i (subst (λ m. Flag m i) none ((flag_and writes all_those i).1 (is, has)))
+module _ (a b all : List ℕ) (first : AreWords a) (second : AreWords b) where
+  as_many : length a ≡ length b
+  as_many = first.0 ∙ sym second.0
 
-            read : (i : ℕ) → (HasFor these Write i × Has those i) ⊎ (Has these i × HasFor those Write i) → Flag (bit_and reads writes') i
-            read i (inl h) = absurd (never i h.0 ((flag_or reads' writes' i).1 h.1))
-            read i (inr (inl is, written)) = (flag_and reads writes' i).1 (is, written)
-            read i (inr (inr is, written)) = absurd (never i is ((flag_or reads' writes' i).1 (inr written)))
+  module _ (is : all ≡ zipped bit_or a b) where
+    pub either_words : AreWords all
+    either_words =
+        subst AreWords (sym is)
+        (length-zipped bit_or a b as_many ∙ first.0, fits_zipped bit_or (λ x y p q. or_lt 64 x y p q) a b first.1 second.1)
+
+    pub either_has : (i : ℕ) → Member all i ↔ (Member a i ⊎ Member b i)
+    either_has i = (parts, whole)
+      where
+        here : slice_index all (i / 64) ≡ bit_or (slice_index a (i / 64)) (slice_index b (i / 64))
+        here = ap (λ (l : List ℕ). slice_index l (i / 64)) is ∙ zipped_at bit_or a b (i / 64) refl as_many
+
+        law : WordFlag (bit_or (slice_index a (i / 64)) (slice_index b (i / 64))) (i % 64) ↔
+            (WordFlag (slice_index a (i / 64)) (i % 64) ⊎ WordFlag (slice_index b (i / 64)) (i % 64))
+        law = flag_or w64 (slice_index a (i / 64)) (slice_index b (i / 64)) (i % 64)
+
+        parts : Member all i → Member a i ⊎ Member b i
+        parts has = elim (law.0 (subst (λ (n : ℕ). WordFlag n (i % 64)) here (to_word all i has))) [
+          | inl one ↦ inl (from_word a i one)
+          | inr other ↦ inr (from_word b i other)
+        ]
+
+        whole : Member a i ⊎ Member b i → Member all i
+        whole (inl one) = from_word all i (subst (λ (n : ℕ). WordFlag n (i % 64)) (sym here) (law.1 (inl (to_word a i one))))
+        whole (inr other) = from_word all i (subst (λ (n : ℕ). WordFlag n (i % 64)) (sym here) (law.1 (inr (to_word b i other))))
+
+  module _ (is : all ≡ zipped left_of a b) where
+    pub left_words : AreWords all
+    left_words =
+        subst AreWords (sym is) (
+          length-zipped left_of a b as_many ∙ first.0,
+          fits_zipped left_of (λ x y p q. omega (arith, and_le_l x (bit_not w64 y), p)) a b first.1 second.1,
+        )
+
+    pub left_has : (i : ℕ) → Member all i ↔ (Member a i × ¬ (Member b i))
+    left_has i = (kept, rest)
+      where
+        here : slice_index all (i / 64) ≡ left_of (slice_index a (i / 64)) (slice_index b (i / 64))
+        here = ap (λ (l : List ℕ). slice_index l (i / 64)) is ∙ zipped_at left_of a b (i / 64) refl as_many
+
+        low : i % 64 < 64
+        low = omega arith
+
+        law : WordFlag (left_of (slice_index a (i / 64)) (slice_index b (i / 64))) (i % 64) ↔
+            (WordFlag (slice_index a (i / 64)) (i % 64) × WordFlag (bit_not w64 (slice_index b (i / 64))) (i % 64))
+        law = flag_and w64 (slice_index a (i / 64)) (bit_not w64 (slice_index b (i / 64))) (i % 64)
+
+        lacking : WordFlag (bit_not w64 (slice_index b (i / 64))) (i % 64) ↔ ¬ (WordFlag (slice_index b (i / 64)) (i % 64))
+        lacking = flag_not w64 (slice_index b (i / 64)) (i % 64) (fits_at b second.1 (i / 64)) low
+
+        kept : Member all i → Member a i × ¬ (Member b i)
+        kept has =
+            let both = law.0 (subst (λ (n : ℕ). WordFlag n (i % 64)) here (to_word all i has)) in
+            (from_word a i both.0, λ other. lacking.0 both.1 (to_word b i other))
+
+        rest : Member a i × ¬ (Member b i) → Member all i
+        rest has =
+            from_word all i
+            (subst (λ (n : ℕ). WordFlag n (i % 64)) (sym here) (law.1 (to_word a i has.0, lacking.1 (λ other. has.1 (from_word b i other)))))
+
+-- ---- tests
+
+-- a word that is not 0 has a page
+pub word_has : (words : List ℕ) (at : ℕ) → AreWords words → slice_index words at ≢ 0 → (i : ℕ) × Member words i
+word_has words at are some =
+    let found = (some_flag w64 (slice_index words at) (fits_at words are.1 at)).0 (not_from_false _ (ne_eqb (slice_index words at) 0 some)) in
+    let low = (flag_bit 64 (slice_index words at) found.0 found.1).0 in
+    (at * 64 + found.0, from_place words at found.0 low found.1)
+
+-- where all are 0 there is no page
+pub zeros_lack : (words : List ℕ) (n : ℕ) → length words ≤ n → ((k : ℕ) → k < n → slice_index words k ≡ 0) → (i : ℕ) → Member words i → ⊥
+zeros_lack words n long zeros i is =
+    let zero_at : slice_index words (i / 64) ≡ 0 =
+    elim (cases_lt (i / 64) n) [ inl low ↦ zeros (i / 64) low | inr high ↦ get_or_past words (i / 64) 0 (omega (arith, long, high)) ] in
+    no_flag w64 (i % 64) (subst (λ (n : ℕ). WordFlag n (i % 64)) zero_at (to_word words i is))
+
+-- two words with a bit in common have a page in common
+pub words_meet : (a b : List ℕ) (at : ℕ) → AreWords a → bit_and (slice_index a at) (slice_index b at) ≢ 0 → (i : ℕ) × (Member a i × Member b i)
+words_meet a b at are some =
+    let both : ℕ = bit_and (slice_index a at) (slice_index b at) in
+    let fits : both < 2 ^ 64 = omega (arith, and_le_l (slice_index a at) (slice_index b at), fits_at a are.1 at) in
+    let found = (some_flag w64 both fits).0 (not_from_false _ (ne_eqb both 0 some)) in
+    let parts = (flag_and w64 (slice_index a at) (slice_index b at) found.0).0 found.1 in
+    let low = (flag_bit 64 (slice_index a at) found.0 parts.0).0 in
+    (at * 64 + found.0, (from_place a at found.0 low parts.0, from_place b at found.0 low parts.1))
+
+-- where no two have a bit in common there is no page in common
+pub words_apart : (a b : List ℕ) (n : ℕ) → length a ≤ n → ((k : ℕ) → k < n → bit_and (slice_index a k) (slice_index b k) ≡ 0) → (i : ℕ) →
+    Member a i → Member b i → ⊥
+words_apart a b n long apart i one other = elim (cases_lt (i / 64) n) [
+  | inl low ↦
+      no_flag w64 (i % 64) (subst (λ (n : ℕ). WordFlag n (i % 64)) (apart (i / 64) low)
+      ((flag_and w64 (slice_index a (i / 64)) (slice_index b (i / 64)) (i % 64)).1 (to_word a i one, to_word b i other)))
+  | inr high ↦
+      no_flag w64 (i % 64) (subst (λ (n : ℕ). WordFlag n (i % 64)) (get_or_past a (i / 64) 0 (omega (arith, long, high))) (to_word a i one))
+]
+
+-- what a test of one bit says of its page
+pub page_tested : (words : List ℕ) (page bit : ℕ) → IsBitOf (page % 64) bit →
+    IsTrue (not (nat_eq (bit_and (slice_index words (page / 64)) bit) 0)) ↔ Member words page
+page_tested words page bit one = (
+  λ is. from_word words page (set_flag w64 (slice_index words (page / 64)) (page % 64) bit one.within one.is (eqb-false _ 0 (not-true _ is))),
+  λ has.
+      not_from_false _
+      (ne_eqb (bit_and (slice_index words (page / 64)) bit) 0
+      (λ none. unset_flag w64 (slice_index words (page / 64)) (page % 64) bit one.within one.is none (to_word words page has))),
+)
+
+-- ---- words of those to be read and of those to be written
+
+abbrev pub pages_in : List ℕ → List ℕ → Pages
+pages_in reads writes = record { reads = flags_in reads; writes = flags_in writes }
+
+module _ (reads writes : List ℕ) where
+  pub to_read : (page : ℕ) → ((i : ℕ) → Member reads i ↔ (i ≡ page)) → ((i : ℕ) → Member writes i → ⊥) → (n : ℕ) (right : Want) →
+      HasFor (pages_in reads writes) right n ↔ ((n ≡ page) × (right ≡ Read))
+  to_read page one none n Read = (λ is. ((one n).0 is, refl), λ h. (one n).1 h.0)
+  to_read page one none n Write = (λ is. absurd (none n is), λ h. let e = h.1 in cc)
+
+  pub to_write : (page : ℕ) → ((i : ℕ) → Member reads i → ⊥) → ((i : ℕ) → Member writes i ↔ (i ≡ page)) → (n : ℕ) (right : Want) →
+      HasFor (pages_in reads writes) right n ↔ ((n ≡ page) × (right ≡ Write))
+  to_write page none one n Read = (λ is. absurd (none n is), λ h. let e = h.1 in cc)
+  to_write page none one n Write = (λ is. ((one n).0 is, refl), λ h. (one n).1 h.0)
+
+  pub written_has : (none : List ℕ) → ((i : ℕ) → Member none i → ⊥) → (page : ℕ) (right : Want) →
+      HasFor (pages_in none writes) right page ↔ ((right ≡ Write) × HasFor (pages_in reads writes) Write page)
+  written_has none lack page Read = (λ is. absurd (lack page is), λ h. let e = h.0 in cc)
+  written_has none lack page Write = (λ is. (refl, is), λ h. h.1)
+
+  module _ (reads' writes' : List ℕ) where
+    pub with_has : (r w : List ℕ) → ((i : ℕ) → Member r i ↔ (Member reads i ⊎ Member reads' i)) →
+        ((i : ℕ) → Member w i ↔ (Member writes i ⊎ Member writes' i)) → (page : ℕ) (right : Want) →
+        HasFor (pages_in r w) right page ↔ (HasFor (pages_in reads writes) right page ⊎ HasFor (pages_in reads' writes') right page)
+    with_has r w both_read both_written page Read = both_read page
+    with_has r w both_read both_written page Write = both_written page
+
+    -- all of the second, whatever for
+    module _ (all : List ℕ) (any : (i : ℕ) → Member all i ↔ (Member reads' i ⊎ Member writes' i)) where
+      left_for : (own left : List ℕ) → ((i : ℕ) → Member left i ↔ (Member own i × ¬ (Member all i))) → (page : ℕ) →
+          Member left page ↔ (Member own page × ¬ (Has (pages_in reads' writes') page))
+      left_for own left is page = (
+        λ has. let h = (is page).0 has in (h.0, λ there. h.1 ((any page).1 there)),
+        λ h. (is page).1 (h.0, λ there. h.1 ((any page).0 there)),
+      )
+
+      pub without_has : (r w : List ℕ) → ((i : ℕ) → Member r i ↔ (Member reads i × ¬ (Member all i))) →
+          ((i : ℕ) → Member w i ↔ (Member writes i × ¬ (Member all i))) → (page : ℕ) (right : Want) →
+          HasFor (pages_in r w) right page ↔ (HasFor (pages_in reads writes) right page × ¬ (Has (pages_in reads' writes') page))
+      without_has r w read written page Read = left_for reads r read page
+      without_has r w read written page Write = left_for writes w written page
+
+      -- these write a page that those have
+      pub first_against : (i : ℕ) × (Member writes i × Member all i) → IsAgainst (pages_in reads writes) (pages_in reads' writes')
+      first_against p = (p.0, inl (p.1.0, (any p.0).0 p.1.1))
+
+      -- these read a page that those write
+      pub second_against : (i : ℕ) × (Member reads i × Member writes' i) → IsAgainst (pages_in reads writes) (pages_in reads' writes')
+      second_against p = (p.0, inr (inl p.1.0, p.1.1))
+
+      -- where these write no page that those have, they are against those only so
+      pub against_second : ((i : ℕ) × (Member writes i × Member all i) → ⊥) → IsAgainst (pages_in reads writes) (pages_in reads' writes') →
+          (i : ℕ) × (Member reads i × Member writes' i)
+      against_second none against = (against.0, read against.0 against.1)
+        where
+          read : (i : ℕ) → (HasFor (pages_in reads writes) Write i × Has (pages_in reads' writes') i) ⊎
+              (Has (pages_in reads writes) i × HasFor (pages_in reads' writes') Write i) → Member reads i × Member writes' i
+          read i (inl h) = absurd (none (i, (h.0, (any i).1 h.1)))
+          read i (inr (inl is, written)) = (is, written)
+          read i (inr (inr is, written)) = absurd (none (i, (is, (any i).1 (inr written))))

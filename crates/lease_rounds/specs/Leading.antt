@@ -112,7 +112,7 @@ module _ {M : Type 0} (g : Ghosts M) where
     pub met : IsMet (g.obeyed b.mode) (counts_of b.machine) hart
     pub lent : l ≡ record (fresh hart (without_outputs state) (length b.machine.pages) (lent_as l)) { most = most }
     pub mode : g.lends b.mode hart (counts_of b.machine hart) (lent_as l) c.mode
-    pub book : c ≡ record b { leases = slice_set b.leases hart (Some (nothing_taken (lent_as l))); mode = c.mode }
+    pub book : c ≡ record b { leases = slice_set b.leases hart (Some (nothing_taken (length b.machine.pages) (lent_as l))); mode = c.mode }
 
   -- the hart went on for one lease, of so many steps at the most, and no lease is open
   pub record GoesFor (most : ℕ) (keep : Keep) (hart : ℕ) (b d : BookView M) : Type 0 where

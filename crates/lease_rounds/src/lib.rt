@@ -2,6 +2,7 @@
 #![tactic(auto)]
 
 mod page_mask;
+mod page_words;
 mod plain;
 mod rounds;
 mod stepping;

@@ -5,35 +5,31 @@ ghost use Rattle.ft_types.specs.declared.names.Want.{Want as WantName};
 ghost use Rattle.ft_types.specs.declared.names.Want.TheVariants.{Read, Write};
 ghost use Rattle.lease_rounds.specs.Pages.{HasFor, Has, IsAgainst};
 
+use crate::page_words::{WORDS, do_meet, either, has_any, has_page, left, no_page, one_page};
 use ft_types::{PageNo, Want};
 use std::marker::Model;
 
 /// Pages, by number: those to be read, and those to be written. Contracts see, for each page, whether it is to be read and
 /// whether it is to be written.
-#[derive(Clone, Copy, Debug, PartialEq, Eq)]
+#[derive(Clone, Copy, Debug)]
 pub struct PageMask {
-    reads: u64,
-    writes: u64,
+    reads: [u64; WORDS],
+    writes: [u64; WORDS],
 }
 
 impl Model for PageMask {
-    ghost use Rattle.std.specs.Prelude.{◌<◌, ◌^◌};
-    ghost use Rattle.ft_types.specs.declared.names.TheConstants.{PAGE_ROW};
     ghost use Rattle.lease_rounds.specs.Pages.{Pages};
-    ghost use Rattle.lease_rounds.specs.Flags.{flags_of, number_of, number_of-flags_of};
+    ghost use Rattle.lease_rounds.specs.Flags.{flags_in, words_of, words_back, AreWords};
 
     ghost Value = { Pages };
 
-    ghost view = { λ m. record { reads = flags_of PAGE_ROW m.reads; writes = flags_of PAGE_ROW m.writes } };
+    ghost view = { λ m. record { reads = flags_in m.reads; writes = flags_in m.writes } };
 
-    ghost invariant = { λ m. (m.reads < 2 ^ PAGE_ROW) × (m.writes < 2 ^ PAGE_ROW) };
+    ghost invariant = { λ m. AreWords m.reads × AreWords m.writes };
 
-    ghost inverse = { λ p. record { reads = number_of p.reads; writes = number_of p.writes } };
+    ghost inverse = { λ p. record { reads = words_of 4 p.reads; writes = words_of 4 p.writes } };
 
-    ghost inverse_ok = { λ m fits i. record {
-      reads = number_of-flags_of PAGE_ROW m.reads fits.0 i;
-      writes = number_of-flags_of PAGE_ROW m.writes fits.1 i;
-    } };
+    ghost inverse_ok = { λ m are i. record { reads = words_back m.reads are.0 i; writes = words_back m.writes are.1 i } };
 }
 
 impl PageMask {
@@ -42,8 +38,8 @@ impl PageMask {
         ensures { (page : ℕ) → ¬ (Has result page) }
     {
         PageMask {
-            reads: 0,
-            writes: 0,
+            reads: no_page(),
+            writes: no_page(),
         }
     }
 
@@ -51,15 +47,16 @@ impl PageMask {
     pub fn of(page: PageNo, want: Want) -> PageMask
         ensures { (n : ℕ) (right : WantName) → HasFor result right n ↔ ((n ≡ page) × (right ≡ want)) }
     {
-        let bit = 1u64.wrapping_shl(u32::from(page.number()));
+        let one = one_page(page);
+        let none = no_page();
         match want {
             Want::Read => PageMask {
-                reads: bit,
-                writes: 0,
+                reads: one,
+                writes: none,
             },
             Want::Write => PageMask {
-                reads: 0,
-                writes: bit,
+                reads: none,
+                writes: one,
             },
         }
     }
@@ -68,28 +65,27 @@ impl PageMask {
     pub fn is_some(self) -> bool
         ensures { IsTrue result ↔ ((page : ℕ) × Has self page) }
     {
-        self.reads | self.writes != 0
+        let all = either(self.reads, self.writes);
+        has_any(all)
     }
 
     /// These pages and those.
     pub fn with(self, other: PageMask) -> PageMask
         ensures { (page : ℕ) (right : WantName) → HasFor result right page ↔ (HasFor self right page ⊎ HasFor other right page) }
     {
-        PageMask {
-            reads: self.reads | other.reads,
-            writes: self.writes | other.writes,
-        }
+        let reads = either(self.reads, other.reads);
+        let writes = either(self.writes, other.writes);
+        PageMask { reads, writes }
     }
 
     /// These pages without those.
     pub fn without(self, other: PageMask) -> PageMask
         ensures { (page : ℕ) (right : WantName) → HasFor result right page ↔ (HasFor self right page × ¬ (Has other page)) }
     {
-        let left = !(other.reads | other.writes);
-        PageMask {
-            reads: self.reads & left,
-            writes: self.writes & left,
-        }
+        let all = either(other.reads, other.writes);
+        let reads = left(self.reads, all);
+        let writes = left(self.writes, all);
+        PageMask { reads, writes }
     }
 
     /// What is wanted of a page: to write it where it is among those to be written.
@@ -98,10 +94,9 @@ impl PageMask {
         ensures read { (result ≡ Some Read) ↔ (HasFor self Read page × ¬ (HasFor self Write page)) }
         ensures none { (result ≡ None) ↔ ¬ (Has self page) }
     {
-        let bit = 1u64.wrapping_shl(u32::from(page.number()));
-        if self.writes & bit != 0 {
+        if has_page(self.writes, page) {
             Some(Want::Write)
-        } else if self.reads & bit != 0 {
+        } else if has_page(self.reads, page) {
             Some(Want::Read)
         } else {
             None
@@ -113,7 +108,7 @@ impl PageMask {
         ensures { (page : ℕ) (right : WantName) → HasFor result right page ↔ ((right ≡ Write) × HasFor self Write page) }
     {
         PageMask {
-            reads: 0,
+            reads: no_page(),
             writes: self.writes,
         }
     }
@@ -122,13 +117,19 @@ impl PageMask {
     pub fn is_near(self, other: PageMask) -> bool
         ensures { IsTrue result ↔ ((page : ℕ) × (Has self page × Has other page)) }
     {
-        (self.reads | self.writes) & (other.reads | other.writes) != 0
+        let these = either(self.reads, self.writes);
+        let those = either(other.reads, other.writes);
+        do_meet(these, those)
     }
 
     /// Whether one has a page to write that the other has.
     pub fn is_against(self, other: PageMask) -> bool
         ensures { IsTrue result ↔ IsAgainst self other }
     {
-        self.writes & (other.reads | other.writes) != 0 || self.reads & other.writes != 0
+        let all = either(other.reads, other.writes);
+        if do_meet(self.writes, all) {
+            return true;
+        }
+        do_meet(self.reads, other.writes)
     }
 }

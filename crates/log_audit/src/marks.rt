@@ -51,7 +51,7 @@ impl Model for Marks {
     ghost invariant = { λ m. AreUnwritten m.uses.items m.is_written };
 }
 
-fn no_uses(alloc: Global, pages: u8) -> Result<Vec<Uses>, Memory>
+fn no_uses(alloc: Global, pages: u16) -> Result<Vec<Uses>, Memory>
     ensures { IfOk result (λ v. v.items ≡ replicate pages unused) }
 {
     let mut uses = Vec::with_capacity(alloc, pages as usize)?;
@@ -66,7 +66,7 @@ fn no_uses(alloc: Global, pages: u8) -> Result<Vec<Uses>, Memory>
 
 impl Marks {
     /// So many pages that no step used.
-    pub(crate) fn none(alloc: Global, pages: u8) -> Result<Marks, Memory>
+    pub(crate) fn none(alloc: Global, pages: u16) -> Result<Marks, Memory>
         ensures { IfOk result (λ m. m ≡ replicate pages unused) }
     {
         let uses = no_uses(alloc, pages)?;

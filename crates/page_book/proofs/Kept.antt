@@ -3,7 +3,7 @@ use Rattle.std.proofs.Common.{◌≡◌, ℕ, ◌<◌, ◌≤◌, List, length, 
 use Rattle.std.proofs.Common.{◌∷◌, zero, suc, replicate}
 use Rattle.std.proofs.lemmas.Bool.{cases_eq}
 use Rattle.std.proofs.lemmas.List.{get_or-set_same, get_or-set_other, length-replicate}
-use Rattle.ft_types.specs.declared.names.TheConstants.{HART_ROW, PAGE_ROW}
+use Rattle.ft_types.specs.declared.names.TheConstants.{HART_ROW}
 use Rattle.hart_lease.specs.OpenLeases.{OpenView, open_at, LentView, nothing_taken, given_more}
 use Rattle.interleaving.specs.Log.{Edge, Begins, bump}
 use Rattle.ft_types.specs.Counts.{count_at, greater}
@@ -40,7 +40,7 @@ pub lent_kept : (start m : MachineState) (journal : List Stretch) (leases : List
     (edges new_edges : List Edge) (heard new_heard : Heard) (before after : Type 0) (hart : ℕ) (lent : LentView) →
     IsBook start m journal leases stops edges heard before → new_stops ≡ stops → new_edges ≡ edges → new_heard ≡ heard → hart < length m.harts →
     hart < length leases → lent.stop ≤ count_at stops hart → MayGoTo edges (counts_of m) hart lent.stop → after →
-    IsBook start m journal (slice_set leases hart (Some (nothing_taken lent))) new_stops new_edges new_heard after
+    IsBook start m journal (slice_set leases hart (Some (nothing_taken (length m.pages) lent))) new_stops new_edges new_heard after
 lent_kept start m journal leases stops new_stops edges new_edges heard new_heard before after hart out p same_stops same_edges same_heard there row le may
     kept =
     rw (same_stops, same_edges, same_heard)
@@ -48,15 +48,15 @@ lent_kept start m journal leases stops new_stops edges new_edges heard new_heard
       run = p.run;
       harts = p.harts;
       pages = p.pages;
-      rows = length-set leases hart (Some (nothing_taken out)) ∙ p.rows;
-      known = set_known leases hart (Some (nothing_taken out)) (length m.harts) row (λ beyond. absurd (omega (arith, beyond, there))) p.known;
-      stopped = set_each (λ h lent. lent.stop ≤ count_at stops h) leases hart (Some (nothing_taken out)) row
-          (λ lent e. let same : nothing_taken out ≡ lent = cc in subst (λ (l : OpenView). l.stop ≤ count_at stops hart) same le) p.stopped;
-      unhindered = set_each (λ h lent. MayGoTo edges (counts_of m) h lent.stop) leases hart (Some (nothing_taken out)) row
-          (λ lent e. let same : nothing_taken out ≡ lent = cc in subst (λ (l : OpenView). MayGoTo edges (counts_of m) hart l.stop) same may) p.unhindered;
-      rights = set_each (λ h lent. length lent.taken ≡ PAGE_ROW) leases hart (Some (nothing_taken out)) row
-          (λ lent e. let same : nothing_taken out ≡ lent = cc in
-          subst (λ (l : OpenView). length l.taken ≡ PAGE_ROW) same (length-replicate {A = Option Taken} PAGE_ROW None)) p.rights;
+      rows = length-set leases hart (Some (nothing_taken (length m.pages) out)) ∙ p.rows;
+      known = set_known leases hart (Some (nothing_taken (length m.pages) out)) (length m.harts) row (λ beyond. absurd (omega (arith, beyond, there))) p.known;
+      stopped = set_each (λ h lent. lent.stop ≤ count_at stops h) leases hart (Some (nothing_taken (length m.pages) out)) row
+          (λ lent e. let same : nothing_taken (length m.pages) out ≡ lent = cc in subst (λ (l : OpenView). l.stop ≤ count_at stops hart) same le) p.stopped;
+      unhindered = set_each (λ h lent. MayGoTo edges (counts_of m) h lent.stop) leases hart (Some (nothing_taken (length m.pages) out)) row
+          (λ lent e. let same : nothing_taken (length m.pages) out ≡ lent = cc in subst (λ (l : OpenView). MayGoTo edges (counts_of m) hart l.stop) same may) p.unhindered;
+      rights = set_each (λ h lent. length lent.taken ≡ length m.pages) leases hart (Some (nothing_taken (length m.pages) out)) row
+          (λ lent e. let same : nothing_taken (length m.pages) out ≡ lent = cc in
+          subst (λ (l : OpenView). length l.taken ≡ length m.pages) same (length-replicate {A = Option Taken} (length m.pages) None)) p.rights;
       begins = p.begins;
       counted = p.counted;
       keeps = kept;
@@ -86,7 +86,7 @@ given_kept start m journal leases stops new_stops edges new_edges heard new_hear
       unhindered = set_each (λ h lent. MayGoTo edges (counts_of m) h lent.stop) leases hart new row
           (λ lent e. let i = more (open_at leases hart) page want count found lent e in
           subst (MayGoTo edges (counts_of m) hart) (sym i.stop) (p.unhindered hart i.was i.is_old)) p.unhindered;
-      rights = set_each (λ h lent. length lent.taken ≡ PAGE_ROW) leases hart new row
+      rights = set_each (λ h lent. length lent.taken ≡ length m.pages) leases hart new row
           (λ lent e. let i = more (open_at leases hart) page want count found lent e in i.row ∙ p.rights hart i.was i.is_old) p.rights;
       begins = p.begins;
       counted = p.counted;
@@ -115,7 +115,7 @@ settled_kept start m journal leases stops edges heard new_heard before after l p
           may_still_go edges (counts_of m) (counts_of (laid m l)) hart lent.stop (p.unhindered hart lent (row-set_some leases l.hart hart lent e))
           (others_laid m l hart (row-set_other leases l.hart hart lent e (row_within leases l.hart m l ours)))
           (grown start m journal l stops lease on p.counted);
-      rights = λ hart lent e. p.rights hart lent (row-set_some leases l.hart hart lent e);
+      rights = λ hart lent e. p.rights hart lent (row-set_some leases l.hart hart lent e) ∙ sym (length-laid_pages m.pages l.slots);
       begins = schedule_goes_on start m journal l stops lease on p.counted edges
           (of_stop (λ stop. stop ≤ count_at stops l.hart) (open_at leases l.hart) m l ours (p.stopped l.hart))
           (of_stop (MayGoTo edges (counts_of m) l.hart) (open_at leases l.hart) m l ours (p.unhindered l.hart)) p.begins;

@@ -20,7 +20,7 @@ use crate::lease::Lease;
 use book_modes::{Keep, Leg, Mode, Recording, Replaying, settled_counts, steps_taken};
 use edge_log::{Edge, EdgeLog};
 use ft_types::{
-    COUNT_LIMIT, Count, Counts, HART_LIMIT, HART_ROW, Hart, HartSet, Memory, PAGE_ROW, PageNo, Want,
+    COUNT_LIMIT, Count, Counts, HART_LIMIT, HART_ROW, Hart, HartSet, Memory, PageNo, Want,
 };
 use guest_image::{Machine, Page, SharedPage};
 use hart_lease::{Asked, Lent, OpenLease, Stretch, TakenPages};
@@ -196,7 +196,7 @@ impl<M: Mode> Book<M> {
         ensures ours { IfOk result (λ l. IsOurs self.new l) }
         ensures kept_open { IfOk result (λ l. self.new ≡ record self.old {
           leases = slice_set self.old.leases hart
-              (Some (nothing_taken (lent_with l.stop l.inputs l.edges)));
+              (Some (nothing_taken (length self.old.machine.pages) (lent_with l.stop l.inputs l.edges)));
           mode = self.new.mode;
         }) }
         ensures refused { IfErr result (λ f. f ≢ BookFault.EdgeOpen → f ≢ BookFault.Memory → (h : HartRecord) → slice_get self.old.machine.harts hart ≡ Some h →
@@ -223,8 +223,9 @@ impl<M: Mode> Book<M> {
         if self.mode.is_open(hart, &self.machine) {
             return Err(BookFault::EdgeOpen);
         }
-        let taken = TakenPages::none(alloc)?;
-        let mut own = fresh_lease(alloc, hart, state, self.machine.pages())?;
+        let pages = self.machine.pages();
+        let taken = TakenPages::none(alloc, pages)?;
+        let mut own = fresh_lease(alloc, hart, state, pages)?;
         let lent = self.lend_out(alloc, hart, count, taken);
         own.go_out(lent);
         Ok(Lease { own })
@@ -232,13 +233,13 @@ impl<M: Mode> Book<M> {
 
     /// What the hart, which is at this count, goes out with. It has an open lease then, of no page.
     fn lend_out(&mut self, alloc: Global, hart: Hart, count: Count, taken: TakenPages) -> Lent
-        requires taken { taken ≡ replicate PAGE_ROW None }
+        requires taken { taken ≡ replicate (length self.old.machine.pages) None }
         requires hart { hart < length self.old.machine.harts }
         requires unlent { open_at self.old.leases hart ≡ None }
         requires count { count ≡ counts_of self.old.machine hart }
         requires limit { count < count_at (M.stops self.old.mode) hart }
         requires met { HasUnmet (M.obeyed self.old.mode) (counts_of self.old.machine) hart → ⊥ }
-        ensures book { self.new ≡ record self.old { leases = slice_set self.old.leases hart (Some (nothing_taken result)); mode = self.new.mode } }
+        ensures book { self.new ≡ record self.old { leases = slice_set self.old.leases hart (Some (nothing_taken (length self.old.machine.pages) result)); mode = self.new.mode } }
         ensures lent { M.lends self.old.mode hart count result self.new.mode }
         ensures stop { result.stop < COUNT_LIMIT }
     {

@@ -25,7 +25,7 @@ pub(crate) fn fresh_lease(
     alloc: Global,
     hart: Hart,
     state: &HartState,
-    pages: u8,
+    pages: u16,
 ) -> Result<Box<hart_lease::Lease>, Memory>
     requires pages { pages ≤ PAGE_LIMIT }
     ensures { IfOk result (λ l. l.value ≡ fresh hart (without_outputs state.now) pages idle) }

@@ -32,7 +32,7 @@ fn lay(machine: &mut Machine, hart: Hart, slots: Vec<Slot>, parts: Vec<Option<Sh
     requires parts { parts.items ≡ map part_of slots.items }
     ensures { machine.new ≡ record machine.old { pages = laid_pages machine.old.pages slots.items } }
 {
-    let mut number = 0u8;
+    let mut number = 0u16;
     let mut parts = parts.into_iter();
     for slot in slots {
         let Some(part) = parts.next() else {

@@ -183,7 +183,7 @@ impl<M: Mode> Desk<M> {
 
     /// Asks for a page.
     fn ask(&mut self, lease: &mut Lease, page: PageNo, want: Want) -> Answer {
-        if page.number() >= self.book.machine().pages() {
+        if page.index() >= self.book.machine().pages() as usize {
             return Answer::Refused;
         }
         let hart = lease.hart();

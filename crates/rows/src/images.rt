@@ -23,7 +23,7 @@ fn digest(guest: &Guest) -> ([u8; 32], u8) {
     (guest.digest(), guest.harts())
 }
 
-fn told(image: &Image) -> ([u8; 32], u8, u8) {
+fn told(image: &Image) -> ([u8; 32], u8, u16) {
     (image.digest(), image.harts(), image.pages())
 }
 

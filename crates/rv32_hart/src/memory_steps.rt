@@ -59,7 +59,7 @@ pub(crate) fn page_number(address: u32) -> PageNo
     requires limit { page_at address < PAGE_LIMIT }
     ensures { result ≡ page_at address }
 {
-    PageNo::new(((address - 0x8000_0000) >> 12) as u8)
+    PageNo::new(((address - 0x8000_0000) >> 12) as u16)
 }
 
 #[inline(always)]

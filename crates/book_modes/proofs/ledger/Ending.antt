@@ -3,7 +3,6 @@ use Rattle.std.proofs.Common.{◌≡◌, inl, inr, ℕ, ◌<◌, ◌≤◌, min,
 use Rattle.std.proofs.Common.{◌∙◌, arith, if◌then◌else◌}
 use Rattle.std.proofs.lemmas.Bool.{cases_lt}
 use Rattle.std.proofs.lemmas.List.{get_or_past}
-use Rattle.ft_types.specs.declared.names.TheConstants.{PAGE_ROW}
 use Rattle.interleaving.specs.Machine.{Machine, counts}
 use Rattle.interleaving.specs.Stored.{view}
 use Rattle.input_log.specs.declared.Input.{Input}
@@ -38,14 +37,14 @@ taken_read None = refl
 taken_read (Some t) = refl
 
 -- pages beyond the row were not taken
-pub given_back_all : (taken : List (Option Taken)) (hart count : ℕ) (old now : List PageRight) (n : ℕ) → length taken ≡ PAGE_ROW → min (length old) PAGE_ROW ≤ n →
+pub given_back_all : (taken : List (Option Taken)) (hart count : ℕ) (old now : List PageRight) (n : ℕ) → min (length old) (length taken) ≤ n →
     AreChanged (given_back taken hart count) old now n → (page : ℕ) → page < length old →
     right_at now page ≡ given_back taken hart count page (right_at old page)
-given_back_all taken hart count old now n row end changed page lt =
+given_back_all taken hart count old now n end changed page lt =
     elim (cases_lt page n) [
       | inl below ↦ changed.first page below
       | inr above ↦
-          let none : taken_at taken page ≡ None = get_or_past taken page None (omega (arith, row, end, above, lt)) in
+          let none : taken_at taken page ≡ None = get_or_past taken page None (omega (arith, end, above, lt)) in
           rw none (changed.others page above)
     ]
 

@@ -67,7 +67,7 @@ stubs_put stubs leases hart stub lent lt here there other =
 lent_due : (r : RecordingView) (hart : ℕ) (lent : LentView) (start m : MachineState) (journal : List Stretch) (leases : List (Option OpenView)) →
     hart < length m.harts → hart < length leases → open_at leases hart ≡ None → lent.inputs ≡ (due_at r.due hart).inputs →
     lent.edges ≡ (due_at r.due hart).edges → IsRecorded r start m journal leases →
-    IsRecorded r start m journal (slice_set leases hart (Some (nothing_taken lent)))
+    IsRecorded r start m journal (slice_set leases hart (Some (nothing_taken (length m.pages) lent)))
 lent_due r hart lent start m journal leases is_hart row closed inputs edges p =
     let none : p.ledger.stubs hart ≡ None = p.led.stubs hart ∙ ap (option_map stub_as) closed in
     record {
@@ -77,8 +77,8 @@ lent_due r hart lent start m journal leases is_hart row closed inputs edges p =
         at_machine = p.led.at_machine;
         in_journal = p.led.in_journal;
         stubs =
-            stubs_put p.ledger.stubs leases hart (Some (ledger.fresh_stub (map edge_as lent.edges))) (Some (nothing_taken lent)) row
-            (ap (λ s. Some s) (sym (stub_fresh (map edge_as lent.edges)))) p.led.stubs;
+            stubs_put p.ledger.stubs leases hart (Some (ledger.fresh_stub (map edge_as lent.edges))) (Some (nothing_taken (length m.pages) lent)) row
+            (ap (λ s. Some s) (sym (stub_fresh (length m.pages) (map edge_as lent.edges)))) p.led.stubs;
       };
       size = p.size;
       log = p.log;
@@ -90,12 +90,12 @@ lent_due r hart lent start m journal leases is_hart row closed inputs edges p =
         many = p.due.many;
         edges = p.due.edges;
         given =
-            set_each (λ h o. o.inputs ≡ (due_at r.due h).inputs) leases hart (Some (nothing_taken lent)) row
-            (λ o e. let same : nothing_taken lent ≡ o = cc in ap (λ (v : OpenView). v.inputs) (sym same) ∙ inputs) p.due.given;
+            set_each (λ h o. o.inputs ≡ (due_at r.due h).inputs) leases hart (Some (nothing_taken (length m.pages) lent)) row
+            (λ o e. let same : nothing_taken (length m.pages) lent ≡ o = cc in ap (λ (v : OpenView). v.inputs) (sym same) ∙ inputs) p.due.given;
         given_edges =
-            set_each (λ h o. (x : Edge) → Contains (due_at r.due h).edges x → Contains o.edges x) leases hart (Some (nothing_taken lent)) row
+            set_each (λ h o. (x : Edge) → Contains (due_at r.due h).edges x → Contains o.edges x) leases hart (Some (nothing_taken (length m.pages) lent)) row
             (λ o e x i.
-            let same : nothing_taken lent ≡ o = cc in
+            let same : nothing_taken (length m.pages) lent ≡ o = cc in
             subst (λ (v : OpenView). Contains v.edges x) same (subst (λ es. Contains es x) (sym edges) i)) p.due.given_edges;
       };
       bells = p.bells;

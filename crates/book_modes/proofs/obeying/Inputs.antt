@@ -14,10 +14,10 @@ use Rattle.hart_lease.proofs.journals.OpenLeases.{set_each, more}
 -- a hart is lent
 pub lent_hears : (heard : Heard) (m : MachineState) (leases : List (Option OpenView)) (hart count : ℕ) (lent : LentView) → hart < length leases →
     count ≡ counts_of m hart → lent.inputs ≡ heard hart count → ((n : ℕ) → count < n → n < lent.stop → heard hart n ≡ []) → EachHears heard m leases →
-    EachHears heard m (slice_set leases hart (Some (nothing_taken lent)))
+    EachHears heard m (slice_set leases hart (Some (nothing_taken (length m.pages) lent)))
 lent_hears heard m leases hart count lent row at inputs later each =
-    set_each (λ h o. Hears heard h (counts_of m h) o) leases hart (Some (nothing_taken lent)) row
-    (λ o e. let same : nothing_taken lent ≡ o = cc in
+    set_each (λ h o. Hears heard h (counts_of m h) o) leases hart (Some (nothing_taken (length m.pages) lent)) row
+    (λ o e. let same : nothing_taken (length m.pages) lent ≡ o = cc in
     subst (λ (v : OpenView). Hears heard hart (counts_of m hart) v) same
     (record { inputs = inputs ∙ ap (heard hart) at; later = λ n from below. later n (omega (arith, from, at)) below })) each
 

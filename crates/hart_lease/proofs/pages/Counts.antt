@@ -4,7 +4,6 @@ use Rattle.std.proofs.Common.{option_map, refl, ap, sym, ◌∙◌}
 use Rattle.std.proofs.lemmas.List.{get_or-set_same, get_or-set_other}
 use Rattle.ft_types.specs.declared.names.Want.{Want}
 use Rattle.ft_types.specs.declared.names.Want.TheVariants.{Read, Write}
-use Rattle.ft_types.specs.declared.names.TheConstants.{PAGE_ROW}
 use Rattle.interleaving.specs.Log.{Edge}
 use Rattle.interleaving.proofs.Put.{same_or_not, put_same, put_other}
 use Rattle.lease_ledger.specs.Ledger as ledger
@@ -21,12 +20,12 @@ abbrev pub read_of : Option Taken → Option ℕ
 read_of o = option_map (λ t. t.read_at) o
 
 -- a lease that has taken nothing
-pub stub_fresh : (edges : List Edge) → stub_of (replicate PAGE_ROW None) edges ≡ fresh_stub edges
-stub_fresh edges =
+pub stub_fresh : (pages : ℕ) (edges : List Edge) → stub_of (replicate pages None) edges ≡ fresh_stub edges
+stub_fresh pages edges =
     λ i.
     record {
-      read_at = λ page. ap read_of (none-replicate {A = Taken} PAGE_ROW page) i;
-      write_at = λ page. ap written_first (none-replicate {A = Taken} PAGE_ROW page) i;
+      read_at = λ page. ap read_of (none-replicate {A = Taken} pages page) i;
+      write_at = λ page. ap written_first (none-replicate {A = Taken} pages page) i;
       edges = edges;
     }
 

@@ -2,7 +2,7 @@
 use Rattle.std.proofs.Common.{◌≡◌, ℕ, zero, suc, ◌<◌, ◌≤◌, inl, inr, List, [], ◌∷◌, length, replicate, slice_get, slice_set, slice_index_or, true, false}
 use Rattle.std.proofs.Common.{Option, None, Some, refl, ap, sym, ◌∙◌, arith, length-set, ◌^◌}
 use Rattle.std.proofs.lemmas.List.{length-replicate, get_or-set_same, get_or-set_other}
-use Rattle.ft_types.specs.declared.names.TheConstants.{INPUT_LIMIT, PAGE_ROW}
+use Rattle.ft_types.specs.declared.names.TheConstants.{INPUT_LIMIT}
 use Rattle.rv32_hart.specs.Hart.{Hart, with_earlier}
 use Rattle.guest_image.specs.Machine.{MachineState}
 use Rattle.hart_lease.specs.declared.lease_pages.Slot.{Slot}
@@ -114,7 +114,8 @@ fresh_kept hart state pages lent lt few = record {
   stop = lt;
   few = few;
   as_many = length-replicate {A = Option (List ℕ)} pages None ∙ sym (length-replicate {A = Slot} pages Missing);
-  rights = λ page. ap want_of (index-replicate pages page) ∙ sym (ap right_of_taken (none-replicate {A = Taken} PAGE_ROW page));
+  counted = length-replicate {A = Option Taken} pages None ∙ sym (length-replicate {A = Slot} pages Missing);
+  rights = λ page. ap want_of (index-replicate pages page) ∙ sym (ap right_of_taken (none-replicate {A = Taken} pages page));
   number = refl;
   harts = refl;
   count = omega arith;
@@ -198,6 +199,8 @@ read_kept l page here lt row missing p = record {
   stop = p.stop;
   few = p.few;
   as_many = p.as_many ∙ sym (length-set l.slots page (Readable here));
+  counted =
+      length-set l.taken page (Some (taking (taken_at l.taken page) Read l.present.count)) ∙ p.counted ∙ sym (length-set l.slots page (Readable here));
   number = p.number;
   harts = p.harts;
   count = p.count;
@@ -214,6 +217,8 @@ write_kept l page base lt row unwritten lent p = record {
   stop = p.stop;
   few = p.few;
   as_many = length-set l.bases page (Some base) ∙ p.as_many ∙ sym (length-set l.slots page (Writable base));
+  counted =
+      length-set l.taken page (Some (taking (taken_at l.taken page) Write l.present.count)) ∙ p.counted ∙ sym (length-set l.slots page (Writable base));
   number = p.number;
   harts = p.harts;
   count = p.count;

@@ -76,6 +76,7 @@ tick_kept l after slots p t lt quiet =
       stop = p.stop;
       few = p.few;
       as_many = p.as_many ∙ sym (length_shown l.slots) ∙ sym (pages ∙ length-written_in (ram_of l.slots).contents _) ∙ length_shown slots;
+      counted = p.counted ∙ sym (length_shown l.slots) ∙ sym (pages ∙ length-written_in (ram_of l.slots).contents _) ∙ length_shown slots;
       rights = λ page. rights_stay l after slots t page ∙ p.rights page;
       number = c.number ∙ p.number;
       harts = c.harts ∙ p.harts;

@@ -11,6 +11,7 @@ kept_for l most p =
       stop = p.stop;
       few = p.few;
       as_many = p.as_many;
+      counted = p.counted;
       rights = p.rights;
       number = p.number;
       harts = p.harts;

@@ -4,7 +4,6 @@ use Rattle.std.proofs.Common.{false, Bool, Option, None, Some, option_map, Match
 use Rattle.std.proofs.lemmas.List.{get_or-set_same, get_or-set_other}
 use Rattle.std.proofs.lemmas.Option.{slice_get-get_or}
 use Rattle.ft_types.specs.declared.names.Want.{Want}
-use Rattle.ft_types.specs.declared.names.TheConstants.{PAGE_ROW}
 use Rattle.interleaving.specs.Lists.{put}
 use Rattle.interleaving.specs.Machine.{Machine, Effect, Write, Writes, written, after, step_of}
 use Rattle.interleaving.specs.Log.{Edge}
@@ -105,8 +104,8 @@ fresh_played hart state pages lent =
       based = λ page e. let h : false ≡ true = sym (ap (λ (o : Option Taken). is_some (read_of o)) (none page)) ∙ e in cc;
     }
   where
-    none : (page : ℕ) → taken_at (replicate PAGE_ROW None) page ≡ None
-    none page = none-replicate {A = Taken} PAGE_ROW page
+    none : (page : ℕ) → taken_at (replicate pages None) page ≡ None
+    none page = none-replicate {A = Taken} pages page
 
 -- A page comes.
 

@@ -91,7 +91,7 @@ is_ended c =
           };
       many = now.rights.many;
       rights =
-          given_back_all c.args.taken.now c.args.hart c.args.count c.self.inside.rights.items c.loop-page.self-inside.rights.items c.loop-page.page c.told-taken
+          given_back_all c.args.taken.now c.args.hart c.args.count c.self.inside.rights.items c.loop-page.self-inside.rights.items c.loop-page.page
           (search rules) now.rights;
     }
     )

@@ -1,5 +1,4 @@
 use Rattle.std.proofs.Common.{◌≡◌, ◌-◌, ℕ, arith, sym, subst}
-use Rattle.ft_types.specs.declared.names.TheConstants.{PAGE_ROW}
 use Rattle.rv32_hart.specs.Hart.{without_outputs}
 use Rattle.hart_lease.specs.OpenLeases.{idle}
 use Rattle.hart_lease.specs.Leases.{fresh}
@@ -9,7 +8,7 @@ use Rattle.hart_lease.proofs.pages.Given.{bare_fresh_kept}
 use Rattle.hart_lease.proofs.lease.Lease.fresh.Goals as goal
 
 pub invariant_of-result : goal.invariant_of-result
-invariant_of-result c = (omega arith, (omega arith, (λ h. absurd (omega arith), (rw c.in_ok-taken.ensures (based_none c.in_ok-bases.bases.items PAGE_ROW), tt))))
+invariant_of-result c = (omega arith, (omega arith, (λ h. absurd (omega arith), (rw c.in_ok-taken.ensures (based_none c.in_ok-bases.bases.items c.args.pages), tt))))
 
 pub invariant_of-result-2 : goal.invariant_of-result-2
 invariant_of-result-2 c =
@@ -19,8 +18,8 @@ invariant_of-result-2 c =
       c.without_outputs-base.ensures,
       c.without_outputs-present.ensures,
       c.in_ok-bases.ensures,
-      c.in_ok-pages.ensures,
       c.in_ok-taken.ensures,
+      c.in_ok-pages.ensures,
       c.new.ensures.items,
       c.new-2.ensures.items,
     )

@@ -34,5 +34,5 @@ invariant_of-self c =
     } in
     let lt : c.args.page < length i.pages = omega (arith, ap (λ (l : LeaseView). length l.slots) view, c.requires.page) in
     let there : slot_at i.pages c.args.page ≡ Readable c.args.copy = ap (λ (l : LeaseView). slot_at l.slots c.args.page) view ∙ c.requires.readable in
-    rw (c.raise-base.ensures.raised, c.raise-base.ensures.base, c.take.ensures.value, c.index.ensures.value, c.count.ensures.value)
-    (to_write l c.args.page c.args.copy c.self.invariant lt c.take.ensures.row there)
+    rw (c.raise-base.ensures.raised, c.raise-base.ensures.base, c.take.ensures, c.index.ensures.value, c.count.ensures.value)
+    (to_write l c.args.page c.args.copy c.self.invariant lt (omega (arith, lt, c.self.invariant.bare.counted)) there)

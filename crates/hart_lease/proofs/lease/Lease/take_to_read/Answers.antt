@@ -9,8 +9,8 @@ invariant_of-self c =
     let i = c.self.inside in
     let view = c.self.view_is in
     let lt : c.args.page < length i.pages = omega (arith, ap (λ (l : LeaseView). length l.slots) view, c.requires.page) in
-    let row : c.args.page < length i.taken = c.take.ensures.row in
-    rw (c.put.ensures.new, c.take.ensures.value, c.count.ensures.value)
+    let row : c.args.page < length i.taken = omega (arith, lt, c.self.invariant.bare.counted) in
+    rw (c.put.ensures.new, c.take.ensures, c.count.ensures.value)
     (bare_read_kept (record {
       hart = i.hart;
       base = i.base;

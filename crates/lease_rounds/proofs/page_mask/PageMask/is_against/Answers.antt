@@ -1,24 +1,24 @@
-use Rattle.std.proofs.Common.{w64}
-use Rattle.std.proofs.lemmas.Bool.{not_from_false, ne_eqb}
+use Rattle.std.proofs.Common.{true≢false, sym, ◌∙◌, refl}
 use Rattle.lease_rounds.proofs.Masks.{first_against, second_against, against_second}
 use Rattle.lease_rounds.proofs.page_mask.PageMask.is_against.Goals as goal
 
-pub returns-then-self-other-ne0 : goal.returns-then-self-other-ne0
-returns-then-self-other-ne0 c =
-    let these = c.self.inside in
-    let those = c.other.inside in
-    let fits = c.self.invariant in
+pub returns-then-do_meet : goal.returns-then-do_meet
+returns-then-do_meet c =
     rw (← c.self.view_is, ← c.other.view_is) (
-      first_against w64 these.reads these.writes those.reads those.writes fits.0 fits.1,
-      λ _. not_from_false _ (ne_eqb _ 0 c.if-self-other-ne0.true),
+      λ _.
+          first_against c.self.inside.reads c.self.inside.writes c.other.inside.reads c.other.inside.writes c.either-all.result c.either-all.ensures.pages
+          (c.do_meet.ensures.0 c.if-do_meet.true),
+      λ _. refl,
     )
 
-pub returns-else-self-other-ne0 : goal.returns-else-self-other-ne0
-returns-else-self-other-ne0 c =
-    let these = c.self.inside in
-    let those = c.other.inside in
-    let fits = c.self.invariant in
+pub returns : goal.returns
+returns c =
     rw (← c.self.view_is, ← c.other.view_is) (
-      second_against w64 these.reads these.writes those.reads those.writes fits.0 fits.1,
-      against_second w64 these.reads these.writes those.reads those.writes fits.0 fits.1 c.if-self-other-ne0.false,
+      λ is.
+          second_against c.self.inside.reads c.self.inside.writes c.other.inside.reads c.other.inside.writes c.either-all.result
+          c.either-all.ensures.pages (c.do_meet-2.ensures.0 is),
+      λ against.
+          c.do_meet-2.ensures.1
+          (against_second c.self.inside.reads c.self.inside.writes c.other.inside.reads c.other.inside.writes c.either-all.result
+          c.either-all.ensures.pages (λ p. true≢false (sym (c.do_meet.ensures.1 p) ∙ c.if-do_meet.false)) against),
     )

@@ -1,8 +1,10 @@
-use Rattle.std.proofs.Common.{w64}
-use Rattle.lease_rounds.proofs.Masks.{near_has}
 use Rattle.lease_rounds.proofs.page_mask.PageMask.is_near.Goals as goal
 
 pub returns : goal.returns
 returns c =
-    rw (← c.self.view_is, ← c.other.view_is)
-    (near_has w64 c.self.inside.reads c.self.inside.writes c.other.inside.reads c.other.inside.writes c.self.invariant.0 c.self.invariant.1)
+    rw (← c.self.view_is, ← c.other.view_is) (
+      λ is.
+          let h = c.do_meet.ensures.0 is in
+          (h.0, ((c.either-these.ensures.pages h.0).0 h.1.0, (c.either-those.ensures.pages h.0).0 h.1.1)),
+      λ has. c.do_meet.ensures.1 (has.0, ((c.either-these.ensures.pages has.0).1 has.1.0, (c.either-those.ensures.pages has.0).1 has.1.1)),
+    )

@@ -1,6 +1,5 @@
-use Rattle.std.proofs.Common.{w64}
-use Rattle.lease_rounds.proofs.Masks.{none_has}
+use Rattle.std.proofs.Common.{⊎_elim}
 use Rattle.lease_rounds.proofs.page_mask.PageMask.none.Goals as goal
 
 pub returns : goal.returns
-returns c = none_has w64
+returns c page has = ⊎_elim (c.no_page.ensures.none page) (c.no_page-2.ensures.none page) has

@@ -1,6 +1,8 @@
-use Rattle.std.proofs.Common.{rules, ◌≡◌, ◌∙◌, subst, sym, slice_get}
+use Rattle.std.proofs.Common.{rules, ◌≡◌, ◌<◌, ◌∙◌, arith, length, subst, sym, slice_get}
 use Rattle.hart_lease.specs.Leases.{LeaseView, whole_in, outputs_of, IsLentBy}
 use Rattle.hart_lease.specs.OpenLeases.{open_at}
+use Rattle.hart_lease.specs.Runs.{IsLease}
+use Rattle.hart_lease.proofs.journals.GoingOn.{stands_ours}
 use Rattle.book_modes.specs.Modes.{IsAsking}
 use Rattle.page_book.specs.Books.{IsOurs}
 use Rattle.page_book.proofs.Ours.{need_ours}
@@ -16,16 +18,18 @@ pub hand_over-requires-clause-asks : goal.hand_over-requires-clause-asks
 hand_over-requires-clause-asks g c =
     let b = c.args.self.now in
     let l = c.args.lease.now in
+    let whole : IsLease (whole_in b.machine l) = c.asks-asked.ensures.kept.with_any (outputs_of (slice_get b.machine.harts l.hart)) in
+    let there : c.asks-asked.result.page < length b.machine.pages = search rules in
     record {
       start = b.start;
       journal = b.journal;
       asker = whole_in b.machine l;
-      is_lease = c.asks-asked.ensures.kept.with_any (outputs_of (slice_get b.machine.harts l.hart));
+      is_lease = whole;
       is_lent = c.requires.ours;
       hart = search rules;
       count = search rules;
-      page = search rules;
-      row = search rules;
+      page = there;
+      row = omega (arith, there, whole.counted, (stands_ours (open_at b.leases l.hart) b.machine (whole_in b.machine l) c.requires.ours).as_many);
       limit = search rules;
       kept = search rules;
     }
@@ -35,17 +39,19 @@ edges_owed-found-requires g c =
     let i = c.self.inside in
     let l = c.args.lease.now in
     let ours : IsLentBy (open_at i.leases l.hart) i.machine (whole_in i.machine l) = rw (← c.self.view_is) at c.requires.ours in
+    let whole : IsLease (whole_in i.machine l) = c.asks-asked.ensures.kept.with_any (outputs_of (slice_get i.machine.harts l.hart)) in
+    let there : c.asks-asked.result.page < length i.machine.pages = search rules in
     let asks : IsAsking (g.M.Mode.keeps i.mode) i.machine i.leases c.asks-asked.result =
     record {
       start = i.start;
       journal = i.journal.items;
       asker = whole_in i.machine l;
-      is_lease = c.asks-asked.ensures.kept.with_any (outputs_of (slice_get i.machine.harts l.hart));
+      is_lease = whole;
       is_lent = ours;
       hart = search rules;
       count = search rules;
-      page = search rules;
-      row = search rules;
+      page = there;
+      row = omega (arith, there, whole.counted, (stands_ours (open_at i.leases l.hart) i.machine (whole_in i.machine l) ours).as_many);
       limit = search rules;
       kept = c.self.invariant.keeps;
     } in

@@ -1,0 +1,9 @@
+use Rattle.std.proofs.Common.{rules, bit_or}
+use Rattle.ft_types.proofs.Zips.{zips_more}
+use Rattle.lease_rounds.proofs.page_words.ored.Goals as goal
+
+pub loop-place-preserved : goal.loop-place-preserved
+loop-place-preserved c = (
+  zips_more bit_or c.args.these c.args.those c.loop-place.words c.loop-place.place (search rules) (search rules) (search rules) c.loop-place.invariant.0,
+  search rules,
+)
