@@ -57,6 +57,8 @@ impl<P: Place> FencedKeeper<P> {
         ensures store { IfOk result (λ k. k.store ≡ P.store place) }
         ensures fence { IfOk result (λ k. k.fence ≡ P.fence place) }
         ensures place { IfOk result (λ k. (P.store k.place ≡ P.store place) × (P.fence k.place ≡ P.fence place)) }
+        // So what it may acknowledge is known from the first.
+        ensures known { IfOk result (λ k. IsSome k.saved) }
     {
         let (held, fence) = place.read(alloc)?;
         let saved = Some(*held.position());
