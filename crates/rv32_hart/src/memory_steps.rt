@@ -11,7 +11,7 @@ use super::pages::Pages;
 use super::steps::{go_on, set_register_step};
 use ft_types::{COUNT_LIMIT, Hart, PAGE_LIMIT, PageNo, Want};
 use rv32_isa::{LoadKind, Reg, StoreKind};
-use zaamo::{AmoOp, amo};
+use zaamo::{AmoOp, Exchanged, amo};
 
 #[inline(always)]
 pub(crate) fn load_value<P: Pages>(kind: LoadKind, page: PageNo, offset: u32, pages: &P) -> u32
@@ -269,9 +269,9 @@ fn atomic_in_ram<P: Pages>(
         return Tick::Miss(page, Want::Write);
     }
     let old = pages.read_word(page, address & 0xfff);
-    let new = amo(op, old, value);
-    pages.write_word(page, address & 0xfff, new);
-    set_register_step(core, rd, old);
+    let Exchanged { register, memory } = amo(op, old, value);
+    pages.write_word(page, address & 0xfff, memory);
+    set_register_step(core, rd, register);
     Tick::Done
 }
 

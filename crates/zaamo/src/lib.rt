@@ -27,10 +27,18 @@ pub enum AmoOp {
     MaxUnsigned,
 }
 
-/// The word that memory gets, from the word it had and the one in rs2.
+/// The words that an atomic memory operation leaves.
+#[derive(Clone, Copy, Debug, PartialEq, Eq)]
+pub struct Exchanged {
+    /// The word for rd.
+    pub register: u32,
+    /// The word for memory.
+    pub memory: u32,
+}
+
 #[inline(always)]
-pub fn amo(op: AmoOp, old: u32, arg: u32) -> u32
-    ensures value { result ≡ amo_result op old arg }
+fn new_word(op: AmoOp, old: u32, arg: u32) -> u32
+    ensures { result ≡ amo_result op old arg }
 {
     match op {
         AmoOp::Add => old.wrapping_add(arg),
@@ -42,5 +50,17 @@ pub fn amo(op: AmoOp, old: u32, arg: u32) -> u32
         AmoOp::Max => old.cast_signed().max(arg.cast_signed()).cast_unsigned(),
         AmoOp::MinUnsigned => old.min(arg),
         AmoOp::MaxUnsigned => old.max(arg),
+    }
+}
+
+/// What rd and memory get, from the word that memory had and the one in rs2.
+#[inline(always)]
+pub fn amo(op: AmoOp, old: u32, arg: u32) -> Exchanged
+    ensures register { result.register ≡ old }
+    ensures memory { result.memory ≡ amo_result op old arg }
+{
+    Exchanged {
+        register: old,
+        memory: new_word(op, old, arg),
     }
 }
