@@ -14,10 +14,18 @@ use std::marker::Model;
 
 /// What a hart's next step is given, until it is settled: its inputs, and the edges from the harts whose bells it hears:
 /// `INPUT_LIMIT` inputs at most, and an edge for each hart.
-#[derive(Drop)]
 pub struct Due {
     inputs: SmallVec<Input, INPUT_LIMIT>,
     edges: SmallVec<Edge, HART_ROW>,
+}
+
+impl Drop for Due {
+    fn drop(self) {
+        let Due {
+            inputs: _,
+            edges: _,
+        } = self;
+    }
 }
 
 impl Model for Due {

@@ -28,7 +28,6 @@ use std::alloc::Global;
 use std::marker::Model;
 
 /// What a replaying book has to obey.
-#[derive(Drop)]
 pub struct Leg {
     /// The count at which each hart ends.
     pub ends: Counts,
@@ -36,6 +35,16 @@ pub struct Leg {
     pub edges: EdgeLog,
     /// What each hart is given at which count.
     pub inputs: InputLog,
+}
+
+impl Drop for Leg {
+    fn drop(self) {
+        let Leg {
+            ends: _,
+            edges: _,
+            inputs: _,
+        } = self;
+    }
 }
 
 /// The lesser of the two counts, where the second is there.
@@ -197,9 +206,14 @@ pub trait Mode: Drop {
 }
 
 /// The log is obeyed.
-#[derive(Drop)]
 pub struct Replaying {
     leg: Leg,
+}
+
+impl Drop for Replaying {
+    fn drop(self) {
+        let Replaying { leg: _ } = self;
+    }
 }
 
 impl Model for Replaying {

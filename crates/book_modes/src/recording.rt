@@ -35,7 +35,6 @@ use std::marker::Model;
 use std::option::Option;
 
 /// The log is written.
-#[derive(Drop)]
 pub struct Recording {
     limits: Counts,
     rights: Vec<PageRight>,
@@ -45,6 +44,19 @@ pub struct Recording {
     due: [Due; HART_ROW],
     /// What waits for later steps.
     desk: Desk,
+}
+
+impl Drop for Recording {
+    fn drop(self) {
+        let Recording {
+            limits: _,
+            rights: _,
+            edges: _,
+            inputs: _,
+            due: _,
+            desk: _,
+        } = self;
+    }
 }
 
 impl Model for Recording {

@@ -20,10 +20,15 @@ use std::result::Result;
 /// Edges between the harts of one machine, with those dropped that its start or another edge implies.
 ///
 /// Contracts see the start, and for each hart the list of its edges, by rising step and other hart.
-#[derive(Drop)]
 pub struct EdgeLog {
     start: Counts,
     rows: [Row; HART_ROW],
+}
+
+impl Drop for EdgeLog {
+    fn drop(self) {
+        let EdgeLog { start: _, rows: _ } = self;
+    }
 }
 
 impl Model for EdgeLog {

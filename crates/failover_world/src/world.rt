@@ -46,7 +46,6 @@ use tracked_position::Tracked;
 /// Primaries that come one after the other, the keepers of their log, and the gate of the term that was granted last.
 ///
 /// Contracts see its parts, as a `WorldView`.
-#[derive(Drop)]
 pub struct World {
     image: Image,
     keepers: u8,
@@ -58,6 +57,23 @@ pub struct World {
     stores: Vec<Option<Tracked>>,
     gate: TermGate,
     released: Vec<Released>,
+}
+
+impl Drop for World {
+    fn drop(self) {
+        let World {
+            image: _,
+            keepers: _,
+            need: _,
+            primary: _,
+            runs: _,
+            stopped: _,
+            sent: _,
+            stores: _,
+            gate: _,
+            released: _,
+        } = self;
+    }
 }
 
 impl Model for World {

@@ -233,10 +233,15 @@ fn advance(
 }
 
 /// A stream of frames that comes in pieces.
-#[derive(Drop)]
 pub struct Feed {
     held: Vec<u8>,
     fault: Option<FrameFault>,
+}
+
+impl Drop for Feed {
+    fn drop(self) {
+        let Feed { held: _, fault: _ } = self;
+    }
 }
 
 impl Model for Feed {

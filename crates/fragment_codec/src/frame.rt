@@ -12,13 +12,24 @@ use std::alloc::Global;
 use std::marker::Model;
 
 /// What happened to a hart from one count to a later one.
-#[derive(Drop)]
 pub struct Fragment {
     guest: Guest,
     key: Key,
     from: Count,
     to: Count,
     records: Vec<Record>,
+}
+
+impl Drop for Fragment {
+    fn drop(self) {
+        let Fragment {
+            guest: _,
+            key: _,
+            from: _,
+            to: _,
+            records: _,
+        } = self;
+    }
 }
 
 impl Model for Fragment {
@@ -32,12 +43,22 @@ impl Model for Fragment {
 }
 
 /// How a term begins: with which counts of which earlier term.
-#[derive(Drop)]
 pub struct Opening {
     guest: Guest,
     term: Term,
     parent: Term,
     base: Counts,
+}
+
+impl Drop for Opening {
+    fn drop(self) {
+        let Opening {
+            guest: _,
+            term: _,
+            parent: _,
+            base: _,
+        } = self;
+    }
 }
 
 impl Model for Opening {

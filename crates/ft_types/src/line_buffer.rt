@@ -12,10 +12,15 @@ use std::marker::Model;
 use std::result::Result;
 
 /// A line that is being made, of at most 96 bytes.
-#[derive(Drop)]
 pub struct LineBuffer {
     bytes: [u8; 96],
     len: usize,
+}
+
+impl Drop for LineBuffer {
+    fn drop(self) {
+        let LineBuffer { bytes: _, len: _ } = self;
+    }
 }
 
 impl Model for LineBuffer {

@@ -15,12 +15,22 @@ use std::result::Result;
 /// A reader of bytes in memory. It fails where it has come to a place that it was given.
 ///
 /// Contracts see the bytes that are left, after how many of them it fails, and how often it has.
-#[derive(Drop)]
 pub struct MemorySource {
     bytes: Vec<u8>,
     position: usize,
     fails_at: Option<usize>,
     failures: u64,
+}
+
+impl Drop for MemorySource {
+    fn drop(self) {
+        let MemorySource {
+            bytes: _,
+            position: _,
+            fails_at: _,
+            failures: _,
+        } = self;
+    }
 }
 
 impl Model for MemorySource {
@@ -113,11 +123,20 @@ impl Source for MemorySource {
 /// A writer into memory. It fails once it holds so many bytes as it has room for, or where memory is refused.
 ///
 /// Contracts see what was written, the room, and how often it has failed.
-#[derive(Drop)]
 pub struct MemorySink {
     bytes: Vec<u8>,
     room: usize,
     failures: u64,
+}
+
+impl Drop for MemorySink {
+    fn drop(self) {
+        let MemorySink {
+            bytes: _,
+            room: _,
+            failures: _,
+        } = self;
+    }
 }
 
 impl Model for MemorySink {

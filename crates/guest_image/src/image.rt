@@ -14,12 +14,22 @@ use std::marker::Model;
 use std::vec::Vec;
 
 /// An image of a guest. Contracts see what the file says: the numbers of harts and pages, and the words.
-#[derive(Drop)]
 pub struct Image {
     harts: u8,
     pages: u16,
     words: Vec<u32>,
     digest: [u8; 32],
+}
+
+impl Drop for Image {
+    fn drop(self) {
+        let Image {
+            harts: _,
+            pages: _,
+            words: _,
+            digest: _,
+        } = self;
+    }
 }
 
 impl Model for Image {

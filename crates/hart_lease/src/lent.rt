@@ -10,11 +10,20 @@ use std::marker::Model;
 
 /// What a hart that is lent goes out with: the count that its lease does not go past, the inputs of its next step, and the
 /// edges that this step owes whatever page it uses. At most `INPUT_LIMIT` inputs, and an edge for each hart.
-#[derive(Drop)]
 pub struct Lent {
     stop: Count,
     inputs: SmallVec<Input, INPUT_LIMIT>,
     edges: SmallVec<Edge, HART_ROW>,
+}
+
+impl Drop for Lent {
+    fn drop(self) {
+        let Lent {
+            stop: _,
+            inputs: _,
+            edges: _,
+        } = self;
+    }
 }
 
 impl Model for Lent {
@@ -76,6 +85,11 @@ impl Lent {
         ensures edges { result.1.items ≡ self.edges }
         ensures few { length self.inputs ≤ INPUT_LIMIT }
     {
-        (self.inputs, self.edges)
+        let Lent {
+            stop: _,
+            inputs,
+            edges,
+        } = self;
+        (inputs, edges)
     }
 }

@@ -16,12 +16,22 @@ use std::marker::Model;
 
 /// What the book knows of an open lease: the count that it does not go past, the inputs of its first step, since when it
 /// has each page, and the edges that wait in it.
-#[derive(Drop)]
 pub struct OpenLease {
     stop: Count,
     inputs: SmallVec<Input, INPUT_LIMIT>,
     taken: TakenPages,
     edges: SmallVec<Edge, HART_ROW>,
+}
+
+impl Drop for OpenLease {
+    fn drop(self) {
+        let OpenLease {
+            stop: _,
+            inputs: _,
+            taken: _,
+            edges: _,
+        } = self;
+    }
 }
 
 impl Model for OpenLease {

@@ -55,9 +55,14 @@ fn same_row(row: &[Option<Taken>], other: &[Option<Taken>]) -> bool
 }
 
 /// Since when a lease has each page of its machine.
-#[derive(Drop)]
 pub struct TakenPages {
     row: Vec<Option<Taken>>,
+}
+
+impl Drop for TakenPages {
+    fn drop(self) {
+        let TakenPages { row: _ } = self;
+    }
 }
 
 impl Model for TakenPages {

@@ -9,7 +9,6 @@ use input_log::InputLog;
 use std::marker::Model;
 
 /// The part of a plan that is of one term.
-#[derive(Drop)]
 pub struct PlannedLeg {
     /// The term.
     pub term: Term,
@@ -23,11 +22,28 @@ pub struct PlannedLeg {
     pub inputs: InputLog,
 }
 
+impl Drop for PlannedLeg {
+    fn drop(self) {
+        let PlannedLeg {
+            term: _,
+            base: _,
+            ends: _,
+            edges: _,
+            inputs: _,
+        } = self;
+    }
+}
+
 /// What a store asks of the harts of its guest, from boot on: a leg for each term.
-#[derive(Drop)]
 pub struct Plan {
     guest: Guest,
     legs: Vec<PlannedLeg>,
+}
+
+impl Drop for Plan {
+    fn drop(self) {
+        let Plan { guest: _, legs: _ } = self;
+    }
 }
 
 impl Model for Plan {

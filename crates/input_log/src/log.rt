@@ -17,9 +17,14 @@ use std::result::Result;
 /// The inputs of the harts of one machine, each at the count at which it is given.
 ///
 /// Contracts see, for each hart, the list of its counts and inputs, by rising count.
-#[derive(Drop)]
 pub struct InputLog {
     rows: [Row; HART_ROW],
+}
+
+impl Drop for InputLog {
+    fn drop(self) {
+        let InputLog { rows: _ } = self;
+    }
 }
 
 impl Model for InputLog {

@@ -16,10 +16,18 @@ use std::option::Option;
 use std::result::Result;
 
 /// What waits for one hart.
-#[derive(Drop)]
 pub(crate) struct Queue {
     bells: VecDeque<WaitingBell>,
     others: VecDeque<WaitingInput>,
+}
+
+impl Drop for Queue {
+    fn drop(self) {
+        let Queue {
+            bells: _,
+            others: _,
+        } = self;
+    }
 }
 
 impl Model for Queue {

@@ -20,10 +20,18 @@ use std::marker::Model;
 /// What came of one guest's frames: at each key one content, or a clash of several.
 ///
 /// Contracts see two finite maps, of openings by term and of fragments by key.
-#[derive(Drop)]
 pub struct Store {
     guest: Guest,
     shelves: Shelves,
+}
+
+impl Drop for Store {
+    fn drop(self) {
+        let Store {
+            guest: _,
+            shelves: _,
+        } = self;
+    }
 }
 
 impl Model for Store {

@@ -21,13 +21,24 @@ use std::result::Result;
 ///
 /// Contracts see the counts that were noted of each keeper, and the outputs of each hart: those that went out, and those
 /// that wait.
-#[derive(Drop)]
 pub struct Gate {
     term: Term,
     keepers: u8,
     need: u8,
     noted: [[Count; HART_ROW]; KEEPER_ROW],
     lines: [Line; HART_ROW],
+}
+
+impl Drop for Gate {
+    fn drop(self) {
+        let Gate {
+            term: _,
+            keepers: _,
+            need: _,
+            noted: _,
+            lines: _,
+        } = self;
+    }
 }
 
 impl Model for Gate {

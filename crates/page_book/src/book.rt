@@ -31,13 +31,24 @@ use std::marker::Model;
 use std::mem;
 
 /// A machine with the journal of the steps that led to it. Harts and pages go out on leases, and come back with steps.
-#[derive(Drop)]
 pub struct Book<M: Mode> {
     start: Machine,
     machine: Machine,
     journal: Vec<Stretch>,
     leases: [Option<OpenLease>; HART_ROW],
     mode: M,
+}
+
+impl<M: Mode> Drop for Book<M> {
+    fn drop(self) {
+        let Book {
+            start: _,
+            machine: _,
+            journal: _,
+            leases: _,
+            mode: _,
+        } = self;
+    }
 }
 
 impl<M: Mode> Model for Book<M> {
@@ -163,7 +174,14 @@ impl<M: Mode> Book<M> {
         ensures run { LeadsTo (M.heard self.mode) self.start self.journal self.machine }
         ensures begins { BeginsSchedule (M.obeyed self.mode) (M.stops self.mode) self.start self.journal }
     {
-        self.machine
+        let Book {
+            start: _,
+            machine,
+            journal: _,
+            leases: _,
+            mode: _,
+        } = self;
+        machine
     }
 
     /// The settled steps, in order.

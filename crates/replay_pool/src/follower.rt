@@ -27,7 +27,6 @@ use std::option::Option;
 use std::result::Result;
 
 /// A machine that follows what a store tells of an image's guest.
-#[derive(Drop)]
 pub struct Follower {
     image: Image,
     /// What was replayed; none before the first advance.
@@ -35,6 +34,18 @@ pub struct Follower {
     position: Position,
     machine: Machine,
     last_steps: u64,
+}
+
+impl Drop for Follower {
+    fn drop(self) {
+        let Follower {
+            image: _,
+            plan: _,
+            position: _,
+            machine: _,
+            last_steps: _,
+        } = self;
+    }
 }
 
 impl Model for Follower {

@@ -17,12 +17,22 @@ use std::result::Result;
 /// The gate of a term, the board on which its keepers acknowledge, and their seats.
 ///
 /// Contracts see the gate, and by keeper and hart the count that was acknowledged last.
-#[derive(Drop)]
 pub struct TermGate {
     board: Board,
     seats: Vec<KeeperSeat>,
     gate_seat: GateSeat,
     gate: Gate,
+}
+
+impl Drop for TermGate {
+    fn drop(self) {
+        let TermGate {
+            board: _,
+            seats: _,
+            gate_seat: _,
+            gate: _,
+        } = self;
+    }
 }
 
 impl Model for TermGate {

@@ -21,11 +21,20 @@ use std::option::Option;
 use std::result::Result;
 
 /// A store with its position, which is kept up as frames come. Contracts see the store.
-#[derive(Drop)]
 pub struct Tracked {
     store: Store,
     position: Position,
     cursors: [Cursor; HART_ROW],
+}
+
+impl Drop for Tracked {
+    fn drop(self) {
+        let Tracked {
+            store: _,
+            position: _,
+            cursors: _,
+        } = self;
+    }
 }
 
 impl Model for Tracked {
