@@ -1,3 +1,4 @@
+pub mod Fronts
 pub mod gathering
 pub mod walking
 pub mod honesty

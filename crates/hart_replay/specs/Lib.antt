@@ -7,5 +7,6 @@ pub mod Images
 pub mod Laws
 pub mod Replays
 pub mod Leading
+pub mod GoingOn
 pub mod Primaries
 pub mod Failovers

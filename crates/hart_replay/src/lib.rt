@@ -5,6 +5,7 @@ mod facts;
 mod fault;
 mod laws;
 mod leading;
+mod onward;
 mod plain;
 mod planning;
 mod plans;
@@ -15,6 +16,7 @@ pub use laws::{
     longer_histories,
 };
 pub use leading::come_to;
+pub use onward::go_on_from;
 pub use plain::replay_plain;
 pub use planning::plan;
 pub use plans::{Plan, PlannedLeg};

@@ -32,7 +32,7 @@ use Rattle.hart_replay.proofs.honesty.Primaries.{passed, passing}
 use Rattle.hart_replay.proofs.honesty.Schedules.{begins_too, same_turns}
 use Rattle.hart_replay.proofs.rounds.Ends.{at_ends, falls_short}
 use Rattle.replay_pool.specs.Going.{HasCome, LeadsOn, FailsOn}
-use Rattle.replay_pool.specs.Following.{BeginsLeg}
+use Rattle.hart_replay.specs.GoingOn.{BeginsLeg}
 
 -- ---- one order after another
 

@@ -6,7 +6,6 @@ mod ends;
 mod follower;
 mod going;
 mod legs;
-mod onward;
 mod pool;
 
 pub use follower::Follower;

@@ -3,7 +3,7 @@ use Rattle.std.proofs.lemmas.Bool.{cases_lt}
 use Rattle.ft_types.specs.Counts.{count_at}
 use Rattle.ft_types.specs.declared.names.TheConstants.{HART_LIMIT}
 use Rattle.input_log.specs.Inputs.{HearsMore, inputs_of}
-use Rattle.replay_pool.proofs.onward.hear_more.Goals as goal
+use Rattle.hart_replay.proofs.onward.hear_more.Goals as goal
 
 pub loop-number-preserved : goal.loop-number-preserved
 loop-number-preserved c =

@@ -3,11 +3,11 @@
 ghost use Rattle.std.specs.Prelude.{◌≡◌, ◌↔◌, ◌<◌, ◌≤◌, ℕ, IsTrue};
 ghost use Rattle.ft_types.specs.Counts.{count_at};
 ghost use Rattle.input_log.specs.Inputs.{HearsMore, inputs_of};
-ghost use Rattle.replay_pool.specs.Following.{BeginsLeg, GoOnFrom, IsFront};
+ghost use Rattle.hart_replay.specs.GoingOn.{BeginsLeg, GoOnFrom, IsFront};
 
-use crate::ends::count_of;
+use crate::facts::count_of;
+use crate::plans::PlannedLeg;
 use ft_types::{Count, HART_LIMIT, Hart};
-use hart_replay::PlannedLeg;
 
 fn same_counts(counts: &[Count], others: &[Count]) -> bool
     ensures { IsTrue result ↔ (counts.now ≡ others.now) }
@@ -83,7 +83,7 @@ fn begins_leg(leg: &PlannedLeg, later: &PlannedLeg) -> bool
 }
 
 /// Whether the second legs go on from the first.
-pub(crate) fn go_on_from(old: &[PlannedLeg], new: &[PlannedLeg]) -> bool
+pub fn go_on_from(old: &[PlannedLeg], new: &[PlannedLeg]) -> bool
     ensures { IsTrue result ↔ GoOnFrom old.now new.now }
 {
     if old.is_empty() || new.len() < old.len() {

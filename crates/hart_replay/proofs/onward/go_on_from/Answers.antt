@@ -1,6 +1,6 @@
 use Rattle.std.proofs.Common.{◌≡◌}
-use Rattle.replay_pool.proofs.Along.{front_of}
-use Rattle.replay_pool.proofs.onward.go_on_from.Goals as goal
+use Rattle.hart_replay.proofs.Fronts.{front_of}
+use Rattle.hart_replay.proofs.onward.go_on_from.Goals as goal
 
 pub returns-else-begin_legs : goal.returns-else-begin_legs
 returns-else-begin_legs c = (

@@ -1,6 +1,6 @@
 use Rattle.std.proofs.Common.{rules, sym, ◌∙◌, ◌≡◌, ◌≤◌, ◌++◌, ap, take, drop, length, refl}
 use Rattle.std.proofs.lemmas.List.{take_all, take-append-drop}
-use Rattle.replay_pool.proofs.onward.begin_legs.Goals as goal
+use Rattle.hart_replay.proofs.onward.begin_legs.Goals as goal
 
 pub returns : goal.returns
 returns c =

@@ -1,5 +1,5 @@
 use Rattle.std.proofs.Common.{◌≡◌, take}
-use Rattle.replay_pool.proofs.onward.begin_legs.Given as goal
+use Rattle.hart_replay.proofs.onward.begin_legs.Given as goal
 
 abbrev pub invariant-loop-i : goal.invariant-loop-i
 invariant-loop-i l = take l.i l.first ≡ take l.i l.second
