@@ -6,7 +6,7 @@ use Rattle.fragment_codec.specs.declared.frame.Frame.{Frame}
 use Rattle.fragment_codec.specs.declared.frame.Frame.TheVariants.{Log, Opening}
 use Rattle.log_join.specs.declared.answers.Put.TheVariants.{Same, Clash as Clashes, OtherGuest}
 use Rattle.log_join.specs.Cells.{Cell, Absent, One, Clash}
-use Rattle.log_join.specs.Tests.{same_guest, same_opening, same_fragment}
+use Rattle.frame_content.specs.Tests.{same_guest, same_opening, same_fragment}
 use Rattle.log_join.specs.Answers.{answer, answer_to}
 use Rattle.log_join.specs.Stores.{StoreView, IsStore, IsJoin, nothing, opening_at, fragment_at}
 use Rattle.log_join.proofs.Told.{guests_told, openings_told, fragments_told}

@@ -7,7 +7,7 @@ use Rattle.std.proofs.lemmas.List.Elements.{All-head, All-tail}
 use Rattle.ft_types.specs.Guests.{GuestParts}
 use Rattle.fragment_codec.specs.Rules.{OpeningParts}
 use Rattle.log_join.specs.Cells.{Cell, One, Absent, Clash, cell_of, join_cell}
-use Rattle.log_join.specs.Tests.{same_opening}
+use Rattle.frame_content.specs.Tests.{same_opening}
 use Rattle.log_join.specs.Stores.{StoreView, opening_at, IsJoin, nothing}
 use Rattle.go_live.specs.Quorums.{IsNew}
 use Rattle.go_live.specs.Joined.{AreJoinedTo, AreJoined}

@@ -3,7 +3,7 @@ use Rattle.std.proofs.Common.{◌≡◌, ◌≢◌, ℕ, ◌<◌, ◌≤◌, Boo
 use Rattle.std.specs.List.{Any}
 use Rattle.std.proofs.lemmas.List.{length-map, get_or-map}
 use Rattle.log_join.specs.Stores.{StoreView, IsLastTerm}
-use Rattle.log_join.specs.Tests.{same_guest}
+use Rattle.frame_content.specs.Tests.{same_guest}
 use Rattle.log_join.proofs.Told.{guests_told}
 use Rattle.ft_types.specs.Guests.{GuestParts}
 use Rattle.go_live.specs.Quorums.{HasTerm, IsNew, IsOld}

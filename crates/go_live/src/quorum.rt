@@ -3,7 +3,7 @@
 ghost use Rattle.std.specs.Prelude.{◌≡◌, ◌≢◌, ◌<◌, ◌≤◌, ◌-◌, ◌+◌, ◌↔◌, map, IsTrue, All};
 ghost use Rattle.std.specs.List.{Any};
 ghost use Rattle.go_live.specs.Quorums.{distinct, AreEnough, IsNew, IsOld};
-ghost use Rattle.log_join.specs.Tests.{same_guest};
+ghost use Rattle.frame_content.specs.Tests.{same_guest};
 
 use ft_types::{Guest, Keeper, KeeperSet, Term};
 use log_join::Store;

@@ -1,7 +1,7 @@
 //! Replay of a whole plan.
 
 ghost use Rattle.std.specs.Prelude.{◌≡◌, ◌≢◌, ◌↔◌, Err, IfOk, IfErr};
-ghost use Rattle.log_join.specs.Tests.{same_guest};
+ghost use Rattle.frame_content.specs.Tests.{same_guest};
 ghost use Rattle.guest_image.specs.Image.{guest_of};
 ghost use Rattle.hart_replay.specs.Plans.{IsPlan};
 ghost use Rattle.hart_replay.specs.Replays.{IsOutcome, IsAtLeg, IsCyclicAt, HaltsInsideAt, IfCyclic, IfHaltedInside, ReplaysHistory};

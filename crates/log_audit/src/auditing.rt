@@ -2,7 +2,7 @@
 
 ghost use Rattle.std.specs.Prelude.{◌≡◌, ◌≢◌, ◌↔◌, ℕ, Err, length, IfOk, IfErr};
 ghost use Rattle.ft_types.specs.Counts.{count_at};
-ghost use Rattle.log_join.specs.Tests.{same_guest};
+ghost use Rattle.frame_content.specs.Tests.{same_guest};
 ghost use Rattle.guest_image.specs.Image.{guest_of};
 ghost use Rattle.guest_image.specs.Machine.{MachineState, boot_machine};
 ghost use Rattle.hart_lease.specs.Runs.{counts_of};

@@ -15,7 +15,7 @@ use Rattle.fragment_codec.specs.declared.frame.Frame.{Frame}
 use Rattle.fragment_codec.specs.declared.frame.Frame.TheVariants.{Log, Opening}
 use Rattle.fragment_codec.specs.Rules.{FragmentParts, OpeningParts}
 use Rattle.log_join.specs.Cells.{Cell, Absent, One, Clash, join_cell, cell_of}
-use Rattle.log_join.specs.Tests.{same_opening, same_fragment}
+use Rattle.frame_content.specs.Tests.{same_opening, same_fragment}
 use Rattle.log_join.specs.Stores.{StoreView, key_cmp, opening_at, fragment_at, IsJoin, nothing, alone}
 use Rattle.log_join.specs.Laws.{CellsJoin, OrderMakesNoDifference, ComeGathers, OnlyGathered, GatheredIsStore}
 use Rattle.log_join.specs.Coming.{Come, Gathers, Nothing, Put, Join, SameFrames}

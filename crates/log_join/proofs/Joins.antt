@@ -10,7 +10,7 @@ use Rattle.std.proofs.lemmas.Cmp.{on_total, then_total}
 use Rattle.std.proofs.lemmas.Map.Lookups.{exact_pairs, exact_unsigned}
 use Rattle.fragment_codec.specs.declared.types.Key.{Key}
 use Rattle.log_join.specs.Cells.{Cell, Absent, One, Clash, join_cell, cell_of}
-use Rattle.log_join.specs.Tests.{same_opening, same_fragment}
+use Rattle.frame_content.specs.Tests.{same_opening, same_fragment}
 use Rattle.log_join.specs.Stores.{StoreView, key_cmp, opening_at, fragment_at, IsJoin}
 use Rattle.log_join.specs.Laws.{CellsJoin, OneJoin, Associates, Commutes, Idempotent, HasUnit}
 

@@ -16,11 +16,12 @@ use Rattle.std.proofs.lemmas.Map.Keys.{IsDistinct-from_sorted, sorted_head, sort
 use Rattle.std.proofs.lemmas.Map.Views.{list_any-from_Contains}
 use Rattle.std.proofs.lemmas.List.Recursion.{is_count_by}
 use Rattle.fragment_codec.specs.declared.frame.Frame.{Frame}
-use Rattle.log_join.specs.declared.content.Content.{Content}
-use Rattle.log_join.specs.declared.content.Content.TheVariants.{One as OneFrame, Clash as Clashed}
+use Rattle.frame_content.specs.declared.content.Content.{Content}
+use Rattle.frame_content.specs.declared.content.Content.TheVariants.{One as OneFrame, Clash as Clashed}
 use Rattle.log_join.specs.Cells.{One, cell_of}
 use Rattle.log_join.specs.Stores.{is_clash}
-use Rattle.log_join.specs.Contents.{clashes, content_of, shown, is_one, listed, FitsAt}
+use Rattle.log_join.specs.Contents.{content_of, shown, is_one, listed, FitsAt}
+use Rattle.frame_content.specs.Contents.{clashes}
 use Rattle.log_join.proofs.Shown.{cell, cell_shown}
 
 -- ---- rising

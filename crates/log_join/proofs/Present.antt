@@ -2,7 +2,7 @@
 use Rattle.std.proofs.Common.{refl}
 use Rattle.std.specs.Prelude.{◌≢◌, Option, Some, None, IsSome}
 use Rattle.fragment_codec.specs.declared.frame.Frame.{Frame}
-use Rattle.log_join.specs.declared.content.Content.{Content}
+use Rattle.frame_content.specs.declared.content.Content.{Content}
 use Rattle.log_join.specs.Cells.{Absent, cell_of}
 use Rattle.log_join.specs.Contents.{content_of}
 use Rattle.log_join.proofs.Shown.{cell}

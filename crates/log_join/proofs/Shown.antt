@@ -13,11 +13,12 @@ use Rattle.std.specs.BTreeMap.{BTreeMap, get}
 use Rattle.std.specs.FinMap as finite
 use Rattle.fragment_codec.specs.declared.frame.Frame.{Frame}
 use Rattle.log_join.specs.declared.answers.Put.TheVariants.{Same, Clash as Clashes}
-use Rattle.log_join.specs.declared.content.Content.{Content}
-use Rattle.log_join.specs.declared.content.Content.TheVariants.{One as OneFrame, Clash as Clashed}
+use Rattle.frame_content.specs.declared.content.Content.{Content}
+use Rattle.frame_content.specs.declared.content.Content.TheVariants.{One as OneFrame, Clash as Clashed}
 use Rattle.log_join.specs.Cells.{Cell, One, Clash, join_cell, cell_of}
 use Rattle.log_join.specs.Answers.{answer}
-use Rattle.log_join.specs.Contents.{same_frame, joined, met, taken, put_answer, content_of, shown, FitsAt}
+use Rattle.log_join.specs.Contents.{met, taken, put_answer, content_of, shown, FitsAt}
+use Rattle.frame_content.specs.Contents.{same_frame, joined}
 use Rattle.log_join.proofs.Maps.{tied_get}
 use Rattle.log_join.proofs.Joins.{join_absent}
 

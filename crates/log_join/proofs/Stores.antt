@@ -21,15 +21,16 @@ use Rattle.log_join.specs.declared.answers.Put.{Put}
 use Rattle.log_join.specs.declared.answers.Put.TheVariants.{Same, Clash as Clashes, OtherGuest}
 use Rattle.log_join.specs.declared.answers.Found.{Found}
 use Rattle.log_join.specs.declared.answers.Found.TheVariants.{Absent as FindsNone, One as FindsOne, Clash as FindsClash}
-use Rattle.log_join.specs.declared.content.Content.{Content}
-use Rattle.log_join.specs.declared.content.Content.TheVariants.{One as OneFrame, Clash as Clashed}
+use Rattle.frame_content.specs.declared.content.Content.{Content}
+use Rattle.frame_content.specs.declared.content.Content.TheVariants.{One as OneFrame, Clash as Clashed}
 use Rattle.log_join.specs.declared.place.Place.{Place}
 use Rattle.log_join.specs.declared.shelves.Shelves.{Shelves}
 use Rattle.log_join.specs.Cells.{Absent, join_cell, cell_of}
-use Rattle.log_join.specs.Tests.{same_guest, same_opening, same_fragment}
+use Rattle.frame_content.specs.Tests.{same_guest, same_opening, same_fragment}
 use Rattle.log_join.specs.Stores.{StoreView, key_cmp, opening_at, fragment_at, IsOpeningOf, IsFragmentOf, IsStore, IsJoin, IsLastTerm, nothing}
 use Rattle.log_join.specs.Answers.{answer, Puts, TellsOpening, TellsFragment}
-use Rattle.log_join.specs.Contents.{same_frame, taken, put_answer, shown, opening_part, fragment_part, key_of, place_of, place_cmp, TellsContent, FitsAt}
+use Rattle.log_join.specs.Contents.{taken, put_answer, shown, opening_part, fragment_part, key_of, place_of, place_cmp, TellsContent, FitsAt}
+use Rattle.frame_content.specs.Contents.{same_frame}
 use Rattle.log_join.specs.Contents.{Fits, view_of, IsKept, IsMet}
 use Rattle.log_join.proofs.Told.{guests_told, openings_told, fragments_told}
 use Rattle.log_join.proofs.Maps.{tied_get}

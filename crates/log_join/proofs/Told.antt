@@ -12,7 +12,7 @@ use Rattle.fragment_codec.specs.declared.types.Key.{Key}
 use Rattle.fragment_codec.specs.declared.types.Record.{Record}
 use Rattle.fragment_codec.specs.declared.types.Record.TheVariants.{Edge as EdgeRecord, Input as InputRecord}
 use Rattle.fragment_codec.specs.Rules.{FragmentParts, OpeningParts}
-use Rattle.log_join.specs.Tests.{same_guest, same_key, same_edge, same_record, same_opening, same_fragment}
+use Rattle.frame_content.specs.Tests.{same_guest, same_key, same_edge, same_record, same_opening, same_fragment}
 
 pub guests_told : (a b : GuestParts) → Decides (same_guest a b) (a ≡ b)
 guests_told a b =

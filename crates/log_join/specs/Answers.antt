@@ -9,7 +9,7 @@ use Rattle.log_join.specs.declared.answers.Put.TheVariants.{New, Same, Clash as 
 use Rattle.log_join.specs.declared.answers.Found.{Found}
 use Rattle.log_join.specs.declared.answers.Found.TheVariants.{Absent as FindsNone, One as FindsOne, Clash as FindsClash}
 use Rattle.log_join.specs.Cells.{Cell, Absent, One, Clash}
-use Rattle.log_join.specs.Tests.{same_guest, same_opening, same_fragment}
+use Rattle.frame_content.specs.Tests.{same_guest, same_opening, same_fragment}
 use Rattle.log_join.specs.Stores.{StoreView, opening_at, fragment_at, IsJoin, alone}
 
 -- the answer to a content that comes to a cell

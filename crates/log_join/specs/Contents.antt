@@ -15,33 +15,14 @@ use Rattle.log_join.specs.declared.answers.Put.{Put}
 use Rattle.log_join.specs.declared.answers.Put.TheVariants.{New, Same, Clash as Clashes}
 use Rattle.log_join.specs.declared.answers.Found.{Found}
 use Rattle.log_join.specs.declared.answers.Found.TheVariants.{Absent as FindsNone, One as FindsOne, Clash as FindsClash}
-use Rattle.log_join.specs.declared.content.Content.{Content}
-use Rattle.log_join.specs.declared.content.Content.TheVariants.{One, Clash}
+use Rattle.frame_content.specs.declared.content.Content.{Content}
+use Rattle.frame_content.specs.declared.content.Content.TheVariants.{One, Clash}
 use Rattle.log_join.specs.declared.place.Place.{Place}
 use Rattle.log_join.specs.declared.shelves.Shelves.{Shelves}
-use Rattle.log_join.specs.Tests.{same_opening, same_fragment}
+use Rattle.frame_content.specs.Contents.{holds, joined}
 use Rattle.log_join.specs.Stores.{StoreView, key_cmp, IsOpeningOf, IsFragmentOf}
 
-abbrev pub same_frame : Frame → Frame → Bool
-same_frame (Log a) (Log b) = same_fragment a b
-same_frame (Opening a) (Opening b) = same_opening a b
-same_frame a b = false
-
--- the content is this frame alone
-abbrev pub holds : Content → Frame → Bool
-holds (One x) y = same_frame x y
-holds Clash y = false
-
-abbrev pub clashes : Content → Bool
-clashes (One x) = false
-clashes Clash = true
-
 -- ---- joins
-
--- two contents of one key, joined
-abbrev pub joined : Content → Content → Content
-joined (One x) (One y) = if same_frame x y then One x else Clash
-joined a b = Clash
 
 -- what is here, joined with what is there where both are there
 abbrev pub marked : Option Content → Option Content → Option Content

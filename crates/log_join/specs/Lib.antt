@@ -1,5 +1,4 @@
 pub mod Cells
-pub mod Tests
 pub mod Codes
 pub mod Stores
 pub mod Coming

@@ -1,7 +1,7 @@
 //! What holds of all joins.
 
 ghost use Rattle.fragment_codec.specs.Rules.{FragmentParts, OpeningParts};
-ghost use Rattle.log_join.specs.Tests.{same_opening, same_fragment};
+ghost use Rattle.frame_content.specs.Tests.{same_opening, same_fragment};
 ghost use Rattle.log_join.specs.Stores.{StoreView};
 ghost use Rattle.log_join.specs.Laws.{Tells, CellsJoin, OneJoin, Associates, Commutes, Idempotent, HasUnit, OrderMakesNoDifference, ComeGathers, OnlyGathered};
 ghost use Rattle.log_join.specs.Laws.{GatheredIsStore};

@@ -3,7 +3,6 @@
 #![tactic(auto)]
 
 mod answers;
-mod content;
 mod laws;
 mod place;
 mod shelf;

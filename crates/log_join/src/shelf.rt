@@ -3,11 +3,12 @@
 ghost use Rattle.std.specs.Prelude.{◌≡◌, ◌&&◌, ◌<◌, ◌^◌, false, if◌then◌else◌, not, is_some, None, Some, IfOk, OnOk, OnErr, count_by};
 ghost use Rattle.std.specs.Ordering.{eq_by_cmp};
 ghost use Rattle.std.specs.BTreeMap.{get, values, IsOrdered};
-ghost use Rattle.log_join.specs.Contents.{marked, copied, taken, put_answer, is_among, clashes};
+ghost use Rattle.log_join.specs.Contents.{marked, copied, taken, put_answer, is_among};
+ghost use Rattle.frame_content.specs.Contents.{clashes};
 
 use crate::answers::Put;
-use crate::content::Content;
 use fragment_codec::Frame;
+use frame_content::Content;
 use ft_types::Memory;
 use std::alloc::Global;
 use std::collections::BTreeMap;

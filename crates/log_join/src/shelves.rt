@@ -6,10 +6,10 @@ ghost use Rattle.std.specs.BTreeMap.{get, IsOrdered};
 ghost use Rattle.log_join.specs.declared.place.Place.{Place as place_of_specs};
 ghost use Rattle.log_join.specs.Contents.{is_among, listed, key_of, fragment_part, FitsAt, place_cmp, AreFree, AreCopied, IsKept, IsMet};
 
-use crate::content::Content;
 use crate::place::Place;
 use crate::shelf::{copy_at, mark_clashes, missing_keys, remove_at};
 use fragment_codec::{Frame, Key};
+use frame_content::Content;
 use ft_types::{Memory, Term};
 use std::alloc::Global;
 use std::collections::BTreeMap;

@@ -8,11 +8,11 @@ ghost use Rattle.log_join.specs.Contents.{TellsContent};
 ghost use Rattle.log_join.specs.Answers.{answer_to, Puts, TellsOpening, TellsFragment};
 
 use crate::answers::{Found, Put, StoreFault};
-use crate::content::{Content, is_same_guest};
 use crate::place::Place;
 use crate::shelf::{count_clashes, put_at};
 use crate::shelves::Shelves;
 use fragment_codec::{Fragment, Frame, Key, Opening};
+use frame_content::{Content, is_same_guest};
 use ft_types::{Guest, Memory, Term};
 use std::alloc::Global;
 use std::marker::Model;

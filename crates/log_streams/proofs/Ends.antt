@@ -26,7 +26,7 @@ use Rattle.fragment_codec.specs.Rules.{FragmentParts, OpeningParts}
 use Rattle.fragment_codec.specs.Facts.{edge_in, Facts, is_between}
 use Rattle.log_pieces.specs.Pieces.{HartLog, Mark, IsPiece, ArePieces, IsHartCut, mark_behind, mark_of, book_log}
 use Rattle.log_join.specs.Cells.{Cell, Absent, One, join_cell, cell_of}
-use Rattle.log_join.specs.Tests.{same_opening, same_fragment}
+use Rattle.frame_content.specs.Tests.{same_opening, same_fragment}
 use Rattle.log_join.specs.Laws.{CellsJoin}
 use Rattle.log_join.proofs.Cells.{cells_join}
 use Rattle.log_join.proofs.Told.{openings_told, fragments_told}

@@ -8,7 +8,7 @@ use Rattle.log_join.specs.declared.answers.Put.{Put}
 use Rattle.log_join.specs.declared.answers.Put.TheVariants.{Same, Clash as Clashes, OtherGuest}
 use Rattle.log_join.specs.Stores.{StoreView, opening_at, fragment_at}
 use Rattle.log_join.specs.Answers.{answer, answer_to}
-use Rattle.log_join.specs.Tests.{same_guest, same_opening, same_fragment}
+use Rattle.frame_content.specs.Tests.{same_guest, same_opening, same_fragment}
 use Rattle.log_join.proofs.Told.{guests_told}
 use Rattle.log_streams.specs.Streams.{IsOf}
 

@@ -13,7 +13,7 @@ use Rattle.ft_types.specs.declared.errors.Memory.{Memory}
 use Rattle.log_join.specs.declared.answers.Put.{Put}
 use Rattle.log_join.specs.declared.answers.Put.TheVariants.{Clash as Clashes, OtherGuest}
 use Rattle.log_join.specs.Cells.{Cell, Absent, One, Clash, join_cell, cell_of}
-use Rattle.log_join.specs.Tests.{same_guest, same_opening, same_fragment}
+use Rattle.frame_content.specs.Tests.{same_guest, same_opening, same_fragment}
 use Rattle.log_join.specs.Stores.{StoreView, opening_at, fragment_at, IsJoin, alone}
 use Rattle.log_join.specs.Answers.{answer, answer_to}
 use Rattle.log_join.proofs.Joins.{keys_total, keys_exact, join_absent, one_store}

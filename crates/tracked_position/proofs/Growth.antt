@@ -16,7 +16,7 @@ use Rattle.fragment_codec.specs.Rules.{FragmentParts}
 use Rattle.fragment_codec.specs.Facts.{edge_in}
 use Rattle.log_join.specs.declared.answers.Put.TheVariants.{New, Same, Clash as Clashes, OtherGuest}
 use Rattle.log_join.specs.Cells.{Cell, Absent, One, Clash, join_cell, cell_of}
-use Rattle.log_join.specs.Tests.{same_guest, same_opening, same_fragment}
+use Rattle.frame_content.specs.Tests.{same_guest, same_opening, same_fragment}
 use Rattle.log_join.specs.Stores.{StoreView, opening_at, fragment_at, IsStore, IsJoin, alone}
 use Rattle.log_join.specs.Answers.{answer, answer_to}
 use Rattle.log_join.proofs.Joins.{keys_total, keys_exact, join_absent}

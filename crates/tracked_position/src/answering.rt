@@ -1,7 +1,7 @@
 //! What a store will answer to a frame, told before it comes.
 
 ghost use Rattle.std.specs.Prelude.{◌≡◌, ◌↔◌, IsTrue};
-ghost use Rattle.log_join.specs.Tests.{same_guest, same_opening, same_fragment};
+ghost use Rattle.frame_content.specs.Tests.{same_guest, same_opening, same_fragment};
 ghost use Rattle.log_join.specs.Answers.{answer_to};
 ghost use Rattle.fragment_codec.specs.declared.frame.Frame.{Frame as frame_of_specs};
 ghost use Rattle.tracked_position.specs.Keeping.{IsClashAt};

@@ -3,7 +3,7 @@ use Rattle.std.specs.Prelude.{Some}
 use Rattle.std.specs.List.{AllByRecursion}
 use Rattle.std.specs.BTreeMap.{get}
 use Rattle.std.proofs.lemmas.List.Elements.{recursion_from_All}
-use Rattle.log_join.specs.declared.content.Content.{Content}
+use Rattle.frame_content.specs.declared.content.Content.{Content}
 use Rattle.log_join.specs.declared.place.Place.{Place}
 use Rattle.log_join.specs.Contents.{listed, key_of, fragment_part, place_cmp, FitsAt}
 use Rattle.log_join.proofs.Shown.{entries_fit}

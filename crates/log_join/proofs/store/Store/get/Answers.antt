@@ -2,7 +2,7 @@ use Rattle.std.proofs.Common.{◌∙◌, sym, ap, subst}
 use Rattle.std.specs.Prelude.{Option}
 use Rattle.std.specs.BTreeMap.{get}
 use Rattle.fragment_codec.specs.Rules.{FragmentParts}
-use Rattle.log_join.specs.declared.content.Content.{Content}
+use Rattle.frame_content.specs.declared.content.Content.{Content}
 use Rattle.log_join.specs.Cells.{Cell}
 use Rattle.log_join.specs.Stores.{IsStore, IsFragmentOf, fragment_at}
 use Rattle.log_join.specs.Answers.{TellsFragment}

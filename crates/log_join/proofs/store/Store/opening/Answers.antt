@@ -4,7 +4,7 @@ use Rattle.std.specs.Ordering.{nat_cmp}
 use Rattle.std.specs.Cmp.{nat_cmp_total}
 use Rattle.std.specs.BTreeMap.{get}
 use Rattle.fragment_codec.specs.Rules.{OpeningParts}
-use Rattle.log_join.specs.declared.content.Content.{Content}
+use Rattle.frame_content.specs.declared.content.Content.{Content}
 use Rattle.log_join.specs.Cells.{Cell}
 use Rattle.log_join.specs.Stores.{IsStore, IsOpeningOf, opening_at}
 use Rattle.log_join.specs.Answers.{TellsOpening}

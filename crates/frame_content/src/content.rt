@@ -1,8 +1,8 @@
-//! What a store has at a key at which something came.
+//! What there is at a key at which something came.
 
 ghost use Rattle.std.specs.Prelude.{◌≡◌, IfOk};
-ghost use Rattle.log_join.specs.Tests.{same_guest, same_opening, same_fragment};
-ghost use Rattle.log_join.specs.Contents.{same_frame, holds, clashes, joined};
+ghost use Rattle.frame_content.specs.Tests.{same_guest, same_opening, same_fragment};
+ghost use Rattle.frame_content.specs.Contents.{same_frame, holds, clashes, joined};
 
 use fragment_codec::{Fragment, Frame, Opening};
 use ft_types::{Guest, Memory};
@@ -10,12 +10,12 @@ use std::alloc::Global;
 
 /// One frame, or unequal ones.
 #[derive(Drop)]
-pub(crate) enum Content {
+pub enum Content {
     One(Frame),
     Clash,
 }
 
-pub(crate) fn is_same_guest(guest: &Guest, other: &Guest) -> bool
+pub fn is_same_guest(guest: &Guest, other: &Guest) -> bool
     ensures { result ≡ same_guest guest.now other.now }
 {
     guest == other
@@ -52,7 +52,7 @@ fn is_same(frame: &Frame, other: &Frame) -> bool
 
 impl Content {
     /// Whether it is this frame alone.
-    pub(crate) fn is(&self, frame: &Frame) -> bool
+    pub fn is(&self, frame: &Frame) -> bool
         ensures { result ≡ holds self.now frame.now }
     {
         match self {
@@ -61,14 +61,14 @@ impl Content {
         }
     }
 
-    pub(crate) fn is_clash(&self) -> bool
+    pub fn is_clash(&self) -> bool
         ensures { result ≡ clashes self.now }
     {
         matches!(self, Content::Clash)
     }
 
     /// An equal content.
-    pub(crate) fn copy(&self, alloc: Global) -> Result<Content, Memory>
+    pub fn copy(&self, alloc: Global) -> Result<Content, Memory>
         ensures { IfOk result (λ c. c ≡ self.now) }
     {
         match self {
@@ -78,7 +78,7 @@ impl Content {
     }
 
     /// Joins another content of the same key.
-    pub(crate) fn join(&mut self, other: &Content)
+    pub fn join(&mut self, other: &Content)
         ensures { self.new ≡ joined self.old other.now }
     {
         let stays = match other {

@@ -1,0 +1,6 @@
+//! When two frames are equal, and what there is at a key at which several came: one frame, or a clash.
+#![tactic(auto)]
+
+mod content;
+
+pub use content::{Content, is_same_guest};
