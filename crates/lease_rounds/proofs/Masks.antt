@@ -243,7 +243,7 @@ module _ (page bit : ℕ) (below : page < 256) (one : IsBitOf (page % 64) bit) w
   pub one_words : AreWords its_words
   one_words = (
     length-set (replicate 4 0) (page / 64) bit,
-    fits_set (replicate 4 0) (page / 64) bit (omega arith, omega arith, omega arith, omega arith, tt) (subst (λ (n : ℕ). n < 2 ^ 64) (sym one.is) (pow-lt {j = 64} one.within)),
+    fits_set (replicate 4 0) (page / 64) bit (omega arith, (omega arith, (omega arith, (omega arith, tt)))) (subst (λ (n : ℕ). n < 2 ^ 64) (sym one.is) (pow-lt {j = 64} one.within)),
   )
 
   pub one_has : (i : ℕ) → Member its_words i ↔ (i ≡ page)

@@ -107,10 +107,9 @@ impl PageMask {
     pub fn written(self) -> PageMask
         ensures { (page : ℕ) (right : WantName) → HasFor result right page ↔ ((right ≡ Write) × HasFor self Write page) }
     {
-        PageMask {
-            reads: no_page(),
-            writes: self.writes,
-        }
+        let reads = no_page();
+        let writes = self.writes;
+        PageMask { reads, writes }
     }
 
     /// Whether both have a page, whatever for.

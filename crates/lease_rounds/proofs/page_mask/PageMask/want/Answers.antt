@@ -16,7 +16,7 @@ pub returns-then-has_page-2 : goal.returns-then-has_page-2
 returns-then-has_page-2 c =
     let unwritten : HasFor c.args.self Write c.args.page → ⊥ =
     rw (← c.self.view_is) (λ is. true≢false (sym (c.has_page.ensures.1 is) ∙ c.if-has_page.false)) in
-    let reads : HasFor c.args.self Read c.args.page = rw (← c.self.view_is) (c.has_page-2.ensures.0 c.if-has_page-2.true) in
+    let reads : HasFor c.args.self Read c.args.page = rw (← c.self.view_is) (c.has_page-else-has_page.ensures.0 c.if-has_page-2.true) in
     record {
       write = (λ e. cc, λ is. absurd (unwritten is));
       read = (λ _. (reads, unwritten), λ _. refl);
@@ -28,7 +28,7 @@ returns-else-has_page-2 c =
     let unwritten : HasFor c.args.self Write c.args.page → ⊥ =
     rw (← c.self.view_is) (λ is. true≢false (sym (c.has_page.ensures.1 is) ∙ c.if-has_page.false)) in
     let unread : HasFor c.args.self Read c.args.page → ⊥ =
-    rw (← c.self.view_is) (λ is. true≢false (sym (c.has_page-2.ensures.1 is) ∙ c.if-has_page-2.false)) in
+    rw (← c.self.view_is) (λ is. true≢false (sym (c.has_page-else-has_page.ensures.1 is) ∙ c.if-has_page-2.false)) in
     record {
       write = (λ e. cc, λ is. absurd (unwritten is));
       read = (λ e. cc, λ h. absurd (unread h.0));
