@@ -56,6 +56,8 @@ fn replay_to(
     let _rules = store.guest();
     let position = position(alloc, store)?;
     let plan = plan(alloc, store, &position)?;
+    // proof: a plan keeps its rules by type.
+    let _planned = plan.legs();
     let machine = replay_plain(alloc, image, &plan)?;
     Ok((position, machine))
 }

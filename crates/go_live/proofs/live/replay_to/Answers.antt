@@ -1,6 +1,6 @@
 use Rattle.std.proofs.Common.{subst, ap, ◌∙◌}
 use Rattle.ft_types.specs.Guests.{GuestParts}
-use Rattle.hart_replay.specs.Plans.{PlanView, IsPlan}
+use Rattle.hart_replay.specs.Plans.{IsPlan}
 use Rattle.hart_replay.specs.Laws.{ArePlanned}
 use Rattle.go_live.proofs.Places.{has_counts, has_harts}
 use Rattle.go_live.proofs.live.replay_to.Goals as goal
@@ -21,7 +21,7 @@ returns-clause-replayed c =
           c.guest-rules.ensures.rules c.in_ok-position.ensures.position
           planned
           (subst (λ (guest : GuestParts). IsPlan guest c.in_ok-plan.plan.legs) (plan.guest ∙ c.requires)
-          (subst (λ (p : PlanView). IsPlan p.guest p.legs) c.plan-2.view_is c.plan-2.invariant))
+          c.legs-planned.ensures.rules)
           c.in_ok-machine.ensures.outcome;
     }
 

@@ -6,8 +6,8 @@ use Rattle.guest_image.specs.Machine.{MachineState}
 use Rattle.log_audit.proofs.Wholes.{in_place}
 use Rattle.log_audit.proofs.harts.Harts.begin.Goals as goal
 
-pub invariant_of-result-3 : goal.invariant_of-result-3
-invariant_of-result-3 c =
+pub invariant_of-result-2 : goal.invariant_of-result-2
+invariant_of-result-2 c =
     let view = c.start.view_is in
     let many = ap (λ (m : MachineState). length m.harts) view in
     let pages = ap (λ (m : MachineState). length m.pages) view in
