@@ -72,7 +72,9 @@ struct Past {
 #[derive(Drop)]
 struct World {
     image: Image,
-    stores: [Store; 3],
+    first: Store,
+    second: Store,
+    third: Store,
     pasts: Vec<Past>,
     dice: Dice,
     tally: Tally,
@@ -82,6 +84,19 @@ struct World {
 fn deliver(alloc: Global, store: &mut Store, frame: &Frame) -> Result<(), Memory> {
     let _put = store.put(frame.copy(alloc)?)?;
     Ok(())
+}
+
+/// It does, or is lost on the way.
+fn scatter_to(
+    dice: &mut Dice,
+    alloc: Global,
+    store: &mut Store,
+    frame: &Frame,
+) -> Result<(), Memory> {
+    if dice.roll() % 3 == 0 {
+        return Ok(());
+    }
+    deliver(alloc, store, frame)
 }
 
 /// The primary of the term from the stores of two of three keepers.
@@ -128,11 +143,9 @@ impl World {
         let guest = image.guest();
         Ok(World {
             image,
-            stores: [
-                Store::new(alloc, guest),
-                Store::new(alloc, guest),
-                Store::new(alloc, guest),
-            ],
+            first: Store::new(alloc, guest),
+            second: Store::new(alloc, guest),
+            third: Store::new(alloc, guest),
             pasts: Vec::new(alloc),
             dice: Dice::new(seed),
             tally: Tally::default(),
@@ -148,12 +161,9 @@ impl World {
 
     /// The frame comes to each keeper, or is lost on the way to it.
     fn scatter(&mut self, alloc: Global, frame: &Frame) -> Result<(), Memory> {
-        for store in self.stores.iter_mut() {
-            if self.dice.roll() % 3 != 0 {
-                deliver(alloc, store, frame)?;
-            }
-        }
-        Ok(())
+        scatter_to(&mut self.dice, alloc, &mut self.first, frame)?;
+        scatter_to(&mut self.dice, alloc, &mut self.second, frame)?;
+        scatter_to(&mut self.dice, alloc, &mut self.third, frame)
     }
 
     fn scatter_all(&mut self, alloc: Global, frames: &[Frame]) -> Result<(), Memory> {
@@ -226,7 +236,7 @@ impl World {
     /// The next primary goes live from the stores of two of the three keepers.
     fn live(&self, alloc: Global, lost: u8) -> Result<Live, Memory> {
         let term = self.next_term();
-        let [first, second, third] = &self.stores;
+        let (first, second, third) = (&self.first, &self.second, &self.third);
         let stores = match lost {
             0 => [(Keeper::new(1), second), (Keeper::new(2), third)],
             1 => [(Keeper::new(2), third), (Keeper::new(0), first)],
