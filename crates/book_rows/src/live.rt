@@ -1,7 +1,9 @@
-//! Going live from stores that were worked out by hand.
+//! Going live from stores that were worked out by hand, and from the same as keepers gave them to the term.
 
 use crate::guests::BOTH_COUNT_ALOUD;
 use crate::rows::Edge;
+use fenced_keeper::Given;
+use fenced_live::{GivenFault, go_live_given};
 use fixtures::{HALTS, TWO_LOOPS, edge, hart, image_of, key, opening_of, piece_of};
 use fragment_codec::{Frame, Record};
 use ft_types::{Count, Counts, Guest, Keeper, Memory, Term};
@@ -326,14 +328,71 @@ fn is_so(
     Some(fault_of(comes) == Some(fault))
 }
 
+/// The stores, as their keepers gave them to a term.
+fn given_to<'k>(
+    alloc: Global,
+    stores: &[(Keeper, &'k Store)],
+    term: Term,
+) -> Result<Vec<Given<'k>>, Memory> {
+    let mut given = Vec::new(alloc);
+    for (keeper, store) in stores {
+        given.push(Given {
+            keeper: *keeper,
+            term,
+            store: *store,
+        })?;
+    }
+    Ok(given)
+}
+
+/// Whether the same comes of going live from given stores, and whether one of them was given to another term. Where memory was
+/// refused, none.
+fn is_so_given(
+    alloc: Global,
+    image: &Image,
+    given: &[Given<'_>],
+    [keepers, need]: [u8; 2],
+    (term, comes): (Term, Comes),
+) -> Option<(bool, bool)> {
+    if need == 0 || need > keepers || keepers > 5 {
+        return None;
+    }
+    match go_live_given(alloc, image, given, keepers, need, term) {
+        Ok(live) => Some((lives_so(&live, term, comes), false)),
+        Err(GivenFault::Live(LiveFault::Memory)) => None,
+        Err(GivenFault::Live(fault)) => Some((fault_of(comes) == Some(fault), false)),
+        Err(GivenFault::OtherTerm) => Some((false, true)),
+    }
+}
+
+/// Whether a row is as it says of these stores once they were given to its term, and refused once one of them was given to the next.
+fn holds_given(
+    alloc: Global,
+    image: &Image,
+    stores: &[(Keeper, &Store)],
+    quorum: [u8; 2],
+    (term, comes): (Term, Comes),
+) -> Option<bool> {
+    let mut given = given_to(alloc, stores, term).ok()?;
+    let (so, _) = is_so_given(alloc, image, given.as_slice(), quorum, (term, comes))?;
+    given.first_mut()?.term = term.saturating_add(1);
+    let (_, refused) = is_so_given(alloc, image, given.as_slice(), quorum, (term, comes))?;
+    Some(so && refused)
+}
+
 /// Whether a row is as it says of these stores, of which so many are asked, once more where memory was refused.
 fn holds_of(alloc: Global, image: &Image, stores: &[(Keeper, &Store)], row: &Row) -> Option<bool> {
     let (_, _, quorum, term, _, asked, comes) = *row;
     let stores = stores.get(..asked)?;
-    match is_so(alloc, image, stores, quorum, (term, comes)) {
+    let so = match is_so(alloc, image, stores, quorum, (term, comes)) {
         None => is_so(alloc, image, stores, quorum, (term, comes)),
         so => so,
-    }
+    };
+    let given = match holds_given(alloc, image, stores, quorum, (term, comes)) {
+        None => holds_given(alloc, image, stores, quorum, (term, comes)),
+        so => so,
+    };
+    Some(so? && given?)
 }
 
 /// Whether it is of these two stores.

@@ -1,0 +1,6 @@
+use Rattle.std.proofs.Common.{◌≡◌, take}
+use Rattle.std.specs.Prelude.{All}
+use Rattle.fenced_live.proofs.given.are_to.Given as goal
+
+abbrev pub invariant-loop-one : goal.invariant-loop-one
+invariant-loop-one l = All (λ g. g.term ≡ l.term) (take l.one-index l.given)
