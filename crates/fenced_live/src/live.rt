@@ -86,9 +86,7 @@ pub fn go_live_given(
     }
     let guest = image.guest();
     if !are_of(given, &guest) {
-        return Err(GivenFault::Live(LiveFault::Replay(
-            ReplayFault::OtherGuest,
-        )));
+        return Err(GivenFault::Live(LiveFault::Replay(ReplayFault::OtherGuest)));
     }
     let Ok(stores) = stores_of(alloc, given) else {
         return Err(GivenFault::Live(LiveFault::Memory));

@@ -16,8 +16,7 @@ loop-one-preserved c =
     let store =
     take_more (map (λ g. g.store.now) given) i item.store.now (rw length-map within)
     ∙ ap (λ (s : StoreView). take i (map (λ g. g.store.now) given) ++ s ∷ [])
-    (get_or-map (λ g. g.store.now) given i item item.store.now within ∙ ap (λ g. g.store.now) (sym c.one-item.is)) in
-    (
+    (get_or-map (λ g. g.store.now) given i item item.store.now within ∙ ap (λ g. g.store.now) (sym c.one-item.is)) in (
       ap (λ xs. map (λ s. s.0) xs) c.push_reserved.ensures.items
           ∙ map-append (λ s. s.0) c.loop-one.stores.items ((item.keeper, item.store) ∷ [])
           ∙ ap (λ (ns : List ℕ). ns ++ item.keeper ∷ []) c.loop-one.invariant.0

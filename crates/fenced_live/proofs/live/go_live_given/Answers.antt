@@ -55,8 +55,7 @@ pub returns-in_err-live-clause-not_new : goal.returns-in_err-live-clause-not_new
 returns-in_err-live-clause-not_new c =
     let are : map (λ s. s.1.now) c.as_slice.result.now ≡ map (λ g. g.store.now) c.args.given.now =
     ap (λ xs. map (λ s. s.1.now) xs) c.as_slice.ensures.value ∙ c.in-Ok.ensures.stores in
-    let e = err_from_is_err_and c.from_residual.result c.from_residual.ensures.1 in
-    (
+    let e = err_from_is_err_and c.from_residual.result c.from_residual.ensures.1 in (
       λ told.
           absurd (not_both (map (λ g. g.store.now) c.args.given.now) c.args.term (c.if-not-is_new.ensures.new refl)
           (subst (λ (xs : List StoreView). IsOld xs c.args.term) are
