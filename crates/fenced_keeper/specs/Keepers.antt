@@ -1,5 +1,5 @@
 -- What a keeper has, and what it may acknowledge.
-use Rattle.std.specs.Prelude.{ℕ, ◌≡◌, ◌<◌, ◌≤◌, Option, None, IfSome}
+use Rattle.std.specs.Prelude.{ℕ, ◌≡◌, ◌<◌, ◌≤◌, length, Option, None, IfSome}
 use Rattle.log_join.specs.Stores.{StoreView}
 use Rattle.closed_cut.specs.Position.{IsPosition}
 use Rattle.ft_types.specs.declared.position.Position.{Position}
@@ -13,9 +13,10 @@ pub record KeeperView (Place : Type 0) : Type 0 where
   pub fence : ℕ  -- the greatest term to which the store was given
   pub place : Place  -- what outlives the keeper
 
--- what is known of the store that is written down is its position, and no fence that is written down is below the keeper's
+-- what is known of the store that is written down is its position, with a count for each hart, and no fence that is written down is below the keeper's
 pub record IsSound (written : StoreView) (written_fence : ℕ) (saved : Option Position) (fence : ℕ) : Type 0 where
   pub position : IfSome saved (λ p. IsPosition written p)
+  pub harts : IfSome saved (λ p. length p.counts ≡ written.guest.harts)
   pub below : fence ≤ written_fence
 
 -- the position of what is written down, of no term below the fence

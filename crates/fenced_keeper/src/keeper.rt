@@ -1,6 +1,8 @@
 //! The keeper.
 
-ghost use Rattle.std.specs.Prelude.{◌≡◌, ◌≢◌, ◌<◌, ◌≤◌, ◌⊎◌, ◌↔◌, false, true, Ok, Err, IfOk, IfErr, IsSome, OnOk, OnErr};
+ghost use Rattle.std.specs.Prelude.{◌≡◌, ◌≢◌, ◌<◌, ◌≤◌, ◌⊎◌, ◌↔◌, false, true, Ok, Err, IfOk, IfErr, IsSome, OnOk, OnErr, MatchResult};
+ghost use Rattle.std.specs.Prelude.{length};
+ghost use Rattle.ft_types.specs.Devices.{IsOneMore};
 ghost use Rattle.log_join.specs.Stores.{IsJoin, alone};
 ghost use Rattle.log_join.specs.Answers.{answer_to};
 ghost use Rattle.tracked_position.specs.Keeping.{MayGrow};
@@ -121,6 +123,8 @@ impl<P: Place> FencedKeeper<P> {
         ensures store { (self.new.number ≡ self.old.number) × (self.new.store ≡ self.old.store) }
         ensures fence { (self.new.fence ≡ self.old.fence) × (P.fence self.new.place ≡ P.fence self.old.place) }
         ensures known { OnOk result (IsSome self.new.saved) }
+        // It is refused exactly where the place fails or lacks memory.
+        ensures told { MatchResult result (λ _. P.failures self.new.place ≡ P.failures self.old.place) (λ _. IsOneMore (P.failures self.old.place) (P.failures self.new.place)) }
     {
         self.saved = None;
         self.place.write_store(alloc, self.held.store())?;
@@ -134,6 +138,10 @@ impl<P: Place> FencedKeeper<P> {
         ensures fenced { (result ≡ Err RaiseFault.Fenced) ↔ (term < self.old.fence) }
         ensures err { OnErr result (self.new.fence ≡ self.old.fence) }
         ensures written { OnErr result ((P.fence self.new.place ≡ P.fence self.old.place) ⊎ (P.fence self.new.place ≡ term)) }
+        ensures refused { result ≡ Err RaiseFault.Fenced → self.new ≡ self.old }
+        // Else it is refused exactly where the place fails or lacks memory.
+        ensures told { MatchResult result (λ _. P.failures self.new.place ≡ P.failures self.old.place)
+            (λ fault. fault ≢ RaiseFault.Fenced → IsOneMore (P.failures self.old.place) (P.failures self.new.place)) }
         ensures store { (self.new.number ≡ self.old.number) × (self.new.store ≡ self.old.store) × (P.store self.new.place ≡ P.store self.old.place) }
         ensures saved { self.new.saved ≡ self.old.saved }
     {
@@ -163,6 +171,7 @@ impl<P: Place> FencedKeeper<P> {
     /// The position that the keeper may acknowledge: that of the store that is written down, unless its term is below the fence.
     pub fn acknowledged(&self) -> Result<&Position, KeepFault>
         ensures ok { IfOk result (λ p. Acknowledges (P.store self.now.place) self.now.fence p.now) }
+        ensures harts { IfOk result (λ p. length p.now.counts ≡ (P.store self.now.place).guest.harts) }
         ensures refused { IfErr result (λ fault. IsRefused (P.store self.now.place) self.now.fence self.now.saved fault) }
     {
         let Some(position) = &self.saved else {

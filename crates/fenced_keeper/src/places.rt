@@ -1,6 +1,7 @@
 //! Where a keeper writes down what it comes back with.
 
-ghost use Rattle.std.specs.Prelude.{◌≡◌, ◌⊎◌, ℕ, IfOk, OnOk, OnErr};
+ghost use Rattle.std.specs.Prelude.{◌≡◌, ◌⊎◌, ℕ, IfOk, OnOk, OnErr, MatchResult};
+ghost use Rattle.ft_types.specs.Devices.{IsOneMore};
 ghost use Rattle.log_join.specs.Stores.{StoreView};
 
 use crate::faults::PlaceFault;
@@ -19,16 +20,21 @@ pub trait Place: Drop {
     // The fence that is there.
     ghost fence: { Self → ℕ };
 
+    // How often it failed or lacked memory, going round at 2 ^ 64.
+    ghost failures: { Self → ℕ };
+
     /// Writes a store down, in place of what was there.
     fn write_store(&mut self, alloc: Global, written: &Store) -> Result<(), PlaceFault>
         ensures ok { OnOk result (store self.new ≡ written.now) }
         ensures failed { OnErr result ((store self.new ≡ store self.old) ⊎ (store self.new ≡ written.now)) }
+        ensures told { MatchResult result (λ _. failures self.new ≡ failures self.old) (λ _. IsOneMore (failures self.old) (failures self.new)) }
         ensures fence { fence self.new ≡ fence self.old };
 
     /// Writes a fence down, in place of what was there.
     fn write_fence(&mut self, term: Term) -> Result<(), PlaceFault>
         ensures ok { OnOk result (fence self.new ≡ term) }
         ensures failed { OnErr result ((fence self.new ≡ fence self.old) ⊎ (fence self.new ≡ term)) }
+        ensures told { MatchResult result (λ _. failures self.new ≡ failures self.old) (λ _. IsOneMore (failures self.old) (failures self.new)) }
         ensures store { store self.new ≡ store self.old };
 
     /// Reads the store and the fence.

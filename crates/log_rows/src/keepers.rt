@@ -1,6 +1,7 @@
 //! A keeper that fences terms off: what it acknowledges, what it comes back with, and what it gives.
 
-ghost use Rattle.std.specs.Prelude.{◌≡◌, ◌⊎◌, IfOk, OnOk, OnErr};
+ghost use Rattle.std.specs.Prelude.{◌≡◌, ◌⊎◌, IfOk, OnOk, OnErr, MatchResult};
+ghost use Rattle.ft_types.specs.Devices.{IsOneMore};
 
 use crate::come::{Come, frame_of, guest_of};
 use fenced_keeper::{FencedKeeper, KeepFault, Place, PlaceFault, RaiseFault, keepers_follow};
@@ -18,6 +19,7 @@ struct Drawer {
     fence: Term,
     writes: u32,
     failing: u32,
+    failures: u64,
 }
 
 impl Drawer {
@@ -28,6 +30,7 @@ impl Drawer {
             fence: 1,
             writes: 0,
             failing,
+            failures: 0,
         }
     }
 
@@ -35,9 +38,19 @@ impl Drawer {
     fn fails(&mut self) -> bool
         ensures store { self.new.store ≡ self.old.store }
         ensures fence { self.new.fence ≡ self.old.fence }
+        ensures failures { self.new.failures ≡ self.old.failures }
     {
         self.writes = self.writes.saturating_add(1);
         self.writes == self.failing
+    }
+
+    /// Writes down that it failed.
+    fn fail(&mut self)
+        ensures store { self.new.store ≡ self.old.store }
+        ensures fence { self.new.fence ≡ self.old.fence }
+        ensures failures { IsOneMore self.old.failures self.new.failures }
+    {
+        self.failures = self.failures.wrapping_add(1);
     }
 }
 
@@ -59,16 +72,26 @@ impl Place for Drawer {
 
     ghost fence = { λ d. d.fence };
 
+    ghost failures = { λ d. d.failures };
+
     fn write_store(&mut self, alloc: Global, written: &Store) -> Result<(), PlaceFault> {
         if self.fails() {
+            self.fail();
             return Err(PlaceFault::Failed);
         }
-        self.store = written.copy(alloc)?;
+        match written.copy(alloc) {
+            Ok(store) => self.store = store,
+            Err(fault) => {
+                self.fail();
+                return Err(fault.into());
+            }
+        }
         Ok(())
     }
 
     fn write_fence(&mut self, term: Term) -> Result<(), PlaceFault> {
         if self.fails() {
+            self.fail();
             return Err(PlaceFault::Failed);
         }
         self.fence = term;
