@@ -328,21 +328,22 @@ fn is_so(
     Some(fault_of(comes) == Some(fault))
 }
 
-/// The stores, as their keepers gave them to a term.
-fn given_to<'k>(
-    alloc: Global,
-    stores: &[(Keeper, &'k Store)],
-    term: Term,
-) -> Result<Vec<Given<'k>>, Memory> {
-    let mut given = Vec::new(alloc);
-    for (keeper, store) in stores {
-        given.push(Given {
-            keeper: *keeper,
-            term,
-            store: *store,
-        })?;
-    }
-    Ok(given)
+/// Two stores, as their keepers gave them to these terms.
+fn given_to<'k>(stores: &[(Keeper, &'k Store); 2], terms: [Term; 2]) -> [Given<'k>; 2] {
+    let (one, first) = stores[0];
+    let (other, second) = stores[1];
+    [
+        Given {
+            keeper: one,
+            term: terms[0],
+            store: first,
+        },
+        Given {
+            keeper: other,
+            term: terms[1],
+            store: second,
+        },
+    ]
 }
 
 /// Whether the same comes of going live from given stores, and whether one of them was given to another term. Where memory was
@@ -365,34 +366,48 @@ fn is_so_given(
     }
 }
 
-/// Whether a row is as it says of these stores once they were given to its term, and refused once one of them was given to the next.
+/// Whether a row is as it says of these stores once they were given to its term, and refused once the first was given to the next.
 fn holds_given(
     alloc: Global,
     image: &Image,
-    stores: &[(Keeper, &Store)],
-    quorum: [u8; 2],
-    (term, comes): (Term, Comes),
+    stores: &[(Keeper, &Store); 2],
+    row: &Row,
 ) -> Option<bool> {
-    let mut given = given_to(alloc, stores, term).ok()?;
-    let (so, _) = is_so_given(alloc, image, given.as_slice(), quorum, (term, comes))?;
-    given.first_mut()?.term = term.saturating_add(1);
-    let (_, refused) = is_so_given(alloc, image, given.as_slice(), quorum, (term, comes))?;
+    let (_, _, quorum, term, _, asked, comes) = *row;
+    let own = given_to(stores, [term, term]);
+    let (so, _) = is_so_given(alloc, image, own.get(..asked)?, quorum, (term, comes))?;
+    let other = given_to(stores, [term.saturating_add(1), term]);
+    let (_, refused) = is_so_given(alloc, image, other.get(..asked)?, quorum, (term, comes))?;
     Some(so && refused)
 }
 
-/// Whether a row is as it says of these stores, of which so many are asked, once more where memory was refused.
-fn holds_of(alloc: Global, image: &Image, stores: &[(Keeper, &Store)], row: &Row) -> Option<bool> {
+/// Whether a row is as it says of these stores, of which so many are asked.
+fn holds_asked(
+    alloc: Global,
+    image: &Image,
+    stores: &[(Keeper, &Store); 2],
+    row: &Row,
+) -> Option<bool> {
     let (_, _, quorum, term, _, asked, comes) = *row;
-    let stores = stores.get(..asked)?;
-    let so = match is_so(alloc, image, stores, quorum, (term, comes)) {
-        None => is_so(alloc, image, stores, quorum, (term, comes)),
+    is_so(alloc, image, stores.get(..asked)?, quorum, (term, comes))
+}
+
+/// Both, each once more where memory was refused.
+fn holds_of(
+    alloc: Global,
+    image: &Image,
+    stores: &[(Keeper, &Store); 2],
+    row: &Row,
+) -> Option<bool> {
+    let asked = match holds_asked(alloc, image, stores, row) {
+        None => holds_asked(alloc, image, stores, row),
         so => so,
     };
-    let given = match holds_given(alloc, image, stores, quorum, (term, comes)) {
-        None => holds_given(alloc, image, stores, quorum, (term, comes)),
+    let given = match holds_given(alloc, image, stores, row) {
+        None => holds_given(alloc, image, stores, row),
         so => so,
     };
-    Some(so? && given?)
+    Some(asked? && given?)
 }
 
 /// Whether it is of these two stores.
