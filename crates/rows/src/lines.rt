@@ -1,7 +1,7 @@
 //! Lines that the processes of a pair send each other: which texts are read, and that what is read is written so. A seal is the first
 //! eight digits of what sha256sum says of the image's digest and the text.
 
-use ft_types::{Counts, Guest, Hart, Keeper, Memory, Output};
+use ft_types::{COUNT_LIMIT, Counts, Guest, Keeper, Memory, Output};
 use std::alloc::Global;
 use std::test::Fail;
 use wire::{
@@ -131,28 +131,25 @@ fn sealed_values(rt: HostRuntime) -> Result<(), Fail> {
     Ok(())
 }
 
-/// The line of the longest acknowledgement, of eight harts, fits: its length.
-fn longest(guest: &Guest) -> usize {
-    let mut counts = Counts::zero(8);
-    for hart in 0..8 {
-        counts.set(Hart::new(hart), (1 << 48) - 1);
-    }
+/// The length of the longest line, an acknowledgement of eight harts, where it is read again.
+fn longest(guest: &Guest) -> Option<usize> {
     let acknowledgement = Acknowledgement {
         term: u32::MAX,
         keeper: Keeper::new(4),
-        counts,
+        counts: Counts::from_slice(&[COUNT_LIMIT - 1; 8])?,
     };
     let line = acknowledgement_line(guest, &acknowledgement);
-    let text = line.as_slice().strip_suffix(b"\n").unwrap_or(b"");
-    match read_acknowledgement(guest, text) {
-        Some(again) if again == acknowledgement => line.as_slice().len(),
-        _ => 0,
+    let text = line.as_slice().strip_suffix(b"\n")?;
+    if read_acknowledgement(guest, text)? == acknowledgement {
+        Some(line.as_slice().len())
+    } else {
+        None
     }
 }
 
 #[test]
 fn longest_acknowledgement(rt: HostRuntime) -> Result<(), Fail> {
-    assert_eq!(rt; longest(&guest(8)?), 154);
+    assert_eq!(rt; longest(&guest(8)?), Some(154));
     Ok(())
 }
 
