@@ -15,6 +15,8 @@ mod isa;
 #[cfg(test)]
 mod laws;
 #[cfg(test)]
+mod lines;
+#[cfg(test)]
 mod machines;
 #[cfg(test)]
 mod names;

@@ -1,0 +1,9 @@
+pub mod Splits
+pub mod Plain
+pub mod Reading
+pub mod Values
+pub mod Rows
+pub mod LastFences
+pub mod Feeds
+pub mod RequestFields
+pub mod AnswerFields

@@ -1,0 +1,9 @@
+pub mod Fields
+pub mod Seals
+pub mod Values
+pub mod Acknowledgements
+pub mod Fences
+pub mod Handed
+pub mod Feeds
+pub mod Requests
+pub mod Answers

@@ -1,0 +1,81 @@
+//! Lines out of pieces.
+
+ghost use Rattle.std.specs.Prelude.{◌≡◌, ℕ, ◌++◌, ◌∷◌, [], List, None, Some, take, IfOk, OnErr, if◌then◌else◌};
+ghost use Rattle.wire.specs.Feeds.{Follows, is_short};
+
+use crate::line::{LINE_LIMIT, Line};
+use ft_types::Memory;
+use std::alloc::Global;
+use std::marker::Model;
+
+/// A stream of lines that comes in pieces.
+#[derive(Drop)]
+pub struct LineFeed {
+    /// What has come of the line that is under way: its first bytes, where it is longer than a line may be.
+    held: Line,
+}
+
+impl Model for LineFeed {
+    ghost use Rattle.std.specs.Prelude.{ℕ, List};
+
+    ghost Value = { List ℕ };
+
+    ghost view = { λ f. f.held };
+}
+
+/// Takes a byte of the line under way, and gives the text of the line that it ends, unless that is too long.
+fn take(held: &mut Line, byte: u8) -> Option<Line>
+    ensures ends { byte ≡ 10 → (held.new ≡ []) × (result ≡ (if is_short held.old then Some held.old else None)) }
+    ensures goes_on { (byte ≡ 10 → ⊥) → (held.new ≡ take LINE_LIMIT (held.old ++ byte ∷ [])) × (result ≡ None) }
+{
+    if byte == b'\n' {
+        let text = std::mem::replace(held, Line::new());
+        return if text.len() < LINE_LIMIT {
+            Some(text)
+        } else {
+            None
+        };
+    }
+    if held.len() < LINE_LIMIT {
+        held.push(&[byte]);
+    }
+    None
+}
+
+/// Takes the bytes of a piece, and gives the texts of the lines that they end.
+fn take_all(alloc: Global, held: &mut Line, piece: &[u8]) -> Result<Vec<Line>, Memory>
+    ensures { (stream : List ℕ) (given : List (List ℕ)) → Follows stream given held.old →
+        IfOk result (λ lines. Follows (stream ++ piece.now) (given ++ lines.items) held.new) }
+{
+    let mut lines = Vec::new(alloc);
+    for byte in piece {
+        if let Some(line) = take(held, *byte) {
+            lines.push(line)?;
+        }
+    }
+    Ok(lines)
+}
+
+impl LineFeed {
+    /// A stream of which nothing has come.
+    pub fn new() -> LineFeed
+        ensures { Follows [] [] result }
+    {
+        LineFeed { held: Line::new() }
+    }
+
+    /// Takes the next piece of the stream, and gives the texts of the lines that it ends, without their line feeds.
+    pub fn push(&mut self, alloc: Global, piece: &[u8]) -> Result<Vec<Line>, Memory>
+        // The texts given so far are those of the lines so far, however the stream was cut. Lines that are too long are left out.
+        ensures given { (stream : List ℕ) (given : List (List ℕ)) → Follows stream given self.old →
+            IfOk result (λ lines. Follows (stream ++ piece.now) (given ++ lines.items) self.new) }
+
+        // Want of memory changes nothing.
+        ensures memory { OnErr result (self.new ≡ self.old) }
+    {
+        let mut held = self.held.copy();
+        let lines = take_all(alloc, &mut held, piece)?;
+        self.held = held;
+        Ok(lines)
+    }
+}

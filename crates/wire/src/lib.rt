@@ -1,0 +1,25 @@
+//! The lines that the processes of a pair send each other beside frames: acknowledgements, fences, what is handed out, requests and
+//! answers. Each has one spelling, and what is read is spelled so.
+#![tactic(auto)]
+
+mod acknowledgements;
+mod again;
+mod answers;
+mod feed;
+mod fences;
+mod fields;
+mod handed;
+mod laws;
+mod line;
+mod requests;
+mod seals;
+
+pub use acknowledgements::{Acknowledgement, acknowledgement_line, read_acknowledgement};
+pub use again::{again_line, read_again};
+pub use answers::{Answer, answer_line, read_answer};
+pub use feed::LineFeed;
+pub use fences::{fence_entry, fence_line, last_fence, read_fence};
+pub use handed::{Handed, handed_line, read_handed};
+pub use laws::fence_is_added;
+pub use line::{LINE_LIMIT, Line};
+pub use requests::{Request, read_request, request_line};
