@@ -9,6 +9,7 @@ use Rattle.std.proofs.lemmas.List.Elements.{All-nil, All-cons, All-head, All-tai
 use Rattle.interleaving.proofs.Put.{same_or_not}
 use Rattle.ft_types.specs.Guests.{IsGuest}
 use Rattle.guest_image.specs.Image.{guest_of}
+use Rattle.fragment_codec.specs.declared.frame.Frame.{Frame}
 use Rattle.log_join.specs.Families.{HonestStore}
 use Rattle.log_join.specs.Stores.{StoreView}
 use Rattle.failover_theory.proofs.Stores.{see}
@@ -26,6 +27,7 @@ use Rattle.fenced_world.specs.Keepers.{KeptView, kept_at, IsAbove, Gift, given_b
 use Rattle.fenced_world.specs.Reviving as reviving
 use Rattle.fenced_world.specs.Reviving.{stores_in, givers_in}
 use Rattle.fenced_world.specs.Faults.{fault_of_given}
+use Rattle.fenced_world.specs.Running.{RunningView}
 use Rattle.fenced_world.specs.Worlds.{WorldView}
 use Rattle.fenced_world.specs.Happenings.{DoesKeeper, Raises, HasRaised, IsNotGranted}
 use Rattle.fenced_world.specs.Refusals.{Refuses, RefusesLive, RefusesGrant, IsOpenTo, IsNotLive, CannotGoLive, IsAtTerm, MayHaveRaised}
@@ -178,6 +180,14 @@ is_not_live v term named may TooFewStores due = (may, due)
 is_not_live v term named may TermNotNew due = inr (may, due)
 is_not_live v term named may (Replay fault) due = (may, due)
 is_not_live v term named may NoLive due = (may, due)
+
+-- a primary more, and its opening sent
+abbrev pub begun : WorldView → List RunningView → List Frame → WorldView
+begun v running sent = record v { running = running; sent = sent }
+
+-- fences that were raised grant nothing
+pub still_new : (v w : WorldView) (term : ℕ) → HasRaised v term w → IsNotGranted v term → IsNotGranted w term
+still_new v w term was new n r at = new n r (ap (λ (x : WorldView). slice_get x.running n) (sym was.rest) ∙ at)
 
 -- ---- what is found
 
