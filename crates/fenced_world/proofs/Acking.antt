@@ -3,7 +3,7 @@ use Rattle.std.proofs.Common.{◌≡◌, ◌⊎◌, inl, inr, ℕ, zero, suc, �
 use Rattle.interleaving.proofs.Put.{same_or_not}
 use Rattle.ft_types.specs.Counts.{count_at}
 use Rattle.ft_types.specs.declared.position.Position.{Position}
-use Rattle.log_join.specs.Families.{Past, Family}
+use Rattle.log_join.specs.Families.{Family}
 use Rattle.fenced_theory.specs.Worlds as theory
 use Rattle.fenced_theory.proofs.Acking.{raised, raised_keeps, raised_reaches}
 use Rattle.fenced_keeper.specs.Keepers.{Acknowledges}

@@ -1,5 +1,5 @@
 -- The first world is one of the theory.
-use Rattle.std.proofs.Common.{◌≡◌, inl, inr, ℕ, zero, suc, ◌<◌, ◌≤◌, List, [], ◌∷◌, length, replicate, slice_get, get_or, Contains, Option, Some, None, refl, sym, ap, subst, ◌∙◌, arith}
+use Rattle.std.proofs.Common.{◌≡◌, inl, inr, ℕ, zero, suc, ◌<◌, ◌≤◌, List, [], ◌∷◌, length, slice_get, get_or, Contains, Option, Some, None, refl, sym, ap, subst, ◌∙◌, arith}
 use Rattle.std.specs.List.{range_with_len}
 use Rattle.ft_types.specs.declared.names.TheConstants.{KEEPER_LIMIT}
 use Rattle.ft_types.specs.Counts.{count_at}
@@ -15,7 +15,6 @@ use Rattle.hart_lease.specs.Runs.{steps_taken}
 use Rattle.fragment_codec.specs.declared.frame.Frame.TheVariants.{Opening}
 use Rattle.fragment_codec.specs.Rules.{OpeningParts}
 use Rattle.log_join.specs.Families.{Past, Family, no_terms}
-use Rattle.log_join.specs.Stores.{nothing}
 use Rattle.closed_cut.proofs.Chains.{zero_row}
 use Rattle.hart_replay.specs.Images.{IsHistoryOf, boot_of}
 use Rattle.hart_replay.specs.Primaries.{IsPrimary, IsTermOfBook, term_of as history_of}
@@ -33,12 +32,12 @@ use Rattle.failover_world.specs.declared.released.Released.{Released}
 use Rattle.failover_world.specs.Primaries.{IsBooted}
 use Rattle.failover_world.specs.Happenings.{IsFresh}
 use Rattle.failover_world.specs.Gating.{AreOffered}
-use Rattle.failover_world.specs.Tied.{TermBook, Books, retold_in, history, told_as}
+use Rattle.failover_world.specs.Tied.{TermBook, Books, retold_in, told_as}
 use Rattle.failover_world.proofs.Places.{retold_put}
 use Rattle.fenced_world.specs.Keepers.{KeptView, kept_at, IsNewKeeper}
 use Rattle.fenced_world.specs.Running.{RunningView}
 use Rattle.fenced_world.specs.Worlds.{WorldView}
-use Rattle.fenced_world.specs.Tied.{IsIn, AreTerms, AreParts, IsTied, IsWorld, past_of, told_of, quorum_of}
+use Rattle.fenced_world.specs.Tied.{IsIn, AreParts, IsTied, IsWorld, past_of, told_of, quorum_of}
 use Rattle.fenced_world.proofs.Lists.{some_same, none_some}
 use Rattle.fenced_world.proofs.Granting.{fresh_acked}
 use Rattle.fenced_world.proofs.Parts.{IsLed, begun_led}

@@ -5,7 +5,7 @@ use Rattle.interleaving.proofs.Put.{put_same}
 use Rattle.ft_types.specs.Guests.{GuestParts}
 use Rattle.fragment_codec.specs.declared.types.Key.{Key}
 use Rattle.fragment_codec.specs.Rules.{FragmentParts}
-use Rattle.log_pieces.specs.Pieces.{HartLog, Mark, IsPiece, ArePieces, mark_behind}
+use Rattle.log_pieces.specs.Pieces.{HartLog, Mark, ArePieces, mark_behind}
 use Rattle.log_join.specs.Families.{Past, end_of}
 use Rattle.log_join.specs.Stores.{IsFragmentOf}
 use Rattle.closed_cut.specs.Position.{base_of}

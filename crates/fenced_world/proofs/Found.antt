@@ -1,6 +1,5 @@
 -- What is found of a world, why a step of it is refused, and what a refused one leaves.
-use Rattle.std.proofs.Common.{◌≡◌, ◌≢◌, ◌⊎◌, inl, inr, ℕ, ◌<◌, ◌≤◌, List, [], ◌∷◌, slice_get, slice_set, get_or, Option, Some, None, Result, Err, refl, sym, ap, subst, ◌∙◌}
-use Rattle.std.specs.Prelude.{All}
+use Rattle.std.proofs.Common.{◌≡◌, ◌≢◌, inl, inr, ℕ, ◌<◌, ◌≤◌, List, [], ◌∷◌, slice_get, slice_set, get_or, Option, Some, None, Result, Err, refl, sym, ap, subst, ◌∙◌}
 use Rattle.std.proofs.lemmas.List.Elements.{All-nil, All-cons}
 use Rattle.page_book.specs.declared.answers.BookFault.{BookFault}
 use Rattle.page_book.specs.declared.answers.BookFault.TheVariants.{Leased, Halted, EdgeOpen, AtLimit, Foreign, Memory as NoBookMemory}
@@ -11,11 +10,9 @@ use Rattle.fenced_keeper.specs.declared.faults.RaiseFault.{RaiseFault}
 use Rattle.fenced_keeper.specs.declared.faults.RaiseFault.TheVariants.{Fenced as NotRaised, Place as NotWritten}
 use Rattle.fenced_world.specs.declared.event.FencedEvent.TheVariants as on
 use Rattle.fenced_world.specs.declared.fault.FencedFault.{FencedFault}
-use Rattle.fenced_world.specs.declared.fault.FencedFault.TheVariants.{Memory}
 use Rattle.fenced_world.specs.Keepers.{KeptView, kept_at}
 use Rattle.fenced_world.specs.Running.{RunningView, IsAt}
 use Rattle.fenced_world.specs.Worlds.{WorldView}
-use Rattle.fenced_world.specs.Happenings.{DoesKeeper}
 use Rattle.fenced_world.specs.Faults.{fault_of_book, fault_of_raise}
 use Rattle.fenced_world.specs.Refusals.{Refuses, IsGranted, AreThere, IsLeft, MayHaveRaised}
 use Rattle.fenced_world.specs.Tied.{IsWorld}

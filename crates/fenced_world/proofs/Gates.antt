@@ -1,5 +1,5 @@
 -- A primary to which an input is offered, or whose gate is told more and lets outputs go.
-use Rattle.std.proofs.Common.{◌≡◌, ℕ, ◌≤◌, [], length, append-nil, Result, Ok, Err, OnOk, OnErr, refl, sym, ap, subst, ◌∙◌}
+use Rattle.std.proofs.Common.{◌≡◌, ℕ, ◌≤◌, [], length, append-nil, Result, Ok, Err, OnOk, OnErr, sym, ap, subst, ◌∙◌}
 use Rattle.input_log.specs.declared.Input.{Input}
 use Rattle.ft_types.specs.Counts.{count_at}
 use Rattle.guest_image.specs.Machine.{MachineState}

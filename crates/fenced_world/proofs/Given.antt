@@ -1,12 +1,10 @@
 -- What going live from given stores says, in the words of the world.
 use Rattle.std.proofs.Common.{◌≡◌, ◌≢◌, ℕ, ◌+◌, ◌-◌, ◌<◌, ◌≤◌, List, [], ◌∷◌, length, map, refl, sym, ap, subst, ◌∙◌, arith}
-use Rattle.std.specs.Prelude.{All}
 use Rattle.std.specs.List.{Any}
 use Rattle.std.proofs.lemmas.List.{length-map, get_or-map}
 use Rattle.guest_image.specs.Image.{ImageContents, guest_of}
 use Rattle.guest_image.specs.Machine.{MachineState}
 use Rattle.fragment_codec.specs.Rules.{IsOpening}
-use Rattle.log_join.specs.Stores.{StoreView}
 use Rattle.hart_replay.specs.Images.{GuestHistory}
 use Rattle.hart_replay.specs.Primaries.{IsPrimary}
 use Rattle.hart_replay.specs.declared.fault.ReplayFault.TheVariants.{OtherGuest}
@@ -18,7 +16,7 @@ use Rattle.fenced_keeper.specs.declared.keeper.Given.{Given}
 use Rattle.fenced_live.specs.Given.{IfReplay}
 use Rattle.fenced_live.specs.declared.fault.GivenFault.{GivenFault}
 use Rattle.fenced_live.specs.declared.fault.GivenFault.TheVariants.{OtherTerm, Live}
-use Rattle.fenced_world.specs.Keepers.{Gift, gift_of}
+use Rattle.fenced_world.specs.Keepers.{gift_of}
 use Rattle.fenced_world.specs.Reviving.{stores_in, givers_in, BeginsTerm, CannotGoLive}
 
 pub given_stores : (given : List Given) → map (λ g. g.store.now) given ≡ stores_in (map gift_of given)

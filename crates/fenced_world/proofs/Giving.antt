@@ -1,22 +1,21 @@
 -- Named keepers whose fences are at a term give it their stores: a world of the theory in which they gave, and the join of what they gave.
-use Rattle.std.proofs.Common.{◌≡◌, ◌≢◌, inl, inr, ℕ, zero, suc, ◌+◌, ◌-◌, ◌<◌, ◌≤◌, ◌==◌, Bool, true, false, cond, List, [], ◌∷◌, ◌++◌, length, map, Option, Some, None, if◌then◌else◌, refl, sym, ap, subst, ◌∙◌, arith}
+use Rattle.std.proofs.Common.{◌≡◌, inl, inr, ℕ, zero, suc, ◌+◌, ◌-◌, ◌<◌, ◌≤◌, ◌==◌, Bool, true, false, cond, List, [], ◌∷◌, ◌++◌, length, map, Option, Some, None, if◌then◌else◌, refl, sym, ap, subst, ◌∙◌, arith}
 use Rattle.std.specs.Prelude.{All}
-use Rattle.std.specs.List.{list_any, flat_map, enumerate_from}
+use Rattle.std.specs.List.{list_any}
 use Rattle.std.proofs.lemmas.List.Elements.{All-nil, All-cons, All-head, All-tail}
 use Rattle.interleaving.specs.Lists.{put}
 use Rattle.interleaving.proofs.Put.{same_or_not, put_same, put_other}
 use Rattle.guest_image.specs.Image.{guest_of}
-use Rattle.ft_types.specs.Guests.{GuestParts, IsGuest}
+use Rattle.ft_types.specs.Guests.{IsGuest}
 use Rattle.log_join.specs.Stores.{StoreView, nothing}
 use Rattle.failover_theory.specs.Lists.{how_many}
 use Rattle.failover_theory.specs.Worlds.{Joined, NoneYet, Skip, Take}
 use Rattle.failover_theory.proofs.Stores.{see, see_bool}
 use Rattle.failover_world.proofs.Guests.{either_side}
 use Rattle.fenced_theory.specs.Worlds as theory
-use Rattle.fenced_keeper.specs.Following.{Stands}
 use Rattle.go_live.specs.Quorums.{distinct, AreEnough}
 use Rattle.go_live.specs.Joined.{AreJoinedTo, AreJoined}
-use Rattle.fenced_world.specs.Keepers.{KeptView, kept_at, Gift, given_by, gift_if, gifts_from, gifts_of}
+use Rattle.fenced_world.specs.Keepers.{KeptView, kept_at, Gift, given_by, gifts_from, gifts_of}
 use Rattle.fenced_world.specs.Reviving.{stores_in, givers_in}
 use Rattle.fenced_world.specs.Worlds.{WorldView}
 use Rattle.failover_world.specs.Tied.{Books}

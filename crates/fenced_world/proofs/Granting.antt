@@ -2,18 +2,16 @@
 use Rattle.std.proofs.Common.{◌≡◌, inl, inr, ℕ, zero, suc, ◌+◌, ◌<◌, ◌≤◌, List, [], ◌∷◌, ◌++◌, length, map, replicate, slice_get, get_or, Contains, Option, Some, None, refl, sym, ap, subst, ◌∙◌, arith}
 use Rattle.std.specs.List.{range_with_len}
 use Rattle.ft_types.specs.Counts.{count_at}
-use Rattle.ft_types.specs.Guests.{IsGuest}
-use Rattle.edge_log.specs.EdgeLog.{start_of}
-use Rattle.interleaving.specs.Lists.{put, EachPair}
+use Rattle.interleaving.specs.Lists.{put}
 use Rattle.interleaving.specs.Machine.{Turn, at}
 use Rattle.interleaving.specs.Log.{IsCut}
 use Rattle.interleaving.specs.Stored.{system_of, view}
 use Rattle.interleaving.proofs.Put.{same_or_not, put_same, put_other}
 use Rattle.input_log.specs.declared.Input.{Input}
-use Rattle.rv32_hart.specs.Hart.{Hart, boot_hart}
+use Rattle.rv32_hart.specs.Hart.{boot_hart}
 use Rattle.rv32_hart.specs.Hardware.{hardware}
 use Rattle.guest_image.specs.Image.{guest_of}
-use Rattle.guest_image.specs.Machine.{MachineState, boot_machine}
+use Rattle.guest_image.specs.Machine.{boot_machine}
 use Rattle.fragment_codec.specs.declared.frame.Frame.TheVariants.{Opening}
 use Rattle.fragment_codec.specs.Rules.{OpeningParts, IsOpening}
 use Rattle.log_join.specs.Families.{Past, Family, HonestStore}
@@ -23,11 +21,11 @@ use Rattle.book_modes.specs.Hearings.{HartMachine}
 use Rattle.book_modes.specs.Recordings.{RecordingView, heard_by}
 use Rattle.hart_lease.specs.Runs.{counts_of, journal_turns}
 use Rattle.hart_replay.specs.Histories.{IsTerm, machine_in}
-use Rattle.hart_replay.specs.Images.{GuestTerm, GuestHistory, IsHistoryOf, machine_of, boot_of}
+use Rattle.hart_replay.specs.Images.{GuestTerm, IsHistoryOf, machine_of, boot_of}
 use Rattle.hart_replay.specs.Primaries.{IsTermOfBook, unsealed}
 use Rattle.hart_replay.proofs.honesty.Sealing.{unsealed_is_of_book}
 use Rattle.hart_replay.proofs.honesty.Replays.{legs_keep_pages, boot_pages}
-use Rattle.failover_theory.specs.Machines.{Book, BookFact, AreTidy, AtBoot, AtCut}
+use Rattle.failover_theory.specs.Machines.{BookFact, AreTidy, AtBoot, AtCut}
 use Rattle.failover_theory.specs.Worlds as older
 use Rattle.failover_theory.specs.Lists.{how_many}
 use Rattle.failover_theory.proofs.Stores.{see}
@@ -39,12 +37,12 @@ use Rattle.go_live.specs.Histories.{AreOfHistory}
 use Rattle.go_live.proofs.Joins.{joined_below}
 use Rattle.failover_world.specs.Tied.{TermBook, Books, retold, retold_in, history, told_as, theory_released}
 use Rattle.failover_world.proofs.Places.{retold_put}
-use Rattle.fenced_world.specs.Keepers.{KeptView, kept_at, gifts_of}
+use Rattle.fenced_world.specs.Keepers.{gifts_of}
 use Rattle.fenced_world.specs.Running.{RunningView}
 use Rattle.fenced_world.specs.Reviving.{GoesLive, BeginsTerm, stores_in}
 use Rattle.fenced_world.specs.Worlds.{WorldView}
 use Rattle.fenced_world.specs.Happenings.{IsNotGranted}
-use Rattle.fenced_world.specs.Tied.{IsIn, IsAmong, AreTerms, IsTied, AreParts, past_of, told_of, quorum_of}
+use Rattle.fenced_world.specs.Tied.{IsIn, AreTerms, IsTied, AreParts, past_of, quorum_of}
 use Rattle.fenced_world.proofs.Lists.{some_same, none_some, push_old, push_last, push_cases}
 use Rattle.fenced_world.proofs.Terms.{in_other, tell}
 use Rattle.fenced_world.proofs.Guests.{kept}

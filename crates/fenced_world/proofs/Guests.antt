@@ -14,7 +14,6 @@ use Rattle.log_join.specs.Stores.{StoreView, IsStore, IsOpeningOf, opening_at, f
 use Rattle.log_join.proofs.Told.{guests_told}
 use Rattle.log_join.proofs.Families.{granted_opening, granted_piece}
 use Rattle.hart_replay.specs.Images.{boot_of}
-use Rattle.fenced_theory.specs.Worlds as theory
 use Rattle.fenced_theory.specs.Laws.{Lasts, IsFailover, AreStores}
 use Rattle.fenced_theory.proofs.Lasting.{books_last}
 use Rattle.fenced_theory.proofs.Invariant.{Invariant}

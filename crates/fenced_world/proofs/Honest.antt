@@ -1,15 +1,12 @@
 -- What was sent, and what keepers hold, are of one history of the image.
-use Rattle.std.proofs.Common.{◌≡◌, ℕ, Contains, slice_get, Option, Some, refl, sym, ap, subst, ◌∙◌}
-use Rattle.guest_image.specs.Image.{guest_of}
+use Rattle.std.proofs.Common.{ℕ, Contains, Option, refl, sym, subst, ◌∙◌}
 use Rattle.fragment_codec.specs.declared.frame.Frame.{Frame}
 use Rattle.fragment_codec.specs.declared.frame.Frame.TheVariants.{Log, Opening}
 use Rattle.log_join.specs.Families.{Past, OfFamily, HonestStore}
 use Rattle.log_join.specs.Stores.{StoreView}
-use Rattle.failover_world.specs.Tied.{TermBook, retold_in, history, told_as}
+use Rattle.failover_world.specs.Tied.{retold_in, history, told_as}
 use Rattle.failover_world.proofs.Promises.{untold}
 use Rattle.failover_world.proofs.Chosen.{opening_retold, piece_retold, honest_retold}
-use Rattle.fenced_world.specs.Keepers.{KeptView, kept_at}
-use Rattle.fenced_world.specs.Running.{RunningView}
 use Rattle.fenced_world.specs.Worlds.{WorldView}
 use Rattle.fenced_world.specs.Promises.{AreHonest}
 use Rattle.fenced_world.specs.Tied.{IsTied, told_of}

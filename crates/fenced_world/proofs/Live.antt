@@ -1,5 +1,5 @@
 -- Keepers raise their fences to a term, and give it their stores: why it is refused, and what is left.
-use Rattle.std.proofs.Common.{◌≡◌, ◌≢◌, ◌⊎◌, inl, inr, ℕ, zero, suc, ◌+◌, ◌<◌, ◌==◌, ◌||◌, Bool, true, false, if◌then◌else◌, List, [], ◌∷◌, ◌++◌, length, get_or, slice_get, Option, Some, None, refl, sym, ap, subst, ◌∙◌, arith}
+use Rattle.std.proofs.Common.{◌≡◌, ◌⊎◌, inl, inr, ℕ, suc, ◌+◌, ◌==◌, ◌||◌, Bool, true, false, if◌then◌else◌, List, [], ◌∷◌, ◌++◌, slice_get, Option, Some, None, refl, sym, ap, subst, ◌∙◌, arith}
 use Rattle.std.specs.Global.{Vec}
 use Rattle.std.specs.Prelude.{All, IfSome, IfNone}
 use Rattle.std.specs.Option.{is_some}
@@ -7,12 +7,9 @@ use Rattle.std.specs.List.{list_any, Any}
 use Rattle.std.proofs.lemmas.Bool.Decides.{eqb_tells}
 use Rattle.std.proofs.lemmas.List.Elements.{All-nil, All-cons, All-head, All-tail}
 use Rattle.interleaving.proofs.Put.{same_or_not}
-use Rattle.ft_types.specs.Guests.{IsGuest}
 use Rattle.guest_image.specs.Image.{guest_of}
 use Rattle.fragment_codec.specs.declared.frame.Frame.{Frame}
 use Rattle.log_join.specs.Families.{HonestStore}
-use Rattle.log_join.specs.Stores.{StoreView}
-use Rattle.failover_theory.proofs.Stores.{see}
 use Rattle.go_live.specs.Histories.{AreOfHistory}
 use Rattle.go_live.specs.Quorums.{AreEnough, IsOld}
 use Rattle.go_live.specs.declared.fault.LiveFault.{LiveFault}
@@ -23,7 +20,7 @@ use Rattle.failover_world.specs.Tied.{history}
 use Rattle.fenced_world.specs.declared.event.FencedEvent.TheVariants as on
 use Rattle.fenced_world.specs.declared.fault.FencedFault.{FencedFault}
 use Rattle.fenced_world.specs.declared.fault.FencedFault.TheVariants.{NoPrimary, NoKeeper, NoFrame, Fenced, Unsaved, Step, Live, Ack, Memory}
-use Rattle.fenced_world.specs.Keepers.{KeptView, kept_at, IsAbove, Gift, given_by, gifts_from, gifts_of}
+use Rattle.fenced_world.specs.Keepers.{KeptView, kept_at, Gift, given_by, gifts_from, gifts_of}
 use Rattle.fenced_world.specs.Reviving as reviving
 use Rattle.fenced_world.specs.Reviving.{stores_in, givers_in}
 use Rattle.fenced_world.specs.Faults.{fault_of_given}
@@ -31,12 +28,12 @@ use Rattle.fenced_world.specs.Running.{RunningView}
 use Rattle.fenced_world.specs.Worlds.{WorldView}
 use Rattle.fenced_world.specs.Happenings.{DoesKeeper, Raises, HasRaised, IsNotGranted}
 use Rattle.fenced_world.specs.Refusals.{Refuses, RefusesLive, RefusesGrant, IsOpenTo, IsNotLive, CannotGoLive, IsAtTerm, MayHaveRaised}
-use Rattle.fenced_world.specs.Tied.{IsTied, IsWorld}
-use Rattle.fenced_world.proofs.Lists.{some_same, none_some}
+use Rattle.fenced_world.specs.Tied.{IsWorld}
+use Rattle.fenced_world.proofs.Lists.{some_same}
 use Rattle.fenced_world.proofs.Guests.{kept, store_of}
 use Rattle.fenced_world.proofs.Honest.{store_honest}
 use Rattle.fenced_world.proofs.Giving.{each_gift, all_told}
-use Rattle.fenced_world.proofs.Raising.{AreRaised, GiveAlike, gifts_alike, raised_more, did_raise, may_have, set_there, set_elsewhere}
+use Rattle.fenced_world.proofs.Raising.{GiveAlike, gifts_alike, raised_more, did_raise, may_have, set_there, set_elsewhere}
 
 -- ---- fences are raised one after the other
 

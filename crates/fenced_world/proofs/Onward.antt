@@ -9,7 +9,7 @@ use Rattle.output_gate.specs.Gates.{GateView}
 use Rattle.failover_theory.specs.Recorders.{Output as TheoryOutput}
 use Rattle.failover_theory.specs.Machines.{ByRun}
 use Rattle.book_recorder.specs.TermBooks.{outputs_of}
-use Rattle.failover_world.specs.Worlds.{said_by, said_at}
+use Rattle.failover_world.specs.Worlds.{said_by}
 use Rattle.failover_world.specs.Gating.{AreRising, AreOffered}
 use Rattle.failover_world.proofs.Releasing.{book_outputs}
 use Rattle.failover_world.proofs.Onward.{from_theory, offered_on}

@@ -1,5 +1,5 @@
 -- The parts of the world still fit together.
-use Rattle.std.proofs.Common.{◌≡◌, ◌⊎◌, inl, inr, ℕ, ◌≤◌, List, [], ◌∷◌, ◌++◌, length, length-set, slice_get, slice_set, Option, Some, sym, ap, subst, ◌∙◌}
+use Rattle.std.proofs.Common.{◌≡◌, inl, inr, ℕ, ◌≤◌, List, [], ◌∷◌, ◌++◌, length-set, slice_get, slice_set, Option, Some, sym, ap, subst, ◌∙◌}
 use Rattle.hart_lease.specs.Runs.{LeadsTo}
 use Rattle.page_book.specs.Books.{BookView}
 use Rattle.book_modes.specs.Recordings.{RecordingView, heard_by}
@@ -7,7 +7,7 @@ use Rattle.go_live.specs.Lives.{BeginsFrom}
 use Rattle.fragment_codec.specs.declared.frame.Frame.{Frame}
 use Rattle.failover_world.specs.declared.released.Released.{Released}
 use Rattle.failover_world.specs.Gating.{AreOffered}
-use Rattle.fenced_world.specs.Keepers.{KeptView, kept_at}
+use Rattle.fenced_world.specs.Keepers.{KeptView}
 use Rattle.fenced_world.specs.Running.{RunningView}
 use Rattle.fenced_world.specs.Worlds.{WorldView}
 use Rattle.fenced_world.specs.Tied.{AreParts}

@@ -1,5 +1,5 @@
 -- What holds of the outputs that went out, by the theory of fencing.
-use Rattle.std.proofs.Common.{◌≡◌, ℕ, zero, suc, ◌<◌, ◌≤◌, List, [], ◌∷◌, map, slice_get, Contains, Option, Some, None, inl, inr, refl, sym, ap, subst, ◌∙◌}
+use Rattle.std.proofs.Common.{◌≡◌, ℕ, ◌<◌, List, slice_get, Some, inl, inr, sym, ap, subst, ◌∙◌}
 use Rattle.ft_types.specs.Counts.{count_at}
 use Rattle.hart_lease.specs.Runs.{LeadsTo}
 use Rattle.book_modes.specs.Recordings.{heard_by}
@@ -9,12 +9,10 @@ use Rattle.ft_types.specs.declared.position.Position.{Position}
 use Rattle.failover_theory.specs.Families.{Keeps, Here as IsHere, Above as IsAbove}
 use Rattle.failover_theory.specs.Laws.{IsInside}
 use Rattle.failover_world.specs.declared.released.Released.{Released}
-use Rattle.failover_world.specs.Worlds.{said_at}
 use Rattle.failover_world.specs.Tied.{TermBook, Books, told_as, theory_released}
 use Rattle.failover_world.proofs.Promises.{untold}
 use Rattle.failover_world.proofs.Releasing.{book_outputs}
 use Rattle.failover_world.proofs.Onward.{from_theory}
-use Rattle.fenced_world.specs.Keepers.{kept_at}
 use Rattle.fenced_world.specs.Running.{RunningView}
 use Rattle.fenced_world.specs.Worlds.{WorldView}
 use Rattle.fenced_world.specs.Promises.{IsInChain, Here, Above, IsInside as IsInsideHere, IsOne, IsOfMachines, IsKept, IsWithin, AreHeld}

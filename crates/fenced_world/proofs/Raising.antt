@@ -1,15 +1,13 @@
 -- Keepers that may raise their fences to a term: what they would give stays what it is.
-use Rattle.std.proofs.Common.{◌≡◌, ◌≢◌, ◌⊎◌, inl, inr, ℕ, zero, suc, ◌+◌, ◌<◌, ◌≤◌, ◌==◌, Bool, true, false, List, [], ◌∷◌, ◌++◌, length, length-set, map, get_or, slice_set, Option, Some, None, if◌then◌else◌, refl, sym, ap, subst, ◌∙◌, arith}
-use Rattle.std.specs.Prelude.{All}
-use Rattle.std.specs.List.{list_any, Any}
+use Rattle.std.proofs.Common.{◌≡◌, ◌⊎◌, inl, inr, ℕ, zero, suc, ◌+◌, ◌==◌, Bool, true, false, List, [], ◌∷◌, ◌++◌, length, length-set, get_or, slice_set, Option, Some, None, if◌then◌else◌, refl, sym, ap, subst, ◌∙◌, arith}
+use Rattle.std.specs.List.{list_any}
 use Rattle.interleaving.proofs.Put.{same_or_not}
-use Rattle.failover_theory.proofs.Stores.{see}
-use Rattle.fenced_world.specs.Keepers.{KeptView, kept_at, Gift, given_by, gifts_from, gifts_of}
+use Rattle.fenced_world.specs.Keepers.{KeptView, kept_at, Gift, given_by, gifts_from}
 use Rattle.fenced_world.specs.Reviving.{stores_in, givers_in}
 use Rattle.fenced_world.specs.Worlds.{WorldView}
 use Rattle.fenced_world.specs.Happenings.{DoesKeeper, Raises, MayRaise, HasRaised}
 use Rattle.fenced_world.specs.Refusals.{MayHaveRaised}
-use Rattle.fenced_world.proofs.Lists.{some_same, none_some, row_cases}
+use Rattle.fenced_world.proofs.Lists.{some_same, none_some}
 
 -- each keeper that is there is there, and only its fence may be another
 pub record AreRaised (term : ℕ) (held more : List (Option KeptView)) : Type 0 where

@@ -1,5 +1,5 @@
 -- The world stays one that comes in the theory: pieces of a term go out.
-use Rattle.std.proofs.Common.{◌≡◌, ◌⊎◌, inl, inr, ℕ, zero, suc, ◌+◌, ◌-◌, ◌<◌, ◌≤◌, List, [], ◌∷◌, ◌++◌, length, map, slice_get, slice_set, slice_index_or, get_or, Contains, Option, Some, None, refl, sym, ap, subst, ◌∙◌, arith}
+use Rattle.std.proofs.Common.{◌≡◌, ◌⊎◌, inl, inr, ℕ, zero, suc, ◌+◌, ◌-◌, ◌<◌, ◌≤◌, List, [], ◌∷◌, ◌++◌, length, map, slice_get, slice_set, slice_index_or, get_or, Contains, Some, refl, sym, ap, subst, ◌∙◌, arith}
 use Rattle.std.specs.List.{flat_map}
 use Rattle.std.proofs.Math.Path.{fun_ext}
 use Rattle.std.proofs.lemmas.Bool.{cases_lt}
@@ -8,7 +8,7 @@ use Rattle.interleaving.specs.Lists.{put}
 use Rattle.interleaving.specs.Log.{Edge, Log as EdgesAndInputs}
 use Rattle.interleaving.proofs.Put.{same_or_not, put_same, put_other}
 use Rattle.ft_types.specs.Counts.{count_at}
-use Rattle.ft_types.specs.Guests.{GuestParts, IsGuest}
+use Rattle.ft_types.specs.Guests.{GuestParts}
 use Rattle.page_book.specs.Books.{BookView}
 use Rattle.page_book.proofs.Tellings.{tells_the_same}
 use Rattle.book_modes.specs.Recordings.{RecordingView}
@@ -20,15 +20,13 @@ use Rattle.hart_lease.specs.Runs.{counts_of}
 use Rattle.fragment_codec.specs.declared.frame.Frame.{Frame}
 use Rattle.fragment_codec.specs.declared.frame.Frame.TheVariants.{Log}
 use Rattle.fragment_codec.specs.declared.types.Key.{Key}
-use Rattle.fragment_codec.specs.Rules.{FragmentParts, IsOpening}
+use Rattle.fragment_codec.specs.Rules.{FragmentParts}
 use Rattle.log_pieces.specs.Pieces.{Mark, SealedView, IsCut, IsPiece, ArePieces, book_log, mark_of, mark_behind}
 use Rattle.log_join.specs.Families.{Past, NoGap, end_of}
-use Rattle.log_join.specs.Stores.{IsOpeningOf}
 use Rattle.hart_replay.specs.Primaries.{IsPieceOf, IsTermOfBook}
 use Rattle.hart_replay.proofs.honesty.Primaries.{is_piece}
 use Rattle.failover_theory.specs.Sealings.{IsLogOf}
 use Rattle.fenced_theory.specs.Worlds as theory
-use Rattle.fenced_theory.proofs.Ruled.{IsOfRules, ruled}
 use Rattle.fenced_histories.specs.Books.{BookGoesOn}
 use Rattle.fenced_histories.proofs.Books.{books_go_on}
 use Rattle.failover_world.specs.declared.primary.Primary.{Primary}

@@ -1,9 +1,8 @@
 -- The world stays one that comes in the theory: what a keeper does.
-use Rattle.std.proofs.Common.{◌≡◌, ◌⊎◌, inl, inr, ℕ, ◌≤◌, Contains, slice_get, slice_set, Option, Some, None, refl, sym, ap, subst, ◌∙◌, arith}
+use Rattle.std.proofs.Common.{◌≡◌, inl, inr, ℕ, ◌≤◌, Contains, slice_get, slice_set, Option, Some, None, refl, sym, ap, subst, ◌∙◌}
 use Rattle.guest_image.specs.Image.{guest_of}
 use Rattle.fragment_codec.specs.declared.frame.Frame.{Frame}
 use Rattle.log_join.specs.Stores.{StoreView}
-use Rattle.interleaving.specs.Lists.{put}
 use Rattle.interleaving.proofs.Put.{put_same, put_other}
 use Rattle.fenced_theory.specs.Worlds as theory
 use Rattle.fenced_keeper.specs.Following.{Stands}

@@ -1,5 +1,5 @@
 -- What each event does to the world.
-use Rattle.std.specs.Prelude.{ℕ, ◌≡◌, ◌≢◌, ◌<◌, ◌≤◌, ◌⊎◌, ◌++◌, ◌∷◌, [], List, false, length, slice_get, slice_set, Option, Some, None, All, IsSome}
+use Rattle.std.specs.Prelude.{ℕ, ◌≡◌, ◌≢◌, ◌<◌, ◌≤◌, ◌⊎◌, ◌++◌, ◌∷◌, [], List, false, length, slice_get, slice_set, Some, None, All, IsSome}
 use Rattle.input_log.specs.declared.Input.{Input}
 use Rattle.input_log.specs.Inputs.{is_bell}
 use Rattle.ft_types.specs.declared.position.Position.{Position}
@@ -12,7 +12,6 @@ use Rattle.log_join.specs.Stores.{IsJoin, alone}
 use Rattle.lease_rounds.specs.Steps.{HasStepped, HoldsNothing}
 use Rattle.failover_world.specs.Primaries.{IsBooted}
 use Rattle.failover_world.specs.Happenings.{IsFresh}
-use Rattle.failover_world.specs.declared.released.Released.{Released}
 use Rattle.fenced_keeper.specs.Keepers.{Acknowledges}
 use Rattle.fenced_world.specs.declared.event.FencedEvent.{FencedEvent}
 use Rattle.fenced_world.specs.declared.event.FencedEvent.TheVariants as on

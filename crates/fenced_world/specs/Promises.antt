@@ -2,13 +2,10 @@
 use Rattle.std.specs.Prelude.{ℕ, ◌≡◌, ◌<◌, ◌≤◌, ◌⊎◌, true, Bool, Contains, slice_get, Some}
 use Rattle.ft_types.specs.Counts.{count_at}
 use Rattle.fragment_codec.specs.declared.frame.Frame.{Frame}
-use Rattle.fragment_codec.specs.declared.frame.Frame.TheVariants.{Opening}
-use Rattle.fragment_codec.specs.Rules.{OpeningParts}
 use Rattle.log_join.specs.Families.{OfFamily, HonestStore}
 use Rattle.closed_cut.specs.Position.{IsPosition}
 use Rattle.ft_types.specs.declared.position.Position.{Position}
 use Rattle.hart_replay.specs.Images.{GuestTerm, GuestHistory, IsHistoryOf}
-use Rattle.hart_replay.specs.Primaries.{IsTermOfBook}
 use Rattle.failover_theory.specs.Lists.{how_many}
 use Rattle.failover_world.specs.declared.released.Released.{Released}
 use Rattle.failover_world.specs.Worlds.{said_at}

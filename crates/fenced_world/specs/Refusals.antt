@@ -1,5 +1,5 @@
 -- Why events are refused, and what a refused one leaves.
-use Rattle.std.specs.Prelude.{ℕ, ◌≡◌, ◌≢◌, ◌<◌, ◌≤◌, ◌⊎◌, ◌∷◌, [], List, length, slice_get, slice_set, slice_index, Option, Some, None, All}
+use Rattle.std.specs.Prelude.{ℕ, ◌≡◌, ◌≢◌, ◌<◌, ◌≤◌, ◌⊎◌, ◌∷◌, [], List, length, slice_get, slice_index, Option, Some, None, All}
 use Rattle.std.specs.List.{Any}
 use Rattle.ft_types.specs.Devices.{IsOneMore}
 use Rattle.ft_types.specs.declared.position.Position.{Position}

@@ -1,4 +1,4 @@
-use Rattle.std.proofs.Common.{◌<◌, arith}
+use Rattle.std.proofs.Common.{arith}
 use Rattle.fenced_world.proofs.Lists.{is_below}
 use Rattle.fenced_world.proofs.finding.find.Goals as goal
 

@@ -1,6 +1,5 @@
-use Rattle.std.proofs.Common.{◌≡◌, inl, inr, Some, sym, ap, subst, ◌∙◌, arith}
-use Rattle.std.proofs.lemmas.Bool.{cases_lt}
-use Rattle.fenced_world.specs.Keepers.{KeptView, kept_at, IsNewKeeper}
+use Rattle.std.proofs.Common.{◌∙◌, arith}
+use Rattle.fenced_world.specs.Keepers.{KeptView, IsNewKeeper}
 use Rattle.fenced_world.proofs.Lists.{one_more_row}
 use Rattle.fenced_world.proofs.keepers.empty_keepers.Goals as goal
 

@@ -1,4 +1,4 @@
-use Rattle.std.proofs.Common.{◌++◌, take, get_or, None, sym, ap, ◌∙◌, arith}
+use Rattle.std.proofs.Common.{◌++◌, get_or, None, sym, ap, ◌∙◌, arith}
 use Rattle.failover_world.proofs.Rows.{take_all}
 use Rattle.fenced_world.specs.Keepers.{gift_if, gifts_of}
 use Rattle.fenced_world.proofs.Named.{one_more}

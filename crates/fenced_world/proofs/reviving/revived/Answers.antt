@@ -1,4 +1,4 @@
-use Rattle.std.proofs.Common.{◌≡◌, ◌≤◌, ℕ, map, replicate, List, Err, sym, ap, subst, ◌∙◌}
+use Rattle.std.proofs.Common.{◌≡◌, ◌≤◌, ℕ, map, replicate, Err, sym, ap, subst, ◌∙◌}
 use Rattle.std.proofs.lemmas.Result.{err_from_is_err_and}
 use Rattle.ft_types.specs.Counts.{count_at}
 use Rattle.guest_image.specs.Machine.{MachineState}
@@ -7,13 +7,12 @@ use Rattle.page_book.specs.Books.{BookView}
 use Rattle.book_modes.specs.Recordings.{RecordingView, heard_by, HasHonestLog, IsUnused}
 use Rattle.fragment_codec.specs.Rules.{OpeningParts}
 use Rattle.hart_replay.specs.Primaries.{IsPrimary}
-use Rattle.log_join.specs.Stores.{StoreView}
-use Rattle.go_live.specs.Lives.{IsAtPosition, BeginsFrom}
+use Rattle.go_live.specs.Lives.{IsAtPosition}
 use Rattle.go_live.specs.Quorums.{AreEnough, IsNew}
 use Rattle.failover_world.specs.declared.primary.Primary.{Primary}
 use Rattle.failover_world.specs.Primaries.{no_limits}
 use Rattle.failover_world.specs.Gating.{AreAllOffered}
-use Rattle.failover_world.proofs.Reviving.{in_limits, begins_too, unused_too, none_offered, fresh}
+use Rattle.failover_world.proofs.Reviving.{in_limits, begins_too, unused_too, fresh}
 use Rattle.failover_world.proofs.Gates.{on_ok}
 use Rattle.fenced_world.specs.Keepers.{gift_of}
 use Rattle.fenced_world.specs.Running.{RunningView}

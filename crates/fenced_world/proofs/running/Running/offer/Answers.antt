@@ -1,4 +1,4 @@
-use Rattle.std.proofs.Common.{◌≡◌, sym, ap, subst, ◌∙◌}
+use Rattle.std.proofs.Common.{subst}
 use Rattle.fenced_world.specs.Running.{RunningView, GoesOn}
 use Rattle.fenced_world.proofs.Gates.{offered_so, sound_so}
 use Rattle.fenced_world.proofs.running.Running.offer.Goals as goal

@@ -1,4 +1,4 @@
-use Rattle.std.proofs.Common.{◌≡◌, inl, inr, ◌≤◌, ◌+◌, ◌++◌, List, length, vec_len, vec_capacity, refl, sym, ap, subst, ◌∙◌, arith}
+use Rattle.std.proofs.Common.{◌≡◌, inl, inr, ◌++◌, List, length, refl, sym, ap, subst, ◌∙◌, arith}
 use Rattle.output_gate.specs.Gates.{line_of, held_outputs, after_release}
 use Rattle.term_gate.specs.TermGates.{TermGateView}
 use Rattle.failover_world.specs.declared.released.Released.{Released}

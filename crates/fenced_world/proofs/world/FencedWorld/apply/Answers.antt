@@ -1,7 +1,6 @@
-use Rattle.std.proofs.Common.{Result, Ok, Err, IfErr, OnOk, sym, subst}
+use Rattle.std.proofs.Common.{Result, Ok, Err, IfErr, sym, subst}
 use Rattle.fenced_world.specs.declared.event.FencedEvent.TheVariants as on
-use Rattle.fenced_world.specs.Happenings.{Happens, Grants}
-use Rattle.fenced_world.specs.Refusals.{Refuses, RefusesGrant, IsLeft, IsLeftByGrant}
+use Rattle.fenced_world.specs.Refusals.{Refuses, RefusesGrant}
 use Rattle.fenced_world.proofs.Live.{refuses}
 use Rattle.fenced_world.proofs.world.FencedWorld.apply.Goals as goal
 

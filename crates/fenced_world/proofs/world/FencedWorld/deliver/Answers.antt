@@ -1,9 +1,9 @@
-use Rattle.std.proofs.Common.{◌≡◌, ◌≢◌, ◌<◌, slice_get, slice_set, length, Some, None, refl, sym, ap, subst, ◌∙◌, arith}
+use Rattle.std.proofs.Common.{◌≡◌, slice_get, slice_set, Some, sym, ap, subst, ◌∙◌, arith}
 use Rattle.std.proofs.lemmas.Option.{slice_get-get_or}
 use Rattle.std.proofs.lemmas.Result.{err_from_is_err_and}
 use Rattle.fenced_world.specs.declared.event.FencedEvent.TheVariants as on
 use Rattle.failover_world.proofs.Keeping.{contained}
-use Rattle.fenced_world.specs.Keepers.{KeptView, kept_at}
+use Rattle.fenced_world.specs.Keepers.{KeptView}
 use Rattle.fenced_world.specs.Worlds.{WorldView}
 use Rattle.fenced_world.specs.Happenings.{Delivers}
 use Rattle.fenced_world.specs.Refusals.{Refuses}

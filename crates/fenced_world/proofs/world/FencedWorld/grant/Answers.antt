@@ -7,7 +7,7 @@ use Rattle.fenced_world.specs.declared.fault.FencedFault.TheVariants.{Memory}
 use Rattle.fenced_world.specs.Running.{RunningView}
 use Rattle.fenced_world.specs.Granting.{GoesLiveFrom}
 use Rattle.fenced_world.specs.Worlds.{WorldView}
-use Rattle.fenced_world.specs.Happenings.{HasRaised, Grants}
+use Rattle.fenced_world.specs.Happenings.{HasRaised}
 use Rattle.fenced_world.specs.Refusals.{RefusesGrant}
 use Rattle.fenced_world.specs.Tied.{IsWorld}
 use Rattle.fenced_world.proofs.Events.{went_live}

@@ -1,4 +1,4 @@
-use Rattle.std.proofs.Common.{slice_set, None, sym, subst}
+use Rattle.std.proofs.Common.{sym, subst}
 use Rattle.fenced_world.specs.Worlds.{WorldView}
 use Rattle.fenced_world.specs.Tied.{IsWorld}
 use Rattle.fenced_world.proofs.Events.{lost}

@@ -1,7 +1,6 @@
-use Rattle.std.proofs.Common.{◌≡◌, ℕ, ◌<◌, List, [], ◌∷◌, ◌++◌, length, Some, refl, sym, ap, subst, ◌∙◌}
-use Rattle.ft_types.specs.Guests.{GuestParts, IsGuest}
+use Rattle.std.proofs.Common.{◌≡◌, ℕ, ◌<◌, List, [], ◌∷◌, ◌++◌, Some, refl, sym, ap, subst, ◌∙◌}
+use Rattle.ft_types.specs.Guests.{IsGuest}
 use Rattle.guest_image.specs.Image.{ImageContents, guest_of}
-use Rattle.hart_replay.specs.Primaries.{IsPrimary}
 use Rattle.fragment_codec.specs.Rules.{OpeningParts}
 use Rattle.fragment_codec.specs.declared.frame.Frame.{Frame}
 use Rattle.fragment_codec.specs.declared.frame.Frame.TheVariants.{Opening}
@@ -64,16 +63,16 @@ returns c =
     let is = is_first c in
     record {
       begins = record {
-      of_image = c.in_ok-own.ensures;
-      of_keepers = refl;
-      of_need = refl;
-      first = first c;
-      only = is.only;
-      booted = c.in_ok-first.ensures.booted;
-      fresh = c.in_ok-first.ensures.fresh;
-      sent = is.sent;
-      many = is.many;
-      held = subst (λ g. (k : ℕ) → k < c.args.keepers → (x : KeptView) × (kept_at (v c).held k ≡ Some x) × IsNewKeeper g k x) c.guest-guest.ensures c.in_ok-held.ensures.new;
-      released = is.released;
+        of_image = c.in_ok-own.ensures;
+        of_keepers = refl;
+        of_need = refl;
+        first = first c;
+        only = is.only;
+        booted = c.in_ok-first.ensures.booted;
+        fresh = c.in_ok-first.ensures.fresh;
+        sent = is.sent;
+        many = is.many;
+        held = subst (λ g. (k : ℕ) → k < c.args.keepers → (x : KeptView) × (kept_at (v c).held k ≡ Some x) × IsNewKeeper g k x) c.guest-guest.ensures c.in_ok-held.ensures.new;
+        released = is.released;
       };
     }

@@ -1,10 +1,10 @@
-use Rattle.std.proofs.Common.{◌≡◌, slice_set, refl, sym, ap, subst, ◌∙◌}
+use Rattle.std.proofs.Common.{slice_set, refl, sym, ap, subst, ◌∙◌}
 use Rattle.std.proofs.lemmas.Result.{err_from_is_err_and}
 use Rattle.fenced_world.specs.declared.event.FencedEvent.TheVariants as on
 use Rattle.fenced_world.specs.Running.{RunningView, with_book}
 use Rattle.fenced_world.specs.Worlds.{WorldView}
 use Rattle.fenced_world.specs.Happenings.{HasOffered}
-use Rattle.fenced_world.specs.Refusals.{Refuses, IsLeft}
+use Rattle.fenced_world.specs.Refusals.{Refuses}
 use Rattle.fenced_world.proofs.Events.{stepped}
 use Rattle.fenced_world.proofs.Found.{at_found, is_granted, running_again}
 use Rattle.fenced_world.proofs.world.FencedWorld.offer.Goals as goal

@@ -18,8 +18,7 @@ loop-keeper-preserved c =
     let u = c.raise_one.new.self in
     let i = c.loop-keeper.keeper-index in
     let numbers = c.args.keepers.now in
-    let lt = c.loop-keeper-test.true in
-    (
+    let lt = c.loop-keeper-test.true in (
       raised_on c.args.term c.args.self.now w u k c.loop-keeper.invariant.0 does,
       subst (All (IsAtTerm u.held c.args.term)) (sym (take_more numbers i 0 (omega (arith, lt))))
           (All-push (IsAtTerm u.held c.args.term) (take i numbers) k
