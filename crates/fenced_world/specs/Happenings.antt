@@ -165,12 +165,13 @@ pub record Loses (v : WorldView) (keeper : ℕ) (w : WorldView) : Type 0 where
   pub there : kept_at v.held keeper ≢ None
   pub rest : w ≡ record v { held = slice_set v.held keeper None }
 
--- the position of what the keeper wrote down, of no term below its fence, is what it acknowledged last in that term
+-- the position of what the keeper wrote down, of no term below its fence and with a count for each hart, is what it acknowledged last in that term
 pub record HasAcknowledged (v : WorldView) (keeper : ℕ) (w : WorldView) : Type 0 where
   pub kept : KeptView
   pub there : kept_at v.held keeper ≡ Some kept
   pub position : Position
   pub may : Acknowledges kept.place.store kept.fence position
+  pub harts : length position.counts ≡ v.image.harts
   pub acked : Does v position.term (IsAcked keeper position) w.running
   pub rest : w ≡ record v { running = w.running }
 

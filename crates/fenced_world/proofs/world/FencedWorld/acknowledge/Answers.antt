@@ -141,6 +141,9 @@ returns-clause-happens c =
             there = there;
             position = p;
             may = c.in_ok-position.ensures.ok;
+            harts =
+                c.in_ok-position.ensures.harts
+                ∙ ap (λ (g : GuestParts). g.harts) (written_of v c.self.invariant.tied c.self.invariant.parts.guest c.args.keeper x there).1;
             acked = record {
               number = c.in-Some-find.number;
               before = r;
