@@ -23,3 +23,4 @@ pub mod Gates
 pub mod Named
 pub mod Live
 pub mod Given
+pub mod Fences

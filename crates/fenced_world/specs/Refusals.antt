@@ -36,13 +36,12 @@ pub record MayAcknowledge (v : WorldView) (keeper : ℕ) : Type 0 where
   pub position : Position
   pub may : Acknowledges kept.place.store kept.fence position
 
--- the term that the event is of was never granted
+-- the term that the event names was never granted; a keeper's position is always of one that was
 abbrev pub LacksPrimary : WorldView → FencedEvent → Type 0
 LacksPrimary v (on.Step term hart) = IsNotGranted v term
 LacksPrimary v (on.Offer term hart input) = IsNotGranted v term
 LacksPrimary v (on.Seal term) = IsNotGranted v term
 LacksPrimary v (on.Release term) = IsNotGranted v term
-LacksPrimary v (on.Acknowledge keeper) = (x : MayAcknowledge v keeper) × IsNotGranted v x.position.term
 LacksPrimary v _ = ⊥
 
 -- the keepers that the event names

@@ -3,7 +3,7 @@ use Rattle.std.proofs.lemmas.Result.{err_from_is_err_and}
 use Rattle.ft_types.specs.Guests.{GuestParts}
 use Rattle.ft_types.specs.declared.position.Position.{Position}
 use Rattle.fenced_world.specs.declared.event.FencedEvent.TheVariants as on
-use Rattle.fenced_world.specs.declared.fault.FencedFault.TheVariants.{NoPrimary, Ack}
+use Rattle.fenced_world.specs.declared.fault.FencedFault.TheVariants.{Ack}
 use Rattle.fenced_world.specs.Keepers.{KeptView, kept_at}
 use Rattle.fenced_world.specs.Running.{RunningView}
 use Rattle.fenced_world.specs.Worlds.{WorldView}
@@ -12,6 +12,7 @@ use Rattle.fenced_world.specs.Refusals.{Refuses}
 use Rattle.fenced_world.proofs.Guests.{written_of}
 use Rattle.fenced_world.proofs.Found.{at_found, running_again}
 use Rattle.fenced_world.proofs.Acknowledging.{keep_refused, acked_world, ack_refused}
+use Rattle.fenced_world.proofs.Fences.{term_granted}
 use Rattle.fenced_world.proofs.world.FencedWorld.acknowledge.Goals.{in-Ok, in-Err}
 use Rattle.fenced_world.proofs.world.FencedWorld.acknowledge.Goals as goal
 
@@ -48,10 +49,8 @@ returns-in_default-find-clause-refused c =
     let x : KeptView = c.in-Some.kept.now in
     let p : Position = c.in_ok-position.position.now in
     let there : kept_at v.held c.args.keeper ≡ Some x = ap (λ rows. kept_at rows c.args.keeper) (sym c.as_slice.ensures.value) ∙ c.in-Some.ensures.some in
-    subst (λ (w : WorldView). Refuses w (on.Acknowledge c.args.keeper) NoPrimary) c.self.view_is (
-      record { kept = x; there = there; position = p; may = c.in_ok-position.ensures.ok },
-      λ n r at. c.in_default-find.ensures.none n r (ap (λ rs. slice_get rs n) c.as_slice-2.ensures.value ∙ at),
-    )
+    let (n, at) = term_granted v c.self.invariant.tied c.args.keeper x there p c.in_ok-position.ensures.ok in
+    absurd (c.in_default-find.ensures.none n at.primary (ap (λ rs. slice_get rs n) c.as_slice-2.ensures.value ∙ at.there) at.of_term)
 
 pub acknowledge-requires-clause-keeper : goal.acknowledge-requires-clause-keeper
 acknowledge-requires-clause-keeper c =
