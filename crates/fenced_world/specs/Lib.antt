@@ -1,0 +1,10 @@
+pub mod Faults
+pub mod Keepers
+pub mod Running
+pub mod Reviving
+pub mod Worlds
+pub mod Granting
+pub mod Happenings
+pub mod Refusals
+pub mod Promises
+pub mod Tied

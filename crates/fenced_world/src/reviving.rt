@@ -1,0 +1,56 @@
+//! A primary that goes live from what keepers gave.
+
+ghost use Rattle.std.specs.Prelude.{◌≡◌, ◌<◌, ◌≤◌, map, IfOk, IfErr};
+ghost use Rattle.ft_types.specs.declared.names.TheConstants.{KEEPER_LIMIT};
+ghost use Rattle.fenced_world.specs.Reviving.{GoesLive, BeginsTerm, CannotGoLive, stores_in};
+ghost use Rattle.fenced_world.specs.Keepers.{gift_of};
+
+use crate::gating::offer_all;
+use crate::running::Running;
+use crate::starting::no_limits;
+use failover_world::Primary;
+use fenced_keeper::Given;
+use fenced_live::{GivenFault, go_live_given};
+use ft_types::Term;
+use go_live::{Live, LiveFault};
+use guest_image::Image;
+use log_pieces::Sealed;
+use page_book::{Book, Recording};
+use std::alloc::Global;
+use std::result::Result;
+use term_gate::TermGate;
+
+/// The primary that goes live in the term from the stores that were given to it, with its gate.
+pub(crate) fn revived(
+    alloc: Global,
+    image: &Image,
+    given: &[Given<'_>],
+    keepers: u8,
+    need: u8,
+    term: Term,
+) -> Result<Running, GivenFault>
+    requires quorum { (0 < need) × (need ≤ keepers) × (keepers ≤ KEEPER_LIMIT) }
+    ensures goes { IfOk result (λ r. GoesLive image.now keepers need term (map gift_of given.now) r) }
+    ensures begins { IfOk result (λ r. BeginsTerm image.now term (stores_in (map gift_of given.now)) r.primary) }
+    ensures refused { IfErr result (λ fault. CannotGoLive image.now keepers need term (map gift_of given.now) fault) }
+{
+    let live = go_live_given(alloc, image, given, keepers, need, term)?;
+    let sealed = Sealed::new(live.opening.base());
+    let harts = image.harts();
+    let Ok(mut gate) = TermGate::new(alloc, term, harts, keepers, need) else {
+        return Err(GivenFault::Live(LiveFault::Memory));
+    };
+    let mut book = live.book;
+    book.limit_at(no_limits(harts));
+    // proof: its log is honest.
+    let _edges = book.edges();
+    if offer_all(&mut gate, book.machine()).is_err() {
+        return Err(GivenFault::Live(LiveFault::Memory));
+    }
+    let primary = Primary {
+        opening: live.opening,
+        book,
+        sealed,
+    };
+    Ok(Running { primary, gate })
+}
