@@ -1,0 +1,35 @@
+//! What the threads of a keeper tell the one that decides.
+
+use crate::faults::Fault;
+use fragment_codec::Frame;
+use std::alloc::Global;
+use std::sync::Wait;
+
+/// What came of an input or an output.
+#[derive(Drop)]
+pub enum Event {
+    /// The input with this number brought a frame.
+    Frame(usize, Frame),
+    /// An input is at its end, for good.
+    Ended,
+    /// An input is at fault, and passed over up to the end of its connection.
+    Passed(Fault),
+    /// The keeper can't go on.
+    Failed(Fault),
+}
+
+pub type Sender = crossbeam_channel::Sender<Event, Global>;
+
+pub type Receiver = crossbeam_channel::Receiver<Event, Global>;
+
+/// Whoever takes the events is gone.
+#[derive(Clone, Copy, Debug, PartialEq, Eq)]
+pub struct Gone;
+
+/// Sends an event.
+pub fn send<R: Wait>(rt: &R, to: &Sender, event: Event) -> Result<(), Gone> {
+    match to.send(rt, event) {
+        Ok(()) => Ok(()),
+        Err(_) => Err(Gone),
+    }
+}

@@ -1,0 +1,205 @@
+//! The files of a keeper, and images. What they hold outside is in no contract.
+
+ghost use Rattle.std.specs.Prelude.{None};
+
+use crate::faults::{Fault, NamedFile};
+use crate::host::Paths;
+use ft_types::{Guest, Term};
+use guest_image::{Image, read_image};
+use stations::{FilesFault, KeeperFiles};
+use std::alloc::Global;
+use std::fs::{File, TryLockError};
+use std::io;
+use std::io::{Read, Write};
+use std::path::Path;
+use wire::{fence_entry, last_fence};
+
+/// The image of this name.
+pub fn read_image_file<R: Paths + AllocGlobal>(rt: &R, name: &str) -> Result<Image, Fault> {
+    match read_whole(rt, name) {
+        Ok(bytes) => Ok(read_image(rt.alloc(), &bytes)?),
+        Err(error) => Err(fault_of(&error, NamedFile::Image)),
+    }
+}
+
+fn fault_of(error: &io::Error, file: NamedFile) -> Fault {
+    match error.kind() {
+        io::ErrorKind::OutOfMemory => Fault::Memory,
+        _ => Fault::File(file),
+    }
+}
+
+fn log_fault(error: &io::Error) -> FilesFault {
+    match error.kind() {
+        io::ErrorKind::OutOfMemory => FilesFault::Memory,
+        _ => FilesFault::Log,
+    }
+}
+
+fn fences_fault(error: &io::Error) -> FilesFault {
+    match error.kind() {
+        io::ErrorKind::OutOfMemory => FilesFault::Memory,
+        _ => FilesFault::Fences,
+    }
+}
+
+/// The bytes of a file.
+fn read_whole<R: Paths + AllocGlobal>(rt: &R, name: &str) -> io::Result<Vec<u8>> {
+    let mut bytes = Vec::new(rt.alloc());
+    rt.open(name)?.read_to_end(&mut bytes)?;
+    Ok(bytes)
+}
+
+/// The bytes of a file, none where there is no file.
+fn read_if_there<R: Paths + AllocGlobal>(rt: &R, name: &str) -> io::Result<Vec<u8>> {
+    match read_whole(rt, name) {
+        Err(error) if error.kind() == io::ErrorKind::NotFound => Ok(Vec::new(rt.alloc())),
+        read => read,
+    }
+}
+
+/// Brings the folder of a file to disk, and with it that the file is there.
+fn sync_folder<R: Paths + AllocGlobal>(rt: &R, name: &str) -> io::Result<()> {
+    let folder = match Path::new(name).parent() {
+        Some(folder) if !folder.as_str().is_empty() => folder.as_str(),
+        _ => ".",
+    };
+    rt.open(folder)?.sync_all()
+}
+
+/// A file to which is added, which is made where it is not there.
+fn open_to_add<R: Paths + AllocGlobal>(rt: &R, name: &str) -> io::Result<File> {
+    let file = rt.make_to_add(name)?;
+    sync_folder(rt, name)?;
+    Ok(file)
+}
+
+/// Takes the lock on a log, which no other keeper has.
+fn lock(log: &File) -> Result<(), Fault> {
+    match log.try_lock() {
+        Ok(()) => Ok(()),
+        Err(TryLockError::WouldBlock) => Err(Fault::Locked),
+        Err(TryLockError::Error(error)) => Err(fault_of(&error, NamedFile::Log)),
+    }
+}
+
+/// The files of one keeper: the log, which is open to add where the keeper runs, and the fences, which are where its log is handed over.
+#[derive(Drop)]
+pub struct HostFiles<'a, R: Paths + AllocGlobal> {
+    rt: &'a R,
+    guest: Guest,
+    log: &'a str,
+    fences: String,
+    open_log: Option<File>,
+    open_fences: Option<File>,
+}
+
+impl<'a, R: Paths + AllocGlobal> HostFiles<'a, R> {
+    fn new(rt: &'a R, guest: Guest, log: &'a str) -> Result<HostFiles<'a, R>, Fault> {
+        Ok(HostFiles {
+            rt,
+            guest,
+            log,
+            fences: format!(in rt.alloc(); "{log}.fences")?,
+            open_log: None,
+            open_fences: None,
+        })
+    }
+
+    /// The files of a keeper that runs. No other keeper has its log.
+    pub fn of_keeper(rt: &'a R, guest: Guest, log: &'a str) -> Result<HostFiles<'a, R>, Fault> {
+        let mut files = HostFiles::new(rt, guest, log)?;
+        match open_to_add(rt, log) {
+            Ok(file) => {
+                lock(&file)?;
+                files.open_log = Some(file);
+                Ok(files)
+            }
+            Err(error) => Err(fault_of(&error, NamedFile::Log)),
+        }
+    }
+
+    /// The files of a keeper whose log is handed over. Whoever else hands it over waits meanwhile.
+    pub fn of_hand(rt: &'a R, guest: Guest, log: &'a str) -> Result<HostFiles<'a, R>, Fault> {
+        let mut files = HostFiles::new(rt, guest, log)?;
+        match open_locked(rt, files.fences.as_str()) {
+            Ok(file) => {
+                files.open_fences = Some(file);
+                Ok(files)
+            }
+            Err(error) => Err(fault_of(&error, NamedFile::Fences)),
+        }
+    }
+}
+
+/// A file to which is added, of which no other process has the lock.
+fn open_locked<R: Paths + AllocGlobal>(rt: &R, name: &str) -> io::Result<File> {
+    let file = open_to_add(rt, name)?;
+    file.lock()?;
+    Ok(file)
+}
+
+/// Writes a piece to an open file, and brings it to disk.
+fn add_synced(file: &mut File, piece: &[u8]) -> io::Result<()> {
+    file.write_all(piece)?;
+    file.sync_all()
+}
+
+impl<R: Paths + AllocGlobal> KeeperFiles for HostFiles<'_, R> {
+    ghost acts = { λ _. None };
+
+    fn read_log(&mut self, _alloc: Global) -> Result<Vec<u8>, FilesFault> {
+        match read_if_there(self.rt, self.log) {
+            Ok(bytes) => Ok(bytes),
+            Err(error) => Err(log_fault(&error)),
+        }
+    }
+
+    fn cut(&mut self, size: usize) -> Result<(), FilesFault> {
+        match &self.open_log {
+            Some(file) => match file.set_len(size as u64) {
+                Ok(()) => Ok(()),
+                Err(error) => Err(log_fault(&error)),
+            },
+            None => Err(FilesFault::Log),
+        }
+    }
+
+    fn add(&mut self, bytes: &[u8]) -> Result<(), FilesFault> {
+        match &mut self.open_log {
+            Some(file) => match file.write_all(bytes) {
+                Ok(()) => Ok(()),
+                Err(error) => Err(log_fault(&error)),
+            },
+            None => Err(FilesFault::Log),
+        }
+    }
+
+    fn sync(&mut self) -> Result<(), FilesFault> {
+        match &self.open_log {
+            Some(file) => match file.sync_data() {
+                Ok(()) => Ok(()),
+                Err(error) => Err(log_fault(&error)),
+            },
+            None => Err(FilesFault::Log),
+        }
+    }
+
+    fn last_fence(&mut self, _alloc: Global) -> Result<Term, FilesFault> {
+        match read_if_there(self.rt, self.fences.as_str()) {
+            Ok(bytes) => Ok(last_fence(&self.guest, &bytes)),
+            Err(error) => Err(fences_fault(&error)),
+        }
+    }
+
+    fn add_fence(&mut self, term: Term) -> Result<(), FilesFault> {
+        let entry = fence_entry(&self.guest, term);
+        match &mut self.open_fences {
+            Some(file) => match add_synced(file, entry.as_slice()) {
+                Ok(()) => Ok(()),
+                Err(error) => Err(fences_fault(&error)),
+            },
+            None => Err(FilesFault::Fences),
+        }
+    }
+}

@@ -1,0 +1,41 @@
+//! What the program asks of the system.
+
+use std::fs::{File, OpenOptions};
+use std::io;
+use std::io::{Eprint, Print};
+use std::sync::Wait;
+use std::thread::Threads;
+
+/// What opens files by name. The threads of inputs and outputs have it too, which `Files` with its folders does not allow.
+pub trait Paths {
+    /// Opens a file, or a folder, to be read.
+    fn open(&self, path: &str) -> io::Result<File>;
+
+    /// Opens a file that is there, to which is added.
+    fn open_to_add(&self, path: &str) -> io::Result<File>;
+
+    /// Opens a file to which is added, and makes it where it is not there.
+    fn make_to_add(&self, path: &str) -> io::Result<File>;
+}
+
+impl Paths for HostRuntime {
+    fn open(&self, path: &str) -> io::Result<File> {
+        File::open(self, path)
+    }
+
+    fn open_to_add(&self, path: &str) -> io::Result<File> {
+        OpenOptions::new().append(true).open(self, path)
+    }
+
+    fn make_to_add(&self, path: &str) -> io::Result<File> {
+        OpenOptions::new()
+            .append(true)
+            .create(true)
+            .open(self, path)
+    }
+}
+
+/// Files, standard output and standard error, waiting and threads.
+pub trait Host: Paths + AllocGlobal + Print + Eprint + Wait + Threads + Copy + Send + 'static {}
+
+impl<R: Paths + AllocGlobal + Print + Eprint + Wait + Threads + Copy + Send + 'static> Host for R {}

@@ -1,0 +1,5 @@
+pub mod Does
+pub mod Fronts
+pub mod Held
+pub mod Admitted
+pub mod Handshakes

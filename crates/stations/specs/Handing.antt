@@ -1,0 +1,29 @@
+-- What is handed over of a log.
+use Rattle.std.specs.Prelude.{◌++◌, ℕ, List, [], ◌∷◌, Option, None, Some}
+use Rattle.std.specs.List.{AllByRecursion}
+use Rattle.ft_types.specs.Guests.{GuestParts}
+use Rattle.fragment_codec.specs.declared.frame.Frame.{Frame}
+use Rattle.fragment_codec.specs.Streams.{IsPartial, Splits}
+use Rattle.stations.specs.Acts.{Act, SawLog, Does}
+use Rattle.stations.specs.Logs.{IsFrontOf, IsOf}
+use Rattle.stations.specs.declared.faults.LogFault.{LogFault}
+use Rattle.stations.specs.declared.faults.LogFault.TheVariants.{Files, Frame as FrameAt, OtherGuest, Clash}
+
+-- the log was read; these are all its frames, which are of the guest, and less than a whole one stood behind them
+pub record IsHanded (guest : GuestParts) (old new : Option (List Act)) (handed : List ℕ) : Type 0 where
+  pub rest : List ℕ
+  pub acts : Does old new (SawLog (handed ++ rest) ∷ [])
+  pub frames : List Frame
+  pub splits : Splits handed frames []
+  pub own : AllByRecursion (IsOf guest) frames
+  pub partial : IsPartial rest
+
+-- why nothing is handed over: the first fault of the log, or a frame of another guest
+abbrev pub IsNotHanded : GuestParts → Option (List Act) → Option (List Act) → LogFault → Type 0
+IsNotHanded guest old new (Files fault) = Unit {0}
+IsNotHanded guest old new (FrameAt fault) =
+    (log : List ℕ) × (frames : List Frame) × (size : ℕ) × Does old new (SawLog log ∷ []) × IsFrontOf log frames size (Some fault)
+IsNotHanded guest old new OtherGuest =
+    (log : List ℕ) × (frames : List Frame) × (size : ℕ) × Does old new (SawLog log ∷ []) × IsFrontOf log frames size None ×
+    (AllByRecursion (IsOf guest) frames → ⊥)
+IsNotHanded guest old new Clash = ⊥

@@ -1,0 +1,84 @@
+-- What a keeper over a log has, and what it acknowledges.
+use Rattle.std.specs.Prelude.{◌≡◌, ◌<◌, max, ℕ, List, [], ◌∷◌, ◌++◌, take, Option, None, Some}
+use Rattle.ft_types.specs.Guests.{GuestParts}
+use Rattle.ft_types.specs.declared.position.Position.{Position}
+use Rattle.fragment_codec.specs.declared.frame.Frame.{Frame}
+use Rattle.fragment_codec.specs.Streams.{Splits}
+use Rattle.log_join.specs.Answers.{answer_to}
+use Rattle.log_join.specs.Coming.{IsJoinOf}
+use Rattle.log_join.specs.Stores.{StoreView}
+use Rattle.log_join.specs.declared.answers.Put.{Put}
+use Rattle.log_join.specs.declared.answers.Put.TheVariants.{Clash as Clashes, OtherGuest as Foreign}
+use Rattle.closed_cut.specs.Position.{IsPosition}
+use Rattle.fenced_keeper.specs.Keepers.{Acknowledges}
+use Rattle.stations.specs.Acts.{Act, SawLog, CutTo, Added, Synced, SawFence, Does}
+use Rattle.stations.specs.Logs.{IsFrontOf}
+use Rattle.stations.specs.declared.faults.FilesFault.TheVariants.{Memory as NoMemory}
+use Rattle.stations.specs.declared.faults.LogFault.{LogFault}
+use Rattle.stations.specs.declared.faults.LogFault.TheVariants.{Files, Frame as FrameAt, OtherGuest, Clash}
+
+pub record StationView : Type 0 where
+  pub store : StoreView
+  pub fresh : List ℕ  -- the bytes of those of its frames that are not in the log yet
+
+-- the log and what is to be added to it are whole frames, and the store is the join of these
+pub record IsOnLog (log : List ℕ) (station : StationView) : Type 0 where
+  pub frames : List Frame
+  pub splits : Splits (log ++ station.fresh) frames []
+  pub join : IsJoinOf station.store.guest frames station.store
+
+-- what is fresh is added to the log, then the log is brought to disk, and then the fence is read
+abbrev pub logging : List ℕ → ℕ → List Act
+logging fresh fence = Added fresh ∷ Synced ∷ SawFence fence ∷ []
+
+-- the store's position is acknowledged, unless its term is 0 or below the fence
+abbrev pub Answers : StoreView → ℕ → Option Position → Type 0
+Answers store fence None = (p : Position) × IsPosition store p × (p.term < max 1 fence)
+Answers store fence (Some p) = Acknowledges store (max 1 fence) p
+
+-- the log was read, and cut behind its frames; the keeper has these and no others
+pub record IsBegun (guest : GuestParts) (old new : Option (List Act)) (station : StationView) : Type 0 where
+  pub log : List ℕ
+  pub frames : List Frame
+  pub size : ℕ
+  pub front : IsFrontOf log frames size None
+  pub acts : Does old new (SawLog log ∷ CutTo size ∷ [])
+  pub same_guest : station.store.guest ≡ guest
+  pub on_log : IsOnLog (take size log) station
+  pub nothing_fresh : station.fresh ≡ []
+
+-- one of the frames met a store of those before it so
+pub record IsMet (guest : GuestParts) (frames : List Frame) (put : Put) : Type 0 where
+  pub before : List Frame
+  pub frame : Frame
+  pub behind : List Frame
+  pub parts : frames ≡ before ++ frame ∷ behind
+  pub store : StoreView
+  pub join : IsJoinOf guest before store
+  pub answer : answer_to store frame ≡ put
+
+-- why no keeper begins: the first fault of the log, or how one of its frames met those before it
+abbrev pub IsNoKeepers : GuestParts → Option (List Act) → Option (List Act) → LogFault → Type 0
+IsNoKeepers guest old new (Files fault) = Unit {0}
+IsNoKeepers guest old new (FrameAt fault) =
+    (log : List ℕ) × (frames : List Frame) × (size : ℕ) × Does old new (SawLog log ∷ []) × IsFrontOf log frames size (Some fault)
+IsNoKeepers guest old new OtherGuest =
+    (log : List ℕ) × (frames : List Frame) × (size : ℕ) × Does old new (SawLog log ∷ []) × IsFrontOf log frames size None × IsMet guest frames Foreign
+IsNoKeepers guest old new Clash =
+    (log : List ℕ) × (frames : List Frame) × (size : ℕ) × Does old new (SawLog log ∷ []) × IsFrontOf log frames size None × IsMet guest frames Clashes
+
+-- ---- private words
+
+-- why a frame of a log was not put into the store
+abbrev pub IsPutFault : StoreView → Frame → LogFault → Type 0
+IsPutFault store frame OtherGuest = answer_to store frame ≡ Foreign
+IsPutFault store frame Clash = answer_to store frame ≡ Clashes
+IsPutFault store frame (Files fault) = fault ≡ NoMemory
+IsPutFault store frame (FrameAt fault) = ⊥
+
+-- why the frames of a log are no keeper's
+abbrev pub IsBeginFault : GuestParts → List Frame → LogFault → Type 0
+IsBeginFault guest frames OtherGuest = IsMet guest frames Foreign
+IsBeginFault guest frames Clash = IsMet guest frames Clashes
+IsBeginFault guest frames (Files fault) = fault ≡ NoMemory
+IsBeginFault guest frames (FrameAt fault) = ⊥

@@ -1,0 +1,19 @@
+//! What a keeper that is a process of its own decides, and whoever hands its log out: what stands in a log file, which frames are added to it, what is
+//! acknowledged behind the fence, and which log is handed to a term. The files are a trait; no file, stream or thread is named here.
+#![tactic(auto)]
+
+mod admitting;
+mod faults;
+mod files;
+mod handing;
+mod laws;
+mod log_front;
+mod station;
+
+pub use admitting::is_of;
+pub use faults::{FenceFault, FilesFault, LogFault};
+pub use files::KeeperFiles;
+pub use handing::{FencedLog, fence_off, hand_over};
+pub use laws::handshake;
+pub use log_front::{LogFront, read_frames};
+pub use station::KeeperStation;

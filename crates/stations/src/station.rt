@@ -1,0 +1,185 @@
+//! A keeper over its log.
+
+ghost use Rattle.std.specs.Prelude.{◌≡◌, ◌≢◌, ◌≤◌, ◌+◌, ◌++◌, ◌∷◌, ℕ, List, [], length, vec_len, vec_capacity, Ok, None, IfOk, IfErr, OnOk, OnErr, IfSome};
+ghost use Rattle.fragment_codec.specs.declared.frame.Frame.{Frame as LogFrame};
+ghost use Rattle.fragment_codec.specs.Streams.{spelling, Splits};
+ghost use Rattle.log_join.specs.Answers.{answer_to};
+ghost use Rattle.log_join.specs.Coming.{Come, IsJoinOf};
+ghost use Rattle.log_join.specs.Stores.{StoreView, IsJoin, alone};
+ghost use Rattle.stations.specs.Acts.{Act, Does, added_by};
+ghost use Rattle.stations.specs.Stations.{Answers, IsBegun, IsOnLog, IsBeginFault, IsNoKeepers, IsPutFault, logging};
+
+use crate::admitting::answer_of;
+use crate::faults::{FilesFault, LogFault};
+use crate::files::KeeperFiles;
+use crate::log_front::{LogFront, read_frames};
+use fragment_codec::{FIRST_TERM, FRAME_LIMIT, Frame, write_frame};
+use ft_types::{Guest, Memory, MemorySink, Position, Term};
+use log_join::{Put, Store};
+use std::alloc::Global;
+use std::marker::Model;
+use std::option::Option;
+use std::result::Result;
+use tracked_position::Tracked;
+
+/// Puts a frame of a log into the store.
+fn put_logged(alloc: Global, held: &mut Tracked, frame: Frame) -> Result<(), LogFault>
+    ensures joined { OnOk result (IsJoin held.old (alone frame) held.new) }
+    ensures fault { IfErr result (λ f. IsPutFault held.old frame f) }
+{
+    match held.put(alloc, frame)? {
+        Put::New | Put::Same => Ok(()),
+        Put::OtherGuest => Err(LogFault::OtherGuest),
+        Put::Clash => Err(LogFault::Clash),
+    }
+}
+
+/// The store of the frames of a log.
+fn hold(alloc: Global, guest: Guest, frames: Vec<Frame>) -> Result<Tracked, LogFault>
+    ensures join { IfOk result (λ held. IsJoinOf guest frames.items held) }
+    ensures fault { IfErr result (λ f. IsBeginFault guest frames.items f) }
+{
+    let mut held = Tracked::new(alloc, guest);
+    for frame in frames {
+        put_logged(alloc, &mut held, frame)?;
+    }
+    Ok(held)
+}
+
+/// Adds bytes for which there is room.
+fn add(fresh: &mut Vec<u8>, bytes: &[u8])
+    requires { vec_len fresh.old + length bytes.now ≤ vec_capacity fresh.old }
+    ensures { fresh.new.items ≡ fresh.old.items ++ bytes.now }
+{
+    let _room = fresh.extend_from_slice(bytes);
+}
+
+/// What is acknowledged of a store behind a fence.
+fn acknowledged(held: &Tracked, fence: Term) -> Option<Position>
+    ensures answers { Answers held.now fence result }
+    ensures harts { IfSome result (λ p. length p.counts ≡ held.now.guest.harts) }
+{
+    let position = held.position();
+    if position.term < fence.max(FIRST_TERM) {
+        return None;
+    }
+    Some(*position)
+}
+
+/// A keeper over its log: the store of its frames, and the bytes of those that are not in the log yet.
+#[derive(Drop)]
+pub struct KeeperStation {
+    held: Tracked,
+    fresh: Vec<u8>,
+}
+
+impl Model for KeeperStation {
+    ghost use Rattle.stations.specs.Stations.{StationView};
+
+    ghost Value = { StationView };
+
+    ghost use Rattle.std.specs.Coded.{codes};
+    ghost use Rattle.log_join.specs.Stores.{coded_store};
+
+    ghost coded = { Prim.hlevel (codes, coded_store) };
+
+    ghost view = { λ s. record { store = s.held; fresh = s.fresh.items } };
+}
+
+impl KeeperStation {
+    /// The keeper of a guest that begins, or comes back, with what its log has. A rest that is less than a whole frame is cut off. It
+    /// doesn't begin where the log has a fault, which is left as it is.
+    pub fn begin<F: KeeperFiles>(
+        alloc: Global,
+        guest: Guest,
+        files: &mut F,
+    ) -> Result<KeeperStation, LogFault>
+        ensures begun { IfOk result (λ station. IsBegun guest (F.acts files.old) (F.acts files.new) station) }
+        ensures fault { IfErr result (λ f. IsNoKeepers guest (F.acts files.old) (F.acts files.new) f) }
+    {
+        let log = files.read_log(alloc)?;
+        let LogFront {
+            frames,
+            size,
+            fault,
+        } = read_frames(alloc, &log)?;
+        if let Some(fault) = fault {
+            return Err(LogFault::Frame(fault));
+        }
+        let held = hold(alloc, guest, frames)?;
+        files.cut(size)?;
+        Ok(KeeperStation {
+            held,
+            fresh: Vec::new(alloc),
+        })
+    }
+
+    /// The store of all its frames.
+    pub fn store(&self) -> &Store
+        ensures { result.now ≡ self.now.store }
+    {
+        self.held.store()
+    }
+
+    /// Takes a frame that is new, and its bytes.
+    fn take_new(&mut self, alloc: Global, frame: Frame) -> Result<(), Memory>
+        requires { answer_to self.old.store frame ≡ Put.New }
+        ensures joined { OnOk result (IsJoin self.old.store (alone frame) self.new.store) }
+        ensures fresh { OnOk result (self.new.fresh ≡ self.old.fresh ++ spelling frame) }
+        ensures one { OnOk result (Splits (spelling frame) (frame ∷ []) []) }
+        ensures err { OnErr result (self.new ≡ self.old) }
+    {
+        let mut spelled = MemorySink::new(alloc, FRAME_LIMIT);
+        if write_frame(&frame, &mut spelled).is_err() {
+            return Err(Memory);
+        }
+        self.fresh.reserve(spelled.bytes().len())?;
+        self.held.put(alloc, frame)?;
+        add(&mut self.fresh, spelled.bytes());
+        Ok(())
+    }
+
+    /// Takes a frame, of whatever term, unless another content stands at its key: what was acknowledged is never given up.
+    pub fn take(&mut self, alloc: Global, frame: Frame) -> Result<Put, Memory>
+        // The answer is as its key stands.
+        ensures answer { IfOk result (λ p. p ≡ answer_to self.old.store frame) }
+        // One that is new is joined to the store, and its spelling is to be added to the log. No other changes anything.
+        ensures joined { result ≡ Ok Put.New → IsJoin self.old.store (alone frame) self.new.store }
+        ensures fresh { result ≡ Ok Put.New → self.new.fresh ≡ self.old.fresh ++ spelling frame }
+        ensures stays { IfOk result (λ p. p ≢ Put.New → self.new ≡ self.old) }
+        ensures err { OnErr result (self.new ≡ self.old) }
+        // So it stays the keeper of its log.
+        ensures log { (log : List ℕ) → IsOnLog log self.old → IsOnLog log self.new }
+    {
+        let put = answer_of(alloc, self.held.store(), &frame)?;
+        if let Put::New = put {
+            self.take_new(alloc, frame)?;
+        }
+        Ok(put)
+    }
+
+    /// Adds to the log what is fresh, brings the log to disk, and then reads the fence: what may be acknowledged behind that. Where a file fails the
+    /// keeper is gone, and is to begin again.
+    pub fn log_and_acknowledge<F: KeeperFiles>(
+        self,
+        alloc: Global,
+        files: &mut F,
+    ) -> Result<(KeeperStation, Option<Position>), FilesFault>
+        // In this order; and what is acknowledged is the position of the store.
+        ensures acts { IfOk result (λ r. (fence : ℕ) × Does (F.acts files.old) (F.acts files.new) (logging self.fresh fence) × Answers self.store fence r.1) }
+        ensures harts { IfOk result (λ r. IfSome r.1 (λ p. length p.counts ≡ self.store.guest.harts)) }
+        // All its frames are in the log now.
+        ensures store { IfOk result (λ r. r.0 ≡ record { store = self.store; fresh = [] }) }
+        ensures log { IfOk result (λ r. (log : List ℕ) → IsOnLog log self → IsOnLog (log ++ self.fresh) r.0) }
+        // At a fault a beginning of what is fresh was added, and no more.
+        ensures failed { OnErr result ((done : List Act) × (rest : List ℕ) × Does (F.acts files.old) (F.acts files.new) done × (self.fresh ≡ added_by done ++ rest)) }
+    {
+        let KeeperStation { held, mut fresh } = self;
+        files.add(&fresh)?;
+        files.sync()?;
+        let fence = files.last_fence(alloc)?;
+        fresh.clear();
+        let acknowledged = acknowledged(&held, fence);
+        Ok((KeeperStation { held, fresh }, acknowledged))
+    }
+}

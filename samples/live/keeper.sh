@@ -1,0 +1,271 @@
+#!/bin/bash
+# keeper.sh [LIVE [WORKBENCH [ROUNDS [SEED]]]]: three keepers, each a process of its own, over FIFOs that are fed with the frames of a run. One of them
+# is killed (kill -9) at random moments and begins again, and then two hand their logs over to term 2 while frames still come. Of each of these two, all
+# that it ever acknowledged of term 1 must lie inside what it handed over; the third must come to the end of the run. Then what a keeper refuses:
+# each with its fault line and its status. LIVE and WORKBENCH are the built programs, by themselves those that `rt run` leaves. The last line is
+# 'N passed, N failed'. Needs bash, GNU od and mkfifo.
+set -u
+top=$(cd "$(dirname "$0")/../.." && pwd)
+live=${1:-$top/crates/live/out/live}
+workbench=${2:-$top/crates/workbench/out/workbench}
+rounds=${3:-5}
+RANDOM=${4:-1}
+image=$top/samples/four_harts.image
+work=$(mktemp -d)
+children=()
+passed=0
+failed=0
+
+# Ends what this script started, and nothing else.
+finish() {
+    for child in "${children[@]}"; do kill -9 "$child" 2> /dev/null; done
+    wait 2> /dev/null
+    rm -rf "$work"
+}
+trap finish EXIT
+trap 'exit 1' INT TERM
+
+for program in "$live" "$workbench"; do
+    if [ ! -x "$program" ]; then
+        echo "there is no $program: build it by .ci/run, or by rt run in its folder"
+        exit 2
+    fi
+done
+
+pass() { passed=$((passed + 1)); }
+
+# fail WHAT: counts it, and shows what standard input has of it.
+fail() {
+    failed=$((failed + 1))
+    echo "failed: $1"
+    sed -n '1,20s/^/    /p'
+}
+
+# is WHAT WANTED GOT: whether two texts are one.
+is() {
+    if [ "$2" = "$3" ]; then pass; else printf 'wanted: %s\ngot: %s\n' "$2" "$3" | fail "$1"; fi
+}
+
+# split LOG FOLDER: writes the frames of a log into the folder, each into a file with its number of four digits.
+split() {
+    local size at=0 number=0 body
+    size=$(wc -c < "$1")
+    mkdir -p "$2"
+    while [ "$at" -lt "$size" ]; do
+        body=$(od -An -tu4 --endian=little -j "$((at + 4))" -N 4 "$1" | tr -d ' ')
+        tail -c "+$((at + 1))" "$1" | head -c "$((body + 40))" > "$2/$(printf %04d "$number")"
+        at=$((at + body + 40))
+        number=$((number + 1))
+    done
+}
+
+# pause: sleeps for up to 20 ms.
+pause() { sleep "0.0$(printf %02d $((RANDOM % 20)))"; }
+
+# feed FIFO FRAMES: sends all frames, and begins anew where the reader is gone, until all went out over one connection.
+feed() {
+    local frame whole=no
+    while [ "$whole" = no ]; do
+        whole=yes
+        {
+            for frame in "$2"/*; do
+                if ! cat "$frame"; then
+                    whole=no
+                    break
+                fi
+                pause
+            done
+        } > "$1" 2> /dev/null
+    done
+}
+
+# hear FIFO FILE: keeps what is acknowledged, over one connection behind the other.
+hear() { while true; do cat "$1" >> "$2"; done; }
+
+# keep ROUND K: starts keeper K of a round, whose process is then `started`.
+keep() {
+    "$live" keeper "$image" "$2" "$1/log.$2" from "$1/frames.$2" to "$1/acks.$2" 2>> "$1/faults.$2" &
+    started=$!
+    children+=("$started")
+}
+
+# counts FILE: the term and the counts of the position of the frames in a file.
+counts() { "$workbench" cut "$image" "$1" | sed -n 's/^position term \([0-9]*\) top [0-9]* counts \(.*\)$/\1 \2/p'; }
+
+# inside ACKS POSITION: prints each acknowledgement of term 1 that is not inside a position of term 1.
+inside() {
+    awk -v position="$2" '
+        BEGIN { harts = split(position, limit, " ") }
+        $1 == "ack" && $2 == 1 {
+            bad = limit[1] != 1 || NF != harts + 3
+            for (i = 2; i <= harts; i++) if ($(i + 2) > limit[i]) bad = 1
+            if (bad) print
+        }' "$1"
+}
+
+# frames_of HANDED FILE: writes the frames of what was handed over to a file, and prints its first line without its seal.
+frames_of() {
+    local line
+    line=$(head -n 1 "$1")
+    tail -c "+$((${#line} + 2))" "$1" > "$2"
+    echo "${line% *}"
+}
+
+# round NUMBER: one drill.
+round() {
+    local at=$work/round.$1 k victim=$((RANDOM % 3)) process kills heirs
+    mkdir "$at"
+    for k in 0 1 2; do
+        mkfifo "$at/frames.$k" "$at/acks.$k"
+        keep "$at" "$k"
+        process[$k]=$started
+        hear "$at/acks.$k" "$at/said.$k" &
+        children+=("$!")
+        feed "$at/frames.$k" "$work/frames" &
+        feeder[$k]=$!
+        children+=("$!")
+    done
+    for kills in 1 2 3; do
+        sleep "0.$((RANDOM % 3))$((RANDOM % 10))"
+        kill -9 "${process[$victim]}"
+        wait "${process[$victim]}" 2> /dev/null
+        pause
+        keep "$at" "$victim"
+        process[$victim]=$started
+    done
+    sleep "0.$((RANDOM % 4))$((RANDOM % 10))"
+    heirs="$victim $(((victim + 1) % 3))"
+    for k in $heirs; do
+        if "$live" hand "$image" "$k" "$at/log.$k" 2 > "$at/handed.$k" 2> "$at/refused.$k"; then pass; else fail "round $1: hand $k" < "$at/refused.$k"; fi
+    done
+    for k in 0 1 2; do wait "${feeder[$k]}"; done
+    # Until the keeper that is not fenced has come to the end.
+    k=$(((victim + 2) % 3))
+    for _ in $(seq 100); do
+        if tail -n 1 "$at/said.$k" | grep -q "^ack 1 $k $end "; then break; fi
+        sleep 0.05
+    done
+    is "round $1: keeper $k comes to the end" "ack 1 $k $end" "$(tail -n 1 "$at/said.$k" | sed 's/ [0-9a-f]*$//')"
+    "$workbench" replay "$image" "$at/log.$k" > "$at/text" 2>&1
+    if cmp -s "$work/text" "$at/text"; then pass; else fail "round $1: the replay of log $k" < "$at/text"; fi
+    for k in $heirs; do
+        is "round $1: keeper $k hands over" "handed 2 $k $(($(wc -c < "$at/handed.$k") - $(head -n 1 "$at/handed.$k" | wc -c)))" "$(frames_of "$at/handed.$k" "$at/heir.$k")"
+        inside "$at/said.$k" "$(counts "$at/heir.$k")" > "$at/outside.$k"
+        if [ -s "$at/outside.$k" ]; then fail "round $1: keeper $k acknowledged more than it handed over" < "$at/outside.$k"; else pass; fi
+        grep -c '^ack 1' "$at/said.$k" >> "$work/tally"
+    done
+    # Both together lead at least as far as each acknowledged.
+    "$workbench" join "$image" "$at/joined" "$at/heir.${heirs% *}" "$at/heir.${heirs#* }" > /dev/null
+    for k in $heirs; do
+        inside "$at/said.$k" "$(counts "$at/joined")" > "$at/outside.$k"
+        if [ -s "$at/outside.$k" ]; then fail "round $1: what both handed over lacks what keeper $k acknowledged" < "$at/outside.$k"; else pass; fi
+    done
+    for k in 0 1 2; do
+        kill -9 "${process[$k]}" 2> /dev/null
+        wait "${process[$k]}" 2> /dev/null
+        if [ -s "$at/faults.$k" ]; then fail "round $1: keeper $k has a fault" < "$at/faults.$k"; else pass; fi
+    done
+}
+
+# refuses WHAT STATUS LINE WORDS..: what the words are answered, on standard error, with this status.
+refuses() {
+    local what=$1 status=$2 line=$3 got
+    shift 3
+    "$live" "$@" > "$work/out" 2> "$work/err" < /dev/null
+    got=$?
+    is "$what: status" "$status" "$got"
+    is "$what: line" "$line" "$(cat "$work/err")"
+}
+
+cut_line() { head -n "$1" "$2" | tail -n 1 | sed 's/ [0-9a-f]*$//'; }
+
+# Words for each of four harts, of which a piece of a log tells 256: a run of some 160 frames.
+awk 'BEGIN { for (i = 1; i <= 10240; i++) for (hart = 0; hart < 4; hart++) printf "%d %d word %08x\n", hart, 4 * i, i }' > "$work/script"
+"$workbench" run "$image" "$work/script" 50000 "$work/run.log" > "$work/text" || exit 1
+end=$(counts "$work/run.log" | cut -d' ' -f2-)
+split "$work/run.log" "$work/frames"
+for number in $(seq "$rounds"); do round "$number"; done
+
+# Files as inputs and outputs are read and written once, and the keeper ends.
+: > "$work/acks"
+refuses 'a keeper over a file' 0 '' keeper "$image" 4 "$work/log" from "$work/run.log" to "$work/acks"
+is 'it asks for all frames' 'again 4' "$(cut_line 1 "$work/acks")"
+is 'it acknowledges the end' "ack 1 4 $end" "$(tail -n 1 "$work/acks" | sed 's/ [0-9a-f]*$//')"
+if cmp -s "$work/run.log" "$work/log"; then pass; else fail 'the log has the frames that came' < /dev/null; fi
+refuses 'the same frames again' 0 '' keeper "$image" 4 "$work/log" from "$work/run.log" "$work/run.log" to "$work/acks"
+if cmp -s "$work/run.log" "$work/log"; then pass; else fail 'frames that come again are not added' < /dev/null; fi
+
+# A rest that is less than a frame is cut off.
+size=$(wc -c < "$work/run.log")
+head -c "$((size - 7))" "$work/run.log" > "$work/torn"
+: > "$work/nothing"
+refuses 'a torn log' 0 '' keeper "$image" 0 "$work/torn" from "$work/nothing" to "$work/acks"
+is 'its rest is cut off' "$((size - $(wc -c < "$work/frames/$(ls "$work/frames" | tail -n 1)")))" "$(wc -c < "$work/torn")"
+
+# Words.
+refuses 'no words' 2 'fault usage'
+refuses 'a keeper without outputs' 2 'fault usage' keeper "$image" 0 "$work/log" from "$work/run.log"
+refuses 'a sixth keeper' 2 'fault usage' keeper "$image" 5 "$work/log" from "$work/run.log" to "$work/acks"
+refuses 'term 0' 2 'fault usage' hand "$image" 0 "$work/log" 0
+refuses 'a number of another form' 2 'fault usage' hand "$image" 00 "$work/log" 1
+
+# Logs.
+cp "$work/run.log" "$work/broken"
+printf 'x' >> "$work/broken"
+refuses 'a log at fault' 1 'fault log frame 1' keeper "$image" 0 "$work/broken" from "$work/nothing" to "$work/acks"
+is 'it is left as it is' "$((size + 1))" "$(wc -c < "$work/broken")"
+refuses 'a log at fault, handed over' 1 'fault log frame 1' hand "$image" 0 "$work/broken" 2
+"$workbench" run "$top/samples/hand_over.image" "$top/samples/hand_over.script" 100 "$work/other.log" > "$work/other.text"
+cp "$work/other.log" "$work/foreign"
+refuses "another guest's log" 1 'fault log guest' keeper "$image" 0 "$work/foreign" from "$work/nothing" to "$work/acks"
+refuses "another guest's log, handed over" 1 'fault log guest' hand "$image" 0 "$work/foreign" 2
+mkfifo "$work/waits"
+"$live" keeper "$image" 0 "$work/log" from "$work/waits" to "$work/acks" &
+holder=$!
+children+=("$holder")
+for _ in $(seq 100); do
+    if [ "$(grep -c '^again 0' "$work/acks")" -gt 1 ]; then break; fi
+    sleep 0.05
+done
+refuses 'a log that another keeper has' 1 'fault log locked' keeper "$image" 1 "$work/log" from "$work/nothing" to "$work/acks"
+kill -9 "$holder"
+wait "$holder" 2> /dev/null
+
+# Terms.
+refuses 'a log is handed over' 0 '' hand "$image" 4 "$work/log" 3
+is 'its first line' "handed 3 4 $size" "$(head -n 1 "$work/out" | sed 's/ [0-9a-f]*$//')"
+refuses 'to the same term' 1 'fault fence 3' hand "$image" 4 "$work/log" 3
+printf 'fence 9 0000' >> "$work/log.fences"
+refuses 'behind a torn fence' 0 '' hand "$image" 4 "$work/log" 4
+refuses 'to an earlier term' 1 'fault fence 4' hand "$image" 4 "$work/log" 2
+: > "$work/acks"
+refuses 'a keeper behind its fence' 0 '' keeper "$image" 4 "$work/log" from "$work/run.log" to "$work/acks"
+is 'it acknowledges nothing of an earlier term' 'again 4' "$(sed 's/ [0-9a-f]*$//' "$work/acks")"
+
+# Inputs and outputs.
+printf 'VFx' > "$work/bad"
+refuses 'an input at fault' 1 'fault input 1 frame 2' keeper "$image" 0 "$work/new.1" from "$work/run.log" "$work/bad" to "$work/acks"
+if cmp -s "$work/run.log" "$work/new.1"; then pass; else fail 'the other input is taken' < /dev/null; fi
+refuses "another guest's frames" 1 'fault input 0 guest' keeper "$image" 0 "$work/new.2" from "$work/other.log" to "$work/acks"
+is 'they are not taken' 0 "$(wc -c < "$work/new.2")"
+printf '0 5 word 0000002b\n' > "$work/script"
+"$workbench" run "$top/samples/hand_over.image" "$work/script" 100 "$work/clash.log" > "$work/out"
+"$live" keeper "$top/samples/hand_over.image" 0 "$work/new.3" from "$work/other.log" to "$work/acks"
+refuses 'a frame that clashes' 1 'fault input 0 clash' keeper "$top/samples/hand_over.image" 0 "$work/new.3" from "$work/clash.log" to "$work/acks"
+if cmp -s "$work/other.log" "$work/new.3"; then pass; else fail 'the log is left as it was' < /dev/null; fi
+refuses 'an input that is not there' 1 "fault file $work/none" keeper "$image" 0 "$work/new.4" from "$work/none" to "$work/acks"
+refuses 'an output that is full' 1 'fault file /dev/full' keeper "$image" 0 "$work/new.5" from "$work/waits" to /dev/full
+"$live" hand "$image" 0 "$work/new.5" 1 > /dev/full 2> "$work/err"
+is 'standard output that is full' 'fault write' "$(cat "$work/err")"
+(
+    trap '' XFSZ
+    ulimit -f 1
+    exec "$live" keeper "$image" 0 "$work/new.6" from "$work/run.log" to /dev/null
+) 2> "$work/err"
+is 'a disk that is full' "fault file $work/new.6" "$(cat "$work/err")"
+refuses 'its log begins again' 0 '' keeper "$image" 0 "$work/new.6" from "$work/run.log" to "$work/acks"
+if cmp -s "$work/run.log" "$work/new.6"; then pass; else fail 'it comes to the end' < /dev/null; fi
+
+echo "of $(awk '{ sum += $1 } END { print sum + 0 }' "$work/tally") acknowledgements each lies inside what was handed over, unless it is told above"
+echo "$passed passed, $failed failed"
+[ "$failed" = 0 ]
