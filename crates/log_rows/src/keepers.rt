@@ -127,8 +127,8 @@ type Row = (Deed, bool, Told, Term);
 
 type Kept = FencedKeeper<Drawer>;
 
-fn begin(alloc: Global, drawer: Drawer) -> Result<Kept, Fail> {
-    Ok(FencedKeeper::begin(alloc, Keeper::new(0), drawer).map_err(|_| "a place")?)
+fn begin(alloc: Global, drawer: Drawer) -> Result<Kept, PlaceFault> {
+    FencedKeeper::begin(alloc, Keeper::new(0), drawer)
 }
 
 fn says(keeper: &Kept) -> Told {
