@@ -4,7 +4,7 @@ ghost use Rattle.std.specs.Prelude.{◌≡◌, ◌⊎◌, IfOk, OnOk, OnErr, Mat
 ghost use Rattle.ft_types.specs.Devices.{IsOneMore};
 
 use crate::come::{Come, frame_of, guest_of};
-use fenced_keeper::{FencedKeeper, KeepFault, Place, PlaceFault, RaiseFault, keepers_follow};
+use fenced_keeper::{FencedKeeper, KeepFault, Place, PlaceFault, keepers_follow};
 use ft_types::{Count, Keeper, Memory, Term};
 use log_join::{Store, joins_of_stores};
 use std::alloc::Global;
