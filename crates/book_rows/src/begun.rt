@@ -1,9 +1,10 @@
 //! Books that fall by chance begin so, and what is compared of them.
 
+use crate::starts::begin;
 use edge_log::EdgeLog;
 use fixtures::{Crew, recorder};
 use ft_types::{Count, Counts, Memory};
-use guest_image::{Image, Machine};
+use guest_image::Image;
 use input_log::InputLog;
 use page_book::{Book, Leg, Mode, Recording, Replaying};
 use std::alloc::Global;
@@ -24,16 +25,14 @@ fn leg_of(ends: Counts, edges: &EdgeLog, inputs: &InputLog) -> Result<Leg, Memor
     })
 }
 
-fn begin(
+fn replayer_once(
     alloc: Global,
     image: &Image,
     ends: Counts,
     edges: &EdgeLog,
     inputs: &InputLog,
 ) -> Option<Book<Replaying>> {
-    let start = Machine::boot(alloc, image).ok()?;
-    let leg = leg_of(ends, edges, inputs).ok()?;
-    Book::<Replaying>::begin(alloc, start, leg).ok()
+    begin(alloc, image, leg_of(ends, edges, inputs).ok()?)
 }
 
 /// A book that obeys these edges and gives these inputs, up to these counts.
@@ -44,9 +43,9 @@ pub fn replayer(
     edges: &EdgeLog,
     inputs: &InputLog,
 ) -> Result<Book<Replaying>, Fail> {
-    match begin(alloc, image, ends, edges, inputs) {
+    match replayer_once(alloc, image, ends, edges, inputs) {
         Some(book) => Ok(book),
-        None => Ok(begin(alloc, image, ends, edges, inputs).ok_or("book")?),
+        None => Ok(replayer_once(alloc, image, ends, edges, inputs).ok_or("book")?),
     }
 }
 

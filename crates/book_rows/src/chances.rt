@@ -2,7 +2,7 @@
 
 use crate::begun::{recording, replayer, same_machine};
 use edge_log::EdgeLog;
-use fixtures::{Crew, Dice, hart, image_of};
+use fixtures::{Crew, Dice, file_of, hart, image_of};
 use ft_types::{Count, Counts, HART_ROW, Memory};
 use guest_image::Image;
 use input_log::InputLog;
@@ -16,23 +16,11 @@ static MIXES: &[u8] = b"800010b7\n80008093\n00600113\nf14021f3\n00118193\n0011f2
 00c29293\n001282b3\n0021f313\n00030663\n0032a3af\n0080006f\n0002a383\n00319413\n008181b3\n\
 007181b3\n00518193\nfff10113\nfc0116e3\nf0000237\n00022a23\n";
 
-fn mixing_text(alloc: Global, harts: u8) -> Result<Vec<u8>, Memory> {
-    let head: &[u8] = match harts {
-        2 => b"harts 2\npages 2\n",
-        3 => b"harts 3\npages 2\n",
-        _ => b"harts 4\npages 2\n",
-    };
-    let mut text = Vec::new(alloc);
-    text.extend_from_slice(head)?;
-    text.extend_from_slice(MIXES)?;
-    Ok(text)
-}
-
 /// The file of so many harts that mix what they load.
-fn mixing(alloc: Global, harts: u8) -> Result<Vec<u8>, Fail> {
-    match mixing_text(alloc, harts) {
-        Ok(text) => Ok(text),
-        Err(_) => Ok(mixing_text(alloc, harts).map_err(|_| "memory")?),
+fn mixing(alloc: Global, harts: u8) -> Result<Vec<u8>, Memory> {
+    match file_of(alloc, harts, 2, MIXES) {
+        Err(Memory) => file_of(alloc, harts, 2, MIXES),
+        file => file,
     }
 }
 

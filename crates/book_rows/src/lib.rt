@@ -1,15 +1,10 @@
-//! The tests of books, primaries, gates and going live that no command of the program shows: rows of calls, each with what it
-//! answers.
+//! The tests of books, primaries and going live that no command of the program shows: rows of calls, each with what it answers.
 #![tactic(auto)]
 
 #[cfg(test)]
 mod begun;
 #[cfg(test)]
-mod boards;
-#[cfg(test)]
 mod chances;
-#[cfg(test)]
-mod gates;
 #[cfg(test)]
 mod guests;
 #[cfg(test)]

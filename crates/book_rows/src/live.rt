@@ -381,36 +381,19 @@ fn holds_given(
     Some(so && refused)
 }
 
-/// Whether a row is as it says of these stores, of which so many are asked.
-fn holds_asked(
-    alloc: Global,
-    image: &Image,
-    stores: &[(Keeper, &Store); 2],
-    row: &Row,
-) -> Option<bool> {
-    let (_, _, quorum, term, _, asked, comes) = *row;
-    is_so(alloc, image, stores.get(..asked)?, quorum, (term, comes))
-}
-
-/// Both, each once more where memory was refused.
+/// Both. Where memory was refused, none.
 fn holds_of(
     alloc: Global,
     image: &Image,
     stores: &[(Keeper, &Store); 2],
     row: &Row,
 ) -> Option<bool> {
-    let asked = match holds_asked(alloc, image, stores, row) {
-        None => holds_asked(alloc, image, stores, row),
-        so => so,
-    };
-    let given = match holds_given(alloc, image, stores, row) {
-        None => holds_given(alloc, image, stores, row),
-        so => so,
-    };
-    Some(asked? && given?)
+    let (_, _, quorum, term, _, asked, comes) = *row;
+    let so = is_so(alloc, image, stores.get(..asked)?, quorum, (term, comes))?;
+    Some(so && holds_given(alloc, image, stores, row)?)
 }
 
-/// Whether it is of these two stores.
+/// Whether it is of these two stores, asked again where memory was refused.
 fn holds_of_both<'a>(
     alloc: Global,
     image: &Image,
@@ -423,7 +406,11 @@ fn holds_of_both<'a>(
         (Keeper::new(one.0 % 5), first),
         (Keeper::new(other.0 % 5), second),
     ];
-    holds_of(alloc, image, &stores, row) == Some(true)
+    let so = match holds_of(alloc, image, &stores, row) {
+        None => holds_of(alloc, image, &stores, row),
+        so => so,
+    };
+    so == Some(true)
 }
 
 /// Whether it is of the first keeper's store.

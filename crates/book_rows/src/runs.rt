@@ -77,10 +77,10 @@ fn guest_text(alloc: Global, seed: u64) -> Result<Vec<u8>, Memory> {
 }
 
 /// The file of a guest whose words fall by chance.
-fn guest(alloc: Global, seed: u64) -> Result<Vec<u8>, Fail> {
+fn guest(alloc: Global, seed: u64) -> Result<Vec<u8>, Memory> {
     match guest_text(alloc, seed) {
-        Ok(text) => Ok(text),
-        Err(_) => Ok(guest_text(alloc, seed).map_err(|_| "memory")?),
+        Err(Memory) => guest_text(alloc, seed),
+        text => text,
     }
 }
 

@@ -78,7 +78,8 @@ fn leg_of(alloc: Global, harts: u8, play: &Play) -> Option<Leg> {
     })
 }
 
-fn begin(alloc: Global, image: &Image, leg: Leg) -> Option<Book<Replaying>> {
+/// A book that obeys a leg from boot.
+pub fn begin(alloc: Global, image: &Image, leg: Leg) -> Option<Book<Replaying>> {
     let start = Machine::boot(alloc, image).ok()?;
     Book::<Replaying>::begin(alloc, start, leg).ok()
 }

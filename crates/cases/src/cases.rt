@@ -9,6 +9,14 @@ use std::alloc::Global;
 /// Room for what is written, where a case says nothing of it.
 const AMPLE: usize = 1_000_000;
 
+/// What a file that is made must hold in the end.
+#[derive(Drop)]
+enum Holding {
+    Anything,
+    /// These bytes, as far as it has room.
+    Bytes(Vec<u8>),
+}
+
 /// A call of the program over files in memory, and what must come of it.
 #[derive(Drop)]
 pub struct Case<'t> {
@@ -19,8 +27,7 @@ pub struct Case<'t> {
     pub files: Vec<File<'t>>,
     /// The file that can be made, if one can: it is empty where none can.
     pub made: &'t str,
-    /// What that file holds in the end, as far as it has room: anything, where nothing is said.
-    holding: Option<Vec<u8>>,
+    holding: Holding,
     /// How many bytes it has room for.
     pub holds: usize,
     /// How many bytes standard output has room for.
@@ -86,7 +93,7 @@ impl<'t> Case<'t> {
             on_threads: false,
             files: Vec::new(alloc),
             made: "",
-            holding: None,
+            holding: Holding::Anything,
             holds: AMPLE,
             room: AMPLE,
             status: 0,
@@ -124,7 +131,7 @@ impl<'t> Case<'t> {
         Some(())
     }
 
-    fn make(&mut self, name: &'t str, holding: Option<Vec<u8>>) {
+    fn make(&mut self, name: &'t str, holding: Holding) {
         self.made = name;
         self.holding = holding;
     }
@@ -132,8 +139,8 @@ impl<'t> Case<'t> {
     /// What the file that is made holds in the end, if it may hold this.
     pub fn wanted<'a>(&'a self, made: &'a [u8]) -> &'a [u8] {
         match &self.holding {
-            Some(bytes) => bytes.get(..self.holds).unwrap_or(bytes),
-            None => made,
+            Holding::Bytes(bytes) => bytes.get(..self.holds).unwrap_or(bytes),
+            Holding::Anything => made,
         }
     }
 
@@ -158,7 +165,7 @@ impl<'t> Case<'t> {
         if verb == "frames" {
             self.files.push(File::new(name, stream)).ok().ok_or(number)?;
         } else {
-            self.make(name, Some(stream));
+            self.make(name, Holding::Bytes(stream));
         }
         Ok(())
     }
@@ -175,7 +182,7 @@ impl<'t> Case<'t> {
         let file = given(alloc, texts, rest, content)?;
         match verb {
             "file" => self.files.push(file).ok()?,
-            "makes" => self.make(file.name, Some(file.bytes)),
+            "makes" => self.make(file.name, Holding::Bytes(file.bytes)),
             "out" => self.out.extend_from_slice(&file.bytes).ok()?,
             _ => self.err.extend_from_slice(&file.bytes).ok()?,
         }
@@ -193,7 +200,7 @@ impl<'t> Case<'t> {
             "absent" => {}
             "unread" => self.files.last_mut()?.is_unread = true,
             "room" => self.room = rest.parse::<usize>().ok()?,
-            "makes-any" => self.make(rest, None),
+            "makes-any" => self.make(rest, Holding::Anything),
             "holds" => self.holds = rest.parse::<usize>().ok()?,
             "status" => self.status = rest.parse::<usize>().ok()?,
             "each" => self.sweep = Some(Sweep::of_words(alloc, rest)?),
@@ -276,8 +283,9 @@ pub fn cases_of(alloc: Global, text: &str) -> Result<Vec<Case<'_>>, LineNumber> 
         texts: Vec::new(alloc),
         cases: Vec::new(alloc),
     };
-    for block in blocks_of(alloc, text)? {
-        told.take(alloc, &block)?;
+    let blocks = blocks_of(alloc, text)?;
+    for block in &blocks {
+        told.take(alloc, block)?;
     }
     Ok(told.cases)
 }

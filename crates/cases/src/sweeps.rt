@@ -61,7 +61,10 @@ impl Case<'_> {
         };
         file.change = change;
         match change {
-            Change::Byte(place, value) => file.bytes.get(place).is_some_and(|byte| *byte != value),
+            Change::Byte(place, value) => match file.bytes.get(place) {
+                Some(byte) => *byte != value,
+                None => false,
+            },
             _ => true,
         }
     }

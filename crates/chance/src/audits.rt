@@ -2,7 +2,7 @@
 
 use crate::calls::{Call, fallen_hart, make};
 use crate::changes::changed;
-use crate::starts::{image_in, opens, recorder_from, recorder_of};
+use crate::starts::{deliver, image_in, opens, recorder_from, recorder_of};
 use crate::verdicts::{Tally, Verdict, verdict_of};
 use closed_cut::position;
 use fixtures::{BOTH_STORE, Crew, Dice, Rounds, TWO_LOOPS, cut, edge, hart, key, offer};
@@ -99,14 +99,9 @@ fn recorded_on(
     Ok(ran(alloc, recorder_from(alloc, machine.copy()?, 120)?, dice))
 }
 
-fn put(store: &mut Store, frame: Frame) -> Result<(), Memory> {
-    let _put = store.put(frame)?;
-    Ok(())
-}
-
-fn put_all(store: &mut Store, frames: Vec<Frame>) -> Result<(), Memory> {
+fn deliver_all(alloc: Global, store: &mut Store, frames: &[Frame]) -> Result<(), Memory> {
     for frame in frames {
-        put(store, frame)?;
+        deliver(alloc, store, frame)?;
     }
     Ok(())
 }
@@ -119,9 +114,10 @@ fn put_log(
     (term, base): (Term, Counts),
 ) -> Result<(), Memory> {
     let guest = store.guest();
-    put(store, opens(guest, term, term.saturating_sub(1), base)?)?;
+    let opening = opens(guest, term, term.saturating_sub(1), base)?;
+    deliver(alloc, store, &opening)?;
     let pieces = cut(alloc, guest, book, term, &mut Sealed::new(base))?;
-    put_all(store, pieces)
+    deliver_all(alloc, store, &pieces)
 }
 
 /// The plan of the store.
@@ -211,14 +207,21 @@ fn is_covered_again(alloc: Global, harts: u8, seed: u64, in_two: bool) -> Result
     }
 }
 
-#[test]
-fn what_is_recorded_is_covered(rt: HostRuntime) -> Result<(), Fail> {
+/// The first guest whose recorded log is not covered, by its harts and its seed. The first three seeds go on in a second term.
+fn first_uncovered(alloc: Global) -> Result<Option<(u8, u64)>, Fail> {
     for harts in 2..9u8 {
         for seed in 1..6u64 {
-            let covered = is_covered_again(rt.alloc(), harts, seed, seed < 4)?;
-            assert!(rt; covered, "{harts} {seed}");
+            if !is_covered_again(alloc, harts, seed, seed < 4)? {
+                return Ok(Some((harts, seed)));
+            }
         }
     }
+    Ok(None)
+}
+
+#[test]
+fn what_is_recorded_is_covered(rt: HostRuntime) -> Result<(), Fail> {
+    assert_eq!(rt; first_uncovered(rt.alloc())?, None);
     Ok(())
 }
 
@@ -230,15 +233,16 @@ fn pieces_recorded(alloc: Global, image: &Image, dice: &mut Dice) -> Result<Vec<
 }
 
 /// The plan of a store to which the opening of term 1 comes, and these pieces of it.
-fn plan_with(alloc: Global, store: &mut Store, pieces: Vec<Frame>) -> Result<Plan, Memory> {
-    put_all(store, pieces)?;
+fn plan_with(alloc: Global, store: &mut Store, pieces: &[Frame]) -> Result<Plan, Memory> {
+    deliver_all(alloc, store, pieces)?;
     let guest = store.guest();
-    put(store, opens(guest, 1, 0, Counts::zero(guest.harts()))?)?;
-    planned(alloc, store)
+    let opening = opens(guest, 1, 0, Counts::zero(guest.harts()))?;
+    deliver(alloc, store, &opening)?;
+    planned(alloc, &*store)
 }
 
 /// The plan of these pieces of term 1.
-fn plan_of(alloc: Global, guest: Guest, pieces: Vec<Frame>) -> Result<Plan, Memory> {
+fn plan_of(alloc: Global, guest: Guest, pieces: &[Frame]) -> Result<Plan, Memory> {
     let mut store = Store::new(alloc, guest);
     plan_with(alloc, &mut store, pieces)
 }
@@ -251,7 +255,8 @@ fn verdict_in(
     dice: &mut Dice,
 ) -> Result<Verdict, Memory> {
     let pieces = pieces_recorded(alloc, image, dice)?;
-    let plan = plan_of(alloc, image.guest(), changed(alloc, &pieces, later, dice)?)?;
+    let changed = changed(alloc, &pieces, later, dice)?;
+    let plan = plan_of(alloc, image.guest(), &changed)?;
     verdict_of(alloc, image, &plan)
 }
 
@@ -279,7 +284,7 @@ fn tally_of(alloc: Global, later: bool) -> Result<Tally, Fail> {
 fn an_edge_is_taken_out(rt: HostRuntime) -> Result<(), Fail> {
     let tally = tally_of(rt.alloc(), false)?;
     assert_eq!(rt; tally.unlike, 0);
-    assert!(rt; tally.covered >= 20 && tally.uncovered >= 20, "{tally:?}");
+    assert!(rt; tally.covered >= 20 && tally.uncovered >= 20);
     Ok(())
 }
 
@@ -287,10 +292,7 @@ fn an_edge_is_taken_out(rt: HostRuntime) -> Result<(), Fail> {
 fn an_edge_is_of_later_steps(rt: HostRuntime) -> Result<(), Fail> {
     let tally = tally_of(rt.alloc(), true)?;
     assert_eq!(rt; tally.unlike, 0);
-    assert!(rt;
-        tally.stuck >= 20 && tally.stuck_uncovered >= 20,
-        "{tally:?}"
-    );
+    assert!(rt; tally.stuck >= 20 && tally.stuck_uncovered >= 20);
     Ok(())
 }
 
@@ -312,7 +314,7 @@ fn plan_of_four(alloc: Global, guest: Guest, edges: &[Record]) -> Result<Plan, M
     let mut pieces = Vec::new(alloc);
     pieces.push(piece_of_four(alloc, guest, 0, &[])?)?;
     pieces.push(piece_of_four(alloc, guest, 1, edges)?)?;
-    plan_of(alloc, guest, pieces)
+    plan_of(alloc, guest, &pieces)
 }
 
 /// Why the audit says no, and that of the same plan after it where memory was refused.

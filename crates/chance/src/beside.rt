@@ -11,27 +11,37 @@ use fragment_codec::Frame;
 use ft_types::Memory;
 use guest_image::{Image, Machine};
 use log_join::{Put, Store};
+use output_gate::Output;
 use std::alloc::Global;
 
 /// A world, a plain one to which the same happens, and what happened.
 #[derive(Drop)]
 pub struct Beside {
-    subject: Subject,
-    plain: PlainWorld,
-    tally: Tally,
+    pub subject: Subject,
+    pub plain: PlainWorld,
+    pub tally: Tally,
 }
 
-/// Whether the machine has each of these outputs, at its number.
+/// Whether the machine has the output, at its number.
+fn has(machine: &Machine, output: &Output) -> bool {
+    if output.hart.number() >= machine.harts() {
+        return false;
+    }
+    let there = machine
+        .hart(output.hart)
+        .outputs()
+        .get(output.number as usize);
+    there == Some(&(output.step, output.word))
+}
+
+/// Whether the machine has each of these outputs.
 fn has_all(machine: &Machine, released: &[Released]) -> bool {
-    released.iter().all(|released| {
-        let output = &released.output;
-        output.hart.number() < machine.harts()
-            && machine
-                .hart(output.hart)
-                .outputs()
-                .get(output.number as usize)
-                == Some(&(output.step, output.word))
-    })
+    for released in released {
+        if !has(machine, &released.output) {
+            return false;
+        }
+    }
+    true
 }
 
 impl Beside {
@@ -48,26 +58,12 @@ impl Beside {
         })
     }
 
-    /// The plain world.
-    pub fn plain(&self) -> &PlainWorld {
-        &self.plain
-    }
-
-    /// The world.
-    pub fn subject(&self) -> &Subject {
-        &self.subject
-    }
-
-    /// What happened.
-    pub fn tally(&self) -> &Tally {
-        &self.tally
-    }
-
     /// Whether the worlds have the same machine, or none, and it has all that went out.
     pub fn have_same_machine(&self) -> bool {
-        match (self.subject.machine(), self.plain.machine()) {
+        let world = &self.subject.world;
+        match (world.machine(), self.plain.machine()) {
             (Some(machine), Some(other)) => {
-                machine.same(other) && has_all(machine, self.subject.released())
+                machine.same(other) && has_all(machine, world.released())
             }
             (None, None) => true,
             _ => false,
@@ -76,7 +72,7 @@ impl Beside {
 
     /// Whether the same went out.
     fn released_the_same(&self) -> bool {
-        self.subject.released() == self.plain.released()
+        self.subject.world.released() == self.plain.released.as_slice()
     }
 
     /// Applies the act to both worlds. Says whether they answer the same, and the same went out.
@@ -105,7 +101,8 @@ impl Beside {
     /// Whether the worlds sent the same frames.
     pub fn sent_the_same(&self, alloc: Global, image: &Image) -> Result<bool, Memory> {
         let mut store = Store::new(alloc, image.guest());
-        are_the_same(alloc, &mut store, self.plain.sent(), self.subject.frames())
+        let frames = self.subject.world.frames();
+        are_the_same(alloc, &mut store, &self.plain.sent, frames)
     }
 }
 

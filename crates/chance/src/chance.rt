@@ -64,7 +64,7 @@ fn some_of(dice: &mut Dice, lists: &'static [&'static [u64]]) -> &'static [u64] 
 
 /// A grant of the next term, or seldom of another.
 fn grant(dice: &mut Dice, world: &PlainWorld) -> Act {
-    let keepers = match world.keepers() {
+    let keepers = match world.keepers {
         1 => some_of(dice, OF_ONE),
         2 => some_of(dice, OF_TWO),
         3 => some_of(dice, OF_THREE),
@@ -81,9 +81,9 @@ fn grant(dice: &mut Dice, world: &PlainWorld) -> Act {
 
 /// What a keeper does: the first frame that it lacks comes, or any frame, or it acknowledges.
 fn keeping(dice: &mut Dice, world: &PlainWorld) -> Act {
-    let keeper = number_to(dice, u64::from(world.keepers()));
+    let keeper = number_to(dice, u64::from(world.keepers));
     match (world.first_missing(keeper), dice.roll() % 16) {
-        (_, 0) => Act::Deliver(keeper, number_to(dice, world.sent().len() as u64)),
+        (_, 0) => Act::Deliver(keeper, number_to(dice, world.sent.len() as u64)),
         (Some(frame), 1..=12) => Act::Deliver(keeper, frame),
         _ => Act::Ack(keeper),
     }
@@ -91,7 +91,7 @@ fn keeping(dice: &mut Dice, world: &PlainWorld) -> Act {
 
 /// An event that is seldom.
 fn seldom(dice: &mut Dice, world: &PlainWorld) -> Act {
-    let keepers = u64::from(world.keepers());
+    let keepers = u64::from(world.keepers);
     match dice.roll() % 8 {
         0 => Act::Lose(number_to(dice, keepers)),
         1 => grant(dice, world),
@@ -160,7 +160,7 @@ impl Chance {
 
     /// What happens next.
     pub fn next(&mut self, world: &PlainWorld) -> Act {
-        if !world.runs() && self.dice.roll() % 4 != 0 {
+        if !world.runs && self.dice.roll() % 4 != 0 {
             self.mood = Mood::Keeps;
             return grant(&mut self.dice, world);
         }

@@ -1,5 +1,5 @@
-//! What falls by chance, beside plain ones: lists of events for the world, frames for tracked positions, guests and calls for what a
-//! primary records, for audits of it, and for primaries that fail and go live. And rows of the world, and memory that is refused to it.
+//! What falls by chance, beside plain ones: lists of events for the world, guests and calls for what a primary records, for audits of
+//! it, and for primaries that fail and go live. And rows of the world, and memory that is refused to it.
 #![tactic(auto)]
 
 #[cfg(test)]
@@ -24,8 +24,6 @@ mod lists;
 mod plain;
 #[cfg(test)]
 mod plain_audits;
-#[cfg(test)]
-mod positions;
 #[cfg(test)]
 mod primary;
 #[cfg(test)]

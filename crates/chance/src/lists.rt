@@ -32,7 +32,7 @@ static LEAST: Tally = Tally {
 /// Applies a list of events to two worlds. Says whether they agree at each.
 fn agree_on_list(alloc: Global, chance: &mut Chance, worlds: &mut Beside) -> Result<bool, Memory> {
     for event in 1..=EVENTS {
-        let act = chance.next(worlds.plain());
+        let act = chance.next(&worlds.plain);
         if !worlds.agree_on(alloc, act)? || event % 10 == 0 && !worlds.have_same_machine() {
             return Ok(false);
         }
@@ -63,7 +63,7 @@ fn agree_by(alloc: Global, image: &Image, seed: u64, tally: &mut Tally) -> Resul
     let mut worlds = begin(alloc, image, &mut chance)?;
     let agreed = agree_to_the_end(alloc, image, &mut chance, &mut worlds);
     if agreed == Ok(true) {
-        tally.add_list(worlds.tally(), worlds.subject().released());
+        tally.add_list(&worlds.tally, worlds.subject.world.released());
     }
     agreed
 }

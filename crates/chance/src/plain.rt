@@ -3,6 +3,7 @@
 
 use crate::acts::{Act, hart_of};
 use crate::primary::Primary;
+use crate::starts::deliver;
 use ack_core::AckFault;
 use closed_cut::{Position, position};
 use failover_world::{Released, WorldFault};
@@ -27,17 +28,21 @@ struct Taken {
 #[derive(Drop)]
 pub struct PlainWorld {
     image: Image,
-    keepers: u8,
+    /// How many keepers there were at first.
+    pub keepers: u8,
     need: u8,
     primary: Primary,
-    runs: bool,
+    /// Whether a primary runs.
+    pub runs: bool,
     /// The primaries of the terms before.
     past: Vec<Primary>,
-    sent: Vec<Frame>,
+    /// All frames that were sent.
+    pub sent: Vec<Frame>,
     taken: Vec<Taken>,
     /// Who acknowledged which counts in the term that was granted last.
     acknowledged: Vec<(u64, Counts)>,
-    released: Vec<Released>,
+    /// All outputs that went out.
+    pub released: Vec<Released>,
 }
 
 /// Keepers that took nothing.
@@ -61,11 +66,12 @@ fn first_primary(alloc: Global, image: &Image) -> Result<Primary, Memory> {
 
 /// Whether some hart's count is less than before.
 fn are_lower(counts: &Counts, before: &Counts) -> bool {
-    counts
-        .as_slice()
-        .iter()
-        .zip(before.as_slice())
-        .any(|(count, before)| count < before)
+    for (count, before) in counts.as_slice().iter().zip(before.as_slice()) {
+        if count < before {
+            return true;
+        }
+    }
+    false
 }
 
 /// Whether the hart's count is above the step.
@@ -108,29 +114,9 @@ impl PlainWorld {
         Ok(self.sent.push(opening)?)
     }
 
-    /// Whether a primary runs.
-    pub fn runs(&self) -> bool {
-        self.runs
-    }
-
-    /// How many keepers there were at first.
-    pub fn keepers(&self) -> u8 {
-        self.keepers
-    }
-
     /// The term that was granted last.
     pub fn term(&self) -> Term {
         self.primary.term()
-    }
-
-    /// All frames that were sent.
-    pub fn sent(&self) -> &[Frame] {
-        self.sent.as_slice()
-    }
-
-    /// All outputs that went out.
-    pub fn released(&self) -> &[Released] {
-        self.released.as_slice()
     }
 
     /// The machine of the primary that runs.
@@ -153,7 +139,12 @@ impl PlainWorld {
     /// The number of the first frame that the keeper did not take.
     pub fn first_missing(&self, keeper: u64) -> Option<u64> {
         let taken = self.taken_by(keeper);
-        (0..self.sent.len() as u64).find(|number| !taken.contains(number))
+        for number in 0..self.sent.len() as u64 {
+            if !taken.contains(&number) {
+                return Some(number);
+            }
+        }
+        None
     }
 
     /// Whether there is a keeper of this number that is not lost.
@@ -209,7 +200,7 @@ impl PlainWorld {
     fn put_taken(&self, alloc: Global, store: &mut Store, keeper: u64) -> Result<(), Memory> {
         for number in self.taken_by(keeper) {
             if let Some(frame) = self.sent.get(*number as usize) {
-                let _put = store.put(frame.copy(alloc)?)?;
+                deliver(alloc, store, frame)?;
             }
         }
         Ok(())
@@ -254,23 +245,34 @@ impl PlainWorld {
 
     /// Whether the keeper acknowledged a greater count of some hart.
     fn acknowledged_more(&self, keeper: u64, counts: &Counts) -> bool {
-        self.acknowledged
-            .iter()
-            .any(|(by, before)| *by == keeper && are_lower(counts, before))
+        for (by, before) in &self.acknowledged {
+            if *by == keeper && are_lower(counts, before) {
+                return true;
+            }
+        }
+        false
     }
 
     /// Whether the keeper acknowledged counts with the hart's step inside.
     fn holds(&self, keeper: u64, hart: Hart, step: Count) -> bool {
-        self.acknowledged.iter().any(|(by, counts)| *by == keeper && has_inside(counts, hart, step))
+        for (by, counts) in &self.acknowledged {
+            if *by == keeper && has_inside(counts, hart, step) {
+                return true;
+            }
+        }
+        false
     }
 
     /// Whether the output may go out, and did not in this term.
     fn is_due(&self, released: &Released) -> bool {
         let output = &released.output;
-        let holders = (0..u64::from(self.keepers))
-            .filter(|keeper| self.holds(*keeper, output.hart, output.step))
-            .count();
-        holders >= usize::from(self.need) && !self.released.contains(released)
+        let mut holders = 0u8;
+        for keeper in 0..u64::from(self.keepers) {
+            if self.holds(keeper, output.hart, output.step) {
+                holders = holders.saturating_add(1);
+            }
+        }
+        holders >= self.need && !self.released.contains(released)
     }
 
     /// Lets those outputs of the hart go out that are due.
@@ -319,22 +321,26 @@ impl PlainWorld {
     }
 
     /// How many different keepers these are.
-    fn different(&self, keepers: &[u64]) -> usize {
-        (0..u64::from(self.keepers))
-            .filter(|keeper| keepers.contains(keeper))
-            .count()
+    fn different(&self, keepers: &[u64]) -> u8 {
+        let mut different = 0u8;
+        for keeper in 0..u64::from(self.keepers) {
+            if keepers.contains(&keeper) {
+                different = different.saturating_add(1);
+            }
+        }
+        different
     }
 
     /// Whether the term may be granted to a primary that begins with the stores of these keepers.
     fn may_grant(&self, term: Term, keepers: &[u64]) -> Result<(), WorldFault> {
-        let enough = self
-            .different(keepers)
-            .saturating_add(usize::from(self.need));
-        if !keepers.iter().all(|keeper| self.has(*keeper)) {
-            Err(WorldFault::NoKeeper)
-        } else if self.runs {
+        for keeper in keepers {
+            if !self.has(*keeper) {
+                return Err(WorldFault::NoKeeper);
+            }
+        }
+        if self.runs {
             Err(WorldFault::NotStopped)
-        } else if enough <= usize::from(self.keepers) {
+        } else if self.different(keepers).saturating_add(self.need) <= self.keepers {
             Err(WorldFault::Live(LiveFault::TooFewStores))
         } else if term <= self.term() {
             Err(WorldFault::Live(LiveFault::TermNotNew))
@@ -349,10 +355,12 @@ impl PlainWorld {
         if self.primary.term() == term {
             return self.primary.machine_at(alloc, position.counts);
         }
-        match self.past.iter().find(|primary| primary.term() == term) {
-            Some(primary) => primary.machine_at(alloc, position.counts),
-            None => Machine::boot(alloc, &self.image),
+        for primary in &self.past {
+            if primary.term() == term {
+                return primary.machine_at(alloc, position.counts);
+            }
         }
+        Machine::boot(alloc, &self.image)
     }
 
     /// A primary begins its term, and nothing is acknowledged in it.

@@ -171,21 +171,17 @@ fn pairs_of(alloc: Global, steps: &[Taken]) -> Result<Vec<Pair>, Memory> {
     Ok(pairs)
 }
 
-fn begin(alloc: Global, image: &Image, obeyed: Leg) -> Result<Crew<Replaying>, Memory> {
-    let start = Machine::boot(alloc, image)?;
-    Ok(Crew::new(Book::<Replaying>::begin(alloc, start, obeyed)?))
-}
-
 /// A crew over a book that obeys a leg from boot.
 fn crew_of(alloc: Global, image: &Image, leg: &PlannedLeg) -> Result<Crew<Replaying>, Memory> {
     let edges = leg.edges.copy()?;
     let inputs = leg.inputs.copy()?;
+    let start = Machine::boot(alloc, image)?;
     let obeyed = Leg {
         ends: leg.ends,
         edges,
         inputs,
     };
-    begin(alloc, image, obeyed)
+    Ok(Crew::new(Book::<Replaying>::begin(alloc, start, obeyed)?))
 }
 
 /// The pairs of a run of the crew.

@@ -91,11 +91,12 @@ fn text_recorded(
 
 /// Writes a frame to one of the streams.
 fn put(sinks: &mut [MemorySink], frame: &Frame, dice: &mut Dice) -> Result<(), Fail> {
-    if sinks.is_empty() {
-        return Err("streams".into());
+    let stream = usize::from(dice.roll()) % sinks.len().max(1);
+    let sink = sinks.get_mut(stream).ok_or("streams")?;
+    match write_frame(frame, sink) {
+        Ok(()) => Ok(()),
+        Err(_) => Err("frame".into()),
     }
-    let stream = usize::from(dice.roll()) % sinks.len();
-    Ok(write_frame(frame, &mut sinks[stream]).map_err(|_| "frame")?)
 }
 
 /// So many streams, without frames yet.

@@ -144,17 +144,17 @@ fn all_done(alloc: Global, acts: &[Act], worlds: &mut Beside) -> Result<bool, Me
             return Ok(false);
         }
     }
-    Ok(worlds.tally().refused == 0)
+    Ok(worlds.tally.refused == 0)
 }
 
 /// Whether the worlds end so.
 fn ends_so(worlds: &Beside, (_, said, parent, base): List) -> bool {
-    let subject = worlds.subject();
-    let halted = match subject.machine() {
+    let world = &worlds.subject.world;
+    let halted = match world.machine() {
         Some(machine) => has_halted(machine),
         None => false,
     };
-    halted && went_out(subject.released(), said) && goes_on(subject.frames(), parent, base)
+    halted && went_out(world.released(), said) && goes_on(world.frames(), parent, base)
 }
 
 /// Whether the worlds agree at each event of a list, send the same frames and end so.

@@ -3,6 +3,7 @@
 use fragment_codec::{Frame, Opening};
 use ft_types::{Count, Counts, Guest, HART_ROW, Memory, Term};
 use guest_image::{Image, Machine, read_image};
+use log_join::Store;
 use page_book::{Book, Recording};
 use std::alloc::Global;
 
@@ -20,6 +21,12 @@ pub fn opens(guest: Guest, term: Term, parent: Term, base: Counts) -> Result<Fra
         Some(opening) => Ok(Frame::Opening(opening)),
         None => Err(Memory),
     }
+}
+
+/// The frame comes to the store.
+pub fn deliver(alloc: Global, store: &mut Store, frame: &Frame) -> Result<(), Memory> {
+    let _put = store.put(frame.copy(alloc)?)?;
+    Ok(())
 }
 
 /// The book of a primary that goes on from the machine, each hart up to this count.

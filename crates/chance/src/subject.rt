@@ -4,8 +4,7 @@ ghost use Rattle.std.specs.Prelude.{◌≡◌, ◌<◌, ◌≤◌};
 ghost use Rattle.ft_types.specs.declared.names.TheConstants.{HART_LIMIT};
 
 use crate::acts::{Act, event_of};
-use failover_world::{Released, World, WorldFault};
-use fragment_codec::Frame;
+use failover_world::{World, WorldFault};
 use ft_types::{Hart, Memory, Term};
 use guest_image::{Image, Machine};
 use std::alloc::Global;
@@ -13,7 +12,7 @@ use std::alloc::Global;
 /// A world, and how many harts its guest has.
 #[derive(Drop)]
 pub struct Subject {
-    world: World,
+    pub world: World,
     harts: u8,
     ghost of_world: { world.image.harts ≡ harts },
     ghost some: { (0 < harts) × (harts ≤ HART_LIMIT) },
@@ -51,38 +50,23 @@ impl Subject {
         })
     }
 
-    /// The outputs that went out.
-    pub fn released(&self) -> &[Released] {
-        self.world.released()
-    }
-
-    /// The frames that were sent.
-    pub fn frames(&self) -> &[Frame] {
-        self.world.frames()
-    }
-
-    /// The machine of the primary that runs.
-    pub fn machine(&self) -> Option<&Machine> {
-        self.world.machine()
-    }
-
-    fn term(&self) -> Term {
-        self.world.term()
-    }
-
-    /// How many primaries stopped before.
-    fn stopped(&self) -> usize {
-        self.world.stopped().len()
+    /// How many steps the machine of the primary that runs has taken.
+    fn steps(&self) -> Option<u64> {
+        match self.world.machine() {
+            Some(machine) => Some(steps_of(machine)),
+            None => None,
+        }
     }
 
     /// What is seen of it.
     fn outline(&self) -> Outline {
+        let world = &self.world;
         Outline {
-            released: self.released().len(),
-            frames: self.frames().len(),
-            term: self.term(),
-            stopped: self.stopped(),
-            steps: self.machine().map(steps_of),
+            released: world.released().len(),
+            frames: world.frames().len(),
+            term: world.term(),
+            stopped: world.stopped().len(),
+            steps: self.steps(),
         }
     }
 

@@ -28,15 +28,23 @@ pub struct Tally {
 
 /// Whether the output went out in an older term.
 fn went_out_before(released: &[Released], one: &Released) -> bool {
-    released.iter().any(|other| other.term < one.term && other.output == one.output)
+    for other in released {
+        if other.term < one.term && other.output == one.output {
+            return true;
+        }
+    }
+    false
 }
 
 /// How many of these outputs went out in an older term.
 fn again_in(released: &[Released]) -> u64 {
-    released
-        .iter()
-        .filter(|one| went_out_before(released, one))
-        .count() as u64
+    let mut again = 0u64;
+    for one in released {
+        if went_out_before(released, one) {
+            again = again.saturating_add(1);
+        }
+    }
+    again
 }
 
 /// Whether outputs went out in more than one term.

@@ -96,7 +96,7 @@ pub fn verdict_of(alloc: Global, image: &Image, plan: &Plan) -> Result<Verdict, 
 }
 
 /// How many cases have which verdict.
-#[derive(Clone, Copy, Debug, Default)]
+#[derive(Clone, Copy, Default)]
 pub struct Tally {
     pub covered: u32,
     pub uncovered: u32,

@@ -168,7 +168,7 @@ fn largest(alloc: Global) -> Result<MemorySink, Fail> {
     let frame = piece_of(alloc, guest_with(IMAGE, 2), key(1, 0, 0), 0, 256, &records)?;
     match write_whole(alloc, &frame) {
         Ok(sink) => Ok(sink),
-        Err(Failed) => Ok(write_whole(alloc, &frame).map_err(|_| "room")?),
+        Err(Failed) => Ok(write_whole(alloc, &frame)?),
     }
 }
 

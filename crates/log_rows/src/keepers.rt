@@ -4,7 +4,7 @@ ghost use Rattle.std.specs.Prelude.{◌≡◌, ◌⊎◌, IfOk, OnOk, OnErr, Mat
 ghost use Rattle.ft_types.specs.Devices.{IsOneMore};
 
 use crate::come::{Come, frame_of, guest_of};
-use fenced_keeper::{FencedKeeper, KeepFault, Place, PlaceFault, RaiseFault, keepers_follow};
+use fenced_keeper::{FencedKeeper, KeepFault, Place, PlaceFault, keepers_follow};
 use ft_types::{Count, Keeper, Memory, Term};
 use log_join::{Store, joins_of_stores};
 use std::alloc::Global;
@@ -127,8 +127,8 @@ type Row = (Deed, bool, Told, Term);
 
 type Kept = FencedKeeper<Drawer>;
 
-fn begin(alloc: Global, drawer: Drawer) -> Result<Kept, Fail> {
-    Ok(FencedKeeper::begin(alloc, Keeper::new(0), drawer).map_err(|_| "a place")?)
+fn begin(alloc: Global, drawer: Drawer) -> Result<Kept, PlaceFault> {
+    FencedKeeper::begin(alloc, Keeper::new(0), drawer)
 }
 
 fn says(keeper: &Kept) -> Told {

@@ -1,5 +1,5 @@
-//! The tests of logs that no command of the program shows: frames byte by byte, what stores and tracked positions answer, plans,
-//! pieces of a book, and what stays where memory is refused.
+//! The tests of logs that no command of the program shows: frames byte by byte, what stores and tracked positions answer, positions
+//! of logs that fall by chance beside those from scratch, plans, pieces of a book, and what stays where memory is refused.
 #![tactic(auto)]
 
 #[cfg(test)]
@@ -8,6 +8,8 @@ mod bytes;
 mod come;
 #[cfg(test)]
 mod keepers;
+#[cfg(test)]
+mod positions;
 #[cfg(test)]
 mod recorded;
 #[cfg(test)]

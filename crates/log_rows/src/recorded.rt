@@ -30,7 +30,7 @@ fn cut(alloc: Global, book: &Book<Recording>, sealed: &mut Sealed) -> Result<Vec
     let guest = two_harts();
     match cut_pieces(alloc, book, &guest, 3, sealed) {
         Ok(frames) => Ok(frames),
-        Err(Memory) => Ok(cut_pieces(alloc, book, &guest, 3, sealed).map_err(|_| "memory")?),
+        Err(Memory) => Ok(cut_pieces(alloc, book, &guest, 3, sealed)?),
     }
 }
 

@@ -6,7 +6,9 @@ use fixtures::{HALTS, TWO_LOOPS, edge, hart, image_of};
 use fragment_codec::Record;
 use ft_types::{Count, HART_LIMIT, Hart, Memory, Term};
 use guest_image::Machine;
-use hart_replay::{Plan, PlannedLeg, honest_plans, honest_primaries, plan, replay_plain};
+use hart_replay::{
+    Plan, PlannedLeg, ReplayFault, honest_plans, honest_primaries, plan, replay_plain,
+};
 use log_join::Store;
 use std::alloc::Global;
 use std::result::Result;
@@ -262,14 +264,10 @@ fn outcome(
     let image = image_of(alloc, file)?;
     let store = store_of(alloc, image_of(alloc, other)?.guest(), frames)?;
     let plan = plan_of(alloc, &store)?;
-    let mut answer = replay_plain(alloc, &image, &plan);
-    if answer
-        .as_ref()
-        .err()
-        .is_some_and(|fault| fault.number() == 4)
-    {
-        answer = replay_plain(alloc, &image, &plan);
-    }
+    let answer = match replay_plain(alloc, &image, &plan) {
+        Err(ReplayFault::Memory) => replay_plain(alloc, &image, &plan),
+        answer => answer,
+    };
     match answer {
         Ok(machine) => Ok(Ok(first_count(&machine))),
         Err(fault) => Ok(Err(fault.number())),

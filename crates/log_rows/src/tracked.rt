@@ -19,7 +19,7 @@ fn position_of(alloc: Global, store: &Store) -> Result<Position, Memory> {
 }
 
 /// Whether the position that is kept up is the one that is found from scratch.
-fn agrees(alloc: Global, tracked: &Tracked) -> Result<bool, Memory> {
+pub fn agrees(alloc: Global, tracked: &Tracked) -> Result<bool, Memory> {
     Ok(*tracked.position() == position_of(alloc, tracked.store())?)
 }
 
@@ -38,7 +38,7 @@ fn told(alloc: Global, tracked: &Tracked) -> Result<(Position, Marks), Memory> {
 }
 
 /// Puts a frame, again where memory was refused.
-fn put(alloc: Global, tracked: &mut Tracked, frame: &Frame) -> Result<Put, Fail> {
+pub fn put(alloc: Global, tracked: &mut Tracked, frame: &Frame) -> Result<Put, Fail> {
     let (copy, before) = (copy_of(alloc, frame)?, told(alloc, tracked)?);
     match tracked.put(alloc, copy) {
         Ok(put) => Ok(put),

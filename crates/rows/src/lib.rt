@@ -1,11 +1,15 @@
-//! Worked rows of what lies below books: words and instructions, counts and sets, inputs, edges and rights, pages, harts and
-//! machines without a run, and the laws of interleavings. What runs show stands in the cases of the program.
+//! Worked rows of what needs no book: words and instructions, counts and sets, inputs, edges and rights, pages, harts and machines
+//! without a run, the laws of interleavings, and boards and gates. What runs show stands in the cases of the program.
 #![tactic(auto)]
 
+#[cfg(test)]
+mod boards;
 #[cfg(test)]
 mod desks;
 #[cfg(test)]
 mod edges;
+#[cfg(test)]
+mod gates;
 #[cfg(test)]
 mod images;
 #[cfg(test)]

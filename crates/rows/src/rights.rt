@@ -20,7 +20,7 @@ enum Call {
 
 use Call::{Given, HeldBy, Leave, Lower};
 
-fn hart(number: u8) -> Hart {
+pub fn hart(number: u8) -> Hart {
     Hart::new(number % HART_LIMIT)
 }
 

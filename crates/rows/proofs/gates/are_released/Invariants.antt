@@ -1,5 +1,5 @@
 use Rattle.std.specs.Prelude.{◌≡◌}
-use Rattle.book_rows.proofs.gates.are_released.Given as goal
+use Rattle.rows.proofs.gates.are_released.Given as goal
 
 abbrev pub invariant-loop-noted : goal.invariant-loop-noted
 invariant-loop-noted l = l.gate.keepers ≡ 3

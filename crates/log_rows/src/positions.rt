@@ -1,43 +1,37 @@
 //! Logs that look random, of two terms, frame by frame in an order that looks random.
 
-use closed_cut::position;
-use fixtures::{Dice, edge, guest_with, key, opening_of, piece_of};
-use fragment_codec::{Frame, Record};
-use ft_types::{Count, Guest, HART_LIMIT, HART_ROW, Term};
+use crate::come::guest_of;
+use crate::tracked::{agrees, put};
+use edge_log::Edge;
+use fixtures::{Dice, edge, key, opening_of, piece_of};
+use fragment_codec::{Frame, Key, Record};
+use ft_types::{Count, HART_LIMIT, HART_ROW, Term};
 use input_log::Input;
 use std::alloc::Global;
 use std::test::Fail;
 use tracked_position::Tracked;
 
-/// A guest of so many harts.
-fn guest_of(harts: u8) -> Guest {
-    guest_with([9; 32], harts)
-}
-
-/// A piece of a hart with these records, and with an input at its last step.
+/// A piece of a hart, with an input at its last step and, if there is one, this edge.
 fn piece(
     alloc: Global,
     harts: u8,
-    (term, hart, place): (Term, u8, u32),
+    key: Key,
     (from, to): (Count, Count),
-    records: &[Record],
+    edge: Option<Edge>,
 ) -> Result<Frame, Fail> {
-    let mut all = Vec::new(alloc);
-    all.extend_from_slice(records)?;
-    all.push(Record::Input(to.saturating_sub(1), Input::Timer))?;
-    let key = key(term, hart, place);
-    piece_of(alloc, guest_of(harts), key, from, to, &all)
+    let mut records = Vec::new(alloc);
+    if let Some(edge) = edge {
+        records.push(Record::Edge(edge))?;
+    }
+    records.push(Record::Input(to.saturating_sub(1), Input::Timer))?;
+    piece_of(alloc, guest_of(harts), key, from, to, &records)
 }
 
-/// Puts a frame, and tells whether the position is that of the store from scratch.
-fn agrees(alloc: Global, tracked: &mut Tracked, frame: &Frame) -> Result<bool, Fail> {
-    let _put = tracked.put(alloc, frame.copy(alloc)?)?;
-    Ok(*tracked.position() == position(alloc, tracked.store())?)
-}
-
+/// Puts these frames. Whether the position is that of the store from scratch behind each.
 fn put_all(alloc: Global, tracked: &mut Tracked, frames: &[Frame]) -> Result<bool, Fail> {
     for frame in frames {
-        if !agrees(alloc, tracked, frame)? {
+        let _put = put(alloc, tracked, frame)?;
+        if !agrees(alloc, &*tracked)? {
             return Ok(false);
         }
     }
@@ -49,23 +43,15 @@ fn below(dice: &mut Dice, limit: u8) -> u8 {
     dice.roll() % limit.max(1)
 }
 
-/// The same piece, most often with an edge to another hart.
-fn waiting_piece(
-    alloc: Global,
-    harts: u8,
-    (term, hart, place): (Term, u8, u32),
-    (from, to): (Count, Count),
-    dice: &mut Dice,
-) -> Result<Frame, Fail> {
+/// Most often, an edge from the last step of a piece to another hart.
+fn fallen_edge(harts: u8, number: u8, (from, to): (Count, Count), dice: &mut Dice) -> Option<Edge> {
     let other = below(dice, harts);
     let after = from.saturating_add(u64::from(below(dice, 6)));
-    let fact = [Record::Edge(edge(hart, to.saturating_sub(1), other, after))];
-    let facts = if other == hart || after == 0 {
-        &fact[..0]
+    if other == number || after == 0 {
+        None
     } else {
-        &fact[..]
-    };
-    piece(alloc, harts, (term, hart, place), (from, to), facts)
+        Some(edge(number, to.saturating_sub(1), other, after))
+    }
 }
 
 /// The pieces of a hart in a term, each of a few steps and most with an edge to another hart. Now and then a second content
@@ -82,10 +68,12 @@ fn pieces(
         let to = from
             .saturating_add(u64::from(below(dice, 3)))
             .saturating_add(1);
-        let key = (term, hart, place);
-        frames.push(waiting_piece(alloc, harts, key, (from, to), dice)?)?;
+        let key = key(term, hart, place);
+        let edge = fallen_edge(harts, hart, (from, to), dice);
+        frames.push(piece(alloc, harts, key, (from, to), edge)?)?;
         if below(dice, 40) == 0 {
-            frames.push(piece(alloc, harts, key, (from, to.saturating_add(1)), &[])?)?;
+            let other = piece(alloc, harts, key, (from, to.saturating_add(1)), None)?;
+            frames.push(other)?;
         }
         from = to;
     }
@@ -155,28 +143,31 @@ fn holds(alloc: Global, harts: u8, seed: u64) -> Result<bool, Fail> {
     put_twice(alloc, harts, &mut frames, &mut dice)
 }
 
-/// Logs of so many harts.
-fn hold(alloc: Global, harts: u8, seeds: u64) -> Result<bool, Fail> {
+/// Of so many harts, the first seed of so many whose log goes otherwise.
+fn first_wrong(alloc: Global, harts: u8, seeds: u64) -> Result<Option<(u8, u64)>, Fail> {
     for seed in 0..seeds {
         if !holds(alloc, harts, seed)? {
-            return Ok(false);
+            return Ok(Some((harts, seed)));
         }
     }
-    Ok(true)
+    Ok(None)
 }
+
+/// So many harts, and how many logs.
+static LOGS: [(u8, u64); 7] = [
+    (2, 40),
+    (3, 20),
+    (4, 20),
+    (5, 20),
+    (6, 10),
+    (7, 10),
+    (8, 10),
+];
 
 #[test]
 fn of_two_to_eight_harts(rt: HostRuntime) -> Result<(), Fail> {
-    for (harts, seeds) in [
-        (2, 40),
-        (3, 20),
-        (4, 20),
-        (5, 20),
-        (6, 10),
-        (7, 10),
-        (8, 10),
-    ] {
-        assert!(rt; hold(rt.alloc(), harts, seeds)?, "{harts}");
+    for (harts, seeds) in &LOGS {
+        assert_eq!(rt; first_wrong(rt.alloc(), *harts, *seeds)?, None);
     }
     Ok(())
 }

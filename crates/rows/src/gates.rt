@@ -3,13 +3,12 @@
 ghost use Rattle.std.specs.Prelude.{◌≡◌, ◌<◌, ℕ, length};
 ghost use Rattle.ack_core.specs.Seats.{IsGateOf};
 ghost use Rattle.output_gate.specs.Gates.{noted_at};
-ghost use Rattle.book_rows.specs.Made.{IsOfTwo, IsOfThree};
+ghost use Rattle.rows.specs.Made.{IsOfTwo, IsOfThree};
 
 use crate::boards::{desk, position, publish, told};
+use crate::rights::hart;
 use ack_core::{Board, GateSeat};
-use closed_cut::Position;
-use fixtures::hart;
-use ft_types::{Count, Hart, Keeper, Memory, Term};
+use ft_types::{Count, Hart, Keeper, Memory, Position, Term};
 use output_gate::{Gate, Output, outputs_go_in_order};
 use std::alloc::Global;
 use std::result::Result;

@@ -2,11 +2,10 @@
 
 ghost use Rattle.std.specs.Prelude.{◌≡◌, ◌<◌, length, IfOk};
 ghost use Rattle.ack_core.specs.Seats.{IsKeeperOf, IsGateOf};
-ghost use Rattle.book_rows.specs.Made.{AreKeepersOf, IsOfTwo};
+ghost use Rattle.rows.specs.Made.{AreKeepersOf, IsOfTwo};
 
 use ack_core::{AckFault, Board, GateSeat, KeeperSeat};
-use closed_cut::Position;
-use ft_types::{Counts, Hart, Keeper, Memory, Term};
+use ft_types::{Counts, Hart, Keeper, Memory, Position, Term};
 use std::alloc::Global;
 use std::result::Result;
 use std::test::Fail;
