@@ -3,8 +3,9 @@
 use crate::beside::Beside;
 use crate::chance::{Chance, guest};
 use crate::tally::Tally;
+use fixtures::image_of;
 use ft_types::Memory;
-use guest_image::{Image, read_image};
+use guest_image::Image;
 use std::alloc::Global;
 use std::ops::Range;
 use std::test::Fail;
@@ -18,42 +19,47 @@ const LISTS: u64 = 2_500;
 /// What at least happens in a part.
 static LEAST: Tally = Tally {
     lists: LISTS,
-    steps: 5_000,
+    steps: 30_000,
     late_steps: 5_000,
-    acknowledged: 1_000,
-    restarts: 500,
-    grants: 1_000,
-    refused: 5_000,
-    fenced: 500,
-    released: 500,
-    behind: 250,
-    again: 50,
+    acknowledged: 10_000,
+    late_acknowledged: 75,
+    restarts: 2_000,
+    grants: 2_000,
+    fenced: 4_000,
+    refused: 7_000,
+    releases: 1_500,
+    late_releases: 300,
+    again: 300,
 };
 
 /// Applies a list of events to two worlds. Says whether they agree at each.
 fn agree_on_list(alloc: Global, chance: &mut Chance, worlds: &mut Beside) -> Result<bool, Memory> {
-    for event in 1..=EVENTS {
+    for _event in 0..EVENTS {
         let act = chance.next(worlds.plain());
-        if !worlds.agree_on(alloc, act)? || event % 10 == 0 && !worlds.have_same_machines() {
+        if !worlds.agree_on(alloc, act)? {
             return Ok(false);
         }
     }
     Ok(true)
 }
 
-/// The same, and whether they sent the same frames then.
+/// The same, and whether they have the same machines and sent the same frames then.
 fn agree_to_the_end(
     alloc: Global,
     image: &Image,
     chance: &mut Chance,
     worlds: &mut Beside,
 ) -> Result<bool, Memory> {
-    Ok(agree_on_list(alloc, chance, worlds)? && worlds.sent_the_same(alloc, image)?)
+    Ok(
+        agree_on_list(alloc, chance, worlds)?
+            && worlds.have_same_machines()
+            && worlds.sent_the_same(alloc, image)?,
+    )
 }
 
 /// Two worlds of a few keepers, to which nothing happened.
 fn begin(alloc: Global, image: &Image, chance: &mut Chance) -> Result<Beside, Memory> {
-    let keepers = chance.number(5).min(chance.number(5));
+    let keepers = chance.number(5).min(chance.number(5).max(2));
     let need = chance.number(keepers);
     Beside::new(alloc, image, keepers, need)
 }
@@ -69,17 +75,9 @@ fn agree_by(alloc: Global, image: &Image, seed: u64, tally: &mut Tally) -> Resul
     agreed
 }
 
-/// The image of a right file.
-fn image_in(alloc: Global, file: &[u8]) -> Result<Image, Fail> {
-    match read_image(alloc, file) {
-        Ok(image) => Ok(image),
-        Err(_) => Ok(read_image(alloc, file).map_err(|_| "image")?),
-    }
-}
-
 /// Applies the list of this number, once more where the plain world was refused memory. Says whether the worlds agree.
 fn agree_in(alloc: Global, number: u64, tally: &mut Tally) -> Result<bool, Fail> {
-    let image = image_in(alloc, guest(number))?;
+    let image = image_of(alloc, guest(number))?;
     let seed = number.wrapping_mul(0x9e37_79b9_7f4a_7c15) | 1;
     match agree_by(alloc, &image, seed, tally) {
         Err(Memory) => Ok(agree_by(alloc, &image, seed, tally)?),
