@@ -112,7 +112,7 @@ fn seldom(dice: &mut Dice, world: &PlainWorld) -> Act {
 }
 
 /// What a list is about for a while.
-#[derive(Clone, Copy, PartialEq, Eq)]
+#[derive(Clone, Copy)]
 enum Mood {
     /// Harts take steps.
     Steps,

@@ -39,7 +39,7 @@ impl PlainWorld {
     /// Whether more keepers gave their stores than may lack an output that went out.
     fn are_enough(&self, keepers: &[u64]) -> bool {
         let most_lacking = usize::from(self.keepers.saturating_sub(self.need));
-        let enough = if self.without == Some(Rule::Quorum) {
+        let enough = if matches!(self.without, Some(Rule::Quorum)) {
             most_lacking
         } else {
             most_lacking.saturating_add(1)

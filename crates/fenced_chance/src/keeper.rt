@@ -4,7 +4,7 @@ use ft_types::{Memory, Term};
 use std::alloc::Global;
 
 /// A rule of fencing, which a plain world may do without.
-#[derive(Clone, Copy, PartialEq, Eq)]
+#[derive(Clone, Copy)]
 pub enum Rule {
     /// A keeper acknowledges nothing of a term below its fence.
     Fence,
@@ -70,7 +70,7 @@ impl PlainKeeper {
     /// It comes back with what it wrote down.
     pub fn restart(&mut self, alloc: Global, without: Option<Rule>) -> Result<(), Memory> {
         self.taken = self.written.to_vec(alloc)?;
-        if without == Some(Rule::FenceLasts) {
+        if matches!(without, Some(Rule::FenceLasts)) {
             self.gave.clear();
         }
         Ok(())
@@ -102,7 +102,7 @@ impl PlainKeeper {
 
     /// What it acknowledges.
     pub fn acknowledged(&self, without: Option<Rule>) -> &[u64] {
-        if without == Some(Rule::Saved) {
+        if matches!(without, Some(Rule::Saved)) {
             self.taken.as_slice()
         } else {
             self.written.as_slice()
@@ -111,6 +111,6 @@ impl PlainKeeper {
 
     /// Whether it may acknowledge a position of the term.
     pub fn may_acknowledge(&self, term: Term, without: Option<Rule>) -> bool {
-        without == Some(Rule::Fence) || !self.gave_later(term)
+        matches!(without, Some(Rule::Fence)) || !self.gave_later(term)
     }
 }

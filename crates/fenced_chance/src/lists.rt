@@ -7,29 +7,28 @@ use fixtures::image_of;
 use ft_types::Memory;
 use guest_image::Image;
 use std::alloc::Global;
-use std::ops::Range;
 use std::test::Fail;
 
 /// How many events a list has.
 const EVENTS: u64 = 60;
 
-/// How many lists a part has.
-const LISTS: u64 = 2_500;
+/// How many lists there are.
+const LISTS: u64 = 10_000;
 
-/// What at least happens in a part.
+/// What at least happens in them.
 static LEAST: Tally = Tally {
     lists: LISTS,
-    steps: 30_000,
-    late_steps: 5_000,
-    acknowledged: 10_000,
-    late_acknowledged: 75,
-    restarts: 2_000,
-    grants: 2_000,
-    fenced: 4_000,
-    refused: 7_000,
-    releases: 1_500,
-    late_releases: 300,
-    again: 300,
+    steps: 120_000,
+    late_steps: 20_000,
+    acknowledged: 40_000,
+    late_acknowledged: 300,
+    restarts: 8_000,
+    grants: 8_000,
+    fenced: 16_000,
+    refused: 28_000,
+    releases: 6_000,
+    late_releases: 1_500,
+    again: 1_200,
 };
 
 /// Applies a list of events to two worlds. Says whether they agree at each.
@@ -85,13 +84,9 @@ fn agree_in(alloc: Global, number: u64, tally: &mut Tally) -> Result<bool, Fail>
     }
 }
 
-/// The number of the first of these lists in which the worlds differ.
-fn first_difference(
-    alloc: Global,
-    lists: Range<u64>,
-    tally: &mut Tally,
-) -> Result<Option<u64>, Fail> {
-    for number in lists {
+/// The number of the first list in which the worlds differ. What happened in those before it is added.
+fn first_difference(alloc: Global, tally: &mut Tally) -> Result<Option<u64>, Fail> {
+    for number in 0..LISTS {
         if !agree_in(alloc, number, tally)? {
             return Ok(Some(number));
         }
@@ -99,38 +94,10 @@ fn first_difference(
     Ok(None)
 }
 
-/// The number of the first list of this part in which the worlds differ. In a part in which they do not much happens.
-fn difference_in(alloc: Global, part: u64) -> Result<Option<u64>, Fail> {
+#[test]
+fn worlds_agree_on_lists_by_chance(rt: HostRuntime) -> Result<(), Fail> {
     let mut tally = Tally::default();
-    let first = part.saturating_mul(LISTS);
-    let lists = first..first.saturating_add(LISTS);
-    let difference = first_difference(alloc, lists, &mut tally)?;
-    if difference.is_none() && !tally.is_at_least(&LEAST) {
-        return Err("too little happened".into());
-    }
-    Ok(difference)
-}
-
-#[test]
-fn part_0(rt: HostRuntime) -> Result<(), Fail> {
-    assert_eq!(rt; difference_in(rt.alloc(), 0)?, None);
-    Ok(())
-}
-
-#[test]
-fn part_1(rt: HostRuntime) -> Result<(), Fail> {
-    assert_eq!(rt; difference_in(rt.alloc(), 1)?, None);
-    Ok(())
-}
-
-#[test]
-fn part_2(rt: HostRuntime) -> Result<(), Fail> {
-    assert_eq!(rt; difference_in(rt.alloc(), 2)?, None);
-    Ok(())
-}
-
-#[test]
-fn part_3(rt: HostRuntime) -> Result<(), Fail> {
-    assert_eq!(rt; difference_in(rt.alloc(), 3)?, None);
+    assert_eq!(rt; first_difference(rt.alloc(), &mut tally)?, None);
+    assert!(rt; tally.is_at_least(&LEAST));
     Ok(())
 }

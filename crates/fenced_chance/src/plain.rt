@@ -264,7 +264,7 @@ impl PlainWorld {
         if self.keeper(number)?.gave_later(term) {
             return Err(FencedFault::Fenced);
         }
-        if self.without == Some(Rule::FenceFirst) {
+        if matches!(self.without, Some(Rule::FenceFirst)) {
             Ok(self.read(alloc, number, term)?)
         } else {
             Ok(self.give(number, term)?)
@@ -326,7 +326,7 @@ impl PlainWorld {
 
     /// Whether the gate of the term counts what was acknowledged.
     fn counts(&self, one: &Acknowledged, term: Term) -> bool {
-        one.term == term || self.without == Some(Rule::OwnTerm)
+        one.term == term || matches!(self.without, Some(Rule::OwnTerm))
     }
 
     /// Whether the keeper acknowledged counts with the hart's step inside, in the term.

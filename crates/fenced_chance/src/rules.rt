@@ -7,190 +7,207 @@ use crate::keeper::Rule;
 use crate::plain::PlainWorld;
 use fenced_world::{FencedFault, Released};
 use fixtures::{SAYS_ITS_WORD, image_of};
-use ft_types::{Memory, Term};
+use ft_types::Memory;
 use guest_image::Image;
 use std::alloc::Global;
 use std::test::Fail;
 
-/// What happens in such a list.
-#[derive(Clone, Copy)]
-enum Deed {
-    /// The term's primary is offered its word, says it with its third step, and seals that.
-    Says(Term, u32),
-    /// Frames of these numbers come to the keeper, which writes them down.
-    Holds(u64, &'static [u64]),
-    /// The event.
-    Does(Act),
-    /// The event against the rule.
-    Breaks(Act),
-}
-
-/// A rule in words, the rule, what comes of the event against it where it is kept, and a list with that event. Of two keepers one has to hold what
-/// goes out.
-type Row = (&'static str, Rule, Outcome, &'static [Deed]);
+/// A rule in words, and the rule; a list of events, of which the one at the place is against the rule, and what comes of that one where the
+/// rule is kept. The guest says the word that it is offered with its third step. Of two keepers one has to hold what goes out.
+type Row = (&'static str, Rule, &'static [Act], usize, Outcome);
 
 /// Both keepers gave term 2 nothing. Keeper 0 acknowledges in term 1 all the same.
-const BELOW_THE_FENCE: &[Deed] = &[
-    Deed::Does(Act::Grant(2, &[0, 1])),
-    Deed::Says(1, 7),
-    Deed::Holds(0, &[0, 2]),
-    Deed::Breaks(Act::Ack(0)),
-    Deed::Does(Act::Release(1)),
-    Deed::Says(2, 8),
-    Deed::Holds(1, &[1, 3]),
-    Deed::Does(Act::Ack(1)),
-    Deed::Does(Act::Release(2)),
+const BELOW_THE_FENCE: &[Act] = &[
+    Act::Grant(2, &[0, 1]),
+    Act::Word(1, 0, 7),
+    Act::Step(1, 0),
+    Act::Step(1, 0),
+    Act::Step(1, 0),
+    Act::Seal(1),
+    Act::Deliver(0, 0),
+    Act::Deliver(0, 2),
+    Act::Save(0),
+    Act::Ack(0),
+    Act::Release(1),
+    Act::Word(2, 0, 8),
+    Act::Step(2, 0),
+    Act::Step(2, 0),
+    Act::Step(2, 0),
+    Act::Seal(2),
+    Act::Deliver(1, 1),
+    Act::Deliver(1, 3),
+    Act::Save(1),
+    Act::Ack(1),
+    Act::Release(2),
 ];
 
 /// The same, once it came back.
-const BACK_WITHOUT_A_FENCE: &[Deed] = &[
-    Deed::Does(Act::Grant(2, &[0, 1])),
-    Deed::Does(Act::Restart(0)),
-    Deed::Says(1, 7),
-    Deed::Holds(0, &[0, 2]),
-    Deed::Breaks(Act::Ack(0)),
-    Deed::Does(Act::Release(1)),
-    Deed::Says(2, 8),
-    Deed::Holds(1, &[1, 3]),
-    Deed::Does(Act::Ack(1)),
-    Deed::Does(Act::Release(2)),
+const BACK_WITHOUT_A_FENCE: &[Act] = &[
+    Act::Grant(2, &[0, 1]),
+    Act::Restart(0),
+    Act::Word(1, 0, 7),
+    Act::Step(1, 0),
+    Act::Step(1, 0),
+    Act::Step(1, 0),
+    Act::Seal(1),
+    Act::Deliver(0, 0),
+    Act::Deliver(0, 2),
+    Act::Save(0),
+    Act::Ack(0),
+    Act::Release(1),
+    Act::Word(2, 0, 8),
+    Act::Step(2, 0),
+    Act::Step(2, 0),
+    Act::Step(2, 0),
+    Act::Seal(2),
+    Act::Deliver(1, 1),
+    Act::Deliver(1, 3),
+    Act::Save(1),
+    Act::Ack(1),
+    Act::Release(2),
 ];
 
 /// The store of keeper 0 is read for term 2. Then it acknowledges in term 1, and is fenced only when term 2 is granted.
-const READ_TOO_EARLY: &[Deed] = &[
-    Deed::Does(Act::Fence(0, 2)),
-    Deed::Says(1, 7),
-    Deed::Holds(0, &[0, 1]),
-    Deed::Breaks(Act::Ack(0)),
-    Deed::Does(Act::Release(1)),
-    Deed::Does(Act::Grant(2, &[0, 1])),
-    Deed::Says(2, 8),
-    Deed::Holds(1, &[2, 3]),
-    Deed::Does(Act::Ack(1)),
-    Deed::Does(Act::Release(2)),
+const READ_TOO_EARLY: &[Act] = &[
+    Act::Fence(0, 2),
+    Act::Word(1, 0, 7),
+    Act::Step(1, 0),
+    Act::Step(1, 0),
+    Act::Step(1, 0),
+    Act::Seal(1),
+    Act::Deliver(0, 0),
+    Act::Deliver(0, 1),
+    Act::Save(0),
+    Act::Ack(0),
+    Act::Release(1),
+    Act::Grant(2, &[0, 1]),
+    Act::Word(2, 0, 8),
+    Act::Step(2, 0),
+    Act::Step(2, 0),
+    Act::Step(2, 0),
+    Act::Seal(2),
+    Act::Deliver(1, 2),
+    Act::Deliver(1, 3),
+    Act::Save(1),
+    Act::Ack(1),
+    Act::Release(2),
 ];
 
 /// Keeper 0 acknowledges what it has not written down, and comes back without it.
-const NOT_WRITTEN_DOWN: &[Deed] = &[
-    Deed::Says(1, 7),
-    Deed::Does(Act::Deliver(0, 0)),
-    Deed::Does(Act::Deliver(0, 1)),
-    Deed::Breaks(Act::Ack(0)),
-    Deed::Does(Act::Release(1)),
-    Deed::Does(Act::Restart(0)),
-    Deed::Does(Act::Grant(2, &[0, 1])),
-    Deed::Says(2, 8),
-    Deed::Holds(1, &[2, 3]),
-    Deed::Does(Act::Ack(1)),
-    Deed::Does(Act::Release(2)),
+const NOT_WRITTEN_DOWN: &[Act] = &[
+    Act::Word(1, 0, 7),
+    Act::Step(1, 0),
+    Act::Step(1, 0),
+    Act::Step(1, 0),
+    Act::Seal(1),
+    Act::Deliver(0, 0),
+    Act::Deliver(0, 1),
+    Act::Ack(0),
+    Act::Release(1),
+    Act::Restart(0),
+    Act::Grant(2, &[0, 1]),
+    Act::Word(2, 0, 8),
+    Act::Step(2, 0),
+    Act::Step(2, 0),
+    Act::Step(2, 0),
+    Act::Seal(2),
+    Act::Deliver(1, 2),
+    Act::Deliver(1, 3),
+    Act::Save(1),
+    Act::Ack(1),
+    Act::Release(2),
 ];
 
 /// Keeper 0 alone holds what went out, and term 2 begins with what keeper 1 has.
-const FROM_ONE_TOO_FEW: &[Deed] = &[
-    Deed::Says(1, 7),
-    Deed::Holds(0, &[0, 1]),
-    Deed::Does(Act::Ack(0)),
-    Deed::Does(Act::Release(1)),
-    Deed::Breaks(Act::Grant(2, &[1])),
-    Deed::Says(2, 8),
-    Deed::Holds(1, &[2, 3]),
-    Deed::Does(Act::Ack(1)),
-    Deed::Does(Act::Release(2)),
+const FROM_ONE_TOO_FEW: &[Act] = &[
+    Act::Word(1, 0, 7),
+    Act::Step(1, 0),
+    Act::Step(1, 0),
+    Act::Step(1, 0),
+    Act::Seal(1),
+    Act::Deliver(0, 0),
+    Act::Deliver(0, 1),
+    Act::Save(0),
+    Act::Ack(0),
+    Act::Release(1),
+    Act::Grant(2, &[1]),
+    Act::Word(2, 0, 8),
+    Act::Step(2, 0),
+    Act::Step(2, 0),
+    Act::Step(2, 0),
+    Act::Seal(2),
+    Act::Deliver(1, 2),
+    Act::Deliver(1, 3),
+    Act::Save(1),
+    Act::Ack(1),
+    Act::Release(2),
 ];
 
 /// Keeper 1 holds what term 2 says, and nobody what term 1 does.
-const AT_ANOTHER_GATE: &[Deed] = &[
-    Deed::Does(Act::Grant(2, &[0, 1])),
-    Deed::Says(1, 7),
-    Deed::Says(2, 8),
-    Deed::Holds(1, &[1, 3]),
-    Deed::Does(Act::Ack(1)),
-    Deed::Does(Act::Release(2)),
-    Deed::Breaks(Act::Release(1)),
+const AT_ANOTHER_GATE: &[Act] = &[
+    Act::Grant(2, &[0, 1]),
+    Act::Word(1, 0, 7),
+    Act::Step(1, 0),
+    Act::Step(1, 0),
+    Act::Step(1, 0),
+    Act::Seal(1),
+    Act::Word(2, 0, 8),
+    Act::Step(2, 0),
+    Act::Step(2, 0),
+    Act::Step(2, 0),
+    Act::Seal(2),
+    Act::Deliver(1, 1),
+    Act::Deliver(1, 3),
+    Act::Save(1),
+    Act::Ack(1),
+    Act::Release(2),
+    Act::Release(1),
 ];
 
 static ROWS: [Row; 6] = [
     (
         "a keeper acknowledges nothing of a term below its fence",
         Rule::Fence,
-        Outcome::Fenced,
         BELOW_THE_FENCE,
+        9,
+        Outcome::Fenced,
     ),
     (
         "a fence outlives a restart",
         Rule::FenceLasts,
-        Outcome::Fenced,
         BACK_WITHOUT_A_FENCE,
+        10,
+        Outcome::Fenced,
     ),
     (
         "a fence is raised before the store is read",
         Rule::FenceFirst,
-        Outcome::Fenced,
         READ_TOO_EARLY,
+        9,
+        Outcome::Fenced,
     ),
     (
         "a keeper acknowledges only what it has written down",
         Rule::Saved,
-        Outcome::Fenced,
         NOT_WRITTEN_DOWN,
+        7,
+        Outcome::Fenced,
     ),
     (
         "one keeper more gives its store than may lack an output",
         Rule::Quorum,
-        Outcome::TooFewStores,
         FROM_ONE_TOO_FEW,
+        10,
+        Outcome::TooFewStores,
     ),
     (
         "a gate counts what was acknowledged in its own term",
         Rule::OwnTerm,
-        Outcome::NothingGoesOut,
         AT_ANOTHER_GATE,
+        16,
+        Outcome::NothingGoesOut,
     ),
 ];
-
-/// An event, and whether it is against the rule.
-type Said = (Act, bool);
-
-/// Adds an event that is not against the rule.
-fn add(said: &mut Vec<Said>, act: Act) -> Result<(), Memory> {
-    Ok(said.push((act, false))?)
-}
-
-/// The term's primary is offered the word, takes three steps and seals them.
-fn add_word(said: &mut Vec<Said>, term: Term, word: u32) -> Result<(), Memory> {
-    add(said, Act::Word(term, 0, word))?;
-    for _step in 0..3 {
-        add(said, Act::Step(term, 0))?;
-    }
-    add(said, Act::Seal(term))
-}
-
-/// The keeper takes the frames and writes them down.
-fn add_frames(said: &mut Vec<Said>, keeper: u64, frames: &[u64]) -> Result<(), Memory> {
-    for frame in frames {
-        add(said, Act::Deliver(keeper, *frame))?;
-    }
-    add(said, Act::Save(keeper))
-}
-
-/// Adds the events of a deed.
-fn add_deed(said: &mut Vec<Said>, deed: Deed) -> Result<(), Memory> {
-    match deed {
-        Deed::Says(term, word) => add_word(said, term, word),
-        Deed::Holds(keeper, frames) => add_frames(said, keeper, frames),
-        Deed::Does(act) => add(said, act),
-        Deed::Breaks(act) => Ok(said.push((act, true))?),
-    }
-}
-
-/// The events of a list.
-fn events_of(alloc: Global, deeds: &[Deed]) -> Result<Vec<Said>, Memory> {
-    let mut said = Vec::new(alloc);
-    for deed in deeds {
-        add_deed(&mut said, *deed)?;
-    }
-    Ok(said)
-}
 
 /// Whether another output went out with the hart and the number of this one.
 fn is_contradicted(one: &Released, released: &[Released]) -> bool {
@@ -215,8 +232,8 @@ fn does(alloc: Global, world: &mut PlainWorld, act: Act) -> Result<bool, Memory>
 }
 
 /// Whether a plain world does all events.
-fn does_all(alloc: Global, world: &mut PlainWorld, said: &[Said]) -> Result<bool, Memory> {
-    for (act, _) in said {
+fn does_all(alloc: Global, world: &mut PlainWorld, acts: &[Act]) -> Result<bool, Memory> {
+    for act in acts {
         if !does(alloc, world, *act)? {
             return Ok(false);
         }
@@ -225,35 +242,41 @@ fn does_all(alloc: Global, world: &mut PlainWorld, said: &[Said]) -> Result<bool
 }
 
 /// Whether one without the rule does so, and lets out two words of one number then.
-fn breaks_without(alloc: Global, image: &Image, rule: Rule, said: &[Said]) -> Result<bool, Memory> {
+fn breaks_without(alloc: Global, image: &Image, row: Row) -> Result<bool, Memory> {
+    let (_, rule, acts, ..) = row;
     let mut world = PlainWorld::new(alloc, image, 2, 1, Some(rule))?;
-    Ok(does_all(alloc, &mut world, said)? && are_two_words(world.released()))
+    Ok(does_all(alloc, &mut world, acts)? && are_two_words(world.released()))
 }
 
-/// Whether both worlds do the events up to the one against the rule, of which this comes, and agree to the end.
-fn is_kept_in(
-    alloc: Global,
-    worlds: &mut Beside,
-    instead: Outcome,
-    said: &[Said],
-) -> Result<bool, Memory> {
-    let mut broken = false;
-    for (act, breaks) in said {
-        let wanted = if *breaks { instead } else { Outcome::Done };
-        broken = broken || *breaks;
+/// Whether this may come of the event of that number: each one before the place is done, of that at the place this is to come, and those
+/// behind it may be refused, by both worlds.
+fn is_so(number: usize, outcome: Outcome, place: usize, instead: Outcome) -> bool {
+    if number < place {
+        outcome == Outcome::Done
+    } else if number == place {
+        outcome == instead
+    } else {
+        outcome != Outcome::Unlike
+    }
+}
+
+/// Whether both worlds do the events before the one against the rule, of which this comes, and agree to the end.
+fn is_kept_in(alloc: Global, worlds: &mut Beside, row: Row) -> Result<bool, Memory> {
+    let (_, _, acts, place, instead) = row;
+    for (number, act) in acts.iter().enumerate() {
         let outcome = worlds.answer(alloc, *act)?;
-        if outcome == Outcome::Unlike || outcome != wanted && (*breaks || !broken) {
+        if !is_so(number, outcome, place, instead) {
             return Ok(false);
         }
     }
-    Ok(broken)
+    Ok(true)
 }
 
 /// The same, and no two words of one number went out then.
-fn is_kept(alloc: Global, image: &Image, instead: Outcome, said: &[Said]) -> Result<bool, Memory> {
+fn is_kept(alloc: Global, image: &Image, row: Row) -> Result<bool, Memory> {
     let mut worlds = Beside::new(alloc, image, 2, 1)?;
     Ok(
-        is_kept_in(alloc, &mut worlds, instead, said)?
+        is_kept_in(alloc, &mut worlds, row)?
             && worlds.have_same_machines()
             && !are_two_words(worlds.released()),
     )
@@ -261,10 +284,8 @@ fn is_kept(alloc: Global, image: &Image, instead: Outcome, said: &[Said]) -> Res
 
 /// Whether the rule is needed, and whether it is kept.
 fn verdict(alloc: Global, image: &Image, row: Row) -> Result<(bool, bool), Memory> {
-    let (_, rule, instead, deeds) = row;
-    let said = events_of(alloc, deeds)?;
-    let needed = breaks_without(alloc, image, rule, &said)?;
-    Ok((needed, is_kept(alloc, image, instead, &said)?))
+    let needed = breaks_without(alloc, image, row)?;
+    Ok((needed, is_kept(alloc, image, row)?))
 }
 
 /// The same, once more where memory was refused.

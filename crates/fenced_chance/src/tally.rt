@@ -4,7 +4,7 @@ use crate::acts::Act;
 use fenced_world::{FencedFault, Released};
 
 /// How often something happened in lists of events. What is late is of a term below one that was granted.
-#[derive(Clone, Copy, Debug, Default)]
+#[derive(Clone, Copy, Default)]
 pub struct Tally {
     /// Lists that were applied.
     pub lists: u64,
