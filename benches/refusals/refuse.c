@@ -1,6 +1,7 @@
 // A library to be loaded before a program's own (LD_PRELOAD): it counts the program's growths, and refuses the one with the number REFUSE_AT, as if memory
-// were at its end. Growths are the calls of malloc, calloc, realloc, posix_memalign and aligned_alloc, in all threads, from 1 on; a realloc counts whatever
-// its size. With REFUSE_AT 0, or none, nothing is refused. When the program ends, how many growths there were is written to the file that REFUSE_TELL names.
+// were at its end, and each one whose number is a multiple of REFUSE_EACH. Growths are the calls of malloc, calloc, realloc, posix_memalign and aligned_alloc,
+// in all threads, from 1 on; a realloc counts whatever its size. Of what is 0, or not there, nothing is refused. When the program ends, how many growths there
+// were is written to the file that REFUSE_TELL names.
 // Where REFUSE_IN names a program, without its folder, all this is so in that program alone, and not in one that starts it.
 #define _GNU_SOURCE
 #include <dlfcn.h>
@@ -19,11 +20,16 @@ static void *(*next_realloc)(void *, size_t);
 static int (*next_posix_memalign)(void **, size_t, size_t);
 static void *(*next_aligned_alloc)(size_t, size_t);
 static atomic_ulong growths;
-static unsigned long refused;
+static unsigned long refused, each;
 
 static int is_meant(void) {
     const char *name = getenv("REFUSE_IN");
     return !name || strcmp(name, program_invocation_short_name) == 0;
+}
+
+static unsigned long number(const char *name) {
+    const char *text = getenv(name);
+    return text && is_meant() ? strtoul(text, 0, 10) : 0;
 }
 
 // The C library's own. Looked up before any thread is there, since the loader's first growth comes before the constructor below.
@@ -34,14 +40,15 @@ static void find(void) {
     next_realloc = dlsym(RTLD_NEXT, "realloc");
     next_posix_memalign = dlsym(RTLD_NEXT, "posix_memalign");
     next_aligned_alloc = dlsym(RTLD_NEXT, "aligned_alloc");
-    const char *at = getenv("REFUSE_AT");
-    refused = at && is_meant() ? strtoul(at, 0, 10) : 0;
+    refused = number("REFUSE_AT");
+    each = number("REFUSE_EACH");
 }
 
-// Counts a growth, and tells whether it is the one to be refused.
+// Counts a growth, and tells whether it is one to be refused.
 static int refuses(void) {
     find();
-    if (atomic_fetch_add(&growths, 1) + 1 != refused) return 0;
+    unsigned long at = atomic_fetch_add(&growths, 1) + 1;
+    if (at != refused && (!each || at % each != 0)) return 0;
     errno = ENOMEM;
     return 1;
 }

@@ -3,7 +3,8 @@
 
 The list of tests stands in `tests`. They ask again where memory is refused, and compare what the refusal left and what then comes with what they must be; so
 each must pass with any one growth refused. FOLDER has the test programs, NAME_tests; by itself each is where `rt test` leaves it. Of a test with more than
-1,000 growths 100 are tried, spread over all. Where harts or keepers are threads the number of growths differs from run to run. Where a test passes no more
+1,000 growths 100 are tried, spread over all. A line with `each N` is of a test that has many growths and asks again for each: it runs once, with each growth
+refused whose number is a multiple of N. Where harts or keepers are threads the number of growths differs from run to run. Where a test passes no more
 because a call of its own, which makes what it tests, was refused and is not asked for again, it gives up; that is no failure. The status is 1 where one
 fails.
 """
@@ -29,11 +30,11 @@ def program_of(folder, crate):
     return f"{folder or f'{TOP}/crates/{crate}/out'}/{crate}_tests"
 
 
-def refusing(library, program, name, at):
-    """Whether the test passes, gives up or fails with this growth refused, how it ended, and how many growths it had."""
+def refusing(library, program, name, at, each=0):
+    """Whether the test passes, gives up or fails with these growths refused, how it ended, and how many growths it had."""
     if os.path.isfile(TOLD):
         os.remove(TOLD)
-    environment = {"LD_PRELOAD": library, "REFUSE_AT": str(at), "REFUSE_TELL": TOLD}
+    environment = {"LD_PRELOAD": library, "REFUSE_AT": str(at), "REFUSE_EACH": str(each), "REFUSE_TELL": TOLD}
     status, out, err = call(program, [name], SECONDS, environment)
     passes = status == 0 and b"test result: ok" in out
     kind = "passed" if passes else "gave up" if re.fullmatch(GIVEN_UP, err) else "failed"
@@ -47,7 +48,7 @@ def spread(most):
     return [1 + at * (most - 1) // (PART - 1) for at in range(PART)]
 
 
-def sweep(library, folder, crate, name):
+def sweep(library, folder, crate, name, _each="", each="0"):
     program = program_of(folder, crate)
     title = f"{crate} {name}: "
     if not os.path.isfile(program):
@@ -58,6 +59,9 @@ def sweep(library, folder, crate, name):
         kind, ended, most = refusing(library, program, name, 0)
         if kind != "passed":
             return title + f"fails with ample memory, {ended}", True
+        if int(each):
+            kind, ended, most = refusing(library, program, name, 0, int(each))
+            return f"{title}{most // int(each)} of {most} growths refused in one run: {kind}, {ended}", kind == "failed"
         found = [(at, *refusing(library, program, name, at)) for at in spread(most)]
         kinds = [kind for _, kind, _, _ in found]
         others = [f"  growth {at} refused: {kind}, {ended}" for at, kind, ended, _ in found if kind != "passed"]

@@ -1,27 +1,42 @@
 //! A world beside a plain one.
 
-ghost use Rattle.std.specs.Prelude.{◌≡◌, ◌<◌, ◌≤◌};
-ghost use Rattle.ft_types.specs.declared.names.TheConstants.{HART_LIMIT};
+ghost use Rattle.std.specs.Prelude.{◌<◌, ◌≤◌};
 
-use crate::acts::{Act, event_of};
+use crate::acts::Act;
 use crate::plain::PlainWorld;
+use crate::subject::Subject;
 use crate::tally::Tally;
-use fenced_world::{FencedFault, FencedWorld, Released};
+use fenced_world::{FencedFault, Released};
 use fragment_codec::Frame;
 use ft_types::{Memory, Term};
+use go_live::LiveFault;
 use guest_image::{Image, Machine};
 use log_join::{Put, Store};
 use std::alloc::Global;
 
-/// A world, how many harts its guest has, a plain one to which the same happens, and what happened.
+/// What comes of an act in both worlds.
+#[derive(Clone, Copy, PartialEq, Eq)]
+pub enum Outcome {
+    /// It is done.
+    Done,
+    /// It is a release that lets nothing out.
+    NothingGoesOut,
+    /// It is refused by a fence.
+    Fenced,
+    /// It is a grant from too few stores.
+    TooFewStores,
+    /// It is refused otherwise.
+    Refused,
+    /// The worlds answer it unlike, or not the same went out.
+    Unlike,
+}
+
+/// A world, a plain one to which the same happens, and what happened.
 #[derive(Drop)]
 pub struct Beside {
-    world: FencedWorld,
-    harts: u8,
+    subject: Subject,
     plain: PlainWorld,
     tally: Tally,
-    ghost of_world: { world.image.harts ≡ harts },
-    ghost some: { (0 < harts) × (harts ≤ HART_LIMIT) },
 }
 
 /// Whether the machine has each of these outputs that went out in its term or an older one, at its number.
@@ -40,16 +55,34 @@ fn has_all(machine: &Machine, term: Term, released: &[Released]) -> bool {
         })
 }
 
+/// What happened to a world that answered so: a keeper whose memory is refused as it comes back is lost.
+fn as_seen(act: Act, answer: Result<(), FencedFault>) -> (Act, Result<(), FencedFault>) {
+    match (act, answer) {
+        (Act::Restart(keeper), Err(FencedFault::Memory)) => (Act::Lose(keeper), Ok(())),
+        _ => (act, answer),
+    }
+}
+
+/// What comes of an act that is answered so, by which something went out or not.
+fn outcome_of(act: Act, answer: Result<(), FencedFault>, released: bool) -> Outcome {
+    match (act, answer) {
+        (_, Err(FencedFault::Fenced)) => Outcome::Fenced,
+        (_, Err(FencedFault::Live(LiveFault::TooFewStores))) => Outcome::TooFewStores,
+        (_, Err(_)) => Outcome::Refused,
+        (Act::Release(_), Ok(())) if !released => Outcome::NothingGoesOut,
+        _ => Outcome::Done,
+    }
+}
+
 impl Beside {
     /// Two worlds of the image.
     pub fn new(alloc: Global, image: &Image, keepers: u8, need: u8) -> Result<Beside, Memory>
         requires { (0 < need) × (need ≤ keepers) × (keepers ≤ 5) }
     {
-        let plain = PlainWorld::new(alloc, image, keepers, need)?;
-        let world = FencedWorld::new(alloc, image, keepers, need)?;
+        let plain = PlainWorld::new(alloc, image, keepers, need, None)?;
+        let subject = Subject::new(alloc, image, keepers, need)?;
         Ok(Beside {
-            world,
-            harts: image.harts(),
+            subject,
             plain,
             tally: Tally::default(),
         })
@@ -62,7 +95,7 @@ impl Beside {
 
     /// The outputs that went out.
     pub fn released(&self) -> &[Released] {
-        self.world.released()
+        self.subject.released()
     }
 
     /// What happened.
@@ -72,55 +105,72 @@ impl Beside {
 
     /// Whether the worlds have the same machine in the term, and it has all that went out up to that term.
     fn have_same_machine(&self, term: Term) -> bool {
-        match (self.world.machine(term), self.plain.machine(term)) {
+        match (self.subject.machine(term), self.plain.machine(term)) {
             (Some(machine), Some(other)) => {
-                machine.same(other) && has_all(machine, term, self.world.released())
+                machine.same(other) && has_all(machine, term, self.subject.released())
             }
-            (None, None) => true,
             _ => false,
         }
     }
 
-    /// Whether they have so in each term that was granted.
+    /// Whether they have granted the same terms, and have the same machine in each.
     pub fn have_same_machines(&self) -> bool {
-        (0..self.plain.granted()).all(|number| self.have_same_machine(self.plain.term_at(number)))
+        let granted = self.plain.granted();
+        granted == self.subject.granted()
+            && (0..granted).all(|number| self.have_same_machine(self.plain.term_at(number)))
     }
 
     /// Whether the same went out.
     fn released_the_same(&self) -> bool {
-        self.world.released() == self.plain.released()
+        self.subject.released() == self.plain.released()
     }
 
-    /// What comes of the act, which is tried again where memory was refused.
-    fn answer(&mut self, alloc: Global, act: Act) -> Result<Result<(), FencedFault>, Memory> {
-        let event = event_of(alloc, act, self.harts)?;
-        match self.world.apply(alloc, event) {
-            Err(FencedFault::Memory) => {
-                let event = event_of(alloc, act, self.harts)?;
-                Ok(self.world.apply(alloc, event))
-            }
-            answer => Ok(answer),
-        }
+    /// Whether the act was of a term below one that was granted.
+    fn is_late(&self, act: Act) -> bool {
+        let term = match act {
+            Act::Step(term, _) | Act::Release(term) => term,
+            Act::Ack(_) => self.plain.last_acknowledged(),
+            _ => return false,
+        };
+        term < self.plain.greatest_term()
     }
 
-    /// Applies the act to both worlds. Says whether they answer the same, and the same went out.
-    pub fn agree_on(&mut self, alloc: Global, act: Act) -> Result<bool, Memory> {
-        let last = self.plain.last_term();
+    /// Counts what came of the act in both worlds.
+    fn count(&mut self, act: Act, answer: Result<(), FencedFault>, released: bool) {
+        let late = self.is_late(act);
+        self.tally.count(act, answer, late, released);
+    }
+
+    /// Applies the act to both worlds: what comes of it.
+    pub fn answer(&mut self, alloc: Global, act: Act) -> Result<Outcome, Memory> {
+        let Some(answer) = self.subject.answer(alloc, act) else {
+            return Ok(Outcome::Unlike);
+        };
+        let (act, answer) = as_seen(act, answer);
         let before = self.plain.released().len();
-        let answer = self.answer(alloc, act)?;
         let wanted = self.plain.apply(alloc, act);
         if wanted == Err(FencedFault::Memory) {
             return Err(Memory);
         }
-        let out = self.plain.released().len().saturating_sub(before);
-        self.tally.count(act, answer, last, out);
-        Ok(answer == wanted && self.released_the_same())
+        let released = self.plain.released().len() > before;
+        let same = answer == wanted && self.released_the_same();
+        self.count(act, wanted, released);
+        Ok(if same {
+            outcome_of(act, answer, released)
+        } else {
+            Outcome::Unlike
+        })
+    }
+
+    /// Applies the act to both worlds. Says whether they answer the same, and the same went out.
+    pub fn agree_on(&mut self, alloc: Global, act: Act) -> Result<bool, Memory> {
+        Ok(self.answer(alloc, act)? != Outcome::Unlike)
     }
 
     /// Whether the worlds sent the same frames.
     pub fn sent_the_same(&self, alloc: Global, image: &Image) -> Result<bool, Memory> {
         let mut store = Store::new(alloc, image.guest());
-        are_the_same(alloc, &mut store, self.plain.sent(), self.world.frames())
+        are_the_same(alloc, &mut store, self.plain.sent(), self.subject.frames())
     }
 }
 

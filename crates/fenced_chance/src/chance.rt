@@ -3,15 +3,9 @@
 ghost use Rattle.std.specs.Prelude.{◌<◌, ◌≤◌};
 
 use crate::acts::Act;
-use crate::dice::Dice;
 use crate::plain::PlainWorld;
+use fixtures::{Dice, HALTS};
 use ft_types::Term;
-
-/// lui x1, f0000; addi x2, x0, 42; sw x2, 8(x1), which is put out; sw x0, 20(x1), which halts.
-const HALTS: &[u8] = b"harts 1\npages 1\nf00000b7\n02a00113\n0020a423\n0000aa23\n";
-
-/// lui x1, f0000; lw x2, 0(x1), the input word; sw x2, 8(x1), an output; sw x0, 20(x1), which halts.
-const SAYS_ITS_WORD: &[u8] = b"harts 1\npages 1\nf00000b7\n0000a103\n0020a423\n0000aa23\n";
 
 /// lui x1, f0000; then again and again sw x2, 8(x1), an output; addi x2, x2, 1; and back: two harts that count aloud.
 static COUNT_ALOUD: &[u8] = b"harts 2\npages 1\nf00000b7\n0020a423\n00110113\nff9ff06f\n";
@@ -20,12 +14,16 @@ static COUNT_ALOUD: &[u8] = b"harts 2\npages 1\nf00000b7\n0020a423\n00110113\nff
 /// say which of them came first.
 static TAKE_TURNS: &[u8] = b"harts 2\npages 2\n800010b7\nf0000237\n0010a12f\n00222423\nff9ff06f\n";
 
+/// lui x1, f0000; then again and again lw x2, 0(x1), the input word; sw x2, 8(x1), an output; and back: it says what it was told, so
+/// that two primaries say two words.
+static ECHO: &[u8] = b"harts 1\npages 1\nf00000b7\n0000a103\n0020a423\nff9ff06f\n";
+
 /// The guest of a list's number.
 pub fn guest(number: u64) -> &'static [u8] {
     match number % 10 {
         0 => HALTS,
-        1 => SAYS_ITS_WORD,
-        2..=6 => COUNT_ALOUD,
+        1..=3 => ECHO,
+        4..=6 => COUNT_ALOUD,
         _ => TAKE_TURNS,
     }
 }
@@ -37,7 +35,7 @@ static OF_ONE: &[&[u64]] = &[&[0], &[0, 0]];
 static OF_TWO: &[&[u64]] = &[&[0], &[1], &[0, 1], &[1, 0, 1]];
 
 /// From whose stores, of three keepers.
-static OF_THREE: &[&[u64]] = &[&[0, 2], &[2, 1], &[1, 0], &[0, 1, 2], &[1, 1]];
+static OF_THREE: &[&[u64]] = &[&[0, 2], &[2, 1], &[1, 0], &[0, 1, 2], &[2, 0, 1], &[1, 1]];
 
 /// From whose stores, of more.
 static OF_MORE: &[&[u64]] = &[
@@ -75,7 +73,7 @@ fn grant(dice: &mut Dice, world: &PlainWorld) -> Act {
         3 => some_of(dice, OF_THREE),
         _ => some_of(dice, OF_MORE),
     };
-    let term = world.last_term();
+    let term = world.greatest_term();
     match dice.roll() % 16 {
         0 => Act::Grant(term, keepers),
         1 => Act::Grant(0, keepers),
@@ -85,25 +83,13 @@ fn grant(dice: &mut Dice, world: &PlainWorld) -> Act {
     }
 }
 
-/// The last term that was granted, or often an older one, or seldom one that was not.
+/// A term that was granted, or seldom one that was not.
 fn term_of(dice: &mut Dice, world: &PlainWorld) -> Term {
     let roll = dice.roll();
     match roll % 64 {
-        0 => world.last_term().saturating_add(1),
-        1..=24 => world.last_term(),
-        _ => world.term_at(usize::from(roll) % world.granted().max(1)),
-    }
-}
-
-/// What a keeper does: the first frame that it lacks comes, or any frame, or it writes down what came, or it acknowledges.
-fn keeping(dice: &mut Dice, world: &PlainWorld) -> Act {
-    let keeper = number_to(dice, u64::from(world.keepers()));
-    match (world.first_missing(keeper), dice.roll() % 16) {
-        (_, 0) => Act::Deliver(keeper, number_to(dice, world.sent().len() as u64)),
-        (_, 1..=4) => Act::Save(keeper),
-        (_, 5..=7) => Act::Ack(keeper),
-        (Some(frame), _) => Act::Deliver(keeper, frame),
-        _ => Act::Ack(keeper),
+        0 => world.greatest_term().saturating_add(1),
+        1..=12 => world.greatest_term(),
+        _ => world.term_at(usize::from(dice.roll()) % world.granted().max(1)),
     }
 }
 
@@ -112,26 +98,44 @@ fn seldom(dice: &mut Dice, world: &PlainWorld) -> Act {
     let keepers = u64::from(world.keepers());
     match dice.roll() % 16 {
         0 => Act::Lose(number_to(dice, keepers)),
-        1..=4 => grant(dice, world),
-        5 => Act::Timer(term_of(dice, world), dice.roll()),
+        1..=3 => grant(dice, world),
+        4 | 5 => Act::Timer(term_of(dice, world), dice.roll()),
         6 => Act::Word(term_of(dice, world), dice.roll(), u32::from(dice.roll())),
         7 | 8 => Act::Join(number_to(dice, keepers), number_to(dice, keepers)),
         9 | 10 => Act::Fence(number_to(dice, keepers), term_of(dice, world)),
+        11 => Act::Fence(
+            number_to(dice, keepers),
+            world.greatest_term().saturating_add(1),
+        ),
         _ => Act::Restart(number_to(dice, keepers)),
     }
 }
 
 /// What a list is about for a while.
-#[derive(Clone, Copy, PartialEq, Eq)]
+#[derive(Clone, Copy)]
 enum Mood {
     /// Harts take steps.
     Steps,
     /// What they did is sealed.
     Seals,
-    /// Keepers take frames and acknowledge.
+    /// Keepers take frames, write them down and acknowledge.
     Keeps,
+    /// A term is granted.
+    Grants,
     /// Outputs go out.
     Releases,
+}
+
+/// The mood after this one.
+fn after(mood: Mood, roll: u8) -> Mood {
+    match (mood, roll % 16) {
+        (Mood::Steps, 0..=2) => Mood::Seals,
+        (Mood::Seals, _) => Mood::Keeps,
+        (Mood::Grants, 0..=3) => Mood::Keeps,
+        (Mood::Grants, _) => Mood::Releases,
+        (Mood::Releases, _) => Mood::Steps,
+        _ => mood,
+    }
 }
 
 /// What happens by chance.
@@ -139,6 +143,10 @@ enum Mood {
 pub struct Chance {
     dice: Dice,
     mood: Mood,
+    /// Whose primary it is about for a while.
+    term: Term,
+    /// The keeper that it is about for a while.
+    keeper: u64,
 }
 
 impl Chance {
@@ -147,6 +155,8 @@ impl Chance {
         Chance {
             dice: Dice::new(seed),
             mood: Mood::Steps,
+            term: 1,
+            keeper: 0,
         }
     }
 
@@ -158,22 +168,49 @@ impl Chance {
         self.dice.roll() % limit + 1
     }
 
+    /// The keeper acknowledges. It is about the next one then, or about something else.
+    fn acknowledge(&mut self, world: &PlainWorld) -> Act {
+        let keeper = self.keeper;
+        self.keeper = keeper.wrapping_add(1) % u64::from(world.keepers()).max(1);
+        self.mood = match self.dice.roll() % 4 {
+            0 => Mood::Grants,
+            1 => Mood::Releases,
+            _ => Mood::Keeps,
+        };
+        Act::Ack(keeper)
+    }
+
+    /// What a keeper does: the first frame that it lacks comes; or it writes down what came, and acknowledges that. Seldom any frame
+    /// comes to any keeper, or any acknowledges.
+    fn keep(&mut self, world: &PlainWorld) -> Act {
+        let any = number_to(&mut self.dice, u64::from(world.keepers()));
+        let keeper = self.keeper;
+        match (world.first_missing(keeper), self.dice.roll() % 16) {
+            (_, 0) => Act::Deliver(any, number_to(&mut self.dice, world.sent().len() as u64)),
+            (_, 1 | 2) => Act::Ack(any),
+            (Some(frame), 3..=14) => Act::Deliver(keeper, frame),
+            _ if !world.has_saved(keeper) => Act::Save(keeper),
+            _ => self.acknowledge(world),
+        }
+    }
+
+    /// Outputs of the term go out, and it is about another term then.
+    fn release(&mut self, world: &PlainWorld) -> Act {
+        let term = self.term;
+        self.term = term_of(&mut self.dice, world);
+        Act::Release(term)
+    }
+
     /// What fits the mood, which may change then.
     fn fitting(&mut self, world: &PlainWorld) -> Act {
-        let roll = self.dice.roll();
         let mood = self.mood;
-        self.mood = match mood {
-            Mood::Steps if roll % 4 == 0 => Mood::Seals,
-            Mood::Seals => Mood::Keeps,
-            Mood::Keeps if roll % 8 == 0 => Mood::Releases,
-            Mood::Releases => Mood::Steps,
-            mood => mood,
-        };
+        self.mood = after(mood, self.dice.roll());
         match mood {
-            Mood::Steps => Act::Step(term_of(&mut self.dice, world), self.dice.roll()),
-            Mood::Seals => Act::Seal(term_of(&mut self.dice, world)),
-            Mood::Keeps => keeping(&mut self.dice, world),
-            Mood::Releases => Act::Release(term_of(&mut self.dice, world)),
+            Mood::Steps => Act::Step(self.term, self.dice.roll()),
+            Mood::Seals => Act::Seal(self.term),
+            Mood::Keeps => self.keep(world),
+            Mood::Grants => grant(&mut self.dice, world),
+            Mood::Releases => self.release(world),
         }
     }
 
@@ -183,7 +220,7 @@ impl Chance {
             0 => Act::Step(term_of(&mut self.dice, world), self.dice.roll()),
             1 => Act::Seal(term_of(&mut self.dice, world)),
             2..=4 => Act::Release(term_of(&mut self.dice, world)),
-            5 => keeping(&mut self.dice, world),
+            5 => self.keep(world),
             6..=11 => seldom(&mut self.dice, world),
             _ => self.fitting(world),
         }

@@ -1,17 +1,17 @@
-//! Lists of events of a world with several primaries at once that fall by chance, beside a plain one; and the lists that break it where a
-//! rule is left out.
+//! Lists of events of a world with several primaries at once that fall by chance, beside a plain one; and for each rule of fencing a list
+//! by which a plain world without it lets out two words of one number.
 #![tactic(auto)]
 
 #[cfg(test)]
 mod acts;
 #[cfg(test)]
-mod again;
-#[cfg(test)]
 mod beside;
 #[cfg(test)]
 mod chance;
 #[cfg(test)]
-mod dice;
+mod granting;
+#[cfg(test)]
+mod keeper;
 #[cfg(test)]
 mod lists;
 #[cfg(test)]
@@ -20,5 +20,7 @@ mod plain;
 mod primary;
 #[cfg(test)]
 mod rules;
+#[cfg(test)]
+mod subject;
 #[cfg(test)]
 mod tally;

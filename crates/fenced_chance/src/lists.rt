@@ -3,57 +3,62 @@
 use crate::beside::Beside;
 use crate::chance::{Chance, guest};
 use crate::tally::Tally;
+use fixtures::image_of;
 use ft_types::Memory;
-use guest_image::{Image, read_image};
+use guest_image::Image;
 use std::alloc::Global;
-use std::ops::Range;
 use std::test::Fail;
 
 /// How many events a list has.
 const EVENTS: u64 = 60;
 
-/// How many lists a part has.
-const LISTS: u64 = 2_500;
+/// How many lists there are.
+const LISTS: u64 = 10_000;
 
-/// What at least happens in a part.
+/// What at least happens in them.
 static LEAST: Tally = Tally {
     lists: LISTS,
-    steps: 5_000,
-    late_steps: 5_000,
-    acknowledged: 1_000,
-    restarts: 500,
-    grants: 1_000,
-    refused: 5_000,
-    fenced: 500,
-    released: 500,
-    behind: 250,
-    again: 50,
+    steps: 120_000,
+    late_steps: 20_000,
+    acknowledged: 40_000,
+    late_acknowledged: 300,
+    restarts: 8_000,
+    grants: 8_000,
+    fenced: 16_000,
+    refused: 28_000,
+    releases: 6_000,
+    late_releases: 1_500,
+    again: 1_200,
 };
 
 /// Applies a list of events to two worlds. Says whether they agree at each.
 fn agree_on_list(alloc: Global, chance: &mut Chance, worlds: &mut Beside) -> Result<bool, Memory> {
-    for event in 1..=EVENTS {
+    for _event in 0..EVENTS {
         let act = chance.next(worlds.plain());
-        if !worlds.agree_on(alloc, act)? || event % 10 == 0 && !worlds.have_same_machines() {
+        if !worlds.agree_on(alloc, act)? {
             return Ok(false);
         }
     }
     Ok(true)
 }
 
-/// The same, and whether they sent the same frames then.
+/// The same, and whether they have the same machines and sent the same frames then.
 fn agree_to_the_end(
     alloc: Global,
     image: &Image,
     chance: &mut Chance,
     worlds: &mut Beside,
 ) -> Result<bool, Memory> {
-    Ok(agree_on_list(alloc, chance, worlds)? && worlds.sent_the_same(alloc, image)?)
+    Ok(
+        agree_on_list(alloc, chance, worlds)?
+            && worlds.have_same_machines()
+            && worlds.sent_the_same(alloc, image)?,
+    )
 }
 
 /// Two worlds of a few keepers, to which nothing happened.
 fn begin(alloc: Global, image: &Image, chance: &mut Chance) -> Result<Beside, Memory> {
-    let keepers = chance.number(5).min(chance.number(5));
+    let keepers = chance.number(5).min(chance.number(5).max(2));
     let need = chance.number(keepers);
     Beside::new(alloc, image, keepers, need)
 }
@@ -69,17 +74,9 @@ fn agree_by(alloc: Global, image: &Image, seed: u64, tally: &mut Tally) -> Resul
     agreed
 }
 
-/// The image of a right file.
-fn image_in(alloc: Global, file: &[u8]) -> Result<Image, Fail> {
-    match read_image(alloc, file) {
-        Ok(image) => Ok(image),
-        Err(_) => Ok(read_image(alloc, file).map_err(|_| "image")?),
-    }
-}
-
 /// Applies the list of this number, once more where the plain world was refused memory. Says whether the worlds agree.
 fn agree_in(alloc: Global, number: u64, tally: &mut Tally) -> Result<bool, Fail> {
-    let image = image_in(alloc, guest(number))?;
+    let image = image_of(alloc, guest(number))?;
     let seed = number.wrapping_mul(0x9e37_79b9_7f4a_7c15) | 1;
     match agree_by(alloc, &image, seed, tally) {
         Err(Memory) => Ok(agree_by(alloc, &image, seed, tally)?),
@@ -87,13 +84,9 @@ fn agree_in(alloc: Global, number: u64, tally: &mut Tally) -> Result<bool, Fail>
     }
 }
 
-/// The number of the first of these lists in which the worlds differ.
-fn first_difference(
-    alloc: Global,
-    lists: Range<u64>,
-    tally: &mut Tally,
-) -> Result<Option<u64>, Fail> {
-    for number in lists {
+/// The number of the first list in which the worlds differ. What happened in those before it is added.
+fn first_difference(alloc: Global, tally: &mut Tally) -> Result<Option<u64>, Fail> {
+    for number in 0..LISTS {
         if !agree_in(alloc, number, tally)? {
             return Ok(Some(number));
         }
@@ -101,38 +94,10 @@ fn first_difference(
     Ok(None)
 }
 
-/// The number of the first list of this part in which the worlds differ. In a part in which they do not much happens.
-fn difference_in(alloc: Global, part: u64) -> Result<Option<u64>, Fail> {
+#[test]
+fn worlds_agree_on_lists_by_chance(rt: HostRuntime) -> Result<(), Fail> {
     let mut tally = Tally::default();
-    let first = part.saturating_mul(LISTS);
-    let lists = first..first.saturating_add(LISTS);
-    let difference = first_difference(alloc, lists, &mut tally)?;
-    if difference.is_none() && !tally.is_at_least(&LEAST) {
-        return Err("too little happened".into());
-    }
-    Ok(difference)
-}
-
-#[test]
-fn part_0(rt: HostRuntime) -> Result<(), Fail> {
-    assert_eq!(rt; difference_in(rt.alloc(), 0)?, None);
-    Ok(())
-}
-
-#[test]
-fn part_1(rt: HostRuntime) -> Result<(), Fail> {
-    assert_eq!(rt; difference_in(rt.alloc(), 1)?, None);
-    Ok(())
-}
-
-#[test]
-fn part_2(rt: HostRuntime) -> Result<(), Fail> {
-    assert_eq!(rt; difference_in(rt.alloc(), 2)?, None);
-    Ok(())
-}
-
-#[test]
-fn part_3(rt: HostRuntime) -> Result<(), Fail> {
-    assert_eq!(rt; difference_in(rt.alloc(), 3)?, None);
+    assert_eq!(rt; first_difference(rt.alloc(), &mut tally)?, None);
+    assert!(rt; tally.is_at_least(&LEAST));
     Ok(())
 }

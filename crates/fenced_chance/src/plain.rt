@@ -1,29 +1,18 @@
 //! A plain world with several primaries, by what events mean: whole lists of what was sent, taken, written down and acknowledged. It
 //! keeps no position, no board and no fence: what it is asked it finds in these lists.
 
-use crate::acts::{Act, hart_of};
-use crate::primary::PlainPrimary;
+use crate::acts::Act;
+use crate::keeper::{PlainKeeper, Rule};
+use crate::primary::{Deed, PlainPrimary};
 use ack_core::AckFault;
 use closed_cut::{Position, position};
 use fenced_world::{FencedFault, Released};
 use fragment_codec::{Frame, Opening};
 use ft_types::{Count, Counts, Hart, Memory, Term};
-use go_live::LiveFault;
 use guest_image::{Image, Machine};
-use input_log::Input;
 use log_join::Store;
 use output_gate::Output;
 use std::alloc::Global;
-
-/// What a keeper took, and what of it is written down: the numbers of frames, in the order in which they came. And all terms to which it
-/// gave its store.
-#[derive(Drop)]
-struct Taken {
-    frames: Vec<u64>,
-    written: Vec<u64>,
-    gave: Vec<Term>,
-    lost: bool,
-}
 
 /// Who acknowledged which counts in which term.
 #[derive(Clone, Copy)]
@@ -36,30 +25,24 @@ struct Acknowledged {
 /// A world by whole lists.
 #[derive(Drop)]
 pub struct PlainWorld {
-    image: Image,
-    keepers: u8,
-    need: u8,
+    pub(crate) image: Image,
+    pub(crate) keepers: u8,
+    pub(crate) need: u8,
+    pub(crate) without: Option<Rule>,
     primaries: Vec<PlainPrimary>,
     sent: Vec<Frame>,
-    taken: Vec<Taken>,
+    held: Vec<PlainKeeper>,
     acknowledged: Vec<Acknowledged>,
     released: Vec<Released>,
 }
 
 /// Keepers that took nothing.
-fn nothing_taken(alloc: Global, keepers: u8) -> Result<Vec<Taken>, Memory> {
-    let mut taken = Vec::new(alloc);
+fn empty_keepers(alloc: Global, keepers: u8) -> Result<Vec<PlainKeeper>, Memory> {
+    let mut held = Vec::new(alloc);
     for _keeper in 0..keepers {
-        let mut gave = Vec::new(alloc);
-        gave.push(1u32)?;
-        taken.push(Taken {
-            frames: Vec::new(alloc),
-            written: Vec::new(alloc),
-            gave,
-            lost: false,
-        })?;
+        held.push(PlainKeeper::new(alloc)?)?;
     }
-    Ok(taken)
+    Ok(held)
 }
 
 /// The primary of term 1, from boot.
@@ -87,17 +70,24 @@ fn has_inside(counts: &Counts, hart: Hart, step: Count) -> bool {
 }
 
 impl PlainWorld {
-    /// A primary that runs from boot, whose opening is sent, and keepers that took nothing.
-    pub fn new(alloc: Global, image: &Image, keepers: u8, need: u8) -> Result<PlainWorld, Memory> {
+    /// A primary that runs from boot, whose opening is sent, and keepers that took nothing. It may do without a rule.
+    pub fn new(
+        alloc: Global,
+        image: &Image,
+        keepers: u8,
+        need: u8,
+        without: Option<Rule>,
+    ) -> Result<PlainWorld, Memory> {
         let own = image.copy()?;
         let primary = first_primary(alloc, image)?;
         let mut world = PlainWorld {
             image: own,
             keepers,
             need,
+            without,
             primaries: Vec::new(alloc),
             sent: Vec::new(alloc),
-            taken: nothing_taken(alloc, keepers)?,
+            held: empty_keepers(alloc, keepers)?,
             acknowledged: Vec::new(alloc),
             released: Vec::new(alloc),
         };
@@ -106,7 +96,7 @@ impl PlainWorld {
     }
 
     /// A primary begins its term, and its opening is sent.
-    fn begin(&mut self, primary: PlainPrimary) -> Result<(), Memory> {
+    pub(crate) fn begin(&mut self, primary: PlainPrimary) -> Result<(), Memory> {
         self.sent.push(Frame::Opening(primary.opening().copy()))?;
         Ok(self.primaries.push(primary)?)
     }
@@ -116,32 +106,32 @@ impl PlainWorld {
         self.keepers
     }
 
-    /// The terms that were granted, in that order.
-    pub fn terms(&self, alloc: Global) -> Result<Vec<Term>, Memory> {
-        let mut terms = Vec::new(alloc);
-        for primary in self.primaries.iter() {
-            terms.push(primary.term())?;
-        }
-        Ok(terms)
-    }
-
-    /// The term that was granted as the one of this number, or the last one.
-    pub fn term_at(&self, number: usize) -> Term {
-        match self.primaries.get(number) {
-            Some(primary) => primary.term(),
-            None => self.last_term(),
-        }
-    }
-
     /// How many terms were granted.
     pub fn granted(&self) -> usize {
         self.primaries.len()
     }
 
-    /// The term that was granted last.
-    pub fn last_term(&self) -> Term {
-        match self.primaries.last() {
+    /// The term that was granted as the one of this number, 0 where there is none.
+    pub fn term_at(&self, number: usize) -> Term {
+        match self.primaries.get(number) {
             Some(primary) => primary.term(),
+            None => 0,
+        }
+    }
+
+    /// The greatest term that was granted.
+    pub fn greatest_term(&self) -> Term {
+        let mut greatest = 0;
+        for primary in self.primaries.iter() {
+            greatest = primary.term().max(greatest);
+        }
+        greatest
+    }
+
+    /// In which term a keeper acknowledged a position last.
+    pub fn last_acknowledged(&self) -> Term {
+        match self.acknowledged.last() {
+            Some(last) => last.term,
             None => 0,
         }
     }
@@ -156,9 +146,14 @@ impl PlainWorld {
         self.released.as_slice()
     }
 
+    /// The term's primary.
+    pub(crate) fn primary(&self, term: Term) -> Option<&PlainPrimary> {
+        self.primaries.iter().find(|primary| primary.term() == term)
+    }
+
     /// The machine of the term's primary.
     pub fn machine(&self, term: Term) -> Option<&Machine> {
-        match self.primaries.iter().find(|primary| primary.term() == term) {
+        match self.primary(term) {
             Some(primary) => Some(primary.machine()),
             None => None,
         }
@@ -176,129 +171,113 @@ impl PlainWorld {
         }
     }
 
-    /// The numbers of the frames that a keeper took.
-    fn taken_by(&self, keeper: u64) -> &[u64] {
-        match self.taken.get(keeper as usize) {
-            Some(taken) => taken.frames.as_slice(),
-            None => &[],
+    /// The keeper of this number, where there is one that is not lost.
+    pub(crate) fn keeper(&self, number: u64) -> Result<&PlainKeeper, FencedFault> {
+        match self.held.get(number as usize) {
+            Some(keeper) if !keeper.lost => Ok(keeper),
+            _ => Err(FencedFault::NoKeeper),
         }
     }
 
-    /// The numbers of those that it wrote down.
-    fn written_by(&self, keeper: u64) -> &[u64] {
-        match self.taken.get(keeper as usize) {
-            Some(taken) => taken.written.as_slice(),
-            None => &[],
+    /// The number of the first frame that the keeper lacks.
+    pub fn first_missing(&self, number: u64) -> Option<u64> {
+        match self.keeper(number) {
+            Ok(keeper) => {
+                (0..self.sent.len() as u64).find(|frame| !keeper.taken().contains(frame))
+            }
+            Err(_) => None,
         }
     }
 
-    /// The number of the first frame that the keeper did not take.
-    pub fn first_missing(&self, keeper: u64) -> Option<u64> {
-        let taken = self.taken_by(keeper);
-        (0..self.sent.len() as u64).find(|number| !taken.contains(number))
-    }
-
-    /// Whether there is a keeper of this number that is not lost.
-    fn has(&self, keeper: u64) -> bool {
-        match self.taken.get(keeper as usize) {
-            Some(taken) => !taken.lost,
-            None => false,
+    /// Whether the keeper has written down all that it took.
+    pub fn has_saved(&self, number: u64) -> bool {
+        match self.keeper(number) {
+            Ok(keeper) => keeper.has_saved(),
+            Err(_) => true,
         }
     }
 
-    /// Whether the keeper gave its store to a later term than this one.
-    fn gave_later(&self, keeper: u64, term: Term) -> bool {
-        match self.taken.get(keeper as usize) {
-            Some(taken) => taken.gave.iter().any(|given| *given > term),
-            None => false,
+    fn take(&mut self, number: u64, frames: &[u64]) -> Result<(), FencedFault> {
+        match self.held.get_mut(number as usize) {
+            Some(keeper) if !keeper.lost => Ok(keeper.take(frames)?),
+            _ => Err(FencedFault::NoKeeper),
         }
     }
 
-    /// The keeper takes frames of these numbers.
-    fn take(&mut self, keeper: u64, frames: &[u64]) -> Result<(), FencedFault> {
-        match self.taken.get_mut(keeper as usize) {
-            Some(taken) => match taken.frames.extend_from_slice(frames) {
-                Ok(()) => Ok(()),
-                Err(_) => Err(FencedFault::Memory),
-            },
-            None => Err(FencedFault::NoKeeper),
+    fn deliver(&mut self, number: u64, frame: u64) -> Result<(), FencedFault> {
+        let _keeper = self.keeper(number)?;
+        if frame >= self.sent.len() as u64 {
+            return Err(FencedFault::NoFrame);
         }
+        self.take(number, &[frame])
     }
 
-    fn deliver(&mut self, keeper: u64, frame: u64) -> Result<(), FencedFault> {
-        if !self.has(keeper) {
-            Err(FencedFault::NoKeeper)
-        } else if frame >= self.sent.len() as u64 {
-            Err(FencedFault::NoFrame)
-        } else {
-            self.take(keeper, &[frame])
-        }
-    }
-
-    fn join(&mut self, alloc: Global, keeper: u64, other: u64) -> Result<(), FencedFault> {
-        if !self.has(keeper) || !self.has(other) {
-            return Err(FencedFault::NoKeeper);
-        }
-        match self.taken_by(other).to_vec(alloc) {
-            Ok(frames) => self.take(keeper, &frames),
+    fn join(&mut self, alloc: Global, number: u64, other: u64) -> Result<(), FencedFault> {
+        match self.keeper(other)?.taken().to_vec(alloc) {
+            Ok(frames) => self.take(number, &frames),
             Err(_) => Err(FencedFault::Memory),
         }
     }
 
-    fn save(&mut self, alloc: Global, keeper: u64) -> Result<(), FencedFault> {
-        match self.taken.get_mut(keeper as usize) {
-            Some(taken) if !taken.lost => {
-                let Ok(frames) = taken.frames.to_vec(alloc) else {
-                    return Err(FencedFault::Memory);
-                };
-                taken.written = frames;
+    fn save(&mut self, alloc: Global, number: u64) -> Result<(), FencedFault> {
+        match self.held.get_mut(number as usize) {
+            Some(keeper) if !keeper.lost => Ok(keeper.save(alloc)?),
+            _ => Err(FencedFault::NoKeeper),
+        }
+    }
+
+    fn restart(&mut self, alloc: Global, number: u64) -> Result<(), FencedFault> {
+        let without = self.without;
+        match self.held.get_mut(number as usize) {
+            Some(keeper) if !keeper.lost => Ok(keeper.restart(alloc, without)?),
+            _ => Err(FencedFault::NoKeeper),
+        }
+    }
+
+    fn lose(&mut self, number: u64) -> Result<(), FencedFault> {
+        match self.held.get_mut(number as usize) {
+            Some(keeper) if !keeper.lost => {
+                keeper.lost = true;
                 Ok(())
             }
             _ => Err(FencedFault::NoKeeper),
         }
     }
 
-    fn restart(&mut self, alloc: Global, keeper: u64) -> Result<(), FencedFault> {
-        match self.taken.get_mut(keeper as usize) {
-            Some(taken) if !taken.lost => {
-                let Ok(frames) = taken.written.to_vec(alloc) else {
-                    return Err(FencedFault::Memory);
-                };
-                taken.frames = frames;
-                Ok(())
-            }
-            _ => Err(FencedFault::NoKeeper),
+    /// The keeper gives its store to the term.
+    pub(crate) fn give(&mut self, number: u64, term: Term) -> Result<(), Memory> {
+        match self.held.get_mut(number as usize) {
+            Some(keeper) => keeper.give(term),
+            None => Ok(()),
         }
     }
 
-    fn lose(&mut self, keeper: u64) -> Result<(), FencedFault> {
-        match self.taken.get_mut(keeper as usize) {
-            Some(taken) if !taken.lost => {
-                taken.lost = true;
-                Ok(())
-            }
-            _ => Err(FencedFault::NoKeeper),
+    /// The keeper's store is read for the term, and given to it later.
+    fn read(&mut self, alloc: Global, number: u64, term: Term) -> Result<(), Memory> {
+        match self.held.get_mut(number as usize) {
+            Some(keeper) => keeper.read_for(alloc, term),
+            None => Ok(()),
         }
     }
 
-    fn fence(&mut self, keeper: u64, term: Term) -> Result<(), FencedFault> {
-        if !self.has(keeper) {
-            return Err(FencedFault::NoKeeper);
-        }
-        if self.gave_later(keeper, term) {
+    fn fence(&mut self, alloc: Global, number: u64, term: Term) -> Result<(), FencedFault> {
+        if self.keeper(number)?.gave_later(term) {
             return Err(FencedFault::Fenced);
         }
-        match self.taken.get_mut(keeper as usize) {
-            Some(taken) => match taken.gave.push(term) {
-                Ok(()) => Ok(()),
-                Err(_) => Err(FencedFault::Memory),
-            },
-            None => Err(FencedFault::NoKeeper),
+        if matches!(self.without, Some(Rule::FenceFirst)) {
+            Ok(self.read(alloc, number, term)?)
+        } else {
+            Ok(self.give(number, term)?)
         }
     }
 
     /// Puts frames of these numbers into the store.
-    fn put_frames(&self, alloc: Global, store: &mut Store, frames: &[u64]) -> Result<(), Memory> {
+    pub(crate) fn put(
+        &self,
+        alloc: Global,
+        store: &mut Store,
+        frames: &[u64],
+    ) -> Result<(), Memory> {
         for number in frames {
             if let Some(frame) = self.sent.get(*number as usize) {
                 let _put = store.put(frame.copy(alloc)?)?;
@@ -307,70 +286,54 @@ impl PlainWorld {
         Ok(())
     }
 
-    /// The position of what the keeper wrote down.
-    fn position_written(&self, alloc: Global, keeper: u64) -> Result<Position, Memory> {
+    /// The position of frames of these numbers.
+    fn position_of(&self, alloc: Global, frames: &[u64]) -> Result<Position, Memory> {
         let mut store = Store::new(alloc, self.image.guest());
-        self.put_frames(alloc, &mut store, self.written_by(keeper))?;
+        self.put(alloc, &mut store, frames)?;
         position(alloc, &store)
     }
 
-    /// The position of all that these keepers took.
-    fn position_of(&self, alloc: Global, keepers: &[u64]) -> Result<Position, Memory> {
-        let mut store = Store::new(alloc, self.image.guest());
-        self.put_all_taken(alloc, &mut store, keepers)?;
-        position(alloc, &store)
+    fn acknowledge(&mut self, alloc: Global, number: u64) -> Result<(), FencedFault> {
+        let keeper = self.keeper(number)?;
+        let position = self.position_of(alloc, keeper.acknowledged(self.without))?;
+        if !keeper.may_acknowledge(position.term, self.without) {
+            return Err(FencedFault::Fenced);
+        }
+        let _primary = self.number_of(position.term)?;
+        self.add_acknowledged(Acknowledged {
+            by: number,
+            term: position.term,
+            counts: position.counts,
+        })
     }
 
-    /// Puts what these keepers took.
-    fn put_all_taken(
-        &self,
-        alloc: Global,
-        store: &mut Store,
-        keepers: &[u64],
-    ) -> Result<(), Memory> {
-        for keeper in keepers {
-            self.put_frames(alloc, store, self.taken_by(*keeper))?;
+    fn add_acknowledged(&mut self, one: Acknowledged) -> Result<(), FencedFault> {
+        if self.acknowledged_more(&one) {
+            return Err(FencedFault::Ack(AckFault::Lower));
         }
-        Ok(())
-    }
-
-    fn acknowledge(&mut self, alloc: Global, keeper: u64) -> Result<(), FencedFault> {
-        if !self.has(keeper) {
-            return Err(FencedFault::NoKeeper);
-        }
-        let position = self.position_written(alloc, keeper)?;
-        if self.gave_later(keeper, position.term) {
-            Err(FencedFault::Fenced)
-        } else if self.machine(position.term).is_none() {
-            Err(FencedFault::NoPrimary)
-        } else if self.acknowledged_more(keeper, &position) {
-            Err(FencedFault::Ack(AckFault::Lower))
-        } else {
-            match self.acknowledged.push(Acknowledged {
-                by: keeper,
-                term: position.term,
-                counts: position.counts,
-            }) {
-                Ok(()) => Ok(()),
-                Err(_) => Err(FencedFault::Memory),
-            }
+        match self.acknowledged.push(one) {
+            Ok(()) => Ok(()),
+            Err(_) => Err(FencedFault::Memory),
         }
     }
 
     /// Whether the keeper acknowledged a greater count of some hart in the term.
-    fn acknowledged_more(&self, keeper: u64, position: &Position) -> bool {
-        self.acknowledged.iter().any(|one| {
-            one.by == keeper
-                && one.term == position.term
-                && are_lower(&position.counts, &one.counts)
+    fn acknowledged_more(&self, one: &Acknowledged) -> bool {
+        self.acknowledged.iter().any(|before| {
+            before.by == one.by && before.term == one.term && are_lower(&one.counts, &before.counts)
         })
+    }
+
+    /// Whether the gate of the term counts what was acknowledged.
+    fn counts(&self, one: &Acknowledged, term: Term) -> bool {
+        one.term == term || matches!(self.without, Some(Rule::OwnTerm))
     }
 
     /// Whether the keeper acknowledged counts with the hart's step inside, in the term.
     fn holds(&self, keeper: u64, term: Term, hart: Hart, step: Count) -> bool {
-        self.acknowledged.iter().any(|one| one.by == keeper
-            && one.term == term
-            && has_inside(&one.counts, hart, step))
+        self.acknowledged.iter().any(|one| {
+            one.by == keeper && self.counts(one, term) && has_inside(&one.counts, hart, step)
+        })
     }
 
     /// Whether the output may go out, and did not in this term.
@@ -421,14 +384,21 @@ impl PlainWorld {
         }
     }
 
-    fn release(&mut self, alloc: Global, term: Term) -> Result<(), FencedFault> {
-        let _number = self.number_of(term)?;
+    /// Lets those outputs go out that are due in the term.
+    fn release_all(&mut self, alloc: Global, term: Term) -> Result<(), Memory> {
         for number in 0..self.image.harts() {
             let hart = Hart::new(number);
             let outputs = self.outputs_of(alloc, term, hart)?;
             self.release_hart(term, hart, &outputs)?;
         }
         Ok(())
+    }
+
+    fn release(&mut self, alloc: Global, term: Term) -> Result<(), FencedFault> {
+        if self.primary(term).is_none() {
+            return Err(FencedFault::NoPrimary);
+        }
+        Ok(self.release_all(alloc, term)?)
     }
 
     fn seal(&mut self, alloc: Global, term: Term) -> Result<(), FencedFault> {
@@ -443,109 +413,28 @@ impl PlainWorld {
         }
     }
 
-    /// How many different keepers these are.
-    fn different(&self, keepers: &[u64]) -> usize {
-        (0..u64::from(self.keepers))
-            .filter(|keeper| keepers.contains(keeper))
-            .count()
-    }
-
-    /// Whether a key of this term or a later one came to one of these keepers.
-    fn knows_later(&self, keepers: &[u64], term: Term) -> bool {
-        keepers.iter().any(|keeper| {
-            self.taken_by(*keeper).iter().any(|number| match self.sent.get(*number as usize) {
-                Some(Frame::Opening(opening)) => opening.term() >= term,
-                Some(Frame::Log(piece)) => piece.key().term >= term,
-                None => false,
-            })
-        })
-    }
-
-    /// Whether the term may be granted to a primary that begins with what these keepers gave.
-    fn may_grant(&self, term: Term, keepers: &[u64]) -> Result<(), FencedFault> {
-        let enough = self
-            .different(keepers)
-            .saturating_add(usize::from(self.need));
-        if enough <= usize::from(self.keepers) {
-            Err(FencedFault::Live(LiveFault::TooFewStores))
-        } else if term == 0 || self.knows_later(keepers, term) {
-            Err(FencedFault::Live(LiveFault::TermNotNew))
-        } else {
-            Ok(())
-        }
-    }
-
-    /// The machine of a position: what the term's primary had done there, or that of the image before the first step.
-    fn machine_at(&self, alloc: Global, position: &Position) -> Result<Machine, Memory> {
-        match self
-            .primaries
-            .iter()
-            .find(|primary| primary.term() == position.term)
-        {
-            Some(primary) => primary.machine_at(alloc, position.counts),
-            None => Machine::boot(alloc, &self.image),
-        }
-    }
-
-    /// A primary of the term goes live where what these keepers took leads to, and its opening is sent.
-    fn go_live(&mut self, alloc: Global, term: Term, keepers: &[u64]) -> Result<(), Memory> {
-        let position = self.position_of(alloc, keepers)?;
-        let guest = self.image.guest();
-        let opening = Opening::new(guest, term, position.term, position.counts).ok_or(Memory)?;
-        let start = self.machine_at(alloc, &position)?;
-        let primary = PlainPrimary::begin(alloc, opening, start)?;
-        self.begin(primary)
-    }
-
-    /// Each of these keepers gives its store to the term.
-    fn give_all(&mut self, term: Term, keepers: &[u64]) -> Result<(), FencedFault> {
-        for keeper in keepers {
-            self.fence(*keeper, term)?;
-        }
-        Ok(())
-    }
-
-    fn grant(&mut self, alloc: Global, term: Term, keepers: &[u64]) -> Result<(), FencedFault> {
-        if !keepers.iter().all(|keeper| self.has(*keeper)) {
-            return Err(FencedFault::NoKeeper);
-        }
-        if self.machine(term).is_some() {
-            return Err(FencedFault::Live(LiveFault::TermNotNew));
-        }
-        self.give_all(term, keepers)?;
-        self.may_grant(term, keepers)?;
-        self.go_live(alloc, term, keepers)?;
-        Ok(())
-    }
-
-    /// Does what the act of a term's primary says.
-    fn lead(&mut self, alloc: Global, term: Term, act: Act) -> Result<(), FencedFault> {
-        let harts = self.image.harts();
+    /// The term's primary does this.
+    fn lead(&mut self, alloc: Global, term: Term, deed: Deed) -> Result<(), FencedFault> {
         let number = self.number_of(term)?;
-        let Some(primary) = self.primaries.get_mut(number) else {
-            return Err(FencedFault::NoPrimary);
-        };
-        match act {
-            Act::Step(_, hart) => primary.step(alloc, hart_of(hart, harts)),
-            Act::Timer(_, hart) => primary.offer(hart_of(hart, harts), Input::Timer),
-            Act::Word(_, hart, word) => primary.offer(hart_of(hart, harts), Input::Word(word)),
-            _ => Ok(()),
+        match self.primaries.get_mut(number) {
+            Some(primary) => primary.lead(alloc, deed),
+            None => Err(FencedFault::NoPrimary),
         }
     }
 
     /// Does what the act says, or says why not.
     pub fn apply(&mut self, alloc: Global, act: Act) -> Result<(), FencedFault> {
         match act {
-            Act::Step(term, _) | Act::Timer(term, _) | Act::Word(term, ..) => {
-                self.lead(alloc, term, act)
-            }
+            Act::Step(term, hart) => self.lead(alloc, term, Deed::Step(hart)),
+            Act::Timer(term, hart) => self.lead(alloc, term, Deed::Timer(hart)),
+            Act::Word(term, hart, word) => self.lead(alloc, term, Deed::Word(hart, word)),
             Act::Seal(term) => self.seal(alloc, term),
             Act::Release(term) => self.release(alloc, term),
             Act::Deliver(keeper, frame) => self.deliver(keeper, frame),
             Act::Join(keeper, other) => self.join(alloc, keeper, other),
             Act::Save(keeper) => self.save(alloc, keeper),
             Act::Restart(keeper) => self.restart(alloc, keeper),
-            Act::Fence(keeper, term) => self.fence(keeper, term),
+            Act::Fence(keeper, term) => self.fence(alloc, keeper, term),
             Act::Ack(keeper) => self.acknowledge(alloc, keeper),
             Act::Lose(keeper) => self.lose(keeper),
             Act::Grant(term, keepers) => self.grant(alloc, term, keepers),

@@ -1,212 +1,307 @@
-//! The shortest lists of events that let out two words of one number, or lose one that went out, where a rule is left out: with the rule
-//! one of their events is refused, or the older output is kept.
+//! For each rule of fencing a short list of events by which a plain world without it lets out two words of one number. With the rule the
+//! event that would lead there is refused, by the world and by a plain one.
 
-use fenced_world::{FencedEvent, FencedFault, FencedWorld};
-use ft_types::{Hart, Memory, Term};
-use go_live::LiveFault;
-use guest_image::{Image, read_image};
-use input_log::Input;
+use crate::acts::Act;
+use crate::beside::{Beside, Outcome};
+use crate::keeper::Rule;
+use crate::plain::PlainWorld;
+use fenced_world::{FencedFault, Released};
+use fixtures::{SAYS_ITS_WORD, image_of};
+use ft_types::Memory;
+use guest_image::Image;
 use std::alloc::Global;
-use std::result::Result;
 use std::test::Fail;
 
-/// lui x1, f0000; lw x2, 0(x1), the input word; sw x2, 8(x1), an output; sw x0, 20(x1), which halts: a primary says the word that it was
-/// offered, so that two primaries say two words.
-const SAYS_ITS_WORD: &[u8] = b"harts 1\npages 1\nf00000b7\n0000a103\n0020a423\n0000aa23\n";
+/// A rule in words, and the rule; a list of events, of which the one at the place is against the rule, and what comes of that one where the
+/// rule is kept. The guest says the word that it is offered with its third step. Of two keepers one has to hold what goes out.
+type Row = (&'static str, Rule, &'static [Act], usize, Outcome);
 
-/// What happens in such a list.
-#[derive(Clone, Copy)]
-enum Deed {
-    /// The term's primary is offered its word, takes four steps and seals them.
-    Says(Term, u32),
-    /// Each frame that was sent comes to the keeper.
-    Takes(u64),
-    Saves(u64),
-    ComesBack(u64),
-    Raises(u64, Term),
-    Acknowledges(u64),
-    LetsOut(Term),
-    Grants(Term, &'static [u64]),
-}
+/// Both keepers gave term 2 nothing. Keeper 0 acknowledges in term 1 all the same.
+const BELOW_THE_FENCE: &[Act] = &[
+    Act::Grant(2, &[0, 1]),
+    Act::Word(1, 0, 7),
+    Act::Step(1, 0),
+    Act::Step(1, 0),
+    Act::Step(1, 0),
+    Act::Seal(1),
+    Act::Deliver(0, 0),
+    Act::Deliver(0, 2),
+    Act::Save(0),
+    Act::Ack(0),
+    Act::Release(1),
+    Act::Word(2, 0, 8),
+    Act::Step(2, 0),
+    Act::Step(2, 0),
+    Act::Step(2, 0),
+    Act::Seal(2),
+    Act::Deliver(1, 1),
+    Act::Deliver(1, 3),
+    Act::Save(1),
+    Act::Ack(1),
+    Act::Release(2),
+];
 
-/// Why a deed is not done.
-#[derive(Clone, Copy, Debug, PartialEq, Eq)]
-enum Why {
-    Fenced,
-    TooFewStores,
-    Other,
-}
+/// The same, once it came back.
+const BACK_WITHOUT_A_FENCE: &[Act] = &[
+    Act::Grant(2, &[0, 1]),
+    Act::Restart(0),
+    Act::Word(1, 0, 7),
+    Act::Step(1, 0),
+    Act::Step(1, 0),
+    Act::Step(1, 0),
+    Act::Seal(1),
+    Act::Deliver(0, 0),
+    Act::Deliver(0, 2),
+    Act::Save(0),
+    Act::Ack(0),
+    Act::Release(1),
+    Act::Word(2, 0, 8),
+    Act::Step(2, 0),
+    Act::Step(2, 0),
+    Act::Step(2, 0),
+    Act::Seal(2),
+    Act::Deliver(1, 1),
+    Act::Deliver(1, 3),
+    Act::Save(1),
+    Act::Ack(1),
+    Act::Release(2),
+];
 
-/// A list, how many of its deeds are done, why the next one is not, and which words went out by then.
-type Row = (
-    &'static str,
-    &'static [Deed],
-    usize,
-    Option<Why>,
-    &'static [(Term, u32)],
-);
+/// The store of keeper 0 is read for term 2. Then it acknowledges in term 1, and is fenced only when term 2 is granted.
+const READ_TOO_EARLY: &[Act] = &[
+    Act::Fence(0, 2),
+    Act::Word(1, 0, 7),
+    Act::Step(1, 0),
+    Act::Step(1, 0),
+    Act::Step(1, 0),
+    Act::Seal(1),
+    Act::Deliver(0, 0),
+    Act::Deliver(0, 1),
+    Act::Save(0),
+    Act::Ack(0),
+    Act::Release(1),
+    Act::Grant(2, &[0, 1]),
+    Act::Word(2, 0, 8),
+    Act::Step(2, 0),
+    Act::Step(2, 0),
+    Act::Step(2, 0),
+    Act::Seal(2),
+    Act::Deliver(1, 2),
+    Act::Deliver(1, 3),
+    Act::Save(1),
+    Act::Ack(1),
+    Act::Release(2),
+];
 
-static ROWS: &[Row] = &[
+/// Keeper 0 acknowledges what it has not written down, and comes back without it.
+const NOT_WRITTEN_DOWN: &[Act] = &[
+    Act::Word(1, 0, 7),
+    Act::Step(1, 0),
+    Act::Step(1, 0),
+    Act::Step(1, 0),
+    Act::Seal(1),
+    Act::Deliver(0, 0),
+    Act::Deliver(0, 1),
+    Act::Ack(0),
+    Act::Release(1),
+    Act::Restart(0),
+    Act::Grant(2, &[0, 1]),
+    Act::Word(2, 0, 8),
+    Act::Step(2, 0),
+    Act::Step(2, 0),
+    Act::Step(2, 0),
+    Act::Seal(2),
+    Act::Deliver(1, 2),
+    Act::Deliver(1, 3),
+    Act::Save(1),
+    Act::Ack(1),
+    Act::Release(2),
+];
+
+/// Keeper 0 alone holds what went out, and term 2 begins with what keeper 1 has.
+const FROM_ONE_TOO_FEW: &[Act] = &[
+    Act::Word(1, 0, 7),
+    Act::Step(1, 0),
+    Act::Step(1, 0),
+    Act::Step(1, 0),
+    Act::Seal(1),
+    Act::Deliver(0, 0),
+    Act::Deliver(0, 1),
+    Act::Save(0),
+    Act::Ack(0),
+    Act::Release(1),
+    Act::Grant(2, &[1]),
+    Act::Word(2, 0, 8),
+    Act::Step(2, 0),
+    Act::Step(2, 0),
+    Act::Step(2, 0),
+    Act::Seal(2),
+    Act::Deliver(1, 2),
+    Act::Deliver(1, 3),
+    Act::Save(1),
+    Act::Ack(1),
+    Act::Release(2),
+];
+
+/// Keeper 1 holds what term 2 says, and nobody what term 1 does.
+const AT_ANOTHER_GATE: &[Act] = &[
+    Act::Grant(2, &[0, 1]),
+    Act::Word(1, 0, 7),
+    Act::Step(1, 0),
+    Act::Step(1, 0),
+    Act::Step(1, 0),
+    Act::Seal(1),
+    Act::Word(2, 0, 8),
+    Act::Step(2, 0),
+    Act::Step(2, 0),
+    Act::Step(2, 0),
+    Act::Seal(2),
+    Act::Deliver(1, 1),
+    Act::Deliver(1, 3),
+    Act::Save(1),
+    Act::Ack(1),
+    Act::Release(2),
+    Act::Release(1),
+];
+
+static ROWS: [Row; 6] = [
     (
-        "a keeper below its fence acknowledges nothing",
-        &[
-            Deed::Grants(2, &[0, 1]),
-            Deed::Says(1, 7),
-            Deed::Takes(0),
-            Deed::Saves(0),
-            Deed::LetsOut(1),
-            Deed::Says(2, 8),
-            Deed::Takes(1),
-            Deed::Saves(1),
-            Deed::Acknowledges(1),
-            Deed::LetsOut(2),
-        ],
+        "a keeper acknowledges nothing of a term below its fence",
+        Rule::Fence,
+        BELOW_THE_FENCE,
+        9,
+        Outcome::Fenced,
+    ),
+    (
+        "a fence outlives a restart",
+        Rule::FenceLasts,
+        BACK_WITHOUT_A_FENCE,
         10,
-        None,
-        &[(2, 8)],
+        Outcome::Fenced,
     ),
     (
-        "nor once it came back",
-        &[
-            Deed::Says(1, 7),
-            Deed::Takes(0),
-            Deed::Saves(0),
-            Deed::Raises(0, 2),
-            Deed::ComesBack(0),
-            Deed::Acknowledges(0),
-        ],
-        5,
-        Some(Why::Fenced),
-        &[],
+        "a fence is raised before the store is read",
+        Rule::FenceFirst,
+        READ_TOO_EARLY,
+        9,
+        Outcome::Fenced,
     ),
     (
-        "what it acknowledged before it gave its store is in the store",
-        &[
-            Deed::Says(1, 7),
-            Deed::Takes(0),
-            Deed::Saves(0),
-            Deed::Acknowledges(0),
-            Deed::Grants(2, &[0, 1]),
-            Deed::LetsOut(1),
-            Deed::Takes(1),
-            Deed::Saves(1),
-            Deed::Acknowledges(1),
-            Deed::LetsOut(2),
-        ],
+        "a keeper acknowledges only what it has written down",
+        Rule::Saved,
+        NOT_WRITTEN_DOWN,
+        7,
+        Outcome::Fenced,
+    ),
+    (
+        "one keeper more gives its store than may lack an output",
+        Rule::Quorum,
+        FROM_ONE_TOO_FEW,
         10,
-        None,
-        &[(1, 7), (2, 7)],
-    ),
-    (
-        "a keeper acknowledges nothing that it has not written down",
-        &[Deed::Says(1, 7), Deed::Takes(0), Deed::Acknowledges(0)],
-        2,
-        Some(Why::Fenced),
-        &[],
-    ),
-    (
-        "one keeper is too few where one may hold an output alone",
-        &[
-            Deed::Says(1, 7),
-            Deed::Takes(0),
-            Deed::Saves(0),
-            Deed::Acknowledges(0),
-            Deed::Grants(2, &[1]),
-        ],
-        4,
-        Some(Why::TooFewStores),
-        &[],
+        Outcome::TooFewStores,
     ),
     (
         "a gate counts what was acknowledged in its own term",
-        &[
-            Deed::Says(1, 7),
-            Deed::Takes(0),
-            Deed::Saves(0),
-            Deed::Acknowledges(0),
-            Deed::Grants(2, &[0, 1]),
-            Deed::LetsOut(2),
-        ],
-        6,
-        None,
-        &[],
+        Rule::OwnTerm,
+        AT_ANOTHER_GATE,
+        16,
+        Outcome::NothingGoesOut,
     ),
 ];
 
-/// The primary of the term says a word.
-fn say(alloc: Global, world: &mut FencedWorld, term: Term, word: u32) -> Result<(), FencedFault> {
-    let hart = Hart::new(0);
-    world.apply(alloc, FencedEvent::Offer(term, hart, Input::Word(word)))?;
-    for _step in 0..4 {
-        world.apply(alloc, FencedEvent::Step(term, hart))?;
-    }
-    world.apply(alloc, FencedEvent::Seal(term))
+/// Whether another output went out with the hart and the number of this one.
+fn is_contradicted(one: &Released, released: &[Released]) -> bool {
+    released.iter().any(|other| {
+        let (output, another) = (&one.output, &other.output);
+        output.hart == another.hart && output.number == another.number && output != another
+    })
 }
 
-/// Each frame that was sent comes to the keeper.
-fn take(alloc: Global, world: &mut FencedWorld, keeper: u64) -> Result<(), FencedFault> {
-    for frame in 0..world.frames().len() as u64 {
-        world.apply(alloc, FencedEvent::Deliver { keeper, frame })?;
-    }
-    Ok(())
+/// Whether two words of one number went out.
+fn are_two_words(released: &[Released]) -> bool {
+    released.iter().any(|one| is_contradicted(one, released))
 }
 
-/// Does the deed.
-fn does(alloc: Global, world: &mut FencedWorld, deed: Deed) -> Result<(), FencedFault> {
-    match deed {
-        Deed::Says(term, word) => say(alloc, world, term, word),
-        Deed::Takes(keeper) => take(alloc, world, keeper),
-        Deed::Saves(keeper) => world.apply(alloc, FencedEvent::Save(keeper)),
-        Deed::ComesBack(keeper) => world.apply(alloc, FencedEvent::Restart(keeper)),
-        Deed::Raises(keeper, term) => world.apply(alloc, FencedEvent::Fence { keeper, term }),
-        Deed::Acknowledges(keeper) => world.apply(alloc, FencedEvent::Acknowledge(keeper)),
-        Deed::LetsOut(term) => world.apply(alloc, FencedEvent::Release(term)),
-        Deed::Grants(term, keepers) => {
-            let Ok(keepers) = Vec::from_slice(alloc, keepers) else {
-                return Err(FencedFault::Memory);
-            };
-            world.apply(alloc, FencedEvent::Grant { term, keepers })
+/// Whether a plain world does the event.
+fn does(alloc: Global, world: &mut PlainWorld, act: Act) -> Result<bool, Memory> {
+    match world.apply(alloc, act) {
+        Ok(()) => Ok(true),
+        Err(FencedFault::Memory) => Err(Memory),
+        Err(_) => Ok(false),
+    }
+}
+
+/// Whether a plain world does all events.
+fn does_all(alloc: Global, world: &mut PlainWorld, acts: &[Act]) -> Result<bool, Memory> {
+    for act in acts {
+        if !does(alloc, world, *act)? {
+            return Ok(false);
         }
     }
+    Ok(true)
 }
 
-fn why(fault: FencedFault) -> Why {
-    match fault {
-        FencedFault::Fenced => Why::Fenced,
-        FencedFault::Live(LiveFault::TooFewStores) => Why::TooFewStores,
-        _ => Why::Other,
+/// Whether one without the rule does so, and lets out two words of one number then.
+fn breaks_without(alloc: Global, image: &Image, row: Row) -> Result<bool, Memory> {
+    let (_, rule, acts, ..) = row;
+    let mut world = PlainWorld::new(alloc, image, 2, 1, Some(rule))?;
+    Ok(does_all(alloc, &mut world, acts)? && are_two_words(world.released()))
+}
+
+/// Whether this may come of the event of that number: each one before the place is done, of that at the place this is to come, and those
+/// behind it may be refused, by both worlds.
+fn is_so(number: usize, outcome: Outcome, place: usize, instead: Outcome) -> bool {
+    if number < place {
+        outcome == Outcome::Done
+    } else if number == place {
+        outcome == instead
+    } else {
+        outcome != Outcome::Unlike
     }
 }
 
-/// How many of the deeds are done, and why the next one is not.
-fn done(alloc: Global, world: &mut FencedWorld, deeds: &[Deed]) -> (usize, Option<Why>) {
-    for (number, deed) in deeds.iter().enumerate() {
-        if let Err(fault) = does(alloc, world, *deed) {
-            return (number, Some(why(fault)));
+/// Whether both worlds do the events before the one against the rule, of which this comes, and agree to the end.
+fn is_kept_in(alloc: Global, worlds: &mut Beside, row: Row) -> Result<bool, Memory> {
+    let (_, _, acts, place, instead) = row;
+    for (number, act) in acts.iter().enumerate() {
+        let outcome = worlds.answer(alloc, *act)?;
+        if !is_so(number, outcome, place, instead) {
+            return Ok(false);
         }
     }
-    (deeds.len(), None)
+    Ok(true)
 }
 
-/// Whether these words went out, in these terms.
-fn went_out(world: &FencedWorld, words: &[(Term, u32)]) -> bool {
-    world.released().len() == words.len()
-        && world.released().iter().zip(words).all(|(released, (term, word))| released.term == *term
-            && released.output.word == *word)
+/// The same, and no two words of one number went out then.
+fn is_kept(alloc: Global, image: &Image, row: Row) -> Result<bool, Memory> {
+    let mut worlds = Beside::new(alloc, image, 2, 1)?;
+    Ok(
+        is_kept_in(alloc, &mut worlds, row)?
+            && worlds.have_same_machines()
+            && !are_two_words(worlds.released()),
+    )
 }
 
-fn new_world(alloc: Global, image: &Image) -> Result<FencedWorld, Memory> {
-    FencedWorld::new(alloc, image, 2, 1)
+/// Whether the rule is needed, and whether it is kept.
+fn verdict(alloc: Global, image: &Image, row: Row) -> Result<(bool, bool), Memory> {
+    let needed = breaks_without(alloc, image, row)?;
+    Ok((needed, is_kept(alloc, image, row)?))
+}
+
+/// The same, once more where memory was refused.
+fn verdict_again(alloc: Global, row: Row) -> Result<(bool, bool), Fail> {
+    let image = image_of(alloc, SAYS_ITS_WORD)?;
+    match verdict(alloc, &image, row) {
+        Err(Memory) => Ok(verdict(alloc, &image, row)?),
+        verdict => Ok(verdict?),
+    }
 }
 
 #[test]
-fn each_rule_is_kept(rt: HostRuntime) -> Result<(), Fail> {
-    let image = read_image(rt.alloc(), SAYS_ITS_WORD).map_err(|_| "image")?;
-    for (name, deeds, many, fault, words) in ROWS {
-        let mut world = new_world(rt.alloc(), &image)?;
-        let answer = done(rt.alloc(), &mut world, deeds);
-        assert_eq!(rt; answer, (*many, *fault), "{name}");
-        assert!(rt; went_out(&world, words), "{name}");
+fn each_rule_is_needed_and_kept(rt: HostRuntime) -> Result<(), Fail> {
+    for row in ROWS {
+        let (name, ..) = row;
+        assert_eq!(rt; verdict_again(rt.alloc(), row)?, (true, true), "{name}");
     }
     Ok(())
 }

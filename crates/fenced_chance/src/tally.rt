@@ -2,32 +2,33 @@
 
 use crate::acts::Act;
 use fenced_world::{FencedFault, Released};
-use ft_types::Term;
 
-/// How often something happened in lists of events.
+/// How often something happened in lists of events. What is late is of a term below one that was granted.
 #[derive(Clone, Copy, Default)]
 pub struct Tally {
     /// Lists that were applied.
     pub lists: u64,
     /// Steps that were taken.
     pub steps: u64,
-    /// Of these, how many in a term after a later one was granted.
+    /// Late ones.
     pub late_steps: u64,
     /// Positions that were acknowledged.
     pub acknowledged: u64,
+    /// Late ones.
+    pub late_acknowledged: u64,
     /// Keepers that came back.
     pub restarts: u64,
     /// Primaries that went live.
     pub grants: u64,
-    /// Events that were refused.
-    pub refused: u64,
-    /// Of these, how many by a fence.
+    /// Events that were refused by a fence.
     pub fenced: u64,
-    /// Outputs that went out.
-    pub released: u64,
-    /// Releases of a term after a later one was granted, of which something went out.
-    pub behind: u64,
-    /// Outputs that went out in more than one term.
+    /// Other events that were refused.
+    pub refused: u64,
+    /// Releases of which something went out.
+    pub releases: u64,
+    /// Late ones.
+    pub late_releases: u64,
+    /// Outputs that went out and had gone out in an older term.
     pub again: u64,
 }
 
@@ -45,17 +46,30 @@ fn again_in(released: &[Released]) -> u64 {
 }
 
 impl Tally {
-    /// Counts what came of an act, where the last term was this one and so many outputs went out of it.
-    pub fn count(&mut self, act: Act, answer: Result<(), FencedFault>, last: Term, out: usize) {
+    /// Counts what came of an act, which may be late and may have let something out.
+    pub fn count(&mut self, act: Act, answer: Result<(), FencedFault>, late: bool, released: bool) {
+        if late && answer.is_ok() {
+            self.count_late(act, released);
+        }
         let counter = match (act, answer) {
             (_, Err(FencedFault::Fenced)) => &mut self.fenced,
             (_, Err(_)) => &mut self.refused,
-            (Act::Step(term, _), Ok(())) if term < last => &mut self.late_steps,
             (Act::Step(..), Ok(())) => &mut self.steps,
-            (Act::Release(term), Ok(())) if term < last && out > 0 => &mut self.behind,
             (Act::Ack(_), Ok(())) => &mut self.acknowledged,
             (Act::Restart(_), Ok(())) => &mut self.restarts,
             (Act::Grant(..), Ok(())) => &mut self.grants,
+            (Act::Release(_), Ok(())) if released => &mut self.releases,
+            _ => return,
+        };
+        *counter = counter.saturating_add(1);
+    }
+
+    /// Counts an act that was done and is late.
+    fn count_late(&mut self, act: Act, released: bool) {
+        let counter = match act {
+            Act::Step(..) => &mut self.late_steps,
+            Act::Ack(_) => &mut self.late_acknowledged,
+            Act::Release(_) if released => &mut self.late_releases,
             _ => return,
         };
         *counter = counter.saturating_add(1);
@@ -67,12 +81,15 @@ impl Tally {
         self.steps = self.steps.saturating_add(list.steps);
         self.late_steps = self.late_steps.saturating_add(list.late_steps);
         self.acknowledged = self.acknowledged.saturating_add(list.acknowledged);
+        self.late_acknowledged = self
+            .late_acknowledged
+            .saturating_add(list.late_acknowledged);
         self.restarts = self.restarts.saturating_add(list.restarts);
         self.grants = self.grants.saturating_add(list.grants);
-        self.refused = self.refused.saturating_add(list.refused);
         self.fenced = self.fenced.saturating_add(list.fenced);
-        self.released = self.released.saturating_add(released.len() as u64);
-        self.behind = self.behind.saturating_add(list.behind);
+        self.refused = self.refused.saturating_add(list.refused);
+        self.releases = self.releases.saturating_add(list.releases);
+        self.late_releases = self.late_releases.saturating_add(list.late_releases);
         self.again = self.again.saturating_add(again_in(released));
     }
 
@@ -82,12 +99,13 @@ impl Tally {
             && self.steps >= least.steps
             && self.late_steps >= least.late_steps
             && self.acknowledged >= least.acknowledged
+            && self.late_acknowledged >= least.late_acknowledged
             && self.restarts >= least.restarts
             && self.grants >= least.grants
-            && self.refused >= least.refused
             && self.fenced >= least.fenced
-            && self.released >= least.released
-            && self.behind >= least.behind
+            && self.refused >= least.refused
+            && self.releases >= least.releases
+            && self.late_releases >= least.late_releases
             && self.again >= least.again
     }
 }
