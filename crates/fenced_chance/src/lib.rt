@@ -15,6 +15,8 @@ mod keeper;
 #[cfg(test)]
 mod lists;
 #[cfg(test)]
+mod paused;
+#[cfg(test)]
 mod plain;
 #[cfg(test)]
 mod primary;
