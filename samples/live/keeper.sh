@@ -18,8 +18,7 @@ failed=0
 
 # Ends what this script started, and nothing else.
 finish() {
-    for child in "${children[@]}"; do kill -9 "$child" 2> /dev/null; done
-    wait 2> /dev/null
+    { for child in "${children[@]}"; do kill -9 "$child"; done; wait; } 2> /dev/null
     rm -rf "$work"
 }
 trap finish EXIT
@@ -59,8 +58,8 @@ split() {
     done
 }
 
-# pause: sleeps for up to 20 ms.
-pause() { sleep "0.0$(printf %02d $((RANDOM % 20)))"; }
+# stop PROCESS: kills it as a machine that stops would.
+stop() { { kill -9 "$1" && wait "$1"; } 2> /dev/null; }
 
 # feed FIFO FRAMES: sends all frames, and begins anew where the reader is gone, until all went out over one connection.
 feed() {
@@ -73,14 +72,19 @@ feed() {
                     whole=no
                     break
                 fi
-                pause
+                if [ "$((RANDOM % 4))" = 0 ]; then sleep "0.0$((RANDOM % 9))"; fi
             done
         } > "$1" 2> /dev/null
     done
 }
 
 # hear FIFO FILE: keeps what is acknowledged, over one connection behind the other.
-hear() { while true; do cat "$1" >> "$2"; done; }
+hear() {
+    local line
+    while true; do
+        while read -r line; do echo "$line"; done < "$1" >> "$2"
+    done
+}
 
 # keep ROUND K: starts keeper K of a round, whose process is then `started`.
 keep() {
@@ -127,9 +131,8 @@ round() {
     done
     for kills in 1 2 3; do
         sleep "0.$((RANDOM % 3))$((RANDOM % 10))"
-        kill -9 "${process[$victim]}"
-        wait "${process[$victim]}" 2> /dev/null
-        pause
+        if ! kill -0 "${process[$victim]}" 2> /dev/null; then echo "it has ended" | fail "round $1: keeper $victim runs until it is killed"; fi
+        stop "${process[$victim]}"
         keep "$at" "$victim"
         process[$victim]=$started
     done
@@ -138,7 +141,11 @@ round() {
     for k in $heirs; do
         if "$live" hand "$image" "$k" "$at/log.$k" 2 > "$at/handed.$k" 2> "$at/refused.$k"; then pass; else fail "round $1: hand $k" < "$at/refused.$k"; fi
     done
-    for k in 0 1 2; do wait "${feeder[$k]}"; done
+    # A feeder ends once its keeper took all frames over one connection.
+    for _ in $(seq 1200); do
+        if ! kill -0 "${feeder[0]}" "${feeder[1]}" "${feeder[2]}" 2> /dev/null; then break; fi
+        sleep 0.1
+    done
     # Until the keeper that is not fenced has come to the end.
     k=$(((victim + 2) % 3))
     for _ in $(seq 100); do
@@ -161,8 +168,7 @@ round() {
         if [ -s "$at/outside.$k" ]; then fail "round $1: what both handed over lacks what keeper $k acknowledged" < "$at/outside.$k"; else pass; fi
     done
     for k in 0 1 2; do
-        kill -9 "${process[$k]}" 2> /dev/null
-        wait "${process[$k]}" 2> /dev/null
+        stop "${process[$k]}"
         if [ -s "$at/faults.$k" ]; then fail "round $1: keeper $k has a fault" < "$at/faults.$k"; else pass; fi
     done
 }
@@ -179,8 +185,8 @@ refuses() {
 
 cut_line() { head -n "$1" "$2" | tail -n 1 | sed 's/ [0-9a-f]*$//'; }
 
-# Words for each of four harts, of which a piece of a log tells 256: a run of some 160 frames.
-awk 'BEGIN { for (i = 1; i <= 10240; i++) for (hart = 0; hart < 4; hart++) printf "%d %d word %08x\n", hart, 4 * i, i }' > "$work/script"
+# Words for each of four harts, of which a piece of a log tells 256: a run of some 80 frames.
+awk 'BEGIN { for (i = 1; i <= 5120; i++) for (hart = 0; hart < 4; hart++) printf "%d %d word %08x\n", hart, 4 * i, i }' > "$work/script"
 "$workbench" run "$image" "$work/script" 50000 "$work/run.log" > "$work/text" || exit 1
 end=$(counts "$work/run.log" | cut -d' ' -f2-)
 split "$work/run.log" "$work/frames"
@@ -228,8 +234,7 @@ for _ in $(seq 100); do
     sleep 0.05
 done
 refuses 'a log that another keeper has' 1 'fault log locked' keeper "$image" 1 "$work/log" from "$work/nothing" to "$work/acks"
-kill -9 "$holder"
-wait "$holder" 2> /dev/null
+stop "$holder"
 
 # Terms.
 refuses 'a log is handed over' 0 '' hand "$image" 4 "$work/log" 3
