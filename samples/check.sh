@@ -1,7 +1,7 @@
 #!/bin/sh
 # check.sh [PROGRAM]: runs what README.md, docs/GUIDE.md and docs/FAILOVER.md print, as printed, in a fresh copy of the repository, and compares
-# the answers that they show; then runs each guest of guests/ and replays its log, looks for each name that the documents cite (tools/names), and refuses
-# memory to the rows of benches/refusals. PROGRAM is the built workbench, by itself the one that `.ci/run` and `rt run` leave. The last line is 'N passed, N
+# the answers that they show; then runs each guest of guests/ and replays its log, looks for each name that the documents cite (tools/names), refuses
+# memory to the rows of benches/refusals, and kills keepers that are processes (samples/live). PROGRAM is the built workbench, by itself the one that `.ci/run` and `rt run` leave. The last line is 'N passed, N
 # failed'. Needs rt; what needs more is left out where that is not there.
 #
 # In these documents each indented block is typed into a shell of its own at the top of the repository. Where it has lines that begin with
@@ -159,6 +159,18 @@ elif command -v cc > /dev/null && command -v python3 > /dev/null && [ -d /dev/sh
     fi
 else
     echo "left out benches/refusals, since a C compiler, python3 or /dev/shm is not there"
+fi
+
+# Three keepers over FIFOs: one is killed and begins again, two hand their logs over behind a fence, in some twenty seconds.
+live=$top/crates/live/out/live
+if [ ! -x "$live" ]; then
+    echo "left out samples/live, since there is no $live"
+elif ! command -v bash > /dev/null; then
+    echo "left out samples/live, since no bash is installed"
+elif bash "$top/samples/live/keeper.sh" "$live" "$program" 2 > "$work/keepers" 2>&1; then
+    pass
+else
+    fail "keepers that are processes" < "$work/keepers"
 fi
 
 echo "$passed passed, $failed failed"
