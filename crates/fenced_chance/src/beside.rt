@@ -10,7 +10,7 @@ use fenced_world::{FencedFault, Released};
 use fragment_codec::Frame;
 use ft_types::{Memory, Term};
 use go_live::LiveFault;
-use guest_image::{Image, Machine};
+use guest_image::Image;
 use log_join::{Put, Store};
 use std::alloc::Global;
 
@@ -37,22 +37,6 @@ pub struct Beside {
     subject: Subject,
     plain: PlainWorld,
     tally: Tally,
-}
-
-/// Whether the machine has each of these outputs that went out in its term or an older one, at its number.
-fn has_all(machine: &Machine, term: Term, released: &[Released]) -> bool {
-    released
-        .iter()
-        .filter(|released| released.term <= term)
-        .all(|released| {
-            let output = &released.output;
-            output.hart.number() < machine.harts()
-                && machine
-                    .hart(output.hart)
-                    .outputs()
-                    .get(output.number as usize)
-                    == Some(&(output.step, output.word))
-        })
 }
 
 /// What happened to a world that answered so: a keeper whose memory is refused as it comes back is lost.
@@ -103,12 +87,10 @@ impl Beside {
         &self.tally
     }
 
-    /// Whether the worlds have the same machine in the term, and it has all that went out up to that term.
+    /// Whether the worlds have the same machine in the term.
     fn have_same_machine(&self, term: Term) -> bool {
         match (self.subject.machine(term), self.plain.machine(term)) {
-            (Some(machine), Some(other)) => {
-                machine.same(other) && has_all(machine, term, self.subject.released())
-            }
+            (Some(machine), Some(other)) => machine.same(other),
             _ => false,
         }
     }
@@ -143,10 +125,7 @@ impl Beside {
 
     /// Applies the act to both worlds: what comes of it.
     pub fn answer(&mut self, alloc: Global, act: Act) -> Result<Outcome, Memory> {
-        let Some(answer) = self.subject.answer(alloc, act) else {
-            return Ok(Outcome::Unlike);
-        };
-        let (act, answer) = as_seen(act, answer);
+        let (act, answer) = as_seen(act, self.subject.answer(alloc, act));
         let before = self.plain.released().len();
         let wanted = self.plain.apply(alloc, act);
         if wanted == Err(FencedFault::Memory) {

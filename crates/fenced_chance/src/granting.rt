@@ -31,9 +31,13 @@ impl PlainWorld {
 
     /// How many different keepers these are.
     fn different(&self, keepers: &[u64]) -> usize {
-        (0..u64::from(self.keepers))
-            .filter(|keeper| keepers.contains(keeper))
-            .count()
+        let mut many = 0usize;
+        for keeper in 0..u64::from(self.keepers) {
+            if keepers.contains(&keeper) {
+                many = many.saturating_add(1);
+            }
+        }
+        many
     }
 
     /// Whether more keepers gave their stores than may lack an output that went out.

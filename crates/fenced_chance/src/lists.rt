@@ -28,7 +28,6 @@ static LEAST: Tally = Tally {
     refused: 28_000,
     releases: 6_000,
     late_releases: 1_500,
-    again: 1_200,
 };
 
 /// Applies a list of events to two worlds. Says whether they agree at each.
@@ -69,7 +68,7 @@ fn agree_by(alloc: Global, image: &Image, seed: u64, tally: &mut Tally) -> Resul
     let mut worlds = begin(alloc, image, &mut chance)?;
     let agreed = agree_to_the_end(alloc, image, &mut chance, &mut worlds);
     if agreed == Ok(true) {
-        tally.add_list(worlds.tally(), worlds.released());
+        tally.add_list(worlds.tally());
     }
     agreed
 }

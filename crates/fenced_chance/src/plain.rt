@@ -336,13 +336,22 @@ impl PlainWorld {
         })
     }
 
+    /// How many keepers acknowledged counts with the hart's step inside, in the term.
+    fn holders(&self, term: Term, hart: Hart, step: Count) -> usize {
+        let mut many = 0usize;
+        for keeper in 0..u64::from(self.keepers) {
+            if self.holds(keeper, term, hart, step) {
+                many = many.saturating_add(1);
+            }
+        }
+        many
+    }
+
     /// Whether the output may go out, and did not in this term.
     fn is_due(&self, released: &Released) -> bool {
         let output = &released.output;
-        let holders = (0..u64::from(self.keepers))
-            .filter(|keeper| self.holds(*keeper, released.term, output.hart, output.step))
-            .count();
-        holders >= usize::from(self.need) && !self.released.contains(released)
+        self.holders(released.term, output.hart, output.step) >= usize::from(self.need)
+            && !self.released.contains(released)
     }
 
     /// Lets those outputs of the hart go out that are due in the term.

@@ -1,7 +1,7 @@
 //! How often something happened in lists of events.
 
 use crate::acts::Act;
-use fenced_world::{FencedFault, Released};
+use fenced_world::FencedFault;
 
 /// How often something happened in lists of events. What is late is of a term below one that was granted.
 #[derive(Clone, Copy, Default)]
@@ -28,21 +28,6 @@ pub struct Tally {
     pub releases: u64,
     /// Late ones.
     pub late_releases: u64,
-    /// Outputs that went out and had gone out in an older term.
-    pub again: u64,
-}
-
-/// Whether the output went out in an older term.
-fn went_out_before(released: &[Released], one: &Released) -> bool {
-    released.iter().any(|other| other.term < one.term && other.output == one.output)
-}
-
-/// How many of these outputs went out in an older term.
-fn again_in(released: &[Released]) -> u64 {
-    released
-        .iter()
-        .filter(|one| went_out_before(released, one))
-        .count() as u64
 }
 
 impl Tally {
@@ -75,8 +60,8 @@ impl Tally {
         *counter = counter.saturating_add(1);
     }
 
-    /// Adds a list in which that happened, and at whose end these outputs had gone out.
-    pub fn add_list(&mut self, list: &Tally, released: &[Released]) {
+    /// Adds a list in which that happened.
+    pub fn add_list(&mut self, list: &Tally) {
         self.lists = self.lists.saturating_add(1);
         self.steps = self.steps.saturating_add(list.steps);
         self.late_steps = self.late_steps.saturating_add(list.late_steps);
@@ -90,7 +75,6 @@ impl Tally {
         self.refused = self.refused.saturating_add(list.refused);
         self.releases = self.releases.saturating_add(list.releases);
         self.late_releases = self.late_releases.saturating_add(list.late_releases);
-        self.again = self.again.saturating_add(again_in(released));
     }
 
     /// Whether each number is at least this one's.
@@ -106,6 +90,5 @@ impl Tally {
             && self.refused >= least.refused
             && self.releases >= least.releases
             && self.late_releases >= least.late_releases
-            && self.again >= least.again
     }
 }
