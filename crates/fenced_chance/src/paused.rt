@@ -68,14 +68,12 @@ const OUT: [(u32, u64, u64, u32); 3] = [(1, 0, 2, 7), (2, 0, 2, 7), (2, 1, 5, 9)
 
 /// The number of the first event of which something else comes, or how many there are.
 fn done(alloc: Global, worlds: &mut Beside) -> Result<usize, Memory> {
-    let mut number = 0;
-    for (act, outcome) in &EVENTS {
+    for (number, (act, outcome)) in EVENTS.iter().enumerate() {
         if worlds.answer(alloc, *act)? != *outcome {
             return Ok(number);
         }
-        number += 1;
     }
-    Ok(number)
+    Ok(EVENTS.len())
 }
 
 /// Whether this went out.
