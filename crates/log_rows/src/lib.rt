@@ -15,6 +15,8 @@ mod recorded;
 #[cfg(test)]
 mod replays;
 #[cfg(test)]
+mod stations;
+#[cfg(test)]
 mod stores;
 #[cfg(test)]
 mod tracked;

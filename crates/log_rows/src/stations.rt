@@ -1,0 +1,155 @@
+//! A keeper over a log in memory: what it acknowledges, what it comes back with, and what is handed over behind a fence.
+
+ghost use Rattle.std.specs.Prelude.{None};
+
+use crate::come::{Come, frame_of, guest_of};
+use ft_types::{Count, Term};
+use stations::{
+    FenceFault, FencedLog, FilesFault, KeeperFiles, KeeperStation, fence_off, hand_over, handshake,
+    is_of, read_frames,
+};
+use std::alloc::Global;
+use std::result::Result;
+use std::test::Fail;
+
+/// A log and its last fence in memory.
+#[derive(Drop)]
+struct Shelf {
+    log: Vec<u8>,
+    fence: Term,
+}
+
+impl KeeperFiles for Shelf {
+    ghost acts = { λ _. None };
+
+    fn read_log(&mut self, alloc: Global) -> Result<Vec<u8>, FilesFault> {
+        match Vec::from_slice(alloc, &self.log) {
+            Ok(bytes) => Ok(bytes),
+            Err(_) => Err(FilesFault::Memory),
+        }
+    }
+
+    fn cut(&mut self, size: usize) -> Result<(), FilesFault> {
+        self.log.truncate(size);
+        Ok(())
+    }
+
+    fn add(&mut self, bytes: &[u8]) -> Result<(), FilesFault> {
+        match self.log.extend_from_slice(bytes) {
+            Ok(()) => Ok(()),
+            Err(_) => Err(FilesFault::Memory),
+        }
+    }
+
+    fn sync(&mut self) -> Result<(), FilesFault> {
+        Ok(())
+    }
+
+    fn last_fence(&mut self, _alloc: Global) -> Result<Term, FilesFault> {
+        Ok(self.fence)
+    }
+
+    fn add_fence(&mut self, term: Term) -> Result<(), FilesFault> {
+        self.fence = term;
+        Ok(())
+    }
+}
+
+/// What is acknowledged: a term and a count of the one hart.
+type Told = Option<(Term, Count)>;
+
+/// A keeper begins over the log.
+fn begin(alloc: Global, shelf: &mut Shelf) -> Result<KeeperStation, Fail> {
+    Ok(KeeperStation::begin(alloc, guest_of(1), shelf).map_err(|_| "the log is a keeper's")?)
+}
+
+/// It logs what came, and acknowledges.
+fn log(alloc: Global, station: KeeperStation, shelf: &mut Shelf) -> Result<Told, Fail> {
+    let logged = station.log_and_acknowledge(alloc, shelf);
+    let (_station, position) = logged.map_err(|_| "the log takes it")?;
+    Ok(position.map(|it| (it.term, it.counts.as_slice().first().copied().unwrap_or(0))))
+}
+
+/// A keeper begins, takes these frames, logs them, acknowledges, and is killed.
+fn keep(alloc: Global, shelf: &mut Shelf, comes: &[Come]) -> Result<Told, Fail> {
+    let mut station = begin(alloc, shelf)?;
+    for come in comes {
+        let frame = frame_of(alloc, guest_of(1), come)?;
+        let _put = station.take(alloc, frame)?;
+    }
+    log(alloc, station, shelf)
+}
+
+/// How many bytes of how many frames are handed over to a term; none where it is fenced off for a later one.
+fn hand(alloc: Global, shelf: &mut Shelf, term: Term) -> Result<Option<(usize, usize)>, Fail> {
+    match fence_off(alloc, shelf, term) {
+        Ok(fenced) => Ok(Some(handed(alloc, shelf, fenced)?)),
+        Err(FenceFault::Fenced(_)) => Ok(None),
+        Err(FenceFault::Files(_)) => Err("the fence is put")?,
+    }
+}
+
+/// How many bytes of how many frames of the guest are handed over.
+fn handed(alloc: Global, shelf: &mut Shelf, fenced: FencedLog) -> Result<(usize, usize), Fail> {
+    let bytes = hand_over(alloc, &guest_of(1), fenced, shelf).map_err(
+        |_| "the log is handed over",
+    )?;
+    let front = read_frames(alloc, &bytes)?;
+    let mut own = 0usize;
+    for frame in &front.frames {
+        own = own.saturating_add(usize::from(is_of(frame, &guest_of(1))));
+    }
+    Ok((front.size, own))
+}
+
+const OPENING: Come = Come::Opening(1, 0, &[0]);
+
+const TO_FOUR: Come = Come::Piece(1, 0, 0, 0, 4, &[]);
+
+const TO_SIX: Come = Come::Piece(1, 0, 1, 4, 6, &[]);
+
+const TO_NINE: Come = Come::Piece(1, 0, 2, 6, 9, &[]);
+
+/// What comes to a keeper that begins, and what it acknowledges.
+type Row = (&'static [Come], Told);
+
+static BEFORE: [Row; 4] = [
+    (&[], None),
+    (&[OPENING, TO_FOUR], Some((1, 4))),
+    (&[], Some((1, 4))),
+    (&[TO_FOUR, TO_SIX], Some((1, 6))),
+];
+
+/// Behind the fence 2 nothing of term 1 is acknowledged; what comes is logged all the same.
+static BEHIND: [Row; 2] = [
+    (&[TO_NINE], None),
+    (&[Come::Opening(2, 1, &[6])], Some((2, 6))),
+];
+
+/// The first row of which something else is acknowledged.
+fn first_wrong(alloc: Global, shelf: &mut Shelf, rows: &[Row]) -> Result<Option<usize>, Fail> {
+    for (number, (comes, told)) in rows.iter().enumerate() {
+        if keep(alloc, shelf, comes)? != *told {
+            return Ok(Some(number));
+        }
+        // A killed keeper left the beginning of a frame.
+        shelf.log.extend_from_slice(b"V")?;
+    }
+    Ok(None)
+}
+
+#[test]
+fn what_a_log_keeps_is_handed_over(rt: HostRuntime) -> Result<(), Fail> {
+    handshake();
+    let alloc = rt.alloc();
+    let mut shelf = Shelf {
+        log: Vec::new(alloc),
+        fence: 0,
+    };
+    assert_eq!(rt; first_wrong(alloc, &mut shelf, &BEFORE)?, None);
+    let size = shelf.log.len();
+    assert_eq!(rt; hand(alloc, &mut shelf, 2)?, Some((size - 1, 3)));
+    assert_eq!(rt; hand(alloc, &mut shelf, 2)?, None);
+    assert_eq!(rt; first_wrong(alloc, &mut shelf, &BEHIND)?, None);
+    Ok(())
+}
