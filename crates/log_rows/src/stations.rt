@@ -148,7 +148,10 @@ fn what_a_log_keeps_is_handed_over(rt: HostRuntime) -> Result<(), Fail> {
     };
     assert_eq!(rt; first_wrong(alloc, &mut shelf, &BEFORE)?, None);
     let size = shelf.log.len();
-    assert_eq!(rt; hand(alloc, &mut shelf, 2)?, Some((size - 1, 3)));
+    assert_eq!(rt;
+        hand(alloc, &mut shelf, 2)?,
+        Some((size.saturating_sub(1), 3))
+    );
     assert_eq!(rt; hand(alloc, &mut shelf, 2)?, None);
     assert_eq!(rt; first_wrong(alloc, &mut shelf, &BEHIND)?, None);
     Ok(())
