@@ -9,13 +9,13 @@ mod come;
 #[cfg(test)]
 mod keepers;
 #[cfg(test)]
+mod logged;
+#[cfg(test)]
 mod positions;
 #[cfg(test)]
 mod recorded;
 #[cfg(test)]
 mod replays;
-#[cfg(test)]
-mod stations;
 #[cfg(test)]
 mod stores;
 #[cfg(test)]
