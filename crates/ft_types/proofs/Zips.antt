@@ -1,8 +1,8 @@
 -- Two rows, place by place.
-use Rattle.std.proofs.Common.{◌≡◌, ℕ, zero, suc, ◌+◌, ◌-◌, ◌<◌, List, [], ◌∷◌, ◌++◌, length, take, drop, refl, ap, sym, ◌∙◌, arith, replicate, min, max}
+use Rattle.std.proofs.Common.{◌≡◌, ℕ, zero, suc, ◌+◌, ◌-◌, ◌<◌, ◌≤◌, List, [], ◌∷◌, ◌++◌, length, take, drop, refl, ap, sym, ◌∙◌, arith, replicate, min, max}
 use Rattle.std.proofs.Common.{get_or, slice_set, length-set, slice_index_or, subst, map}
 use Rattle.std.specs.List.{AllByRecursion, AllZip}
-use Rattle.std.proofs.lemmas.List.{take_more, take_more_set, drop-set-lt, drop-drop, drop-replicate}
+use Rattle.std.proofs.lemmas.List.{take_more, take_more_set, take-append-drop, take-replicate, drop-set-lt, drop-drop, drop-replicate, length-replicate, get_or-replicate}
 use Rattle.std.proofs.lemmas.Grind.{common_steps}
 use Rattle.ft_types.specs.Rows.{IsRow, length_of_view}
 use Rattle.ft_types.specs.Counts.{zipped, IsCount}
@@ -89,6 +89,35 @@ zips_more f xs ys zs i p q r so_far =
       so_far,
     ) refl
 
+-- a row with a count of 0 for each hart
+pub zero_row : (harts : ℕ) → harts ≤ HART_LIMIT → IsRow (replicate HART_ROW 0) harts
+zero_row harts few =
+    let zeros : List ℕ = replicate HART_ROW 0 in
+    let long : length zeros ≡ HART_ROW = length-replicate {A = ℕ} HART_ROW 0 in
+    record {
+      limit = few;
+      words = long;
+      counts = each_at IsCount zeros (λ i d lt. rw (get_or-replicate {A = ℕ} HART_ROW i 0 d (omega (arith, long, lt))) (omega arith));
+      rest = drop-replicate {X = ℕ} harts HART_ROW 0;
+    }
+
+-- and what it shows
+pub zero_shows : (harts : ℕ) → harts ≤ HART_LIMIT → take {A = ℕ} harts (replicate HART_ROW 0) ≡ replicate harts 0
+zero_shows harts few = take-replicate {X = ℕ} harts HART_ROW 0 (omega (arith, few))
+
+-- a loop's turn that writes at i leaves what is behind
+pub behind_kept : (xs ys : List ℕ) (i v : ℕ) → drop i xs ≡ drop i ys → drop (i + 1) (slice_set xs i v) ≡ drop (i + 1) ys
+behind_kept xs ys i v same = drop-set-lt (i + 1) xs i v (omega arith) ∙ sym (drop-drop 1 i xs) ∙ ap (drop 1) same ∙ drop-drop 1 i ys
+
+-- what f makes of the harts of two rows, and behind it the rest of the first one, is what it makes of the rows
+pub zip_of_harts : (f : ℕ → ℕ → ℕ) (xs ys : List ℕ) (harts : ℕ) → f 0 0 ≡ 0 → IsRow xs harts → IsRow ys harts →
+    zipped f (take harts xs) (take harts ys) ++ drop harts xs ≡ zipped f xs ys
+zip_of_harts f xs ys harts none p q =
+    ap (λ front. front ++ drop harts xs) (sym (take-zipped f harts xs ys))
+    ∙ ap (λ rest. take harts (zipped f xs ys) ++ rest)
+    (p.rest ∙ sym (drop-zipped f harts xs ys ∙ rw (p.rest, q.rest) (zipped-replicate f (HART_ROW - harts) none)))
+    ∙ take-append-drop harts (zipped f xs ys)
+
 -- what f makes of two rows in HART_ROW words is such a row
 pub row_of_zip : (f : ℕ → ℕ → ℕ) (xs ys : List ℕ) (harts : ℕ) → f 0 0 ≡ 0 → ((x y : ℕ) → IsCount x → IsCount y → IsCount (f x y)) →
     IsRow xs harts → IsRow ys harts → IsRow (zipped f xs ys) harts
@@ -110,6 +139,10 @@ module _ (f : ℕ → ℕ → ℕ) (xs ys a b : List ℕ) (m n : ℕ) (none : f 
     (p : IsRow xs m) (q : IsRow ys n) (sees : take m xs ≡ a) (sees_other : take n ys ≡ b) (same : length a ≡ length b) where
   same_harts : m ≡ n
   same_harts = sym (length_of_view xs m p) ∙ ap length sees ∙ same ∙ ap length (sym sees_other) ∙ length_of_view ys n q
+
+  -- what f makes of their harts, and behind it the rest of the first one, is what it makes of the rows
+  pub zip_is_of_harts : zipped f (take m xs) (take m ys) ++ drop m xs ≡ zipped f xs ys
+  zip_is_of_harts = zip_of_harts f xs ys m none p (subst (λ (k : ℕ). IsRow ys k) (sym same_harts) q)
 
   -- what f makes of two rows of as many harts is a row of these harts
   pub zip_is_row : IsRow (zipped f xs ys) m

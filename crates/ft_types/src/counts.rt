@@ -1,6 +1,6 @@
 //! Rows of one count per hart.
 
-ghost use Rattle.std.specs.Prelude.{◌≡◌, ◌<◌, ◌≤◌, ◌^◌, ◌↔◌, ℕ, List, length, replicate, slice_index, slice_set, IsTrue, IfSome, IsSome, Some};
+ghost use Rattle.std.specs.Prelude.{◌≡◌, ◌<◌, ◌≤◌, ◌^◌, ◌↔◌, ◌++◌, ℕ, List, length, take, drop, replicate, slice_index, slice_set, IsTrue, IfSome, IsSome, Some};
 ghost use Rattle.std.specs.List.{AllByRecursion};
 ghost use Rattle.ft_types.specs.Counts.{IsCount, lesser, greater, zipped, IsWithin};
 
@@ -30,21 +30,32 @@ impl Model for Counts {
     ghost inverse_ok = { λ a h. Prim.rw (words_of_view a.row a.harts h, length_of_view a.row a.harts h) refl };
 }
 
-fn least(row: [u64; HART_ROW], other: [u64; HART_ROW]) -> [u64; HART_ROW]
-    ensures { result ≡ lesser row other }
+/// A row with a count of 0 for each hart.
+fn no_counts() -> [u64; HART_ROW]
+    ensures { result ≡ replicate HART_ROW 0 }
 {
-    let mut least = row;
-    for i in 0..HART_ROW {
+    [0; HART_ROW]
+}
+
+/// In so many harts the smaller counts, and behind them those of the first row.
+fn least(row: &[u64; HART_ROW], other: &[u64; HART_ROW], harts: u8) -> [u64; HART_ROW]
+    requires { harts ≤ HART_LIMIT }
+    ensures { result ≡ lesser (take harts row.now) (take harts other.now) ++ drop harts row.now }
+{
+    let mut least = *row;
+    for i in 0..harts as usize {
         least[i] = row[i].min(other[i]);
     }
     least
 }
 
-fn greatest(row: [u64; HART_ROW], other: [u64; HART_ROW]) -> [u64; HART_ROW]
-    ensures { result ≡ greater row other }
+/// In so many harts the greater counts, and behind them those of the first row.
+fn greatest(row: &[u64; HART_ROW], other: &[u64; HART_ROW], harts: u8) -> [u64; HART_ROW]
+    requires { harts ≤ HART_LIMIT }
+    ensures { result ≡ greater (take harts row.now) (take harts other.now) ++ drop harts row.now }
 {
-    let mut greatest = row;
-    for i in 0..HART_ROW {
+    let mut greatest = *row;
+    for i in 0..harts as usize {
         greatest[i] = row[i].max(other[i]);
     }
     greatest
@@ -57,7 +68,7 @@ impl Counts {
         ensures { result ≡ replicate harts 0 }
     {
         Counts {
-            row: [0; HART_ROW],
+            row: no_counts(),
             harts,
         }
     }
@@ -70,7 +81,7 @@ impl Counts {
         if counts.len() > HART_ROW {
             return None;
         }
-        let mut row = [0; HART_ROW];
+        let mut row = no_counts();
         for (i, count) in counts.iter().enumerate() {
             if *count >= COUNT_LIMIT {
                 return None;
@@ -124,7 +135,7 @@ impl Counts {
         ensures { result ≡ lesser self other }
     {
         Counts {
-            row: least(self.row, other.row),
+            row: least(&self.row, &other.row, self.harts),
             harts: self.harts,
         }
     }
@@ -135,7 +146,7 @@ impl Counts {
         ensures { result ≡ greater self other }
     {
         Counts {
-            row: greatest(self.row, other.row),
+            row: greatest(&self.row, &other.row, self.harts),
             harts: self.harts,
         }
     }
@@ -145,7 +156,7 @@ impl Counts {
         requires { length self ≡ length other }
         ensures { IsTrue result ↔ IsWithin self other }
     {
-        for i in 0..HART_ROW {
+        for i in 0..self.harts as usize {
             if self.row[i] > other.row[i] {
                 return false;
             }

@@ -61,13 +61,20 @@ fn count_of(members: &[bool]) -> usize
     members.iter().filter(|member| **member).count()
 }
 
+/// A row with a flag for each hart, none of which is set.
+fn no_flags() -> [bool; HART_ROW]
+    ensures { result ≡ replicate HART_ROW false }
+{
+    [false; HART_ROW]
+}
+
 impl HartSet {
     /// The set with no hart.
     pub fn new() -> HartSet
         ensures { (n : ℕ) → ¬ (IsMember result n) }
     {
         HartSet {
-            members: [false; HART_ROW],
+            members: no_flags(),
         }
     }
 
