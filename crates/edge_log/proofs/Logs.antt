@@ -359,3 +359,14 @@ no_edges (r ∷ rows) none (suc h) = no_edges rows none.1 h
 pub none_at_all : (rows : List EdgesOfOne) → AllByRecursion (λ r. r.edges ≡ []) rows → flat_map (map edge_as) (map (λ r. r.edges) rows) ≡ []
 none_at_all [] none = refl
 none_at_all (r ∷ rows) none = rw none.0 (none_at_all rows none.1)
+
+-- they are those of a log
+pub empty_log : (start : List ℕ) (rows : List EdgesOfOne) → length start ≤ HART_LIMIT → length rows ≡ HART_ROW →
+    AllByRecursion (λ r. r.edges ≡ []) rows → IsLog start (map (λ r. r.edges) rows)
+empty_log start rows few many none =
+    record {
+      harts = few;
+      many = length-map rows (λ r. r.edges) ∙ many;
+      own = λ hart. subst (All (IsOfHart start hart)) (sym (no_edges rows none hart)) (λ k d below. absurd (omega (arith, below)));
+      later = λ hart. subst (All (IsLater start)) (sym (no_edges rows none hart)) (λ k d below. absurd (omega (arith, below)));
+    }

@@ -1,14 +1,14 @@
 -- Rows of edges in order.
 use Rattle.std.proofs.Common.{◌≡◌, ◌≢◌, ◌⊎◌, ℕ, zero, suc, ◌+◌, ◌-◌, ◌<◌, ◌≤◌, Bool, true, false, List, [], ◌∷◌, ◌++◌, length, get_or, set, take, drop, arith}
 use Rattle.std.proofs.Common.{refl, sym, ap, subst, ◌∙◌, inl, inr, le_trans, All, AllPairs, Any, Contains, nat_lt, length-append, length-drop, length-take}
-use Rattle.std.proofs.Common.{take-append-drop, add-one, ◌==◌, eq-eqb, ne_eqb, le_refl, append-nil, length-set, get_or-set_same, get_or-set_other}
+use Rattle.std.proofs.Common.{replicate, take-append-drop, add-one, ◌==◌, eq-eqb, ne_eqb, le_refl, append-nil, length-set, get_or-set_same, get_or-set_other}
 use Rattle.std.specs.List.{AllWithin, insert, filter}
 use Rattle.std.specs.List.Sorted.{IsNonDecreasingBy}
 use Rattle.std.proofs.lemmas.Bool.{cases_lt, cases_eq, lt-ltb, le-ltb}
 use Rattle.std.proofs.lemmas.List.{get_or_read, get_or-take, get_or-drop, get_or_append_left, get_or-append_right, get_or-append-add, drop_more, set_split}
 use Rattle.std.proofs.lemmas.List.{get_or_default}
 use Rattle.std.proofs.lemmas.List.Elements.{All-head, All-tail, filter-append, Contains-append_cases, Contains-append_left, Contains-append_right, All-contains}
-use Rattle.ft_types.specs.declared.names.TheConstants.{HART_LIMIT, HART_ROW}
+use Rattle.ft_types.specs.declared.names.TheConstants.{HART_LIMIT}
 use Rattle.edge_log.specs.declared.Edge.{Edge}
 use Rattle.edge_log.specs.Rows.{ComesBefore, CannotComeBefore, IsTwin, TwinStands, IsPut, AsksAsMuch, SayOn, SaysAsMuch, AsksFor, IsRow, Takes, Said, Put, TakesAll}
 
@@ -378,11 +378,28 @@ asked_before xs reached e row (by, is_edge, asks) =
     let more : e.after ≤ by.after = asks.after in
     le_trans more (subst (λ o. by.after ≤ get_or reached o 0) asks.other most)
 
-pub row_after : (old new : List Edge) (reached : List ℕ) (e : Edge) → IsRow old reached → IsPut old e new → e.other < HART_LIMIT →
-    get_or reached e.other 0 < e.after → IsRow new (set reached e.other e.after)
-row_after old new reached e row put hart more =
+-- what reads alike at each hart is as much the row of these edges
+pub row_alike : (xs : List Edge) (reached longer : List ℕ) → IsRow xs reached → ((hart : ℕ) → get_or longer hart 0 ≡ get_or reached hart 0) → IsRow xs longer
+row_alike xs reached longer row same =
     record {
-      harts = length-set reached e.other e.after ∙ row.harts;
+      rising = row.rising;
+      others = row.others;
+      most = λ k d below. rw (same (get_or xs k d).other) (row.most k d below);
+      asked = λ g small some. subst (λ n. (x : Edge) × Contains xs x × AsksFor g n x) (sym (same g)) (row.asked g small (rw (same g) at some));
+    }
+
+-- a row of counts that is made longer by counts of 0 reads as before
+pub longer_reads : (reached : List ℕ) (more : ℕ) (hart : ℕ) → get_or (reached ++ replicate more 0) hart 0 ≡ get_or reached hart 0
+longer_reads [] zero hart = refl
+longer_reads [] (suc more) zero = refl
+longer_reads [] (suc more) (suc hart) = longer_reads [] more hart
+longer_reads (x ∷ xs) more zero = refl
+longer_reads (x ∷ xs) more (suc hart) = longer_reads xs more hart
+
+pub row_after : (old new : List Edge) (reached : List ℕ) (e : Edge) → IsRow old reached → IsPut old e new → e.other < HART_LIMIT →
+    e.other < length reached → get_or reached e.other 0 < e.after → IsRow new (set reached e.other e.after)
+row_after old new reached e row put hart there more =
+    record {
       rising = put_rising old e new put row.rising;
       others = all_put (λ y. y.other < HART_LIMIT) old e new put hart row.others;
       most =
@@ -392,9 +409,6 @@ row_after old new reached e row put hart more =
       asked = λ g small some. asked g small some (cases_eq g e.other);
     }
   where
-    there : e.other < length reached
-    there = let h : length reached ≡ HART_ROW = row.harts in omega arith
-
     most : (y : Edge) → y.after ≤ get_or reached y.other 0 → y.after ≤ get_or (set reached e.other e.after) y.other 0
     most y le =
         elim (cases_eq y.other e.other) [

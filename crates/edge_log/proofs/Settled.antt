@@ -146,9 +146,13 @@ module _ (start : List ℕ) (inner : List EdgesOfOne) (log : IsLog start (map (�
       subst (IsSettled start (map (λ r. r.edges) inner) edges) (sym rows_are)
       (settled start (map (λ r. r.edges) inner) log i there edges own new.edges (subst (λ l. TakesAll start l edges new.edges) (sym row_is) takes))
 
+  -- where its edges stay, all do
+  pub same_left : new.edges ≡ (get_or inner i r).edges → map (λ r. r.edges) (set inner i new) ≡ map (λ r. r.edges) inner
+  same_left kept = rows_are ∙ (ap (set (map (λ r. r.edges) inner) i) (kept ∙ sym row_is) ∙ set-get_or (map (λ r. r.edges) inner) i [])
+
   pub log_kept : (result : Result (Unit {0}) Memory) (edges : List Edge) → All (IsOfHart start i) edges →
       OnOk result (TakesAll start (get_or inner i r).edges edges new.edges) → OnErr result (new.edges ≡ (get_or inner i r).edges) →
       IsLog start (map (λ r. r.edges) (set inner i new))
   log_kept (Ok x) edges own takes kept = (row_settled edges own takes).log
   log_kept (Err m) edges own takes kept =
-      subst (IsLog start) (sym (rows_are ∙ (ap (set (map (λ r. r.edges) inner) i) (kept ∙ sym row_is) ∙ set-get_or (map (λ r. r.edges) inner) i []))) log
+      subst (IsLog start) (sym (same_left kept)) log

@@ -2,7 +2,7 @@
 use Rattle.std.specs.Prelude.{ℕ, ◌≡◌, ◌<◌, ◌≤◌, ◌⊎◌, List, [], ◌∷◌, ◌++◌, length, slice_index, All, AllPairs, Any, Contains, filter, nat_lt}
 use Rattle.std.specs.List.{HoldsAt}
 use Rattle.ft_types.specs.Counts.{count_at}
-use Rattle.ft_types.specs.declared.names.TheConstants.{HART_LIMIT, HART_ROW}
+use Rattle.ft_types.specs.declared.names.TheConstants.{HART_LIMIT}
 use Rattle.edge_log.specs.declared.Edge.{Edge}
 
 -- a's step is no later than b's, and at the same step a's other hart is lower
@@ -75,7 +75,6 @@ pub record AsksFor (hart count : ℕ) (edge : Edge) : Type 0 where
   pub after : edge.after ≡ count
 
 pub record IsRow (edges : List Edge) (reached : List ℕ) : Type 0 where
-  pub harts : length reached ≡ HART_ROW
   pub rising : AllPairs ComesBefore edges
   pub others : All (λ e. e.other < HART_LIMIT) edges
   pub most : All (λ e. e.after ≤ slice_index reached e.other) edges

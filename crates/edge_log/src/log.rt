@@ -224,8 +224,7 @@ impl EdgeLog {
         ensures same_order { OnOk result ((all : List edge_of_theory) → IsEnough (edges_of self.old) all (start_of self.old) → IsSameOrder (edges_of self.new)
             (all ++ map edge_as edges.now) (start_of self.new)) }
     {
-        let start = self.start;
         let row = &mut self.rows[hart.index()];
-        row.add_all(&start, edges)
+        row.add_all(&self.start, edges)
     }
 }

@@ -8,7 +8,7 @@ ghost use Rattle.std.specs.List.Sorted.{IsNonDecreasingBy};
 ghost use Rattle.edge_log.specs.Rows.{ComesBefore, AsksAsMuch, SayOn, IsPut, SaysAsMuch, CannotComeBefore, TwinStands, IsRow, Takes, TakesAll};
 
 use crate::{Added, Edge};
-use ft_types::{Count, Counts, HART_ROW, Memory};
+use ft_types::{Count, Counts, Memory};
 use std::alloc::Global;
 use std::marker::Model;
 use std::option::Option;
@@ -18,8 +18,8 @@ use std::result::Result;
 #[derive(Drop)]
 pub(crate) struct Row {
     edges: Vec<Edge>,
-    // The greatest `after` of the edges to each hart, 0 where there is none.
-    reached: [Count; HART_ROW],
+    // The greatest `after` of the edges to each hart, 0 where there is none. It has a place for each hart that an edge was to.
+    reached: Vec<Count>,
 }
 
 impl Model for Row {
@@ -27,9 +27,9 @@ impl Model for Row {
 
     ghost Value = { EdgesOfOne };
 
-    ghost view = { λ r. record { edges = r.edges.items; reached = r.reached } };
+    ghost view = { λ r. record { edges = r.edges.items; reached = r.reached.items } };
 
-    ghost invariant = { λ r. IsRow r.edges.items r.reached };
+    ghost invariant = { λ r. IsRow r.edges.items r.reached.items };
 }
 
 fn comes_before(one: &Edge, other: &Edge) -> bool
@@ -83,19 +83,53 @@ fn put(edges: &mut Vec<Edge>, edge: Edge)
 }
 
 /// Whether an edge to the same hart has asked for as much.
-fn is_reached(reached: &[Count; HART_ROW], edge: &Edge) -> bool
+fn is_reached(reached: &[Count], edge: &Edge) -> bool
     ensures { IsTrue result ↔ edge.now.after ≤ slice_index reached.now edge.now.other }
 {
-    edge.after <= reached[edge.other.index()]
+    match reached.get(edge.other.index()) {
+        Some(count) => edge.after <= *count,
+        None => edge.after == 0,
+    }
+}
+
+/// Sees to it that so many harts have a place.
+fn reach_to(reached: &mut Vec<Count>, harts: usize) -> Result<(), Memory>
+    ensures same { (hart : ℕ) → slice_index reached.new.items hart ≡ slice_index reached.old.items hart }
+    ensures harts { OnOk result (harts ≤ length reached.new.items) }
+{
+    if reached.len() < harts {
+        reached.resize(harts, 0)?;
+    }
+    Ok(())
+}
+
+/// Makes room for so many more edges, and for what they ask of so many harts.
+fn make_room(
+    edges: &mut Vec<Edge>,
+    reached: &mut Vec<Count>,
+    more: usize,
+    harts: usize,
+) -> Result<(), Memory>
+    requires { IsRow edges.old.items reached.old.items }
+    ensures row { IsRow edges.new.items reached.new.items }
+    ensures edges { edges.new.items ≡ edges.old.items }
+    ensures same { (hart : ℕ) → slice_index reached.new.items hart ≡ slice_index reached.old.items hart }
+    ensures room { OnOk result (vec_len edges.new + more ≤ vec_capacity edges.new) }
+    ensures harts { OnOk result (harts ≤ length reached.new.items) }
+{
+    edges.reserve(more)?;
+    reach_to(reached, harts)
 }
 
 /// Puts an edge that none of them implies in its place, where there is room for one more.
-fn put_new(edges: &mut Vec<Edge>, reached: &mut [Count; HART_ROW], edge: Edge)
-    requires row { IsRow edges.old.items reached.old }
+fn put_new(edges: &mut Vec<Edge>, reached: &mut Vec<Count>, edge: Edge)
+    requires row { IsRow edges.old.items reached.old.items }
+    requires hart { edge.other < length reached.old.items }
     requires last { All (λ e. e.at ≤ edge.at) edges.old.items }
-    requires more { slice_index reached.old edge.other < edge.after }
+    requires more { slice_index reached.old.items edge.other < edge.after }
     requires room { vec_len edges.old < vec_capacity edges.old }
-    ensures row { IsRow edges.new.items reached.new }
+    ensures row { IsRow edges.new.items reached.new.items }
+    ensures harts { length reached.new.items ≡ length reached.old.items }
     ensures put { IsPut edges.old.items edge edges.new.items }
     ensures one_more { vec_len edges.new ≤ vec_len edges.old + 1 }
     ensures capacity { vec_capacity edges.old ≤ vec_capacity edges.new }
@@ -107,29 +141,32 @@ fn put_new(edges: &mut Vec<Edge>, reached: &mut [Count; HART_ROW], edge: Edge)
 }
 
 /// Adds an edge, where there is room for one more, unless the start or one of them implies it.
-fn add_one(edges: &mut Vec<Edge>, reached: &mut [Count; HART_ROW], start: &Counts, edge: Edge)
-    requires row { IsRow edges.old.items reached.old }
+fn add_one(edges: &mut Vec<Edge>, reached: &mut Vec<Count>, start: &Counts, edge: Edge)
+    requires row { IsRow edges.old.items reached.old.items }
+    requires harts { length start.now ≤ length reached.old.items }
     requires other { edge.other < length start.now }
     requires last { All (λ e. e.at ≤ edge.at) edges.old.items }
     requires room { vec_len edges.old < vec_capacity edges.old }
-    ensures row { IsRow edges.new.items reached.new }
+    ensures row { IsRow edges.new.items reached.new.items }
+    ensures harts { length reached.new.items ≡ length reached.old.items }
     ensures takes { Takes start.now edges.old.items edge edges.new.items }
     ensures one_more { vec_len edges.new ≤ vec_len edges.old + 1 }
     ensures capacity { vec_capacity edges.old ≤ vec_capacity edges.new }
 {
-    if edge.after > start.get(edge.other) && !is_reached(reached, &edge) {
+    if edge.after > start.get(edge.other) && !is_reached(reached.as_slice(), &edge) {
         put_new(edges, reached, edge);
     }
 }
 
 /// Adds edges in their order, where there is room for all, but those that the start or one of them implies.
-fn add_each(edges: &mut Vec<Edge>, reached: &mut [Count; HART_ROW], start: &Counts, more: &[Edge])
-    requires row { IsRow edges.old.items reached.old }
+fn add_each(edges: &mut Vec<Edge>, reached: &mut Vec<Count>, start: &Counts, more: &[Edge])
+    requires row { IsRow edges.old.items reached.old.items }
+    requires harts { length start.now ≤ length reached.old.items }
     requires others { All (λ e. e.other < length start.now) more.now }
     requires last { All (λ e. All (λ x. x.at ≤ e.at) edges.old.items) more.now }
     requires rising { AllPairs (λ a b. a.at ≤ b.at) more.now }
     requires room { vec_len edges.old + length more.now ≤ vec_capacity edges.old }
-    ensures row { IsRow edges.new.items reached.new }
+    ensures row { IsRow edges.new.items reached.new.items }
     ensures takes { TakesAll start.now edges.old.items more.now edges.new.items }
 {
     for edge in more {
@@ -205,7 +242,7 @@ impl Row {
     {
         Row {
             edges: Vec::new(alloc),
-            reached: [0; HART_ROW],
+            reached: Vec::new(alloc),
         }
     }
 
@@ -220,7 +257,7 @@ impl Row {
     {
         Ok(Row {
             edges: self.edges.clone()?,
-            reached: self.reached,
+            reached: self.reached.clone()?,
         })
     }
 
@@ -290,10 +327,11 @@ impl Row {
         ensures put { result ≡ Ok Added.New → IsPut self.old.edges edge self.new.edges }
         ensures kept { (result ≡ Ok Added.New → ⊥) → self.new.edges ≡ self.old.edges }
     {
-        if is_reached(&self.reached, &edge) {
+        if is_reached(self.reached.as_slice(), &edge) {
             return Ok(Added::Implied);
         }
-        self.edges.reserve(1)?;
+        let harts = edge.other.index() + 1;
+        make_room(&mut self.edges, &mut self.reached, 1, harts)?;
         put_new(&mut self.edges, &mut self.reached, edge);
         Ok(Added::New)
     }
@@ -306,7 +344,8 @@ impl Row {
         ensures takes { OnOk result (TakesAll start.now self.old.edges edges.now self.new.edges) }
         ensures err { OnErr result (self.new.edges ≡ self.old.edges) }
     {
-        self.edges.reserve(edges.len())?;
+        let harts = start.harts() as usize;
+        make_room(&mut self.edges, &mut self.reached, edges.len(), harts)?;
         add_each(&mut self.edges, &mut self.reached, start, edges);
         Ok(())
     }

@@ -7,7 +7,8 @@ use Rattle.edge_log.proofs.row.add_each.Given as goal
 abbrev pub invariant-loop-edge : goal.invariant-loop-edge
 invariant-loop-edge l =
     record {
-      row : IsRow l.edges.items l.reached;
+      row : IsRow l.edges.items l.reached.items;
+      harts : length l.start ≤ length l.reached.items;
       room : vec_len l.edges + length l.more ≤ vec_capacity l.edges + l.edge-index;
       last : AllWithin (λ e. All (λ x. x.at ≤ e.at) l.edges.items) l.more l.edge-index (length l.more);
       takes :

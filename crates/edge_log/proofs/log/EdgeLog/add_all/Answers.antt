@@ -1,6 +1,6 @@
 use Rattle.std.proofs.Common.{◌++◌, List, map, set, get_or, OnOk, All, Contains, subst, sym, ap, ◌∙◌}
 use Rattle.std.specs.List.{flat_map}
-use Rattle.std.proofs.lemmas.Result.{on_ok_weaker}
+use Rattle.std.proofs.lemmas.Result.{on_ok_weaker, on_err_weaker}
 use Rattle.ft_types.specs.Counts.{count_at}
 use Rattle.interleaving.specs.Log.{Edge as edge_of_theory}
 use Rattle.interleaving.specs.Cuts.{IsEnough}
@@ -8,7 +8,7 @@ use Rattle.interleaving.proofs.Cuts.{same_order}
 use Rattle.edge_log.specs.declared.Edge.{Edge}
 use Rattle.edge_log.specs.Rows.{TakesAll}
 use Rattle.edge_log.specs.EdgeLog.{Edges, row_of, edges_of, edge_as, start_of, IsOfHart, AreAdded}
-use Rattle.edge_log.proofs.Settled.{IsSettled, all_own, other_rows, row_settled, settled_among, log_kept}
+use Rattle.edge_log.proofs.Settled.{IsSettled, all_own, other_rows, same_left, row_settled, settled_among, log_kept}
 use Rattle.edge_log.proofs.log.EdgeLog.add_all.Goals as goal
 
 -- the rows that are left
@@ -45,6 +45,15 @@ pub invariant_of-self : goal.invariant_of-self
 invariant_of-self c =
     log_kept c.self.inside.start c.self.inside.rows c.self.invariant c.index.result c.index.ensures.below c.index-self-index.result c.add_all.new.self
     c.add_all.result c.args.edges.now (own c) c.add_all.ensures.takes c.add_all.ensures.err
+
+pub returns-clause-err : goal.returns-clause-err
+returns-clause-err c =
+    on_err_weaker c.add_all.result
+    (λ kept.
+    ap (λ (rows : List (List Edge)). let v : Edges = record { start = c.self.inside.start; rows = rows } in v)
+    (same_left c.self.inside.start c.self.inside.rows c.self.invariant c.index.result c.index.ensures.below c.index-self-index.result c.add_all.new.self kept) ∙
+    c.self.view_is)
+    c.add_all.ensures.err
 
 pub returns-clause-others_kept : goal.returns-clause-others_kept
 returns-clause-others_kept c other ne =
