@@ -99,6 +99,13 @@ fn greater_count(one: Option<Count>, other: Option<Count>) -> Option<Count>
     }
 }
 
+/// No hart has left.
+fn nobody_left() -> [Option<Count>; HART_ROW]
+    ensures { (hart : ℕ) → slice_index_or result hart None ≡ None }
+{
+    [None; HART_ROW]
+}
+
 /// The counts on leaving, with this hart's.
 fn with_count(
     left: [Option<Count>; HART_ROW],
@@ -135,7 +142,7 @@ impl PageRight {
         PageRight::Shared {
             since: None,
             readers: HartSet::new(),
-            left: [None; HART_ROW],
+            left: nobody_left(),
         }
     }
 
@@ -356,7 +363,7 @@ impl PageRight {
         PageRight::Shared {
             since: Some(LastWriter { hart, count }),
             readers,
-            left: [None; HART_ROW],
+            left: nobody_left(),
         }
     }
 }
