@@ -2,3 +2,4 @@ pub mod Page
 pub mod Laws
 pub mod Histories
 mod Owed
+mod Reaches

@@ -120,10 +120,23 @@ pub same_hart : (a b : ℕ) → not (a == b) ≡ false → a ≡ b
 same_hart a b is = elim (cases_eq a b) [ inl same ↦ same | inr ne ↦ absurd (true≢false (sym (ap not (ne_eqb a b ne)) ∙ is)) ]
 
 -- of all harts
-pub all_owed : (r : Right) (h : ℕ) (want : Want) (at n : ℕ) (v : SmallVec Edge) → SoFar r h want at n v → HART_LIMIT ≤ n → (x : Edge) →
-    Contains v.items x ↔ IsOwed r h want at (edge_as x)
-all_owed r h want at n v so all x =
-    ((λ is_in. ((so.exact x).0 is_in).1), (λ owed. (so.exact x).1 (let l : x.other < HART_LIMIT = owed.is_hart in omega arith, owed)))
+pub all_owed : (r : Right) (h : ℕ) (want : Want) (at n : ℕ) (v : SmallVec Edge) → SoFar r h want at n v →
+    ((x : Edge) → IsOwed r h want at (edge_as x) → x.other < n) → (x : Edge) → Contains v.items x ↔ IsOwed r h want at (edge_as x)
+all_owed r h want at n v so within x = ((λ is_in. ((so.exact x).0 is_in).1), (λ owed. (so.exact x).1 (within x owed, owed)))
+
+-- an edge is owed to a hart that the page's right names
+pub owed_within : (right : PageRight) (since : Option LastWriter) (readers : List Bool) (left : List (Option ℕ)) (h : ℕ) (want : Want) (at n reach : ℕ) →
+    right ≡ stored.Shared since readers left →
+    ((is : ℕ → Bool) (asked : Want) (other : ℕ) → reach ≤ other → after_count (Shared since is (λ g. get_or left g None)) asked other ≡ None) →
+    reach ≤ n → (x : Edge) → IsOwed (right_of right) h want at (edge_as x) → x.other < n
+owed_within right since readers left h want at n reach is beyond most x owed =
+    elim (cases_lt x.other n) [
+      | inl less ↦ less
+      | inr more ↦
+          let none = beyond (λ g. get_or readers g false) want x.other (omega (arith, more, most)) in
+          let some = subst (λ (s : PageRight). after_count (right_of s) want x.other ≡ Some x.after) is owed.after in
+          let clash = sym none ∙ some in cc
+    ]
 
 pub count_is : (right : PageRight) (since : Option LastWriter) (readers : List Bool) (left : List (Option ℕ)) (want : Want) (n other : ℕ) (result : Option ℕ) →
     right ≡ stored.Shared since readers left → other ≡ n →

@@ -6,8 +6,10 @@ ghost use Rattle.crew_pages.specs.Histories.{KeepsOrder};
 ghost use Rattle.crew_pages.specs.Page.{Begins, KeepsGoingOn, KeepsGivingUp, KeepsLowering, KeepsGiving};
 ghost use Rattle.crew_pages.specs.Page.{OwesSettled, PutsBefore, OneWriter, GivesIt};
 
+mod left_at;
 mod right;
 
+pub use left_at::LeftAt;
 pub use right::{Ask, LastWriter, PageRight};
 
 /// Whoever takes the right to a page comes, by the edges given, after every earlier step that conflicts with what it may

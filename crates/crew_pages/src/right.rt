@@ -3,12 +3,14 @@
 ghost use Rattle.std.specs.Prelude.{◌≡◌, ◌≢◌, ℕ, ◌+◌, ◌<◌, ◌≤◌, ◌↔◌, Bool, false, true, AllPairs, Contains, length, slice_index, Option, Some, None};
 ghost use Rattle.std.specs.Prelude.{slice_index_or, slice_set};
 ghost use Rattle.ft_types.specs.Sets.{IsMember};
+ghost use Rattle.ft_types.specs.declared.names.Want.{Want as WantName};
 ghost use Rattle.smallvec.specs.SmallVec.{small_vec_len};
 ghost use Rattle.edge_log.specs.EdgeLog.{edge_as};
 ghost use Rattle.crew_pages.specs.Rights.{right_of, unused, holds, owns, has_it, stands, IsFree, count_of, greater, after_count, IsOwed, given, give_up, lower};
 ghost use Rattle.crew_pages.specs.Rights.{nobody, Shared};
 ghost use Rattle.crew_pages.specs.Answers.{OnHeldBy, OnGiven, IfHeldBy, IfGiven};
 
+use crate::left_at::LeftAt;
 use edge_log::Edge;
 use ft_types::{Count, Counts, HART_LIMIT, HART_ROW, Hart, HartSet, Want};
 use smallvec::SmallVec;
@@ -34,7 +36,7 @@ pub enum PageRight {
         /// The harts that may read.
         readers: HartSet,
         /// For each hart that read since then and left, its count on leaving.
-        left: [Option<Count>; HART_ROW],
+        left: LeftAt,
     },
     /// One hart may read and write.
     Exclusive {
@@ -45,7 +47,7 @@ pub enum PageRight {
         /// The last writer before it.
         since: Option<LastWriter>,
         /// For each hart that read since that one and left, its count on leaving.
-        left: [Option<Count>; HART_ROW],
+        left: LeftAt,
     },
 }
 
@@ -62,6 +64,9 @@ pub enum Ask {
 fn without(set: HartSet, hart: Hart) -> HartSet
     ensures { (g : ℕ) → IsMember result g ↔ ((g ≢ hart) × IsMember set g) }
 {
+    if !set.contains(hart) {
+        return set;
+    }
     let mut others = HartSet::new();
     for number in 0..HART_LIMIT {
         let other = Hart::new(number);
@@ -99,38 +104,25 @@ fn greater_count(one: Option<Count>, other: Option<Count>) -> Option<Count>
     }
 }
 
-/// No hart has left.
-fn nobody_left() -> [Option<Count>; HART_ROW]
-    ensures { (hart : ℕ) → slice_index_or result hart None ≡ None }
-{
-    [None; HART_ROW]
-}
-
-/// The counts on leaving, with this hart's.
-fn with_count(
-    left: [Option<Count>; HART_ROW],
-    hart: Hart,
-    count: Count,
-) -> [Option<Count>; HART_ROW]
-    ensures { result ≡ slice_set left hart (Some count) }
-{
-    let mut counts = left;
-    counts[hart.index()] = Some(count);
-    counts
-}
-
 /// The count of another hart that an asker for a shared page comes after.
-fn count_before(
-    since: &Option<LastWriter>,
-    left: &[Option<Count>; HART_ROW],
-    want: Want,
-    other: Hart,
-) -> Option<Count>
+fn count_before(since: &Option<LastWriter>, left: &LeftAt, want: Want, other: Hart) -> Option<Count>
     ensures { (readers : ℕ → Bool) → result ≡ after_count (Shared since.now readers (λ g. slice_index_or left.now g None)) want other }
 {
     match want {
         Want::Read => count_since(since, other),
-        Want::Write => greater_count(count_since(since, other), left[other.index()]),
+        Want::Write => greater_count(count_since(since, other), left.get(other)),
+    }
+}
+
+/// From this hart on, an asker for a shared page comes after none.
+fn reach_of(since: &Option<LastWriter>, left: &LeftAt) -> u8
+    ensures limit { result ≤ HART_LIMIT }
+    ensures beyond { (readers : ℕ → Bool) (want : WantName) (other : ℕ) → result ≤ other →
+        after_count (Shared since.now readers (λ g. slice_index_or left.now g None)) want other ≡ None }
+{
+    match *since {
+        None => left.reach(),
+        Some(writer) => left.reach().max(writer.hart.number() + 1),
     }
 }
 
@@ -142,7 +134,7 @@ impl PageRight {
         PageRight::Shared {
             since: None,
             readers: HartSet::new(),
-            left: nobody_left(),
+            left: LeftAt::none(),
         }
     }
 
@@ -173,6 +165,19 @@ impl PageRight {
         match want {
             Want::Read => self.holds(hart),
             Want::Write => self.owns(hart),
+        }
+    }
+
+    /// Whether the other hart's right stands against what the hart wants.
+    pub fn stands(&self, hart: Hart, want: Want, other: Hart) -> bool
+        ensures { result ≡ stands (right_of self.now) hart want other }
+    {
+        match *self {
+            PageRight::Shared { readers, .. } => match want {
+                Want::Read => false,
+                Want::Write => other != hart && readers.contains(other),
+            },
+            PageRight::Exclusive { owner, .. } => other != hart && owner == other,
         }
     }
 
@@ -212,7 +217,7 @@ impl PageRight {
         let PageRight::Shared { since, left, .. } = *self else {
             return edges;
         };
-        for number in 0..HART_LIMIT {
+        for number in 0..reach_of(&since, &left) {
             let other = Hart::new(number);
             let before = count_before(&since, &left, want, other);
             if let Some(after) = before {
@@ -310,7 +315,7 @@ impl PageRight {
             } => PageRight::Shared {
                 since,
                 readers: without(readers, hart),
-                left: with_count(left, hart, count),
+                left: left.with(hart, count),
             },
             PageRight::Exclusive {
                 owner,
@@ -324,7 +329,7 @@ impl PageRight {
                     PageRight::Shared {
                         since,
                         readers: HartSet::new(),
-                        left: with_count(left, owner, count),
+                        left: left.with(owner, count),
                     }
                 }
             }
@@ -363,7 +368,7 @@ impl PageRight {
         PageRight::Shared {
             since: Some(LastWriter { hart, count }),
             readers,
-            left: nobody_left(),
+            left: LeftAt::none(),
         }
     }
 }
