@@ -5,18 +5,18 @@ ghost use Rattle.book_modes.specs.Words.{HasRoomFor, lent_with, small_vec_len};
 ghost use Rattle.book_modes.specs.Dues.{DueView, nothing_due, bell_edges, is_silent};
 
 use edge_log::Edge;
-use ft_types::{Count, HART_ROW, Hart, INPUT_LIMIT};
-use hart_lease::Lent;
+use ft_types::{Count, Hart, INPUT_LIMIT};
+use hart_lease::{EDGE_ROOM, Lent};
 use input_log::{Input, WaitingBell};
 use smallvec::SmallVec;
 use std::alloc::Global;
 use std::marker::Model;
 
 /// What a hart's next step is given, until it is settled: its inputs, and the edges from the harts whose bells it hears:
-/// `INPUT_LIMIT` inputs at most, and an edge for each hart.
+/// `INPUT_LIMIT` inputs at the most, and at most an edge for each.
 pub struct Due {
     inputs: SmallVec<Input, INPUT_LIMIT>,
-    edges: SmallVec<Edge, HART_ROW>,
+    edges: SmallVec<Edge, EDGE_ROOM>,
 }
 
 impl Drop for Due {
@@ -31,13 +31,14 @@ impl Drop for Due {
 impl Model for Due {
     ghost use Rattle.std.specs.Prelude.{◌≤◌, length};
     ghost use Rattle.book_modes.specs.Dues.{DueView};
-    ghost use Rattle.ft_types.specs.declared.names.TheConstants.{HART_ROW, INPUT_LIMIT};
+    ghost use Rattle.ft_types.specs.declared.names.TheConstants.{INPUT_LIMIT};
+    ghost use Rattle.hart_lease.specs.declared.lent.TheConstants.{EDGE_ROOM};
 
     ghost Value = { DueView };
 
     ghost view = { λ d. record { inputs = d.inputs.items; edges = d.edges.items } };
 
-    ghost invariant = { λ d. (length d.inputs.items ≤ INPUT_LIMIT) × (length d.edges.items ≤ HART_ROW) };
+    ghost invariant = { λ d. (length d.inputs.items ≤ INPUT_LIMIT) × (length d.edges.items ≤ EDGE_ROOM) };
 }
 
 /// The edges from harts whose bells this hart hears at this count.
@@ -46,10 +47,10 @@ fn edges_of(
     hart: Hart,
     count: Count,
     bells: &[WaitingBell],
-) -> SmallVec<Edge, HART_ROW>
+) -> SmallVec<Edge, EDGE_ROOM>
     requires { length bells.now ≤ INPUT_LIMIT }
     ensures value { result.items ≡ bell_edges hart count bells.now }
-    ensures few { length result.items ≤ HART_ROW }
+    ensures few { length result.items ≤ EDGE_ROOM }
 {
     let mut edges = SmallVec::new(alloc);
     for bell in bells {

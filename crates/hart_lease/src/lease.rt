@@ -17,12 +17,12 @@ ghost use Rattle.hart_lease.specs.Leases.{with_page_to_read, with_page_to_write}
 use crate::alike::{is_base, same_edges, same_inputs};
 use crate::asked::Asked;
 use crate::lease_pages::{LeasePages, Slot, no_pages};
-use crate::lent::Lent;
+use crate::lent::{EDGE_ROOM, Lent};
 use crate::taken::{Taken, TakenPages};
 use edge_log::Edge;
 use ft_types::{
-    COUNT_LIMIT, Count, HART_LIMIT, HART_ROW, Hart, INPUT_LIMIT, LEASE_STEPS, Memory, PAGE_LIMIT,
-    PageNo, Want,
+    COUNT_LIMIT, Count, HART_LIMIT, Hart, INPUT_LIMIT, LEASE_STEPS, Memory, PAGE_LIMIT, PageNo,
+    Want,
 };
 use guest_image::{Machine, Page, SharedPage};
 use input_log::{Input, WaitingBell};
@@ -48,7 +48,7 @@ pub struct Lease {
     /// The counts at which it took each page.
     taken: TakenPages,
     /// The edges found, which wait until it is settled.
-    edges: SmallVec<Edge, HART_ROW>,
+    edges: SmallVec<Edge, EDGE_ROOM>,
     /// How many steps it takes at the most.
     most: u64,
     stop: Count,
@@ -209,7 +209,7 @@ impl Lease {
     }
 
     /// Puts these edges in place of those that wait, where there are any.
-    pub fn wait_with(&mut self, edges: Option<Box<SmallVec<Edge, HART_ROW>>>)
+    pub fn wait_with(&mut self, edges: Option<Box<SmallVec<Edge, EDGE_ROOM>>>)
         ensures { self.new ≡ record self.old { edges = edges_after edges self.old.edges } }
     {
         if let Some(all) = edges {

@@ -3,17 +3,21 @@
 ghost use Rattle.std.specs.Prelude.{◌≡◌, ◌≤◌, length};
 
 use edge_log::Edge;
-use ft_types::{Count, HART_ROW, INPUT_LIMIT};
+use ft_types::{Count, INPUT_LIMIT};
 use input_log::Input;
 use smallvec::SmallVec;
 use std::marker::Model;
 
+/// The number of edges that lie in a lease itself: those that it goes out with are of bells, which are inputs. Where more wait in
+/// it, they lie in memory of their own.
+pub const EDGE_ROOM: usize = INPUT_LIMIT;
+
 /// What a hart that is lent goes out with: the count that its lease does not go past, the inputs of its next step, and the
-/// edges that this step owes whatever page it uses. At most `INPUT_LIMIT` inputs, and an edge for each hart.
+/// edges that this step owes whatever page it uses. At most `INPUT_LIMIT` inputs, and at most an edge for each.
 pub struct Lent {
     stop: Count,
     inputs: SmallVec<Input, INPUT_LIMIT>,
-    edges: SmallVec<Edge, HART_ROW>,
+    edges: SmallVec<Edge, EDGE_ROOM>,
 }
 
 impl Drop for Lent {
@@ -29,13 +33,14 @@ impl Drop for Lent {
 impl Model for Lent {
     ghost use Rattle.std.specs.Prelude.{◌≤◌, ◌<◌, ◌^◌, length};
     ghost use Rattle.hart_lease.specs.OpenLeases.{LentView};
-    ghost use Rattle.ft_types.specs.declared.names.TheConstants.{HART_ROW, INPUT_LIMIT};
+    ghost use Rattle.ft_types.specs.declared.names.TheConstants.{INPUT_LIMIT};
+    ghost use Rattle.hart_lease.specs.declared.lent.TheConstants.{EDGE_ROOM};
 
     ghost Value = { LentView };
 
     ghost view = { λ l. record { stop = l.stop; inputs = l.inputs.items; edges = l.edges.items } };
 
-    ghost invariant = { λ l. (length l.inputs.items ≤ INPUT_LIMIT) × (length l.edges.items ≤ HART_ROW) };
+    ghost invariant = { λ l. (length l.inputs.items ≤ INPUT_LIMIT) × (length l.edges.items ≤ EDGE_ROOM) };
 }
 
 impl Lent {
@@ -43,10 +48,10 @@ impl Lent {
     pub fn new(
         stop: Count,
         inputs: SmallVec<Input, INPUT_LIMIT>,
-        edges: SmallVec<Edge, HART_ROW>,
+        edges: SmallVec<Edge, EDGE_ROOM>,
     ) -> Lent
         requires inputs { length inputs.items ≤ INPUT_LIMIT }
-        requires edges { length edges.items ≤ HART_ROW }
+        requires edges { length edges.items ≤ EDGE_ROOM }
         ensures { result ≡ record { stop = stop; inputs = inputs.items; edges = edges.items } }
     {
         Lent {
@@ -74,13 +79,13 @@ impl Lent {
     /// The edges of its first step.
     pub(crate) fn edges(&self) -> &[Edge]
         ensures value { result.now ≡ self.now.edges }
-        ensures few { length result.now ≤ HART_ROW }
+        ensures few { length result.now ≤ EDGE_ROOM }
     {
         self.edges.as_slice()
     }
 
     /// The inputs, and the edges.
-    pub(crate) fn into_parts(self) -> (SmallVec<Input, INPUT_LIMIT>, SmallVec<Edge, HART_ROW>)
+    pub(crate) fn into_parts(self) -> (SmallVec<Input, INPUT_LIMIT>, SmallVec<Edge, EDGE_ROOM>)
         ensures inputs { result.0.items ≡ self.inputs }
         ensures edges { result.1.items ≡ self.edges }
         ensures few { length self.inputs ≤ INPUT_LIMIT }

@@ -15,7 +15,7 @@ pub use asked::Asked;
 pub use laws::steps_of_leases;
 pub use lease::Lease;
 pub use lease_pages::{LeasePages, Slot};
-pub use lent::Lent;
+pub use lent::{EDGE_ROOM, Lent};
 pub use open_lease::OpenLease;
 pub use stretch::Stretch;
 pub use taken::{Taken, TakenPages};

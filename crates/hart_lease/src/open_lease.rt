@@ -5,10 +5,10 @@ ghost use Rattle.hart_lease.specs.OpenLeases.{OpenView, edges_after, right_of, o
 ghost use Rattle.hart_lease.specs.Taken.{taken_at, taking};
 
 use crate::asked::Asked;
-use crate::lent::Lent;
+use crate::lent::{EDGE_ROOM, Lent};
 use crate::taken::{self, Taken, TakenPages};
 use edge_log::Edge;
-use ft_types::{Count, HART_ROW, INPUT_LIMIT, PageNo, Want};
+use ft_types::{Count, INPUT_LIMIT, PageNo, Want};
 use input_log::Input;
 use smallvec::SmallVec;
 use std::alloc::Global;
@@ -20,7 +20,7 @@ pub struct OpenLease {
     stop: Count,
     inputs: SmallVec<Input, INPUT_LIMIT>,
     taken: TakenPages,
-    edges: SmallVec<Edge, HART_ROW>,
+    edges: SmallVec<Edge, EDGE_ROOM>,
 }
 
 impl Drop for OpenLease {
@@ -93,7 +93,7 @@ impl OpenLease {
     }
 
     /// Writes down that it was given a right, and which edges wait in it now, where others do.
-    pub fn take(&mut self, asked: &Asked, waiting: Option<Box<SmallVec<Edge, HART_ROW>>>)
+    pub fn take(&mut self, asked: &Asked, waiting: Option<Box<SmallVec<Edge, EDGE_ROOM>>>)
         ensures { self.new ≡ record self.old {
           taken = slice_set self.old.taken asked.now.page
               (Some (taking (taken_at self.old.taken asked.now.page) asked.now.want asked.now.count));

@@ -23,7 +23,7 @@ use ft_types::{
     COUNT_LIMIT, Count, Counts, HART_LIMIT, HART_ROW, Hart, HartSet, Memory, PageNo, Want,
 };
 use guest_image::{Machine, Page, SharedPage};
-use hart_lease::{Asked, Lent, OpenLease, Stretch, TakenPages};
+use hart_lease::{Asked, EDGE_ROOM, Lent, OpenLease, Stretch, TakenPages};
 use input_log::{Input, InputLog};
 use smallvec::SmallVec;
 use std::alloc::Global;
@@ -307,7 +307,7 @@ impl<M: Mode> Book<M> {
         settled: &Counts,
         asked: &Asked,
         found: &[Edge],
-        waiting: Option<Box<SmallVec<Edge, HART_ROW>>>,
+        waiting: Option<Box<SmallVec<Edge, EDGE_ROOM>>>,
     )
         requires asks { IsAsking (M.keeps self.old.mode) self.old.machine self.old.leases asked.now }
         requires free { (g : ℕ) → M.is_holder self.old.mode self.old.leases asked.now g → ⊥ }

@@ -7,7 +7,7 @@ ghost use Rattle.rv32_hart.specs.Hart.{without_outputs};
 use edge_log::Edge;
 use ft_types::{HART_ROW, Hart, Memory, PAGE_LIMIT, PageNo, Want};
 use guest_image::{Page, SharedPage};
-use hart_lease::{Asked, OpenLease};
+use hart_lease::{Asked, EDGE_ROOM, OpenLease};
 use rv32_hart::HartState;
 use smallvec::SmallVec;
 use std::alloc::Global;
@@ -46,7 +46,7 @@ pub(crate) fn with_edges(
     alloc: Global,
     waiting: &[Edge],
     found: &[Edge],
-) -> Result<Option<Box<SmallVec<Edge, HART_ROW>>>, Memory>
+) -> Result<Option<Box<SmallVec<Edge, EDGE_ROOM>>>, Memory>
     ensures { IfOk result (λ all. edges_after all waiting.now ≡ waiting.now ++ found.now) }
 {
     if found.is_empty() {
@@ -62,7 +62,7 @@ fn joined(
     alloc: Global,
     waiting: &[Edge],
     found: &[Edge],
-) -> Result<Box<SmallVec<Edge, HART_ROW>>, Memory>
+) -> Result<Box<SmallVec<Edge, EDGE_ROOM>>, Memory>
     ensures { IfOk result (λ all. all.value.items ≡ waiting.now ++ found.now) }
 {
     let mut all = SmallVec::from_slice(alloc, waiting)?;
@@ -125,7 +125,7 @@ pub(crate) fn note_taken(
     lease: &mut Option<OpenLease>,
     asked: &Asked,
     _found: &[Edge],
-    waiting: Option<Box<SmallVec<Edge, HART_ROW>>>,
+    waiting: Option<Box<SmallVec<Edge, EDGE_ROOM>>>,
 )
     requires { (lent : OpenView) → lease.old ≡ Some lent → edges_after waiting lent.edges ≡ lent.edges ++ _found.now }
     ensures { lease.new ≡ given_more lease.old asked.now.page asked.now.want asked.now.count _found.now }
