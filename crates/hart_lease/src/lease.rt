@@ -459,6 +459,9 @@ impl Lease {
             ((other : ℕ) → other ≢ t → bells_rung self.now other ≡ [])) }
         ensures none { IfNone result ((target : ℕ) → bells_rung self.now target ≡ []) }
     {
+        if self.present.rings() == self.base.rings() {
+            return None;
+        }
         let now = self.present.rung();
         let before = self.base.rung();
         for number in 0..HART_LIMIT {
