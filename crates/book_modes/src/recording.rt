@@ -119,11 +119,10 @@ fn takes(lease: &Option<OpenLease>, page: PageNo) -> bool
     }
 }
 
-/// What the hart keeps of a right, at its present count.
-fn right_kept(right: PageRight, hart: Hart, count: Count, keep: Keep) -> PageRight
-    ensures { right_of result ≡ kept (keep_as keep) (right_of right) hart count }
+/// The hart keeps what it is told of a right, at its present count.
+fn keep_right(right: &mut PageRight, hart: Hart, count: Count, keep: Keep)
+    ensures { right_of right.new ≡ kept (keep_as keep) (right_of right.old) hart count }
 {
-    let mut right = right;
     match keep {
         Keep::All => {}
         Keep::Readable => {
@@ -137,7 +136,6 @@ fn right_kept(right: PageRight, hart: Hart, count: Count, keep: Keep) -> PageRig
             }
         }
     }
-    right
 }
 
 impl Recording {
@@ -315,7 +313,7 @@ impl Recording {
             return;
         }
         for page in 0..self.rights.len() {
-            self.rights[page] = right_kept(self.rights[page], hart, count, keep);
+            keep_right(&mut self.rights[page], hart, count, keep);
         }
     }
 
@@ -360,8 +358,7 @@ impl Recording {
         if !takes(&leases[other.index()], asked.page) {
             return false;
         }
-        let right = self.rights[asked.page.index()];
-        right.against(asked.hart, asked.want).contains(other)
+        self.rights[asked.page.index()].stands(asked.hart, asked.want, other)
     }
 
     /// The harts whose right stands in the asker's way, and whose open leases have taken the page.

@@ -29,7 +29,7 @@ pub(crate) fn right_yielded(right: PageRight, settled: &Counts, asked: &Asked) -
     let mut right = right;
     for number in 0..HART_LIMIT {
         let other = Hart::new(number);
-        if right.against(asked.hart, asked.want).contains(other) {
+        if right.stands(asked.hart, asked.want, other) {
             right.give_up(other, count_of(*settled, other));
         }
     }

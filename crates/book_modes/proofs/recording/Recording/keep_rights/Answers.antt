@@ -21,10 +21,10 @@ loop-page-preserved c =
       due = now.due;
       desk = now.desk;
       rights =
-          changed_more _ _ _ _ so_far c.right_kept.result within
-          (c.right_kept.ensures ∙
+          changed_more _ _ _ _ so_far c.keep_right.new.right within
+          (c.keep_right.ensures ∙
           ap (λ (right : Right). kept (keep_as c.args.keep) right c.args.hart c.args.count)
-          (ap right_of c.index.ensures ∙ sym (right_there c.loop-page.self-inside.rights.items c.loop-page.page c.index.result.now there)));
+          (ap right_of c.index_mut.ensures.value ∙ sym (right_there c.loop-page.self-inside.rights.items c.loop-page.page c.index_mut.result.now there)));
     }
 
 pub returns-clause-rest : goal.returns-clause-rest
