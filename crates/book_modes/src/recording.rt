@@ -41,7 +41,7 @@ pub struct Recording {
     edges: EdgeLog,
     inputs: InputLog,
     /// What each hart's next step is given.
-    due: [Due; HART_ROW],
+    due: Box<[Due; HART_ROW]>,
     /// What waits for later steps.
     desk: Desk,
 }
@@ -64,7 +64,7 @@ impl Model for Recording {
 
     ghost Value = { RecordingView };
 
-    ghost view = { λ r. record { limits = r.limits; rights = r.rights.items; edges = r.edges; inputs = r.inputs; due = r.due; desk = r.desk } };
+    ghost view = { λ r. record { limits = r.limits; rights = r.rights.items; edges = r.edges; inputs = r.inputs; due = r.due.value; desk = r.desk } };
 }
 
 fn unused_rights(alloc: Global, pages: u16) -> Result<Vec<PageRight>, Memory>
@@ -80,6 +80,13 @@ fn nothing_due(alloc: Global) -> [Due; HART_ROW]
     ensures { result ≡ replicate HART_ROW nothing_due }
 {
     array::from_fn(|_| Due::nothing(alloc))
+}
+
+/// What is due to each hart, in memory of its own.
+fn dues_boxed(alloc: Global, due: [Due; HART_ROW]) -> Result<Box<[Due; HART_ROW]>, Memory>
+    ensures { IfOk result (λ boxed. boxed.value ≡ due) }
+{
+    Ok(Box::new(alloc, due)?)
 }
 
 fn rights_copied(rights: &Vec<PageRight>) -> Result<Vec<PageRight>, Memory>
@@ -152,7 +159,7 @@ impl Recording {
             rights,
             edges,
             inputs: InputLog::new(alloc),
-            due: nothing_due(alloc),
+            due: dues_boxed(alloc, nothing_due(alloc))?,
             desk,
         })
     }
@@ -434,7 +441,7 @@ impl Mode for Recording {
             rights: rights_copied(&self.rights)?,
             edges: self.edges.copy()?,
             inputs: self.inputs.copy()?,
-            due: dues_copied(alloc, &self.due),
+            due: dues_boxed(alloc, dues_copied(alloc, &*self.due))?,
             desk: self.desk.copy()?,
         })
     }

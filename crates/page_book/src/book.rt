@@ -35,7 +35,7 @@ pub struct Book<M: Mode> {
     start: Machine,
     machine: Machine,
     journal: Vec<Stretch>,
-    leases: [Option<OpenLease>; HART_ROW],
+    leases: Box<[Option<OpenLease>; HART_ROW]>,
     mode: M,
 }
 
@@ -56,10 +56,10 @@ impl<M: Mode> Model for Book<M> {
 
     ghost Value = { BookView M };
 
-    ghost view = { λ b. record { start = b.start; machine = b.machine; journal = b.journal.items; leases = b.leases; mode = b.mode } };
+    ghost view = { λ b. record { start = b.start; machine = b.machine; journal = b.journal.items; leases = b.leases.value; mode = b.mode } };
 
-    ghost invariant = { λ b. IsBook b.start b.machine b.journal.items b.leases (M.stops b.mode) (M.obeyed b.mode) (M.heard b.mode)
-        (M.keeps b.mode b.start b.machine b.journal.items b.leases) };
+    ghost invariant = { λ b. IsBook b.start b.machine b.journal.items b.leases.value (M.stops b.mode) (M.obeyed b.mode) (M.heard b.mode)
+        (M.keeps b.mode b.start b.machine b.journal.items b.leases.value) };
 }
 
 impl Book<Replaying> {
@@ -68,11 +68,12 @@ impl Book<Replaying> {
         ensures { IfOk result (λ b. b ≡ record { start = start; machine = start; journal = []; leases = replicate HART_ROW None; mode = leg }) }
     {
         let machine = start.copy()?;
+        let leases = no_leases(alloc)?;
         Ok(Book {
             start,
             machine,
             journal: Vec::new(alloc),
-            leases: no_leases(),
+            leases,
             mode: Replaying::new(leg),
         })
     }
@@ -87,11 +88,12 @@ impl Book<Recording> {
     {
         let mode = Recording::new(alloc, &start, limits)?;
         let machine = start.copy()?;
+        let leases = no_leases(alloc)?;
         Ok(Book {
             start,
             machine,
             journal: Vec::new(alloc),
-            leases: no_leases(),
+            leases,
             mode,
         })
     }
@@ -406,7 +408,7 @@ impl<M: Mode> Book<M> {
     {
         let own = &mut *lease.own;
         let asked = own.asks(page, want);
-        let harts = self.mode.holders(&self.leases, &asked);
+        let harts = self.mode.holders(&*self.leases, &asked);
         if !harts.is_empty() {
             return Ok(Need::HeldBy(harts));
         }
@@ -568,7 +570,7 @@ impl<M: Mode> Book<M> {
             start: self.start.copy()?,
             machine: self.machine.copy()?,
             journal: journal_copied(&self.journal)?,
-            leases: no_leases(),
+            leases: no_leases(*self.journal.allocator())?,
             mode: self.mode.copy()?,
         })
     }

@@ -14,10 +14,17 @@ use std::alloc::Global;
 use std::array;
 
 /// No hart has an open lease.
-pub(crate) fn no_leases() -> [Option<OpenLease>; HART_ROW]
+fn none_open() -> [Option<OpenLease>; HART_ROW]
     ensures { result ≡ replicate HART_ROW None }
 {
     array::from_fn(|_| None)
+}
+
+/// The same, in memory of their own.
+pub(crate) fn no_leases(alloc: Global) -> Result<Box<[Option<OpenLease>; HART_ROW]>, Memory>
+    ensures { IfOk result (λ leases. leases.value ≡ replicate HART_ROW None) }
+{
+    Ok(Box::new(alloc, none_open())?)
 }
 
 /// A lease of a hart in this state but for its outputs, without steps and pages, which may not take any yet.

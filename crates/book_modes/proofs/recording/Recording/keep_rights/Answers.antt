@@ -37,7 +37,7 @@ returns-clause-rest c =
       rights = c.loop-page.self-inside.rights.items;
       edges = now.edges i;
       inputs = now.inputs i;
-      due = now.due i;
+      due = (now.due i).value;
       desk = now.desk i;
     })
 

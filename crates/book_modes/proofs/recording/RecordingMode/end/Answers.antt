@@ -69,7 +69,7 @@ after c = record {
   rights = c.loop-page.self-inside.rights.items;
   edges = c.loop-page.self-inside.edges;
   inputs = c.loop-page.self-inside.inputs;
-  due = c.loop-page.self-inside.due;
+  due = c.loop-page.self-inside.due.value;
   desk = c.loop-page.self-inside.desk;
 }
 
@@ -86,7 +86,7 @@ is_ended c =
             rights = c.loop-page.self-inside.rights.items;
             edges = now.edges i;
             inputs = now.inputs i;
-            due = now.due i;
+            due = (now.due i).value;
             desk = now.desk i;
           };
       many = now.rights.many;

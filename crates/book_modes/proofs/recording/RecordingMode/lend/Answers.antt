@@ -11,10 +11,10 @@ use Rattle.book_modes.proofs.recording.RecordingMode.lend.Goals as goal
 
 pub returns-clause-lent : goal.returns-clause-lent
 returns-clause-lent c =
-    let row : c.args.hart < length c.self.inside.due = search rules in
-    let there : slice_index_or c.self.inside.due c.index.result c.index-self-index.result ≡ due_at c.fill_due.new.self.due c.args.hart =
-    ap (λ k. slice_index_or c.self.inside.due k c.index-self-index.result) c.index.ensures.value ∙
-    (get_or_default c.self.inside.due c.args.hart c.index-self-index.result nothing_due row ∙ ap (λ (v : RecordingView). due_at v.due c.args.hart)
+    let row : c.args.hart < length c.self.inside.due.value = search rules in
+    let there : slice_index_or c.self.inside.due.value c.index.result c.index-self-index.result ≡ due_at c.fill_due.new.self.due c.args.hart =
+    ap (λ k. slice_index_or c.self.inside.due.value k c.index-self-index.result) c.index.ensures.value ∙
+    (get_or_default c.self.inside.due.value c.args.hart c.index-self-index.result nothing_due row ∙ ap (λ (v : RecordingView). due_at v.due c.args.hart)
     c.self.view_is) in
     lent_is_due c.args.self.now c.fill_due.new.self c.args.hart c.args.count c.lent.result c.stop_before-stop.result c.fill_due.ensures.filled
     (c.lent.ensures ∙ ap (λ (d : DueView). lent_with c.stop_before-stop.result d.inputs d.edges) there)

@@ -4,4 +4,4 @@ use Rattle.page_book.proofs.book.Book+Recording.inputs.Goals as goal
 pub returns-clause-within : goal.returns-clause-within
 returns-clause-within c hart =
     let i = c.self.inside in
-    rw (c.inputs.ensures, ← c.self.view_is) (logged_within i.mode i.start i.machine i.journal.items i.leases c.self.invariant.keeps hart)
+    rw (c.inputs.ensures, ← c.self.view_is) (logged_within i.mode i.start i.machine i.journal.items i.leases.value c.self.invariant.keeps hart)

@@ -17,6 +17,6 @@ invariant_of-self c =
     let limits = c.args.limits in
     let same : length limits ≡ length i.mode.limits = rw (← c.self.view_is) at c.requires.harts ∙ sym (p.keeps.limits ∙ sym p.harts) in
     rw c.limit_at.ensures
-    (limits_set i.start i.machine i.journal.items i.leases i.mode.limits limits [] (heard_by i.mode) _ _ p (rw (← c.self.view_is) at c.requires.idle)
+    (limits_set i.start i.machine i.journal.items i.leases.value i.mode.limits limits [] (heard_by i.mode) _ _ p (rw (← c.self.view_is) at c.requires.idle)
     (subst (λ (b : BookView RecordingView). (hart : ℕ) → counts_of b.machine hart ≤ count_at limits hart) (sym c.self.view_is) c.requires.settled)
-    (raised_kept i.mode limits i.start i.machine i.journal.items i.leases same p.keeps))
+    (raised_kept i.mode limits i.start i.machine i.journal.items i.leases.value same p.keeps))

@@ -38,10 +38,10 @@ pub edges_owed-found-requires : goal.edges_owed-found-requires
 edges_owed-found-requires g c =
     let i = c.self.inside in
     let l = c.args.lease.now in
-    let ours : IsLentBy (open_at i.leases l.hart) i.machine (whole_in i.machine l) = rw (← c.self.view_is) at c.requires.ours in
+    let ours : IsLentBy (open_at i.leases.value l.hart) i.machine (whole_in i.machine l) = rw (← c.self.view_is) at c.requires.ours in
     let whole : IsLease (whole_in i.machine l) = c.asks-asked.ensures.kept.with_any (outputs_of (slice_get i.machine.harts l.hart)) in
     let there : c.asks-asked.result.page < length i.machine.pages = search rules in
-    let asks : IsAsking (g.M.Mode.keeps i.mode) i.machine i.leases c.asks-asked.result =
+    let asks : IsAsking (g.M.Mode.keeps i.mode) i.machine i.leases.value c.asks-asked.result =
     record {
       start = i.start;
       journal = i.journal.items;
@@ -51,13 +51,13 @@ edges_owed-found-requires g c =
       hart = search rules;
       count = search rules;
       page = there;
-      row = omega (arith, there, whole.counted, (stands_ours (open_at i.leases l.hart) i.machine (whole_in i.machine l) ours).as_many);
+      row = omega (arith, there, whole.counted, (stands_ours (open_at i.leases.value l.hart) i.machine (whole_in i.machine l) ours).as_many);
       limit = search rules;
       kept = c.self.invariant.keeps;
     } in
     record {
       machine = i.machine;
-      leases = i.leases;
+      leases = i.leases.value;
       asks = asks;
       free = λ hart holds. c.requires.free hart (rw (← c.self.view_is, ← c.asks-asked.ensures.value) holds);
       harts = search rules;

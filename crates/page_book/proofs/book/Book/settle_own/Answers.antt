@@ -40,13 +40,13 @@ settle-requires g c =
     let bare = rw d at c.hart-hart.ensures.kept in
     let i = c.self.inside in
     let l = c.lease.inside.own.value in
-    let ours : IsLentBy (open_at i.leases l.hart) i.machine (whole_in i.machine l) = rw (← c.self.view_is, ← c.lease.view_is) at c.requires in
+    let ours : IsLentBy (open_at i.leases.value l.hart) i.machine (whole_in i.machine l) = rw (← c.self.view_is, ← c.lease.view_is) at c.requires in
     let settling : IsSettling (g.M.Mode.keeps i.mode) (whole_in i.machine l) =
     record {
       start = i.start;
       machine = i.machine;
       journal = i.journal.items;
-      leases = i.leases;
+      leases = i.leases.value;
       is_lease = bare.with_any (outputs_of (slice_get i.machine.harts l.hart));
       is_lent = ours;
       counted = c.self.invariant.counted;
@@ -86,14 +86,14 @@ take_back-steps-requires-clause-state g c =
     let m = c.self.inside.machine in
     let l = c.lease.inside.own.value in
     let h = c.hart.result.now in
-    let ours : IsLentBy (open_at c.self.inside.leases l.hart) m (whole_in m l) = rw (← c.self.view_is, ← c.lease.view_is) at c.requires in
+    let ours : IsLentBy (open_at c.self.inside.leases.value l.hart) m (whole_in m l) = rw (← c.self.view_is, ← c.lease.view_is) at c.requires in
     let there : slice_get m.harts l.hart ≡ Some h = rw (← hart_is) c.hart.ensures in
     let new = made_longer m c.add_outputs.new.self l c.hart-hart.result h c.outputs.result.now hart_is outs_are
     (c.in-Ok-add_outputs.ensures.added h c.hart.ensures) in
     rw c.into_inner.ensures (
       longer h l.present.outputs,
       rw new (longer_there m l.hart h l.present.outputs there),
-      base_bare m l h there (stands_ours (open_at c.self.inside.leases l.hart) m (whole_in m l) ours),
+      base_bare m l h there (stands_ours (open_at c.self.inside.leases.value l.hart) m (whole_in m l) ours),
     )
 
 pub take_back-steps-requires-clause-unwritten : goal.take_back-steps-requires-clause-unwritten
@@ -104,10 +104,10 @@ take_back-steps-requires-clause-unwritten g c = λ page bytes is.
     let m = c.self.inside.machine in
     let l = c.lease.inside.own.value in
     let h = c.hart.result.now in
-    let ours : IsLentBy (open_at c.self.inside.leases l.hart) m (whole_in m l) = rw (← c.self.view_is, ← c.lease.view_is) at c.requires in
+    let ours : IsLentBy (open_at c.self.inside.leases.value l.hart) m (whole_in m l) = rw (← c.self.view_is, ← c.lease.view_is) at c.requires in
     let new = made_longer m c.add_outputs.new.self l c.hart-hart.result h c.outputs.result.now hart_is outs_are
     (c.in-Ok-add_outputs.ensures.added h c.hart.ensures) in
-    ap (λ (w : MachineState). slice_get w.pages page) new ∙ read_ours (open_at c.self.inside.leases l.hart) m (whole_in m l) page bytes ours (rw c.into_inner.ensures at is)
+    ap (λ (w : MachineState). slice_get w.pages page) new ∙ read_ours (open_at c.self.inside.leases.value l.hart) m (whole_in m l) page bytes ours (rw c.into_inner.ensures at is)
 
 pub returns-clause-machine : goal.returns-clause-machine
 returns-clause-machine g c =
@@ -136,7 +136,7 @@ invariant_of-self-2 g c =
     let h = c.hart.result.now in
     let earlier = outputs_of (slice_get i.machine.harts l.hart) in
     let w = whole_in i.machine l in
-    let ours : IsLentBy (open_at i.leases l.hart) i.machine w = rw (← c.self.view_is, ← c.lease.view_is) at c.requires in
+    let ours : IsLentBy (open_at i.leases.value l.hart) i.machine w = rw (← c.self.view_is, ← c.lease.view_is) at c.requires in
     let there : slice_get i.machine.harts l.hart ≡ Some h = rw (← hart_is) c.hart.ensures in
     let new = made_longer i.machine c.add_outputs.new.self l c.hart-hart.result h c.outputs.result.now hart_is outs_are
     (c.in-Ok-add_outputs.ensures.added h c.hart.ensures) in
@@ -147,7 +147,7 @@ invariant_of-self-2 g c =
       start = i.start;
       machine = i.machine;
       journal = i.journal.items;
-      leases = i.leases;
+      leases = i.leases.value;
       is_lease = bare.with_any earlier;
       is_lent = ours;
       counted = c.self.invariant.counted;
@@ -166,5 +166,5 @@ invariant_of-self-2 g c =
       c.settle.ensures.obeyed,
       c.into_inner.ensures,
     )
-    (settled_kept i.start i.machine i.journal.items i.leases (g.M.Mode.stops i.mode) (g.M.Mode.obeyed i.mode) (g.M.Mode.heard i.mode)
+    (settled_kept i.start i.machine i.journal.items i.leases.value (g.M.Mode.stops i.mode) (g.M.Mode.obeyed i.mode) (g.M.Mode.heard i.mode)
     (g.M.Mode.heard c.settle.new.self) _ _ w c.self.invariant (bare.with_any earlier) ours (hears.hears settling) (kept settling))
