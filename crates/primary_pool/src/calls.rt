@@ -86,16 +86,7 @@ impl Calls {
     /// None is made.
     pub(crate) fn new() -> Calls {
         Calls {
-            each: [
-                Call::new(),
-                Call::new(),
-                Call::new(),
-                Call::new(),
-                Call::new(),
-                Call::new(),
-                Call::new(),
-                Call::new(),
-            ],
+            each: array::from_fn(|_| Call::new()),
             wanted: array::from_fn(|_| AtomicBool::new(false)),
         }
     }
