@@ -1,13 +1,14 @@
 //! What lies under the lock.
 
-ghost use Rattle.std.specs.Prelude.{◌≡◌, ◌<◌, length};
+ghost use Rattle.std.specs.Prelude.{◌≡◌, ◌<◌, ◌≤◌, length};
+ghost use Rattle.ft_types.specs.declared.names.TheConstants.{HART_LIMIT};
 ghost use Rattle.page_book.specs.Books.{IsOurs};
 
 use crate::habits::Habits;
 use crate::idlers::{Idlers, Settled};
 use crate::queue::Queue;
 use crate::turns::{Answer, Brought, Pace, Rest, Stop, Turn};
-use ft_types::{Count, Counts, HART_LIMIT, HART_ROW, Hart, HartSet, LEASE_STEPS, PageNo, Want};
+use ft_types::{Count, Counts, HART_ROW, Hart, HartSet, LEASE_STEPS, PageNo, Want};
 use lease_rounds::PageMask;
 use page_book::{Book, BookFault, Keep, Lease, Mode, Need};
 use std::alloc::Global;
@@ -43,9 +44,10 @@ impl<M: Mode> Desk<M> {
         for number in 0..book.machine().harts() {
             steps[number as usize] = 0;
         }
+        let queue = Queue::new(book.machine().harts());
         Desk {
             book,
-            queue: Queue::new(),
+            queue,
             habits: Habits::new(),
             idlers: Idlers::new(),
             pace,
@@ -57,6 +59,13 @@ impl<M: Mode> Desk<M> {
             rests: [Rest::Awake; HART_ROW],
             wanted: HartSet::new(),
         }
+    }
+
+    /// The number of harts.
+    pub(crate) fn harts(&self) -> u8
+        ensures { result ≤ HART_LIMIT }
+    {
+        self.book.machine().harts()
     }
 
     /// The book.
@@ -284,7 +293,7 @@ impl<M: Mode> Desk<M> {
         self.queue.release(hart);
         self.steps[hart.index()] = u64::MAX;
         self.rests[hart.index()] = Rest::Awake;
-        for number in 0..HART_ROW {
+        for number in 0..self.harts() as usize {
             if self.rests[number] != Rest::Awake {
                 self.rests[number] = Rest::Over;
             }

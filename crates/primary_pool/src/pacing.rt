@@ -5,7 +5,7 @@ ghost use Rattle.std.specs.Prelude.{◌≡◌};
 use crate::desk::Desk;
 use crate::idlers::{LOOK, Settled, trace_of};
 use crate::turns::{Pace, Rest};
-use ft_types::{Count, HART_LIMIT, HART_ROW, Hart, HartSet, LEASE_STEPS};
+use ft_types::{Count, HART_ROW, Hart, HartSet, LEASE_STEPS};
 use lease_rounds::PageMask;
 use page_book::Mode;
 
@@ -19,7 +19,7 @@ impl<M: Mode> Desk<M> {
     /// The steps of the hart that has the fewest here, of those that do more than wait.
     fn fewest_busy(&self) -> u64 {
         let mut fewest = u64::MAX;
-        for number in 0..HART_ROW {
+        for number in 0..self.harts() as usize {
             if !self.idlers.is_idle(number) {
                 fewest = fewest.min(self.steps[number]);
             }
@@ -31,7 +31,7 @@ impl<M: Mode> Desk<M> {
     fn fewest(&self) -> u64 {
         let mut fewest = self.fewest_busy();
         if fewest == u64::MAX {
-            for number in 0..HART_ROW {
+            for number in 0..self.harts() as usize {
                 fewest = fewest.min(self.steps[number]);
             }
         }
@@ -108,7 +108,7 @@ impl<M: Mode> Desk<M> {
 
     /// Whether each hart is done or sleeps until another settles steps.
     pub(crate) fn all_stuck(&self) -> bool {
-        for number in 0..HART_ROW {
+        for number in 0..self.harts() as usize {
             if self.steps[number] != u64::MAX && self.rests[number] != Rest::Edges {
                 return false;
             }
@@ -119,7 +119,7 @@ impl<M: Mode> Desk<M> {
     /// The hart waits for this. Whoever may have it is to come back soon.
     pub(crate) fn wait(&mut self, hart: Hart, rest: Rest) {
         self.rests[hart.index()] = rest;
-        for number in 0..HART_LIMIT {
+        for number in 0..self.harts() {
             let other = Hart::new(number);
             let has_it = match rest {
                 Rest::Pages => self.queue.held(other).is_against(self.queue.wishes(hart)),
@@ -160,7 +160,7 @@ impl<M: Mode> Desk<M> {
 
     /// Steps were settled, for which harts may have waited.
     pub(crate) fn free_stuck(&mut self) {
-        for number in 0..HART_ROW {
+        for number in 0..self.harts() as usize {
             if self.rests[number] == Rest::Edges {
                 self.rests[number] = Rest::Over;
             }
@@ -169,7 +169,7 @@ impl<M: Mode> Desk<M> {
 
     /// The harts that were rung meanwhile have more to do than to wait.
     pub(crate) fn note_rung(&mut self, before: [u64; HART_ROW], after: [u64; HART_ROW]) {
-        for number in 0..HART_LIMIT {
+        for number in 0..self.harts() {
             let target = Hart::new(number);
             if before[target.index()] != after[target.index()] {
                 self.meet();
@@ -193,7 +193,7 @@ impl<M: Mode> Desk<M> {
             self.idlers.rest(hart, others);
             return;
         }
-        for number in 0..HART_ROW {
+        for number in 0..self.harts() as usize {
             if self.idlers.is_waiting_for(number, pages.written()) {
                 self.stir(number);
             }
@@ -234,7 +234,7 @@ impl<M: Mode> Desk<M> {
     /// Whose threads are to look again. They sleep no longer.
     pub(crate) fn called(&mut self) -> HartSet {
         let mut harts = HartSet::new();
-        for number in 0..HART_LIMIT {
+        for number in 0..self.harts() {
             let hart = Hart::new(number);
             if self.may_look(hart) {
                 self.rests[hart.index()] = Rest::Awake;

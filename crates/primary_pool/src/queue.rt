@@ -12,16 +12,19 @@ pub(crate) struct Queue {
     /// Since when; 0 where it does not wait.
     since: [u64; HART_ROW],
     next: u64,
+    /// The number of harts.
+    harts: u8,
 }
 
 impl Queue {
     /// Nobody has or waits for a page.
-    pub(crate) fn new() -> Queue {
+    pub(crate) fn new(harts: u8) -> Queue {
         Queue {
             held: [PageMask::none(); HART_ROW],
             wishes: [PageMask::none(); HART_ROW],
             since: [0; HART_ROW],
             next: 1,
+            harts,
         }
     }
 
@@ -42,7 +45,7 @@ impl Queue {
     pub(crate) fn in_the_way(&self, hart: Hart) -> PageMask {
         let hart = hart.index();
         let mut pages = PageMask::none();
-        for other in 0..HART_ROW {
+        for other in 0..HART_ROW.min(self.harts as usize) {
             if other != hart {
                 pages = pages.with(self.held[other]);
                 if self.is_earlier(other, hart) {
@@ -71,7 +74,7 @@ impl Queue {
     /// What other harts wait for.
     pub(crate) fn wished(&self, hart: Hart) -> PageMask {
         let mut pages = PageMask::none();
-        for other in 0..HART_ROW {
+        for other in 0..HART_ROW.min(self.harts as usize) {
             if other != hart.index() {
                 pages = pages.with(self.wishes[other]);
             }
