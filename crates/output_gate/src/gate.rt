@@ -2,7 +2,9 @@
 
 ghost use Rattle.std.specs.Prelude.{◌≡◌, ◌≢◌, ◌↔◌, ◌⊎◌, ℕ, ◌+◌, ◌<◌, ◌≤◌, ◌++◌, ◌∷◌, [], max, filter, count_by, length, replicate, slice_index, slice_index_or, IfOk};
 ghost use Rattle.std.specs.Prelude.{OnOk, OnErr};
+ghost use Rattle.std.specs.List.{AllByRecursion};
 ghost use Rattle.std.specs.List.Sorted.{IsPermutation};
+ghost use Rattle.ft_types.specs.Counts.{count_at};
 ghost use Rattle.ft_types.specs.declared.names.TheConstants.{HART_LIMIT, KEEPER_LIMIT};
 ghost use Rattle.ft_types.specs.Sets.{IsMember};
 ghost use Rattle.output_gate.specs.Gates.{LineView, noted_at, line_of, gone_of, waiting_of, offered_of, holder_count, after_release, held_outputs};
@@ -118,6 +120,15 @@ fn no_lines(alloc: Global) -> [Line; HART_ROW]
     array::from_fn(|_| Line::new(alloc))
 }
 
+/// Of each keeper, a count of 0 for each hart.
+fn nothing_noted() -> [[Count; HART_ROW]; KEEPER_ROW]
+    ensures none { (keeper hart : ℕ) → count_at (slice_index_or result keeper []) hart ≡ 0 }
+    ensures rows { length result ≡ KEEPER_ROW }
+    ensures wide { AllByRecursion (λ row. length row ≡ HART_ROW) result }
+{
+    [[0; HART_ROW]; KEEPER_ROW]
+}
+
 impl Gate {
     /// A gate of a term with so many keepers, of which so many must hold an output. Nothing is noted and nothing waits.
     pub fn new(alloc: Global, term: Term, keepers: u8, need: u8) -> Gate
@@ -130,7 +141,7 @@ impl Gate {
             term,
             keepers,
             need,
-            noted: [[0; HART_ROW]; KEEPER_ROW],
+            noted: nothing_noted(),
             lines: no_lines(alloc),
         }
     }
