@@ -69,6 +69,15 @@ fn fall(edges: &[Edge], cut: &mut Counts, hart: Hart, end: usize) -> usize
     place
 }
 
+/// For each hart the same end.
+fn ends_at(end: usize) -> [usize; HART_ROW]
+    ensures wide { length result ≡ HART_ROW }
+    ensures each { (hart : ℕ) → hart < HART_LIMIT → slice_index result hart ≡ end }
+    ensures most { (hart : ℕ) → slice_index result hart ≤ end }
+{
+    [end; HART_ROW]
+}
+
 /// The bound, lowered by the edges until none forbids a step. The edges stand by rising `after`, and for each hart an
 /// end says how many of them may still ask for too many of its steps.
 fn lowered(edges: &[Edge], bound: Counts) -> Counts
@@ -78,7 +87,7 @@ fn lowered(edges: &[Edge], bound: Counts) -> Counts
     ensures greatest { IsGreatest (map edge_as edges.now) (count_at bound) (count_at result) }
 {
     let mut cut = bound;
-    let mut ends = [edges.len(); HART_ROW];
+    let mut ends = ends_at(edges.len());
     while let Some(hart) = unmet_hart(edges, &ends, cut) {
         let index = hart.index();
         ends[index] = fall(edges, &mut cut, hart, ends[index]);

@@ -3,6 +3,7 @@
 ghost use Rattle.std.specs.Prelude.{◌≡◌, ℕ, ◌+◌, ◌<◌, ◌≤◌, ◌^◌, ◌↔◌, length, slice_index, slice_set, IsTrue, IsSome, IfSome};
 ghost use Rattle.ft_types.specs.Counts.{count_at, IsWithin};
 ghost use Rattle.log_pieces.specs.Pieces.{mark_of};
+ghost use Rattle.log_pieces.specs.Cutting.{ArePlaces};
 
 use ft_types::{COUNT_LIMIT, Count, Counts, HART_ROW, Hart};
 use std::marker::Model;
@@ -27,6 +28,14 @@ impl Model for Sealed {
     ghost inverse = { λ v. record { places = v.places; reached = v.reached } };
 }
 
+/// Of each hart, place 0.
+fn first_places() -> [u64; HART_ROW]
+    ensures places { ArePlaces result }
+    ensures first { (hart : ℕ) → slice_index result hart ≡ 0 }
+{
+    [0; HART_ROW]
+}
+
 impl Sealed {
     /// No piece yet: each hart's first one has place 0 and begins at its count here.
     pub fn new(counts: Counts) -> Sealed
@@ -34,7 +43,7 @@ impl Sealed {
         ensures marks { (hart : ℕ) → mark_of result hart ≡ record { place = 0; count = count_at counts hart } }
     {
         Sealed {
-            places: [0; HART_ROW],
+            places: first_places(),
             reached: counts,
         }
     }

@@ -31,11 +31,18 @@ fn hold_more(waits: &[Option<Hart>; HART_ROW], held: &mut [bool; HART_ROW]) -> b
     more
 }
 
+/// No hart's flag is set.
+fn no_flags() -> [bool; HART_ROW]
+    ensures { (hart : ℕ) → slice_index_or result hart false ≡ false }
+{
+    [false; HART_ROW]
+}
+
 /// Whether the chain of those for whom it waits ends, for each hart: none then waits for itself in a circle.
 pub(crate) fn all_held(waits: &[Option<Hart>; HART_ROW]) -> bool
     ensures { IsTrue result → (hart : ℕ) → IsHeld waits.now hart }
 {
-    let mut held = [false; HART_ROW];
+    let mut held = no_flags();
     for _ in 0..HART_ROW {
         if !hold_more(waits, &mut held) {
             return are_set(&held);

@@ -80,6 +80,14 @@ fn raise_hart(
     Raised { rose, waits }
 }
 
+/// No hart waits for another.
+fn no_waits() -> [Option<Hart>; HART_ROW]
+    ensures wide { length result ≡ HART_ROW }
+    ensures none { (hart : ℕ) → slice_index_or result hart None ≡ None }
+{
+    [None; HART_ROW]
+}
+
 /// Raises each hart once.
 fn sweep(
     store: &Store,
@@ -103,7 +111,7 @@ fn sweep(
         (slice_index_or result.waits hart None) }
 {
     let mut rose = false;
-    let mut waits = [None; HART_ROW];
+    let mut waits = no_waits();
     for number in 0..cut.harts() {
         let hart = Hart::new(number);
         let mut cursor = cursors[hart.index()];

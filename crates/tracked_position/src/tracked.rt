@@ -8,9 +8,9 @@ ghost use Rattle.closed_cut.specs.Position.{IsPosition};
 ghost use Rattle.tracked_position.specs.Keeping.{Takes, IsOneAt, MayGrow};
 
 use crate::answering::{answer_of, is_clash_at, is_same_guest};
-use crate::starting::start;
+use crate::starting::{start, unseen};
 use crate::taking::{take_elsewhere, take_here};
-use crate::walk::{Ahead, Cursor};
+use crate::walk::Cursor;
 use closed_cut::{Position, opening_of, position};
 use fragment_codec::{Fragment, Frame};
 use ft_types::{Counts, Guest, HART_ROW, Memory};
@@ -63,11 +63,7 @@ impl Tracked {
                 counts: Counts::zero(guest.harts()),
                 top: 0,
             },
-            cursors: [Cursor {
-                place: 0,
-                end: 0,
-                ahead: Ahead::Unseen,
-            }; HART_ROW],
+            cursors: unseen(),
         }
     }
 
