@@ -6,7 +6,7 @@ ghost use Rattle.ft_types.specs.declared.names.TheConstants.{HART_LIMIT, KEEPER_
 use std::marker::Model;
 
 /// The number of harts that a machine has at the most.
-pub const HART_LIMIT: u8 = 8;
+pub const HART_LIMIT: u8 = 32;
 
 /// The length of a row with a place for each hart.
 pub const HART_ROW: usize = HART_LIMIT as usize;
@@ -18,7 +18,7 @@ pub const KEEPER_LIMIT: u8 = 5;
 pub const KEEPER_ROW: usize = KEEPER_LIMIT as usize;
 
 /// The number of pages that a machine has at the most.
-pub const PAGE_LIMIT: u16 = 64;
+pub const PAGE_LIMIT: u16 = 256;
 
 /// The length of a row with a place for each page.
 pub const PAGE_ROW: usize = PAGE_LIMIT as usize;

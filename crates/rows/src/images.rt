@@ -73,10 +73,10 @@ static ENDS: [(&[u8], u32, &[u8], Option<ImageFault>); 6] = [
         b"00000000",
         Some(ImageFault::BadLine(1027)),
     ),
-    (b"harts 1\npages 64\n", 65_536, b"deadbeef\n", None),
+    (b"harts 32\npages 256\n", 262_144, b"deadbeef\n", None),
     (
-        b"harts 1\npages 64\n",
-        65_537,
+        b"harts 32\npages 256\n",
+        262_145,
         b"deadbeef\n",
         Some(ImageFault::TooLarge),
     ),
@@ -91,19 +91,19 @@ fn a_word_past_the_last_page(rt: HostRuntime) -> Result<(), Fail> {
     Ok(())
 }
 
-/// The first word of RAM and the last one, where it has 64 pages.
+/// The first word of RAM and the last one, where it has 256 pages.
 fn ends_of(machine: &Machine) -> Option<(u32, u32)> {
-    if machine.pages() != 64 {
+    if machine.pages() != 256 {
         return None;
     }
-    let (first, last) = (PageNo::new(0), PageNo::new(63));
+    let (first, last) = (PageNo::new(0), PageNo::new(255));
     let first = machine.page(first).read_word(0);
     Some((first, machine.page(last).read_word(4092)))
 }
 
 #[test]
 fn the_first_and_the_last_word_of_ram(rt: HostRuntime) -> Result<(), Fail> {
-    let file = long_file(rt.alloc(), b"harts 1\npages 64\n", 65_536, b"deadbeef\n")?;
+    let file = long_file(rt.alloc(), b"harts 1\npages 256\n", 262_144, b"deadbeef\n")?;
     let machine = booted(rt.alloc(), &file)?;
     assert_eq!(rt; ends_of(&machine), Some((0x0000_006f, 0xdead_beef)));
     Ok(())
