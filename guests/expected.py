@@ -52,6 +52,17 @@ def matrix():
     return {hart: rows[hart::4] for hart in range(4)}
 
 
+def shares():
+    sums = {hart: sum(row(300 + hart, 1024)) % 2**32 for hart in range(32)}
+    return {0: [sums[0], sum(sums.values()) % 2**32], **{hart: [sums[hart]] for hart in range(1, 32)}}
+
+
+def table():
+    numbers, others = ([n % 5000 for n in row(place, 4000)] for place in (5, 6))
+    there = set(numbers)
+    return {0: [len(there), sum(n in there for n in others), sum(there)]}
+
+
 def service():
     book, answers = {}, []
     for line in open("service/script", encoding="ascii"):
@@ -72,7 +83,7 @@ def service():
     return {0: [*answers, 0xCC000000 | sum(holder != 0 for holder in book.values())]}
 
 
-GUESTS = {"sha256": sha256, "sort": sort, "bank": bank, "ring": ring, "matrix": matrix, "service": service}
+GUESTS = {"sha256": sha256, "sort": sort, "table": table, "bank": bank, "ring": ring, "matrix": matrix, "shares": shares, "service": service}
 
 for hart, words in sorted(GUESTS[sys.argv[1]]().items()):
     for number, word in enumerate(words):

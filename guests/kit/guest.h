@@ -1,5 +1,5 @@
 /* What a guest in C is written with. The same source is built for the machine (device.h) and natively, with a thread for each hart
-   (native.h). HARTS, from 1 to 8, is given on the command line. */
+   (native.h). HARTS, from 1 to 32, is given on the command line. */
 #ifndef GUEST_H
 #define GUEST_H
 

@@ -28,4 +28,4 @@ SECTIONS
 }
 
 ASSERT(STACK % 4096 == 0, "a stack has whole pages")
-ASSERT(. <= 0x80040000, "RAM has at most 64 pages")
+ASSERT(. <= 0x80100000, "RAM has at most 256 pages")

@@ -7,7 +7,7 @@ It refuses, naming the address, a word of code that is no instruction of the mac
 import struct
 import sys
 
-RAM, PAGE, MOST_PAGES, MOST_HARTS = 0x80000000, 4096, 64, 8
+RAM, PAGE, MOST_PAGES, MOST_HARTS = 0x80000000, 4096, 256, 32
 LOADED, NO_BITS, EXECUTABLE = 1, 8, 4
 
 # CSRs that are there, and those of them that may be written.
