@@ -93,7 +93,7 @@ fn counts_in(lease: &Lease) -> [u64; 3] {
 
 /// Whether the lease of a hart stands so. One that can be asked for steps is its hart's, and not full.
 fn stands<M: Mode>(crew: &Crew<M>, hart: Hart, want: [u64; 3]) -> bool {
-    match &crew.leases[hart.index()] {
+    match crew.lease(hart) {
         Some(lease) => lease.hart() == hart && !lease.full() && counts_in(lease) == want,
         None => false,
     }

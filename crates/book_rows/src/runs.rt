@@ -86,7 +86,7 @@ fn guest(alloc: Global, seed: u64) -> Result<Vec<u8>, Memory> {
 
 /// Steps of the hart's open lease, until it is full or lacks a page.
 fn run(crew: &mut Crew<Recording>) -> Tick {
-    match &mut crew.leases[0] {
+    match crew.lease_mut(hart(0)) {
         None => Tick::Halted,
         Some(lease) if lease.full() => Tick::Halted,
         Some(lease) => lease.run(),
@@ -95,7 +95,7 @@ fn run(crew: &mut Crew<Recording>) -> Tick {
 
 /// Lets the hart's open lease take up to 2,500 steps.
 fn lengthen(crew: &mut Crew<Recording>) {
-    if let Some(lease) = &mut crew.leases[0] {
+    if let Some(lease) = crew.lease_mut(hart(0)) {
         lease.allow(2500);
     }
 }

@@ -36,7 +36,7 @@ pub struct Outcome {
 
 /// One turn of the hart's lease: a step, or a page that it lacks.
 fn turn(crew: &mut Crew<Replaying>, hart: Hart) -> Tick {
-    match &mut crew.leases[hart.index()] {
+    match crew.lease_mut(hart) {
         None => Tick::Halted,
         Some(lease) if lease.full() => Tick::Halted,
         Some(lease) => lease.tick(),
