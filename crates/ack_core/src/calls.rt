@@ -1,5 +1,5 @@
 //! The calls of the board.
-ghost use Rattle.std.specs.Prelude.{◌≡◌, ◌≢◌, ℕ, ◌+◌, ◌*◌, ◌<◌, ◌≤◌, ◌⊎◌, [], ◌∷◌, ◌++◌, length, slice_index, slice_index_or, IfOk, IfErr};
+ghost use Rattle.std.specs.Prelude.{◌≡◌, ◌≢◌, ℕ, ◌+◌, ◌*◌, ◌<◌, ◌≤◌, ◌⊎◌, [], ◌∷◌, ◌++◌, length, replicate, slice_index, slice_index_or, IfOk, IfErr};
 ghost use Rattle.ack_core.specs.Lists.{last_count, Rises, StartsWith, IsZeroOrIn};
 ghost use Rattle.ack_core.specs.Rule.{known_at};
 ghost use Rattle.ack_core.specs.Seats.{term_of, harts_of, keepers_of, keeper_of, published, heard, last_counts, width_of, seen, IsKeeperOf, IsGateOf, IsSameKeeper, IsSameGate};
@@ -16,6 +16,13 @@ use std::result::Result;
 
 /// The number of words that a board has at the most.
 const WORD_LIMIT: usize = KEEPER_LIMIT as usize * HART_LIMIT as usize;
+
+/// Each word of a new board.
+fn no_counts() -> [u64; WORD_LIMIT]
+    ensures { result ≡ replicate (KEEPER_LIMIT * HART_LIMIT) 0 }
+{
+    [0; WORD_LIMIT]
+}
 
 impl KeeperSeat {
     /// What it published last for each hart, or 0.
@@ -43,7 +50,7 @@ impl Board {
         ensures keepers { IfOk result (λ r. (k : ℕ) (d : KeeperSeat) → k < keepers → IsDealt r.0 (slice_index_or r.1.items k d) k) }
         ensures gate { IfOk result (λ r. IsGateOf r.0 r.2 × ((k h : ℕ) → heard r.2 k h ≡ [])) }
     {
-        let zeros = [0u64; WORD_LIMIT];
+        let zeros = no_counts();
         let size = Size {
             harts: harts as u64,
             keepers: keepers as u64,

@@ -40,6 +40,13 @@ fn pages_of(alloc: Global, machine: &Machine) -> Result<Vec<Page>, Memory>
     Ok(pages)
 }
 
+/// No page's flag is set.
+pub(crate) fn no_flags() -> [bool; PAGE_ROW]
+    ensures { result ≡ replicate PAGE_ROW false }
+{
+    [false; PAGE_ROW]
+}
+
 impl AskedPages {
     /// The pages of this machine, for which no step asked.
     pub(crate) fn unasked(alloc: Global, machine: &Machine) -> Result<AskedPages, Memory>
@@ -50,8 +57,8 @@ impl AskedPages {
         let pages = pages_of(alloc, machine)?;
         Ok(AskedPages {
             pages,
-            readable: [false; PAGE_ROW],
-            writable: [false; PAGE_ROW],
+            readable: no_flags(),
+            writable: no_flags(),
         })
     }
 
@@ -59,8 +66,8 @@ impl AskedPages {
     pub(crate) fn begin_step(&mut self)
         ensures { self.new ≡ no_rights self.old.contents }
     {
-        self.readable = [false; PAGE_ROW];
-        self.writable = [false; PAGE_ROW];
+        self.readable = no_flags();
+        self.writable = no_flags();
     }
 
     /// The present step may use the page so.

@@ -4,7 +4,7 @@ ghost use Rattle.std.specs.Prelude.{◌≡◌, ◌<◌, ◌≤◌, ◌^◌, ℕ,
 ghost use Rattle.ft_types.specs.Counts.{greater};
 ghost use Rattle.log_audit.specs.Befores.{row_of, AreRising, IsLatest, IsBrought, Brings};
 
-use crate::marks::Row;
+use crate::marks::{Row, no_steps};
 use edge_log::Edge;
 use ft_types::{Count, HART_ROW, Hart, Memory};
 use std::alloc::Global;
@@ -43,7 +43,7 @@ fn latest(row: &[Before], count: Count) -> Row
 {
     let place = row.partition_point(|before| before.since <= count);
     if place == 0 {
-        [0; HART_ROW]
+        no_steps()
     } else {
         row[place - 1].steps
     }

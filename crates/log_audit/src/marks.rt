@@ -3,6 +3,7 @@
 ghost use Rattle.std.specs.Prelude.{◌≡◌, ◌≢◌, ◌<◌, ◌≤◌, ℕ, length, replicate, IfOk, IfSome, IfNone};
 ghost use Rattle.log_audit.specs.Marks.{unused, uses_at, used_by, noted_at, StandsAgainst, IsClear};
 
+use crate::asked_pages::no_flags;
 use ft_types::{Count, HART_LIMIT, HART_ROW, Hart, Memory, PAGE_ROW, PageNo, Want};
 use std::alloc::Global;
 use std::marker::Model;
@@ -18,7 +19,24 @@ pub(crate) struct Uses {
     written: Row,
 }
 
+/// Of each hart, a count of 0.
+pub(crate) fn no_steps() -> Row
+    ensures { result ≡ replicate HART_ROW 0 }
+{
+    [0; HART_ROW]
+}
+
 impl Uses {
+    /// No step used the page.
+    fn none() -> Uses
+        ensures { result ≡ unused }
+    {
+        Uses {
+            read: no_steps(),
+            written: no_steps(),
+        }
+    }
+
     /// The mark of the hart's last step that conflicts with such a use by another.
     fn conflicting(&self, want: Want, hart: Hart) -> Count
         ensures { result ≡ used_by self.now want hart }
@@ -54,13 +72,8 @@ impl Model for Marks {
 fn no_uses(alloc: Global, pages: u16) -> Result<Vec<Uses>, Memory>
     ensures { IfOk result (λ v. v.items ≡ replicate pages unused) }
 {
-    let mut uses = Vec::with_capacity(alloc, pages as usize)?;
-    for _page in 0..pages {
-        uses.push(Uses {
-            read: [0; HART_ROW],
-            written: [0; HART_ROW],
-        })?;
-    }
+    let mut uses = Vec::new(alloc);
+    uses.resize(pages as usize, Uses::none())?;
     Ok(uses)
 }
 
@@ -72,7 +85,7 @@ impl Marks {
         let uses = no_uses(alloc, pages)?;
         Ok(Marks {
             uses,
-            is_written: [false; PAGE_ROW],
+            is_written: no_flags(),
         })
     }
 

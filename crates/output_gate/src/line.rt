@@ -141,7 +141,7 @@ impl Line {
     /// How many outputs wait.
     pub(crate) fn kept(&self) -> usize
         ensures value { result ≡ length self.now.waiting }
-        ensures limit { result ≤ 2 ^ 59 }
+        ensures limit { result < 2 ^ 59 }
     {
         let offered = self.offered.as_slice();
         offered.len() - self.released
