@@ -1,4 +1,4 @@
-use Rattle.std.proofs.Common.{rules, ◌≡◌, ◌<◌, ◌∙◌, ap, slice_index_or, length}
+use Rattle.std.proofs.Common.{rules, ◌≡◌, ◌<◌, ◌∙◌, ap, slice_index_or, List, length}
 use Rattle.std.proofs.lemmas.List.{get_or_default}
 use Rattle.ft_types.specs.declared.names.TheConstants.{HART_LIMIT}
 use Rattle.hart_lease.specs.OpenLeases.{lent_with}
@@ -11,11 +11,12 @@ use Rattle.book_modes.proofs.recording.RecordingMode.lend.Goals as goal
 
 pub returns-clause-lent : goal.returns-clause-lent
 returns-clause-lent c =
-    let row : c.args.hart < length c.self.inside.due.value = search rules in
-    let there : slice_index_or c.self.inside.due.value c.index.result c.index-self-index.result ≡ due_at c.fill_due.new.self.due c.args.hart =
-    ap (λ k. slice_index_or c.self.inside.due.value k c.index-self-index.result) c.index.ensures.value ∙
-    (get_or_default c.self.inside.due.value c.args.hart c.index-self-index.result nothing_due row ∙ ap (λ (v : RecordingView). due_at v.due c.args.hart)
-    c.self.view_is) in
+    let dues = c.deref.result.now in
+    let row : c.args.hart < length dues = search rules in
+    let there : slice_index_or dues c.index.result c.index-deref-index.result ≡ due_at c.fill_due.new.self.due c.args.hart =
+    ap (λ k. slice_index_or dues k c.index-deref-index.result) c.index.ensures.value ∙
+    (get_or_default dues c.args.hart c.index-deref-index.result nothing_due row
+    ∙ ap (λ (due : List DueView). due_at due c.args.hart) (c.deref.ensures ∙ ap (λ (v : RecordingView). v.due) c.self.view_is)) in
     lent_is_due c.args.self.now c.fill_due.new.self c.args.hart c.args.count c.lent.result c.stop_before-stop.result c.fill_due.ensures.filled
     (c.lent.ensures ∙ ap (λ (d : DueView). lent_with c.stop_before-stop.result d.inputs d.edges) there)
     (c.stop_before-stop.ensures ∙
