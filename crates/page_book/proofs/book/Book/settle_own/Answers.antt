@@ -161,6 +161,7 @@ invariant_of-self-2 g c =
       c.reserve.ensures.items,
       c.take_back-steps.ensures.steps,
       c.index.ensures.value,
+      c.deref_mut.ensures.value,
       hart_is,
       c.settle.ensures.stops,
       c.settle.ensures.obeyed,
