@@ -17,7 +17,7 @@ returns-then-place-eq0 c =
       within = c.partition_point-place.ensures.bound;
       upto = λ k d a b. leb-true _ _ (p.0 k d a b);
       after = λ k d a b. leb-false _ _ (p.1 k d a b);
-      steps_are = sym (ap (steps_in_front c.args.row.now) c.if-place-eq0.true);
+      steps_are = c.no_steps.ensures ∙ sym (ap (steps_in_front c.args.row.now) c.if-place-eq0.true);
     }
 
 pub returns-else-place-eq0 : goal.returns-else-place-eq0
