@@ -15,6 +15,17 @@ use Rattle.book_modes.specs.Yielding.{yielded}
 use Rattle.book_modes.specs.Recordings.{RecordingView, right_at, right_met}
 use Rattle.book_modes.proofs.ledger.MetRights.{met_is}
 
+untrue : (b : Bool) → (b ≡ true → ⊥) → b ≡ false
+untrue true not = absurd (not refl)
+untrue false not = refl
+
+-- where nobody stands in the asker's way, nobody yields
+pub none_yields : (asked : Asked) (settled : ℕ → ℕ) (n : ℕ) (right : Right) → ((g : ℕ) → stands right asked.hart asked.want g ≡ true → ⊥) →
+    yielded asked settled n right ≡ right
+none_yields asked settled zero right free = refl
+none_yields asked settled (suc n) right free =
+    rw (none_yields asked settled n right free) (rw (untrue (stands right asked.hart asked.want n) (free n)) refl)
+
 next : (n other : ℕ) → n ≤ other → n ≢ other → suc n ≤ other
 next n other le ne =
     elim (cases_lt n other) [
