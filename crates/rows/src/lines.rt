@@ -16,7 +16,7 @@ const IMAGE: [u8; 32] = [
     0x28, 0xd3, 0x46, 0xa4, 0x8b, 0x75, 0x35, 0xa9, 0x4f, 0xa7, 0xde, 0xe7, 0xf6, 0x9e, 0x6a, 0x0b,
 ];
 
-/// A guest of that image's bytes with so many harts, 1 to 8.
+/// A guest of that image's bytes with so many harts, 1 to 32.
 fn guest(harts: u8) -> Result<Guest, Fail> {
     Ok(Guest::new(IMAGE, harts).ok_or("so many harts")?)
 }
@@ -131,12 +131,12 @@ fn sealed_values(rt: HostRuntime) -> Result<(), Fail> {
     Ok(())
 }
 
-/// The length of the longest line, an acknowledgement of eight harts, where it is read again.
+/// The length of the longest line, an acknowledgement of 32 harts, where it is read again.
 fn longest(guest: &Guest) -> Option<usize> {
     let acknowledgement = Acknowledgement {
         term: u32::MAX,
         keeper: Keeper::new(4),
-        counts: Counts::from_slice(&[COUNT_LIMIT - 1; 8])?,
+        counts: Counts::from_slice(&[COUNT_LIMIT - 1; 32])?,
     };
     let line = acknowledgement_line(guest, &acknowledgement);
     let text = line.as_slice().strip_suffix(b"\n")?;
@@ -149,7 +149,7 @@ fn longest(guest: &Guest) -> Option<usize> {
 
 #[test]
 fn longest_acknowledgement(rt: HostRuntime) -> Result<(), Fail> {
-    assert_eq!(rt; longest(&guest(8)?), Some(154));
+    assert_eq!(rt; longest(&guest(32)?), Some(538));
     Ok(())
 }
 
@@ -308,8 +308,8 @@ fn feeds(rt: HostRuntime) -> Result<(), Fail> {
     for (pieces, texts) in rows {
         assert_eq!(rt; fed(alloc, pieces)?.as_slice(), texts);
     }
-    assert_eq!(rt; beside_long(alloc, 256)?, [255, 1]);
-    assert_eq!(rt; beside_long(alloc, 257)?, [1, 0]);
-    assert_eq!(rt; beside_long(alloc, 1000)?, [1, 0]);
+    assert_eq!(rt; beside_long(alloc, 1024)?, [1023, 1]);
+    assert_eq!(rt; beside_long(alloc, 1025)?, [1, 0]);
+    assert_eq!(rt; beside_long(alloc, 4000)?, [1, 0]);
     Ok(())
 }

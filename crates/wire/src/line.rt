@@ -7,8 +7,9 @@ ghost use Rattle.ft_types.specs.Text.{word};
 use ft_types::{Failed, LineBuffer, Sink, word_text, write_all};
 use std::marker::Model;
 
-/// The number of bytes of a line at the most, its line feed included.
-pub const LINE_LIMIT: usize = 256;
+/// The number of bytes of a line at the most, its line feed included. The longest that is written is an acknowledgement of 32 harts: it has
+/// 26 bytes and 16 for each hart, so 538 at the most, and 698 if its counts were as great as a `u64` can be.
+pub const LINE_LIMIT: usize = 1024;
 
 /// A line, or a part of one. Contracts see its bytes.
 #[derive(Drop)]
