@@ -7,7 +7,7 @@ use Rattle.requests.specs.declared.queue.TheConstants.{WORD_LIMIT}
 use Rattle.requests.specs.declared.queue.Came.{Came}
 use Rattle.requests.specs.declared.queue.Came.TheVariants.{Taken, Repeat, Ahead, Full}
 use Rattle.requests.specs.Numbered.{Asked, Words, Happening, Asks, HandsOn, GoesOnAt, room_for, came_of, taken, none, with_asked, first_handed, after, all_after}
-use Rattle.requests.specs.Numbered.{EachAt, IsInPlace, AllInPlace, AsksByNumber, IsWordOf, ExactlyOnce, asks_from, NoneIsMissing}
+use Rattle.requests.specs.Numbered.{EachAt, IsInPlace, AllInPlace, AsksByNumber, IsWordOf, ExactlyOnce, NoneIsMissing}
 
 -- ---- each at its place
 

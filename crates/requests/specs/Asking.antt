@@ -1,5 +1,5 @@
 -- What a client asks, and what it has heard.
-use Rattle.std.specs.Prelude.{◌≡◌, ◌+◌, ◌==◌, ◌&&◌, ℕ, suc, Bool, List, [], ◌∷◌, Option, None, Some, if◌then◌else◌, nat_lt, length, take, slice_index, slice_index_or, slice_set}
+use Rattle.std.specs.Prelude.{◌+◌, ◌==◌, ◌&&◌, ℕ, suc, List, [], ◌∷◌, Option, None, Some, if◌then◌else◌, nat_lt, length, take, slice_index, slice_index_or, slice_set}
 use Rattle.ft_types.specs.declared.output.Output.{Output}
 use Rattle.wire.specs.declared.requests.Request.{Request}
 use Rattle.wire.specs.declared.requests.Request.TheVariants.{Word, From}

@@ -38,7 +38,10 @@ fn words_by_number(rt: HostRuntime) -> Result<(), Fail> {
         assert_eq!(rt; queue.put_word(*word, *number)?, *came, "{word}");
     }
     queue.put_timer()?;
-    assert_eq!(rt; (queue.words(), queue.next(6), queue.next(8)), (11, None, None));
+    assert_eq!(rt;
+        (queue.words(), queue.next(6), queue.next(8)),
+        (11, None, None)
+    );
     let inputs = [
         Some(Input::Word(70)),
         Some(Input::Word(80)),
@@ -47,7 +50,10 @@ fn words_by_number(rt: HostRuntime) -> Result<(), Fail> {
         Some(Input::Timer),
         None,
     ];
-    assert_eq!(rt; offered(rt.alloc(), &mut queue, 6)?.as_slice(), inputs.as_slice());
+    assert_eq!(rt;
+        offered(rt.alloc(), &mut queue, 6)?.as_slice(),
+        inputs.as_slice()
+    );
     assert_eq!(rt; queue.next(11), None);
     Ok(())
 }
@@ -110,9 +116,16 @@ fn from(number: u64) -> Request {
 fn a_client(rt: HostRuntime) -> Result<(), Fail> {
     let words = [5, 6, 7].to_vec(rt.alloc())?;
     let mut asker = Asker::new(rt.alloc(), Hart::new(1), words, 2)?;
-    assert_eq!(rt; [asker.next(), asker.next(), asker.next()], [Some(asked(5, 0)), Some(asked(6, 1)), None]);
+    assert_eq!(rt;
+        [asker.next(), asker.next(), asker.next()],
+        [Some(asked(5, 0)), Some(asked(6, 1)), None]
+    );
     for (hart, number, word, heard) in &ANSWERS {
-        assert_eq!(rt; asker.hear(&answer(*hart, *number, *word)), *heard, "{hart} {number} {word}");
+        assert_eq!(rt;
+            asker.hear(&answer(*hart, *number, *word)),
+            *heard,
+            "{hart} {number} {word}"
+        );
     }
     let again = [from(0), asked(5, 0)];
     assert_eq!(rt; asker.again(rt.alloc())?.as_slice(), again.as_slice());

@@ -1,6 +1,6 @@
 use Rattle.std.proofs.Common.{◌≡◌, ◌≤◌, ◌∷◌, max, take}
 use Rattle.wire.specs.declared.requests.Request.TheVariants.{From}
-use Rattle.requests.specs.Asking.{first_open, open_words}
+use Rattle.requests.specs.Asking.{open_words}
 use Rattle.requests.proofs.asker.Asker.again.Given as goal
 
 abbrev pub invariant-loop-number : goal.invariant-loop-number
