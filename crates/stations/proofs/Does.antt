@@ -1,10 +1,6 @@
 -- Acts, one behind the other.
-use Rattle.std.proofs.Common.{List, [], ◌∷◌, ◌++◌, Option, None, Some, refl, sym, ◌∙◌, append_assoc, append-nil}
+use Rattle.std.proofs.Common.{List, [], ◌∷◌, ◌++◌, Option, None, Some, refl, ◌∙◌, append_assoc}
 use Rattle.stations.specs.Acts.{Act, Does}
-
-pub does_nothing : (a : Option (List Act)) → Does a a []
-does_nothing None = tt
-does_nothing (Some done) = sym (append-nil done)
 
 pub does_then : (a b c : Option (List Act)) (xs ys : List Act) → Does a b xs → Does b c ys → Does a c (xs ++ ys)
 does_then None b c xs ys p q = tt
@@ -17,6 +13,3 @@ does_two a b c x y p q = does_then a b c (x ∷ []) (y ∷ []) p q
 
 pub does_three : (a b c d : Option (List Act)) (x y z : Act) → Does a b (x ∷ []) → Does b c (y ∷ []) → Does c d (z ∷ []) → Does a d (x ∷ y ∷ z ∷ [])
 does_three a b c d x y z p q r = does_then a c d (x ∷ y ∷ []) (z ∷ []) (does_two a b c x y p q) r
-
-pub does_more : (a b c d : Option (List Act)) (x y : Act) → Does a b (x ∷ []) → Does b c (y ∷ []) → Does c d [] → Does a d (x ∷ y ∷ [])
-does_more a b c d x y p q r = does_then a c d (x ∷ y ∷ []) [] (does_two a b c x y p q) r

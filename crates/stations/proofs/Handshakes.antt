@@ -4,7 +4,7 @@ use Rattle.std.proofs.lemmas.List.{take_at, drop_at, length-append}
 use Rattle.std.proofs.Math.Seq.{take-add}
 use Rattle.fragment_codec.specs.declared.frame.Frame.{Frame}
 use Rattle.fragment_codec.specs.Streams.{Splits}
-use Rattle.stations.specs.Acts.{SawLog, CutTo, Added, Synced, SawFence, Fenced}
+use Rattle.stations.specs.Acts.{SawLog, CutTo, Added, Synced, SawFence, Fenced, Failed}
 use Rattle.stations.specs.Handshake.{Happening, Did, Crash, Files, after, all_after, IsBeginning, IsTrue, AllTrue, Acknowledged, HandedOver, Handshake}
 use Rattle.stations.proofs.Fronts.{most}
 
@@ -45,6 +45,7 @@ fence_stays files (Did Synced) = omega arith
 fence_stays files (Did (Fenced term)) = omega arith
 fence_stays files (Did (SawLog bytes)) = omega arith
 fence_stays files (Did (SawFence fence)) = omega arith
+fence_stays files (Did (Failed fault)) = omega arith
 fence_stays files (Crash left) = omega arith
 
 fence_grows : (files : Files) (all : List Happening) → files.fence ≤ (all_after files all).fence
@@ -96,6 +97,7 @@ stays log frames files (Did Synced) s t h = record { there = h.there; safe = h.t
 stays log frames files (Did (Fenced term)) s t h = record { there = h.there; safe = h.safe }
 stays log frames files (Did (SawLog bytes)) s t h = h
 stays log frames files (Did (SawFence fence)) s t h = h
+stays log frames files (Did (Failed fault)) s t h = h
 stays log frames files (Crash left) s t h = record { there = begins_then log files.safe left h.safe t; safe = h.safe }
 
 is_seen : (log : List ℕ) (frames : List Frame) (files : Files) (xs : List Happening) (seen : List ℕ) (ys : List Happening) → Splits log frames [] →

@@ -1,5 +1,6 @@
 -- What is done with a keeper's files: its log, and the fences beside it.
-use Rattle.std.specs.Prelude.{◌≡◌, ℕ, List, [], ◌∷◌, ◌++◌, Option, None, Some}
+use Rattle.std.specs.Prelude.{◌≡◌, ℕ, List, ◌++◌, Option, None, Some}
+use Rattle.stations.specs.declared.faults.FilesFault.{FilesFault}
 
 pub data Act : Type 0 where
   SawLog : (bytes : List ℕ) → Act  -- the log was read, and had these bytes
@@ -8,15 +9,10 @@ pub data Act : Type 0 where
   Synced : Act  -- what the log had was brought to disk
   SawFence : (fence : ℕ) → Act  -- the fences were read, and this was the last one, 0 where there was none
   Fenced : (term : ℕ) → Act  -- the fence was added, and was on disk
+  Failed : (fault : FilesFault) → Act  -- what was asked of the files failed with this fault
 
 -- of files that tell what was done with them, these acts were the next
 abbrev pub Does : Option (List Act) → Option (List Act) → List Act → Type 0
 Does None new acts = Unit {0}
 Does (Some done) None acts = ⊥
 Does (Some done) (Some more) acts = more ≡ done ++ acts
-
--- the bytes that these acts added to the log
-abbrev pub added_by : List Act → List ℕ
-added_by [] = []
-added_by (Added bytes ∷ acts) = bytes ++ added_by acts
-added_by (act ∷ acts) = added_by acts

@@ -1,11 +1,13 @@
--- What is handed over of a log.
-use Rattle.std.specs.Prelude.{◌++◌, ℕ, List, [], ◌∷◌, Option, None, Some}
+-- What is fenced off and handed over of a log.
+use Rattle.std.specs.Prelude.{◌⊎◌, ◌≤◌, ◌<◌, ◌++◌, ℕ, List, [], ◌∷◌, Option, None, Some}
 use Rattle.std.specs.List.{AllByRecursion}
 use Rattle.ft_types.specs.Guests.{GuestParts}
 use Rattle.fragment_codec.specs.declared.frame.Frame.{Frame}
 use Rattle.fragment_codec.specs.Streams.{IsPartial, Splits}
-use Rattle.stations.specs.Acts.{Act, SawLog, Does}
-use Rattle.stations.specs.Logs.{IsFrontOf, IsOf}
+use Rattle.stations.specs.Acts.{Act, SawLog, SawFence, Fenced, Failed, Does}
+use Rattle.stations.specs.Logs.{IsFrontOf, IsOf, HasNoLog}
+use Rattle.stations.specs.declared.faults.FenceFault.{FenceFault}
+use Rattle.stations.specs.declared.faults.FenceFault.TheVariants.{Files as FilesOfFence, Fenced as WasFenced}
 use Rattle.stations.specs.declared.faults.LogFault.{LogFault}
 use Rattle.stations.specs.declared.faults.LogFault.TheVariants.{Files, Frame as FrameAt, OtherGuest, Clash}
 
@@ -18,9 +20,17 @@ pub record IsHanded (guest : GuestParts) (old new : Option (List Act)) (handed :
   pub own : AllByRecursion (IsOf guest) frames
   pub partial : IsPartial rest
 
--- why nothing is handed over: the first fault of the log, or a frame of another guest
+-- why a log is not fenced off: a term that is not above the last fence gets none; or the fences failed as they were read, or as this one was added,
+-- which may be there then
+abbrev pub IsNotFenced : ℕ → Option (List Act) → Option (List Act) → FenceFault → Type 0
+IsNotFenced term old new (WasFenced last) = (term ≤ last) × Does old new (SawFence last ∷ [])
+IsNotFenced term old new (FilesOfFence fault) =
+    Does old new (Failed fault ∷ []) ⊎ ((last : ℕ) × (last < term) ×
+    (Does old new (SawFence last ∷ Failed fault ∷ []) ⊎ Does old new (SawFence last ∷ Fenced term ∷ Failed fault ∷ [])))
+
+-- why nothing is handed over: the log failed or memory was refused, the first fault of the log, or a frame of another guest
 abbrev pub IsNotHanded : GuestParts → Option (List Act) → Option (List Act) → LogFault → Type 0
-IsNotHanded guest old new (Files fault) = Unit {0}
+IsNotHanded guest old new (Files fault) = HasNoLog old new fault
 IsNotHanded guest old new (FrameAt fault) =
     (log : List ℕ) × (frames : List Frame) × (size : ℕ) × Does old new (SawLog log ∷ []) × IsFrontOf log frames size (Some fault)
 IsNotHanded guest old new OtherGuest =

@@ -2,7 +2,7 @@
 use Rattle.std.specs.Prelude.{◌≡◌, ◌<◌, max, ℕ, List, [], ◌∷◌, ◌++◌, take, None}
 use Rattle.fragment_codec.specs.declared.frame.Frame.{Frame}
 use Rattle.fragment_codec.specs.Streams.{Splits}
-use Rattle.stations.specs.Acts.{Act, SawLog, CutTo, Added, Synced, SawFence, Fenced}
+use Rattle.stations.specs.Acts.{Act, SawLog, CutTo, Added, Synced, SawFence, Fenced, Failed}
 use Rattle.stations.specs.Logs.{IsFrontOf}
 
 -- what happens next: an act of one of the processes, or a crash, behind which the log has these bytes
@@ -23,6 +23,7 @@ after files (Did Synced) = record files { safe = files.log }
 after files (Did (Fenced term)) = record files { fence = max files.fence term }
 after files (Did (SawLog bytes)) = files
 after files (Did (SawFence fence)) = files
+after files (Did (Failed fault)) = files
 after files (Crash left) = record files { log = left }
 
 abbrev pub all_after : Files → List Happening → Files
@@ -41,6 +42,7 @@ IsTrue files (Did (CutTo size)) = (frames : List Frame) × IsFrontOf files.log f
 IsTrue files (Did (Added bytes)) = Unit {0}
 IsTrue files (Did Synced) = Unit {0}
 IsTrue files (Did (Fenced term)) = Unit {0}
+IsTrue files (Did (Failed fault)) = Unit {0}
 IsTrue files (Crash left) = IsBeginning files.safe left
 
 abbrev pub AllTrue : Files → List Happening → Type 0

@@ -1,5 +1,5 @@
 -- What a keeper over a log has, and what it acknowledges.
-use Rattle.std.specs.Prelude.{◌≡◌, ◌<◌, max, ℕ, List, [], ◌∷◌, ◌++◌, take, Option, None, Some}
+use Rattle.std.specs.Prelude.{◌≡◌, ◌⊎◌, ◌<◌, max, ℕ, List, [], ◌∷◌, ◌++◌, take, Option, None, Some}
 use Rattle.ft_types.specs.Guests.{GuestParts}
 use Rattle.ft_types.specs.declared.position.Position.{Position}
 use Rattle.fragment_codec.specs.declared.frame.Frame.{Frame}
@@ -11,8 +11,9 @@ use Rattle.log_join.specs.declared.answers.Put.{Put}
 use Rattle.log_join.specs.declared.answers.Put.TheVariants.{Clash as Clashes, OtherGuest as Foreign}
 use Rattle.closed_cut.specs.Position.{IsPosition}
 use Rattle.fenced_keeper.specs.Keepers.{Acknowledges}
-use Rattle.stations.specs.Acts.{Act, SawLog, CutTo, Added, Synced, SawFence, Does}
-use Rattle.stations.specs.Logs.{IsFrontOf}
+use Rattle.stations.specs.Acts.{Act, SawLog, CutTo, Added, Synced, SawFence, Failed, Does}
+use Rattle.stations.specs.Logs.{IsFrontOf, HasNoLog}
+use Rattle.stations.specs.declared.faults.FilesFault.{FilesFault}
 use Rattle.stations.specs.declared.faults.FilesFault.TheVariants.{Memory as NoMemory}
 use Rattle.stations.specs.declared.faults.LogFault.{LogFault}
 use Rattle.stations.specs.declared.faults.LogFault.TheVariants.{Files, Frame as FrameAt, OtherGuest, Clash}
@@ -30,6 +31,13 @@ pub record IsOnLog (log : List ℕ) (station : StationView) : Type 0 where
 -- what is fresh is added to the log, then the log is brought to disk, and then the fence is read
 abbrev pub logging : List ℕ → ℕ → List Act
 logging fresh fence = Added fresh ∷ Synced ∷ SawFence fence ∷ []
+
+-- why nothing was acknowledged: adding failed, and a beginning of what is fresh was added, and no more; or all of it was, and then the log was not brought
+-- to disk or the fences were not read
+abbrev pub IsNotLogged : List ℕ → Option (List Act) → Option (List Act) → FilesFault → Type 0
+IsNotLogged fresh old new fault =
+    ((front : List ℕ) × (rest : List ℕ) × (fresh ≡ front ++ rest) × Does old new (Added front ∷ Failed fault ∷ [])) ⊎
+    (Does old new (Added fresh ∷ Failed fault ∷ []) ⊎ Does old new (Added fresh ∷ Synced ∷ Failed fault ∷ []))
 
 -- the store's position is acknowledged, unless its term is 0 or below the fence
 abbrev pub Answers : StoreView → ℕ → Option Position → Type 0
@@ -57,9 +65,9 @@ pub record IsMet (guest : GuestParts) (frames : List Frame) (put : Put) : Type 0
   pub join : IsJoinOf guest before store
   pub answer : answer_to store frame ≡ put
 
--- why no keeper begins: the first fault of the log, or how one of its frames met those before it
+-- why no keeper begins: the log failed or memory was refused, the first fault of the log, or how one of its frames met those before it
 abbrev pub IsNoKeepers : GuestParts → Option (List Act) → Option (List Act) → LogFault → Type 0
-IsNoKeepers guest old new (Files fault) = Unit {0}
+IsNoKeepers guest old new (Files fault) = HasNoLog old new fault ⊎ ((log : List ℕ) × Does old new (SawLog log ∷ Failed fault ∷ []))
 IsNoKeepers guest old new (FrameAt fault) =
     (log : List ℕ) × (frames : List Frame) × (size : ℕ) × Does old new (SawLog log ∷ []) × IsFrontOf log frames size (Some fault)
 IsNoKeepers guest old new OtherGuest =

@@ -1,11 +1,10 @@
 //! A log is fenced off for a term, and then handed to it.
 
-ghost use Rattle.std.specs.Prelude.{◌≡◌, ◌≤◌, ◌<◌, ℕ, [], ◌∷◌, Err, IfOk, IfErr, IsTrue, ◌↔◌};
+ghost use Rattle.std.specs.Prelude.{◌≡◌, ◌<◌, ℕ, [], ◌∷◌, IfOk, IfErr, IsTrue, ◌↔◌};
 ghost use Rattle.std.specs.List.{AllByRecursion};
 ghost use Rattle.stations.specs.Acts.{SawFence, Fenced, Does};
-ghost use Rattle.stations.specs.Handing.{IsHanded, IsNotHanded};
+ghost use Rattle.stations.specs.Handing.{IsHanded, IsNotFenced, IsNotHanded};
 ghost use Rattle.stations.specs.Logs.{IsOf};
-ghost use Rattle.stations.specs.declared.faults.FenceFault.TheVariants.{Fenced as WasFenced};
 
 use crate::admitting::is_of;
 use crate::faults::{FenceFault, LogFault};
@@ -39,8 +38,8 @@ pub fn fence_off<F: KeeperFiles>(
 ) -> Result<FencedLog, FenceFault>
     ensures term { IfOk result (λ fenced. fenced.term ≡ term) }
     ensures fenced { IfOk result (λ _. (last : ℕ) × (last < term) × Does (F.acts files.old) (F.acts files.new) (SawFence last ∷ Fenced term ∷ [])) }
-    // A term that is not above the last fence gets none.
-    ensures refused { (last : ℕ) → result ≡ Err (WasFenced last) → (term ≤ last) × Does (F.acts files.old) (F.acts files.new) (SawFence last ∷ []) }
+    // A term that is not above the last fence gets none; any other is refused only where the files failed.
+    ensures refused { IfErr result (λ f. IsNotFenced term (F.acts files.old) (F.acts files.new) f) }
 {
     let last = files.last_fence(alloc)?;
     if last >= term {

@@ -6,8 +6,8 @@ ghost use Rattle.fragment_codec.specs.Streams.{spelling, Splits};
 ghost use Rattle.log_join.specs.Answers.{answer_to};
 ghost use Rattle.log_join.specs.Coming.{Come, IsJoinOf};
 ghost use Rattle.log_join.specs.Stores.{StoreView, IsJoin, alone};
-ghost use Rattle.stations.specs.Acts.{Act, Does, added_by};
-ghost use Rattle.stations.specs.Stations.{Answers, IsBegun, IsOnLog, IsBeginFault, IsNoKeepers, IsPutFault, logging};
+ghost use Rattle.stations.specs.Acts.{Does};
+ghost use Rattle.stations.specs.Stations.{Answers, IsBegun, IsOnLog, IsBeginFault, IsNoKeepers, IsNotLogged, IsPutFault, logging};
 
 use crate::admitting::answer_of;
 use crate::faults::{FilesFault, LogFault};
@@ -171,8 +171,8 @@ impl KeeperStation {
         // All its frames are in the log now.
         ensures store { IfOk result (λ r. r.0 ≡ record { store = self.store; fresh = [] }) }
         ensures log { IfOk result (λ r. (log : List ℕ) → IsOnLog log self → IsOnLog (log ++ self.fresh) r.0) }
-        // At a fault a beginning of what is fresh was added, and no more.
-        ensures failed { OnErr result ((done : List Act) × (rest : List ℕ) × Does (F.acts files.old) (F.acts files.new) done × (self.fresh ≡ added_by done ++ rest)) }
+        // At a fault the files failed, behind a beginning of what is fresh or all of it, and nothing else was added.
+        ensures failed { IfErr result (λ f. IsNotLogged self.fresh (F.acts files.old) (F.acts files.new) f) }
     {
         let KeeperStation { held, mut fresh } = self;
         files.add(&fresh)?;

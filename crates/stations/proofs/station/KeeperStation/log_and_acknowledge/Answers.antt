@@ -1,24 +1,20 @@
-use Rattle.std.proofs.Common.{◌≡◌, ◌∙◌, ℕ, List, [], ◌∷◌, ap, sym, subst, append-nil}
+use Rattle.std.proofs.Common.{◌≡◌, ◌∙◌, ℕ, List, [], ◌∷◌, ap, subst, inr}
 use Rattle.std.proofs.lemmas.Result.{err_from_is_err_and}
 use Rattle.log_join.specs.Stores.{StoreView}
-use Rattle.stations.specs.Acts.{Added, Synced, SawFence, Does}
+use Rattle.stations.specs.Acts.{Added, Synced, SawFence, Failed, Does}
 use Rattle.stations.specs.Stations.{StationView, Answers}
-use Rattle.stations.proofs.Does.{does_three, does_more}
+use Rattle.stations.proofs.Does.{does_three}
 use Rattle.stations.proofs.station.KeeperStation.log_and_acknowledge.Goals as goal
 
 pub returns-in_err-fence-clause-failed : goal.returns-in_err-fence-clause-failed
 returns-in_err-fence-clause-failed g c =
     let acts = g.F.KeeperFiles.acts in
-    let fresh : List ℕ = c.args.self.fresh in
-    let same : c.deref.result.now ≡ fresh = c.deref.ensures.value ∙ ap (λ (s : StationView). s.fresh) c.self.view_is in
+    let fault = c.in_err-fence.field-0.0 in
+    let same : c.deref.result.now ≡ c.args.self.fresh = c.deref.ensures.value ∙ ap (λ (s : StationView). s.fresh) c.self.view_is in
     let p = err_from_is_err_and c.from_residual-in_err-fence.result c.from_residual-in_err-fence.ensures.1 in
-    rw p.1 (
-      Added c.deref.result.now ∷ Synced ∷ [],
-      [],
-      does_more (acts c.args.files.now) (acts c.add.new.self) (acts c.sync.new.self) (acts c.last_fence.new.self) (Added c.deref.result.now) Synced
-          c.in_ok-add.ensures.ok c.in_ok-sync.ensures.ok c.in_err-fence.ensures.failed,
-      sym (append-nil _ ∙ append-nil c.deref.result.now ∙ same),
-    )
+    rw (p.1, p.2) (inr (inr (subst (λ (fresh : List ℕ). Does (acts c.args.files.now) (acts c.last_fence.new.self) (Added fresh ∷ Synced ∷ Failed fault ∷ [])) same
+    (does_three (acts c.args.files.now) (acts c.add.new.self) (acts c.sync.new.self) (acts c.last_fence.new.self) (Added c.deref.result.now) Synced
+    (Failed fault) c.in_ok-add.ensures.ok c.in_ok-sync.ensures.ok c.in_err-fence.ensures.failed))))
 
 pub returns-clause-acts : goal.returns-clause-acts
 returns-clause-acts g c =
