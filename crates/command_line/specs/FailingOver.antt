@@ -10,8 +10,8 @@ use Rattle.log_join.specs.Stores.{nothing}
 use Rattle.failover_events.specs.declared.event.Event.{Event}
 use Rattle.failover_world.specs.declared.fault.WorldFault.{WorldFault}
 use Rattle.failover_world.specs.declared.fault.WorldFault.TheVariants.{Memory as NoMemory}
-use Rattle.failover_world.specs.declared.released.Released.{Released}
-use Rattle.failover_world.specs.Primaries.{IsBooted}
+use Rattle.primary.specs.declared.released.Released.{Released}
+use Rattle.primary.specs.Primaries.{IsBooted}
 use Rattle.failover_world.specs.Worlds.{WorldView}
 use Rattle.failover_world.specs.Happenings.{IsFresh, Happens}
 use Rattle.failover_world.specs.Refusals.{Refuses, IsLeft}

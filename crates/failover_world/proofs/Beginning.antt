@@ -34,13 +34,14 @@ use Rattle.failover_theory.specs.Machines.{AtBoot, IsRecorder}
 use Rattle.failover_theory.specs.Worlds as theory
 use Rattle.failover_theory.proofs.Recording.{of_logs}
 use Rattle.go_live.specs.Histories.{MakesLonger}
-use Rattle.go_live.specs.Outputs.{numbered}
-use Rattle.failover_world.specs.declared.released.Released.{Released}
-use Rattle.failover_world.specs.declared.primary.Primary.{Primary}
-use Rattle.failover_world.specs.Primaries.{IsBooted}
-use Rattle.failover_world.specs.Worlds.{WorldView, said_at, term_of}
+use Rattle.primary.specs.Outputs.{numbered, said_at}
+use Rattle.primary.specs.declared.released.Released.{Released}
+use Rattle.primary.specs.declared.granted.Primary.{Primary}
+use Rattle.primary.specs.Primaries.{IsBooted}
+use Rattle.failover_world.specs.Worlds.{WorldView, term_of}
 use Rattle.failover_world.specs.Tied.{TermBook, Books, retold_in, history, told_as, theory_world, quorum_of, live_book, AreParts, IsTied, IsWorld}
-use Rattle.failover_world.proofs.Places.{retold_put, put_put}
+use Rattle.failover_world.proofs.Places.{retold_put}
+use Rattle.primary.proofs.Put.{put_put}
 
 -- ---- rows of one thing
 

@@ -8,11 +8,10 @@ use Rattle.guest_image.specs.Machine.{MachineState}
 use Rattle.ft_types.specs.declared.output.Output.{Output}
 use Rattle.output_gate.specs.Gates.{LineView, GateView, line_of, waiting_of, offered_of, holder_count, is_held, held_outputs}
 use Rattle.term_gate.specs.TermGates.{TermGateView, AreAcked, acked_at}
-use Rattle.go_live.specs.Outputs.{numbered}
+use Rattle.primary.specs.Outputs.{numbered, said_at}
 use Rattle.failover_theory.specs.Lists.{how_many}
 use Rattle.failover_theory.proofs.Stores.{see_bool}
-use Rattle.failover_world.specs.Worlds.{said_at}
-use Rattle.failover_world.specs.Gating.{AreOffered}
+use Rattle.primary.specs.Gating.{AreOffered}
 use Rattle.failover_world.proofs.Counting.{row_among}
 
 -- the machine has the output, at its number

@@ -40,12 +40,14 @@ use Rattle.book_recorder.proofs.Books.{revived_are_term_books}
 use Rattle.term_gate.specs.TermGates.{TermGateView, acked_at}
 use Rattle.go_live.specs.Lives.{IsAtPosition}
 use Rattle.go_live.specs.Histories.{MakesLonger}
-use Rattle.failover_world.specs.declared.primary.Primary.{Primary}
-use Rattle.failover_world.specs.Worlds.{WorldView, term_of, said_by, said_at}
-use Rattle.failover_world.specs.Gating.{AreRising}
+use Rattle.primary.specs.declared.granted.Primary.{Primary}
+use Rattle.failover_world.specs.Worlds.{WorldView, term_of}
+use Rattle.primary.specs.Outputs.{said_by, said_at}
+use Rattle.primary.specs.Gating.{AreRising}
 use Rattle.failover_world.specs.Happenings.{GoesLive, stores_of}
 use Rattle.failover_world.specs.Tied.{TermBook, retold, retold_in, history, told_as, theory_world, quorum_of, live_book, AreParts, IsTied, BeginsTerm}
-use Rattle.failover_world.proofs.Places.{retold_put, put_put}
+use Rattle.failover_world.proofs.Places.{retold_put}
+use Rattle.primary.proofs.Put.{put_put}
 use Rattle.failover_world.proofs.Before.{before_now, no_other_with}
 use Rattle.failover_world.proofs.Chosen.{chosen_of, put_own, honest, all_joined, enough}
 

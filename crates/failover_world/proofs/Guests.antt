@@ -17,8 +17,8 @@ use Rattle.failover_theory.proofs.Granting.{a_join}
 use Rattle.failover_theory.proofs.Invariant.{Invariant}
 use Rattle.failover_theory.proofs.Events.{always}
 use Rattle.failover_theory.proofs.Ruled.{IsOfRules, ruled, stores_are_right}
-use Rattle.failover_world.specs.Worlds.{WorldView, store_at}
-use Rattle.failover_world.specs.Tied.{theory_world, quorum_of, IsTied}
+use Rattle.failover_world.specs.Worlds.{WorldView, store_at, term_of}
+use Rattle.failover_world.specs.Tied.{theory_world, quorum_of, live_book, IsTied}
 use Rattle.failover_world.proofs.Places.{there_too}
 
 -- a store joined with itself is that store
@@ -74,6 +74,10 @@ module _ (v : WorldView) (is : IsTied v) (guest : IsGuest (guest_of v.image)) wh
   frame_guest (Log x) has =
       let (p, there, at) = granted_piece (theory_world v.image.pages is.are_theory (guest_of v.image) v is.terms is.out).terms x.key x (kept.frames (Log x) has) in
       (rules.terms.pieces x.key.term p x.key.hart x.key.place x there at).same_guest
+
+  -- so is the opening of the primary's term
+  pub own_guest : v.primary.opening.guest ≡ guest_of v.image
+  own_guest = frame_guest (Opening v.primary.opening) (is.opened (term_of v) (live_book v is.pieces is.is_book) is.there)
 
   pub not_foreign : (keeper : ℕ) (s : StoreView) (f : Frame) → store_at v.stores keeper ≡ Some s → Contains v.sent f → answer_to s f ≢ OtherGuest
   not_foreign keeper s f at has = own_answer s f (frame_guest f has ∙ sym (store_guest keeper s at))

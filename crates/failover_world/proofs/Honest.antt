@@ -7,7 +7,7 @@ use Rattle.log_join.specs.Families.{Past, OfFamily}
 use Rattle.log_join.specs.Stores.{nothing}
 use Rattle.hart_replay.specs.Primaries.{term_of as history_of}
 use Rattle.failover_theory.proofs.Events.{always}
-use Rattle.failover_world.specs.declared.primary.Primary.{Primary}
+use Rattle.primary.specs.declared.granted.Primary.{Primary}
 use Rattle.failover_world.specs.Worlds.{WorldView, term_of}
 use Rattle.failover_world.specs.Promises.{IsItsTerm, AreHonest}
 use Rattle.failover_world.specs.Tied.{TermBook, retold, retold_in, history, told_as, live_term, IsBefore, IsTied, quorum_of}

@@ -7,7 +7,7 @@ use Rattle.closed_cut.specs.Position.{IsPosition}
 use Rattle.ft_types.specs.declared.position.Position.{Position}
 use Rattle.term_gate.specs.TermGates.{TermGateView}
 use Rattle.failover_theory.specs.Worlds as theory
-use Rattle.failover_world.specs.declared.released.Released.{Released}
+use Rattle.primary.specs.declared.released.Released.{Released}
 use Rattle.failover_world.specs.Worlds.{WorldView, store_at, term_of}
 use Rattle.failover_world.specs.Tied.{theory_released, theory_world, quorum_of, IsTied}
 use Rattle.interleaving.specs.Lists.{put}

@@ -1,10 +1,10 @@
 pub mod Places
 pub mod Rows
-pub mod Offers
 pub mod Ties
 pub mod Keeping
 pub mod Counting
 pub mod Going
+pub mod Recorded
 pub mod Sealing
 pub mod Releasing
 pub mod Parts
@@ -19,5 +19,6 @@ pub mod Reviving
 pub mod Onward
 pub mod Promises
 pub mod Beginning
-pub mod Waiting
 pub mod Gates
+pub mod Stepping
+pub mod Letting

@@ -14,7 +14,8 @@ use Rattle.go_live.proofs.Newness.{is_later, not_both}
 use Rattle.failover_world.specs.Worlds.{WorldView, term_of}
 use Rattle.failover_world.specs.Happenings.{if_named, stores_of}
 use Rattle.failover_world.specs.Refusals.{CannotGoLive}
-use Rattle.failover_world.proofs.Rows.{take_next, take_length, enumerate_more, flat_more}
+use Rattle.primary.proofs.Rows.{take_next}
+use Rattle.failover_world.proofs.Rows.{take_length, enumerate_more, flat_more}
 use Rattle.failover_world.proofs.Chosen.{named_from}
 
 -- one keeper more

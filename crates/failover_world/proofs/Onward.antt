@@ -8,15 +8,15 @@ use Rattle.book_modes.specs.Recordings.{RecordingView, heard_by}
 use Rattle.page_book.specs.Books.{BookView}
 use Rattle.ft_types.specs.declared.output.Output.{Output}
 use Rattle.output_gate.specs.Gates.{GateView, offered_of}
-use Rattle.go_live.specs.Outputs.{numbered}
+use Rattle.primary.specs.Outputs.{numbered, said_by, said_at}
 use Rattle.failover_theory.specs.Recorders.{Output as TheoryOutput}
 use Rattle.failover_theory.specs.Machines.{ByRun}
 use Rattle.book_recorder.specs.TermBooks.{ComesOf, outputs_of}
 use Rattle.hart_replay.specs.Primaries.{IsPrimary}
-use Rattle.failover_world.specs.Worlds.{WorldView, said_by, said_at}
-use Rattle.failover_world.specs.Gating.{AreOffered}
+use Rattle.failover_world.specs.Worlds.{WorldView}
+use Rattle.primary.specs.Gating.{AreOffered}
 use Rattle.failover_world.specs.Tied.{IsTied}
-use Rattle.failover_world.proofs.Offers.{numbered_many}
+use Rattle.primary.proofs.Offers.{numbered_many}
 use Rattle.failover_world.proofs.Ties.{new_book}
 use Rattle.failover_world.proofs.Releasing.{in_theory, book_outputs}
 

@@ -8,10 +8,10 @@ use Rattle.fragment_codec.specs.declared.frame.Frame.{Frame}
 use Rattle.log_join.specs.Stores.{StoreView}
 use Rattle.lease_rounds.specs.Running.{IsIdle}
 use Rattle.term_gate.specs.TermGates.{TermGateView}
-use Rattle.failover_world.specs.declared.released.Released.{Released}
-use Rattle.failover_world.specs.declared.primary.Primary.{Primary}
+use Rattle.primary.specs.declared.released.Released.{Released}
+use Rattle.primary.specs.declared.granted.Primary.{Primary}
 use Rattle.failover_world.specs.Worlds.{WorldView}
-use Rattle.failover_world.specs.Gating.{AreOffered}
+use Rattle.primary.specs.Gating.{AreOffered}
 use Rattle.failover_world.specs.Tied.{AreParts}
 use Rattle.failover_world.proofs.Ties.{with_book}
 

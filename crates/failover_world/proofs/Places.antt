@@ -16,13 +16,6 @@ pub retold_put : {A B : Type 0} (f : A → B) (terms : Family A) (n : ℕ) (p : 
     (λ u. retold_in f (put terms n p u)) ≡ put (λ u. retold_in f (terms u)) n (retold_in f p)
 retold_put f terms n p = fun_ext (λ u. of_if (retold_in f) (n == u) p (terms u))
 
-twice : {A : Type 0} (b : Bool) (x y z : A) → (if b then x else (if b then y else z)) ≡ (if b then x else z)
-twice true x y z = refl
-twice false x y z = refl
-
-pub put_put : {A : Type 0} (f : ℕ → A) (n : ℕ) (x y : A) → put (put f n x) n y ≡ put f n y
-put_put f n x y = fun_ext (λ u. twice (n == u) y x (f u))
-
 next_same : (k j : ℕ) → (k == j) ≡ (suc k == suc j)
 next_same k j = elim (same_or_not k j) [
   | inl same ↦ eq-eqb k j same ∙ sym (eq-eqb (suc k) (suc j) (ap suc same))

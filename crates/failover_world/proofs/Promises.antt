@@ -10,7 +10,7 @@ use Rattle.ft_types.specs.Guests.{IsGuest}
 use Rattle.fragment_codec.specs.Rules.{OpeningParts}
 use Rattle.log_join.specs.Families.{Past}
 use Rattle.ft_types.specs.declared.position.Position.{Position}
-use Rattle.failover_world.specs.declared.released.Released.{Released}
+use Rattle.primary.specs.declared.released.Released.{Released}
 use Rattle.log_join.specs.Stores.{nothing}
 use Rattle.log_join.proofs.Families.{granted_opening}
 use Rattle.book_recorder.specs.TermBooks.{outputs_of}
@@ -20,7 +20,8 @@ use Rattle.failover_theory.specs.Laws.{IsFailover, IsInside}
 use Rattle.failover_theory.proofs.Events.{failover}
 use Rattle.failover_theory.proofs.Ruled.{ruled}
 use Rattle.failover_theory.proofs.Reaching.{acked_inside}
-use Rattle.failover_world.specs.Worlds.{WorldView, said_by}
+use Rattle.failover_world.specs.Worlds.{WorldView}
+use Rattle.primary.specs.Outputs.{said_by}
 use Rattle.failover_world.specs.Promises.{IsInChain, Here, Above, IsInside as IsInsideHere, IsOne, IsOfMachine, IsKept, AreHeld, AreAckedInside}
 use Rattle.failover_world.specs.Tied.{Books, retold, retold_in, told_as, theory_released, theory_world, quorum_of, live_book, IsTied}
 use Rattle.failover_world.proofs.Places.{there_too}

@@ -19,9 +19,10 @@ use Rattle.failover_theory.specs.Machines.{IsRecorder}
 use Rattle.book_recorder.specs.TermBooks.{AreTheory, IsTermBook, outputs_of}
 use Rattle.hart_replay.specs.Images.{boot_of}
 use Rattle.page_book.specs.Books.{BookView}
-use Rattle.failover_world.specs.declared.released.Released.{Released}
-use Rattle.failover_world.specs.Worlds.{WorldView, said_by, said_at, term_of}
-use Rattle.failover_world.specs.Gating.{AreRising, released_in}
+use Rattle.primary.specs.declared.released.Released.{Released}
+use Rattle.failover_world.specs.Worlds.{WorldView, term_of}
+use Rattle.primary.specs.Outputs.{said_by, said_at}
+use Rattle.primary.specs.Gating.{AreRising, released_in}
 use Rattle.failover_world.specs.Tied.{retold, retold_in, told_as, theory_released, theory_world, quorum_of, live_book, IsTied}
 use Rattle.failover_world.proofs.Keeping.{changed}
 use Rattle.failover_world.proofs.Going.{IsGoing}

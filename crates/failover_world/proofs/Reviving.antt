@@ -1,10 +1,10 @@
 -- What going live gives, and why it is refused, in the world.
-use Rattle.std.proofs.Common.{◌≡◌, ◌≢◌, ◌⊎◌, inl, inr, ℕ, zero, suc, ◌+◌, ◌-◌, ◌^◌, ◌<◌, ◌≤◌, true, false, List, [], ◌∷◌, ◌++◌, length, map, replicate, take, refl, sym, ap, subst, ◌∙◌, arith}
+use Rattle.std.proofs.Common.{◌≡◌, ◌≢◌, ◌⊎◌, inl, inr, ℕ, ◌+◌, ◌-◌, ◌<◌, ◌≤◌, true, false, List, [], ◌∷◌, ◌++◌, length, map, replicate, take, refl, sym, ap, subst, ◌∙◌, arith}
 use Rattle.std.specs.Prelude.{All}
-use Rattle.std.specs.List.{Any, AllByRecursion}
+use Rattle.std.specs.List.{Any}
 use Rattle.std.proofs.lemmas.List.{length-replicate}
-use Rattle.ft_types.specs.Counts.{count_at, IsCount}
-use Rattle.guest_image.specs.Image.{guest_of}
+use Rattle.ft_types.specs.Counts.{count_at}
+use Rattle.guest_image.specs.Image.{ImageContents, guest_of}
 use Rattle.guest_image.specs.Machine.{MachineState}
 use Rattle.hart_lease.specs.Runs.{counts_of}
 use Rattle.fragment_codec.specs.declared.frame.Frame.{Frame}
@@ -22,63 +22,47 @@ use Rattle.term_gate.specs.TermGates.{TermGateView}
 use Rattle.go_live.specs.declared.fault.LiveFault.{LiveFault}
 use Rattle.go_live.specs.declared.fault.LiveFault.TheVariants.{TooFewStores, TermNotNew, Replay, Memory as NoLive}
 use Rattle.go_live.specs.Faults.{IfReplay}
-use Rattle.go_live.specs.Outputs.{numbered}
+use Rattle.primary.specs.Outputs.{numbered, said_at}
 use Rattle.go_live.specs.Quorums.{distinct, AreEnough, IsNew, IsOld}
-use Rattle.go_live.specs.Lives.{BeginsFrom}
+use Rattle.go_live.specs.Lives.{IsAtPosition}
+use Rattle.primary.specs.Primaries.{no_limits, IsUncut}
+use Rattle.primary.proofs.Greatest.{in_limits}
 use Rattle.go_live.specs.Histories.{AreOfHistory, IsOfHistory, MakesLonger}
-use Rattle.failover_world.specs.declared.primary.Primary.{Primary}
-use Rattle.failover_world.specs.Primaries.{no_limits}
-use Rattle.failover_world.specs.Worlds.{WorldView, term_of, said_at}
-use Rattle.failover_world.specs.Gating.{AreOffered, OffersMore}
+use Rattle.primary.specs.declared.granted.Primary.{Primary}
+use Rattle.failover_world.specs.Worlds.{WorldView, term_of}
+use Rattle.primary.proofs.Waiting.{all_stay}
+use Rattle.primary.specs.Gating.{AreOffered, OffersMore}
 use Rattle.failover_world.specs.Happenings.{stores_of, IsFresh, GoesLive}
 use Rattle.failover_world.specs.Refusals.{CannotGoLive}
 use Rattle.failover_world.specs.Tied.{history, AreParts, IsTied, IsWorld, BeginsTerm}
 use Rattle.go_live.proofs.Places.{has_harts}
-use Rattle.failover_world.proofs.Rows.{take_all}
 use Rattle.failover_world.proofs.Guests.{store_guest}
 use Rattle.failover_world.proofs.Chosen.{each_named, honest}
 use Rattle.failover_world.proofs.Granting.{granted_world, granted}
 
--- ---- limits
+-- ---- the primary
 
-below : (row : List ℕ) (n : ℕ) → length row ≡ n → AllByRecursion IsCount row → (hart : ℕ) → count_at row hart ≤ count_at (replicate n (2 ^ 48 - 1)) hart
-below [] n many each hart = omega arith
-below (x ∷ row) zero many each hart = absurd (omega (arith, many))
-below (x ∷ row) (suc n) many (first, rest) zero = let low : x < 2 ^ 48 = first in omega (arith, low)
-below (x ∷ row) (suc n) many (first, rest) (suc hart) = below row n (omega (arith, many)) rest hart
+module _ (image : ImageContents) (stores : List StoreView) (term : ℕ) (start : MachineState) (opening : OpeningParts)
+    (at : IsAtPosition image stores term start opening) where
+  -- the machine at the position has the opening's harts and counts
+  pub at_harts : length start.harts ≡ opening.guest.harts
+  at_harts = has_harts image at.replayed.legs start at.replayed.outcome ∙ sym (ap (λ (o : OpeningParts). o.guest.harts) at.opened)
 
--- no hart is past the greatest limit
-pub in_limits : (harts : ℕ) (o : OpeningParts) (m : MachineState) → IsOpening o → o.guest.harts ≡ harts →
-    ((hart : ℕ) → counts_of m hart ≡ count_at o.base hart) → (hart : ℕ) → counts_of m hart ≤ count_at (no_limits harts) hart
-in_limits harts o m rules same are hart =
-    subst (λ n. n ≤ count_at (no_limits harts) hart) (sym (are hart)) (below o.base harts (rules.base ∙ same) rules.counts hart)
+  pub at_counts : (hart : ℕ) → counts_of start hart ≡ count_at opening.base hart
+  at_counts hart = at.replayed.counts hart ∙ ap (λ (o : OpeningParts). count_at o.base hart) (sym at.opened)
 
--- a book with other limits
-abbrev pub with_limits : BookView RecordingView → List ℕ → BookView RecordingView
-with_limits b limits = record b { mode = record b.mode { limits = limits } }
+  -- so does the primary that goes on from there
+  module _ (p : Primary) (opens : p.opening ≡ opening) (begins : p.book.start ≡ start) where
+    pub at_too : IsAtPosition image stores term p.book.start p.opening
+    at_too =
+        subst (λ (m : MachineState). IsAtPosition image stores term m p.opening) (sym begins)
+        (subst (λ (o : OpeningParts). IsAtPosition image stores term start o) (sym opens) at)
 
-pub begins_too : (b c : BookView RecordingView) (limits : List ℕ) → c ≡ with_limits b limits → BeginsFrom b.start b → BeginsFrom c.start c
-begins_too b c limits is begins =
-    subst (λ (x : BookView RecordingView). BeginsFrom x.start x) (sym is) (ap (λ (x : BookView RecordingView). with_limits x limits) begins)
+    pub unused_so : IsUnused p.book.mode p.book.start (no_limits opening.guest.harts) → IsUnused p.book.mode p.book.start (no_limits image.harts)
+    unused_so unused = subst (λ n. IsUnused p.book.mode p.book.start (no_limits n)) (ap (λ (o : OpeningParts). o.guest.harts) at.opened) unused
 
-pub unused_too : (b c : BookView RecordingView) (before limits : List ℕ) → c ≡ with_limits b limits → IsUnused b.mode b.start before →
-    IsUnused c.mode c.start limits
-unused_too b c before limits is unused =
-    subst (λ (x : BookView RecordingView). IsUnused x.mode x.start limits) (sym is)
-    (record {
-      limits_are = refl;
-      inputs = unused.inputs;
-      due = unused.due;
-      bells = unused.bells;
-      others = unused.others;
-      few = unused.few;
-      edges = unused.edges;
-      log = unused.log;
-      log_harts = unused.log_harts;
-      log_start = unused.log_start;
-      many = unused.many;
-      rights = unused.rights;
-    })
+    pub uncut_so : IsUncut opening.base p.sealed → IsUncut p.opening.base p.sealed
+    uncut_so uncut = subst (λ (o : OpeningParts). IsUncut o.base p.sealed) (sym opens) uncut
 
 -- ---- the term
 
@@ -96,19 +80,22 @@ given v term asked stores (inl (same, later)) new = record { same = same; later 
 given v term asked stores (inr (none, old)) new = let some = new.granted in absurd (omega (arith, some, none))
 
 -- what going live does in a history makes it the beginning of a term
-pub begins_term : (v : WorldView) (term asked : ℕ) (named : List ℕ) (stores : List StoreView) (p : Primary) (start : MachineState) →
-    stores ≡ map (λ s. s.1) (stores_of v.stores named) → asked ≡ term → p.book.start ≡ start → IsPrimary p.book → IsOpening p.opening →
-    ((h : GuestHistory) → AreOfHistory v.image h stores → IsOfHistory v.image h start p.opening) →
-    ((h : GuestHistory) → AreOfHistory v.image h stores → MakesLonger v.image h asked start p.opening) → BeginsTerm v term named p
-begins_term v term asked named stores p start are same begins primary rules is_history longer =
+pub begins_term : (v : WorldView) (term asked : ℕ) (named : List ℕ) (stores : List StoreView) (p : Primary) (start : MachineState)
+    (opening : OpeningParts) →
+    stores ≡ map (λ s. s.1) (stores_of v.stores named) → asked ≡ term → p.book.start ≡ start → p.opening ≡ opening → IsPrimary p.book → IsOpening opening →
+    ((h : GuestHistory) → AreOfHistory v.image h stores → IsOfHistory v.image h start opening) →
+    ((h : GuestHistory) → AreOfHistory v.image h stores → MakesLonger v.image h asked start opening) → BeginsTerm v term named p
+begins_term v term asked named stores p start opening are same begins opens primary rules is_history longer =
     record {
       primary = primary;
-      rules = rules;
+      rules = subst IsOpening (sym opens) rules;
       is_history = λ h honest.
-          subst (λ (m : MachineState). IsOfHistory v.image h m p.opening) (sym begins) (is_history h (subst (AreOfHistory v.image h) (sym are) honest));
+          subst (λ (o : OpeningParts). IsOfHistory v.image h p.book.start o) (sym opens)
+          (subst (λ (m : MachineState). IsOfHistory v.image h m opening) (sym begins) (is_history h (subst (AreOfHistory v.image h) (sym are) honest)));
       longer = λ h honest.
-          subst (λ (m : MachineState). MakesLonger v.image h term m p.opening) (sym begins)
-          (subst (λ n. MakesLonger v.image h n start p.opening) same (longer h (subst (AreOfHistory v.image h) (sym are) honest)));
+          subst (λ (o : OpeningParts). MakesLonger v.image h term p.book.start o) (sym opens)
+          (subst (λ (m : MachineState). MakesLonger v.image h term m opening) (sym begins)
+          (subst (λ n. MakesLonger v.image h n start opening) same (longer h (subst (AreOfHistory v.image h) (sym are) honest))));
     }
 
 -- ---- refusals
@@ -189,10 +176,7 @@ with_primary v term named p g parts live begins =
       gate_need = live.fresh.of_need;
       gate_harts = live.fresh.of_harts;
       acked = ap length live.fresh.acked ∙ length-replicate v.keepers (replicate v.image.harts 0);
-      offered = λ hart.
-          let many = ap length (live.offered hart) in
-          live.offered hart
-          ∙ sym (take_all (numbered hart (said_at p.book.machine hart)) (length (offered_of g.gate hart)) (omega (arith, many)));
+      offered = all_stay g.gate p.book.machine live.offered;
     }
 
 -- ---- the new world

@@ -1,5 +1,5 @@
 -- Lists that are written place by place.
-use Rattle.std.proofs.Common.{◌≡◌, ◌≢◌, ℕ, zero, suc, ◌+◌, ◌<◌, ◌≤◌, List, [], ◌∷◌, ◌++◌, length, replicate, take, slice_set, slice_get, get_or, Option, Some, None, append_assoc, append-nil, refl, sym, ap, ◌∙◌, arith}
+use Rattle.std.proofs.Common.{◌≡◌, ◌≢◌, ℕ, zero, suc, ◌+◌, ◌<◌, ◌≤◌, List, [], ◌∷◌, ◌++◌, length, replicate, take, slice_set, get_or, Option, None, append_assoc, append-nil, refl, sym, ap, ◌∙◌, arith}
 use Rattle.std.specs.List.{enumerate_from, flat_map}
 
 pub set_next : {A : Type 0} (xs : List A) (n : ℕ) (x : A) → n < length xs → take n xs ≡ replicate n x → take (suc n) (slice_set xs n x) ≡ replicate (suc n) x
@@ -9,17 +9,6 @@ set_next (y ∷ xs) (suc n) x lt is =
     let head : y ≡ x = cc in
     let tail : take n xs ≡ replicate n x = cc in
     ap (λ z. z ∷ take (suc n) (slice_set xs n x)) head ∙ ap (λ zs. x ∷ zs) (set_next xs n x (omega (arith, lt)) tail)
-
-pub take_all : {A : Type 0} (xs : List A) (n : ℕ) → length xs ≤ n → take n xs ≡ xs
-take_all [] zero le = refl
-take_all [] (suc n) le = refl
-take_all (x ∷ xs) zero le = absurd (omega (arith, le))
-take_all (x ∷ xs) (suc n) le = ap (λ ys. x ∷ ys) (take_all xs n (omega (arith, le)))
-
-pub take_next : {A : Type 0} (xs : List A) (n : ℕ) (x : A) → slice_get xs n ≡ Some x → take (suc n) xs ≡ take n xs ++ x ∷ []
-take_next [] n x is = absurd cc
-take_next (y ∷ xs) zero x is = ap (λ z. z ∷ []) (let e : y ≡ x = cc in e)
-take_next (y ∷ xs) (suc n) x is = ap (λ ys. y ∷ ys) (take_next xs n x is)
 
 pub take_length : {A : Type 0} (xs : List A) (n : ℕ) → n ≤ length xs → length (take n xs) ≡ n
 take_length [] zero le = refl
@@ -49,9 +38,6 @@ pub whatever : {A : Type 0} (xs : List A) (i : ℕ) (d e : A) → i < length xs 
 whatever [] i d e lt = absurd (omega (arith, lt))
 whatever (x ∷ xs) zero d e lt = refl
 whatever (x ∷ xs) (suc i) d e lt = whatever xs i d e (omega (arith, lt))
-
-pub same_some : {A : Type 0} (x y : A) → Some x ≡ Some y → x ≡ y
-same_some x y e = cc
 
 pub enumerate_more : {A : Type 0} (n : ℕ) (xs : List A) (x : A) → enumerate_from n (xs ++ x ∷ []) ≡ enumerate_from n xs ++ (n + length xs, x) ∷ []
 enumerate_more n [] x = ap (λ k. (k, x) ∷ []) (omega arith)

@@ -1,103 +1,32 @@
 -- The world stays one that comes in the theory: pieces go out.
-use Rattle.std.proofs.Common.{◌≡◌, ◌⊎◌, inl, inr, ℕ, zero, suc, ◌+◌, ◌-◌, ◌<◌, ◌≤◌, true, List, [], ◌∷◌, ◌++◌, length, map, slice_get, slice_index_or, get_or, Contains, Some, None, refl, sym, ap, subst, ◌∙◌, arith}
-use Rattle.std.specs.List.{flat_map}
-use Rattle.std.proofs.Math.Path.{fun_ext}
-use Rattle.std.proofs.lemmas.Bool.{cases_lt}
-use Rattle.std.proofs.lemmas.List.{append_assoc, append-nil, length-append, map-append}
+use Rattle.std.proofs.Common.{◌≡◌, inl, inr, ℕ, ◌≤◌, true, List, [], ◌∷◌, ◌++◌, length, slice_index_or, Contains, Some, None, refl, sym, ap, subst, ◌∙◌}
 use Rattle.std.proofs.lemmas.List.Elements.{Contains-append_left}
 use Rattle.interleaving.specs.Lists.{put}
-use Rattle.interleaving.specs.Log.{Edge, Log as EdgesAndInputs}
 use Rattle.interleaving.proofs.Put.{same_or_not, put_same, put_other}
 use Rattle.ft_types.specs.Counts.{count_at}
 use Rattle.ft_types.specs.Guests.{GuestParts}
-use Rattle.page_book.specs.Books.{BookView}
-use Rattle.book_modes.specs.Recordings.{RecordingView}
-use Rattle.edge_log.specs.EdgeLog.{edge_as, row_of, edges_of}
-use Rattle.edge_log.proofs.Logs.{in_row, of_row, to_edges, map_contains, contains_map}
-use Rattle.input_log.specs.declared.Input.{Input}
 use Rattle.guest_image.specs.Image.{guest_of}
 use Rattle.hart_lease.specs.Runs.{counts_of}
 use Rattle.fragment_codec.specs.declared.frame.Frame.{Frame}
 use Rattle.fragment_codec.specs.declared.frame.Frame.TheVariants.{Log, Opening}
-use Rattle.fragment_codec.specs.declared.types.Key.{Key}
 use Rattle.fragment_codec.specs.Rules.{FragmentParts}
-use Rattle.log_pieces.specs.Pieces.{Mark, SealedView, IsCut, IsPiece, ArePieces, book_log, mark_of, mark_behind}
-use Rattle.log_join.specs.Families.{Past, Family, NoGap, end_of}
-use Rattle.hart_replay.specs.Primaries.{IsPieceOf, IsTermOfBook}
-use Rattle.hart_replay.proofs.honesty.Primaries.{is_piece}
-use Rattle.failover_theory.specs.Sealings.{sealed_all, IsLogOf}
+use Rattle.log_pieces.specs.Pieces.{Mark, SealedView, IsCut, IsPiece, book_log}
+use Rattle.log_join.specs.Families.{Past, Family, end_of}
 use Rattle.failover_theory.specs.Worlds as theory
-use Rattle.failover_theory.proofs.Cutting.{seals_pieces}
+use Rattle.failover_theory.proofs.Cutting.{piece_is_cut}
 use Rattle.go_live.specs.Histories.{MakesLonger}
+use Rattle.primary.specs.declared.granted.Primary.{Primary}
+use Rattle.primary.proofs.Rows.{same_some}
+use Rattle.primary.proofs.Put.{put_own, put_put}
+use Rattle.primary.proofs.Pieces.{is_fragment_at, cut_of_book, cut_sealed}
+use Rattle.primary.proofs.Sending.{cut_holds}
 use Rattle.failover_world.specs.Worlds.{WorldView, term_of}
-use Rattle.failover_world.specs.Tied.{TermBook, Books, retold, retold_in, history, told_as, theory_world, quorum_of, live_book, live_term, AreParts, IsTied}
+use Rattle.failover_world.specs.Tied.{TermBook, Books, retold, retold_in, history, told_as, theory_world, quorum_of, live_book, live_term, AreParts, IsTied, IsWorld}
 use Rattle.failover_world.proofs.Before.{still_before, no_other_still}
-use Rattle.failover_world.proofs.Places.{retold_put, put_put}
-use Rattle.failover_world.proofs.Rows.{same_some}
-
--- a function with its own value put at a place
-put_own : {A : Type 0} (f : ℕ → A) (n : ℕ) (x : A) → f n ≡ x → put f n x ≡ f
-put_own f n x is =
-    fun_ext
-    (λ u.
-    elim (same_or_not n u) [
-      | inl same ↦ put_same f n u x same ∙ sym is ∙ ap f same
-      | inr other ↦ put_other f n u x other
-    ])
-
--- pieces that end at most at a bound
-bounded : (from bound : ℕ) (xs : List FragmentParts) → from ≤ bound → ((place : ℕ) (x : FragmentParts) → slice_get xs place ≡ Some x → x.to ≤ bound) →
-    end_of from xs ≤ bound
-bounded from bound [] le all = le
-bounded from bound (x ∷ xs) le all = bounded x.to bound xs (all 0 x refl) (λ place y at. all (suc place) y at)
-
--- ---- pieces of one hart's log, up to a mark
-
-no_gap_more : (from : ℕ) (xs : List FragmentParts) (x : FragmentParts) → NoGap from xs → x.from ≡ end_of from xs → NoGap from (xs ++ x ∷ [])
-no_gap_more from [] x none begins = (begins, tt)
-no_gap_more from (y ∷ xs) x (first, rest) begins = (first, no_gap_more y.to xs x rest begins)
-
-end_more : (from : ℕ) (xs : List FragmentParts) (x : FragmentParts) → end_of from (xs ++ x ∷ []) ≡ x.to
-end_more from [] x = refl
-end_more from (y ∷ xs) x = end_more y.to xs x
-
-old_or_last : {A : Type 0} (xs : List A) (x : A) (k : ℕ) (y : A) → slice_get (xs ++ x ∷ []) k ≡ Some y → (slice_get xs k ≡ Some y) ⊎ (x ≡ y)
-old_or_last [] x zero y at = inr (same_some x y at)
-old_or_last [] x (suc k) y at = absurd cc
-old_or_last (z ∷ xs) x zero y at = inl at
-old_or_last (z ∷ xs) x (suc k) y at = old_or_last xs x k y at
-
-module _ (book : BookView RecordingView) (hart from : ℕ) where
-  -- the book's pieces, without a gap, and their mark
-  record StandAt (xs : List FragmentParts) (mark : Mark) : Type 0 where
-    pub no_gap : NoGap from xs
-    pub tell : (place : ℕ) (x : FragmentParts) → slice_get xs place ≡ Some x → IsPieceOf book hart x
-    pub at_mark : mark ≡ record { place = length xs; count = end_of from xs }
-
-  one_more : (guest : GuestParts) (term : ℕ) (xs : List FragmentParts) (x : FragmentParts) (mark : Mark) → StandAt xs mark →
-      IsPiece (book_log guest term book hart) mark x → StandAt (xs ++ x ∷ []) (mark_behind x)
-  one_more guest term xs x mark stand piece =
-      let own : x.key.hart ≡ hart = ap (λ (k : Key). k.hart) piece.key in
-      let place : x.key.place + 1 ≡ length (xs ++ x ∷ []) =
-      ap (λ (k : Key). k.place + 1) piece.key ∙ ap (λ (m : Mark). m.place + 1) stand.at_mark ∙ sym (length-append xs (x ∷ [])) in
-      record {
-        no_gap = no_gap_more from xs x stand.no_gap (piece.begins ∙ ap (λ (m : Mark). m.count) stand.at_mark);
-        tell = λ place y at. elim (old_or_last xs x place y at) [
-          | inl before ↦ stand.tell place y before
-          | inr same ↦ subst (IsPieceOf book hart) same (subst (λ h. IsPieceOf book h x) own (is_piece guest term book hart mark x piece))
-        ];
-        at_mark = λ i. record { place = place i; count = sym (end_more from xs x) i };
-      }
-
-  more_stand : (guest : GuestParts) (term : ℕ) (xs more : List FragmentParts) (old new : Mark) → StandAt xs old →
-      ArePieces (book_log guest term book hart) old more new → StandAt (xs ++ more) new
-  more_stand guest term xs [] old new stand same =
-      subst (λ ys. StandAt ys new) (sym (append-nil xs)) (subst (StandAt xs) (sym same) stand)
-  more_stand guest term xs (x ∷ more) old new stand (piece, rest) =
-      subst (λ ys. StandAt ys new) (append_assoc xs (x ∷ []) more)
-      (more_stand guest term (xs ++ x ∷ []) more (mark_behind x) new (one_more guest term xs x old stand piece) rest)
-
--- ---- the world
+use Rattle.failover_world.proofs.Guests.{own_guest}
+use Rattle.failover_world.proofs.Places.{retold_put}
+use Rattle.failover_world.proofs.Recorded as recorded
+use Rattle.failover_world.proofs.Recorded.{is_log}
 
 module _ (v : WorldView) (is : IsTied v) where
   abbrev past_with : (ℕ → List FragmentParts) → Past (Books v.image.pages is.are_theory)
@@ -114,200 +43,54 @@ module _ (v : WorldView) (is : IsTied v) where
   abbrev ComesWith : (ℕ → List FragmentParts) → List Frame → Type 0
   ComesWith f sent = theory.Comes is.is_recorder.recorder (guest_of v.image) (quorum_of v) (world_with f sent)
 
-  -- the hart's log, as the theory's book has it
-  counted : (hart : ℕ) → is.is_recorder.recorder.counts (is.are_theory.book v.primary.book is.is_book) hart ≡ counts_of v.primary.book.machine hart
-  counted hart =
-      ap (λ f. f hart) (is.is_recorder.counts_are (is.are_theory.book v.primary.book is.is_book)) ∙
-      ap (λ (l : EdgesAndInputs (List Input)). l.end hart) (is.are_theory.log v.primary.book is.is_book)
-
-  started : (hart : ℕ) → is.is_recorder.recorder.start (is.are_theory.book v.primary.book is.is_book) hart ≡ counts_of v.primary.book.start hart
-  started hart =
-      ap (λ f. f hart) (is.is_recorder.start (is.are_theory.book v.primary.book is.is_book)) ∙
-      ap (λ (l : EdgesAndInputs (List Input)). l.start hart) (is.are_theory.log v.primary.book is.is_book)
-
-  edges_are : is.is_recorder.recorder.edges (is.are_theory.book v.primary.book is.is_book) ≡ edges_of v.primary.book.mode.edges
-  edges_are =
-      is.is_recorder.edges (is.are_theory.book v.primary.book is.is_book) ∙
-      ap (λ (l : EdgesAndInputs (List Input)). l.edges) (is.are_theory.log v.primary.book is.is_book)
-
   -- each hart's pieces end at most at its settled count
   pub within : (hart : ℕ) → count_at v.primary.sealed.reached hart ≤ counts_of v.primary.book.machine hart
-  within hart =
-      let from = is.is_recorder.recorder.forward (is.are_theory.book v.primary.book is.is_book) hart in
-      let base = is.of_book.base hart in
-      let start = started hart in
-      let now = counted hart in
-      let ends = ap (λ (m : Mark). m.count) (is.sealed hart) in
-      let below : count_at v.primary.opening.base hart ≤ counts_of v.primary.book.machine hart = omega (arith, from, base, start, now) in
-      let bound =
-      bounded (count_at v.primary.opening.base hart) (counts_of v.primary.book.machine hart) (is.pieces hart) below
-      (λ place x at. (is.of_book.pieces.tell hart place x at).settled) in
-      subst (λ n. n ≤ counts_of v.primary.book.machine hart) (sym ends) bound
-
-  to_theory : (hart : ℕ) (e : Edge) → Contains (map edge_as (row_of v.primary.book.mode.edges hart)) e →
-      Contains (edges_of v.primary.book.mode.edges) e × (e.hart ≡ hart)
-  to_theory hart e has =
-      let log = is.is_book.primary.log in
-      let (x, there, same) = map_contains edge_as (row_of v.primary.book.mode.edges hart) e has in (
-        subst (Contains (edges_of v.primary.book.mode.edges)) same (to_edges v.primary.book.mode.edges.rows hart x there),
-        sym (ap (λ (e : Edge). e.hart) same) ∙ (of_row v.primary.book.mode.edges.start v.primary.book.mode.edges.rows log hart x there).own,
-      )
-
-  of_theory : (hart : ℕ) (e : Edge) → Contains (edges_of v.primary.book.mode.edges) e → e.hart ≡ hart →
-      Contains (map edge_as (row_of v.primary.book.mode.edges hart)) e
-  of_theory hart e has own =
-      let (x, there, same) = in_row v.primary.book.mode.edges.start v.primary.book.mode.edges.rows is.is_book.primary.log e has in
-      subst (Contains (map edge_as (row_of v.primary.book.mode.edges hart))) same
-      (contains_map edge_as (row_of v.primary.book.mode.edges hart) x (subst (λ h. Contains (row_of v.primary.book.mode.edges h) x) own there))
-
-  is_log : (hart : ℕ) →
-      IsLogOf is.is_recorder.recorder (is.are_theory.book v.primary.book is.is_book) (book_log (guest_of v.image) (term_of v) v.primary.book hart)
-  is_log hart =
-      record {
-        settled = let now = counted hart in omega (arith, now);
-        edges = λ e. (
-          (λ has. let both = to_theory hart e has in (subst (λ l. Contains l e) (sym edges_are) both.0, both.1)),
-          (λ both. of_theory hart e (subst (λ l. Contains l e) edges_are both.0) both.1),
-        );
-      }
-
-  -- a row of pieces of one hart
-  all_sealed : (f : ℕ → List FragmentParts) (sent : List Frame) (hart : ℕ) (xs : List FragmentParts) →
-      sealed_all is.is_recorder.recorder (guest_of v.image) (quorum_of v) (world_with f sent) (past_with f) hart xs ≡
-      world_with (put f hart (f hart ++ xs)) (sent ++ map Log xs)
-  all_sealed f sent hart [] =
-      λ i. world_with (sym (put_own f hart (f hart ++ []) (sym (append-nil (f hart)))) i) (sym (append-nil sent) i)
-  all_sealed f sent hart (x ∷ xs) =
-      let g = put f hart (f hart ++ x ∷ []) in
-      let terms =
-      put_put (λ u. retold_in (told_as v.image.pages is.are_theory) (is.terms u)) (term_of v) (Some (past_with f))
-      (Some (past_with (put f hart (f hart ++ x ∷ [])))) in
-      let there = put_same f hart hart (f hart ++ x ∷ []) refl in
-      let row : put (put f hart (f hart ++ x ∷ [])) hart (put f hart (f hart ++ x ∷ []) hart ++ xs) ≡ put f hart (f hart ++ x ∷ xs) =
-      put_put f hart (f hart ++ x ∷ []) (put f hart (f hart ++ x ∷ []) hart ++ xs) ∙
-      ap (put f hart) (ap (λ ys. ys ++ xs) there ∙ append_assoc (f hart) (x ∷ []) xs) in
-      ap
-      (λ t. sealed_all is.is_recorder.recorder (guest_of v.image) (quorum_of v)
-      (record (world_with f (sent ++ Log x ∷ [])) { terms = t }) (past_with (put f hart (f hart ++ x ∷ []))) hart xs) terms ∙
-      all_sealed (put f hart (f hart ++ x ∷ [])) (sent ++ Log x ∷ []) hart xs ∙
-      (λ i. world_with (row i) (append_assoc sent (Log x ∷ []) (map Log xs) i))
+  within =
+      recorded.within v.image is.are_theory is.is_recorder v.primary.book is.is_book (live_term v is.pieces) v.primary.sealed is.of_book is.sealed
 
   module _ (runs : v.runs ≡ true) (new : SealedView) where
-    one_row : (f : ℕ → List FragmentParts) (sent : List Frame) (hart : ℕ) (xs : List FragmentParts) → f hart ≡ is.pieces hart →
-        ArePieces (book_log (guest_of v.image) (term_of v) v.primary.book hart) (mark_of v.primary.sealed hart) xs (mark_of new hart) →
-        ComesWith f sent → ComesWith (put f hart (f hart ++ xs)) (sent ++ map Log xs)
-    one_row f sent hart xs was row comes =
-        subst (theory.Comes is.is_recorder.recorder (guest_of v.image) (quorum_of v)) (all_sealed f sent hart xs)
-        (seals_pieces is.is_recorder.recorder (guest_of v.image) (quorum_of v) (world_with f sent) (past_with f)
-        (book_log (guest_of v.image) (term_of v) v.primary.book hart) (mark_of v.primary.sealed hart) (mark_of new hart) xs comes runs
+    -- one piece goes out
+    one_piece : (f : ℕ → List FragmentParts) (sent : List Frame) (hart : ℕ) (mark : Mark) (x : FragmentParts) → mark.place ≡ length (f hart) →
+        mark.count ≡ end_of (count_at v.primary.opening.base hart) (f hart) → IsPiece (book_log (guest_of v.image) (term_of v) v.primary.book hart) mark x →
+        ComesWith f sent → ComesWith (put f hart (f hart ++ x ∷ [])) (sent ++ Log x ∷ [])
+    one_piece f sent hart mark x place count piece comes =
+        subst
+        (λ t. theory.Comes is.is_recorder.recorder (guest_of v.image) (quorum_of v) (record (world_with f (sent ++ Log x ∷ [])) { terms = t }))
+        (put_put (λ u. retold_in (told_as v.image.pages is.are_theory) (is.terms u)) (term_of v) (Some (past_with f))
+        (Some (past_with (put f hart (f hart ++ x ∷ [])))))
+        (theory.Then comes
+        (theory.Seal (past_with f) hart x runs
         (put_same (λ u. retold_in (told_as v.image.pages is.are_theory) (is.terms u)) (term_of v) (term_of v) (Some (past_with f)) refl)
-        refl refl (is_log hart)
-        (
-        record {
-          place = ap (λ (m : Mark). m.place) (is.sealed hart) ∙ ap length (sym was);
-          count = ap (λ (m : Mark). m.count) (is.sealed hart) ∙ ap (end_of (count_at v.primary.opening.base hart)) (sym was);
-        }
-        )
-        row)
-
-    -- the rows of the harts from the n-th on
-    all_rows : (rows : List (List FragmentParts)) (n : ℕ) (f g : ℕ → List FragmentParts) (sent : List Frame) →
-        ((hart : ℕ) → n ≤ hart → f hart ≡ is.pieces hart) →
-        ((hart : ℕ) → hart < n → g hart ≡ f hart) →
-        ((hart k : ℕ) → hart ≡ n + k → g hart ≡ f hart ++ get_or rows k []) →
-        ((hart k : ℕ) → hart ≡ n + k →
-        ArePieces (book_log (guest_of v.image) (term_of v) v.primary.book hart) (mark_of v.primary.sealed hart) (get_or rows k []) (mark_of new hart)) →
-        ComesWith f sent → ComesWith g (sent ++ map Log (flat_map (λ row. row) rows))
-    all_rows [] n f g sent were before later cut comes =
-        let same : f ≡ g =
-        fun_ext
-        (λ hart.
-        elim (cases_lt hart n) [
-          | inl less ↦ sym (before hart less)
-          | inr over ↦ sym (later hart (hart - n) (omega (arith, over)) ∙ append-nil (f hart))
-        ]) in
-        subst (λ s. ComesWith g s) (sym (append-nil sent)) (subst (λ h. ComesWith h sent) same comes)
-    all_rows (row ∷ rows) n f g sent were before later cut comes =
-        let others : (hart k : ℕ) → hart ≡ suc n + k → put f n (f n ++ row) hart ≡ f hart =
-        λ hart k e. put_other f n hart (f n ++ row) (λ same. absurd (omega (arith, e, same))) in
-        let rest =
-        all_rows rows (suc n) (put f n (f n ++ row)) g (sent ++ map Log row)
-        (λ hart le. others hart (hart - suc n) (omega (arith, le)) ∙ were hart (omega (arith, le)))
-        (λ hart less.
-        elim (same_or_not n hart) [
-          | inl same ↦ later hart 0 (omega (arith, same)) ∙ ap (λ h. f h ++ row) (sym same) ∙ sym (put_same f n hart (f n ++ row) same)
-          | inr other ↦ before hart (below hart n less other) ∙ sym (put_other f n hart (f n ++ row) other)
-        ])
-        (λ hart k e. later hart (suc k) (omega (arith, e)) ∙ ap (λ xs. xs ++ get_or rows k []) (sym (others hart k e)))
-        (λ hart k e. cut hart (suc k) (omega (arith, e)))
-        (one_row f sent n row (were n (omega arith)) (cut n 0 (omega arith)) comes) in
-        subst (ComesWith g)
-        (
-        append_assoc sent (map Log row) (map Log (flat_map (λ row. row) rows)) ∙
-        ap (λ frames. sent ++ frames) (sym (map-append Log row (flat_map (λ row. row) rows)))
-        )
-        rest
-      where
-        below : (hart n : ℕ) → hart < suc n → (n ≡ hart → ⊥) → hart < n
-        below hart n less other = elim (cases_lt hart n) [ inl lt ↦ lt | inr over ↦ absurd (other (omega (arith, less, over))) ]
+        (is_fragment_at (guest_of v.image) (term_of v) v.primary.book hart (length (f hart)) mark x piece place)
+        (piece.begins ∙ count)
+        (piece_is_cut is.is_recorder.recorder (is.are_theory.book v.primary.book is.is_book) (book_log (guest_of v.image) (term_of v) v.primary.book hart)
+        mark x (is_log v.image is.are_theory is.is_recorder v.primary.book is.is_book (guest_of v.image) (term_of v) hart) piece)))
 
     module _ (frames : List Frame) (cut : IsCut (book_log (guest_of v.image) (term_of v) v.primary.book) v.image.harts v.primary.sealed frames new) where
+      abbrev grown : ℕ → List FragmentParts
+      grown hart = is.pieces hart ++ slice_index_or cut.pieces hart []
+
       as_it_was : ComesWith is.pieces v.sent
       as_it_was =
           subst
           (λ t. theory.Comes is.is_recorder.recorder (guest_of v.image) (quorum_of v)
           (record (theory_world v.image.pages is.are_theory (guest_of v.image) v is.terms is.out) { terms = t }))
-          (
-          sym
+          (sym
           (put_own (λ u. retold_in (told_as v.image.pages is.are_theory) (is.terms u)) (term_of v) (Some (past_with is.pieces))
-          (ap (retold_in (told_as v.image.pages is.are_theory)) is.there))
-          )
+          (ap (retold_in (told_as v.image.pages is.are_theory)) is.there)))
           is.comes
 
-      comes_grown : ComesWith (λ hart. is.pieces hart ++ slice_index_or cut.pieces hart []) (v.sent ++ frames)
+      comes_grown : ComesWith grown (v.sent ++ frames)
       comes_grown =
-          subst (λ fs. ComesWith (λ hart. is.pieces hart ++ slice_index_or cut.pieces hart []) (v.sent ++ fs)) (sym cut.in_turn)
-          (all_rows cut.pieces 0 is.pieces (λ hart. is.pieces hart ++ slice_index_or cut.pieces hart []) v.sent (λ hart le. refl)
-          (λ hart less. absurd (omega (arith, less)))
-          (λ hart k e. ap (λ j. is.pieces hart ++ slice_index_or cut.pieces j []) (same_place hart k e))
-          (λ hart k e.
-          subst
-          (λ j.
-          ArePieces (book_log (guest_of v.image) (term_of v) v.primary.book hart) (mark_of v.primary.sealed hart) (get_or cut.pieces j []) (mark_of new hart))
-          (same_place hart k e) (cut.each hart).row)
-          as_it_was)
-        where
-          same_place : (hart k : ℕ) → hart ≡ 0 + k → hart ≡ k
-          same_place hart k e = omega (arith, e)
+          cut_holds (book_log (guest_of v.image) (term_of v) v.primary.book) (count_at v.primary.opening.base) ComesWith one_piece is.pieces v.primary.sealed new
+          is.sealed v.image.harts v.sent frames cut as_it_was
 
       abbrev new_terms : Family (TermBook v.image.pages)
-      new_terms = put is.terms (term_of v) (Some (live_book v (λ hart. is.pieces hart ++ slice_index_or cut.pieces hart []) is.is_book))
-
-      rows_stand : (hart : ℕ) →
-          StandAt v.primary.book hart (count_at v.primary.opening.base hart) (is.pieces hart ++ slice_index_or cut.pieces hart []) (mark_of new hart)
-      rows_stand hart =
-          more_stand v.primary.book hart (count_at v.primary.opening.base hart) (guest_of v.image) (term_of v) (is.pieces hart)
-          (slice_index_or cut.pieces hart []) (mark_of v.primary.sealed hart) (mark_of new hart)
-          (
-          record {
-            no_gap = is.of_book.pieces.no_gap hart;
-            tell = is.of_book.pieces.tell hart;
-            at_mark = is.sealed hart;
-          }
-          )
-          (cut.each hart).row
-
-      of_book : IsTermOfBook v.primary.book (live_term v (λ hart. is.pieces hart ++ slice_index_or cut.pieces hart []))
-      of_book =
-          record {
-            told = is.of_book.told;
-            base = is.of_book.base;
-            pieces = record { no_gap = λ hart. (rows_stand hart).no_gap; tell = λ hart. (rows_stand hart).tell };
-          }
+      new_terms = put is.terms (term_of v) (Some (live_book v grown is.is_book))
 
       opened : (u : ℕ) (p : Past (TermBook v.image.pages)) → new_terms u ≡ Some p → Contains v.sent (Opening p.opening)
       opened u p at =
-          let now : Past (TermBook v.image.pages) = live_book v (λ hart. is.pieces hart ++ slice_index_or cut.pieces hart []) is.is_book in
+          let now : Past (TermBook v.image.pages) = live_book v grown is.is_book in
           elim (same_or_not (term_of v) u) [
             | inl same ↦
                 let was = is.opened (term_of v) (live_book v is.pieces is.is_book) is.there in
@@ -329,35 +112,26 @@ module _ (v : WorldView) (is : IsTied v) where
                 subst
                 (λ t. theory.Comes is.is_recorder.recorder (guest_of v.image) (quorum_of v)
                 (record (theory_world v.image.pages is.are_theory (guest_of v.image) v is.terms is.out) { terms = t; sent = v.sent ++ frames }))
-                (
-                sym
-                (retold_put (told_as v.image.pages is.are_theory) is.terms (term_of v)
-                (Some (live_book v (λ hart. is.pieces hart ++ slice_index_or cut.pieces hart []) is.is_book)))
-                )
+                (sym (retold_put (told_as v.image.pages is.are_theory) is.terms (term_of v) (Some (live_book v grown is.is_book))))
                 comes_grown;
             went_out = is.went_out;
-            pieces = λ hart. is.pieces hart ++ slice_index_or cut.pieces hart [];
+            pieces = grown;
             is_book = is.is_book;
-            there =
-                put_same is.terms (term_of v) (term_of v)
-                (Some (live_book v (λ hart. is.pieces hart ++ slice_index_or cut.pieces hart []) is.is_book)) refl;
-            of_book = of_book;
-            sealed = λ hart. (rows_stand hart).at_mark;
+            there = put_same is.terms (term_of v) (term_of v) (Some (live_book v grown is.is_book)) refl;
+            of_book =
+                cut_of_book (guest_of v.image) (term_of v) v.image.harts v.primary.book (live_term v is.pieces) v.primary.sealed new frames is.of_book
+                is.sealed cut;
+            sealed =
+                cut_sealed (guest_of v.image) (term_of v) v.image.harts v.primary.book (live_term v is.pieces) v.primary.sealed new frames is.of_book
+                is.sealed cut;
             opened = λ u p at. Contains-append_left v.sent frames (Opening p.opening) (opened u p at);
             longer =
                 subst (λ (t : Family (TermBook v.image.pages)). MakesLonger v.image (history t) (term_of v) v.primary.book.start v.primary.opening)
-                (
-                sym
-                (put_put is.terms (term_of v) (Some (live_book v (λ hart. is.pieces hart ++ slice_index_or cut.pieces hart []) is.is_book)) None)
-                )
+                (sym (put_put is.terms (term_of v) (Some (live_book v grown is.is_book)) None))
                 is.longer;
             before = λ p has.
-                let b = is.before p has in
-                still_before is.terms (term_of v) (term_of v)
-                (live_book v (λ hart. is.pieces hart ++ slice_index_or cut.pieces hart []) is.is_book) p b b.earlier;
-            no_other =
-                no_other_still is.terms (term_of v) v.stopped (live_book v (λ hart. is.pieces hart ++ slice_index_or cut.pieces hart []) is.is_book)
-                is.no_other;
+                let b = is.before p has in still_before is.terms (term_of v) (term_of v) (live_book v grown is.is_book) p b b.earlier;
+            no_other = no_other_still is.terms (term_of v) v.stopped (live_book v grown is.is_book) is.no_other;
           }
 
 -- and the parts of the world still fit together
@@ -379,3 +153,22 @@ sealed_parts v is sent new same =
       acked = is.acked;
       offered = is.offered;
     }
+
+-- the world in which they went out
+pub own_cut : (v : WorldView) → IsWorld v → (new : SealedView) (frames : List Frame) →
+    IsCut (book_log v.primary.opening.guest v.primary.opening.term v.primary.book) v.primary.opening.guest.harts v.primary.sealed frames new →
+    IsCut (book_log (guest_of v.image) (term_of v) v.primary.book) v.image.harts v.primary.sealed frames new
+own_cut v is new frames cut =
+    subst (λ (g : GuestParts). IsCut (book_log g (term_of v) v.primary.book) g.harts v.primary.sealed frames new) (own_guest v is.tied is.parts.guest) cut
+
+pub sealed_world : (v : WorldView) → IsWorld v → v.runs ≡ true → (p : Primary) (sent frames : List Frame) →
+    IsCut (book_log v.primary.opening.guest v.primary.opening.term v.primary.book) v.primary.opening.guest.harts v.primary.sealed frames p.sealed →
+    p ≡ record v.primary { sealed = p.sealed } → sent ≡ v.sent ++ frames → IsWorld (record v { primary = p; sent = sent })
+sealed_world v is runs p sent frames cut rest more =
+    let own = own_cut v is p.sealed frames cut in
+    subst (λ (q : Primary). IsWorld (record v { primary = q; sent = sent })) (sym rest)
+    (subst (λ (fs : List Frame). IsWorld (record v { primary = record v.primary { sealed = p.sealed }; sent = fs })) (sym more)
+    (record {
+      parts = sealed_parts v is.parts (v.sent ++ frames) p.sealed own.same_harts;
+      tied = sealed v is.tied runs p.sealed frames own;
+    }))

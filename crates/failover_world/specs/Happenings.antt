@@ -14,14 +14,14 @@ use Rattle.ft_types.specs.declared.position.Position.{Position}
 use Rattle.output_gate.specs.Gates.{noted_at, gone_of, line_of, held_outputs, after_release}
 use Rattle.term_gate.specs.TermGates.{TermGateView, AreAcked}
 use Rattle.go_live.specs.Quorums.{AreEnough, IsNew}
-use Rattle.go_live.specs.Lives.{IsAtPosition, BeginsFrom}
+use Rattle.go_live.specs.Lives.{IsAtPosition}
+use Rattle.primary.specs.Primaries.{BeginsFrom, no_limits, IsUncut}
 use Rattle.failover_events.specs.declared.event.Event.{Event}
 use Rattle.failover_events.specs.declared.event.Event.TheVariants as on
-use Rattle.failover_world.specs.declared.primary.Primary.{Primary}
-use Rattle.failover_world.specs.Primaries.{no_limits, IsUncut}
+use Rattle.primary.specs.declared.granted.Primary.{Primary}
 use Rattle.lease_rounds.specs.Steps.{HasStepped, HoldsNothing}
 use Rattle.failover_world.specs.Worlds.{WorldView, store_at, term_of}
-use Rattle.failover_world.specs.Gating.{AreAllOffered, OffersMore, released_in}
+use Rattle.primary.specs.Gating.{AreAllOffered, OffersMore, released_in}
 
 -- the primary's hart took one step with what was due, and keeps no right to a page
 pub record Steps (v : WorldView) (hart : ℕ) (w : WorldView) : Type 0 where

@@ -12,9 +12,10 @@ use Rattle.hart_replay.specs.Images.{GuestTerm, GuestHistory, IsHistoryOf}
 use Rattle.hart_replay.specs.Primaries.{IsTermOfBook}
 use Rattle.failover_theory.specs.Lists.{how_many}
 use Rattle.term_gate.specs.TermGates.{acked_at}
-use Rattle.failover_world.specs.declared.primary.Primary.{Primary}
-use Rattle.failover_world.specs.declared.released.Released.{Released}
-use Rattle.failover_world.specs.Worlds.{WorldView, store_at, said_at, term_of}
+use Rattle.primary.specs.declared.granted.Primary.{Primary}
+use Rattle.primary.specs.declared.released.Released.{Released}
+use Rattle.failover_world.specs.Worlds.{WorldView, store_at, term_of}
+use Rattle.primary.specs.Outputs.{said_at}
 
 -- the history's term of the primary's number has its opening, and is that of its book
 pub record IsItsTerm (history : GuestHistory) (p : Primary) : Type 0 where

@@ -1,5 +1,5 @@
 -- Why events are refused, and what a refused one leaves.
-use Rattle.std.specs.Prelude.{ℕ, ◌≡◌, ◌≢◌, ◌≤◌, ◌⊎◌, ◌++◌, ◌∷◌, [], List, true, false, length, map, Some, None, All}
+use Rattle.std.specs.Prelude.{ℕ, ◌≡◌, ◌≢◌, ◌≤◌, ◌⊎◌, ◌∷◌, [], List, true, false, length, map, Some, None, All}
 use Rattle.std.specs.List.{Any}
 use Rattle.page_book.specs.declared.answers.BookFault.{BookFault}
 use Rattle.page_book.specs.declared.answers.BookFault.TheVariants.{Memory as NoBookMemory}
@@ -8,9 +8,6 @@ use Rattle.ft_types.specs.declared.position.Position.{Position}
 use Rattle.log_join.specs.Stores.{StoreView}
 use Rattle.ack_core.specs.declared.board.AckFault.{AckFault}
 use Rattle.ack_core.specs.declared.board.AckFault.TheVariants.{OtherTerm}
-use Rattle.ft_types.specs.declared.output.Output.{Output}
-use Rattle.output_gate.specs.Gates.{gone_of, waiting_of}
-use Rattle.term_gate.specs.TermGates.{TermGateView, AreAcked}
 use Rattle.go_live.specs.declared.fault.LiveFault.{LiveFault}
 use Rattle.go_live.specs.declared.fault.LiveFault.TheVariants.{TooFewStores, TermNotNew, Replay, Memory as NoLiveMemory}
 use Rattle.go_live.specs.Quorums.{AreEnough, IsOld}
@@ -19,6 +16,7 @@ use Rattle.failover_events.specs.declared.event.Event.TheVariants as on
 use Rattle.failover_world.specs.declared.fault.WorldFault.{WorldFault}
 use Rattle.failover_world.specs.declared.fault.WorldFault.TheVariants.{NoPrimary, NoKeeper, NoFrame, NotStopped, Step, Live, Ack, Memory}
 use Rattle.lease_rounds.specs.Steps.{IsUnmoved, RefusesStep}
+use Rattle.primary.specs.Gating.{IsAsItWas}
 use Rattle.failover_world.specs.Worlds.{WorldView, store_at, term_of}
 use Rattle.failover_world.specs.Happenings.{stores_of}
 
@@ -125,14 +123,6 @@ Refuses v event Memory = MayLackMemory v event
 pub record IsNotStepped (v w : WorldView) : Type 0 where
   pub book : IsUnmoved v.primary.book w.primary.book
   pub rest : w ≡ record v { primary = record v.primary { book = w.primary.book } }
-
--- What was acknowledged and what went out is as it was; more may have been offered. What is noted is as it was, or it is what was
--- acknowledged.
-pub record IsAsItWas (g h : TermGateView) : Type 0 where
-  pub rest : h ≡ record g { gate = record g.gate { noted = h.gate.noted; lines = h.gate.lines } }
-  pub noted : (h.gate.noted ≡ g.gate.noted) ⊎ AreAcked g h.gate.noted
-  pub gone : (hart : ℕ) → gone_of h.gate hart ≡ gone_of g.gate hart
-  pub waiting : (hart : ℕ) → (more : List Output) × (waiting_of h.gate hart ≡ waiting_of g.gate hart ++ more)
 
 -- a release that let nothing go
 pub record IsNotReleased (v w : WorldView) : Type 0 where

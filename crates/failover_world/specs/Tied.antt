@@ -22,11 +22,11 @@ use Rattle.lease_rounds.specs.Running.{IsIdle}
 use Rattle.hart_lease.specs.Runs.{counts_of}
 use Rattle.term_gate.specs.TermGates.{acked_at}
 use Rattle.go_live.specs.Histories.{AreOfHistory, IsOfHistory, MakesLonger}
-use Rattle.failover_world.specs.declared.released.Released.{Released}
-use Rattle.failover_world.specs.declared.primary.Primary.{Primary}
+use Rattle.primary.specs.declared.released.Released.{Released}
+use Rattle.primary.specs.declared.granted.Primary.{Primary}
 use Rattle.failover_world.specs.Worlds.{WorldView, term_of}
 use Rattle.failover_world.specs.Happenings.{stores_of}
-use Rattle.failover_world.specs.Gating.{AreOffered}
+use Rattle.primary.specs.Gating.{AreOffered}
 
 -- a book of a term
 pub record TermBook (pages : ℕ) : Type 0 where

@@ -1,13 +1,11 @@
 -- The world: primaries one after the other, what was sent, what keepers hold, and what went out.
-use Rattle.std.specs.Prelude.{ℕ, List, [], Bool, Option, Some, None, slice_get, slice_index_or}
+use Rattle.std.specs.Prelude.{ℕ, List, Bool, Option, None, slice_index_or}
 use Rattle.guest_image.specs.Image.{ImageContents}
-use Rattle.guest_image.specs.Machine.{MachineState}
-use Rattle.rv32_hart.specs.Hart.{Hart}
 use Rattle.fragment_codec.specs.declared.frame.Frame.{Frame}
 use Rattle.log_join.specs.Stores.{StoreView}
 use Rattle.term_gate.specs.TermGates.{TermGateView}
-use Rattle.failover_world.specs.declared.primary.Primary.{Primary}
-use Rattle.failover_world.specs.declared.released.Released.{Released}
+use Rattle.primary.specs.declared.granted.Primary.{Primary}
+use Rattle.primary.specs.declared.released.Released.{Released}
 
 pub record WorldView : Type 0 where
   pub image : ImageContents
@@ -28,11 +26,3 @@ term_of w = w.primary.opening.term
 -- a keeper's store, where there is one
 abbrev pub store_at : List (Option StoreView) → ℕ → Option StoreView
 store_at stores keeper = slice_index_or stores keeper None
-
--- what a hart of a machine has put out: steps and words
-abbrev pub said_by : Option Hart → List (ℕ × ℕ)
-said_by None = []
-said_by (Some h) = h.outputs
-
-abbrev pub said_at : MachineState → ℕ → List (ℕ × ℕ)
-said_at machine hart = said_by (slice_get machine.harts hart)

@@ -2,14 +2,10 @@
 #![tactic(auto)]
 
 mod fault;
-mod gating;
 mod keepers;
-mod primary;
-mod released;
 mod world;
 
 pub use failover_events::Event;
 pub use fault::WorldFault;
-pub use primary::Primary;
-pub use released::Released;
+pub use primary::{Primary, Released};
 pub use world::World;

@@ -1,16 +1,13 @@
 //! The world: a primary, the terms before it, what was sent, what keepers hold, and what went out.
 
-ghost use Rattle.std.specs.Prelude.{◌≡◌, ◌≢◌, ◌<◌, ◌≤◌, ◌++◌, ◌∷◌, [], ℕ, true, false, length, replicate, slice_get, slice_set, None, Some, IfOk, IfErr, OnOk, OnErr, IfSome, IfNone};
+ghost use Rattle.std.specs.Prelude.{◌≡◌, ◌≢◌, ◌<◌, ◌≤◌, ◌∷◌, [], true, false, replicate, None, Some, IfOk, IfErr, OnOk, OnErr, IfSome, IfNone};
 ghost use Rattle.ft_types.specs.declared.names.TheConstants.{KEEPER_LIMIT};
-ghost use Rattle.log_join.specs.Stores.{StoreView, nothing};
+ghost use Rattle.log_join.specs.Stores.{nothing};
 ghost use Rattle.guest_image.specs.Image.{guest_of};
-ghost use Rattle.input_log.specs.declared.Input.{Input as input_of_specs};
 ghost use Rattle.fragment_codec.specs.declared.frame.Frame.TheVariants.{Opening as opens};
-ghost use Rattle.page_book.specs.declared.answers.BookFault.{BookFault as book_fault};
-ghost use Rattle.failover_events.specs.declared.event.Event.{Event as event_of};
 ghost use Rattle.failover_events.specs.declared.event.Event.TheVariants as on;
-ghost use Rattle.failover_world.specs.declared.fault.WorldFault.TheVariants.{Memory as NoMemory, NoPrimary};
-ghost use Rattle.failover_world.specs.Primaries.{IsBooted};
+ghost use Rattle.failover_world.specs.declared.fault.WorldFault.TheVariants.{NoPrimary};
+ghost use Rattle.primary.specs.Primaries.{IsBooted};
 ghost use Rattle.failover_events.specs.Events.{MayCome};
 ghost use Rattle.failover_world.specs.Worlds.{term_of};
 ghost use Rattle.failover_world.specs.Happenings.{GoesLive, IsFresh, Grants, Happens};
@@ -22,20 +19,16 @@ ghost use Rattle.input_log.specs.Inputs.{is_bell};
 ghost use Rattle.failover_world.specs.Promises.{AreHonest, IsOne, IsOfMachine, IsKept, AreHeld, AreAckedInside};
 
 use crate::fault::WorldFault;
-use crate::gating::{add_released, offer_all};
 use crate::keepers::{
     are_there, count_named, empty_stores, held_by, join, keeper_at, put, stores_named,
 };
-use crate::primary::{Primary, boot, no_limits, tell_primary};
-use crate::released::Released;
 use failover_events::Event;
 use fragment_codec::{FIRST_TERM, Frame};
 use ft_types::{Hart, Memory, Term};
 use go_live::{LiveFault, go_live};
 use guest_image::{Image, Machine};
 use input_log::Input;
-use lease_rounds::take_step;
-use log_pieces::{Sealed, cut_pieces};
+use primary::{Primary, Released, offer_all, release_outputs};
 use std::alloc::Global;
 use std::marker::Model;
 use std::mem;
@@ -130,8 +123,7 @@ impl World {
         ensures released { IfOk result (λ w. w.released ≡ []) }
     {
         let guest = image.guest();
-        let primary = boot(alloc, image)?;
-        let _edges = primary.book.edges();
+        let primary = Primary::boot(alloc, image)?;
         let mut sent = Vec::new(alloc);
         sent.push(Frame::Opening(primary.opening.copy()))?;
         let own = image.copy()?;
@@ -216,10 +208,7 @@ impl World {
         if !self.runs {
             return Err(WorldFault::NoPrimary);
         }
-        tell_primary(&self.primary.book);
-        let stepped = take_step(alloc, &mut self.primary.book, hart);
-        tell_primary(&self.primary.book);
-        Ok(stepped?)
+        Ok(self.primary.step(alloc, hart)?)
     }
 
     fn offer(&mut self, hart: Hart, input: Input) -> Result<(), WorldFault>
@@ -233,9 +222,7 @@ impl World {
         if !self.runs {
             return Err(WorldFault::NoPrimary);
         }
-        let offered = self.primary.book.offer(hart, 0, input);
-        tell_primary(&self.primary.book);
-        Ok(offered?)
+        Ok(self.primary.offer(hart, 0, input)?)
     }
 
     fn seal(&mut self, alloc: Global) -> Result<(), WorldFault>
@@ -247,15 +234,7 @@ impl World {
         if !self.runs {
             return Err(WorldFault::NoPrimary);
         }
-        let guest = self.image.guest();
-        let term = self.primary.opening.term();
-        let mut sealed = self.primary.sealed;
-        let mut pieces = cut_pieces(alloc, &self.primary.book, &guest, term, &mut sealed)?;
-        if self.sent.append(&mut pieces).is_err() {
-            return Err(WorldFault::Memory);
-        }
-        self.primary.sealed = sealed;
-        Ok(())
+        Ok(self.primary.seal(alloc, &mut self.sent)?)
     }
 
     fn deliver(&mut self, alloc: Global, keeper: u64, frame: u64) -> Result<(), WorldFault>
@@ -316,15 +295,14 @@ impl World {
         if !self.runs {
             return Err(WorldFault::NoPrimary);
         }
-        offer_all(&mut self.gate, self.primary.book.machine())?;
-        if self.released.reserve(self.gate.kept()).is_err() {
-            return Err(WorldFault::Memory);
-        }
         let term = self.primary.opening.term();
-        let _before = self.gate.offered(Hart::new(0));
-        let given = self.gate.release(alloc);
-        let _after = self.gate.offered(Hart::new(0));
-        add_released(&mut self.released, term, &given?);
+        release_outputs(
+            alloc,
+            term,
+            self.primary.book.machine(),
+            &mut self.gate,
+            &mut self.released,
+        )?;
         Ok(())
     }
 
@@ -390,18 +368,10 @@ impl World {
             self.need,
             asked,
         )?;
-        let sealed = Sealed::new(live.opening.base());
+        let primary = Primary::going_on(live.opening, live.book);
         let harts = self.image.harts();
         let mut gate = TermGate::new(alloc, term, harts, self.keepers, self.need)?;
-        let mut book = live.book;
-        book.limit_at(no_limits(harts));
-        let _edges = book.edges();
-        offer_all(&mut gate, book.machine())?;
-        let primary = Primary {
-            opening: live.opening,
-            book,
-            sealed,
-        };
+        offer_all(&mut gate, primary.book.machine())?;
         Ok((primary, gate))
     }
 

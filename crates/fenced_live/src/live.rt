@@ -10,10 +10,11 @@ ghost use Rattle.hart_lease.specs.Runs.{counts_of};
 ghost use Rattle.book_modes.specs.Recordings.{IsUnused};
 ghost use Rattle.guest_image.specs.Image.{guest_of};
 ghost use Rattle.go_live.specs.Quorums.{distinct, AreEnough, IsNew, IsOld};
-ghost use Rattle.go_live.specs.Outputs.{outputs_in};
+ghost use Rattle.primary.specs.Outputs.{outputs_in};
 ghost use Rattle.hart_replay.specs.Images.{GuestHistory};
 ghost use Rattle.go_live.specs.Histories.{AreOfHistory, IsOfHistory, MakesLonger};
-ghost use Rattle.go_live.specs.Lives.{BeginsFrom, IsAtPosition, LeadNowhere};
+ghost use Rattle.primary.specs.Primaries.{BeginsFrom};
+ghost use Rattle.go_live.specs.Lives.{IsAtPosition, LeadNowhere};
 ghost use Rattle.fenced_live.specs.Given.{AreTo, IfReplay};
 
 use crate::fault::GivenFault;

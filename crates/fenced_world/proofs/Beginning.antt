@@ -28,10 +28,10 @@ use Rattle.failover_theory.specs.Worlds.{first_term}
 use Rattle.failover_theory.proofs.Recording.{of_logs}
 use Rattle.term_gate.specs.TermGates.{acked_at}
 use Rattle.fenced_theory.specs.Worlds as theory
-use Rattle.failover_world.specs.declared.released.Released.{Released}
-use Rattle.failover_world.specs.Primaries.{IsBooted}
+use Rattle.primary.specs.declared.released.Released.{Released}
+use Rattle.primary.specs.Primaries.{IsBooted}
 use Rattle.failover_world.specs.Happenings.{IsFresh}
-use Rattle.failover_world.specs.Gating.{AreOffered}
+use Rattle.primary.specs.Gating.{AreOffered}
 use Rattle.failover_world.specs.Tied.{TermBook, Books, retold_in, told_as}
 use Rattle.failover_world.proofs.Places.{retold_put}
 use Rattle.fenced_world.specs.Keepers.{KeptView, kept_at, IsNewKeeper}

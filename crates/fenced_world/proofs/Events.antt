@@ -8,10 +8,11 @@ use Rattle.fragment_codec.specs.declared.frame.Frame.TheVariants.{Opening}
 use Rattle.log_pieces.specs.Pieces.{IsCut, book_log}
 use Rattle.term_gate.specs.TermGates.{TermGateView}
 use Rattle.fenced_keeper.specs.Keepers.{Acknowledges}
-use Rattle.failover_world.specs.declared.released.Released.{Released}
-use Rattle.failover_world.specs.Gating.{AreOffered, AreRising}
+use Rattle.primary.specs.declared.released.Released.{Released}
+use Rattle.primary.specs.Gating.{AreOffered, AreRising}
 use Rattle.fenced_world.specs.Keepers.{KeptView, kept_at}
-use Rattle.fenced_world.specs.Running.{RunningView, with_book, GoesOn, LetsGo}
+use Rattle.fenced_world.specs.Running.{RunningView, with_book, LetsGo}
+use Rattle.primary.specs.Primaries.{GoesOn}
 use Rattle.fenced_world.specs.Granting.{GoesLiveFrom}
 use Rattle.fenced_world.specs.Worlds.{WorldView}
 use Rattle.fenced_world.specs.Happenings.{IsNotGranted, Seals, Takes, JoinsTo, Saves, ComesBack, Raises}
@@ -24,7 +25,8 @@ use Rattle.fenced_world.proofs.Terms.{goes_on}
 use Rattle.fenced_world.proofs.Sealing.{sealed}
 use Rattle.fenced_world.proofs.Guests.{opening_of}
 use Rattle.fenced_world.proofs.Acking.{acknowledged}
-use Rattle.fenced_world.proofs.Releasing.{lets_go, noted, offered_all}
+use Rattle.fenced_world.proofs.Releasing.{lets_go, noted}
+use Rattle.primary.proofs.Waiting.{all_stay}
 use Rattle.fenced_world.proofs.Onward.{rising, still_offered}
 use Rattle.fenced_world.proofs.Granting.{granted}
 
@@ -154,6 +156,6 @@ module _ (v : WorldView) (is : IsWorld v) where
       record {
         parts =
             with_one_more v is.parts r (v.sent ++ Opening r.primary.opening ∷ []) from.live.fresh.of_keepers from.live.fresh.of_need from.live.fresh.of_harts
-            (offered_all r.gate.gate r.primary.book.machine from.live.offered) (begun_led r from.live.begins);
+            (all_stay r.gate.gate r.primary.book.machine from.live.offered) (begun_led r from.live.begins);
         tied = granted v is.tied is.parts term named r from.live from.begins new;
       }

@@ -1,15 +1,11 @@
--- A primary to which an input is offered, or whose gate is told more and lets outputs go.
-use Rattle.std.proofs.Common.{◌≡◌, ℕ, ◌≤◌, [], length, append-nil, Result, Ok, Err, OnOk, OnErr, sym, ap, subst, ◌∙◌}
-use Rattle.input_log.specs.declared.Input.{Input}
+-- A primary whose book goes on, or whose gate is told more and lets outputs go.
+use Rattle.std.proofs.Common.{◌≡◌, ◌≤◌, length, sym, ap, subst, ◌∙◌}
 use Rattle.ft_types.specs.Counts.{count_at}
-use Rattle.guest_image.specs.Machine.{MachineState}
 use Rattle.hart_lease.specs.Runs.{counts_of}
-use Rattle.page_book.specs.Books.{BookView}
-use Rattle.page_book.proofs.Tellings.{tells_the_same}
-use Rattle.book_modes.specs.Recordings.{RecordingView, IsOffered}
-use Rattle.book_recorder.specs.TermBooks.{ComesOf}
+use Rattle.lease_rounds.specs.Running.{IsIdle}
+use Rattle.lease_rounds.specs.Steps.{AreWithin}
 use Rattle.term_gate.specs.TermGates.{TermGateView}
-use Rattle.failover_world.specs.declared.primary.Primary.{Primary}
+use Rattle.primary.specs.declared.granted.Primary.{Primary}
 use Rattle.fenced_world.specs.Running.{RunningView, IsSound}
 
 -- what was noted and what waits may be others
@@ -28,55 +24,37 @@ only_gate r h same =
     ap (λ (g : TermGateView). let s : RunningView = record r { gate = g } in s) same
     ∙ ap (λ x. let s : RunningView = record r { gate = record r.gate { gate = x } } in s) (sym (ap (λ (g : TermGateView). g.gate) same))
 
--- ---- an input
+-- ---- its book goes on
 
--- the book goes on, and is idle and within its limits as it was
-pub record StaysSo (b c : BookView RecordingView) : Type 0 where
-  pub comes : ComesOf b c
-  pub leases : c.leases ≡ b.leases
-  pub machine : c.machine ≡ b.machine
-  pub limits : c.mode.limits ≡ b.mode.limits
-
-pub offered_so : {A E : Type 0} (b c : BookView RecordingView) (hart : ℕ) (input : Input) (result : Result A E) → c ≡ record b { mode = c.mode } →
-    OnOk result (IsOffered b.mode hart 0 input c.mode) → OnErr result (c ≡ b) → StaysSo b c
-offered_so b c hart input (Ok u) same ok err =
+pub stepped_sound : (p q : Primary) (g : TermGateView) → q ≡ record p { book = q.book } → IsIdle q.book → AreWithin q.book →
+    length q.book.machine.harts ≡ length p.book.machine.harts → IsSound p g → IsSound q g
+stepped_sound p q g rest idle within harts is =
     record {
-      comes = record {
-        start = ap (λ (x : BookView RecordingView). x.start) same;
-        journal = ([], ap (λ (x : BookView RecordingView). x.journal) same ∙ sym (append-nil b.journal));
-        tells = tells_the_same b c (ap (λ (x : BookView RecordingView). x.machine) same) (ap (λ (m : RecordingView). m.inputs) ok.rest)
-            (ap (λ (m : RecordingView). m.edges) ok.rest);
-      };
-      leases = ap (λ (x : BookView RecordingView). x.leases) same;
-      machine = ap (λ (x : BookView RecordingView). x.machine) same;
-      limits = ap (λ (m : RecordingView). m.limits) ok.rest;
-    }
-offered_so b c hart input (Err e) same ok err =
-    record {
-      comes = record {
-        start = ap (λ (x : BookView RecordingView). x.start) err;
-        journal = ([], ap (λ (x : BookView RecordingView). x.journal) err ∙ sym (append-nil b.journal));
-        tells = tells_the_same b c (ap (λ (x : BookView RecordingView). x.machine) err) (ap (λ (x : BookView RecordingView). x.mode.inputs) err)
-            (ap (λ (x : BookView RecordingView). x.mode.edges) err);
-      };
-      leases = ap (λ (x : BookView RecordingView). x.leases) err;
-      machine = ap (λ (x : BookView RecordingView). x.machine) err;
-      limits = ap (λ (x : BookView RecordingView). x.mode.limits) err;
-    }
-
-pub sound_so : (p : Primary) (g : TermGateView) (c : BookView RecordingView) → StaysSo p.book c → IsSound p g → IsSound (record p { book = c }) g
-sound_so p g c so is =
-    record {
-      idle = so.leases ∙ is.idle;
-      within = λ hart.
-          subst (λ m. counts_of m hart ≤ count_at c.mode.limits hart) (sym so.machine)
-          (subst (λ limits. counts_of p.book.machine hart ≤ count_at limits hart) (sym so.limits) (is.within hart));
-      harts = ap (λ (m : MachineState). length m.harts) so.machine ∙ is.harts;
-      reached = is.reached;
-      gate_term = is.gate_term;
+      idle = idle;
+      within = within;
+      harts = harts ∙ is.harts;
+      reached = ap (λ (x : Primary). length x.sealed.reached) rest ∙ is.reached;
+      gate_term = is.gate_term ∙ sym (ap (λ (x : Primary). x.opening.term) rest);
       acked = is.acked;
     }
 
-pub left_if : {A E : Type 0} (r : Result A E) (P : Type 0) → P → OnErr r P
-left_if (Ok x) P p = tt
-left_if (Err e) P p = p
+-- an input waits
+pub offered_sound : (p q : Primary) (g : TermGateView) → q ≡ record p { book = record p.book { mode = q.book.mode } } →
+    q.book.mode.limits ≡ p.book.mode.limits → IsSound p g → IsSound q g
+offered_sound p q g rest limits is =
+    subst (λ (x : Primary). IsSound x g) (sym rest)
+    (record {
+      idle = is.idle;
+      within = λ hart. subst (λ row. counts_of p.book.machine hart ≤ count_at row hart) (sym limits) (is.within hart);
+      harts = is.harts;
+      reached = is.reached;
+      gate_term = is.gate_term;
+      acked = is.acked;
+    })
+
+-- pieces were cut
+pub sealed_sound : (p q : Primary) (g : TermGateView) → q ≡ record p { sealed = q.sealed } → length q.sealed.reached ≡ length p.sealed.reached →
+    IsSound p g → IsSound q g
+sealed_sound p q g rest many is =
+    subst (λ (x : Primary). IsSound x g) (sym rest)
+    (record { idle = is.idle; within = is.within; harts = is.harts; reached = many ∙ is.reached; gate_term = is.gate_term; acked = is.acked })

@@ -1,7 +1,6 @@
 pub mod Lists
 pub mod Standing
 pub mod Terms
-pub mod Cutting
 pub mod Sealing
 pub mod Guests
 pub mod Promises

@@ -10,7 +10,8 @@ use Rattle.go_live.specs.declared.fault.LiveFault.{LiveFault}
 use Rattle.go_live.specs.declared.fault.LiveFault.TheVariants.{TooFewStores, TermNotNew, Replay, Memory as NoLive}
 use Rattle.go_live.specs.Quorums.{distinct, AreEnough, HasTerm, IsNew, IsOld}
 use Rattle.go_live.proofs.Newness.{not_both}
-use Rattle.failover_world.proofs.Rows.{take_next, take_length, enumerate_more, flat_more}
+use Rattle.primary.proofs.Rows.{take_next}
+use Rattle.failover_world.proofs.Rows.{take_length, enumerate_more, flat_more}
 use Rattle.failover_world.proofs.Named.{AreTold, told_more}
 use Rattle.fenced_world.specs.Keepers.{KeptView, kept_at, Gift, given_by, gift_if, gifts_from, gifts_of}
 use Rattle.fenced_world.specs.Reviving.{stores_in, givers_in}

@@ -9,11 +9,13 @@ use Rattle.output_gate.specs.Gates.{GateView}
 use Rattle.failover_theory.specs.Recorders.{Output as TheoryOutput}
 use Rattle.failover_theory.specs.Machines.{ByRun}
 use Rattle.book_recorder.specs.TermBooks.{outputs_of}
-use Rattle.failover_world.specs.Worlds.{said_by}
-use Rattle.failover_world.specs.Gating.{AreRising, AreOffered}
+use Rattle.primary.specs.Outputs.{said_by}
+use Rattle.primary.specs.Gating.{AreRising, AreOffered}
 use Rattle.failover_world.proofs.Releasing.{book_outputs}
+use Rattle.failover_world.proofs.Recorded.{comes_of}
 use Rattle.failover_world.proofs.Onward.{from_theory, offered_on}
-use Rattle.fenced_world.specs.Running.{RunningView, GoesOn}
+use Rattle.fenced_world.specs.Running.{RunningView}
+use Rattle.primary.specs.Primaries.{GoesOn}
 use Rattle.fenced_world.specs.Worlds.{WorldView}
 use Rattle.fenced_world.specs.Tied.{IsTied}
 use Rattle.fenced_world.proofs.Terms.{own, new_book}
@@ -47,7 +49,7 @@ module _ (v : WorldView) (is : IsTied v) (n : ℕ) (r : RunningView) (at : slice
       (λ hart k o there.
       let b = is.are_theory.book r.primary.book (own v is n r at).is_book in
       let d = is.are_theory.book c (new_book v is n r at c on) in
-      let fact = ByRun b d (is.are_theory.on r.primary.book c (own v is n r at).is_book (new_book v is n r at c on) on.comes) in
+      let fact = ByRun b d (is.are_theory.on r.primary.book c (own v is n r at).is_book (new_book v is n r at c on) (comes_of r.primary.book c on)) in
       let was = in_theory v is n r at on.before hart k o.0 o.1 there in
       let now = is.is_recorder.recorder.old_outputs b d fact (is.is_recorder.tells fact) hart k (record { step = o.0; word = o.1 }) was in
       from_theory (slice_get c.machine.harts hart) k o

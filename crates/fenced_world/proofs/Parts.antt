@@ -3,10 +3,10 @@ use Rattle.std.proofs.Common.{◌≡◌, inl, inr, ℕ, ◌≤◌, List, [], ◌
 use Rattle.hart_lease.specs.Runs.{LeadsTo}
 use Rattle.page_book.specs.Books.{BookView}
 use Rattle.book_modes.specs.Recordings.{RecordingView, heard_by}
-use Rattle.go_live.specs.Lives.{BeginsFrom}
+use Rattle.primary.specs.Primaries.{BeginsFrom}
 use Rattle.fragment_codec.specs.declared.frame.Frame.{Frame}
-use Rattle.failover_world.specs.declared.released.Released.{Released}
-use Rattle.failover_world.specs.Gating.{AreOffered}
+use Rattle.primary.specs.declared.released.Released.{Released}
+use Rattle.primary.specs.Gating.{AreOffered}
 use Rattle.fenced_world.specs.Keepers.{KeptView}
 use Rattle.fenced_world.specs.Running.{RunningView}
 use Rattle.fenced_world.specs.Worlds.{WorldView}

@@ -8,7 +8,7 @@ use Rattle.log_join.specs.Families.{Past}
 use Rattle.ft_types.specs.declared.position.Position.{Position}
 use Rattle.failover_theory.specs.Families.{Keeps, Here as IsHere, Above as IsAbove}
 use Rattle.failover_theory.specs.Laws.{IsInside}
-use Rattle.failover_world.specs.declared.released.Released.{Released}
+use Rattle.primary.specs.declared.released.Released.{Released}
 use Rattle.failover_world.specs.Tied.{TermBook, Books, told_as, theory_released}
 use Rattle.failover_world.proofs.Promises.{untold}
 use Rattle.failover_world.proofs.Releasing.{book_outputs}

@@ -1,25 +1,23 @@
 -- The world stays one that comes in the theory: outputs of a term go out, whatever terms were granted since.
-use Rattle.std.proofs.Common.{◌≡◌, ◌⊎◌, inl, inr, ℕ, zero, suc, ◌≤◌, List, [], ◌∷◌, ◌++◌, length, map, slice_get, slice_set, Contains, Option, Some, None, sym, ap, subst, ◌∙◌, append-nil, arith}
+use Rattle.std.proofs.Common.{◌≡◌, ◌⊎◌, inl, inr, ℕ, zero, suc, ◌≤◌, List, [], ◌∷◌, ◌++◌, map, slice_get, slice_set, Contains, Option, Some, None, sym, ap, subst, ◌∙◌, append-nil, arith}
 use Rattle.std.proofs.lemmas.List.Elements.{Contains-append_right}
 use Rattle.interleaving.specs.Lists.{Each}
 use Rattle.interleaving.proofs.Cuts.{here_or_later, here}
 use Rattle.rv32_hart.specs.Hart.{Hart}
 use Rattle.guest_image.specs.Image.{guest_of}
-use Rattle.guest_image.specs.Machine.{MachineState}
 use Rattle.hart_lease.specs.Runs.{LeadsTo}
 use Rattle.book_modes.specs.Recordings.{heard_by}
 use Rattle.ft_types.specs.declared.output.Output.{Output}
-use Rattle.output_gate.specs.Gates.{GateView, offered_of, held_outputs}
+use Rattle.output_gate.specs.Gates.{held_outputs}
 use Rattle.term_gate.specs.TermGates.{TermGateView, acked_at}
-use Rattle.go_live.specs.Outputs.{numbered}
+use Rattle.primary.specs.Outputs.{said_by, said_at}
 use Rattle.book_recorder.specs.TermBooks.{outputs_of}
 use Rattle.failover_theory.specs.Worlds.{Released as TheoryReleased}
 use Rattle.fenced_theory.specs.Worlds as theory
-use Rattle.failover_world.specs.declared.released.Released.{Released}
-use Rattle.failover_world.specs.Worlds.{said_by, said_at}
-use Rattle.failover_world.specs.Gating.{AreOffered, AreAllOffered, released_in}
+use Rattle.primary.specs.declared.released.Released.{Released}
+use Rattle.primary.proofs.Waiting.{all_stay}
+use Rattle.primary.specs.Gating.{released_in}
 use Rattle.failover_world.specs.Tied.{Books, theory_released}
-use Rattle.failover_world.proofs.Rows.{take_all}
 use Rattle.failover_world.proofs.Going.{IsGoing, going}
 use Rattle.failover_world.proofs.Releasing.{book_outputs}
 use Rattle.fenced_world.specs.Running.{RunningView, LetsGo}
@@ -38,12 +36,6 @@ said_in_theory : (h : Option Hart) (n step word : ℕ) → slice_get (said_by h)
     slice_get (outputs_of h) n ≡ Some (record { step = step; word = word })
 said_in_theory None n step word is = absurd cc
 said_in_theory (Some h) n step word is = mapped (λ o. record { step = o.0; word = o.1 }) h.outputs n (step, word) is
-
--- all were offered, so the first ones were
-pub offered_all : (g : GateView) (m : MachineState) → AreAllOffered g m → AreOffered g m
-offered_all g m all hart =
-    let many = ap length (all hart) in
-    all hart ∙ sym (take_all (numbered hart (said_at m hart)) (length (offered_of g hart)) (omega (arith, many)))
 
 split : (xs ys : List Released) (r : Released) → Contains (xs ++ ys) r → Contains xs r ⊎ Contains ys r
 split [] ys r has = inr has
@@ -145,4 +137,4 @@ module _ (v : WorldView) (is : IsTied v) (n : ℕ) (r : RunningView) (at : slice
       (subst (λ k. Each (IsGoing k v.need r.gate r.primary.book.machine) (held_outputs r.gate.gate.need s.gate.gate.noted goes.offered.gate.lines)) keepers
       (subst (λ m. Each (IsGoing r.gate.gate.keepers m r.gate r.primary.book.machine) (held_outputs r.gate.gate.need s.gate.gate.noted goes.offered.gate.lines)) need
       (going r.gate.gate.need r.gate goes.offered.gate s.gate.gate.noted r.primary.book.machine goes.acked
-      (offered_all goes.offered.gate r.primary.book.machine goes.all))))
+      (all_stay goes.offered.gate r.primary.book.machine goes.all))))

@@ -12,10 +12,10 @@ use Rattle.fragment_codec.specs.Rules.{OpeningParts, IsOpening}
 use Rattle.hart_replay.proofs.walking.Outcomes.{booted_none, booted_length}
 use Rattle.term_gate.specs.TermGates.{TermGateView}
 use Rattle.go_live.proofs.Places.{has_harts}
-use Rattle.failover_world.specs.declared.primary.Primary.{Primary}
-use Rattle.failover_world.specs.Primaries.{IsBooted}
+use Rattle.primary.specs.declared.granted.Primary.{Primary}
+use Rattle.primary.specs.Primaries.{IsBooted}
 use Rattle.failover_world.specs.Happenings.{IsFresh}
-use Rattle.failover_world.proofs.Reviving.{in_limits}
+use Rattle.primary.proofs.Greatest.{in_limits}
 use Rattle.fenced_world.specs.Keepers.{Gift}
 use Rattle.fenced_world.specs.Running.{RunningView, IsSound}
 use Rattle.fenced_world.specs.Reviving.{GoesLive}

@@ -19,10 +19,12 @@ use Rattle.fenced_histories.proofs.Books.{books_go_on}
 use Rattle.book_recorder.specs.TermBooks.{IsTermBook}
 use Rattle.book_recorder.proofs.Books.{later_are_term_books}
 use Rattle.term_gate.specs.TermGates.{acked_at}
-use Rattle.failover_world.specs.declared.primary.Primary.{Primary}
+use Rattle.primary.specs.declared.granted.Primary.{Primary}
 use Rattle.failover_world.specs.Tied.{TermBook, Books, retold, retold_in, history, told_as, theory_released}
 use Rattle.failover_world.proofs.Places.{retold_put}
-use Rattle.fenced_world.specs.Running.{RunningView, with_book, GoesOn}
+use Rattle.failover_world.proofs.Recorded.{comes_of}
+use Rattle.fenced_world.specs.Running.{RunningView, with_book}
+use Rattle.primary.specs.Primaries.{GoesOn}
 use Rattle.fenced_world.specs.Worlds.{WorldView}
 use Rattle.fenced_world.specs.Tied.{IsIn, IsAmong, AreTerms, IsTied, past_of, told_of, quorum_of}
 use Rattle.fenced_world.proofs.Lists.{some_same, set_same, set_other, set_cases}
@@ -153,20 +155,20 @@ module _ (v : WorldView) (is : IsTied v) where
 
     module _ (c : BookView RecordingView) (on : GoesOn r.primary.book c) where
       pub new_book : IsTermBook v.image.pages c
-      new_book = later_are_term_books v.image.pages r.primary.book c own.is_book on.comes on.primary
+      new_book = later_are_term_books v.image.pages r.primary.book c own.is_book (comes_of r.primary.book c on) on.primary
 
       abbrev next : Primary
       next = record r.primary { book = c }
 
       of_book : IsTermOfBook c (told_of next own.pieces)
-      of_book = terms_go_on r.primary.book c (told_of r.primary own.pieces) own.of_book on.comes.start on.comes.tells
+      of_book = terms_go_on r.primary.book c (told_of r.primary own.pieces) own.of_book on.start on.tells
 
       its_history : BookGoesOn v.image r.primary.book c (told_of r.primary own.pieces) (told_of next own.pieces)
       its_history =
           record {
             before = own.is_book;
             after = new_book;
-            comes = on.comes;
+            comes = comes_of r.primary.book c on;
             was = own.of_book;
             is = of_book;
             opening = refl;
@@ -177,7 +179,7 @@ module _ (v : WorldView) (is : IsTied v) where
       goes_on =
           let b = is.are_theory.book r.primary.book own.is_book in
           let d = is.are_theory.book c new_book in
-          let fact = ByRun b d (is.are_theory.on r.primary.book c own.is_book new_book on.comes) in
+          let fact = ByRun b d (is.are_theory.on r.primary.book c own.is_book new_book (comes_of r.primary.book c on)) in
           retermed (with_book r c) v.sent (past_of next own.pieces new_book)
           (theory.stepped is.world r.primary.opening.term past_now d)
           refl refl

@@ -10,7 +10,7 @@ use Rattle.fragment_codec.specs.declared.frame.Frame.TheVariants.{Opening}
 use Rattle.log_pieces.specs.Pieces.{IsCut, book_log}
 use Rattle.log_join.specs.Stores.{IsJoin, alone}
 use Rattle.lease_rounds.specs.Steps.{HasStepped, HoldsNothing}
-use Rattle.failover_world.specs.Primaries.{IsBooted}
+use Rattle.primary.specs.Primaries.{IsBooted}
 use Rattle.failover_world.specs.Happenings.{IsFresh}
 use Rattle.fenced_keeper.specs.Keepers.{Acknowledges}
 use Rattle.fenced_world.specs.declared.event.FencedEvent.{FencedEvent}

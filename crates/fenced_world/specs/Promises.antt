@@ -7,8 +7,8 @@ use Rattle.closed_cut.specs.Position.{IsPosition}
 use Rattle.ft_types.specs.declared.position.Position.{Position}
 use Rattle.hart_replay.specs.Images.{GuestTerm, GuestHistory, IsHistoryOf}
 use Rattle.failover_theory.specs.Lists.{how_many}
-use Rattle.failover_world.specs.declared.released.Released.{Released}
-use Rattle.failover_world.specs.Worlds.{said_at}
+use Rattle.primary.specs.declared.released.Released.{Released}
+use Rattle.primary.specs.Outputs.{said_at}
 use Rattle.failover_world.specs.Promises.{IsItsTerm}
 use Rattle.fenced_world.specs.Keepers.{KeptView, kept_at}
 use Rattle.fenced_world.specs.Running.{RunningView}

@@ -13,7 +13,7 @@ use Rattle.lease_rounds.specs.Steps.{IsUnmoved, RefusesStep}
 use Rattle.go_live.specs.declared.fault.LiveFault.{LiveFault}
 use Rattle.go_live.specs.declared.fault.LiveFault.TheVariants.{TooFewStores, TermNotNew, Replay, Memory as NoLiveMemory}
 use Rattle.go_live.specs.Quorums.{AreEnough, IsOld}
-use Rattle.failover_world.specs.Refusals.{IsAsItWas}
+use Rattle.primary.specs.Gating.{IsAsItWas}
 use Rattle.fenced_keeper.specs.Keepers.{Acknowledges}
 use Rattle.fenced_world.specs.declared.event.FencedEvent.{FencedEvent}
 use Rattle.fenced_world.specs.declared.event.FencedEvent.TheVariants as on

@@ -10,11 +10,11 @@ use Rattle.hart_replay.specs.Primaries.{IsPrimary}
 use Rattle.hart_replay.specs.declared.fault.ReplayFault.TheVariants.{OtherGuest}
 use Rattle.go_live.specs.declared.fault.LiveFault.TheVariants.{TooFewStores, TermNotNew, Replay, Memory}
 use Rattle.go_live.specs.Quorums.{AreEnough, IsNew, IsOld}
-use Rattle.go_live.specs.Lives.{IsAtPosition, BeginsFrom}
+use Rattle.go_live.specs.Lives.{IsAtPosition}
+use Rattle.primary.specs.Primaries.{BeginsFrom, no_limits, IsUncut}
 use Rattle.go_live.specs.Histories.{AreOfHistory, IsOfHistory, MakesLonger}
-use Rattle.failover_world.specs.declared.primary.Primary.{Primary}
-use Rattle.failover_world.specs.Primaries.{no_limits, IsUncut}
-use Rattle.failover_world.specs.Gating.{AreAllOffered}
+use Rattle.primary.specs.declared.granted.Primary.{Primary}
+use Rattle.primary.specs.Gating.{AreAllOffered}
 use Rattle.failover_world.specs.Happenings.{IsFresh}
 use Rattle.fenced_live.specs.declared.fault.GivenFault.{GivenFault}
 use Rattle.fenced_live.specs.declared.fault.GivenFault.TheVariants.{OtherTerm, Live}

@@ -17,9 +17,9 @@ use Rattle.failover_theory.specs.Worlds.{Quorum, Released as TheoryReleased}
 use Rattle.fenced_theory.specs.Worlds as theory
 use Rattle.fenced_keeper.specs.Following.{Stands}
 use Rattle.term_gate.specs.TermGates.{acked_at}
-use Rattle.failover_world.specs.declared.primary.Primary.{Primary}
-use Rattle.failover_world.specs.declared.released.Released.{Released}
-use Rattle.failover_world.specs.Gating.{AreOffered}
+use Rattle.primary.specs.declared.granted.Primary.{Primary}
+use Rattle.primary.specs.declared.released.Released.{Released}
+use Rattle.primary.specs.Gating.{AreOffered}
 use Rattle.failover_world.specs.Tied.{TermBook, Books, retold_in, history, told_as, theory_released}
 use Rattle.fenced_world.specs.Keepers.{KeptView, kept_at}
 use Rattle.fenced_world.specs.Running.{RunningView}

@@ -2,7 +2,7 @@
 use Rattle.std.specs.Prelude.{ℕ, List, Option}
 use Rattle.guest_image.specs.Image.{ImageContents}
 use Rattle.fragment_codec.specs.declared.frame.Frame.{Frame}
-use Rattle.failover_world.specs.declared.released.Released.{Released}
+use Rattle.primary.specs.declared.released.Released.{Released}
 use Rattle.fenced_world.specs.Keepers.{KeptView}
 use Rattle.fenced_world.specs.Running.{RunningView}
 

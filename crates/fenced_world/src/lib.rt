@@ -4,7 +4,6 @@
 mod event;
 mod fault;
 mod finding;
-mod gating;
 mod keepers;
 mod place;
 mod reviving;
@@ -13,8 +12,8 @@ mod starting;
 mod world;
 
 pub use event::FencedEvent;
-pub use failover_world::{Primary, Released};
 pub use fault::FencedFault;
 pub use place::MemoryPlace;
+pub use primary::{Primary, Released};
 pub use running::Running;
 pub use world::FencedWorld;

@@ -1,21 +1,17 @@
 //! A primary that goes live from what keepers gave.
 
-ghost use Rattle.std.specs.Prelude.{◌≡◌, ◌<◌, ◌≤◌, map, IfOk, IfErr};
+ghost use Rattle.std.specs.Prelude.{◌<◌, ◌≤◌, map, IfOk, IfErr};
 ghost use Rattle.ft_types.specs.declared.names.TheConstants.{KEEPER_LIMIT};
 ghost use Rattle.fenced_world.specs.Reviving.{GoesLive, BeginsTerm, CannotGoLive, stores_in};
 ghost use Rattle.fenced_world.specs.Keepers.{gift_of};
 
-use crate::gating::offer_all;
 use crate::running::Running;
-use crate::starting::no_limits;
-use failover_world::Primary;
 use fenced_keeper::Given;
 use fenced_live::{GivenFault, go_live_given};
 use ft_types::Term;
 use go_live::{Live, LiveFault};
 use guest_image::Image;
-use log_pieces::Sealed;
-use page_book::{Book, Recording};
+use primary::{Primary, offer_all};
 use std::alloc::Global;
 use std::result::Result;
 use term_gate::TermGate;
@@ -35,22 +31,13 @@ pub(crate) fn revived(
     ensures refused { IfErr result (λ fault. CannotGoLive image.now keepers need term (map gift_of given.now) fault) }
 {
     let live = go_live_given(alloc, image, given, keepers, need, term)?;
-    let sealed = Sealed::new(live.opening.base());
+    let primary = Primary::going_on(live.opening, live.book);
     let harts = image.harts();
     let Ok(mut gate) = TermGate::new(alloc, term, harts, keepers, need) else {
         return Err(GivenFault::Live(LiveFault::Memory));
     };
-    let mut book = live.book;
-    book.limit_at(no_limits(harts));
-    // proof: its log is honest.
-    let _edges = book.edges();
-    if offer_all(&mut gate, book.machine()).is_err() {
+    if offer_all(&mut gate, primary.book.machine()).is_err() {
         return Err(GivenFault::Live(LiveFault::Memory));
     }
-    let primary = Primary {
-        opening: live.opening,
-        book,
-        sealed,
-    };
     Ok(Running { primary, gate })
 }

@@ -1,6 +1,6 @@
 //! A primary of a granted term, with the gate of that term.
 
-ghost use Rattle.std.specs.Prelude.{◌≡◌, ◌≢◌, ◌<◌, ◌≤◌, ◌++◌, ◌↔◌, ℕ, false, length, slice_set, slice_index, Err, IfOk, IfErr, OnOk, OnErr};
+ghost use Rattle.std.specs.Prelude.{◌≡◌, ◌≢◌, ◌<◌, ◌≤◌, ◌++◌, ◌↔◌, ℕ, false, length, slice_set, slice_index, Err, IfErr, OnOk, OnErr};
 ghost use Rattle.input_log.specs.Inputs.{is_bell};
 ghost use Rattle.ft_types.specs.Counts.{count_at};
 ghost use Rattle.fragment_codec.specs.declared.frame.Frame.{Frame as frame_of_specs};
@@ -9,23 +9,18 @@ ghost use Rattle.hart_lease.specs.Runs.{LeadsTo, counts_of};
 ghost use Rattle.book_modes.specs.Recordings.{heard_by, IsOffered};
 ghost use Rattle.lease_rounds.specs.Steps.{HasStepped, HoldsNothing, IsUnmoved, RefusesStep};
 ghost use Rattle.log_pieces.specs.Pieces.{IsCut, book_log};
-ghost use Rattle.book_recorder.specs.TermBooks.{ComesOf};
-ghost use Rattle.hart_replay.specs.Primaries.{IsPrimary};
 ghost use Rattle.term_gate.specs.TermGates.{acked_at};
-ghost use Rattle.failover_world.specs.Refusals.{IsAsItWas};
-ghost use Rattle.failover_world.specs.Gating.{AreOffered, AreRising};
-ghost use Rattle.fenced_world.specs.Running.{GoesOn, LetsGo, with_book};
+ghost use Rattle.primary.specs.Gating.{AreOffered, AreRising, IsAsItWas};
+ghost use Rattle.primary.specs.Primaries.{GoesOn};
+ghost use Rattle.fenced_world.specs.Running.{LetsGo, with_book};
 
-use crate::gating::{add_released, offer_all};
 use ack_core::AckFault;
-use failover_world::{Primary, Released};
 use fragment_codec::{Frame, Opening};
 use ft_types::{Hart, Keeper, Memory, Position, Term};
 use guest_image::Machine;
 use input_log::Input;
-use lease_rounds::take_step;
-use log_pieces::cut_pieces;
-use page_book::{Book, BookFault, Recording};
+use page_book::BookFault;
+use primary::{Primary, Released, release_outputs};
 use std::alloc::Global;
 use std::marker::Model;
 use std::result::Result;
@@ -54,15 +49,6 @@ impl Model for Running {
     ghost view = { λ r. record { primary = r.primary; gate = r.gate } };
 
     ghost invariant = { λ r. IsSound r.primary r.gate };
-}
-
-/// What the type of a recording book tells: its log is honest, and its journal leads to its machine. It is called for a proof alone.
-pub(crate) fn tell_primary(book: &Book<Recording>)
-    ensures primary { IsPrimary book.now }
-    ensures leads { LeadsTo (heard_by book.now.mode) book.now.start book.now.journal book.now.machine }
-{
-    let _next = book.edges().next(Hart::new(0), 0);
-    let _machine = book.machine();
 }
 
 impl Running {
@@ -106,10 +92,7 @@ impl Running {
         ensures refused { IfErr result (λ fault. RefusesStep self.old.primary.book hart fault) }
         ensures unmoved { OnErr result (IsUnmoved self.old.primary.book self.new.primary.book) }
     {
-        tell_primary(&self.primary.book);
-        let stepped = take_step(alloc, &mut self.primary.book, hart);
-        tell_primary(&self.primary.book);
-        stepped
+        self.primary.step(alloc, hart)
     }
 
     /// An input waits for a hart.
@@ -122,15 +105,11 @@ impl Running {
         ensures offered { OnOk result (IsOffered self.old.primary.book.mode hart 0 input self.new.primary.book.mode) }
         ensures err { OnErr result (self.new ≡ self.old) }
     {
-        tell_primary(&self.primary.book);
-        let offered = self.primary.book.offer(hart, 0, input);
-        tell_primary(&self.primary.book);
-        offered
+        self.primary.offer(hart, 0, input)
     }
 
     /// Pieces of the log, up to the settled counts, are sent.
     pub(crate) fn seal(&mut self, alloc: Global, sent: &mut Vec<Frame>) -> Result<(), Memory>
-        requires term { 1 ≤ self.old.primary.opening.term }
         requires guest { self.old.primary.opening.guest.harts ≡ self.old.gate.harts }
         requires within { (hart : ℕ) → count_at self.old.primary.sealed.reached hart ≤ counts_of self.old.primary.book.machine hart }
         ensures cut { OnOk result ((frames : List frame_of_specs)
@@ -141,12 +120,7 @@ impl Running {
         ensures err { OnErr result (self.new ≡ self.old) }
         ensures none { OnErr result (sent.new.items ≡ sent.old.items) }
     {
-        let guest = self.primary.opening.guest();
-        let term = self.primary.opening.term();
-        let mut sealed = self.primary.sealed;
-        let mut pieces = cut_pieces(alloc, &self.primary.book, &guest, term, &mut sealed)?;
-        sent.append(&mut pieces)?;
-        self.primary.sealed = sealed;
+        self.primary.seal(alloc, sent)?;
         Ok(())
     }
 
@@ -183,14 +157,14 @@ impl Running {
         ensures was { OnErr result (IsAsItWas self.old.gate self.new.gate) }
         ensures none { OnErr result (released.new.items ≡ released.old.items) }
     {
-        offer_all(&mut self.gate, self.primary.book.machine())?;
-        released.reserve(self.gate.kept())?;
         let term = self.primary.opening.term();
-        // proof: how many lines the gate has, before and after.
-        let _before = self.gate.offered(Hart::new(0));
-        let given = self.gate.release(alloc);
-        let _after = self.gate.offered(Hart::new(0));
-        add_released(released, term, &given?);
+        release_outputs(
+            alloc,
+            term,
+            self.primary.book.machine(),
+            &mut self.gate,
+            released,
+        )?;
         Ok(())
     }
 }

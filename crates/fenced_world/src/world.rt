@@ -1,6 +1,6 @@
 //! The world: primaries that run at once, what was sent, the keepers, and what went out.
 
-ghost use Rattle.std.specs.Prelude.{◌≡◌, ◌≢◌, ◌<◌, ◌≤◌, ℕ, false, length, slice_get, Some, IfOk, IfErr, IfSome, IfNone, OnOk, OnErr, All, ◌⊎◌};
+ghost use Rattle.std.specs.Prelude.{◌≡◌, ◌≢◌, ◌<◌, ◌≤◌, ℕ, false, slice_get, Some, IfOk, IfErr, IfSome, IfNone, OnOk, OnErr, All, ◌⊎◌};
 ghost use Rattle.ft_types.specs.declared.names.TheConstants.{KEEPER_LIMIT};
 ghost use Rattle.input_log.specs.Inputs.{is_bell};
 ghost use Rattle.go_live.specs.declared.fault.LiveFault.{LiveFault as live_fault};
@@ -21,12 +21,12 @@ use crate::keepers::{
 use crate::reviving::revived;
 use crate::running::Running;
 use crate::starting::started;
-use failover_world::Released;
 use fragment_codec::Frame;
 use ft_types::{Hart, Keeper, Memory, Term};
 use go_live::LiveFault;
 use guest_image::{Image, Machine};
 use input_log::Input;
+use primary::Released;
 use std::alloc::Global;
 use std::marker::Model;
 use std::result::Result;

@@ -1,6 +1,5 @@
 -- Where a primary goes on that goes live.
-use Rattle.std.specs.Prelude.{ℕ, ◌≡◌, ◌≢◌, List, [], replicate, None}
-use Rattle.ft_types.specs.declared.names.TheConstants.{HART_ROW}
+use Rattle.std.specs.Prelude.{ℕ, ◌≡◌, ◌≢◌, List}
 use Rattle.ft_types.specs.Counts.{count_at}
 use Rattle.ft_types.specs.Guests.{GuestParts}
 use Rattle.fragment_codec.specs.Rules.{OpeningParts}
@@ -10,8 +9,6 @@ use Rattle.ft_types.specs.declared.position.Position.{Position}
 use Rattle.guest_image.specs.Image.{ImageContents, guest_of}
 use Rattle.guest_image.specs.Machine.{MachineState}
 use Rattle.hart_lease.specs.Runs.{counts_of}
-use Rattle.book_modes.specs.Recordings.{RecordingView}
-use Rattle.page_book.specs.Books.{BookView}
 use Rattle.hart_replay.specs.declared.plans.PlannedLeg.{PlannedLeg}
 use Rattle.hart_replay.specs.declared.fault.ReplayFault.{ReplayFault}
 use Rattle.hart_replay.specs.declared.fault.ReplayFault.TheVariants.{OtherGuest, Memory}
@@ -31,10 +28,6 @@ pub record IsReplayed (image : ImageContents) (store : StoreView) (position : Po
 -- the opening of a term that goes on from the position
 abbrev pub opening_from : GuestParts → ℕ → Position → OpeningParts
 opening_from guest term position = record { guest = guest; term = term; parent = position.term; base = position.counts }
-
--- a book that begins with the machine: no step is settled, and no lease is open
-abbrev pub BeginsFrom : MachineState → BookView RecordingView → Type 0
-BeginsFrom machine book = book ≡ record { start = machine; machine = machine; journal = []; leases = replicate HART_ROW None; mode = book.mode }
 
 -- the machine is where the join of the stores leads to, and the opening goes on from there
 pub record IsAtPosition (image : ImageContents) (stores : List StoreView) (term : ℕ) (machine : MachineState) (opening : OpeningParts) : Type 0 where

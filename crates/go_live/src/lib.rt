@@ -5,7 +5,6 @@ mod fault;
 mod joining;
 mod laws;
 mod live;
-mod outputs;
 mod quorum;
 
 pub use fault::LiveFault;

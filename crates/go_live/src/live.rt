@@ -1,6 +1,6 @@
 //! A primary that goes live.
 
-ghost use Rattle.std.specs.Prelude.{◌≡◌, ◌≢◌, ◌<◌, ◌≤◌, ◌+◌, ◌-◌, ◌↔◌, ℕ, map, length, slice_index, Err, All, IfOk, IfErr, OnOk};
+ghost use Rattle.std.specs.Prelude.{◌≡◌, ◌≢◌, ◌<◌, ◌≤◌, ◌+◌, ◌-◌, ◌↔◌, ℕ, map, length, Err, All, IfOk, IfErr, OnOk};
 ghost use Rattle.std.specs.List.{Any};
 ghost use Rattle.ft_types.specs.declared.names.TheConstants.{KEEPER_LIMIT};
 ghost use Rattle.input_log.specs.Waiting.{bells_of};
@@ -10,15 +10,15 @@ ghost use Rattle.hart_lease.specs.Runs.{counts_of};
 ghost use Rattle.book_modes.specs.Recordings.{IsUnused};
 ghost use Rattle.guest_image.specs.Image.{guest_of};
 ghost use Rattle.go_live.specs.Quorums.{distinct, AreEnough, IsNew, IsOld};
-ghost use Rattle.go_live.specs.Outputs.{outputs_in};
+ghost use Rattle.primary.specs.Outputs.{outputs_in};
 ghost use Rattle.go_live.specs.Faults.{IfReplay};
 ghost use Rattle.hart_replay.specs.Images.{GuestHistory};
 ghost use Rattle.go_live.specs.Histories.{AreOfHistory, IsOfHistory, MakesLonger};
-ghost use Rattle.go_live.specs.Lives.{opening_from, BeginsFrom, IsReplayed, IsAtPosition, HasNoMachine, LeadNowhere};
+ghost use Rattle.go_live.specs.Lives.{opening_from, IsReplayed, IsAtPosition, HasNoMachine, LeadNowhere};
+ghost use Rattle.primary.specs.Primaries.{BeginsFrom};
 
 use crate::fault::LiveFault;
 use crate::joining::join_all;
-use crate::outputs::outputs_of;
 use crate::quorum::{are_enough, are_of, is_new};
 use closed_cut::position;
 use fragment_codec::Opening;
@@ -27,6 +27,7 @@ use guest_image::{Image, Machine};
 use hart_replay::{ReplayFault, plan, replay_plain};
 use log_join::Store;
 use page_book::{Book, Recording};
+use primary::all_outputs;
 use std::alloc::Global;
 use std::result::Result;
 
@@ -85,7 +86,7 @@ fn begin(alloc: Global, machine: Machine, counts: Counts, opening: Opening) -> R
     ensures mode { IfOk result (λ live. IsUnused live.book.mode machine counts) }
     ensures outputs { IfOk result (λ live. live.outputs.items ≡ outputs_in machine) }
 {
-    let outputs = outputs_of(alloc, &machine)?;
+    let outputs = all_outputs(alloc, &machine)?;
     let book = Book::<Recording>::begin(alloc, machine, counts)?;
     Ok(Live {
         book,

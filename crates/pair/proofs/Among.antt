@@ -6,9 +6,9 @@ use Rattle.std.proofs.lemmas.List.Sums.{count_by-le-length, length-filter}
 use Rattle.std.specs.List.{enumerate_from, flat_map}
 use Rattle.ft_types.specs.declared.output.Output.{Output}
 use Rattle.rv32_hart.specs.Hart.{Hart}
-use Rattle.pair.specs.Telling.{numbered_from}
+use Rattle.primary.specs.Outputs.{numbered_from}
 use Rattle.pair.specs.Released.{output_at}
-use Rattle.pair.proofs.Told.{numbered_more, since_more}
+use Rattle.primary.proofs.Told.{numbered_more, since_more}
 
 -- the outputs of these harts
 abbrev pub outputs_of : List Hart → List Output

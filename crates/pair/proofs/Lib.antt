@@ -8,5 +8,4 @@ pub mod Among
 pub mod Leading
 pub mod Sealed
 pub mod Taken
-pub mod Told
 pub mod Limits

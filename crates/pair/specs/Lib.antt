@@ -5,5 +5,4 @@ pub mod Posts
 pub mod Released
 pub mod Rounds
 pub mod Serving
-pub mod Telling
 pub mod Printing

@@ -3,7 +3,7 @@ use Rattle.std.specs.Prelude.{◌≡◌, ◌==◌, ◌&&◌, ℕ, Bool, List, []
 use Rattle.std.specs.List.{list_any}
 use Rattle.ft_types.specs.declared.output.Output.{Output}
 use Rattle.guest_image.specs.Machine.{MachineState}
-use Rattle.pair.specs.Telling.{outputs_since}
+use Rattle.primary.specs.Outputs.{outputs_since}
 
 -- all outputs of a machine, by hart and number
 abbrev pub outputs_in : MachineState → List Output

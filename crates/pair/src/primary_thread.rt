@@ -11,13 +11,13 @@ ghost use Rattle.pair.specs.Posts.{MayLead};
 use crate::messages::{ToGate, ToKeeper, send};
 use crate::posts::Primary;
 use crate::rounds::{are_at_end, round_end};
-use crate::telling::{new_outputs, outputs_told};
 use crossbeam_channel::Sender;
 use fragment_codec::{FIRST_TERM, Frame, first_opening};
 use ft_types::{Guest, HART_ROW, Memory};
 use guest_image::Machine;
 use log_pieces::{Sealed, cut_pieces};
 use page_book::{Book, Recording};
+use primary::{outputs_since, outputs_told};
 use primary_pool::{Free, PoolFault, run};
 use std::alloc::Global;
 use std::result::Result;
@@ -56,7 +56,7 @@ fn send_outputs<R: Wait>(
     told: &[usize; HART_ROW],
     gate: &Sender<ToGate, Global>,
 ) -> Result<(), Memory> {
-    for output in new_outputs(alloc, machine, told)? {
+    for output in outputs_since(alloc, machine, told)? {
         send(rt, gate, ToGate::Offer(output))?;
     }
     Ok(())

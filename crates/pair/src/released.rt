@@ -1,7 +1,7 @@
 //! Which outputs of a machine went out: those that the gate gave, at their numbers.
 
 ghost use Rattle.std.specs.Prelude.{◌≡◌, ◌<◌, ◌++◌, ◌&&◌, ◌==◌, ℕ, Bool, filter, length, slice_index_or, true, IfOk, OnOk};
-ghost use Rattle.pair.specs.Telling.{numbered_from};
+ghost use Rattle.primary.specs.Outputs.{numbered_from};
 ghost use Rattle.pair.specs.Released.{is_among, is_same, output_at, outputs_in};
 
 use ft_types::{Count, Hart, Memory};

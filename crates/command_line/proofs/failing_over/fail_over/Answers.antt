@@ -2,7 +2,7 @@ use Rattle.std.proofs.Common.{List, refl, inl, subst}
 use Rattle.std.specs.List.{flat_map}
 use Rattle.std.proofs.lemmas.Result.{err_from_is_err_and}
 use Rattle.guest_image.proofs.TextFacts.{WritesTo}
-use Rattle.failover_world.specs.declared.released.Released.{Released}
+use Rattle.primary.specs.declared.released.Released.{Released}
 use Rattle.command_line.specs.FailingOver.{Begins, released_line}
 use Rattle.command_line.proofs.Applied.{begins_as, all_told, refused_told}
 use Rattle.command_line.proofs.failing_over.fail_over.Goals as goal

@@ -2,7 +2,7 @@ use Rattle.std.proofs.Common.{List, ◌++◌, subst}
 use Rattle.std.specs.List.{flat_map}
 use Rattle.std.proofs.lemmas.Result.{err_from_is_err_and}
 use Rattle.guest_image.proofs.TextFacts.{WritesTo, then_writes, then_stops}
-use Rattle.failover_world.specs.declared.released.Released.{Released}
+use Rattle.primary.specs.declared.released.Released.{Released}
 use Rattle.command_line.specs.FailingOver.{released_line, primary_text}
 use Rattle.command_line.proofs.failing_over.write_world.Goals as goal
 

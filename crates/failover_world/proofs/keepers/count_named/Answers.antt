@@ -1,7 +1,7 @@
 use Rattle.std.proofs.Common.{◌++◌, append-nil, map, take, ap, subst, ◌∙◌, arith}
 use Rattle.go_live.specs.Quorums.{IsOld}
 use Rattle.failover_world.specs.Happenings.{stores_of}
-use Rattle.failover_world.proofs.Rows.{take_all}
+use Rattle.primary.proofs.Rows.{take_all}
 use Rattle.failover_world.proofs.Named.{one_more, told_more}
 use Rattle.failover_world.proofs.keepers.count_named.Goals.{in-Some, in_default}
 use Rattle.failover_world.proofs.keepers.count_named.Goals as goal

@@ -1,7 +1,8 @@
 use Rattle.std.proofs.Common.{◌≡◌, ◌≢◌, ℕ, true, false, eq-eqb, List, slice_set, get_or, Option, Some, None, sym, ap, subst, ◌∙◌}
 use Rattle.std.proofs.lemmas.Bool.{eqb-true}
 use Rattle.log_join.specs.Stores.{StoreView, IsJoin}
-use Rattle.failover_world.proofs.Rows.{set_set, set_own, set_elsewhere, whatever, same_some}
+use Rattle.failover_world.proofs.Rows.{set_set, set_own, set_elsewhere, whatever}
+use Rattle.primary.proofs.Rows.{same_some}
 use Rattle.failover_world.proofs.Guests.{with_itself}
 use Rattle.failover_world.proofs.keepers.join.Goals as goal
 

@@ -1,6 +1,7 @@
 use Rattle.std.proofs.Common.{◌≡◌, slice_set, get_or, Some, None, sym, ap, subst, ◌∙◌}
 use Rattle.log_join.specs.Stores.{StoreView, IsJoin, alone}
-use Rattle.failover_world.proofs.Rows.{set_set, whatever, same_some}
+use Rattle.failover_world.proofs.Rows.{set_set, whatever}
+use Rattle.primary.proofs.Rows.{same_some}
 use Rattle.failover_world.proofs.keepers.put.Goals as goal
 
 pub returns-clause-joined : goal.returns-clause-joined

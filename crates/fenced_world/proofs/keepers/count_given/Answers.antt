@@ -1,7 +1,7 @@
 use Rattle.std.proofs.Common.{◌++◌, ◌+◌, append-nil, map, take, ap, subst, ◌∙◌, arith}
 use Rattle.std.proofs.lemmas.List.{length-map}
 use Rattle.go_live.specs.Quorums.{IsNew, IsOld}
-use Rattle.failover_world.proofs.Rows.{take_all}
+use Rattle.primary.proofs.Rows.{take_all}
 use Rattle.failover_world.proofs.Named.{AreTold}
 use Rattle.fenced_world.specs.Keepers.{gift_of, gifts_of}
 use Rattle.fenced_world.proofs.Named.{pair_of, one_more, told_next, stores_paired}

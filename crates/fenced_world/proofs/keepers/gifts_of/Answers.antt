@@ -1,5 +1,5 @@
 use Rattle.std.proofs.Common.{◌++◌, get_or, None, sym, ap, ◌∙◌, arith}
-use Rattle.failover_world.proofs.Rows.{take_all}
+use Rattle.primary.proofs.Rows.{take_all}
 use Rattle.fenced_world.specs.Keepers.{gift_if, gifts_of}
 use Rattle.fenced_world.proofs.Named.{one_more}
 use Rattle.fenced_world.proofs.keepers.gifts_of.Goals as goal

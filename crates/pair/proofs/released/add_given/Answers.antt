@@ -1,6 +1,6 @@
 use Rattle.std.proofs.Common.{◌≡◌, ◌++◌, List, [], ◌∷◌, ap, sym, ◌∙◌, arith, append_assoc, filter, take}
 use Rattle.ft_types.specs.declared.output.Output.{Output}
-use Rattle.pair.specs.Telling.{numbered_from}
+use Rattle.primary.specs.Outputs.{numbered_from}
 use Rattle.pair.specs.Released.{is_among, output_at}
 use Rattle.pair.proofs.Among.{kept_more, left_more}
 use Rattle.pair.proofs.released.add_given.Goals as goal

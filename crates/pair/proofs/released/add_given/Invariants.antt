@@ -1,5 +1,5 @@
 use Rattle.std.proofs.Common.{◌≡◌, ◌++◌, take, filter}
-use Rattle.pair.specs.Telling.{numbered_from}
+use Rattle.primary.specs.Outputs.{numbered_from}
 use Rattle.pair.specs.Released.{is_among}
 use Rattle.pair.proofs.released.add_given.Given as goal
 

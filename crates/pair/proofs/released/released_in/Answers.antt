@@ -4,7 +4,7 @@ use Rattle.std.proofs.lemmas.List.Elements.{filter-append}
 use Rattle.std.proofs.lemmas.Option.{get_or_from_slice_get}
 use Rattle.rv32_hart.specs.Hart.{Hart}
 use Rattle.ft_types.specs.declared.output.Output.{Output}
-use Rattle.pair.specs.Telling.{numbered_from}
+use Rattle.primary.specs.Outputs.{numbered_from}
 use Rattle.pair.specs.Released.{is_among}
 use Rattle.pair.proofs.Among.{outputs_of, outputs_more}
 use Rattle.pair.proofs.released.released_in.Goals as goal

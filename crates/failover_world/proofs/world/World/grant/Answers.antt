@@ -3,7 +3,7 @@ use Rattle.std.specs.Prelude.{All}
 use Rattle.fragment_codec.specs.declared.frame.Frame.{Frame}
 use Rattle.fragment_codec.specs.declared.frame.Frame.TheVariants.{Opening}
 use Rattle.fragment_codec.specs.Rules.{OpeningParts}
-use Rattle.failover_world.specs.declared.primary.Primary.{Primary}
+use Rattle.primary.specs.declared.granted.Primary.{Primary}
 use Rattle.log_join.specs.Stores.{StoreView}
 use Rattle.failover_world.specs.Worlds.{WorldView, store_at}
 use Rattle.failover_world.specs.Happenings.{GoesLive, Grants}

@@ -1,13 +1,11 @@
 use Rattle.std.proofs.Common.{◌≡◌, ℕ, true, List, [], ◌∷◌, ◌++◌, replicate, Some, refl, sym, ap, subst, ◌∙◌}
 use Rattle.ft_types.specs.Guests.{GuestParts, IsGuest}
 use Rattle.guest_image.specs.Image.{ImageContents, guest_of}
-use Rattle.edge_log.specs.EdgeLog.{Edges}
-use Rattle.book_modes.specs.Recordings.{heard_by, HasHonestLog}
 use Rattle.fragment_codec.specs.Rules.{OpeningParts}
 use Rattle.fragment_codec.specs.declared.frame.Frame.{Frame}
 use Rattle.fragment_codec.specs.declared.frame.Frame.TheVariants.{Opening}
 use Rattle.log_join.specs.Stores.{nothing}
-use Rattle.failover_world.specs.Primaries.{IsBooted}
+use Rattle.primary.specs.Primaries.{IsBooted}
 use Rattle.failover_world.specs.Worlds.{WorldView}
 use Rattle.failover_world.proofs.Beginning.{first_world}
 use Rattle.failover_world.proofs.world.World.new.Goals as goal
@@ -30,18 +28,12 @@ invariant_of-result c =
     let guest : c.guest-guest.result ≡ guest_of v.image = c.guest-guest.ensures ∙ ap guest_of own in
     let harts : c.harts.result ≡ (guest_of v.image).harts = c.harts.ensures.value ∙ ap (λ (g : GuestParts). g.harts) guest in
     let booted : IsBooted v.image v.primary = subst (λ (i : ImageContents). IsBooted i v.primary) own c.in_ok-primary.ensures.booted in
-    let book = v.primary.book in
     let parts = c.in_ok-gate.ensures.parts in
     first_world v (record {
       guest = subst (λ (i : ImageContents). IsGuest (guest_of i)) own c.in_ok-primary.ensures.guest;
       quorum = c.requires.quorum;
       booted = booted;
-      primary = record {
-        log = booted.unused.log;
-        honest =
-            subst (λ (edges : Edges). HasHonestLog edges (heard_by book.mode) book.start book.journal book.machine) c.edges-edges.ensures.value
-            c.edges-edges.ensures.honest;
-      };
+      primary = c.in_ok-primary.ensures.primary;
       runs = refl;
       stopped = c.new-2.ensures.items;
       sent =

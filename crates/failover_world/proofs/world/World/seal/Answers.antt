@@ -1,15 +1,45 @@
-use Rattle.std.proofs.Common.{◌≡◌, ℕ, ◌++◌, Bool, not, List, if◌then◌else◌, sym, ap, subst, ◌∙◌}
-use Rattle.guest_image.specs.Image.{guest_of}
-use Rattle.fragment_codec.specs.declared.frame.Frame.{Frame}
+use Rattle.std.proofs.Common.{ap, sym, subst, ◌∙◌}
 use Rattle.ft_types.specs.Guests.{GuestParts}
-use Rattle.log_pieces.specs.Pieces.{IsCut, book_log}
-use Rattle.failover_world.specs.Tied.{IsTied}
 use Rattle.failover_world.specs.Worlds.{WorldView}
-use Rattle.failover_world.proofs.Sealing.{within, sealed, sealed_parts}
+use Rattle.failover_world.specs.Happenings.{Seals}
+use Rattle.failover_world.proofs.Guests.{own_guest}
+use Rattle.failover_world.proofs.Sealing.{within, own_cut, sealed_world}
 use Rattle.failover_world.proofs.world.World.seal.Goals as goal
 
-pub cut_pieces-requires-clause-within : goal.cut_pieces-requires-clause-within
-cut_pieces-requires-clause-within c =
+pub seal-requires-clause-harts : goal.seal-requires-clause-harts
+seal-requires-clause-harts c =
+    let v : WorldView = record {
+      image = c.self.inside.image;
+      keepers = c.self.inside.keepers;
+      need = c.self.inside.need;
+      primary = c.self.inside.primary;
+      runs = c.self.inside.runs;
+      stopped = c.self.inside.stopped.items;
+      sent = c.self.inside.sent.items;
+      stores = c.self.inside.stores.items;
+      gate = c.self.inside.gate;
+      released = c.self.inside.released.items;
+    } in
+    c.self.invariant.parts.harts ∙ sym (ap (λ (g : GuestParts). g.harts) (own_guest v c.self.invariant.tied c.self.invariant.parts.guest))
+
+pub seal-requires-clause-reached : goal.seal-requires-clause-reached
+seal-requires-clause-reached c =
+    let v : WorldView = record {
+      image = c.self.inside.image;
+      keepers = c.self.inside.keepers;
+      need = c.self.inside.need;
+      primary = c.self.inside.primary;
+      runs = c.self.inside.runs;
+      stopped = c.self.inside.stopped.items;
+      sent = c.self.inside.sent.items;
+      stores = c.self.inside.stores.items;
+      gate = c.self.inside.gate;
+      released = c.self.inside.released.items;
+    } in
+    c.self.invariant.parts.reached ∙ sym (ap (λ (g : GuestParts). g.harts) (own_guest v c.self.invariant.tied c.self.invariant.parts.guest))
+
+pub seal-requires-clause-within : goal.seal-requires-clause-within
+seal-requires-clause-within c =
     let v : WorldView = record {
       image = c.self.inside.image;
       keepers = c.self.inside.keepers;
@@ -38,24 +68,29 @@ invariant_of-self-2 c =
       gate = c.self.inside.gate;
       released = c.self.inside.released.items;
     } in
-    let raw :
-    IsCut (book_log c.guest-guest.result c.term-term.result c.self.inside.primary.book) c.guest-guest.result.harts c.self.inside.primary.sealed
-    c.in_ok-pieces.pieces.items c.cut_pieces.new.sealed = c.in_ok-pieces.ensures.cut in
-    let cut :
-    IsCut (book_log (guest_of c.self.inside.image) c.self.inside.primary.opening.term c.self.inside.primary.book) (guest_of c.self.inside.image).harts
-    c.self.inside.primary.sealed c.in_ok-pieces.pieces.items c.cut_pieces.new.sealed =
-    subst
-    (λ (g : GuestParts). IsCut (book_log g c.self.inside.primary.opening.term c.self.inside.primary.book) g.harts c.self.inside.primary.sealed
-    c.in_ok-pieces.pieces.items c.cut_pieces.new.sealed) c.guest-guest.ensures
-    (subst
-    (λ (t : ℕ). IsCut (book_log c.guest-guest.result t c.self.inside.primary.book) c.guest-guest.result.harts c.self.inside.primary.sealed
-    c.in_ok-pieces.pieces.items c.cut_pieces.new.sealed) c.term-term.ensures raw) in
-    let sent : c.append.new.self.items ≡ v.sent ++ c.in_ok-pieces.pieces.items =
-    c.append.ensures.items ∙
-    ap (λ (b : Bool). if b then v.sent ++ c.in_ok-pieces.pieces.items else v.sent) (c.is_err.ensures.negation ∙ ap not c.if-is_err.false) in
-    record {
-      parts = sealed_parts v c.self.invariant.parts c.append.new.self.items c.cut_pieces.new.sealed cut.same_harts;
-      tied =
-          subst (λ (sent : List Frame). IsTied (record v { primary = record v.primary { sealed = c.cut_pieces.new.sealed }; sent = sent })) (sym sent)
-          (sealed v c.self.invariant.tied c.if-not-self.false c.cut_pieces.new.sealed c.in_ok-pieces.pieces.items cut);
-    }
+    let (frames, cut, more) = c.in_ok-seal.ensures.cut in
+    sealed_world v c.self.invariant c.if-not-self.false c.seal.new.self c.seal.new.sent.items frames cut c.seal.ensures.rest more
+
+pub returns-clause-happens : goal.returns-clause-happens
+returns-clause-happens c =
+    let v : WorldView = record {
+      image = c.self.inside.image;
+      keepers = c.self.inside.keepers;
+      need = c.self.inside.need;
+      primary = c.self.inside.primary;
+      runs = c.self.inside.runs;
+      stopped = c.self.inside.stopped.items;
+      sent = c.self.inside.sent.items;
+      stores = c.self.inside.stores.items;
+      gate = c.self.inside.gate;
+      released = c.self.inside.released.items;
+    } in
+    let (frames, cut, more) = c.in_ok-seal.ensures.cut in
+    let w : WorldView = record v { primary = c.seal.new.self; sent = c.seal.new.sent.items } in
+    subst (λ (x : WorldView). Seals x w) c.self.view_is
+    (record {
+      runs = c.if-not-self.false;
+      frames = frames;
+      cut = own_cut v c.self.invariant c.seal.new.self.sealed frames cut;
+      rest = λ i. record v { primary = c.seal.ensures.rest i; sent = more i };
+    })

@@ -4,7 +4,7 @@ use Rattle.guest_image.specs.Image.{ImageContents, guest_of}
 use Rattle.fragment_codec.specs.Rules.{OpeningParts}
 use Rattle.fragment_codec.specs.declared.frame.Frame.{Frame}
 use Rattle.fragment_codec.specs.declared.frame.Frame.TheVariants.{Opening}
-use Rattle.failover_world.specs.Primaries.{IsBooted}
+use Rattle.primary.specs.Primaries.{IsBooted}
 use Rattle.failover_world.specs.Happenings.{IsFresh}
 use Rattle.fenced_world.specs.Keepers.{KeptView, kept_at, IsNewKeeper}
 use Rattle.fenced_world.specs.Running.{RunningView}

@@ -1,4 +1,4 @@
-use Rattle.std.proofs.Common.{◌≡◌, slice_set, refl, sym, ap, subst, ◌∙◌, arith}
+use Rattle.std.proofs.Common.{◌≡◌, slice_set, refl, sym, ap, subst, ◌∙◌}
 use Rattle.std.proofs.lemmas.Result.{err_from_is_err_and}
 use Rattle.ft_types.specs.Guests.{GuestParts}
 use Rattle.fenced_world.specs.declared.event.FencedEvent.TheVariants as on
@@ -8,26 +8,10 @@ use Rattle.fenced_world.specs.Happenings.{Seals, HasSealed}
 use Rattle.fenced_world.specs.Refusals.{Refuses}
 use Rattle.fenced_world.specs.Tied.{IsWorld}
 use Rattle.fenced_world.proofs.Lists.{set_own}
-use Rattle.fenced_world.proofs.Guests.{opening_of}
 use Rattle.fenced_world.proofs.Sealing.{within}
 use Rattle.fenced_world.proofs.Events.{own_guest, sealed_on}
 use Rattle.fenced_world.proofs.Found.{at_found, is_granted, running_again}
 use Rattle.fenced_world.proofs.world.FencedWorld.seal.Goals as goal
-
-pub seal-requires-clause-term : goal.seal-requires-clause-term
-seal-requires-clause-term c =
-    let v : WorldView = record {
-      image = c.self.inside.image;
-      keepers = c.self.inside.keepers;
-      need = c.self.inside.need;
-      running = c.self.inside.running.items;
-      sent = c.self.inside.sent.items;
-      held = c.self.inside.held.items;
-      released = c.self.inside.released.items;
-    } in
-    let r : RunningView = c.index_mut.result.now in
-    let found = at_found v.running c.as_slice.result.now c.args.term c.in-Some.number r c.as_slice.ensures.value c.in-Some.ensures.some c.index_mut.ensures.value in
-    let some = (opening_of v c.self.invariant.tied c.self.invariant.parts.guest c.in-Some.number r found.0).rules.granted in omega (arith, some)
 
 pub seal-requires-clause-guest : goal.seal-requires-clause-guest
 seal-requires-clause-guest c =

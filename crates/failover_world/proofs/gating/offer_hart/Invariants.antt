@@ -1,5 +1,0 @@
-use Rattle.failover_world.proofs.Offers.{AtNumber}
-use Rattle.failover_world.proofs.gating.offer_hart.Given as goal
-
-abbrev pub invariant-loop-number : goal.invariant-loop-number
-invariant-loop-number l = AtNumber l.fn.gate l.gate l.hart l.outputs l.number

@@ -1,0 +1,10 @@
+pub mod Rows
+pub mod Put
+pub mod Greatest
+pub mod Books
+pub mod Offers
+pub mod Told
+pub mod Waiting
+pub mod Gates
+pub mod Pieces
+pub mod Sending

@@ -1,0 +1,3 @@
+pub mod Primaries
+pub mod Outputs
+pub mod Gating
