@@ -25,7 +25,7 @@ mod plain;
 #[cfg(test)]
 mod plain_audits;
 #[cfg(test)]
-mod primary;
+mod plain_primary;
 #[cfg(test)]
 mod programs;
 #[cfg(test)]

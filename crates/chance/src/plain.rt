@@ -2,7 +2,7 @@
 //! what it is asked it finds in these lists.
 
 use crate::acts::{Act, hart_of};
-use crate::primary::Primary;
+use crate::plain_primary::Primary;
 use crate::starts::deliver;
 use ack_core::AckFault;
 use closed_cut::{Position, position};

@@ -2,7 +2,7 @@
 
 use crate::keeper::Rule;
 use crate::plain::PlainWorld;
-use crate::primary::PlainPrimary;
+use crate::plain_primary::PlainPrimary;
 use closed_cut::{Position, position};
 use fenced_world::FencedFault;
 use fragment_codec::{Frame, Opening};

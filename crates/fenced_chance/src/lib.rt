@@ -19,7 +19,7 @@ mod paused;
 #[cfg(test)]
 mod plain;
 #[cfg(test)]
-mod primary;
+mod plain_primary;
 #[cfg(test)]
 mod rules;
 #[cfg(test)]

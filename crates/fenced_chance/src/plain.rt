@@ -3,7 +3,7 @@
 
 use crate::acts::Act;
 use crate::keeper::{PlainKeeper, Rule};
-use crate::primary::{Deed, PlainPrimary};
+use crate::plain_primary::{Deed, PlainPrimary};
 use ack_core::AckFault;
 use closed_cut::{Position, position};
 use fenced_world::{FencedFault, Released};
