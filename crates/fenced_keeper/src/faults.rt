@@ -1,5 +1,6 @@
 //! Why a keeper refuses.
 
+use crate::places::Place;
 use ft_types::Memory;
 
 /// Why nothing was written down, or read again.
@@ -15,6 +16,13 @@ impl From<Memory> for PlaceFault {
     fn from(_e: Memory) -> PlaceFault {
         PlaceFault::Memory
     }
+}
+
+/// A place with which no keeper began, and why. What is written down there is as it was.
+#[derive(Drop)]
+pub struct NotBegun<P: Place> {
+    pub place: P,
+    pub fault: PlaceFault,
 }
 
 /// Why a fence isn't raised.

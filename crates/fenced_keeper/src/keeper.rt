@@ -8,7 +8,7 @@ ghost use Rattle.log_join.specs.Answers.{answer_to};
 ghost use Rattle.tracked_position.specs.Keeping.{MayGrow};
 ghost use Rattle.fenced_keeper.specs.Keepers.{Acknowledges, IsRefused};
 
-use crate::faults::{KeepFault, PlaceFault, RaiseFault};
+use crate::faults::{KeepFault, NotBegun, PlaceFault, RaiseFault};
 use crate::places::Place;
 use fragment_codec::Frame;
 use ft_types::{Keeper, Memory, Position, Term};
@@ -54,15 +54,25 @@ impl<P: Place> Model for FencedKeeper<P> {
 
 impl<P: Place> FencedKeeper<P> {
     /// A keeper that begins, or comes back, with what is written down.
-    pub fn begin(alloc: Global, number: Keeper, mut place: P) -> Result<FencedKeeper<P>, PlaceFault>
+    pub fn begin(
+        alloc: Global,
+        number: Keeper,
+        mut place: P,
+    ) -> Result<FencedKeeper<P>, NotBegun<P>>
         ensures number { IfOk result (λ k. k.number ≡ number) }
         ensures store { IfOk result (λ k. k.store ≡ P.store place) }
         ensures fence { IfOk result (λ k. k.fence ≡ P.fence place) }
         ensures place { IfOk result (λ k. (P.store k.place ≡ P.store place) × (P.fence k.place ≡ P.fence place)) }
         // So what it may acknowledge is known from the first.
         ensures known { IfOk result (λ k. IsSome k.saved) }
+        // It is refused exactly where the place fails or lacks memory, and what is written down stays.
+        ensures told { MatchResult result (λ k. P.failures k.place ≡ P.failures place) (λ e. IsOneMore (P.failures place) (P.failures e.place)) }
+        ensures left { IfErr result (λ e. (P.store e.place ≡ P.store place) × (P.fence e.place ≡ P.fence place)) }
     {
-        let (held, fence) = place.read(alloc)?;
+        let (held, fence) = match place.read(alloc) {
+            Ok(written) => written,
+            Err(fault) => return Err(NotBegun { place, fault }),
+        };
         let saved = Some(*held.position());
         Ok(FencedKeeper {
             number,

@@ -7,7 +7,7 @@ mod keeper;
 mod laws;
 mod places;
 
-pub use faults::{KeepFault, PlaceFault, RaiseFault};
+pub use faults::{KeepFault, NotBegun, PlaceFault, RaiseFault};
 pub use keeper::{FencedKeeper, Given};
 pub use laws::keepers_follow;
 pub use places::Place;

@@ -40,5 +40,6 @@ pub trait Place: Drop {
     /// Reads the store and the fence.
     fn read(&mut self, alloc: Global) -> Result<(Tracked, Term), PlaceFault>
         ensures ok { IfOk result (λ r. (r.0 ≡ store self.old) × (r.1 ≡ fence self.old)) }
+        ensures told { MatchResult result (λ _. failures self.new ≡ failures self.old) (λ _. IsOneMore (failures self.old) (failures self.new)) }
         ensures same { (store self.new ≡ store self.old) × (fence self.new ≡ fence self.old) };
 }

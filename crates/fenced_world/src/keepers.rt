@@ -229,7 +229,10 @@ pub(crate) fn come_back(alloc: Global, number: Keeper, keeper: Kept) -> Result<K
     requires own { keeper.number ≡ number }
     ensures back { IfOk result (λ y. ComesBack keeper y) }
 {
-    FencedKeeper::begin(alloc, number, keeper.into_place())
+    match FencedKeeper::begin(alloc, number, keeper.into_place()) {
+        Ok(keeper) => Ok(keeper),
+        Err(not_begun) => Err(not_begun.fault),
+    }
 }
 
 /// The keeper raises its fence to the term.

@@ -81,6 +81,12 @@ impl Place for MemoryPlace {
     }
 
     fn read(&mut self, alloc: Global) -> Result<(Tracked, Term), PlaceFault> {
-        Ok((tracked(alloc, &self.store)?, self.fence))
+        match tracked(alloc, &self.store) {
+            Ok(held) => Ok((held, self.fence)),
+            Err(fault) => {
+                self.fail();
+                Err(fault)
+            }
+        }
     }
 }

@@ -99,7 +99,13 @@ impl Place for Drawer {
     }
 
     fn read(&mut self, alloc: Global) -> Result<(Tracked, Term), PlaceFault> {
-        Ok((tracked(alloc, &self.store)?, self.fence))
+        match tracked(alloc, &self.store) {
+            Ok(held) => Ok((held, self.fence)),
+            Err(fault) => {
+                self.fail();
+                Err(fault)
+            }
+        }
     }
 }
 
@@ -128,7 +134,10 @@ type Row = (Deed, bool, Told, Term);
 type Kept = FencedKeeper<Drawer>;
 
 fn begin(alloc: Global, drawer: Drawer) -> Result<Kept, PlaceFault> {
-    FencedKeeper::begin(alloc, Keeper::new(0), drawer)
+    match FencedKeeper::begin(alloc, Keeper::new(0), drawer) {
+        Ok(keeper) => Ok(keeper),
+        Err(not_begun) => Err(not_begun.fault),
+    }
 }
 
 fn says(keeper: &Kept) -> Told {
