@@ -10,7 +10,7 @@ here=$(cd "$(dirname "$0")" && pwd)
 BUDGET=1000000
 LONG_BUDGET=20000000
 
-workspace threads_bench "interleaving zaamo ft_types rv32_isa input_log rv32_hart edge_log guest_image crew_pages lease_ledger hart_lease book_modes page_book lease_rounds primary_pool" "ft_types guest_image page_book primary_pool anyhow" plain "$here/images/nothing.image" "$BUDGET" 1
+workspace threads_bench "interleaving zaamo ft_types rv32_isa input_log rv32_hart edge_log guest_image crew_pages lease_ledger hart_lease book_modes page_book lease_rounds primary_pool" "ft_types guest_image page_book lease_rounds primary_pool anyhow" plain "$here/images/nothing.image" "$BUDGET" 1
 
 # middle: the median of the numbers, one a line.
 middle() {
@@ -50,7 +50,7 @@ if command -v riscv64-unknown-elf-gcc > /dev/null; then
     make -s -C "$here" > "$work/make.txt" 2>&1 || cat "$work/make.txt"
 fi
 printf '%-10s %10s %10s %10s %10s  %s\n' guest plain threads icount mttcg 'steps and halted harts: in turn; on threads, in each run'
-for guest in nothing one apart long adding spinlock barrier bells ring pollers turns; do
+for guest in nothing one apart long adding spinlock barrier bells ring pollers turns apart_32 adding_32 barrier_32; do
     harts=$(head -1 "$here/images/$guest.image" | awk '{ print $2 }')
     told plain "$guest" > "$work/plain"
     told threads "$guest" > "$work/threads"

@@ -33,4 +33,4 @@ _start:
 ended:
     .space 4
 last_output:
-    .space 32
+    .space 4 * HARTS
