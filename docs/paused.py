@@ -99,6 +99,7 @@ def draw():
     width, height, marks = picture.whole()
     x = LEFT
     words_of = dict(LEGEND, out="a look of the gate; the words that go out", ends="not acknowledged")
+    del words_of["note"]  # no primary of that world notes what went out
     for kind, words in words_of.items():
         marks.append(f'<line class="{kind}" x1="{x}" y1="{height - 14}" x2="{x + 18}" y2="{height - 14}"/>')
         marks.append(f'<text class="small" x="{x + 24}" y="{height - 10}">{words}</text>')

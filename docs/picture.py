@@ -39,7 +39,7 @@ def moments(lines):
 
 class Picture:
     def __init__(self, harts, keepers):
-        self.keepers, self.marks = keepers, []
+        self.keepers, self.marks, self.notes = keepers, [], []
         self.gate = FIRST_KEEPER + keepers * APART + 14
         self.x = LEFT + 12
         self.sent = [self.x]
@@ -97,6 +97,7 @@ class Picture:
             self.text(self.x, self.gate + 40 + 13 * row, f"{hart}/{number}", "out")
         if outputs:
             self.line(self.x, self.gate + 5, self.x, self.gate + 26, "out", True)
+            self.notes.append(f'<circle class="note" cx="{self.x}" cy="{PRIMARY}" r="4"/>')
         else:
             self.text(self.x, self.gate + 20, "none")
 
@@ -133,16 +134,24 @@ class Picture:
                 lost = self.lost.get(rows.index((name, y)) - 1, end)
                 under.append(f'<line class="row" x1="{LEFT}" y1="{y}" x2="{lost}" y2="{y}"/>')
         under.append(f'<text class="name" x="{LEFT - 16}" y="{self.gate + 42}" text-anchor="end">went out</text>')
-        return end + 20, self.gate + 104, under + self.marks
+        return end + 20, self.gate + 104, under + self.marks + self.notes
 
 
 STYLE = """
 text { font-family: sans-serif; fill: #222 } .name { font-size: 13px } .small { font-size: 10px; fill: #555 }
 line { stroke-width: 1.2 } .row { stroke: #bbb } .life { stroke: #1f4e9c; stroke-width: 2.5 } .steps { stroke: #1f4e9c; stroke-width: 7 }
 .frame { stroke: #1f4e9c; fill: #1f4e9c } .ack { stroke: #b36b00; fill: #b36b00 } line.ack { stroke-dasharray: 3 2 } .ends { stroke: #c00; stroke-width: 2.5 }
+.note { stroke: #1b7a34; fill: white; stroke-width: 2 }
 .grant { stroke: #7a1fa2; fill: #7a1fa2; stroke-width: 2 } .out { stroke: #1b7a34; fill: #1b7a34 } text.out, text.grant { stroke: none; font-size: 11px }
 """
-LEGEND = [("frame", "a frame comes"), ("ack", "acknowledged"), ("grant", "goes live"), ("out", "a look of the gate; HART/NUMBER goes out"), ("ends", "ends")]
+LEGEND = [
+    ("frame", "a frame comes"),
+    ("ack", "acknowledged"),
+    ("grant", "goes live"),
+    ("out", "a look of the gate; HART/NUMBER goes out"),
+    ("note", "noted in the log"),
+    ("ends", "ends"),
+]
 
 
 def draw(program, image, events, keepers, need):

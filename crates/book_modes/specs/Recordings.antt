@@ -11,6 +11,7 @@ use Rattle.ft_types.specs.declared.names.TheConstants.{HART_LIMIT, HART_ROW, INP
 use Rattle.input_log.specs.declared.Input.{Input}
 use Rattle.input_log.specs.declared.WaitingBell.{WaitingBell}
 use Rattle.input_log.specs.Inputs.{IsInputOf, inputs_of, AreAddedTo, HearsMore}
+use Rattle.input_log.specs.Notes.{NotesOfOne, notes_of, HasRoom, noted, NotesMore}
 use Rattle.input_log.specs.declared.offered.Offer.{Offer}
 use Rattle.input_log.specs.Offers.{all_offers, but_bells, AreKept}
 use Rattle.input_log.specs.Waiting.{Queues, bells_of, others_of, others_staying, room_beside, next_going, IsBellAddedTo}
@@ -43,6 +44,7 @@ pub record RecordingView : Type 0 where
   pub rights : List PageRight  -- by page
   pub edges : Edges  -- of the settled steps
   pub inputs : List (List (ℕ × Input))  -- of the settled steps, by hart
+  pub notes : List NotesOfOne  -- of outputs that were released, by hart
   pub due : List DueView  -- what each hart's next step is given
   pub desk : List Queues  -- what waits for each hart
 
@@ -131,6 +133,7 @@ pub record IsSettled (r : RecordingView) (l : LeaseView) (keep : Keep) (new : Re
   pub unsettled : All (IsFrom l.hart l.base.count) l.edges
   pub counts : l.present.count ≡ l.base.count + l.steps
   pub inputs : LogsInputs l.steps r.inputs l new.inputs
+  pub notes : new.notes ≡ r.notes
   pub due : new.due ≡ due_after l.steps r.due l.hart
   pub desk : HasRung r.desk l new.desk
   pub many : length new.rights ≡ length r.rights
@@ -201,10 +204,23 @@ pub record KeepsInputs (r : RecordingView) (hart count : ℕ) (new : RecordingVi
   pub given : HearsMore (inputs_of r.inputs hart) count (inputs_of new.inputs hart)
   pub offered : AreKept (offers_at r hart count) (offers_at new hart now)
 
--- The log says of the steps before these counts what it said, and what was offered is kept.
+-- The log says of the steps before these counts what it said, what was offered is kept, and no note is forgotten.
 pub record GoesOn (r : RecordingView) (settled : ℕ → ℕ) (new : RecordingView) (now : ℕ → ℕ) : Type 0 where
   pub edges : AddsLater r.edges settled new.edges
   pub inputs : (hart : ℕ) → KeepsInputs r hart (settled hart) new (now hart)
+  pub notes : (hart : ℕ) → NotesMore (notes_of r.notes hart) (settled hart) (notes_of new.notes hart)
+
+-- the hart, which is at this count, has one note more, or one in place of another at the same count; those of the others are as they were
+pub record IsNoting (r : RecordingView) (hart count number : ℕ) (new : RecordingView) : Type 0 where
+  pub rest : new ≡ record r { notes = new.notes }
+  pub noted : notes_of new.notes hart ≡ noted (notes_of r.notes hart) count number
+  pub others : (other : ℕ) → other ≢ hart → notes_of new.notes other ≡ notes_of r.notes other
+  pub others_room : (other : ℕ) → other ≢ hart → HasRoom r.notes other → HasRoom new.notes other
+
+-- the notes are as they were, whatever room there is
+pub record HasRoomed (r new : RecordingView) : Type 0 where
+  pub rest : new ≡ record r { notes = new.notes }
+  pub same : (hart : ℕ) → notes_of new.notes hart ≡ notes_of r.notes hart
 
 -- an edge that the hart's next step owes for a bell
 pub record IsDueEdge (machine : MachineState) (hart : ℕ) (e : Edge) : Type 0 where
@@ -269,6 +285,8 @@ pub record IsRecorded (r : RecordingView) (start machine : MachineState) (journa
   -- it has logged no input that a hart has yet to be given, and none from before the start
   pub logged : (hart : ℕ) → All (λ x. x.0 < counts_of machine hart) (inputs_of r.inputs hart)
   pub begun : (hart : ℕ) → All (λ x. counts_of start hart ≤ x.0) (inputs_of r.inputs hart)
+  -- nor has it noted anything at a count that a hart has yet to reach
+  pub noted : (hart : ℕ) → All (λ x. x.0 ≤ counts_of machine hart) (notes_of r.notes hart)
   pub due : AreDue machine leases r.due
   pub bells : (hart : ℕ) → All (IsRung machine) (bells_of r.desk hart)
   pub inputs : AreInputs (length start.harts) r.inputs r.due r.desk
@@ -300,6 +318,7 @@ pub record IsBetween (machine : MachineState) (hart : ℕ) (e : Edge) : Type 0 w
 pub record IsUnused (r : RecordingView) (start : MachineState) (limits : List ℕ) : Type 0 where
   pub limits_are : r.limits ≡ limits
   pub inputs : (hart : ℕ) → inputs_of r.inputs hart ≡ []
+  pub notes : (hart : ℕ) → notes_of r.notes hart ≡ []
   pub due : r.due ≡ replicate HART_ROW nothing_due
   pub bells : (hart : ℕ) → bells_of r.desk hart ≡ unheard_bells start hart
   pub others : (hart : ℕ) → others_of r.desk hart ≡ []

@@ -1,7 +1,7 @@
 //! Books that record: who has which right to each page, and the edges found.
 
 ghost use Rattle.std.specs.Prelude.{◌≡◌, ◌<◌, ◌≤◌, ◌^◌, ◌↔◌, ◌+◌, ℕ, All, AllPairs, Contains, List, [], map, length, slice_index, slice_get, Some, IsTrue};
-ghost use Rattle.std.specs.Prelude.{IfOk, OnOk, OnErr, true, false, replicate, None};
+ghost use Rattle.std.specs.Prelude.{IfOk, OnOk, OnErr, true, false, replicate, None, IsOk};
 ghost use Rattle.book_modes.specs.Words.{count_at, counts_of, edge_as, but_bells, give_up, given, greater, has_taken, holds, inputs_of, is_bell, IsFree, IsInputOf};
 ghost use Rattle.book_modes.specs.Words.{IsMember, IsOwed, kept, owns, Queues, unused, whole};
 ghost use Rattle.crew_pages.specs.Rights.{right_of};
@@ -14,7 +14,9 @@ ghost use Rattle.book_modes.specs.Dues.{nothing_due, due_at, is_silent, stop_bef
 ghost use Rattle.rv32_hart.specs.Hart.{Hart as HartRecord};
 ghost use Rattle.book_modes.specs.Recordings.{RecordingView, IsUnused, IsRecorded, heard_by, IsFilled, GoesOut, IsOffered, LogsInputs, due_after, AreLogged};
 ghost use Rattle.book_modes.specs.Recordings.{PutsBell, IsFrom, IsTaker, AreOwed, IsGiven, IsSettled, IsEnded, keep_as, right_at, right_met};
-ghost use Rattle.book_modes.specs.Recordings.{GoesOn, HasRows, KeepsInputs, offers_at};
+ghost use Rattle.book_modes.specs.Recordings.{GoesOn, HasRows, IsNoting, HasRoomed, KeepsInputs, offers_at};
+ghost use Rattle.input_log.specs.Notes.{notes_of, HasRoom};
+ghost use Rattle.ft_types.specs.declared.names.TheConstants.{HART_ROW};
 
 use crate::due::Due;
 use crate::keep::Keep;
@@ -27,7 +29,7 @@ use edge_log::{Edge, EdgeLog};
 use ft_types::{COUNT_LIMIT, Count, Counts, HART_LIMIT, HART_ROW, Hart, HartSet, Memory, PageNo};
 use guest_image::Machine;
 use hart_lease::{Asked, Lease, Lent, OpenLease, Taken};
-use input_log::{Desk, Input, InputLog, Offered, WaitingBell};
+use input_log::{Desk, Input, InputLog, Note, NoteLog, Offered, WaitingBell};
 use smallvec::SmallVec;
 use std::alloc::Global;
 use std::array;
@@ -40,6 +42,7 @@ pub struct Recording {
     rights: Vec<PageRight>,
     edges: EdgeLog,
     inputs: InputLog,
+    notes: NoteLog,
     /// What each hart's next step is given.
     due: Box<[Due; HART_ROW]>,
     /// What waits for later steps.
@@ -53,6 +56,7 @@ impl Drop for Recording {
             rights: _,
             edges: _,
             inputs: _,
+            notes: _,
             due: _,
             desk: _,
         } = self;
@@ -64,7 +68,7 @@ impl Model for Recording {
 
     ghost Value = { RecordingView };
 
-    ghost view = { λ r. record { limits = r.limits; rights = r.rights.items; edges = r.edges; inputs = r.inputs; due = r.due.value; desk = r.desk } };
+    ghost view = { λ r. record { limits = r.limits; rights = r.rights.items; edges = r.edges; inputs = r.inputs; notes = r.notes; due = r.due.value; desk = r.desk } };
 }
 
 fn unused_rights(alloc: Global, pages: u16) -> Result<Vec<PageRight>, Memory>
@@ -159,6 +163,7 @@ impl Recording {
             rights,
             edges,
             inputs: InputLog::new(alloc),
+            notes: NoteLog::new(alloc),
             due: dues_boxed(alloc, nothing_due(alloc))?,
             desk,
         })
@@ -176,6 +181,33 @@ impl Recording {
         ensures { result.now ≡ self.now.inputs }
     {
         &self.inputs
+    }
+
+    /// The notes of the outputs that were released.
+    pub fn notes(&self) -> &NoteLog
+        ensures { result.now ≡ self.now.notes }
+    {
+        &self.notes
+    }
+
+    /// Notes at the hart's count that its outputs with numbers below this one were released.
+    pub fn note_released(&mut self, hart: Hart, count: Count, number: u64) -> Result<(), Memory>
+        requires last { All (λ x. x.0 ≤ count) (notes_of self.old.notes hart) }
+        requires within { number ≤ count }
+        ensures noted { OnOk result (IsNoting self.old hart count number self.new) }
+        ensures room { HasRoom self.old.notes hart → IsOk result }
+        ensures err { OnErr result (self.new ≡ self.old) }
+    {
+        let at = count;
+        self.notes.add(Note { hart, at, number })
+    }
+
+    /// Makes room for one note of each hart.
+    pub fn room_for_notes(&mut self) -> Result<(), Memory>
+        ensures same { HasRoomed self.old self.new }
+        ensures room { OnOk result ((hart : ℕ) → hart < HART_ROW → HasRoom self.new.notes hart) }
+    {
+        self.notes.room()
     }
 
     /// Puts an input behind the others that wait for the hart. It is given at no count before this one.
@@ -441,6 +473,7 @@ impl Mode for Recording {
             rights: rights_copied(&self.rights)?,
             edges: self.edges.copy()?,
             inputs: self.inputs.copy()?,
+            notes: self.notes.copy()?,
             due: dues_boxed(alloc, dues_copied(alloc, &*self.due))?,
             desk: self.desk.copy()?,
         })
@@ -448,6 +481,9 @@ impl Mode for Recording {
 
     fn goes_on_from(&self, now: &Counts, settled: &Counts, before: &Recording) -> bool {
         if !self.edges.adds_later(settled, &before.edges) {
+            return false;
+        }
+        if !self.notes.adds_later(settled, &before.notes) {
             return false;
         }
         // proof: both have a row for each hart.

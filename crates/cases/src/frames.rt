@@ -41,6 +41,10 @@ fn add_record(records: &mut Vec<Record>, piece: Hart, words: &[&str]) -> Option<
         ),
         ["timer", at, ..] => (given(at, Input::Timer)?, 2),
         ["bell", at, source, ..] => (given(at, Input::Bell(hart(source)?))?, 3),
+        ["note", at, number, ..] => {
+            let at = at.parse::<u64>().ok()?;
+            (Record::Note(at, number.parse::<u64>().ok()?), 3)
+        }
         _ => return None,
     };
     records.push(first).ok()?;

@@ -273,6 +273,7 @@ impl World {
             mut book,
             opening,
             outputs: _,
+            marks: _,
         } = live;
         raise(&mut book);
         let sent = self.scatter(alloc, &Frame::Opening(opening));

@@ -24,9 +24,9 @@ static LEAST: Tally = Tally {
     acknowledged: 25_000,
     grants: 2_000,
     refused: 25_000,
-    released: 2_000,
-    again: 150,
-    spread: 100,
+    released: 1_700,
+    again: 60,
+    spread: 50,
 };
 
 /// Applies a list of events to two worlds. Says whether they agree at each.

@@ -2,13 +2,13 @@
 //! what it is asked it finds in these lists.
 
 use crate::acts::{Act, hart_of};
-use crate::plain_primary::Primary;
+use crate::plain_primary::{Marks, Primary};
 use crate::starts::deliver;
 use ack_core::AckFault;
 use closed_cut::{Position, position};
 use failover_world::{Released, WorldFault};
-use fragment_codec::{Frame, Opening};
-use ft_types::{Count, Counts, Hart, Memory, Term};
+use fragment_codec::{Fragment, Frame, Opening, Record};
+use ft_types::{Count, Counts, HART_ROW, Hart, Memory, Term};
 use go_live::LiveFault;
 use guest_image::{Image, Machine};
 use input_log::Input;
@@ -61,7 +61,7 @@ fn nothing_taken(alloc: Global, keepers: u8) -> Result<Vec<Taken>, Memory> {
 fn first_primary(alloc: Global, image: &Image) -> Result<Primary, Memory> {
     let base = Counts::zero(image.harts());
     let opening = Opening::new(image.guest(), 1, 0, base).ok_or(Memory)?;
-    Primary::begin(alloc, opening, Machine::boot(alloc, image)?)
+    Primary::begin(alloc, opening, Machine::boot(alloc, image)?, [0; HART_ROW])
 }
 
 /// Whether some hart's count is less than before.
@@ -79,6 +79,20 @@ fn has_inside(counts: &Counts, hart: Hart, step: Count) -> bool {
     match counts.as_slice().get(hart.index()) {
         Some(count) => *count > step,
         None => false,
+    }
+}
+
+/// What is noted in a piece of the term, inside these counts.
+fn note_piece(marks: &mut Marks, piece: &Fragment, term: Term, ends: &Counts) {
+    let key = piece.key();
+    let end = ends.as_slice().get(key.hart.index()).copied().unwrap_or(0);
+    for record in piece.records() {
+        if let Record::Note(at, number) = record {
+            if key.term == term && *at < end {
+                let mark = &mut marks[key.hart.index()];
+                *mark = (*mark).max(*number);
+            }
+        }
     }
 }
 
@@ -272,11 +286,17 @@ impl PlainWorld {
                 holders = holders.saturating_add(1);
             }
         }
-        holders >= self.need && !self.released.contains(released)
+        let known = self.primary.knows(output.hart, output.number);
+        holders >= self.need && !known && !self.released.contains(released)
     }
 
-    /// Lets those outputs of the hart go out that are due.
-    fn release_hart(&mut self, hart: Hart, outputs: &[(Count, u32)]) -> Result<(), Memory> {
+    /// Lets those outputs of the hart go out that are due, and tells the number of the last of them.
+    fn release_hart(
+        &mut self,
+        hart: Hart,
+        outputs: &[(Count, u32)],
+    ) -> Result<Option<u64>, Memory> {
+        let mut last = None;
         for (number, (step, word)) in outputs.iter().enumerate() {
             let released = Released {
                 term: self.term(),
@@ -288,10 +308,11 @@ impl PlainWorld {
                 },
             };
             if self.is_due(&released) {
+                last = Some(released.output.number);
                 self.released.push(released)?;
             }
         }
-        Ok(())
+        Ok(last)
     }
 
     /// What the hart has put out.
@@ -307,7 +328,9 @@ impl PlainWorld {
         for number in 0..self.image.harts() {
             let hart = Hart::new(number);
             let outputs = self.outputs_of(alloc, hart)?;
-            self.release_hart(hart, &outputs)?;
+            if let Some(last) = self.release_hart(hart, &outputs)? {
+                self.primary.note(hart, last)?;
+            }
         }
         Ok(())
     }
@@ -363,6 +386,44 @@ impl PlainWorld {
         Machine::boot(alloc, &self.image)
     }
 
+    /// What is noted in the term, inside these counts, of what these keepers took.
+    fn note_term(&self, marks: &mut Marks, term: Term, ends: &Counts, keepers: &[u64]) {
+        for keeper in keepers {
+            for number in self.taken_by(*keeper) {
+                if let Some(Frame::Log(piece)) = self.sent.get(*number as usize) {
+                    note_piece(marks, piece, term, ends);
+                }
+            }
+        }
+    }
+
+    /// The term before this one, and the counts at which this one went on from there.
+    fn before(&self, term: Term) -> Option<(Term, Counts)> {
+        for frame in &self.sent {
+            if let Frame::Opening(opening) = frame {
+                if opening.term() == term {
+                    return Some((opening.parent(), opening.base()));
+                }
+            }
+        }
+        None
+    }
+
+    /// What is noted inside the position, of what these keepers took.
+    fn marks_at(&self, position: &Position, keepers: &[u64]) -> Marks {
+        let mut marks = [0; HART_ROW];
+        let mut term = position.term;
+        let mut ends = position.counts;
+        for _term in 0..self.sent.len() {
+            self.note_term(&mut marks, term, &ends, keepers);
+            let Some(before) = self.before(term) else {
+                return marks;
+            };
+            (term, ends) = before;
+        }
+        marks
+    }
+
     /// A primary begins its term, and nothing is acknowledged in it.
     fn begin(&mut self, alloc: Global, primary: Primary) -> Result<(), Memory> {
         self.acknowledged = Vec::new(alloc);
@@ -377,19 +438,21 @@ impl PlainWorld {
         alloc: Global,
         opening: Opening,
         position: &Position,
+        marks: Marks,
     ) -> Result<(), Memory> {
         let start = self.machine_at(alloc, position)?;
-        let primary = Primary::begin(alloc, opening, start)?;
+        let primary = Primary::begin(alloc, opening, start, marks)?;
         self.begin(alloc, primary)
     }
 
     /// A primary of the term goes live where what these keepers took leads to, and its opening is sent.
     fn go_live(&mut self, alloc: Global, term: Term, keepers: &[u64]) -> Result<(), Memory> {
         let position = self.position_of(alloc, keepers)?;
+        let marks = self.marks_at(&position, keepers);
         let guest = self.image.guest();
         let opening = Opening::new(guest, term, position.term, position.counts).ok_or(Memory)?;
         self.sent.push(Frame::Opening(opening.copy()))?;
-        self.go_on(alloc, opening, &position)
+        self.go_on(alloc, opening, &position, marks)
     }
 
     fn grant(&mut self, alloc: Global, term: Term, keepers: &[u64]) -> Result<(), WorldFault> {

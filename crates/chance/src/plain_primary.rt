@@ -1,34 +1,44 @@
-//! A plain primary: the machine with which its term began, and a book of all that it did since.
+//! A plain primary: the machine with which its term began, what was noted by then, and a book of all that it did since.
 
 use crate::again::{machine_at, one_step};
 use crate::starts::recorder_from;
 use failover_world::WorldFault;
 use fixtures::cut;
 use fragment_codec::{Frame, Opening};
-use ft_types::{COUNT_LIMIT, Counts, Hart, Memory, Term};
+use ft_types::{COUNT_LIMIT, Counts, HART_ROW, Hart, Memory, Term};
 use guest_image::{Image, Machine};
 use input_log::Input;
 use log_pieces::Sealed;
 use page_book::{Book, BookFault, Recording};
 use std::alloc::Global;
 
+/// Of each hart, below which number its outputs are known to be out.
+pub type Marks = [u64; HART_ROW];
+
 /// A primary.
 #[derive(Drop)]
 pub struct Primary {
     opening: Opening,
     start: Machine,
+    marks: Marks,
     book: Book<Recording>,
     sealed: Sealed,
 }
 
 impl Primary {
     /// A primary that goes on from the machine.
-    pub fn begin(alloc: Global, opening: Opening, start: Machine) -> Result<Primary, Memory> {
+    pub fn begin(
+        alloc: Global,
+        opening: Opening,
+        start: Machine,
+        marks: Marks,
+    ) -> Result<Primary, Memory> {
         let book = recorder_from(alloc, start.copy()?, COUNT_LIMIT - 1)?;
         Ok(Primary {
             sealed: Sealed::new(opening.base()),
             opening,
             start,
+            marks,
             book,
         })
     }
@@ -59,6 +69,20 @@ impl Primary {
             return Err(WorldFault::Step(BookFault::Foreign));
         }
         Ok(self.book.offer(hart, 0, input)?)
+    }
+
+    /// Whether the output is known to be out since before the term.
+    pub fn knows(&self, hart: Hart, number: u64) -> bool {
+        number < self.marks[hart.index()]
+    }
+
+    /// Its log says that the hart's outputs up to the one of this number went out.
+    pub fn note(&mut self, hart: Hart, last: u64) -> Result<(), Memory> {
+        let machine = self.book.machine();
+        if hart.number() < machine.harts() && last < machine.hart(hart).outputs().len() as u64 {
+            self.book.note_released(hart, last + 1)?;
+        }
+        Ok(())
     }
 
     /// The pieces of what its log says behind what is sealed.

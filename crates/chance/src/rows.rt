@@ -5,7 +5,7 @@ use crate::beside::Beside;
 use ack_core::AckFault;
 use failover_world::{Released, WorldFault};
 use fixtures::{HALTS, image_of};
-use fragment_codec::Frame;
+use fragment_codec::{Frame, Record};
 use ft_types::{Count, Hart, Memory, Term};
 use go_live::LiveFault;
 use guest_image::{Image, Machine};
@@ -82,6 +82,32 @@ const GOES_LIVE_FROM_NOTHING: &[Act] = &[
     Act::Step(0),
 ];
 
+/// What goes out is noted in a piece that the second term's keepers have, so it goes out in the first term alone.
+const GOES_OUT_ONCE: &[Act] = &[
+    Act::Step(0),
+    Act::Step(0),
+    Act::Step(0),
+    Act::Seal,
+    Act::Deliver(0, 0),
+    Act::Deliver(0, 1),
+    Act::Deliver(1, 1),
+    Act::Deliver(1, 0),
+    Act::Ack(0),
+    Act::Ack(1),
+    Act::Release,
+    Act::Step(0),
+    Act::Seal,
+    Act::Deliver(0, 2),
+    Act::Stop,
+    Act::Grant(2, &[0, 2]),
+    Act::Deliver(0, 3),
+    Act::Deliver(1, 2),
+    Act::Deliver(1, 3),
+    Act::Ack(0),
+    Act::Ack(1),
+    Act::Release,
+];
+
 /// What goes out: its term, hart, number, step and word.
 type Said = (Term, u8, u64, Count, u32);
 
@@ -114,6 +140,30 @@ fn goes_on(frames: &[Frame], parent: Term, base: Count) -> bool {
     last
 }
 
+/// A piece that notes, at its first count, that outputs went out: the frame's number, from, to, and the number that is noted.
+type Noted = (usize, Count, Count, u64);
+
+/// Whether the frame of this number is a piece with one record, a note.
+fn notes_in(frames: &[Frame], (number, from, to, note): Noted) -> bool {
+    let Some(Frame::Log(piece)) = frames.get(number) else {
+        return false;
+    };
+    let [Record::Note(at, below)] = piece.records() else {
+        return false;
+    };
+    (piece.from(), piece.to(), *at, *below) == (from, to, from, note)
+}
+
+/// Whether each of these is there.
+fn all_note(frames: &[Frame], noted: &[Noted]) -> bool {
+    for noted in noted {
+        if !notes_in(frames, *noted) {
+            return false;
+        }
+    }
+    true
+}
+
 /// Whether the machine's hart has halted after four steps.
 fn has_halted(machine: &Machine) -> bool {
     if machine.harts() != 1 {
@@ -123,18 +173,27 @@ fn has_halted(machine: &Machine) -> bool {
     hart.is_halted() && hart.count() == 4
 }
 
-/// Events that are done, what goes out, the term and the count that the last term goes on from. Its hart has halted then.
-type List = (&'static [Act], &'static [Said], Term, Count);
+/// Events that are done, what goes out, pieces that note it, and the term and the count that the last term goes on from. Its hart has
+/// halted then.
+type List = (
+    &'static [Act],
+    &'static [Said],
+    &'static [Noted],
+    Term,
+    Count,
+);
 
-static LISTS: [List; 3] = [
-    (FAILS_OVER, &[(1, 0, 0, 2, 42), (2, 0, 0, 2, 42)], 1, 3),
+static LISTS: [List; 4] = [
+    (FAILS_OVER, &[(1, 0, 0, 2, 42), (2, 0, 0, 2, 42)], &[], 1, 3),
     (
         FAILS_OVER_TURNED,
         &[(1, 0, 0, 2, 42), (2, 0, 0, 2, 42)],
+        &[],
         1,
         3,
     ),
-    (GOES_LIVE_FROM_NOTHING, &[(2, 0, 0, 2, 42)], 0, 0),
+    (GOES_LIVE_FROM_NOTHING, &[(2, 0, 0, 2, 42)], &[], 0, 0),
+    (GOES_OUT_ONCE, &[(1, 0, 0, 2, 42)], &[(2, 3, 4, 1)], 1, 4),
 ];
 
 /// Whether the worlds agree at each of these events, and none is refused.
@@ -148,13 +207,16 @@ fn all_done(alloc: Global, acts: &[Act], worlds: &mut Beside) -> Result<bool, Me
 }
 
 /// Whether the worlds end so.
-fn ends_so(worlds: &Beside, (_, said, parent, base): List) -> bool {
+fn ends_so(worlds: &Beside, (_, said, noted, parent, base): List) -> bool {
     let world = &worlds.subject.world;
     let halted = match world.machine() {
         Some(machine) => has_halted(machine),
         None => false,
     };
-    halted && went_out(world.released(), said) && goes_on(world.frames(), parent, base)
+    halted
+        && went_out(world.released(), said)
+        && all_note(world.frames(), noted)
+        && goes_on(world.frames(), parent, base)
 }
 
 /// Whether the worlds agree at each event of a list, send the same frames and end so.
@@ -189,6 +251,12 @@ fn an_output_goes_out_in_both_terms(rt: HostRuntime) -> Result<(), Fail> {
 #[test]
 fn a_term_goes_live_from_nothing(rt: HostRuntime) -> Result<(), Fail> {
     assert!(rt; agree(rt.alloc(), LISTS[2])?);
+    Ok(())
+}
+
+#[test]
+fn what_is_noted_goes_out_once(rt: HostRuntime) -> Result<(), Fail> {
+    assert!(rt; agree(rt.alloc(), LISTS[3])?);
     Ok(())
 }
 

@@ -12,7 +12,7 @@ use Rattle.std.proofs.lemmas.List.{get_or_past}
 use Rattle.edge_log.specs.declared.Edge.{Edge as OwnedEdge}
 use Rattle.edge_log.specs.EdgeLog.{edge_as}
 use Rattle.fragment_codec.specs.declared.types.Record.{Record}
-use Rattle.fragment_codec.specs.declared.types.Record.TheVariants.{Edge as EdgeRecord, Input as InputRecord}
+use Rattle.fragment_codec.specs.declared.types.Record.TheVariants.{Edge as EdgeRecord, Input as InputRecord, Note as NoteRecord}
 use Rattle.fragment_codec.specs.Facts.{edge_in}
 use Rattle.fragment_codec.specs.Rules.{IsRecordOf}
 use Rattle.ft_types.specs.Counts.{IsCount}
@@ -114,6 +114,7 @@ record_of_edge P (EdgeRecord edge ∷ records) e all has =
       | inr later ↦ record_of_edge P records e all.1 later
     ]
 record_of_edge P (InputRecord at input ∷ records) e all has = record_of_edge P records e all.1 has
+record_of_edge P (NoteRecord at number ∷ records) e all has = record_of_edge P records e all.1 has
 
 pub formed_of : (s : StoreView) → IsStore s → IsFormed s.guest.harts (2 ^ 32) s
 formed_of s rules =

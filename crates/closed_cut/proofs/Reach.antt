@@ -15,7 +15,7 @@ use Rattle.interleaving.proofs.Put.{put_same, put_other}
 use Rattle.edge_log.specs.declared.Edge.{Edge}
 use Rattle.edge_log.specs.EdgeLog.{edge_as}
 use Rattle.fragment_codec.specs.declared.types.Record.{Record}
-use Rattle.fragment_codec.specs.declared.types.Record.TheVariants.{Edge as EdgeRecord, Input as InputRecord}
+use Rattle.fragment_codec.specs.declared.types.Record.TheVariants.{Edge as EdgeRecord, Input as InputRecord, Note as NoteRecord}
 use Rattle.fragment_codec.specs.Rules.{FragmentParts, OpeningParts, IsRecordOf}
 use Rattle.log_join.specs.Cells.{Cell, Absent, One, Clash}
 use Rattle.log_join.specs.Stores.{StoreView, opening_at, IsStore}
@@ -230,6 +230,7 @@ record_of_edge P (EdgeRecord edge ∷ records) e all has =
       | inr later ↦ record_of_edge P records e all.1 later
     ]
 record_of_edge P (InputRecord at input ∷ records) e all has = record_of_edge P records e all.1 has
+record_of_edge P (NoteRecord at number ∷ records) e all has = record_of_edge P records e all.1 has
 
 module _ (store : StoreView) (rules : IsStore store) (term : ℕ) (base bound : List ℕ) (edges : List Edge) (many : length base ≡ store.guest.harts)
     (gathered : AreGathered store term base bound edges (length base)) where

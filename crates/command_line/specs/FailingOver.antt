@@ -31,7 +31,7 @@ pub record Begins (image : ImageContents) (keepers need : ℕ) (w : WorldView) :
   pub runs : (w.runs ≡ true) × (w.stopped ≡ [])
   pub sent : w.sent ≡ Opening w.primary.opening ∷ []
   pub stores : w.stores ≡ replicate keepers (Some (nothing (guest_of image)))
-  pub gate : IsFresh w.gate 1 keepers need image.harts
+  pub gate : IsFresh w.gate 1 keepers need image.harts []
   pub released : w.released ≡ []
 
 -- the events happened, one after the other

@@ -1,37 +1,89 @@
 -- Events as they are asked for, one after the other.
-use Rattle.std.proofs.Common.{◌≡◌, ℕ, zero, suc, ◌+◌, ◌==◌, ◌&&◌, ◌<◌, ◌^◌, Bool, true, false, cond, List, [], ◌∷◌, Contains, nat_lt, Option, Some, None, refl, ap, subst, ◌∙◌, arith, eqb-true}
+use Rattle.std.proofs.Common.{◌≡◌, ◌⊎◌, inl, inr, ℕ, zero, suc, ◌+◌, ◌==◌, ◌&&◌, ◌<◌, ◌^◌, Bool, true, false, cond, List, [], ◌∷◌, Contains, filter, nat_lt, Option, Some, None, refl, sym, ap, subst, ◌∙◌, arith, eqb-true}
 use Rattle.log_join.specs.Families.{Past, end_of}
-use Rattle.std.specs.Prelude.{slice_get}
-use Rattle.std.proofs.lemmas.Bool.{ltb-true}
-use Rattle.std.proofs.lemmas.List.Elements.{Contains-append_right}
+use Rattle.std.specs.Prelude.{slice_get, nat_le, ◌||◌}
+use Rattle.std.proofs.lemmas.Bool.{cases_lt, lt-ltb, ltb-true, leb-true}
+use Rattle.std.proofs.lemmas.List.Elements.{Contains-append_left, Contains-append_right, Contains-append_cases}
 use Rattle.interleaving.specs.Lists.{put}
-use Rattle.interleaving.proofs.Cuts.{here}
+use Rattle.interleaving.proofs.Cuts.{here, here_or_later}
+use Rattle.fragment_codec.specs.Rules.{FragmentParts}
+use Rattle.fragment_codec.specs.Facts.{is_between}
 use Rattle.log_join.specs.Stores.{IsStore}
 use Rattle.ft_types.specs.Counts.{count_at}
 use Rattle.ft_types.specs.Guests.{GuestParts, IsGuest}
 use Rattle.log_join.specs.Stores.{StoreView, alone}
 use Rattle.closed_cut.specs.Position.{base_of, IsPosition, NoTop, Top}
 use Rattle.ft_types.specs.declared.position.Position.{Position}
-use Rattle.failover_theory.specs.Lists.{how_many, option}
+use Rattle.failover_theory.specs.Lists.{how_many, option, same_pairs}
 use Rattle.failover_theory.specs.Recorders.{Recorder, IsCutOf}
-use Rattle.failover_theory.specs.Worlds.{World, Quorum, Joined, NoneYet, Skip, Take, first_world, stepped, sealed, held, granted, BeginsAt, AtBoot, AtCut, Happens, Idle, Step, Seal, Deliver, Join, Acknowledge, Release, Stop, Lose, Grant, Comes, Begins, Then}
-use Rattle.failover_theory.specs.Happenings.{Event, Steps, Offers, Seals, Delivers, Joins, Acknowledges, Releases, Stops, Loses, Grants, all_there, Tools, all_of, book_at, next_key, apply, apply_all, AfterEvents}
+use Rattle.failover_theory.specs.Worlds.{Released, World, Quorum, WentOut, Joined, NoneYet, Skip, Take, first_world, stepped, sealed, held, noting, granted, BeginsAt, AtBoot, AtCut, Happens, Idle, Step, Seal, Deliver, Join, Acknowledge, Release, Note, Stop, Lose, Grant, Comes, Begins, Then}
+use Rattle.failover_theory.specs.Happenings.{Event, Steps, Offers, Seals, Delivers, Joins, Acknowledges, Releases, Notes, Stops, Loses, Grants, went_out, are_out, with_note, has_notes, all_there, Tools, all_of, book_at, next_key, apply, apply_all, AfterEvents}
+use Rattle.failover_theory.specs.Notes.{notes_in, HasNotes, IsNoting}
 use Rattle.failover_theory.proofs.Growing.{some_same, some_none}
+use Rattle.failover_theory.proofs.Noting.{out_grows}
+use Rattle.failover_theory.proofs.Cutting.{both, between, in_filter, of_filter}
 use Rattle.failover_theory.proofs.Events.{failover, less_of, always}
 use Rattle.failover_theory.proofs.Invariant.{Invariant, walked_covered, covered_cut}
 use Rattle.failover_theory.proofs.Stores.{honest_joined}
 use Rattle.failover_theory.proofs.Ruled.{stores_are_right}
 use Rattle.failover_theory.proofs.Granting.{opening_right}
 
-both : (a b : Bool) → (a && b) ≡ true → record { 0 : a ≡ true; 1 : b ≡ true }
-both true true e = (refl, refl)
-both true false e = cc
-both false b e = cc
-
 in_list : {A : Type 0} (xs : List A) (i : ℕ) (x : A) → slice_get xs i ≡ Some x → Contains xs x
 in_list [] i x is = some_none is refl
 in_list (y ∷ xs) zero x is = subst (λ x. Contains (y ∷ xs) x) (some_same refl is) (here y xs)
 in_list (y ∷ xs) (suc i) x is = Contains-append_right (y ∷ []) xs x (in_list xs i x is)
+
+one_of : (a b : Bool) → (a || b) ≡ true → (a ≡ true) ⊎ (b ≡ true)
+one_of true b e = inl refl
+one_of false b e = inr e
+
+-- lists with the same pairs are the same
+pairs_same : (xs ys : List (ℕ × ℕ)) → same_pairs xs ys ≡ true → xs ≡ ys
+pairs_same [] [] e = refl
+pairs_same [] (y ∷ ys) e = cc
+pairs_same (x ∷ xs) [] e = cc
+pairs_same (x ∷ xs) (y ∷ ys) e =
+    let (front, rest) = both ((x.0 == y.0) && (x.1 == y.1)) (same_pairs xs ys) e in
+    let (first, second) = both (x.0 == y.0) (x.1 == y.1) front in
+    let p : x.0 ≡ y.0 = eqb-true x.0 y.0 first in
+    let q : x.1 ≡ y.1 = eqb-true x.1 y.1 second in
+    let more : xs ≡ ys = pairs_same xs ys rest in
+    λ i. (p i, q i) ∷ more i
+
+-- a piece that was tested has its notes
+its_notes : (notes : List (ℕ × ℕ)) (x : FragmentParts) → has_notes notes x ≡ true → HasNotes notes x
+its_notes notes x tested =
+    let same : notes_in x ≡ filter (λ (n : ℕ × ℕ). is_between x.from x.to n.0) notes = pairs_same (notes_in x) _ tested in
+    record {
+      has =
+          λ note has lo hi.
+          subst (λ (l : List (ℕ × ℕ)). Contains l note) (sym same)
+          (of_filter (λ (n : ℕ × ℕ). is_between x.from x.to n.0) notes note has (between x.from x.to note.0 lo hi));
+      only =
+          λ note has.
+          let r = in_filter (λ (n : ℕ × ℕ). is_between x.from x.to n.0) notes note (subst (λ (l : List (ℕ × ℕ)). Contains l note) same has) in
+          let (lo, hi) = both (nat_le x.from note.0) (nat_lt note.0 x.to) r.1 in
+          (r.0, leb-true x.from note.0 lo, ltb-true note.0 x.to hi);
+    }
+
+is_noting : (notes : List (ℕ × ℕ)) (count number : ℕ) → IsNoting notes count number (with_note notes count number)
+is_noting notes count number =
+    record {
+      only =
+          λ note has.
+          elim (Contains-append_cases (filter (λ (n : ℕ × ℕ). nat_lt n.0 count) notes) ((count, number) ∷ []) note has) [
+            | inl before ↦ inl (in_filter (λ (n : ℕ × ℕ). nat_lt n.0 count) notes note before).0
+            | inr last ↦
+                elim (here_or_later (count, number) [] note last) [
+                  | inl e ↦ inr (ap (λ (n : ℕ × ℕ). n.0) (sym e), ap (λ (n : ℕ × ℕ). n.1) (sym e))
+                  | inr (k, below, is) ↦ absurd (omega arith)
+                ]
+          ];
+      kept =
+          λ note has early.
+          Contains-append_left (filter (λ (n : ℕ × ℕ). nat_lt n.0 count) notes) ((count, number) ∷ []) note
+          (of_filter (λ (n : ℕ × ℕ). nat_lt n.0 count) notes note has (lt-ltb note.0 count early));
+    }
 
 module _ {Book Fact Input : Type 0} (recorder : Recorder Book Fact) (guest : GuestParts) (tools : Tools recorder guest Input) (quorum : Quorum)
     (rules : IsGuest guest) where
@@ -88,18 +140,49 @@ module _ {Book Fact Input : Type 0} (recorder : Recorder Book Fact) (guest : Gue
           (subst (λ q. IsCutOf recorder q.told (count_at p.counts)) (some_same k.is at)
           (covered_cut recorder w.terms v.family all honest p.term (count_at p.counts) k)))
 
+  went : (w : World Book) (released : List Released) (hart number : ℕ) → went_out released hart number ≡ true → WentOut released hart number
+  went w [] hart number is = cc
+  went w (r ∷ released) hart number is =
+      elim (one_of ((r.hart == hart) && (r.number == number)) (went_out released hart number) is) [
+        | inl here_is ↦
+            (let (same, number_is) = both (r.hart == hart) (r.number == number) here_is in
+            (r, here r released, eqb-true r.hart hart same, eqb-true r.number number number_is))
+        | inr later ↦ out_grows released r hart number (went w released hart number later)
+      ]
+
+  each_out : (w : World Book) (hart number : ℕ) → are_out w.released (w.marks w.now hart) hart number ≡ true → (k : ℕ) → k < number →
+      (k < w.marks w.now hart) ⊎ WentOut w.released hart k
+  each_out w hart zero is k less = absurd (omega arith)
+  each_out w hart (suc n) is k less =
+      let (last, rest) =
+      both (nat_lt n (w.marks w.now hart) || went_out w.released hart n) (are_out w.released (w.marks w.now hart) hart n) is in
+      elim (cases_lt k n) [
+        | inl before ↦ each_out w hart n rest k before
+        | inr over ↦
+            let e : n ≡ k = omega arith in
+            subst (λ m. (m < w.marks w.now hart) ⊎ WentOut w.released hart m) e
+            (elim (one_of (nat_lt n (w.marks w.now hart)) (went_out w.released hart n) last) [
+              | inl below ↦ inl (ltb-true n (w.marks w.now hart) below)
+              | inr out ↦ inr (went w w.released hart n out)
+            ])
+      ]
+
   grants : (w : World Book) → Comes recorder guest quorum w → (term : ℕ) (chosen : ℕ → Bool) → w.runs ≡ false → w.now < term → term < 2 ^ 32 →
       Joined guest w.stores chosen quorum.keepers (all_of recorder guest tools quorum w.stores chosen quorum.keepers) →
       quorum.keepers < quorum.need + how_many quorum.keepers chosen →
       Happens recorder guest quorum w (granted guest w term (tools.position (all_of recorder guest tools quorum w.stores chosen quorum.keepers))
-      (book_at recorder guest tools quorum w (tools.position (all_of recorder guest tools quorum w.stores chosen quorum.keepers))))
+      (book_at recorder guest tools quorum w (tools.position (all_of recorder guest tools quorum w.stores chosen quorum.keepers)))
+      (tools.mark w.terms (all_of recorder guest tools quorum w.stores chosen quorum.keepers)
+      (tools.position (all_of recorder guest tools quorum w.stores chosen quorum.keepers))))
   grants w c term chosen stopped later low j enough =
       let all = all_of recorder guest tools quorum w.stores chosen quorum.keepers in
       let store : IsStore all = (stores_are_right recorder guest quorum rules w c).joined chosen quorum.keepers all j in
-      Grant term chosen all (tools.position all) (book_at recorder guest tools quorum w (tools.position all)) stopped later j enough (tools.finds all store)
+      Grant term chosen all (tools.position all) (book_at recorder guest tools quorum w (tools.position all)) (tools.mark w.terms all (tools.position all)) stopped later j enough (tools.finds all store)
       (opening_right recorder guest quorum rules w c chosen all j (tools.position all) (tools.finds all store) (tools.harts_are all store)
       (tools.counts_are all store) term later low)
       (begins_at w c chosen all j (tools.position all) (tools.finds all store))
+      (tools.marks w.terms all (tools.position all) (honest_joined w.terms guest w.stores chosen (always recorder guest quorum c).stores j).honest
+      (tools.finds all store))
 
   happens : (w : World Book) → Comes recorder guest quorum w → (e : Event Input) → Happens recorder guest quorum w (apply recorder guest tools quorum w e)
   happens w c (Steps i) =
@@ -112,21 +195,23 @@ module _ {Book Fact Input : Type 0} (recorder : Recorder Book Fact) (guest : Gue
       option (w.terms w.now) w
       (λ p.
       option (tools.piece p.told (next_key recorder guest tools quorum w p hart) (end_of (base_of p.opening hart) (p.pieces hart)) upto) w
-      (λ x. sealed w p hart x))
+      (λ x. cond (has_notes (w.notes w.now hart) x) (sealed w p hart x) w))
       )
       w.runs
       (λ runs.
       if_there w (w.terms w.now)
       (λ p.
       option (tools.piece p.told (next_key recorder guest tools quorum w p hart) (end_of (base_of p.opening hart) (p.pieces hart)) upto) w
-      (λ x. sealed w p hart x))
+      (λ x. cond (has_notes (w.notes w.now hart) x) (sealed w p hart x) w))
       (λ p is.
       if_there w (tools.piece p.told (next_key recorder guest tools quorum w p hart) (end_of (base_of p.opening hart) (p.pieces hart)) upto)
-      (λ x. sealed w p hart x)
+      (λ x. cond (has_notes (w.notes w.now hart) x) (sealed w p hart x) w)
       (λ x there.
+      if_so w (sealed w p hart x) (has_notes (w.notes w.now hart) x)
+      (λ tells.
       let (right, from, cut) =
       tools.cuts p.told (next_key recorder guest tools quorum w p hart) (end_of (base_of p.opening hart) (p.pieces hart)) upto x there in
-      Seal p hart x runs is right from cut)))
+      Seal p hart x runs is right from cut (its_notes (w.notes w.now hart) x tells)))))
   happens w c (Delivers keeper frame) =
       if_there w (w.stores keeper) (λ s. option (slice_get w.sent frame) w (λ f. held w keeper (tools.join s (alone f))))
       (λ s is.
@@ -148,7 +233,7 @@ module _ {Book Fact Input : Type 0} (recorder : Recorder Book Fact) (guest : Gue
       (λ p.
       option (slice_get (recorder.outputs p.told hart) number) w
       (λ o.
-      cond (nat_lt quorum.need (suc (how_many quorum.keepers (λ keeper. nat_lt o.step (w.acked keeper hart)))))
+      cond (nat_lt quorum.need (suc (how_many quorum.keepers (λ keeper. nat_lt o.step (w.acked keeper hart)))) && nat_le (w.marks w.now hart) number)
       (record w { released = record { term = w.now; hart = hart; number = number; output = o } ∷ w.released }) w))
       )
       w.runs
@@ -157,20 +242,41 @@ module _ {Book Fact Input : Type 0} (recorder : Recorder Book Fact) (guest : Gue
       (λ p.
       option (slice_get (recorder.outputs p.told hart) number) w
       (λ o.
-      cond (nat_lt quorum.need (suc (how_many quorum.keepers (λ keeper. nat_lt o.step (w.acked keeper hart)))))
+      cond (nat_lt quorum.need (suc (how_many quorum.keepers (λ keeper. nat_lt o.step (w.acked keeper hart)))) && nat_le (w.marks w.now hart) number)
       (record w { released = record { term = w.now; hart = hart; number = number; output = o } ∷ w.released }) w))
       (λ p is.
       if_there w (slice_get (recorder.outputs p.told hart) number)
       (λ o.
-      cond (nat_lt quorum.need (suc (how_many quorum.keepers (λ keeper. nat_lt o.step (w.acked keeper hart)))))
+      cond (nat_lt quorum.need (suc (how_many quorum.keepers (λ keeper. nat_lt o.step (w.acked keeper hart)))) && nat_le (w.marks w.now hart) number)
       (record w { released = record { term = w.now; hart = hart; number = number; output = o } ∷ w.released }) w)
       (λ o at.
       if_so w (record w { released = record { term = w.now; hart = hart; number = number; output = o } ∷ w.released })
-      (nat_lt quorum.need (suc (how_many quorum.keepers (λ keeper. nat_lt o.step (w.acked keeper hart)))))
-      (λ enough.
+      (nat_lt quorum.need (suc (how_many quorum.keepers (λ keeper. nat_lt o.step (w.acked keeper hart)))) && nat_le (w.marks w.now hart) number)
+      (λ fine.
+      let (enough, above) =
+      both (nat_lt quorum.need (suc (how_many quorum.keepers (λ keeper. nat_lt o.step (w.acked keeper hart))))) (nat_le (w.marks w.now hart) number) fine in
       let a : quorum.need < suc (how_many quorum.keepers (λ keeper. nat_lt o.step (w.acked keeper hart))) =
       less_of quorum.need (suc (how_many quorum.keepers (λ keeper. nat_lt o.step (w.acked keeper hart)))) enough in
-      Release p hart number o (λ keeper. w.acked keeper hart) runs is at (λ keeper. omega arith) (omega arith)))))
+      Release p hart number o (λ keeper. w.acked keeper hart) runs is at (λ keeper. omega arith) (omega arith) (leb-true (w.marks w.now hart) number above)))))
+  happens w c (Notes hart number) =
+      if_so w
+      (
+      option (w.terms w.now) w
+      (λ p.
+      cond (are_out w.released (w.marks w.now hart) hart number)
+      (noting w hart (with_note (w.notes w.now hart) (recorder.counts p.told hart) number)) w)
+      )
+      w.runs
+      (λ runs.
+      if_there w (w.terms w.now)
+      (λ p.
+      cond (are_out w.released (w.marks w.now hart) hart number)
+      (noting w hart (with_note (w.notes w.now hart) (recorder.counts p.told hart) number)) w)
+      (λ p is.
+      if_so w (noting w hart (with_note (w.notes w.now hart) (recorder.counts p.told hart) number)) (are_out w.released (w.marks w.now hart) hart number)
+      (λ out.
+      Note p hart number (with_note (w.notes w.now hart) (recorder.counts p.told hart) number) runs is
+      (is_noting (w.notes w.now hart) (recorder.counts p.told hart) number) (each_out w hart number out))))
   happens w c Stops = Stop
   happens w c (Loses keeper) = Lose keeper
   happens w c (Grants term chosen) =
@@ -178,13 +284,20 @@ module _ {Book Fact Input : Type 0} (recorder : Recorder Book Fact) (guest : Gue
       (
       cond (((nat_lt w.now term && nat_lt term (2 ^ 32)) && all_there w.stores chosen quorum.keepers) && nat_lt quorum.keepers
       (quorum.need + how_many quorum.keepers chosen))
-      (granted guest w term (tools.position (all_of recorder guest tools quorum w.stores chosen quorum.keepers))
-      (book_at recorder guest tools quorum w (tools.position (all_of recorder guest tools quorum w.stores chosen quorum.keepers)))) w
+      (
+      granted guest w term (tools.position (all_of recorder guest tools quorum w.stores chosen quorum.keepers))
+      (book_at recorder guest tools quorum w (tools.position (all_of recorder guest tools quorum w.stores chosen quorum.keepers)))
+      (tools.mark w.terms (all_of recorder guest tools quorum w.stores chosen quorum.keepers)
+      (tools.position (all_of recorder guest tools quorum w.stores chosen quorum.keepers)))
+      )
+      w
       )
       w.runs
       (λ stopped.
       if_so w (granted guest w term (tools.position (all_of recorder guest tools quorum w.stores chosen quorum.keepers))
-      (book_at recorder guest tools quorum w (tools.position (all_of recorder guest tools quorum w.stores chosen quorum.keepers))))
+      (book_at recorder guest tools quorum w (tools.position (all_of recorder guest tools quorum w.stores chosen quorum.keepers)))
+      (tools.mark w.terms (all_of recorder guest tools quorum w.stores chosen quorum.keepers)
+      (tools.position (all_of recorder guest tools quorum w.stores chosen quorum.keepers))))
       (((nat_lt w.now term && nat_lt term (2 ^ 32)) && all_there w.stores chosen quorum.keepers) && nat_lt quorum.keepers
       (quorum.need + how_many quorum.keepers chosen))
       (λ fine.

@@ -14,20 +14,21 @@ use Rattle.ft_types.specs.Guests.{GuestParts}
 use Rattle.fragment_codec.specs.declared.types.Key.{Key}
 use Rattle.fragment_codec.specs.Rules.{FragmentParts}
 use Rattle.fragment_codec.specs.Facts.{Facts, is_between, edge_in}
-use Rattle.log_pieces.specs.Pieces.{mark_behind}
+use Rattle.log_pieces.specs.Pieces.{HartLog, Mark, IsPiece, mark_behind}
 use Rattle.log_join.specs.Stores.{IsFragmentOf}
 use Rattle.closed_cut.specs.Position.{edges_of, base_of}
 use Rattle.closed_cut.proofs.Lowerings.{found, contains_map}
 use Rattle.failover_theory.specs.Recorders.{Recorder}
+use Rattle.failover_theory.specs.Notes.{HasNotes, notes_in}
 use Rattle.failover_theory.specs.Worlds.{Quorum, sealed, Seal, Then}
 use Rattle.failover_theory.specs.Sealings.{with_piece, PiecesAreCuts, SealsPieces}
 
-both : (a b : Bool) → (a && b) ≡ true → record { 0 : a ≡ true; 1 : b ≡ true }
+pub both : (a b : Bool) → (a && b) ≡ true → record { 0 : a ≡ true; 1 : b ≡ true }
 both true true e = (refl, refl)
 both true false e = cc
 both false b e = cc
 
-in_filter : {A : Type 0} (P : A → Bool) (xs : List A) (x : A) → Contains (filter P xs) x → record { 0 : Contains xs x; 1 : P x ≡ true }
+pub in_filter : {A : Type 0} (P : A → Bool) (xs : List A) (x : A) → Contains (filter P xs) x → record { 0 : Contains xs x; 1 : P x ≡ true }
 in_filter P [] x (k, below, is) = absurd (omega arith)
 in_filter {A} P (y ∷ ys) x has = by (in_filter P ys x) (P y) refl has
   where
@@ -41,7 +42,7 @@ in_filter {A} P (y ∷ ys) x has = by (in_filter P ys x) (P y) refl has
         ]
     by rec false e h = let r = rec h in (Contains-append_right (y ∷ []) ys x r.0, r.1)
 
-of_filter : {A : Type 0} (P : A → Bool) (xs : List A) (x : A) → Contains xs x → P x ≡ true → Contains (filter P xs) x
+pub of_filter : {A : Type 0} (P : A → Bool) (xs : List A) (x : A) → Contains xs x → P x ≡ true → Contains (filter P xs) x
 of_filter P [] x (k, below, is) fine = absurd (omega arith)
 of_filter {A} P (y ∷ ys) x has fine = by (λ later. of_filter P ys x later fine) (P y) refl
   where
@@ -57,12 +58,30 @@ of_filter {A} P (y ∷ ys) x has fine = by (λ later. of_filter P ys x later fin
           | inr later ↦ rec later
         ]
 
-between : (from to n : ℕ) → from ≤ n → n < to → is_between from to n ≡ true
+pub between : (from to n : ℕ) → from ≤ n → n < to → is_between from to n ≡ true
 between from to n lo hi = rw (le-leb from n lo) (lt-ltb n to hi)
 
 end_more : (from : ℕ) (xs : List FragmentParts) (x : FragmentParts) → end_of from (xs ++ x ∷ []) ≡ x.to
 end_more from [] x = refl
 end_more from (y ∷ xs) x = end_more y.to xs x
+
+-- a piece of the log has the log's notes
+pub piece_has_notes : (log : HartLog) (mark : Mark) (x : FragmentParts) → IsPiece log mark x → HasNotes log.facts.notes x
+piece_has_notes log mark x piece =
+    record {
+      has =
+          λ note has lo hi.
+          subst (λ (l : List (ℕ × ℕ)). Contains l note) (sym same)
+          (of_filter (λ (n : ℕ × ℕ). is_between x.from x.to n.0) log.facts.notes note has (between x.from x.to note.0 lo hi));
+      only =
+          λ note has.
+          let r = in_filter (λ (n : ℕ × ℕ). is_between x.from x.to n.0) log.facts.notes note (subst (λ (l : List (ℕ × ℕ)). Contains l note) same has) in
+          let (lo, hi) = both (nat_le x.from note.0) (nat_lt note.0 x.to) r.1 in
+          (r.0, leb-true x.from note.0 lo, ltb-true note.0 x.to hi);
+    }
+  where
+    same : notes_in x ≡ filter (λ (n : ℕ × ℕ). is_between x.from x.to n.0) log.facts.notes
+    same = ap (λ (f : Facts). f.notes) piece.exact
 
 module _ {Book Fact : Type 0} (recorder : Recorder Book Fact) where
   pub piece_is_cut : PiecesAreCuts recorder
@@ -97,10 +116,11 @@ module _ {Book Fact : Type 0} (recorder : Recorder Book Fact) where
 
   module _ (guest : GuestParts) (quorum : Quorum) where
     pub seals_pieces : SealsPieces recorder guest quorum
-    seals_pieces w p log old new [] comes runs is of_guest of_term of_book marked pieces = comes
-    seals_pieces w p log old new (x ∷ xs) comes runs is of_guest of_term of_book marked (piece, rest) =
+    seals_pieces w p log old new [] comes runs is of_guest of_term of_book marked noted pieces = comes
+    seals_pieces w p log old new (x ∷ xs) comes runs is of_guest of_term of_book marked noted (piece, rest) =
         seals_pieces (sealed w p log.hart x) (with_piece p log.hart x) log (mark_behind x) new xs
-        (Then comes (Seal p log.hart x runs is rules (piece.begins ∙ marked.count) (piece_is_cut p.told log old x of_book piece))) runs
+        (Then comes (Seal p log.hart x runs is rules (piece.begins ∙ marked.count) (piece_is_cut p.told log old x of_book piece)
+        (subst (λ (l : List (ℕ × ℕ)). HasNotes l x) noted (piece_has_notes log old x piece)))) runs
         (put_same w.terms w.now w.now (Some (with_piece p log.hart x)) refl) of_guest of_term of_book
         (
         record {
@@ -111,7 +131,7 @@ module _ {Book Fact : Type 0} (recorder : Recorder Book Fact) where
           count = sym (end_more (base_of p.opening log.hart) (p.pieces log.hart) x) ∙ ap (end_of (base_of p.opening log.hart)) (sym pieces_are);
         }
         )
-        rest
+        noted rest
       where
         pieces_are : put p.pieces log.hart (p.pieces log.hart ++ x ∷ []) log.hart ≡ p.pieces log.hart ++ x ∷ []
         pieces_are = put_same p.pieces log.hart log.hart (p.pieces log.hart ++ x ∷ []) refl

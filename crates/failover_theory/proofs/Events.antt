@@ -16,8 +16,9 @@ use Rattle.closed_cut.specs.Position.{base_of, IsPosition, NoTop, Top}
 use Rattle.ft_types.specs.declared.position.Position.{Position}
 use Rattle.failover_theory.specs.Lists.{how_many}
 use Rattle.failover_theory.specs.Recorders.{Output, Recorder, IsBoot, GoesTo, LivesOn, Same, More}
-use Rattle.failover_theory.specs.Families.{IsCutFrom, Starts, Boot, At, IsHonestTerm, IsFamily, Keeps, Here, Above}
-use Rattle.failover_theory.specs.Worlds.{Released, World, Quorum, Joined, first_term, first_world, new_term, stepped, sealed, held, granted, BeginsAt, AtBoot, AtCut, Happens, Idle, Step, Seal, Deliver, Join, Acknowledge, Release, Stop, Lose, Grant, Comes, Begins, Then}
+use Rattle.failover_theory.specs.Families.{IsCutFrom, Starts, Boot, At, IsHonestTerm, IsFamily, Keeps, Here, Above, IsInside}
+use Rattle.failover_theory.specs.Notes.{HasNotes, IsNoting, IsMark}
+use Rattle.failover_theory.specs.Worlds.{Released, World, Quorum, WentOut, Joined, first_term, first_world, new_term, stepped, sealed, held, noting, granted, BeginsAt, AtBoot, AtCut, Happens, Idle, Step, Seal, Deliver, Join, Acknowledge, Release, Note, Stop, Lose, Grant, Comes, Begins, Then}
 use Rattle.failover_theory.specs.Laws.{Failover}
 use Rattle.interleaving.specs.Lists.{put}
 use Rattle.closed_cut.proofs.Chains.{zero_row}
@@ -26,7 +27,8 @@ use Rattle.interleaving.proofs.Cuts.{here_or_later}
 use Rattle.failover_theory.proofs.Growing.{some_same, some_none, Later, later_itself, Grows, grown_store, grows_itself, Covered, Backed, backed_grows}
 use Rattle.failover_theory.proofs.Fate.{parent_less, keeps_less}
 use Rattle.failover_theory.proofs.Stores.{honest_join, HonestJoined, honest_joined, shared, below_cut}
-use Rattle.failover_theory.proofs.Invariant.{Witness, IsReleased, Invariant, Own, evolve, evolve_one, restore_one, lose_one, walked_backed, walked_covered, position_keeps, keeps_grow, starts_grow, frame_grows, witness_grows, stores_stay}
+use Rattle.failover_theory.proofs.Noting.{AreNoted, told_one, noted_releases, noted_more, told_in, told_out}
+use Rattle.failover_theory.proofs.Invariant.{Witness, IsReleased, Invariant, Own, evolve, evolve_one, restore_one, lose_one, walked_backed, walked_covered, inside_reached, position_keeps, keeps_grow, starts_grow, frame_grows, witness_grows, stores_stay}
 
 pub less_of : (a b : ℕ) → nat_lt a b ≡ true → a < b
 less_of a b h = elim (cases_lt a b) [ inl less ↦ less | inr over ↦ let e : nat_lt a b ≡ false = le-ltb a b over in cc ]
@@ -72,6 +74,7 @@ module _ {Book Fact : Type 0} (recorder : Recorder Book Fact) (guest : GuestPart
       Invariant recorder quorum (stepped w p b)
   on_step w p b v is goes = evolve recorder quorum w (put w.terms w.now (Some r)) v
       (evolve_one recorder w.terms v.family w.now p r is later own (More b Same goes))
+      (told_one w.terms w.notes w.now r v.noted.told (λ hart place x at. v.noted.told w.now p is hart place x at))
     where
       r : Past Book
       r = record p { told = b }
@@ -133,14 +136,16 @@ module _ {Book Fact : Type 0} (recorder : Recorder Book Fact) (guest : GuestPart
         stores = v.stores;
         acks = v.acks;
         released = v.released;
+        noted = v.noted;
       }
 
   pub on_seal : (w : World Book) (p : Past Book) (hart : ℕ) (x : FragmentParts) → Invariant recorder quorum w → w.terms w.now ≡ Some p →
       x.key ≡ record { term = w.now; hart = hart; place = length (p.pieces hart) } → x.from ≡ end_of ((base_of p.opening) hart) (p.pieces hart) →
-      IsCutFrom recorder p.told hart x → Invariant recorder quorum (sealed w p hart x)
-  on_seal w p hart x v is key from cut =
+      IsCutFrom recorder p.told hart x → HasNotes (w.notes w.now hart) x → Invariant recorder quorum (sealed w p hart x)
+  on_seal w p hart x v is key from cut tells =
       send (record w { terms = more }) (Log x)
-      (evolve recorder quorum w (put w.terms w.now (Some r)) v (evolve_one recorder w.terms v.family w.now p r is later own Same))
+      (evolve recorder quorum w (put w.terms w.now (Some r)) v (evolve_one recorder w.terms v.family w.now p r is later own Same)
+      (told_one w.terms w.notes w.now r v.noted.told told))
       (
       piece_at more r x (record { term = w.now; hart = hart; place = length (p.pieces hart) }) key (put_same w.terms w.now w.now (Some r) refl)
       (subst (λ xs. slice_get xs (length (p.pieces hart)) ≡ Some x) (sym (put_same p.pieces hart hart (p.pieces hart ++ x ∷ []) refl)) (nth_last (p.pieces hart) x))
@@ -151,6 +156,19 @@ module _ {Book Fact : Type 0} (recorder : Recorder Book Fact) (guest : GuestPart
 
       more : ℕ → Option (Past Book)
       more = put w.terms w.now (Some r)
+
+      told : (h place : ℕ) (y : FragmentParts) → slice_get (r.pieces h) place ≡ Some y → HasNotes (w.notes w.now h) y
+      told h place y at =
+          elim (same_or_not hart h) [
+            | inl e ↦
+                elim
+                (nth_either (p.pieces hart) x place y (subst (λ xs. slice_get xs place ≡ Some y) (put_same p.pieces hart h (p.pieces hart ++ x ∷ []) e) at)) [
+                  | inl old ↦ v.noted.told w.now p is h place y (subst (λ h. slice_get (p.pieces h) place ≡ Some y) e old)
+                  | inr is_x ↦ subst (λ y. HasNotes (w.notes w.now h) y) is_x (subst (λ h. HasNotes (w.notes w.now h) x) e tells)
+                ]
+            | inr ne ↦
+                v.noted.told w.now p is h place y (subst (λ xs. slice_get xs place ≡ Some y) (put_other p.pieces hart h (p.pieces hart ++ x ∷ []) ne) at)
+          ]
 
       later : Later recorder p r
       later =
@@ -232,6 +250,7 @@ module _ {Book Fact : Type 0} (recorder : Recorder Book Fact) (guest : GuestPart
               | inr ne ↦ v.acks k hart step (subst (λ f. step < f hart) (put_other w.acked keeper k (count_at p.counts) ne) below)
             ];
         released = v.released;
+        noted = v.noted;
       }
     where
       new : (k hart step : ℕ) → IsPosition s p → keeper ≡ k → step < (count_at p.counts) hart → Witness recorder w.terms w.stores k w.now hart step
@@ -248,8 +267,9 @@ module _ {Book Fact : Type 0} (recorder : Recorder Book Fact) (guest : GuestPart
   on_release : (w : World Book) (p : Past Book) (hart number : ℕ) (o : Output) (noted : ℕ → ℕ) → ((keeper : ℕ) → noted keeper ≤ w.acked keeper hart) →
       Invariant recorder quorum w → w.terms w.now ≡ Some p →
       slice_get (recorder.outputs p.told hart) number ≡ Some o → quorum.need ≤ how_many quorum.keepers (λ keeper. nat_lt o.step (noted keeper)) →
+      w.marks w.now hart ≤ number →
       Invariant recorder quorum (record w { released = record { term = w.now; hart = hart; number = number; output = o } ∷ w.released })
-  on_release w p hart number o noted low v is at enough =
+  on_release w p hart number o noted low v is at enough above =
       record {
         family = v.family;
         last = v.last;
@@ -264,6 +284,7 @@ module _ {Book Fact : Type 0} (recorder : Recorder Book Fact) (guest : GuestPart
               (λ r. IsReleased recorder w.terms w.stores quorum r) e new_is
           | inr later ↦ v.released r later
         ];
+        noted = noted_releases w.terms w.notes w.marks w.released new v.noted above;
       }
     where
       new : Released
@@ -285,6 +306,23 @@ module _ {Book Fact : Type 0} (recorder : Recorder Book Fact) (guest : GuestPart
             kept = λ u q there less. let le : u ≤ w.now = v.last u q there in absurd (omega arith);
           }
 
+  on_note : (w : World Book) (p : Past Book) (hart number : ℕ) (notes : List (ℕ × ℕ)) → Invariant recorder quorum w → w.terms w.now ≡ Some p →
+      IsNoting (w.notes w.now hart) (recorder.counts p.told hart) number notes →
+      ((k : ℕ) → k < number → (k < w.marks w.now hart) ⊎ WentOut w.released hart k) → Invariant recorder quorum (noting w hart notes)
+  on_note w p hart number notes v is one known =
+      record {
+        family = v.family;
+        last = v.last;
+        live = v.live;
+        is_live = v.is_live;
+        passed = v.passed;
+        frames = v.frames;
+        stores = v.stores;
+        acks = v.acks;
+        released = v.released;
+        noted = noted_more recorder w.terms v.family w.notes w.marks w.released v.noted w.now v.last p is hart number notes one known;
+      }
+
   on_stop : (w : World Book) → Invariant recorder quorum w → Invariant recorder quorum (record w { runs = false })
   on_stop w v =
       record {
@@ -297,6 +335,7 @@ module _ {Book Fact : Type 0} (recorder : Recorder Book Fact) (guest : GuestPart
         stores = v.stores;
         acks = v.acks;
         released = v.released;
+        noted = v.noted;
       }
 
   -- how a term begins at a position
@@ -376,10 +415,11 @@ module _ {Book Fact : Type 0} (recorder : Recorder Book Fact) (guest : GuestPart
           (backed_grows recorder w.terms w.terms t all r.term cut (grows_itself recorder w.terms)
           (subst (λ s. Below s all) (some_same is at) below) backed) inside i.kept
 
-  on_grant : (w : World Book) (u : ℕ) (chosen : ℕ → Bool) (all : StoreView) (p : Position) (book : Book) → Invariant recorder quorum w → w.now < u →
-      Joined guest w.stores chosen quorum.keepers all → quorum.keepers < quorum.need + how_many quorum.keepers chosen →
-      IsPosition all p → BeginsAt recorder w.terms p book → Invariant recorder quorum (granted guest w u p book)
-  on_grant w u chosen all p book v later there enough position begun =
+  on_grant : (w : World Book) (u : ℕ) (chosen : ℕ → Bool) (all : StoreView) (p : Position) (book : Book) (marks : ℕ → ℕ) → Invariant recorder quorum w →
+      w.now < u → Joined guest w.stores chosen quorum.keepers all → quorum.keepers < quorum.need + how_many quorum.keepers chosen →
+      IsPosition all p → BeginsAt recorder w.terms p book → ((hart : ℕ) → IsMark w.terms all p hart (marks hart)) →
+      Invariant recorder quorum (granted guest w u p book marks)
+  on_grant w u chosen all p book marks v later there enough position begun are_marks =
       record {
         family =
             record {
@@ -465,6 +505,7 @@ module _ {Book Fact : Type 0} (recorder : Recorder Book Fact) (guest : GuestPart
                     | inr was ↦ keeps_grow recorder w.terms more g r.term r.hart r.output.step (i.kept c a was less)
                   ];
             };
+        noted = noted;
       }
     where
       new : Past Book
@@ -508,6 +549,119 @@ module _ {Book Fact : Type 0} (recorder : Recorder Book Fact) (guest : GuestPart
           let less : a.opening.parent < c = parent_less recorder w.terms v.family c a is in
           below_u a.opening.parent q (omega arith) up
 
+      honest : HonestStore w.terms all
+      honest = (honest_joined w.terms guest w.stores chosen v.stores there).honest
+
+      notes : ℕ → ℕ → List (ℕ × ℕ)
+      notes = put w.notes u (λ hart. [])
+
+      not_new : (term : ℕ) (q : Past Book) → w.terms term ≡ Some q → u ≢ term
+      not_new term q is e = let a : u ≤ w.now = subst (λ n. n ≤ w.now) (sym e) (v.last term q is) in omega arith
+
+      -- the new term has no notes, and the others have those that they had
+      as_noted : (term hart : ℕ) (note : ℕ × ℕ) → Contains (notes term hart) note → record { 0 : u ≢ term; 1 : Contains (w.notes term hart) note }
+      as_noted term hart note has =
+          elim (same_or_not u term) [
+            | inl e ↦
+                (let (k, below, is) : Contains [] note =
+                subst (λ (l : List (ℕ × ℕ)). Contains l note) (ap (λ (f : ℕ → List (ℕ × ℕ)). f hart) (put_same w.notes u term (λ hart. []) e)) has in
+                absurd (omega arith))
+            | inr ne ↦
+                (ne, subst (λ (l : List (ℕ × ℕ)). Contains l note) (ap (λ (f : ℕ → List (ℕ × ℕ)). f hart) (put_other w.notes u term (λ hart. []) ne)) has)
+          ]
+
+      -- what an older term keeps it kept
+      older_keeps : (term hart step : ℕ) {c : ℕ} → c < u → Keeps more term hart step c → Keeps w.terms term hart step c
+      older_keeps term hart step less (Here {u = c} q is parent below) = Here q (below_u c q less is) parent below
+      older_keeps term hart step less (Above {u = c} q is k) =
+          let was : w.terms c ≡ Some q = below_u c q less is in
+          let up : q.opening.parent < c = parent_less recorder w.terms v.family c q was in
+          Above q was (older_keeps term hart step (omega arith) k)
+
+      parent_below : p.term < u
+      parent_below =
+          elim b.starts [
+            | Boot none zeros first boots on ↦ let a : p.term ≡ 0 = none in omega arith
+            | At c there less above settled closed first lives on ↦ less
+          ]
+
+      -- what the new term keeps is inside the position
+      new_keeps : (term hart step : ℕ) {c : ℕ} → c ≡ u → Keeps more term hart step c → IsInside w.terms term hart step p
+      new_keeps term hart step same (Here {u = c} q is parent below) =
+          let e : new ≡ q = some_same (put_same w.terms u c (Some new) (sym same)) is in
+          inl (
+            ap (λ (q : Past Book). q.opening.parent) e ∙ parent,
+            subst (λ (q : Past Book). step < base_of q.opening hart) (sym e) below,
+          )
+      new_keeps term hart step same (Above {u = c} q is k) =
+          let e : new ≡ q = some_same (put_same w.terms u c (Some new) (sym same)) is in
+          inr (older_keeps term hart step parent_below
+          (subst (λ n. Keeps more term hart step n) (ap (λ (q : Past Book). q.opening.parent) (sym e)) k))
+
+      kept_by : (term hart step : ℕ) {c : ℕ} → Keeps more term hart step c → (q : Past Book) × (more c ≡ Some q)
+      kept_by term hart step (Here {u = c} q is parent below) = (q, is)
+      kept_by term hart step (Above {u = c} q is k) = (q, is)
+
+      marked_new : (term hart : ℕ) (note : ℕ × ℕ) → Keeps more term hart note.0 u → Contains (w.notes term hart) note → note.1 ≤ marks hart
+      marked_new term hart note k has =
+          let inside : IsInside w.terms term hart note.0 p = new_keeps term hart note.0 refl k in
+          let r = inside_reached recorder w.terms v.family all honest p position term hart note.0 inside in
+          (are_marks hart).greatest term note inside
+          (told_in recorder w.terms v.family w.notes w.marks w.released v.noted w.now v.last all honest term hart r.cut note r.covered r.below has)
+
+      passed_new : (hart k : ℕ) → k < marks hart → WentOut w.released hart k
+      passed_new hart k less =
+          elim (are_marks hart).told [
+            | inl none ↦ absurd (omega arith)
+            | inr (term, note, told, is) ↦
+                told_out recorder w.terms v.family w.notes w.marks w.released v.noted w.now v.last all honest term hart note k told (omega arith)
+          ]
+
+      noted : AreNoted more notes (put w.marks u marks) w.released
+      noted =
+          record {
+            told =
+                λ term q is hart place x there.
+                elim (at term q is) [
+                  | inl (e, f) ↦ some_none (subst (λ (q : Past Book). slice_get (q.pieces hart) place ≡ Some x) (sym f) there) refl
+                  | inr was ↦
+                      subst (λ (f : ℕ → List (ℕ × ℕ)). HasNotes (f hart) x) (sym (put_other w.notes u term (λ hart. []) (not_new term q was)))
+                      (v.noted.told term q was hart place x there)
+                ];
+            from =
+                λ term q is hart note has.
+                let (ne, had) = as_noted term hart note has in
+                elim (at term q is) [
+                  | inl (e, f) ↦ absurd (ne e)
+                  | inr was ↦ v.noted.from term q was hart note had
+                ];
+            out = λ term hart note k has less. v.noted.out term hart note k (as_noted term hart note has).1 less;
+            passed =
+                λ term hart k less.
+                elim (same_or_not u term) [
+                  | inl e ↦ passed_new hart k (subst (λ (f : ℕ → ℕ). k < f hart) (put_same w.marks u term marks e) less)
+                  | inr ne ↦ v.noted.passed term hart k (subst (λ (f : ℕ → ℕ). k < f hart) (put_other w.marks u term marks ne) less)
+                ];
+            marked =
+                λ c term hart note k has.
+                let (ne, had) = as_noted term hart note has in
+                elim (same_or_not u c) [
+                  | inl e ↦
+                      subst (λ (f : ℕ → ℕ). note.1 ≤ f hart) (sym (put_same w.marks u c marks e))
+                      (marked_new term hart note (subst (λ n. Keeps more term hart note.0 n) (sym e) k) had)
+                  | inr other ↦
+                      (let (q, is) = kept_by term hart note.0 k in
+                      let was : w.terms c ≡ Some q = sym (put_other w.terms u c (Some new) other) ∙ is in
+                      let le : c ≤ w.now = v.last c q was in
+                      subst (λ (f : ℕ → ℕ). note.1 ≤ f hart) (sym (put_other w.marks u c marks other))
+                      (v.noted.marked c term hart note (older_keeps term hart note.0 (omega arith) k) had))
+                ];
+            above =
+                λ r has.
+                let i = v.released r has in
+                subst (λ (f : ℕ → ℕ). f r.hart ≤ r.number) (sym (put_other w.marks u r.term marks (not_new r.term i.past i.is))) (v.noted.above r has);
+          }
+
   first : (b : Book) → IsBoot recorder b → Invariant recorder quorum (first_world guest b)
   first b boots =
       record {
@@ -540,6 +694,16 @@ module _ {Book Fact : Type 0} (recorder : Recorder Book Fact) (guest : GuestPart
         stores = λ keeper s is. subst (λ s. HonestStore terms s) (some_same refl is) (honest_nothing terms guest);
         acks = λ keeper hart step below. absurd (omega arith);
         released = λ r (k, below, is). absurd (omega arith);
+        noted =
+            record {
+              told = λ u p is hart place x there. let (e, f) = at u p is in
+                  some_none (subst (λ (p : Past Book). slice_get (p.pieces hart) place ≡ Some x) (sym f) there) refl;
+              from = λ u p is hart note (k, below, e). absurd (omega arith);
+              out = λ u hart note k (j, below, e) less. absurd (omega arith);
+              passed = λ u hart k less. absurd (omega arith);
+              marked = λ u t hart note k (j, below, e). absurd (omega arith);
+              above = λ r (k, below, is). absurd (omega arith);
+            };
       }
     where
       start : Past Book
@@ -558,14 +722,16 @@ module _ {Book Fact : Type 0} (recorder : Recorder Book Fact) (guest : GuestPart
   keep : (w v : World Book) → Invariant recorder quorum w → Happens recorder guest quorum w v → Invariant recorder quorum v
   keep w v h Idle = h
   keep w v h (Step p b runs is goes) = on_step w p b h is goes
-  keep w v h (Seal p hart x runs is rules from cut) = on_seal w p hart x h is rules.same_key from cut
+  keep w v h (Seal p hart x runs is rules from cut tells) = on_seal w p hart x h is rules.same_key from cut tells
   keep w v h (Deliver keeper s r f is has join) = on_deliver w keeper s r f h is has join
   keep w v h (Join keeper other s t r is at join) = on_join w keeper other s t r h is at join
   keep w v h (Acknowledge keeper s p is position here) = on_acknowledge w keeper s p h is position here
-  keep w v h (Release p hart number o noted runs is at low enough) = on_release w p hart number o noted low h is at enough
+  keep w v h (Release p hart number o noted runs is at low enough above) = on_release w p hart number o noted low h is at enough above
+  keep w v h (Note p hart number notes runs is one known) = on_note w p hart number notes h is one known
   keep w v h Stop = on_stop w h
   keep w v h (Lose keeper) = lose_one recorder quorum w keeper h
-  keep w v h (Grant u chosen all p b stopped later there enough position rules begun) = on_grant w u chosen all p b h later there enough position begun
+  keep w v h (Grant u chosen all p b marks stopped later there enough position rules begun are_marks) =
+      on_grant w u chosen all p b marks h later there enough position begun are_marks
 
   pub always : {w : World Book} → Comes recorder guest quorum w → Invariant recorder quorum w
   always (Begins b boots) = first b boots
@@ -657,4 +823,6 @@ module _ {Book Fact : Type 0} (recorder : Recorder Book Fact) (guest : GuestPart
             let c = carry w v r.term r.hart r.number i.past r.output i.is i.output (i.kept u p is less) in
             subst (λ p. r.output.step < (base_of p.opening) r.hart) (some_same c.is is) c.inside;
         current = current w v;
+        noted = λ u hart note k has less. v.noted.out u hart note k has less;
+        fresh = λ r u note has told keeps. le_trans (v.noted.marked r.term u r.hart note keeps told) (v.noted.above r has);
       }

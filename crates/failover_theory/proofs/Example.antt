@@ -29,7 +29,8 @@ use Rattle.failover_theory.specs.Recorders.{Output, Recorder, IsBoot, GoesTo, Ca
 use Rattle.failover_theory.specs.Families.{IsCutFrom, Keeps, Here, Above}
 use Rattle.failover_theory.specs.Worlds.{Released, World, Quorum, first_term, first_world, stepped, sealed, held, granted, Step, Seal, Deliver, Acknowledge, Release, Stop, Grant, BeginsAt, AtBoot, AtCut, Comes, Begins, Then}
 use Rattle.failover_theory.specs.Laws.{CanGo, Reaches}
-use Rattle.failover_theory.proofs.Growing.{Covered, There, Backed}
+use Rattle.failover_theory.specs.Notes.{HasNotes, IsTold, IsMark}
+use Rattle.failover_theory.proofs.Growing.{Covered, There, Backed, a_piece}
 use Rattle.failover_theory.proofs.Fate.{keeps_less}
 use Rattle.failover_theory.proofs.Stores.{honest_join, honest_joined}
 use Rattle.failover_theory.proofs.Invariant.{Invariant, position_keeps, walked_covered, covered_cut}
@@ -90,6 +91,7 @@ module _ {Book Fact : Type 0} (recorder : Recorder Book Fact) (guest : GuestPart
               some = omega arith;
               end = omega arith;
               short = λ more. omega arith;
+              noted = λ is. absurd cc;
               records = record { limit = omega arith; each = tt; order = tt; inputs = λ count. omega arith };
             };
         same_guest = refl;
@@ -99,8 +101,11 @@ module _ {Book Fact : Type 0} (recorder : Recorder Book Fact) (guest : GuestPart
   cut_x : IsCutFrom recorder (b) 0 x
   cut_x = record { rises = omega arith; settled = one; has = λ e has. absurd (no_edges e has); only = λ e (k, below, is). absurd (omega arith) }
 
+  no_notes : HasNotes (w1.notes 1 0) x
+  no_notes = record { has = λ note (k, below, is). absurd (omega arith); only = λ note (k, below, is). absurd (omega arith) }
+
   comes2 : Comes recorder guest quorum w2
-  comes2 = Then (Then (Begins boot boots) (Step start b refl refl goes)) (Seal p 0 x refl refl x_rules (sym (base_0 0)) cut_x)
+  comes2 = Then (Then (Begins boot boots) (Step start b refl refl goes)) (Seal p 0 x refl refl x_rules (sym (base_0 0)) cut_x no_notes)
 
   in_1 : Contains w2.sent f1
   in_1 = here f1 (f2 ∷ [])
@@ -216,7 +221,7 @@ module _ {Book Fact : Type 0} (recorder : Recorder Book Fact) (guest : GuestPart
 
   comes6 : Comes recorder guest quorum w6
   comes6 = Then (Then comes (Acknowledge 0 s2 found.0 refl found.1 stands.0))
-      (Release q 0 0 o (λ keeper. w5.acked keeper 0) refl refl out (λ keeper. omega arith) enough)
+      (Release q 0 0 o (λ keeper. w5.acked keeper 0) refl refl out (λ keeper. omega arith) enough (omega arith))
 
   abbrev w7 : World Book
   w7 = record w6 { runs = false }
@@ -247,12 +252,24 @@ module _ {Book Fact : Type 0} (recorder : Recorder Book Fact) (guest : GuestPart
   begun : (c : Book) × BeginsAt recorder w7.terms next.position c
   begun = begun_at next.is
 
+  -- nothing was noted, so nothing is told
+  untold : (term hart : ℕ) (note : ℕ × ℕ) → IsTold next.all term hart note → ⊥
+  untold term hart note told =
+      let v : Invariant recorder quorum w7 = always recorder guest quorum comes7 in
+      let honest = (honest_joined w7.terms guest w7.stores (λ keeper. true) v.stores next.joined).honest in
+      let (past, is, at) = a_piece w7.terms next.all term hart told.place told.piece honest told.one in
+      let (k, below, same) = ((v.noted.told term past is hart told.place told.piece at).only note told.tells).0 in
+      omega arith
+
+  no_marks : (hart : ℕ) → IsMark w7.terms next.all next.position hart 0
+  no_marks hart = record { greatest = λ term note inside told. absurd (untold term hart note told); told = inl refl }
+
   abbrev w8 : World Book
-  w8 = granted guest w7 2 next.position begun.0
+  w8 = granted guest w7 2 next.position begun.0 (λ hart. 0)
 
   comes8 : Comes recorder guest quorum w8
-  comes8 = Then comes7 (Grant 2 (λ keeper. true) next.all next.position begun.0 refl (omega arith) next.joined (omega arith) next.is
-      (next.opening 2 (omega arith) (omega arith)) begun.1)
+  comes8 = Then comes7 (Grant 2 (λ keeper. true) next.all next.position begun.0 (λ hart. 0) refl (omega arith) next.joined (omega arith) next.is
+      (next.opening 2 (omega arith) (omega arith)) begun.1 no_marks)
 
 pub reaches : {Book Fact : Type 0} (recorder : Recorder Book Fact) → Reaches recorder
 reaches recorder guest rules boot b o boots goes out at_0 one no_edges lives = (

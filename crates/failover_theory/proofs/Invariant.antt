@@ -1,5 +1,5 @@
 -- What holds of each world, and that each event keeps it.
-use Rattle.std.proofs.Common.{◌≡◌, ◌⊎◌, inl, inr, ℕ, ◌<◌, ◌≤◌, Bool, true, Contains, Option, Some, None, sym, ap, subst, ◌∙◌, arith}
+use Rattle.std.proofs.Common.{◌≡◌, ◌⊎◌, inl, inr, ℕ, ◌<◌, ◌≤◌, Bool, true, Contains, Option, Some, None, refl, sym, ap, subst, ◌∙◌, arith}
 use Rattle.log_join.proofs.Families.{granted_opening, granted_piece, opening_granted, piece_granted}
 use Rattle.log_join.specs.Families.{Past, NoGap, OfFamily, HonestStore, Below}
 use Rattle.std.specs.Prelude.{slice_get}
@@ -15,7 +15,7 @@ use Rattle.closed_cut.specs.Position.{IsReached, base_of, Stops, Last, Short, On
 use Rattle.ft_types.specs.declared.position.Position.{Position}
 use Rattle.failover_theory.specs.Lists.{how_many}
 use Rattle.failover_theory.specs.Recorders.{Output, Recorder, LivesOn, IsCutOf, GoesOn, Same, More}
-use Rattle.failover_theory.specs.Families.{IsCutFrom, Starts, Boot, At, IsFamily, Keeps, Here, Above}
+use Rattle.failover_theory.specs.Families.{IsCutFrom, Starts, Boot, At, IsFamily, Keeps, Here, Above, IsInside}
 use Rattle.failover_theory.specs.Worlds.{Released, World, Quorum, Step}
 use Rattle.interleaving.specs.Lists.{put}
 use Rattle.interleaving.specs.Log.{IsClosed}
@@ -24,6 +24,7 @@ use Rattle.failover_theory.proofs.Growing.{below_itself, an_opening, some_same, 
 use Rattle.failover_theory.proofs.Walks.{reached_covered}
 use Rattle.failover_theory.proofs.Fate.{one_child, leads_sound, child_chain, fate}
 use Rattle.failover_theory.proofs.Stores.{see}
+use Rattle.failover_theory.proofs.Noting.{AreTold, AreNoted, noted_evolves}
 
 module _ {Book Fact : Type 0} (recorder : Recorder Book Fact) where
   -- the keeper is lost, or its store has a cut of the term with the step inside
@@ -51,6 +52,7 @@ module _ {Book Fact : Type 0} (recorder : Recorder Book Fact) where
     pub stores : (keeper : ℕ) (s : StoreView) → w.stores keeper ≡ Some s → HonestStore w.terms s
     pub acks : (keeper hart step : ℕ) → step < w.acked keeper hart → Witness w.terms w.stores keeper w.now hart step
     pub released : (r : Released) → Contains w.released r → IsReleased w.terms w.stores quorum r
+    pub noted : AreNoted w.terms w.notes w.marks w.released
 
   -- what is of the term alone
   pub record Own (p : Past Book) : Type 0 where
@@ -121,8 +123,8 @@ module _ {Book Fact : Type 0} (recorder : Recorder Book Fact) where
     pub stays : (term : ℕ) (p : Past Book) → terms term ≡ Some p → term < now → more term ≡ Some p
 
   pub evolve : (quorum : Quorum) (w : World Book) (more : ℕ → Option (Past Book)) → Invariant quorum w → Evolves w.now w.terms more →
-      Invariant quorum (record w { terms = more })
-  evolve quorum w more v e =
+      AreTold more w.notes → Invariant quorum (record w { terms = more })
+  evolve quorum w more v e told =
       record {
         family =
             record {
@@ -163,6 +165,9 @@ module _ {Book Fact : Type 0} (recorder : Recorder Book Fact) where
               kept = λ u p is less. let (p0, was, k, own, came) = e.was u p is in
                   keeps_grow w.terms more e.grows r.term r.hart r.output.step (i.kept u p0 was less);
             };
+        noted =
+            noted_evolves w.terms more w.notes w.marks w.released v.noted
+            (λ u q is. let (p, was, l, own, came) = e.was u q is in (p, was, later_opening recorder p q l)) told;
       }
     where
       pass : (u : ℕ) (p q : Past Book) → more u ≡ Some p → more p.opening.parent ≡ Some q → (hart number : ℕ) (o : Output) →
@@ -253,6 +258,7 @@ module _ {Book Fact : Type 0} (recorder : Recorder Book Fact) where
                   (i.witness keeper b);
               kept = i.kept;
             };
+        noted = v.noted;
       }
 
   -- one keeper's store changes
@@ -346,6 +352,68 @@ module _ {Book Fact : Type 0} (recorder : Recorder Book Fact) where
           to_counts = c.settled;
           closed = c.closed;
         }
+
+    -- the store covers the step of the term
+    pub record Reaches (term hart step : ℕ) : Type 0 where
+      pub cut : ℕ → ℕ
+      pub covered : Covered recorder terms s term cut
+      pub below : step < cut hart
+
+    granted : (term hart step : ℕ) {u : ℕ} → Keeps terms term hart step u → (p : Past Book) × (terms u ≡ Some p)
+    granted term hart step (Here {u = u} p is parent below) = (p, is)
+    granted term hart step (Above {u = u} p is k) = (p, is)
+
+    -- a term from boot keeps nothing
+    none_kept : (root : ℕ) (q : Past Book) → terms root ≡ Some q → q.opening.parent ≡ 0 → (term hart step : ℕ) {u : ℕ} → u ≡ root → Keeps terms term hart step u → ⊥
+    none_kept root q at first term hart step same (Here {u = u} p is parent below) =
+        let e : p ≡ q = some_same is (ap terms same ∙ at) in
+        let f : p.opening.parent ≡ 0 = ap (λ (p : Past Book). p.opening.parent) e ∙ first in
+        elim ((family.honest u p is).starts) [
+          | Boot none zeros b boots on ↦ let z : base_of p.opening hart ≡ 0 = zeros hart in omega arith
+          | At a there less above settled closed b lives on ↦ some_none there (ap terms f ∙ family.none)
+        ]
+    none_kept root q at first term hart step same (Above {u = u} p is k) =
+        let e : p ≡ q = some_same is (ap terms same ∙ at) in
+        let f : p.opening.parent ≡ 0 = ap (λ (p : Past Book). p.opening.parent) e ∙ first in
+        let (r, there) = granted term hart step k in
+        some_none there (ap terms f ∙ family.none)
+
+    -- what the end of the walk keeps is covered on the way
+    on_the_way : (end : ℕ) (cut : ℕ → ℕ) {now : ℕ} → Leads recorder terms s end cut now →
+        ((term hart step : ℕ) → Keeps terms term hart step now → Reaches term hart step) → (term hart step : ℕ) → Keeps terms term hart step end →
+        Reaches term hart step
+    on_the_way end cut (There e c) so_far term hart step k = so_far term hart step (subst (λ n. Keeps terms term hart step n) (sym e) k)
+    on_the_way end cut (Step {now = now} next p is parent opens c rest) so_far term hart step k =
+        on_the_way end cut rest (λ t h n kept. at_next t h n refl kept) term hart step k
+      where
+        at_next : (t h n : ℕ) {u : ℕ} → u ≡ next → Keeps terms t h n u → Reaches t h n
+        at_next t h n same (Here {u = u} q is_q up below) =
+            let e : q ≡ p = some_same is_q (ap terms same ∙ is) in
+            let f : now ≡ t = sym parent ∙ ap (λ (p : Past Book). p.opening.parent) (sym e) ∙ up in
+            record {
+              cut = base_of p.opening;
+              covered = subst (λ m. Covered recorder terms s m (base_of p.opening)) f c;
+              below = subst (λ (p : Past Book). n < base_of p.opening h) e below;
+            }
+        at_next t h n same (Above {u = u} q is_q kept) =
+            let e : q ≡ p = some_same is_q (ap terms same ∙ is) in
+            so_far t h n (subst (λ m. Keeps terms t h n m) (ap (λ (p : Past Book). p.opening.parent) e ∙ parent) kept)
+
+    -- what is inside a position is covered
+    pub inside_reached : (p : Position) → IsPosition s p → (term hart step : ℕ) → IsInside terms term hart step p → Reaches term hart step
+    inside_reached p (NoTop none a b c) term hart step (inl (here, low)) = let z : count_at p.counts hart ≡ 0 = b hart in absurd (omega arith)
+    inside_reached p (NoTop none a b c) term hart step (inr k) =
+        let (q, there) = granted term hart step k in some_none there (ap terms a ∙ family.none)
+    inside_reached p (Top walked) term hart step (inl (here, low)) =
+        record {
+          cut = count_at p.counts;
+          covered = subst (λ n. Covered recorder terms s n (count_at p.counts)) here (walked_covered p walked);
+          below = low;
+        }
+    inside_reached p (Top walked) term hart step (inr k) =
+        let back : Backed recorder terms s p.term (count_at p.counts) = walked_backed p walked in
+        on_the_way p.term (count_at p.counts) back.leads
+        (λ t h n kept. absurd (none_kept back.root back.past back.is back.first t h n refl kept)) term hart step k
 
     -- a position of a store that has a cut of a term with the step inside keeps the step
     pub position_keeps : (p : Position) (term hart step : ℕ) (cut : ℕ → ℕ) → IsPosition s p → Backed recorder terms s term cut → step < cut hart →

@@ -2,6 +2,7 @@ pub mod Growing
 pub mod Walks
 pub mod Fate
 pub mod Stores
+pub mod Noting
 pub mod Invariant
 pub mod Events
 pub mod Reaching

@@ -13,7 +13,7 @@ use Rattle.ft_types.specs.Guests.{GuestParts, IsGuest}
 use Rattle.fragment_codec.specs.Rules.{FragmentParts, OpeningParts}
 use Rattle.log_join.specs.Stores.{StoreView, IsOpeningOf, IsFragmentOf, IsStore}
 use Rattle.failover_theory.specs.Recorders.{Recorder}
-use Rattle.failover_theory.specs.Worlds.{World, Quorum, Joined, NoneYet, Skip, Take, first_opening, first_term, new_term, Happens, Idle, Step, Seal, Deliver, Join, Acknowledge, Release, Stop, Lose, Grant, Comes, Begins, Then}
+use Rattle.failover_theory.specs.Worlds.{World, Quorum, Joined, NoneYet, Skip, Take, first_opening, first_term, new_term, Happens, Idle, Step, Seal, Deliver, Join, Acknowledge, Release, Note, Stop, Lose, Grant, Comes, Begins, Then}
 use Rattle.failover_theory.specs.Laws.{StoresAreRight}
 use Rattle.failover_theory.proofs.Growing.{an_opening, a_piece, some_same, some_none}
 use Rattle.failover_theory.proofs.Stores.{honest_joined}
@@ -119,7 +119,7 @@ module _ {Book Fact : Type 0} (recorder : Recorder Book Fact) (guest : GuestPart
             (λ hart place x at. z.terms.pieces w.now p hart place x is at);
         stores = z.stores;
       }
-  ruled_step w v z (Seal p hart x runs is rules from cut) =
+  ruled_step w v z (Seal p hart x runs is rules from cut tells) =
       record {
         terms =
             ruled_put guest w.terms w.now (record p { pieces = put p.pieces hart (p.pieces hart ++ x ∷ []) }) z.terms (z.terms.openings w.now p is)
@@ -142,7 +142,8 @@ module _ {Book Fact : Type 0} (recorder : Recorder Book Fact) (guest : GuestPart
   ruled_step w v z (Deliver keeper s r f is has join) = record { terms = z.terms; stores = held_guest w z keeper s r is join.guest }
   ruled_step w v z (Join keeper other s t r is at join) = record { terms = z.terms; stores = held_guest w z keeper s r is join.guest }
   ruled_step w v z (Acknowledge keeper s p is position here) = record { terms = z.terms; stores = z.stores }
-  ruled_step w v z (Release p hart number o noted runs is at low enough) = record { terms = z.terms; stores = z.stores }
+  ruled_step w v z (Release p hart number o noted runs is at low enough above) = record { terms = z.terms; stores = z.stores }
+  ruled_step w v z (Note p hart number notes runs is one known) = record { terms = z.terms; stores = z.stores }
   ruled_step w v z Stop = record { terms = z.terms; stores = z.stores }
   ruled_step w v z (Lose keeper) =
       record {
@@ -154,7 +155,7 @@ module _ {Book Fact : Type 0} (recorder : Recorder Book Fact) (guest : GuestPart
               | inr ne ↦ z.stores k a (sym (put_other w.stores keeper k None ne) ∙ at)
             ];
       }
-  ruled_step w v z (Grant u chosen all p b stopped later there enough position rules begun) =
+  ruled_step w v z (Grant u chosen all p b marks stopped later there enough position rules begun are_marks) =
       record {
         terms =
             ruled_put guest w.terms u (new_term guest u p b) z.terms (record { rules = rules; same_guest = refl; same_term = refl })

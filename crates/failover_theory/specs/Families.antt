@@ -1,5 +1,7 @@
 -- Terms whose books are a recorder's, and whose pieces are cut from them.
-use Rattle.std.specs.Prelude.{ℕ, ◌≡◌, ◌<◌, ◌≤◌, Contains, slice_get, Option, Some, None}
+use Rattle.std.specs.Prelude.{ℕ, ◌≡◌, ◌<◌, ◌≤◌, ◌⊎◌, Contains, slice_get, Option, Some, None}
+use Rattle.ft_types.specs.Counts.{count_at}
+use Rattle.ft_types.specs.declared.position.Position.{Position}
 use Rattle.interleaving.specs.Log.{Edge, IsClosed}
 use Rattle.fragment_codec.specs.Rules.{FragmentParts}
 use Rattle.log_join.specs.Families.{Past, NoGap}
@@ -10,6 +12,10 @@ use Rattle.failover_theory.specs.Recorders.{Recorder, IsBoot, LivesOn, GoesOn}
 pub data Keeps {Book : Type 0} (terms : ℕ → Option (Past Book)) (term hart step : ℕ) : ℕ → Type 0 where
   Here : {u : ℕ} (p : Past Book) → terms u ≡ Some p → p.opening.parent ≡ term → step < base_of p.opening hart → Keeps terms term hart step u
   Above : {u : ℕ} (p : Past Book) → terms u ≡ Some p → Keeps terms term hart step p.opening.parent → Keeps terms term hart step u
+
+-- the step is inside the position: of its term, below the counts, or kept by the position's term
+abbrev pub IsInside : {Book : Type 0} → (ℕ → Option (Past Book)) → ℕ → ℕ → ℕ → Position → Type 0
+IsInside terms term hart step p = ((p.term ≡ term) × (step < count_at p.counts hart)) ⊎ Keeps terms term hart step p.term
 
 module _ {Book Fact : Type 0} (recorder : Recorder Book Fact) where
   -- the piece has exactly the edges of the hart's steps in its range

@@ -1,6 +1,6 @@
 -- Events as they are asked for, one after the other; a refused one changes nothing.
-use Rattle.std.specs.Prelude.{ℕ, zero, suc, ◌≡◌, ◌+◌, ◌^◌, ◌&&◌, ◌==◌, Bool, true, false, cond, List, [], ◌∷◌, length, nat_lt, Option, Some, None}
-use Rattle.log_join.specs.Families.{Past, end_of}
+use Rattle.std.specs.Prelude.{ℕ, zero, suc, ◌≡◌, ◌+◌, ◌^◌, ◌&&◌, ◌||◌, ◌==◌, Bool, true, false, cond, List, [], ◌∷◌, ◌++◌, filter, length, nat_lt, nat_le, Option, Some, None}
+use Rattle.log_join.specs.Families.{Past, end_of, HonestStore}
 use Rattle.std.specs.Prelude.{slice_get}
 use Rattle.std.specs.List.{AllByRecursion}
 use Rattle.interleaving.specs.Lists.{put}
@@ -8,13 +8,15 @@ use Rattle.ft_types.specs.Counts.{count_at, IsCount}
 use Rattle.ft_types.specs.Guests.{GuestParts, IsGuest}
 use Rattle.fragment_codec.specs.declared.types.Key.{Key}
 use Rattle.fragment_codec.specs.Rules.{FragmentParts}
+use Rattle.fragment_codec.specs.Facts.{is_between}
 use Rattle.log_join.specs.Stores.{StoreView, IsStore, IsFragmentOf, IsJoin, nothing, alone}
 use Rattle.closed_cut.specs.Position.{base_of, IsPosition}
 use Rattle.ft_types.specs.declared.position.Position.{Position}
-use Rattle.failover_theory.specs.Lists.{how_many, option}
+use Rattle.failover_theory.specs.Lists.{how_many, option, same_pairs}
 use Rattle.failover_theory.specs.Recorders.{Recorder, IsBoot, GoesTo, LivesOn, IsCutOf}
 use Rattle.failover_theory.specs.Families.{IsCutFrom}
-use Rattle.failover_theory.specs.Worlds.{World, Quorum, stepped, sealed, held, granted, first_world}
+use Rattle.failover_theory.specs.Worlds.{Released, World, Quorum, stepped, sealed, held, noting, granted, first_world}
+use Rattle.failover_theory.specs.Notes.{notes_in, IsMark}
 use Rattle.failover_theory.specs.Laws.{IsFailover}
 
 pub data Event (Input : Type 0) : Type 0 where
@@ -25,6 +27,7 @@ pub data Event (Input : Type 0) : Type 0 where
   Joins : (keeper other : ℕ) → Event Input
   Acknowledges : (keeper : ℕ) → Event Input
   Releases : (hart number : ℕ) → Event Input
+  Notes : (hart number : ℕ) → Event Input
   Stops : Event Input
   Loses : (keeper : ℕ) → Event Input
   Grants : (term : ℕ) (chosen : ℕ → Bool) → Event Input
@@ -34,8 +37,26 @@ abbrev pub all_there : (ℕ → Option StoreView) → (ℕ → Bool) → ℕ →
 all_there stores chosen zero = true
 all_there stores chosen (suc n) = cond (chosen n) (option (stores n) false (λ s. all_there stores chosen n)) (all_there stores chosen n)
 
+-- an output of the hart with this number went out
+abbrev pub went_out : List Released → ℕ → ℕ → Bool
+went_out [] hart number = false
+went_out (r ∷ released) hart number = ((r.hart == hart) && (r.number == number)) || went_out released hart number
+
+-- each output of the hart with a number below this one went out, or is below the mark
+abbrev pub are_out : List Released → ℕ → ℕ → ℕ → Bool
+are_out released mark hart zero = true
+are_out released mark hart (suc k) = (nat_lt k mark || went_out released hart k) && are_out released mark hart k
+
+-- one note more, in place of those at its count or later
+abbrev pub with_note : List (ℕ × ℕ) → ℕ → ℕ → List (ℕ × ℕ)
+with_note notes count number = filter (λ note. nat_lt note.0 count) notes ++ (count, number) ∷ []
+
+-- the piece has the notes of its range
+abbrev pub has_notes : List (ℕ × ℕ) → FragmentParts → Bool
+has_notes notes x = same_pairs (notes_in x) (filter (λ note. is_between x.from x.to note.0) notes)
+
 module _ {Book Fact : Type 0} (recorder : Recorder Book Fact) (guest : GuestParts) where
-  -- what begins books, takes steps, joins stores, finds positions, and cuts pieces or can't
+  -- what begins books, takes steps, joins stores, finds positions and marks, and cuts pieces or can't
   pub record Tools (Input : Type 0) : Type 0 where
     pub boot : Book
     pub boots : IsBoot recorder boot
@@ -49,6 +70,9 @@ module _ {Book Fact : Type 0} (recorder : Recorder Book Fact) (guest : GuestPart
     pub finds : (s : StoreView) → IsStore s → IsPosition s (position s)
     pub harts_are : (s : StoreView) → IsStore s → length (position s).counts ≡ s.guest.harts
     pub counts_are : (s : StoreView) → IsStore s → AllByRecursion IsCount (position s).counts
+    pub mark : (ℕ → Option (Past Book)) → StoreView → Position → ℕ → ℕ
+    pub marks : (terms : ℕ → Option (Past Book)) (s : StoreView) (p : Position) → HonestStore terms s → IsPosition s p → (hart : ℕ) →
+        IsMark terms s p hart (mark terms s p hart)
     pub piece : Book → Key → ℕ → ℕ → Option FragmentParts  -- of a key, from and to a count
     pub cuts : (b : Book) (k : Key) (from to : ℕ) (x : FragmentParts) → piece b k from to ≡ Some x →
         IsFragmentOf guest k x × (x.from ≡ from) × IsCutFrom recorder b k.hart x
@@ -76,7 +100,8 @@ module _ {Book Fact : Type 0} (recorder : Recorder Book Fact) (guest : GuestPart
         cond w.runs
         (
         option (w.terms w.now) w
-        (λ p. option (tools.piece p.told (next_key w p hart) (end_of (base_of p.opening hart) (p.pieces hart)) upto) w (λ x. sealed w p hart x))
+        (λ p. option (tools.piece p.told (next_key w p hart) (end_of (base_of p.opening hart) (p.pieces hart)) upto) w
+        (λ x. cond (has_notes (w.notes w.now hart) x) (sealed w p hart x) w))
         )
         w
     apply w (Delivers keeper frame) =
@@ -92,8 +117,17 @@ module _ {Book Fact : Type 0} (recorder : Recorder Book Fact) (guest : GuestPart
         (λ p.
         option (slice_get (recorder.outputs p.told hart) number) w
         (λ o.
-        cond (nat_lt quorum.need (suc (how_many quorum.keepers (λ keeper. nat_lt o.step (w.acked keeper hart)))))
+        cond (nat_lt quorum.need (suc (how_many quorum.keepers (λ keeper. nat_lt o.step (w.acked keeper hart)))) && nat_le (w.marks w.now hart) number)
         (record w { released = record { term = w.now; hart = hart; number = number; output = o } ∷ w.released }) w))
+        )
+        w
+    apply w (Notes hart number) =
+        cond w.runs
+        (
+        option (w.terms w.now) w
+        (λ p.
+        cond (are_out w.released (w.marks w.now hart) hart number)
+        (noting w hart (with_note (w.notes w.now hart) (recorder.counts p.told hart) number)) w)
         )
         w
     apply w Stops = record w { runs = false }
@@ -103,7 +137,11 @@ module _ {Book Fact : Type 0} (recorder : Recorder Book Fact) (guest : GuestPart
         (
         cond (((nat_lt w.now term && nat_lt term (2 ^ 32)) && all_there w.stores chosen quorum.keepers) && nat_lt quorum.keepers
         (quorum.need + how_many quorum.keepers chosen))
-        (granted guest w term (tools.position (all_of w.stores chosen quorum.keepers)) (book_at w (tools.position (all_of w.stores chosen quorum.keepers)))) w
+        (
+        granted guest w term (tools.position (all_of w.stores chosen quorum.keepers)) (book_at w (tools.position (all_of w.stores chosen quorum.keepers)))
+        (tools.mark w.terms (all_of w.stores chosen quorum.keepers) (tools.position (all_of w.stores chosen quorum.keepers)))
+        )
+        w
         )
 
     -- what comes of a list of events

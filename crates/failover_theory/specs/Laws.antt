@@ -15,7 +15,8 @@ use Rattle.ft_types.specs.declared.position.Position.{Position}
 use Rattle.failover_theory.specs.Lists.{how_many}
 use Rattle.failover_theory.specs.Recorders.{Output, Recorder, IsBoot, GoesTo, CanLive}
 use Rattle.failover_theory.specs.Families.{IsHonestTerm, IsFamily, Keeps}
-use Rattle.failover_theory.specs.Worlds.{Released, World, Quorum, Joined, new_opening, Comes}
+pub use Rattle.failover_theory.specs.Families.{IsInside}
+use Rattle.failover_theory.specs.Worlds.{Released, World, Quorum, WentOut, Joined, new_opening, Comes}
 
 -- a store with more of the family reaches as far in a term of its chain, but for the base of the chain's next term
 abbrev pub Growth : {Book Fact : Type 0} → Recorder Book Fact → Type 0
@@ -37,10 +38,6 @@ pub record CanGo {Book : Type 0} (quorum : Quorum) (guest : GuestParts) (w : Wor
   pub joined : Joined guest w.stores chosen quorum.keepers all
   pub is : IsPosition all position
   pub opening : (u : ℕ) → w.now < u → u < 2 ^ 32 → IsOpening (new_opening guest u position)
-
--- the step is inside the position: of its term, below the counts, or kept by the position's term
-abbrev pub IsInside : {Book : Type 0} → (ℕ → Option (Past Book)) → ℕ → ℕ → ℕ → Position → Type 0
-IsInside terms term hart step p = ((p.term ≡ term) × (step < count_at p.counts hart)) ⊎ Keeps terms term hart step p.term
 
 -- `need` keepers have the output inside the position of whatever store they have, while they have one
 pub record IsHeld {Book : Type 0} (quorum : Quorum) (w : World Book) (r : Released) : Type 0 where
@@ -68,6 +65,11 @@ module _ {Book Fact : Type 0} (recorder : Recorder Book Fact) where
     -- what was released is of the machine of the term granted last
     pub current : (r : Released) (p : Past Book) → Contains w.released r → w.terms w.now ≡ Some p →
         slice_get (recorder.outputs p.told r.hart) r.number ≡ Some r.output
+    -- each output that is noted went out
+    pub noted : (u hart : ℕ) (note : ℕ × ℕ) (number : ℕ) → Contains (w.notes u hart) note → number < note.1 → WentOut w.released hart number
+    -- and where the note is inside a term's base, it does not go out in that term
+    pub fresh : (r : Released) (u : ℕ) (note : ℕ × ℕ) → Contains w.released r → Contains (w.notes u r.hart) note →
+        Keeps w.terms u r.hart note.0 r.term → note.1 ≤ r.number
 
   abbrev pub Failover : GuestParts → Quorum → Type 0
   Failover guest quorum = (w : World Book) → Comes recorder guest quorum w → IsFailover quorum w

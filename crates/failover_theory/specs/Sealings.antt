@@ -41,5 +41,5 @@ module _ {Book Fact : Type 0} (recorder : Recorder Book Fact) where
     SealsPieces =
         (w : World Book) (p : Past Book) (log : HartLog) (old new : Mark) (xs : List FragmentParts) → Comes recorder guest quorum w →
         w.runs ≡ true → w.terms w.now ≡ Some p → log.guest ≡ guest → log.term ≡ w.now → IsLogOf p.told log → IsMarked p log.hart old →
-        ArePieces log old xs new →
+        log.facts.notes ≡ w.notes w.now log.hart → ArePieces log old xs new →
         Comes recorder guest quorum (sealed_all w p log.hart xs)

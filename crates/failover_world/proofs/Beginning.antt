@@ -5,6 +5,7 @@ use Rattle.std.specs.List.{range_with_len}
 use Rattle.std.proofs.lemmas.Bool.{cases_lt}
 use Rattle.std.proofs.lemmas.List.{get_or_past, get_or-replicate, length-replicate}
 use Rattle.ft_types.specs.Counts.{count_at}
+use Rattle.ft_types.specs.declared.output.Output.{Output}
 use Rattle.interleaving.specs.Lists.{put}
 use Rattle.interleaving.specs.Stored.{system_of, view}
 use Rattle.interleaving.proofs.Put.{same_or_not, put_same, put_other}
@@ -21,7 +22,7 @@ use Rattle.fragment_codec.specs.Rules.{OpeningParts}
 use Rattle.log_join.specs.Families.{Past, Family, no_terms}
 use Rattle.log_join.specs.Stores.{StoreView, nothing}
 use Rattle.closed_cut.proofs.Chains.{zero_row}
-use Rattle.output_gate.specs.Gates.{LineView, line_of}
+use Rattle.output_gate.specs.Gates.{LineView, fresh_line, offered_in, line_of}
 use Rattle.term_gate.specs.TermGates.{acked_at}
 use Rattle.hart_replay.specs.Images.{GuestHistory, boot_of, IsHistoryOf}
 use Rattle.hart_replay.specs.Primaries.{IsPrimary}
@@ -89,7 +90,7 @@ pub record IsFirst (v : WorldView) : Type 0 where
   pub gate_need : v.gate.gate.need ≡ v.need
   pub gate_harts : v.gate.harts ≡ v.image.harts
   pub acked : v.gate.acked ≡ replicate v.keepers (replicate v.image.harts 0)
-  pub lines : (hart : ℕ) → line_of v.gate.gate hart ≡ record { gone = []; waiting = [] }
+  pub lines : (hart : ℕ) → line_of v.gate.gate hart ≡ fresh_line 0
 
 module _ (v : WorldView) (is : IsFirst v) where
   term_is : term_of v ≡ 1
@@ -126,8 +127,7 @@ module _ (v : WorldView) (is : IsFirst v) where
         offered =
             λ hart.
             let said = numbered hart (said_at v.primary.book.machine hart) in
-            ap (λ (line : LineView). line.gone ++ line.waiting) (is.lines hart)
-            ∙ ap (λ (line : LineView). take (length (line.gone ++ line.waiting)) said) (sym (is.lines hart));
+            ap offered_in (is.lines hart) ∙ ap (λ (line : LineView). take (length (offered_in line)) said) (sym (is.lines hart));
       }
 
   -- ---- in the theory
@@ -175,7 +175,7 @@ module _ (v : WorldView) (is : IsFirst v) where
       fun_ext (λ keeper. fun_ext (λ hart.
       ap (λ (rows : List (List ℕ)). count_at (slice_index_or rows keeper []) hart) is.acked ∙ none_acked v.keepers v.image.harts keeper hart))
 
-  world_is : theory_world v.image.pages its_theory (guest_of v.image) v terms [] ≡ theory.first_world (guest_of v.image) told
+  world_is : theory_world v.image.pages its_theory (guest_of v.image) v terms (λ u hart. []) (λ u hart. 0) [] ≡ theory.first_world (guest_of v.image) told
   world_is =
       λ i. record {
         now = term_is i;
@@ -184,10 +184,12 @@ module _ (v : WorldView) (is : IsFirst v) where
         sent = (is.sent ∙ ap (λ (o : OpeningParts). Opening o ∷ []) is.booted.opening) i;
         stores = stores_are i;
         acked = acked_are i;
+        notes = λ u hart. [];
+        marks = λ u hart. 0;
         released = [];
       }
 
-  comes : theory.Comes its_recorder.recorder (guest_of v.image) (quorum_of v) (theory_world v.image.pages its_theory (guest_of v.image) v terms [])
+  comes : theory.Comes its_recorder.recorder (guest_of v.image) (quorum_of v) (theory_world v.image.pages its_theory (guest_of v.image) v terms (λ u hart. []) (λ u hart. 0) [])
   comes =
       let fact = AtBoot told (its_theory.from v.primary.book is_book ∙ ap (view (hardware v.image.pages)) is.booted.start) in
       subst (theory.Comes its_recorder.recorder (guest_of v.image) (quorum_of v)) (sym world_is)
@@ -211,9 +213,17 @@ module _ (v : WorldView) (is : IsFirst v) where
         are_theory = its_theory;
         is_recorder = its_recorder;
         terms = terms;
+        notes = λ u hart. [];
+        marks = λ u hart. 0;
         out = [];
         comes = comes;
         went_out = λ r has. absurd (none_in r (subst (λ (rs : List Released). Contains rs r) is.released has));
+        no_more = λ r has. absurd (none_in r has);
+        gone_out = λ hart o has.
+            absurd (none_in o (subst (λ (os : List Output). Contains os o) (ap (λ (line : LineView). line.gone) (is.lines hart)) has));
+        noted = λ hart. sym (is.booted.unused.notes hart);
+        noted_before = λ p has hart. absurd (none_in p (subst (λ (ps : List Primary). Contains ps p) is.stopped has));
+        marked = λ hart. sym (ap (λ (line : LineView). line.mark) (is.lines hart));
         pieces = λ hart. [];
         is_book = is_book;
         there = put_same no_terms (term_of v) (term_of v) (Some live) refl;

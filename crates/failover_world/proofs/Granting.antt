@@ -4,6 +4,7 @@ use Rattle.std.specs.List.{range_with_len}
 use Rattle.std.proofs.lemmas.List.Elements.{Contains-append_left, Contains-push}
 use Rattle.std.proofs.Math.Path.{fun_ext}
 use Rattle.ft_types.specs.Counts.{count_at}
+use Rattle.ft_types.specs.declared.output.Output.{Output}
 use Rattle.edge_log.specs.EdgeLog.{start_of}
 use Rattle.interleaving.specs.Lists.{put, Each, EachPair}
 use Rattle.interleaving.specs.Machine.{Turn, at}
@@ -11,6 +12,7 @@ use Rattle.interleaving.specs.Log.{IsCut}
 use Rattle.interleaving.specs.Stored.{system_of, view}
 use Rattle.interleaving.proofs.Put.{same_or_not, put_same, put_other}
 use Rattle.input_log.specs.declared.Input.{Input}
+use Rattle.input_log.specs.Notes.{notes_of}
 use Rattle.rv32_hart.specs.Hart.{Hart, boot_hart}
 use Rattle.rv32_hart.specs.Hardware.{hardware}
 use Rattle.guest_image.specs.Image.{guest_of}
@@ -25,6 +27,7 @@ use Rattle.book_modes.specs.Recordings.{RecordingView, heard_by}
 use Rattle.hart_lease.specs.Runs.{counts_of, journal_turns}
 use Rattle.hart_replay.specs.Histories.{TermHistory, IsTerm, machine_in}
 use Rattle.hart_replay.specs.Images.{GuestTerm, machine_of, boot_of}
+use Rattle.hart_replay.specs.Plans.{noted_in}
 use Rattle.hart_replay.specs.Primaries.{IsTermOfBook, unsealed, term_of as history_of}
 use Rattle.hart_replay.proofs.honesty.Sealing.{unsealed_is_of_book}
 use Rattle.hart_replay.proofs.honesty.Replays.{legs_keep_pages, boot_pages}
@@ -34,7 +37,7 @@ use Rattle.failover_theory.specs.Recorders.{Output as TheoryOutput}
 use Rattle.failover_theory.specs.Worlds as theory
 use Rattle.failover_theory.proofs.Invariant.{Invariant}
 use Rattle.failover_theory.proofs.Events.{always}
-use Rattle.failover_theory.proofs.Stores.{see}
+use Rattle.failover_theory.proofs.Stores.{see, honest_joined}
 use Rattle.book_recorder.specs.TermBooks.{outputs_of, IsTermBook, IsRevived}
 use Rattle.book_recorder.proofs.Books.{revived_are_term_books}
 use Rattle.term_gate.specs.TermGates.{TermGateView, acked_at}
@@ -48,8 +51,9 @@ use Rattle.failover_world.specs.Happenings.{GoesLive, stores_of}
 use Rattle.failover_world.specs.Tied.{TermBook, retold, retold_in, history, told_as, theory_world, quorum_of, live_book, AreParts, IsTied, BeginsTerm}
 use Rattle.failover_world.proofs.Places.{retold_put}
 use Rattle.primary.proofs.Put.{put_put}
-use Rattle.failover_world.proofs.Before.{before_now, no_other_with}
+use Rattle.failover_world.proofs.Before.{stopped_or_now, before_now, no_other_with}
 use Rattle.failover_world.proofs.Chosen.{chosen_of, put_own, honest, all_joined, enough}
+use Rattle.failover_world.proofs.Marks.{are_marks}
 
 -- no hart of boot has put out anything
 none_out : (harts : ℕ) (numbers : List ℕ) (hart : ℕ) → outputs_of (slice_get (map (boot_hart harts) numbers) hart) ≡ []
@@ -57,6 +61,9 @@ unfolding boot_hart
 none_out harts [] hart = refl
 none_out harts (n ∷ numbers) zero = refl
 none_out harts (n ∷ numbers) (suc hart) = none_out harts numbers hart
+
+none_gone : {A : Type 0} (x : A) → Contains [] x → ⊥
+none_gone x (k, below, is) = absurd (omega (arith, below))
 
 -- nothing was acknowledged
 none_acked : (n k : ℕ) (row : List ℕ) → ((hart : ℕ) → count_at row hart ≡ 0) → (hart : ℕ) → count_at (get_or (replicate n row) k []) hart ≡ 0
@@ -89,7 +96,7 @@ rising_said None rising = tt
 rising_said (Some h) rising = pair_mapped (λ (o p : TheoryOutput). o.step < p.step) (λ o. record { step = o.0; word = o.1 }) h.outputs rising
 
 module _ (v : WorldView) (is : IsTied v) (term : ℕ) (named : List ℕ) (p : Primary)
-    (begun_at : IsAtPosition v.image (map (λ s. s.1) (stores_of v.stores named)) term p.book.start p.opening) (later : term_of v < term)
+    (marks : List ℕ) (begun_at : IsAtPosition v.image (map (λ s. s.1) (stores_of v.stores named)) term p.book.start p.opening marks) (later : term_of v < term)
     (log_start : (hart : ℕ) → start_of p.book.mode.edges hart ≡ counts_of p.book.start hart) (begins : BeginsTerm v term named p) where
   abbrev pages : ℕ
   pages = v.image.pages
@@ -115,7 +122,7 @@ module _ (v : WorldView) (is : IsTied v) (term : ℕ) (named : List ℕ) (p : Pr
   as_large : length p.book.start.pages ≡ v.image.pages
   as_large = legs_keep_pages begun_at.replayed.legs (boot_machine v.image) p.book.start begun_at.replayed.outcome ∙ boot_pages v.image
 
-  kept : Invariant is.is_recorder.recorder (quorum_of v) (theory_world v.image.pages is.are_theory (guest_of v.image) v is.terms is.out)
+  kept : Invariant is.is_recorder.recorder (quorum_of v) (theory_world v.image.pages is.are_theory (guest_of v.image) v is.terms is.notes is.marks is.out)
   kept = always is.is_recorder.recorder (guest_of v.image) (quorum_of v) is.comes
 
   -- no such term was granted
@@ -210,7 +217,7 @@ granted_world v p g =
 module _ (v : WorldView) (is : IsTied v) (parts : AreParts v) (term : ℕ) (named : List ℕ) (p : Primary) (g : TermGateView)
     (live : GoesLive v term named p g) (begins : BeginsTerm v term named p) where
   abbrev own_book : IsTermBook v.image.pages p.book
-  own_book = new_book v is term named p live.at live.later live.unused.log_start begins
+  own_book = new_book v is term named p live.marks live.at live.later live.unused.log_start begins
 
   -- ---- in the theory
 
@@ -225,14 +232,14 @@ module _ (v : WorldView) (is : IsTied v) (parts : AreParts v) (term : ℕ) (name
       elim (see (is.terms live.at.position.term)) [
         | inl none ↦
             let fact : BookFact (system_of (hardware v.image.pages)) is.are_theory.outs (boot_of v.image) =
-            AtBoot now (is.are_theory.from p.book own_book ∙ from_boot v is term named p live.at live.later live.unused.log_start begins none) in
+            AtBoot now (is.are_theory.from p.book own_book ∙ from_boot v is term named p live.marks live.at live.later live.unused.log_start begins none) in
             theory.AtBoot (ap (retold_in told) none) (fact, is.is_recorder.tells fact)
         | inr (q, there) ↦
             let was = is.are_theory.book q.told.book q.told.is in
             let fact : BookFact (system_of (hardware v.image.pages)) is.are_theory.outs (boot_of v.image) =
             AtCut was (count_at live.at.position.counts) now
             (
-            is.are_theory.from p.book own_book ∙ (revived v is term named p live.at live.later live.unused.log_start begins q there).start
+            is.are_theory.from p.book own_book ∙ (revived v is term named p live.marks live.at live.later live.unused.log_start begins q there).start
             ∙ ap (λ (m : HartMachine). at (system_of (hardware v.image.pages)) m
             (journal_turns (heard_by q.told.book.mode) q.told.book.start q.told.book.journal) (count_at live.at.position.counts)) (sym (is.are_theory.from q.told.book q.told.is))
             ∙ ap (λ (ts : List (Turn (List Input))). at (system_of (hardware v.image.pages)) was.from ts (count_at live.at.position.counts)) (sym (is.are_theory.turns q.told.book q.told.is))
@@ -245,31 +252,47 @@ module _ (v : WorldView) (is : IsTied v) (parts : AreParts v) (term : ℕ) (name
       ]
 
   abbrev world : theory.World (Book (system_of (hardware v.image.pages)) is.are_theory.outs)
-  world = theory_world v.image.pages is.are_theory (guest_of v.image) v is.terms is.out
+  world = theory_world v.image.pages is.are_theory (guest_of v.image) v is.terms is.notes is.marks is.out
 
   abbrev Comes : theory.World (Book (system_of (hardware v.image.pages)) is.are_theory.outs) → Type 0
   Comes w = theory.Comes is.is_recorder.recorder (guest_of v.image) (quorum_of v) w
 
+  -- what is noted in the legs of the plan
+  abbrev its_marks : ℕ → ℕ
+  its_marks hart = noted_in live.at.replayed.legs hart
+
   -- the world with a new term of this opening
   abbrev with_opening : OpeningParts → theory.World (Book (system_of (hardware v.image.pages)) is.are_theory.outs)
   with_opening o =
-      record (theory_world v.image.pages is.are_theory (guest_of v.image) v is.terms is.out) {
+      record (theory_world v.image.pages is.are_theory (guest_of v.image) v is.terms is.notes is.marks is.out) {
         now = o.term;
         runs = true;
         terms = put (λ u. retold_in told (is.terms u)) o.term (Some (record { opening = o; told = now; pieces = λ hart. [] }));
         sent = v.sent ++ Opening o ∷ [];
         acked = λ keeper hart. 0;
+        notes = put is.notes o.term (λ hart. []);
+        marks = put is.marks o.term its_marks;
       }
+
+  joins : theory.Joined (guest_of v.image) world.stores (chosen_of v.stores named) v.keepers live.at.joined
+  joins =
+      subst (λ n. theory.Joined (guest_of v.image) world.stores (chosen_of v.stores named) n live.at.joined) parts.stores
+      (all_joined v is parts.guest named live.at.joined live.at.are_joined)
+
+  invariant : Invariant is.is_recorder.recorder (quorum_of v) world
+  invariant = always is.is_recorder.recorder (guest_of v.image) (quorum_of v) is.comes
 
   in_theory : v.runs ≡ false → Comes (with_opening p.opening)
   in_theory quiet =
       subst (λ o. Comes (with_opening o)) (sym live.at.opened)
       (theory.Then is.comes
-      (theory.Grant term (chosen_of v.stores named) live.at.joined live.at.position now quiet live.later
-      (subst (λ n. theory.Joined (guest_of v.image) world.stores (chosen_of v.stores named) n live.at.joined) parts.stores
-      (all_joined v is parts.guest named live.at.joined live.at.are_joined))
+      (theory.Grant term (chosen_of v.stores named) live.at.joined live.at.position now its_marks quiet live.later joins
       (subst (λ n. v.keepers < v.need + how_many n (chosen_of v.stores named)) parts.stores (enough v is parts.guest named live.enough))
-      live.at.replayed.is_position (subst IsOpening live.at.opened begins.rules) begun))
+      live.at.replayed.is_position (subst IsOpening live.at.opened begins.rules) begun
+      (λ hart.
+      are_marks is.is_recorder.recorder (λ u. retold_in told (is.terms u)) invariant.family live.at.joined
+      (honest_joined (λ u. retold_in told (is.terms u)) (guest_of v.image) world.stores (chosen_of v.stores named) invariant.stores joins).honest
+      live.at.position live.at.replayed.legs live.at.replayed.planned hart)))
 
   none_noted : ◌≡◌ {A = ℕ → ℕ → ℕ} (λ keeper hart. acked_at g keeper hart) (λ keeper hart. 0)
   none_noted =
@@ -284,6 +307,24 @@ module _ (v : WorldView) (is : IsTied v) (parts : AreParts v) (term : ℕ) (name
   abbrev terms : Family (TermBook v.image.pages)
   terms = put is.terms p.opening.term (Some new_past)
 
+  now_later : term_of v < p.opening.term
+  now_later = subst (λ n. term_of v < n) (sym (is_term v is term named p live.marks live.at live.later live.unused.log_start begins)) live.later
+
+  -- the primaries that stopped, the last one among them, are of earlier terms, with the notes of their books
+  earlier : (q : Primary) → Contains (v.stopped ++ v.primary ∷ []) q → q.opening.term < p.opening.term
+  earlier q has =
+      elim (stopped_or_now v.stopped v.primary q has) [
+        | inl was ↦ let less = (is.before q was).earlier in let later = now_later in omega (arith, less, later)
+        | inr same ↦ subst (λ (r : Primary). r.opening.term < p.opening.term) same now_later
+      ]
+
+  noted_so_far : (q : Primary) → Contains (v.stopped ++ v.primary ∷ []) q → (hart : ℕ) → is.notes q.opening.term hart ≡ notes_of q.book.mode.notes hart
+  noted_so_far q has hart =
+      elim (stopped_or_now v.stopped v.primary q has) [
+        | inl was ↦ is.noted_before q was hart
+        | inr same ↦ subst (λ (r : Primary). is.notes r.opening.term hart ≡ notes_of r.book.mode.notes hart) same (is.noted hart)
+      ]
+
   -- a primary went live
   pub granted : v.runs ≡ false → IsTied (granted_world v p g)
   granted quiet =
@@ -291,16 +332,29 @@ module _ (v : WorldView) (is : IsTied v) (parts : AreParts v) (term : ℕ) (name
         are_theory = is.are_theory;
         is_recorder = is.is_recorder;
         terms = terms;
+        notes = put is.notes p.opening.term (λ hart. []);
+        marks = put is.marks p.opening.term its_marks;
         out = is.out;
         comes =
             subst (λ a. Comes (record (with_opening p.opening) { terms = λ u. retold_in told (terms u); acked = a })) (sym none_noted)
             (subst (λ t. Comes (record (with_opening p.opening) { terms = t })) (sym (retold_put told is.terms p.opening.term (Some new_past)))
             (in_theory quiet));
         went_out = is.went_out;
+        no_more = is.no_more;
+        gone_out = λ hart o has. absurd (none_gone o (subst (λ (os : List Output). Contains os o) (live.fresh.gone hart) has));
+        noted = λ hart.
+            ap (λ (f : ℕ → List (ℕ × ℕ)). f hart) (put_same is.notes p.opening.term p.opening.term (λ hart. []) refl) ∙ sym (live.unused.notes hart);
+        noted_before = λ q has hart.
+            ap (λ (f : ℕ → List (ℕ × ℕ)). f hart)
+            (put_other is.notes p.opening.term q.opening.term (λ hart. []) (λ same. let less : q.opening.term < p.opening.term = earlier q has in absurd (omega (arith, less, same)))) ∙
+            noted_so_far q has hart;
+        marked = λ hart.
+            ap (λ (f : ℕ → ℕ). f hart) (put_same is.marks p.opening.term p.opening.term its_marks refl) ∙ sym (live.at.replayed.noted hart) ∙
+            sym (live.fresh.marked hart);
         pieces = λ hart. [];
         is_book = own_book;
         there = put_same is.terms p.opening.term p.opening.term (Some new_past) refl;
-        of_book = of_book v is term named p live.at live.later live.unused.log_start begins;
+        of_book = of_book v is term named p live.marks live.at live.later live.unused.log_start begins;
         sealed = live.uncut.1;
         opened = λ u q at. elim (same_or_not p.opening.term u) [
           | inl same ↦
@@ -313,13 +367,11 @@ module _ (v : WorldView) (is : IsTied v) (parts : AreParts v) (term : ℕ) (name
         ];
         longer =
             subst (λ (t : Family (TermBook v.image.pages)). MakesLonger v.image (history t) p.opening.term p.book.start p.opening)
-            (sym (put_put is.terms p.opening.term (Some new_past) None ∙ put_own is.terms p.opening.term None (ap is.terms (is_term v is term named p live.at live.later live.unused.log_start begins) ∙ not_granted v is term named p live.at live.later live.unused.log_start begins)))
-            (subst (λ n. MakesLonger v.image (history is.terms) n p.book.start p.opening) (sym (is_term v is term named p live.at live.later live.unused.log_start begins))
+            (sym (put_put is.terms p.opening.term (Some new_past) None ∙ put_own is.terms p.opening.term None (ap is.terms (is_term v is term named p live.marks live.at live.later live.unused.log_start begins) ∙ not_granted v is term named p live.marks live.at live.later live.unused.log_start begins)))
+            (subst (λ n. MakesLonger v.image (history is.terms) n p.book.start p.opening) (sym (is_term v is term named p live.marks live.at live.later live.unused.log_start begins))
             (begins.longer (history is.terms) (honest v is named)));
         before =
-            let later : term_of v < p.opening.term =
-            subst (λ n. term_of v < n) (sym (is_term v is term named p live.at live.later live.unused.log_start begins)) live.later in
-            before_now is.terms (term_of v) p.opening.term v.stopped v.primary (live_book v is.pieces is.is_book) new_past later refl is.there refl is.of_book
+            before_now is.terms (term_of v) p.opening.term v.stopped v.primary (live_book v is.pieces is.is_book) new_past now_later refl is.there refl is.of_book
             is.before;
         no_other = no_other_with is.terms (term_of v) p.opening.term v.stopped v.primary new_past refl is.no_other;
       }

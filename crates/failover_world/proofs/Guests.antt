@@ -58,10 +58,10 @@ own_answer s (Log x) same =
     (not_other same_fragment (fragment_at s x.key) x)
 
 module _ (v : WorldView) (is : IsTied v) (guest : IsGuest (guest_of v.image)) where
-  kept : Invariant is.is_recorder.recorder (quorum_of v) (theory_world v.image.pages is.are_theory (guest_of v.image) v is.terms is.out)
+  kept : Invariant is.is_recorder.recorder (quorum_of v) (theory_world v.image.pages is.are_theory (guest_of v.image) v is.terms is.notes is.marks is.out)
   kept = always is.is_recorder.recorder (guest_of v.image) (quorum_of v) is.comes
 
-  rules : IsOfRules is.is_recorder.recorder (guest_of v.image) (quorum_of v) (theory_world v.image.pages is.are_theory (guest_of v.image) v is.terms is.out)
+  rules : IsOfRules is.is_recorder.recorder (guest_of v.image) (quorum_of v) (theory_world v.image.pages is.are_theory (guest_of v.image) v is.terms is.notes is.marks is.out)
   rules = ruled is.is_recorder.recorder (guest_of v.image) (quorum_of v) guest is.comes
 
   pub store_guest : (keeper : ℕ) (s : StoreView) → store_at v.stores keeper ≡ Some s → s.guest ≡ guest_of v.image
@@ -69,10 +69,10 @@ module _ (v : WorldView) (is : IsTied v) (guest : IsGuest (guest_of v.image)) wh
 
   frame_guest : (f : Frame) → Contains v.sent f → guest_in f ≡ guest_of v.image
   frame_guest (Opening o) has =
-      let (p, there, same) = granted_opening (theory_world v.image.pages is.are_theory (guest_of v.image) v is.terms is.out).terms o.term o (kept.frames (Opening o) has) in
+      let (p, there, same) = granted_opening (theory_world v.image.pages is.are_theory (guest_of v.image) v is.terms is.notes is.marks is.out).terms o.term o (kept.frames (Opening o) has) in
       ap (λ o. o.guest) (sym same) ∙ (rules.terms.openings o.term p there).same_guest
   frame_guest (Log x) has =
-      let (p, there, at) = granted_piece (theory_world v.image.pages is.are_theory (guest_of v.image) v is.terms is.out).terms x.key x (kept.frames (Log x) has) in
+      let (p, there, at) = granted_piece (theory_world v.image.pages is.are_theory (guest_of v.image) v is.terms is.notes is.marks is.out).terms x.key x (kept.frames (Log x) has) in
       (rules.terms.pieces x.key.term p x.key.hart x.key.place x there at).same_guest
 
   -- so is the opening of the primary's term
@@ -85,5 +85,5 @@ module _ (v : WorldView) (is : IsTied v) (guest : IsGuest (guest_of v.image)) wh
   pub store_rules : (keeper : ℕ) (s : StoreView) → store_at v.stores keeper ≡ Some s → IsStore s
   store_rules keeper s at =
       (stores_are_right is.is_recorder.recorder (guest_of v.image) (quorum_of v) guest
-      (theory_world v.image.pages is.are_theory (guest_of v.image) v is.terms is.out) is.comes).keepers keeper s
+      (theory_world v.image.pages is.are_theory (guest_of v.image) v is.terms is.notes is.marks is.out) is.comes).keepers keeper s
       (there_too v.stores keeper s (Some (nothing (guest_of v.image))) at)

@@ -1,10 +1,12 @@
 -- The world stays one that comes in the theory: what keepers do, and what stops.
-use Rattle.std.proofs.Common.{◌≡◌, ℕ, zero, suc, ◌<◌, Bool, false, List, [], ◌∷◌, length, slice_get, slice_set, slice_index_or, Contains, Option, Some, None, sym, subst, arith}
+use Rattle.std.proofs.Common.{◌≡◌, ℕ, zero, suc, ◌<◌, Bool, false, List, [], ◌∷◌, length, slice_get, slice_set, slice_index_or, Contains, Option, Some, None, refl, sym, subst, ◌∙◌, arith}
 use Rattle.guest_image.specs.Image.{guest_of}
 use Rattle.fragment_codec.specs.declared.frame.Frame.{Frame}
 use Rattle.log_join.specs.Stores.{StoreView, IsJoin, alone, nothing}
 use Rattle.closed_cut.specs.Position.{IsPosition}
 use Rattle.ft_types.specs.declared.position.Position.{Position}
+use Rattle.ft_types.specs.declared.output.Output.{Output}
+use Rattle.output_gate.specs.Gates.{mark_at, gone_of}
 use Rattle.term_gate.specs.TermGates.{TermGateView}
 use Rattle.failover_theory.specs.Worlds as theory
 use Rattle.primary.specs.declared.released.Released.{Released}
@@ -22,17 +24,27 @@ module _ (v : WorldView) (is : IsTied v) where
   -- what else there is than terms and frames may change as it does in the theory
   pub changed : (runs : Bool) (stores : List (Option StoreView)) (gate : TermGateView) (released : List Released) (out : List theory.Released) →
       theory.Comes is.is_recorder.recorder (guest_of v.image) (quorum_of v) (theory_world v.image.pages is.are_theory (guest_of v.image)
-      (record v { runs = runs; stores = stores; gate = gate; released = released }) is.terms out) →
+      (record v { runs = runs; stores = stores; gate = gate; released = released }) is.terms is.notes is.marks out) →
       ((r : Released) → Contains released r → Contains out (theory_released r)) →
+      ((r : theory.Released) → Contains out r → (q : Released) × Contains released q × (theory_released q ≡ r)) →
+      ((hart : ℕ) → mark_at gate.gate hart ≡ mark_at v.gate.gate hart) →
+      ((hart : ℕ) (o : Output) → Contains (gone_of gate.gate hart) o → theory.WentOut out hart o.number) →
       IsTied (record v { runs = runs; stores = stores; gate = gate; released = released })
-  changed runs stores gate released out comes went_out =
+  changed runs stores gate released out comes went_out no_more marks gone_out =
       record {
         are_theory = is.are_theory;
         is_recorder = is.is_recorder;
         terms = is.terms;
+        notes = is.notes;
+        marks = is.marks;
         out = out;
         comes = comes;
         went_out = went_out;
+        no_more = no_more;
+        gone_out = gone_out;
+        noted = is.noted;
+        noted_before = is.noted_before;
+        marked = λ hart. is.marked hart ∙ sym (marks hart);
         pieces = is.pieces;
         is_book = is.is_book;
         there = is.there;
@@ -51,7 +63,7 @@ module _ (v : WorldView) (is : IsTied v) where
 
     now_held : (x : Option StoreView) →
         theory.Comes is.is_recorder.recorder (guest_of v.image) (quorum_of v)
-        (record (theory_world v.image.pages is.are_theory (guest_of v.image) v is.terms is.out) {
+        (record (theory_world v.image.pages is.are_theory (guest_of v.image) v is.terms is.notes is.marks is.out) {
           stores = put (λ j. slice_index_or v.stores j (Some (nothing (guest_of v.image)))) keeper x;
         }) →
         IsTied (record v { stores = slice_set v.stores keeper x })
@@ -59,8 +71,8 @@ module _ (v : WorldView) (is : IsTied v) where
         changed v.runs (slice_set v.stores keeper x) v.gate v.released is.out
         (subst
         (λ t. theory.Comes is.is_recorder.recorder (guest_of v.image) (quorum_of v)
-        (record (theory_world v.image.pages is.are_theory (guest_of v.image) v is.terms is.out) { stores = t }))
-        (sym (row_put v.stores keeper x (Some (nothing (guest_of v.image))) (is_below v.stores keeper s there))) comes) is.went_out
+        (record (theory_world v.image.pages is.are_theory (guest_of v.image) v is.terms is.notes is.marks is.out) { stores = t }))
+        (sym (row_put v.stores keeper x (Some (nothing (guest_of v.image))) (is_below v.stores keeper s there))) comes) is.went_out is.no_more (λ hart. refl) is.gone_out
 
     pub delivered : (number : ℕ) (f : Frame) (r : StoreView) → slice_get v.sent number ≡ Some f → IsJoin s (alone f) r →
         IsTied (record v { stores = slice_set v.stores keeper (Some r) })
@@ -82,8 +94,8 @@ module _ (v : WorldView) (is : IsTied v) where
         changed v.runs v.stores (record v.gate { acked = slice_set v.gate.acked keeper p.counts }) v.released is.out
         (subst
         (λ t. theory.Comes is.is_recorder.recorder (guest_of v.image) (quorum_of v)
-        (record (theory_world v.image.pages is.are_theory (guest_of v.image) v is.terms is.out) { acked = t }))
-        (sym (acked_put v.gate.acked keeper p.counts below)) (theory.Then is.comes (theory.Acknowledge keeper s p in_theory is_position term))) is.went_out
+        (record (theory_world v.image.pages is.are_theory (guest_of v.image) v is.terms is.notes is.marks is.out) { acked = t }))
+        (sym (acked_put v.gate.acked keeper p.counts below)) (theory.Then is.comes (theory.Acknowledge keeper s p in_theory is_position term))) is.went_out is.no_more (λ hart. refl) is.gone_out
 
   pub stopped : IsTied (record v { runs = false })
-  stopped = changed false v.stores v.gate v.released is.out (theory.Then is.comes theory.Stop) is.went_out
+  stopped = changed false v.stores v.gate v.released is.out (theory.Then is.comes theory.Stop) is.went_out is.no_more (λ hart. refl) is.gone_out

@@ -7,6 +7,7 @@ pub mod Going
 pub mod Recorded
 pub mod Sealing
 pub mod Releasing
+pub mod Noting
 pub mod Parts
 pub mod Before
 pub mod Honest
@@ -14,11 +15,15 @@ pub mod Lacking
 pub mod Guests
 pub mod Chosen
 pub mod Named
+pub mod Marks
 pub mod Granting
 pub mod Reviving
 pub mod Onward
 pub mod Promises
 pub mod Beginning
+pub mod Given
+pub mod Renoted
 pub mod Gates
+pub mod Outgoing
 pub mod Stepping
 pub mod Letting

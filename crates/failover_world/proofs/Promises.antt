@@ -1,6 +1,7 @@
 -- What holds of the outputs that went out, by the theory of failover.
 use Rattle.std.proofs.Common.{◌≡◌, ℕ, zero, suc, ◌<◌, List, [], ◌∷◌, map, slice_get, Contains, Option, Some, None, inl, inr, refl, sym, ap, subst, ◌∙◌}
 use Rattle.ft_types.specs.Counts.{count_at}
+use Rattle.input_log.specs.Notes.{notes_of}
 use Rattle.rv32_hart.specs.Hart.{Hart}
 use Rattle.guest_image.specs.Image.{guest_of}
 use Rattle.hart_lease.specs.Runs.{LeadsTo}
@@ -10,19 +11,21 @@ use Rattle.ft_types.specs.Guests.{IsGuest}
 use Rattle.fragment_codec.specs.Rules.{OpeningParts}
 use Rattle.log_join.specs.Families.{Past}
 use Rattle.ft_types.specs.declared.position.Position.{Position}
+use Rattle.primary.specs.declared.granted.Primary.{Primary}
 use Rattle.primary.specs.declared.released.Released.{Released}
 use Rattle.log_join.specs.Stores.{nothing}
 use Rattle.log_join.proofs.Families.{granted_opening}
 use Rattle.book_recorder.specs.TermBooks.{outputs_of}
 use Rattle.failover_theory.specs.Recorders.{Output as TheoryOutput}
-use Rattle.failover_theory.specs.Families.{Keeps, Here as IsHere, Above as IsAbove}
-use Rattle.failover_theory.specs.Laws.{IsFailover, IsInside}
+use Rattle.failover_theory.specs.Families.{Keeps, Here as IsHere, Above as IsAbove, IsInside}
+use Rattle.failover_theory.specs.Laws.{IsFailover}
+use Rattle.failover_theory.specs.Worlds as theory
 use Rattle.failover_theory.proofs.Events.{failover}
 use Rattle.failover_theory.proofs.Ruled.{ruled}
 use Rattle.failover_theory.proofs.Reaching.{acked_inside}
 use Rattle.failover_world.specs.Worlds.{WorldView}
 use Rattle.primary.specs.Outputs.{said_by}
-use Rattle.failover_world.specs.Promises.{IsInChain, Here, Above, IsInside as IsInsideHere, IsOne, IsOfMachine, IsKept, AreHeld, AreAckedInside}
+use Rattle.failover_world.specs.Promises.{IsInChain, Here, Above, IsInside as IsInsideHere, IsOne, IsOfMachine, IsKept, AreHeld, AreAckedInside, IsPrimaryOf, AreNotesReleased, NoneIsNoted}
 use Rattle.failover_world.specs.Tied.{Books, retold, retold_in, told_as, theory_released, theory_world, quorum_of, live_book, IsTied}
 use Rattle.failover_world.proofs.Places.{there_too}
 use Rattle.failover_world.proofs.Releasing.{outputs_are}
@@ -48,9 +51,9 @@ untold f None q is = absurd cc
 untold f (Some p) q is = (p, refl, let e : retold f p ≡ q = cc in ap (λ (r : Past _). r.opening) e)
 
 module _ (v : WorldView) (is : IsTied v) where
-  pub laws : IsFailover is.is_recorder.recorder (quorum_of v) (theory_world v.image.pages is.are_theory (guest_of v.image) v is.terms is.out)
+  pub laws : IsFailover is.is_recorder.recorder (quorum_of v) (theory_world v.image.pages is.are_theory (guest_of v.image) v is.terms is.notes is.marks is.out)
   laws =
-      failover is.is_recorder.recorder (guest_of v.image) (quorum_of v) (theory_world v.image.pages is.are_theory (guest_of v.image) v is.terms is.out)
+      failover is.is_recorder.recorder (guest_of v.image) (quorum_of v) (theory_world v.image.pages is.are_theory (guest_of v.image) v is.terms is.notes is.marks is.out)
       is.comes
 
   pub is_one : IsOne v
@@ -70,8 +73,21 @@ module _ (v : WorldView) (is : IsTied v) where
   pub are_acked_inside : AreAckedInside v
   are_acked_inside keeper hart store p at =
       acked_inside is.is_recorder.recorder (guest_of v.image) (quorum_of v)
-      (theory_world v.image.pages is.are_theory (guest_of v.image) v is.terms is.out) is.comes keeper hart store p
+      (theory_world v.image.pages is.are_theory (guest_of v.image) v is.terms is.notes is.marks is.out) is.comes keeper hart store p
       (there_too v.stores keeper store (Some (nothing (guest_of v.image))) at)
+
+  -- the theory's notes of a term are those of its book
+  noted_in_theory : (p : Primary) → IsPrimaryOf v p → (hart : ℕ) → is.notes p.opening.term hart ≡ notes_of p.book.mode.notes hart
+  noted_in_theory p (inl same) hart =
+      subst (λ (q : Primary). is.notes q.opening.term hart ≡ notes_of q.book.mode.notes hart) (sym same) (is.noted hart)
+  noted_in_theory p (inr was) hart = is.noted_before p was hart
+
+  pub are_notes_released : AreNotesReleased v
+  are_notes_released p hart number note its has below =
+      let (r, out, own, is_number) =
+      laws.noted p.opening.term hart note number (subst (λ (notes : List (ℕ × ℕ)). Contains notes note) (sym (noted_in_theory p its hart)) has) below in
+      let (q, there, same) = is.no_more r out in
+      (q, there, ap (λ (s : theory.Released). s.hart) same ∙ own, ap (λ (s : theory.Released). s.number) same ∙ is_number)
 
   module _ (guest : IsGuest (guest_of v.image)) where
     abbrev told_terms : ℕ → Option (Past (Books v.image.pages is.are_theory))
@@ -88,6 +104,22 @@ module _ (v : WorldView) (is : IsTied v) where
     in_chain : (term hart step : ℕ) {u : ℕ} → Keeps told_terms term hart step u → IsInChain v term hart step u
     in_chain term hart step (IsHere {u = u} q at parent inside) = Here q.opening (opened u q at) (of_term u q at) parent inside
     in_chain term hart step (IsAbove {u = u} q at rest) = Above q.opening (opened u q at) (of_term u q at) (in_chain term hart step rest)
+
+    of_chain : (term hart step : ℕ) {u : ℕ} → IsInChain v term hart step u → Keeps told_terms term hart step u
+    of_chain term hart step (Here o sent is_term parent inside) =
+        let (q, at, same) = granted_opening told_terms o.term o (laws.honest.frames (Opening o) sent) in
+        subst (Keeps told_terms term hart step) is_term
+        (IsHere q at (ap (λ (p : OpeningParts). p.parent) same ∙ parent) (subst (λ (p : OpeningParts). step < count_at p.base hart) (sym same) inside))
+    of_chain term hart step (Above o sent is_term rest) =
+        let (q, at, same) = granted_opening told_terms o.term o (laws.honest.frames (Opening o) sent) in
+        subst (Keeps told_terms term hart step) is_term
+        (IsAbove q at (subst (Keeps told_terms term hart step) (sym (ap (λ (p : OpeningParts). p.parent) same)) (of_chain term hart step rest)))
+
+    pub none_is_noted : NoneIsNoted v
+    none_is_noted r p note out its has inside =
+        laws.fresh (theory_released r) p.opening.term note (is.went_out r out)
+        (subst (λ (notes : List (ℕ × ℕ)). Contains notes note) (sym (noted_in_theory p its r.output.hart)) has)
+        (of_chain p.opening.term r.output.hart note.0 inside)
 
     pub is_kept : IsKept v
     is_kept r o has sent later =

@@ -1,7 +1,8 @@
 -- The world stays one that comes in the theory: outputs go out.
-use Rattle.std.proofs.Common.{◌≡◌, ◌⊎◌, inl, inr, ℕ, zero, suc, ◌<◌, true, List, [], ◌∷◌, ◌++◌, map, slice_get, Contains, Option, Some, None, sym, ap, subst, ◌∙◌, arith}
-use Rattle.std.proofs.lemmas.List.Elements.{Contains-append_right}
+use Rattle.std.proofs.Common.{◌≡◌, ◌⊎◌, inl, inr, ℕ, zero, suc, ◌<◌, ◌≤◌, true, List, [], ◌∷◌, ◌++◌, map, slice_get, Contains, Option, Some, None, refl, sym, ap, subst, ◌∙◌, arith}
+use Rattle.std.proofs.lemmas.List.Elements.{Contains-append_left, Contains-append_right}
 use Rattle.interleaving.specs.Lists.{Each, EachPair}
+use Rattle.edge_log.proofs.Logs.{contains_map}
 use Rattle.interleaving.specs.Machine.{run}
 use Rattle.interleaving.specs.Stored.{system_of, view}
 use Rattle.interleaving.proofs.Cuts.{here_or_later, here}
@@ -12,6 +13,7 @@ use Rattle.hart_lease.specs.Runs.{LeadsTo, journal_turns}
 use Rattle.hart_lease.proofs.journals.Sizes.{is_run}
 use Rattle.book_modes.specs.Recordings.{RecordingView, heard_by}
 use Rattle.ft_types.specs.declared.output.Output.{Output}
+use Rattle.output_gate.specs.Gates.{mark_at, gone_of}
 use Rattle.term_gate.specs.TermGates.{TermGateView, acked_at}
 use Rattle.failover_theory.specs.Recorders.{Output as TheoryOutput}
 use Rattle.failover_theory.specs.Worlds as theory
@@ -105,17 +107,41 @@ module _ (v : WorldView) (is : IsTied v) (leads : LeadsTo (heard_by v.primary.bo
         | inr later ↦ added_in os (theory_released (record { term = term_of v; output = o }) ∷ out) r later
       ]
 
+  in_term : (os : List Output) (o : Output) → Contains os o → Contains (released_in (term_of v) os) (record { term = term_of v; output = o })
+  in_term os o has = contains_map (λ (x : Output). let q : Released = record { term = term_of v; output = x } in q) os o has
+
+  -- none else is there
+  out_of : (os : List Output) (out : List theory.Released) (r : theory.Released) → Contains (out_with os out) r →
+      Contains out r ⊎ ((q : Released) × Contains (released_in (term_of v) os) q × (theory_released q ≡ r))
+  out_of [] out r has = inl has
+  out_of (o ∷ os) out r has =
+      let q : Released = record { term = term_of v; output = o } in
+      elim (out_of os (theory_released q ∷ out) r has) [
+        | inl before ↦
+            elim (here_or_later (theory_released q) out r before) [
+              | inl same ↦ inr (q, here q (released_in (term_of v) os), same)
+              | inr old ↦ inl old
+            ]
+        | inr (x, there, same) ↦ inr (x, Contains-append_right (q ∷ []) (released_in (term_of v) os) x there, same)
+      ]
+
+  -- the output's number is not below the gate's mark
+  abbrev pub IsAbove : Output → Type 0
+  IsAbove o = mark_at v.gate.gate o.hart ≤ o.number
+
   comes_with : v.runs ≡ true → (os : List Output) (out : List theory.Released) → Each (IsGoing v.keepers v.need v.gate v.primary.book.machine) os →
-      theory.Comes is.is_recorder.recorder (guest_of v.image) (quorum_of v) (theory_world v.image.pages is.are_theory (guest_of v.image) v is.terms out) →
+      Each IsAbove os →
+      theory.Comes is.is_recorder.recorder (guest_of v.image) (quorum_of v) (theory_world v.image.pages is.are_theory (guest_of v.image) v is.terms is.notes is.marks out) →
       theory.Comes is.is_recorder.recorder (guest_of v.image) (quorum_of v)
-      (theory_world v.image.pages is.are_theory (guest_of v.image) v is.terms (out_with os out))
-  comes_with runs [] out all comes = comes
-  comes_with runs (o ∷ os) out (first, rest) comes =
-      comes_with runs os (theory_released (record { term = term_of v; output = o }) ∷ out) rest
+      (theory_world v.image.pages is.are_theory (guest_of v.image) v is.terms is.notes is.marks (out_with os out))
+  comes_with runs [] out all above comes = comes
+  comes_with runs (o ∷ os) out (first, rest) (over, more) comes =
+      comes_with runs os (theory_released (record { term = term_of v; output = o }) ∷ out) rest more
       (theory.Then comes
       (theory.Release (retold (told_as v.image.pages is.are_theory) (live_book v is.pieces is.is_book)) o.hart o.number (record { step = o.step; word = o.word })
       (λ keeper. acked_at v.gate keeper o.hart) runs (ap (retold_in (told_as v.image.pages is.are_theory)) is.there)
-      (in_theory o.hart o.number o.step o.word first.said) (λ keeper. omega arith) first.enough))
+      (in_theory o.hart o.number o.step o.word first.said) (λ keeper. omega arith) first.enough
+      (subst (λ n. n ≤ o.number) (sym (is.marked o.hart)) over)))
 
   split : (xs ys : List Released) (r : Released) → Contains (xs ++ ys) r → Contains xs r ⊎ Contains ys r
   split [] ys r has = inr has
@@ -127,15 +153,26 @@ module _ (v : WorldView) (is : IsTied v) (leads : LeadsTo (heard_by v.primary.bo
 
   -- outputs went out, and the gate knows no less of what was acknowledged
   pub released : v.runs ≡ true → (os : List Output) (gate : TermGateView) → gate.acked ≡ v.gate.acked →
-      Each (IsGoing v.keepers v.need v.gate v.primary.book.machine) os →
+      ((hart : ℕ) → mark_at gate.gate hart ≡ mark_at v.gate.gate hart) →
+      ((hart : ℕ) (o : Output) → Contains (gone_of gate.gate hart) o → Contains (gone_of v.gate.gate hart) o ⊎ (Contains os o × (o.hart ≡ hart))) →
+      Each (IsGoing v.keepers v.need v.gate v.primary.book.machine) os → Each IsAbove os →
       IsTied (record v { gate = gate; released = v.released ++ released_in (term_of v) os })
-  released runs os gate same all =
+  released runs os gate same marks gone all above =
       changed v is v.runs v.stores gate (v.released ++ released_in (term_of v) os) (out_with os is.out)
       (subst
       (λ rows. theory.Comes is.is_recorder.recorder (guest_of v.image) (quorum_of v)
-      (theory_world v.image.pages is.are_theory (guest_of v.image) (record v { gate = record v.gate { acked = rows } }) is.terms (out_with os is.out)))
-      (sym same) (comes_with runs os is.out all is.comes))
+      (theory_world v.image.pages is.are_theory (guest_of v.image) (record v { gate = record v.gate { acked = rows } }) is.terms is.notes is.marks (out_with os is.out)))
+      (sym same) (comes_with runs os is.out all above is.comes))
       (λ r has. elim (split v.released (released_in (term_of v) os) r has) [
         | inl was ↦ kept_in os is.out (theory_released r) (is.went_out r was)
         | inr new ↦ added_in os is.out r new
+      ])
+      (λ r has. elim (out_of os is.out r has) [
+        | inl was ↦ let (q, there, same) = is.no_more r was in (q, Contains-append_left v.released (released_in (term_of v) os) q there, same)
+        | inr (q, there, same) ↦ (q, Contains-append_right v.released (released_in (term_of v) os) q there, same)
+      ])
+      marks
+      (λ hart o has. elim (gone hart o has) [
+        | inl was ↦ let (r, there, own, number) = is.gone_out hart o was in (r, kept_in os is.out r there, own, number)
+        | inr (one, own) ↦ (theory_released (record { term = term_of v; output = o }), added_in os is.out (record { term = term_of v; output = o }) (in_term os o one), own, refl)
       ])

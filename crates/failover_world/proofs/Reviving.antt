@@ -17,7 +17,7 @@ use Rattle.book_modes.specs.Recordings.{RecordingView, IsUnused}
 use Rattle.hart_replay.specs.Images.{GuestHistory}
 use Rattle.hart_replay.specs.Primaries.{IsPrimary}
 use Rattle.hart_replay.specs.declared.fault.ReplayFault.TheVariants.{OtherGuest}
-use Rattle.output_gate.specs.Gates.{GateView, noted_at, line_of, offered_of}
+use Rattle.output_gate.specs.Gates.{LineView, GateView, fresh_line, offered_in, noted_at, line_of, offered_of}
 use Rattle.term_gate.specs.TermGates.{TermGateView}
 use Rattle.go_live.specs.declared.fault.LiveFault.{LiveFault}
 use Rattle.go_live.specs.declared.fault.LiveFault.TheVariants.{TooFewStores, TermNotNew, Replay, Memory as NoLive}
@@ -42,8 +42,8 @@ use Rattle.failover_world.proofs.Granting.{granted_world, granted}
 
 -- ---- the primary
 
-module _ (image : ImageContents) (stores : List StoreView) (term : ℕ) (start : MachineState) (opening : OpeningParts)
-    (at : IsAtPosition image stores term start opening) where
+module _ (image : ImageContents) (stores : List StoreView) (term : ℕ) (start : MachineState) (opening : OpeningParts) (marks : List ℕ)
+    (at : IsAtPosition image stores term start opening marks) where
   -- the machine at the position has the opening's harts and counts
   pub at_harts : length start.harts ≡ opening.guest.harts
   at_harts = has_harts image at.replayed.legs start at.replayed.outcome ∙ sym (ap (λ (o : OpeningParts). o.guest.harts) at.opened)
@@ -53,10 +53,10 @@ module _ (image : ImageContents) (stores : List StoreView) (term : ℕ) (start :
 
   -- so does the primary that goes on from there
   module _ (p : Primary) (opens : p.opening ≡ opening) (begins : p.book.start ≡ start) where
-    pub at_too : IsAtPosition image stores term p.book.start p.opening
+    pub at_too : IsAtPosition image stores term p.book.start p.opening marks
     at_too =
-        subst (λ (m : MachineState). IsAtPosition image stores term m p.opening) (sym begins)
-        (subst (λ (o : OpeningParts). IsAtPosition image stores term start o) (sym opens) at)
+        subst (λ (m : MachineState). IsAtPosition image stores term m p.opening marks) (sym begins)
+        (subst (λ (o : OpeningParts). IsAtPosition image stores term start o marks) (sym opens) at)
 
     pub unused_so : IsUnused p.book.mode p.book.start (no_limits opening.guest.harts) → IsUnused p.book.mode p.book.start (no_limits image.harts)
     unused_so unused = subst (λ n. IsUnused p.book.mode p.book.start (no_limits n)) (ap (λ (o : OpeningParts). o.guest.harts) at.opened) unused
@@ -133,15 +133,15 @@ module _ (v : WorldView) (is : IsTied v) (guest : IsGuest (guest_of v.image)) wh
 -- ---- the gate
 
 -- a gate to which nothing was offered yet
-pub none_offered : (g : GateView) (m : MachineState) → ((hart : ℕ) → line_of g hart ≡ record { gone = []; waiting = [] }) → AreOffered g m
-none_offered g m none hart =
-    let empty : offered_of g hart ≡ [] = ap (λ l. l.gone ++ l.waiting) (none hart) in
+pub none_offered : (g : GateView) (m : MachineState) (marks : ℕ → ℕ) → ((hart : ℕ) → line_of g hart ≡ fresh_line (marks hart)) → AreOffered g m
+none_offered g m marks none hart =
+    let empty : offered_of g hart ≡ [] = ap offered_in (none hart) in
     empty ∙ sym (ap (λ os. take (length os) (numbered hart (said_at m hart))) empty)
 
-pub fresh : (old new : TermGateView) (term keepers need harts : ℕ) → old.harts ≡ harts → old.gate.term ≡ term → old.gate.keepers ≡ keepers →
+pub fresh : (old new : TermGateView) (term keepers need harts : ℕ) (marks : List ℕ) → old.harts ≡ harts → old.gate.term ≡ term → old.gate.keepers ≡ keepers →
     old.gate.need ≡ need → old.acked ≡ replicate keepers (replicate harts 0) → ((keeper hart : ℕ) → noted_at old.gate keeper hart ≡ 0) →
-    ((hart : ℕ) → line_of old.gate hart ≡ record { gone = []; waiting = [] }) → OffersMore old new → IsFresh new term keepers need harts
-fresh old new term keepers need harts of_harts of_term of_keepers of_need acked noted none more =
+    ((hart : ℕ) → line_of old.gate hart ≡ fresh_line (count_at marks hart)) → OffersMore old new → IsFresh new term keepers need harts marks
+fresh old new term keepers need harts marks of_harts of_term of_keepers of_need acked noted none more =
     record {
       of_harts = ap (λ (g : TermGateView). g.harts) more.rest ∙ of_harts;
       of_term = ap (λ (g : TermGateView). g.gate.term) more.rest ∙ of_term;
@@ -149,7 +149,8 @@ fresh old new term keepers need harts of_harts of_term of_keepers of_need acked 
       of_need = ap (λ (g : TermGateView). g.gate.need) more.rest ∙ of_need;
       acked = ap (λ (g : TermGateView). g.acked) more.rest ∙ acked;
       noted = λ keeper hart. ap (λ (g : TermGateView). noted_at g.gate keeper hart) more.rest ∙ noted keeper hart;
-      gone = λ hart. more.gone hart ∙ ap (λ l. l.gone) (none hart);
+      gone = λ hart. (more.lines hart).gone ∙ ap (λ (l : LineView). l.gone) (none hart);
+      marked = λ hart. (more.lines hart).mark ∙ ap (λ (l : LineView). l.mark) (none hart);
     }
 
 -- ---- the parts of the new world

@@ -13,7 +13,8 @@ use Rattle.fragment_codec.specs.Rules.{FragmentParts}
 use Rattle.log_pieces.specs.Pieces.{Mark, SealedView, IsCut, IsPiece, book_log}
 use Rattle.log_join.specs.Families.{Past, Family, end_of}
 use Rattle.failover_theory.specs.Worlds as theory
-use Rattle.failover_theory.proofs.Cutting.{piece_is_cut}
+use Rattle.failover_theory.specs.Notes.{HasNotes}
+use Rattle.failover_theory.proofs.Cutting.{piece_is_cut, piece_has_notes}
 use Rattle.go_live.specs.Histories.{MakesLonger}
 use Rattle.primary.specs.declared.granted.Primary.{Primary}
 use Rattle.primary.proofs.Rows.{same_some}
@@ -35,7 +36,7 @@ module _ (v : WorldView) (is : IsTied v) where
   -- the theory's world with these pieces of the live term, and these frames
   abbrev world_with : (ℕ → List FragmentParts) → List Frame → theory.World (Books v.image.pages is.are_theory)
   world_with f sent =
-      record (theory_world v.image.pages is.are_theory (guest_of v.image) v is.terms is.out) {
+      record (theory_world v.image.pages is.are_theory (guest_of v.image) v is.terms is.notes is.marks is.out) {
         terms = put (λ u. retold_in (told_as v.image.pages is.are_theory) (is.terms u)) (term_of v) (Some (past_with f));
         sent = sent;
       }
@@ -64,7 +65,9 @@ module _ (v : WorldView) (is : IsTied v) where
         (is_fragment_at (guest_of v.image) (term_of v) v.primary.book hart (length (f hart)) mark x piece place)
         (piece.begins ∙ count)
         (piece_is_cut is.is_recorder.recorder (is.are_theory.book v.primary.book is.is_book) (book_log (guest_of v.image) (term_of v) v.primary.book hart)
-        mark x (is_log v.image is.are_theory is.is_recorder v.primary.book is.is_book (guest_of v.image) (term_of v) hart) piece)))
+        mark x (is_log v.image is.are_theory is.is_recorder v.primary.book is.is_book (guest_of v.image) (term_of v) hart) piece)
+        (subst (λ (notes : List (ℕ × ℕ)). HasNotes notes x) (sym (is.noted hart))
+        (piece_has_notes (book_log (guest_of v.image) (term_of v) v.primary.book hart) mark x piece))))
 
     module _ (frames : List Frame) (cut : IsCut (book_log (guest_of v.image) (term_of v) v.primary.book) v.image.harts v.primary.sealed frames new) where
       abbrev grown : ℕ → List FragmentParts
@@ -74,7 +77,7 @@ module _ (v : WorldView) (is : IsTied v) where
       as_it_was =
           subst
           (λ t. theory.Comes is.is_recorder.recorder (guest_of v.image) (quorum_of v)
-          (record (theory_world v.image.pages is.are_theory (guest_of v.image) v is.terms is.out) { terms = t }))
+          (record (theory_world v.image.pages is.are_theory (guest_of v.image) v is.terms is.notes is.marks is.out) { terms = t }))
           (sym
           (put_own (λ u. retold_in (told_as v.image.pages is.are_theory) (is.terms u)) (term_of v) (Some (past_with is.pieces))
           (ap (retold_in (told_as v.image.pages is.are_theory)) is.there)))
@@ -111,10 +114,17 @@ module _ (v : WorldView) (is : IsTied v) where
             comes =
                 subst
                 (λ t. theory.Comes is.is_recorder.recorder (guest_of v.image) (quorum_of v)
-                (record (theory_world v.image.pages is.are_theory (guest_of v.image) v is.terms is.out) { terms = t; sent = v.sent ++ frames }))
+                (record (theory_world v.image.pages is.are_theory (guest_of v.image) v is.terms is.notes is.marks is.out) { terms = t; sent = v.sent ++ frames }))
                 (sym (retold_put (told_as v.image.pages is.are_theory) is.terms (term_of v) (Some (live_book v grown is.is_book))))
                 comes_grown;
+            notes = is.notes;
+            marks = is.marks;
             went_out = is.went_out;
+            no_more = is.no_more;
+            gone_out = is.gone_out;
+            noted = is.noted;
+            noted_before = is.noted_before;
+            marked = is.marked;
             pieces = grown;
             is_book = is.is_book;
             there = put_same is.terms (term_of v) (term_of v) (Some (live_book v grown is.is_book)) refl;

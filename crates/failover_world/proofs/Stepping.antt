@@ -26,7 +26,7 @@ module _ (v : WorldView) (is : IsWorld v) (runs : v.runs ≡ true) (p : Primary)
             with_new_book v is.parts p.book idle within harts
             (offered_on v.gate.gate v.primary.book.machine p.book.machine is.parts.offered
             (more_said v is.tied p.book runs (comes_of v.primary.book p.book on) on.primary on.before on.after));
-        tied = goes_on v is.tied p.book runs (comes_of v.primary.book p.book on) on.primary;
+        tied = goes_on v is.tied p.book runs (comes_of v.primary.book p.book on) on.primary on.notes;
       })
 
   -- an input waits

@@ -1,6 +1,7 @@
 -- The world stays one that comes in the theory: what a primary does.
-use Rattle.std.proofs.Common.{◌≡◌, inl, inr, true, Contains, Some, None, refl, sym, ap, subst, ◌∙◌}
+use Rattle.std.proofs.Common.{◌≡◌, ℕ, ◌<◌, List, inl, inr, true, Contains, Some, None, refl, sym, ap, subst, ◌∙◌}
 use Rattle.interleaving.specs.Lists.{put}
+use Rattle.input_log.specs.Notes.{notes_of}
 use Rattle.interleaving.proofs.Put.{same_or_not, put_same, put_other}
 use Rattle.guest_image.specs.Image.{guest_of}
 use Rattle.guest_image.specs.Machine.{MachineState}
@@ -29,12 +30,12 @@ module _ (v : WorldView) (is : IsTied v) (c : BookView RecordingView) (runs : v.
   pub new_book : IsTermBook v.image.pages c
   new_book = later_are_term_books v.image.pages v.primary.book c is.is_book on primary
 
-  abbrev terms : Family (TermBook v.image.pages)
+  abbrev pub terms : Family (TermBook v.image.pages)
   terms = put is.terms (term_of v) (Some (live_book (with_book v c) is.pieces new_book))
 
   -- the book goes on in the theory
   stepped : theory.Comes is.is_recorder.recorder (guest_of v.image) (quorum_of v)
-      (theory.stepped (theory_world v.image.pages is.are_theory (guest_of v.image) v is.terms is.out)
+      (theory.stepped (theory_world v.image.pages is.are_theory (guest_of v.image) v is.terms is.notes is.marks is.out)
       (retold (told_as v.image.pages is.are_theory) (live_book v is.pieces is.is_book)) (is.are_theory.book c new_book))
   stepped =
       let b = is.are_theory.book v.primary.book is.is_book in
@@ -44,19 +45,35 @@ module _ (v : WorldView) (is : IsTied v) (c : BookView RecordingView) (runs : v.
       (theory.Step (retold (told_as v.image.pages is.are_theory) (live_book v is.pieces is.is_book)) d runs
       (ap (retold_in (told_as v.image.pages is.are_theory)) is.there) (fact, is.is_recorder.tells fact))
 
-  pub goes_on : IsTied (with_book v c)
-  goes_on =
+  pub comes_on : theory.Comes is.is_recorder.recorder (guest_of v.image) (quorum_of v)
+      (theory_world v.image.pages is.are_theory (guest_of v.image) (with_book v c) terms is.notes is.marks is.out)
+  comes_on =
+      subst
+      (λ t. theory.Comes is.is_recorder.recorder (guest_of v.image) (quorum_of v)
+      (record (theory_world v.image.pages is.are_theory (guest_of v.image) v is.terms is.notes is.marks is.out) { terms = t }))
+      (sym (retold_put (told_as v.image.pages is.are_theory) is.terms (term_of v) (Some (live_book (with_book v c) is.pieces new_book)))) stepped
+
+  -- with these notes of the term, and those of other terms as they were
+  pub goes_with : (notes : ℕ → ℕ → List (ℕ × ℕ)) →
+      theory.Comes is.is_recorder.recorder (guest_of v.image) (quorum_of v)
+      (theory_world v.image.pages is.are_theory (guest_of v.image) (with_book v c) terms notes is.marks is.out) →
+      ((hart : ℕ) → notes (term_of v) hart ≡ notes_of c.mode.notes hart) → ((u : ℕ) → u < term_of v → notes u ≡ is.notes u) → IsTied (with_book v c)
+  goes_with notes comes noted others =
       record {
         are_theory = is.are_theory;
         is_recorder = is.is_recorder;
         terms = put is.terms (term_of v) (Some (live_book (with_book v c) is.pieces new_book));
+        notes = notes;
+        marks = is.marks;
         out = is.out;
-        comes =
-            subst
-            (λ t. theory.Comes is.is_recorder.recorder (guest_of v.image) (quorum_of v)
-            (record (theory_world v.image.pages is.are_theory (guest_of v.image) v is.terms is.out) { terms = t }))
-            (sym (retold_put (told_as v.image.pages is.are_theory) is.terms (term_of v) (Some (live_book (with_book v c) is.pieces new_book)))) stepped;
+        comes = comes;
         went_out = is.went_out;
+        no_more = is.no_more;
+        gone_out = is.gone_out;
+        noted = noted;
+        noted_before = λ p has hart.
+            ap (λ (f : ℕ → List (ℕ × ℕ)). f hart) (others p.opening.term (is.before p has).earlier) ∙ is.noted_before p has hart;
+        marked = is.marked;
         pieces = is.pieces;
         is_book = new_book;
         there = put_same is.terms (term_of v) (term_of v) (Some (live_book (with_book v c) is.pieces new_book)) refl;
@@ -79,3 +96,6 @@ module _ (v : WorldView) (is : IsTied v) (c : BookView RecordingView) (runs : v.
             let b = is.before p has in still_before is.terms (term_of v) (term_of v) (live_book (with_book v c) is.pieces new_book) p b b.earlier;
         no_other = no_other_still is.terms (term_of v) v.stopped (live_book (with_book v c) is.pieces new_book) is.no_other;
       }
+
+  pub goes_on : ((hart : ℕ) → notes_of c.mode.notes hart ≡ notes_of v.primary.book.mode.notes hart) → IsTied (with_book v c)
+  goes_on noted = goes_with is.notes comes_on (λ hart. is.noted hart ∙ sym (noted hart)) (λ u less. refl)

@@ -2,6 +2,7 @@
 use Rattle.std.specs.Prelude.{ℕ, ◌≡◌, ◌≢◌, ◌<◌, ◌++◌, ◌∷◌, ◌==◌, [], List, true, false, length, map, replicate, slice_get, slice_set, Option, Some, None, All, if◌then◌else◌}
 use Rattle.std.specs.List.{list_any, flat_map, enumerate_from}
 use Rattle.ft_types.specs.declared.names.TheConstants.{HART_LIMIT}
+use Rattle.ft_types.specs.Counts.{count_at}
 use Rattle.input_log.specs.declared.Input.{Input}
 use Rattle.guest_image.specs.Image.{guest_of}
 use Rattle.book_modes.specs.Recordings.{IsOffered, IsUnused}
@@ -11,7 +12,7 @@ use Rattle.log_pieces.specs.Pieces.{IsCut, book_log}
 use Rattle.log_join.specs.Stores.{StoreView, IsJoin, alone}
 use Rattle.closed_cut.specs.Position.{IsPosition}
 use Rattle.ft_types.specs.declared.position.Position.{Position}
-use Rattle.output_gate.specs.Gates.{noted_at, gone_of, line_of, held_outputs, after_release}
+use Rattle.output_gate.specs.Gates.{noted_at, mark_at, gone_of, line_of, held_outputs, after_release}
 use Rattle.term_gate.specs.TermGates.{TermGateView, AreAcked}
 use Rattle.go_live.specs.Quorums.{AreEnough, IsNew}
 use Rattle.go_live.specs.Lives.{IsAtPosition}
@@ -22,6 +23,7 @@ use Rattle.primary.specs.declared.granted.Primary.{Primary}
 use Rattle.lease_rounds.specs.Steps.{HasStepped, HoldsNothing}
 use Rattle.failover_world.specs.Worlds.{WorldView, store_at, term_of}
 use Rattle.primary.specs.Gating.{AreAllOffered, OffersMore, released_in}
+use Rattle.primary.specs.Noting.{NotesAll}
 
 -- the primary's hart took one step with what was due, and keeps no right to a page
 pub record Steps (v : WorldView) (hart : ℕ) (w : WorldView) : Type 0 where
@@ -74,7 +76,7 @@ pub record Acknowledges (v : WorldView) (keeper : ℕ) (w : WorldView) : Type 0 
   pub rest : w ≡ record v { gate = record v.gate { acked = slice_set v.gate.acked keeper position.counts } }
 
 -- All outputs of the primary's machine were offered, and those went out that waited and whose step enough keepers have
--- acknowledged.
+-- acknowledged. Then it was noted that they did.
 pub record Releases (v : WorldView) (w : WorldView) : Type 0 where
   pub runs : v.runs ≡ true
   pub offered : TermGateView
@@ -83,7 +85,9 @@ pub record Releases (v : WorldView) (w : WorldView) : Type 0 where
   pub acked : AreAcked v.gate w.gate.gate.noted
   pub lines : (hart : ℕ) → hart < HART_LIMIT → line_of w.gate.gate hart ≡ after_release v.need w.gate.gate.noted (line_of offered.gate hart)
   pub gate : w.gate ≡ record v.gate { gate = record v.gate.gate { noted = w.gate.gate.noted; lines = w.gate.gate.lines } }
+  pub noted : NotesAll (held_outputs v.need w.gate.gate.noted offered.gate.lines) v.primary.book w.primary.book
   pub rest : w ≡ record v {
+    primary = record v.primary { book = w.primary.book };
     gate = w.gate;
     released = v.released ++ released_in (term_of v) (held_outputs v.need w.gate.gate.noted offered.gate.lines);
   }
@@ -107,8 +111,8 @@ if_named named keeper (Some store) = if list_any (λ n. n == keeper) named then 
 abbrev pub stores_of : List (Option StoreView) → List ℕ → List (ℕ × StoreView)
 stores_of stores named = flat_map (λ s. if_named named s.0 s.1) (enumerate_from 0 stores)
 
--- no keeper has acknowledged anything, none is noted, and nothing went out
-pub record IsFresh (g : TermGateView) (term keepers need harts : ℕ) : Type 0 where
+-- no keeper has acknowledged anything, none is noted, and nothing went out; outputs with numbers below the marks will not
+pub record IsFresh (g : TermGateView) (term keepers need harts : ℕ) (marks : List ℕ) : Type 0 where
   pub of_harts : g.harts ≡ harts
   pub of_term : g.gate.term ≡ term
   pub of_keepers : g.gate.keepers ≡ keepers
@@ -116,17 +120,19 @@ pub record IsFresh (g : TermGateView) (term keepers need harts : ℕ) : Type 0 w
   pub acked : g.acked ≡ replicate keepers (replicate harts 0)
   pub noted : (keeper hart : ℕ) → noted_at g.gate keeper hart ≡ 0
   pub gone : (hart : ℕ) → gone_of g.gate hart ≡ []
+  pub marked : (hart : ℕ) → mark_at g.gate hart ≡ count_at marks hart
 
--- the primary begins where the stores of these keepers lead to, with its gate
+-- the primary begins where the stores of these keepers lead to, with its gate, which passes over what is noted there
 pub record GoesLive (v : WorldView) (term : ℕ) (named : List ℕ) (p : Primary) (g : TermGateView) : Type 0 where
   pub enough : AreEnough v.keepers v.need (map (λ s. s.0) (stores_of v.stores named))
   pub later : term_of v < term
   pub new : IsNew (map (λ s. s.1) (stores_of v.stores named)) term
-  pub at : IsAtPosition v.image (map (λ s. s.1) (stores_of v.stores named)) term p.book.start p.opening
+  pub marks : List ℕ
+  pub at : IsAtPosition v.image (map (λ s. s.1) (stores_of v.stores named)) term p.book.start p.opening marks
   pub begins : BeginsFrom p.book.start p.book
   pub unused : IsUnused p.book.mode p.book.start (no_limits v.image.harts)
   pub uncut : IsUncut p.opening.base p.sealed
-  pub fresh : IsFresh g term v.keepers v.need v.image.harts
+  pub fresh : IsFresh g term v.keepers v.need v.image.harts marks
   pub offered : AreAllOffered g.gate p.book.machine
 
 -- a primary of a new term went live where the stores of these keepers lead to

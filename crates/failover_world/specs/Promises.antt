@@ -1,6 +1,7 @@
 -- What holds of the frames that were sent, and of the outputs that went out.
 use Rattle.std.specs.Prelude.{ℕ, ◌≡◌, ◌<◌, ◌≤◌, ◌⊎◌, true, Bool, Contains, slice_get, Some}
 use Rattle.ft_types.specs.Counts.{count_at}
+use Rattle.input_log.specs.Notes.{notes_of}
 use Rattle.fragment_codec.specs.declared.frame.Frame.{Frame}
 use Rattle.fragment_codec.specs.declared.frame.Frame.TheVariants.{Opening}
 use Rattle.fragment_codec.specs.Rules.{OpeningParts}
@@ -84,3 +85,19 @@ AreAckedInside w =
 -- enough keepers hold it
 abbrev pub AreHeld : WorldView → Type 0
 AreHeld w = (r : Released) → Contains w.released r → IsHeld w r
+
+-- the primary that runs, or ran last, or one before it
+abbrev pub IsPrimaryOf : WorldView → Primary → Type 0
+IsPrimaryOf w p = (p ≡ w.primary) ⊎ Contains w.stopped p
+
+-- each output that a primary's book notes went out
+abbrev pub AreNotesReleased : WorldView → Type 0
+AreNotesReleased w =
+    (p : Primary) (hart number : ℕ) (note : ℕ × ℕ) → IsPrimaryOf w p → Contains (notes_of p.book.mode.notes hart) note → number < note.1 →
+    (r : Released) × Contains w.released r × (r.output.hart ≡ hart) × (r.output.number ≡ number)
+
+-- in a term that has a note inside its chain nothing went out again that is noted there
+abbrev pub NoneIsNoted : WorldView → Type 0
+NoneIsNoted w =
+    (r : Released) (p : Primary) (note : ℕ × ℕ) → Contains w.released r → IsPrimaryOf w p →
+    Contains (notes_of p.book.mode.notes r.output.hart) note → IsInChain w p.opening.term r.output.hart note.0 r.term → note.1 ≤ r.output.number

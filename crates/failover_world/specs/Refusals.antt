@@ -15,6 +15,7 @@ use Rattle.failover_events.specs.declared.event.Event.{Event}
 use Rattle.failover_events.specs.declared.event.Event.TheVariants as on
 use Rattle.failover_world.specs.declared.fault.WorldFault.{WorldFault}
 use Rattle.failover_world.specs.declared.fault.WorldFault.TheVariants.{NoPrimary, NoKeeper, NoFrame, NotStopped, Step, Live, Ack, Memory}
+use Rattle.book_modes.specs.Recordings.{HasRoomed}
 use Rattle.lease_rounds.specs.Steps.{IsUnmoved, RefusesStep}
 use Rattle.primary.specs.Gating.{IsAsItWas}
 use Rattle.failover_world.specs.Worlds.{WorldView, store_at, term_of}
@@ -124,10 +125,11 @@ pub record IsNotStepped (v w : WorldView) : Type 0 where
   pub book : IsUnmoved v.primary.book w.primary.book
   pub rest : w ≡ record v { primary = record v.primary { book = w.primary.book } }
 
--- a release that let nothing go
+-- a release that let nothing go, and noted nothing
 pub record IsNotReleased (v w : WorldView) : Type 0 where
   pub gate : IsAsItWas v.gate w.gate
-  pub rest : w ≡ record v { gate = w.gate }
+  pub room : HasRoomed v.primary.book.mode w.primary.book.mode
+  pub rest : w ≡ record v { primary = record v.primary { book = record v.primary.book { mode = w.primary.book.mode } }; gate = w.gate }
 
 -- nothing happened
 abbrev pub IsLeft : WorldView → Event → WorldView → Type 0

@@ -20,6 +20,9 @@ use Rattle.failover_theory.specs.Worlds as theory
 use Rattle.book_recorder.specs.TermBooks.{IsTermBook, AreTheory}
 use Rattle.lease_rounds.specs.Running.{IsIdle}
 use Rattle.hart_lease.specs.Runs.{counts_of}
+use Rattle.input_log.specs.Notes.{notes_of}
+use Rattle.ft_types.specs.declared.output.Output.{Output}
+use Rattle.output_gate.specs.Gates.{mark_at, gone_of}
 use Rattle.term_gate.specs.TermGates.{acked_at}
 use Rattle.go_live.specs.Histories.{AreOfHistory, IsOfHistory, MakesLonger}
 use Rattle.primary.specs.declared.released.Released.{Released}
@@ -61,8 +64,9 @@ module _ (pages : ℕ) (is : AreTheory pages) where
   told_as t = is.book t.book t.is
 
   -- the world, as the theory has it
-  abbrev pub theory_world : GuestParts → WorldView → Family (TermBook pages) → List theory.Released → theory.World Books
-  theory_world guest v terms released =
+  abbrev pub theory_world : GuestParts → WorldView → Family (TermBook pages) → (ℕ → ℕ → List (ℕ × ℕ)) → (ℕ → ℕ → ℕ) → List theory.Released →
+      theory.World Books
+  theory_world guest v terms notes marks released =
       record {
         now = term_of v;
         runs = v.runs;
@@ -70,6 +74,8 @@ module _ (pages : ℕ) (is : AreTheory pages) where
         sent = v.sent;
         stores = λ keeper. slice_index_or v.stores keeper (Some (nothing guest));
         acked = λ keeper hart. acked_at v.gate keeper hart;
+        notes = notes;
+        marks = marks;
         released = released;
       }
 
@@ -109,9 +115,17 @@ pub record IsTied (v : WorldView) : Type 0 where
   pub are_theory : AreTheory v.image.pages
   pub is_recorder : IsRecorder (system_of (hardware v.image.pages)) are_theory.outs (boot_of v.image)
   pub terms : Family (TermBook v.image.pages)
+  pub notes : ℕ → ℕ → List (ℕ × ℕ)
+  pub marks : ℕ → ℕ → ℕ
   pub out : List theory.Released
-  pub comes : theory.Comes is_recorder.recorder (guest_of v.image) (quorum_of v) (theory_world v.image.pages are_theory (guest_of v.image) v terms out)
+  pub comes : theory.Comes is_recorder.recorder (guest_of v.image) (quorum_of v)
+      (theory_world v.image.pages are_theory (guest_of v.image) v terms notes marks out)
   pub went_out : (r : Released) → Contains v.released r → Contains out (theory_released r)
+  pub no_more : (r : theory.Released) → Contains out r → (q : Released) × Contains v.released q × (theory_released q ≡ r)
+  pub gone_out : (hart : ℕ) (o : Output) → Contains (gone_of v.gate.gate hart) o → theory.WentOut out hart o.number
+  pub noted : (hart : ℕ) → notes (term_of v) hart ≡ notes_of v.primary.book.mode.notes hart
+  pub noted_before : (p : Primary) → Contains v.stopped p → (hart : ℕ) → notes p.opening.term hart ≡ notes_of p.book.mode.notes hart
+  pub marked : (hart : ℕ) → marks (term_of v) hart ≡ mark_at v.gate.gate hart
   pub pieces : ℕ → List FragmentParts
   pub is_book : IsTermBook v.image.pages v.primary.book
   pub there : terms (term_of v) ≡ Some (live_book v pieces is_book)

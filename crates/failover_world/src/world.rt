@@ -16,7 +16,7 @@ ghost use Rattle.failover_world.specs.Tied.{BeginsTerm};
 ghost use Rattle.go_live.specs.declared.fault.LiveFault.{LiveFault as live_fault};
 ghost use Rattle.go_live.specs.declared.fault.LiveFault.TheVariants.{Memory as NoLive};
 ghost use Rattle.input_log.specs.Inputs.{is_bell};
-ghost use Rattle.failover_world.specs.Promises.{AreHonest, IsOne, IsOfMachine, IsKept, AreHeld, AreAckedInside};
+ghost use Rattle.failover_world.specs.Promises.{AreHonest, IsOne, IsOfMachine, IsKept, AreHeld, AreAckedInside, AreNotesReleased, NoneIsNoted};
 
 use crate::fault::WorldFault;
 use crate::keepers::{
@@ -24,11 +24,11 @@ use crate::keepers::{
 };
 use failover_events::Event;
 use fragment_codec::{FIRST_TERM, Frame};
-use ft_types::{Hart, Memory, Term};
+use ft_types::{Counts, Hart, Memory, Term};
 use go_live::{LiveFault, go_live};
 use guest_image::{Image, Machine};
 use input_log::Input;
-use primary::{Primary, Released, offer_all, release_outputs};
+use primary::{Primary, Released, offer_all};
 use std::alloc::Global;
 use std::marker::Model;
 use std::mem;
@@ -119,7 +119,7 @@ impl World {
         ensures runs { IfOk result (λ w. (w.runs ≡ true) × (w.stopped ≡ [])) }
         ensures sent { IfOk result (λ w. w.sent ≡ opens w.primary.opening ∷ []) }
         ensures stores { IfOk result (λ w. w.stores ≡ replicate keepers (Some (nothing (guest_of image.now)))) }
-        ensures gate { IfOk result (λ w. IsFresh w.gate 1 keepers need image.now.harts) }
+        ensures gate { IfOk result (λ w. IsFresh w.gate 1 keepers need image.now.harts []) }
         ensures released { IfOk result (λ w. w.released ≡ []) }
     {
         let guest = image.guest();
@@ -128,7 +128,14 @@ impl World {
         sent.push(Frame::Opening(primary.opening.copy()))?;
         let own = image.copy()?;
         let stores = empty_stores(alloc, guest, keepers)?;
-        let gate = TermGate::new(alloc, FIRST_TERM, guest.harts(), keepers, need)?;
+        let gate = TermGate::new(
+            alloc,
+            FIRST_TERM,
+            guest.harts(),
+            keepers,
+            need,
+            &Counts::zero(0),
+        )?;
         Ok(World {
             image: own,
             keepers,
@@ -155,6 +162,9 @@ impl World {
         ensures kept { IsKept self.now }
         ensures held { AreHeld self.now }
         ensures acknowledged { AreAckedInside self.now }
+        // What a primary's book notes went out, and none of it again in a term that has the note inside its chain.
+        ensures noted { AreNotesReleased self.now }
+        ensures fresh { NoneIsNoted self.now }
     {
         let _machine = self.primary.book.machine();
         self.released.as_slice()
@@ -295,14 +305,8 @@ impl World {
         if !self.runs {
             return Err(WorldFault::NoPrimary);
         }
-        let term = self.primary.opening.term();
-        release_outputs(
-            alloc,
-            term,
-            self.primary.book.machine(),
-            &mut self.gate,
-            &mut self.released,
-        )?;
+        self.primary
+            .release(alloc, &mut self.gate, &mut self.released)?;
         Ok(())
     }
 
@@ -368,9 +372,10 @@ impl World {
             self.need,
             asked,
         )?;
+        let marks = live.marks;
         let primary = Primary::going_on(live.opening, live.book);
         let harts = self.image.harts();
-        let mut gate = TermGate::new(alloc, term, harts, self.keepers, self.need)?;
+        let mut gate = TermGate::new(alloc, term, harts, self.keepers, self.need, &marks)?;
         offer_all(&mut gate, primary.book.machine())?;
         Ok((primary, gate))
     }

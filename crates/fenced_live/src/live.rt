@@ -43,8 +43,8 @@ pub fn go_live_given(
     ensures other_term { (result ≡ Err GivenFault.OtherTerm) ↔ Any (λ g. g.term ≢ term) given.now }
 
     // The book begins with the machine at the position of the joined stores, and nothing is settled in it; the opening names
-    // that position.
-    ensures position { IfOk result (λ live. IsAtPosition image.now (map (λ g. g.store.now) given.now) term live.book.start live.opening) }
+    // that position, and the marks are what is noted inside.
+    ensures position { IfOk result (λ live. IsAtPosition image.now (map (λ g. g.store.now) given.now) term live.book.start live.opening live.marks) }
     ensures book { IfOk result (λ live. BeginsFrom live.book.start live.book) }
 
     // Nothing is recorded, each hart's limit is its count, and only the bells that were rung and not heard wait.

@@ -61,7 +61,7 @@ pub record IsFirst (v : WorldView) (r : RunningView) : Type 0 where
   pub only : v.running ≡ r ∷ []
   pub booted : IsBooted v.image r.primary
   pub primary : IsPrimary r.primary.book
-  pub fresh : IsFresh r.gate 1 v.keepers v.need v.image.harts
+  pub fresh : IsFresh r.gate 1 v.keepers v.need v.image.harts []
   pub offered : AreOffered r.gate.gate r.primary.book.machine
   pub sent : v.sent ≡ Opening r.primary.opening ∷ []
   pub many : length v.held ≡ v.keepers

@@ -3,7 +3,7 @@ use Rattle.std.proofs.Common.{◌≡◌, ℕ, ◌≤◌, List, [], ◌∷◌, �
 use Rattle.interleaving.specs.Lists.{put}
 use Rattle.interleaving.proofs.Put.{put_same}
 use Rattle.ft_types.specs.Counts.{count_at}
-use Rattle.page_book.proofs.Tellings.{tells_the_same}
+use Rattle.page_book.proofs.Tellings.{notes_kept, tells_the_same}
 use Rattle.guest_image.specs.Image.{guest_of}
 use Rattle.hart_lease.specs.Runs.{counts_of}
 use Rattle.fragment_codec.specs.declared.frame.Frame.{Frame}
@@ -104,7 +104,7 @@ module _ (v : WorldView) (is : IsTied v) (n : ℕ) (r : RunningView) (at : slice
           comes = record {
             start = refl;
             journal = ([], sym (append-nil r.primary.book.journal));
-            tells = tells_the_same r.primary.book r.primary.book refl refl refl;
+            tells = tells_the_same r.primary.book r.primary.book refl refl refl (notes_kept r.primary.book r.primary.book refl);
           };
           was = here.of_book;
           is = of_book;

@@ -1,5 +1,5 @@
 -- A primary and its gate fit together as they begin.
-use Rattle.std.proofs.Common.{ℕ, ◌≤◌, List, length, replicate, sym, ap, subst, ◌∙◌, arith}
+use Rattle.std.proofs.Common.{ℕ, ◌≤◌, List, [], length, replicate, sym, ap, subst, ◌∙◌, arith}
 use Rattle.std.specs.List.{range_with_len}
 use Rattle.std.proofs.lemmas.List.{length-replicate}
 use Rattle.ft_types.specs.Counts.{count_at}
@@ -20,7 +20,7 @@ use Rattle.fenced_world.specs.Keepers.{Gift}
 use Rattle.fenced_world.specs.Running.{RunningView, IsSound}
 use Rattle.fenced_world.specs.Reviving.{GoesLive}
 
-pub booted_sound : (image : ImageContents) (keepers need : ℕ) (p : Primary) (g : TermGateView) → IsBooted image p → IsFresh g 1 keepers need image.harts →
+pub booted_sound : (image : ImageContents) (keepers need : ℕ) (p : Primary) (g : TermGateView) → IsBooted image p → IsFresh g 1 keepers need image.harts [] →
     IsSound p g
 booted_sound image keepers need p g booted fresh =
     let machine = ap (λ (b : BookView RecordingView). b.machine) booted.begins ∙ booted.start in

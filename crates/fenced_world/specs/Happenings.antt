@@ -34,7 +34,7 @@ pub record Begins (image : ImageContents) (keepers need : ℕ) (w : WorldView) :
   pub first : RunningView
   pub only : w.running ≡ first ∷ []
   pub booted : IsBooted image first.primary
-  pub fresh : IsFresh first.gate 1 keepers need image.harts
+  pub fresh : IsFresh first.gate 1 keepers need image.harts []
   pub sent : w.sent ≡ Opening first.primary.opening ∷ []
   pub many : length w.held ≡ keepers
   pub held : (k : ℕ) → k < keepers → (x : KeptView) × (kept_at w.held k ≡ Some x) × IsNewKeeper (guest_of image) k x

@@ -27,16 +27,17 @@ stores_in gifts = map (λ g. g.store) gifts
 abbrev pub givers_in : List Gift → List ℕ
 givers_in gifts = map (λ g. g.keeper) gifts
 
--- the primary begins where the stores that were given to the term lead to, with its gate
+-- the primary begins where the stores that were given to the term lead to, with its gate, which passes over what is noted there
 pub record GoesLive (image : ImageContents) (keepers need term : ℕ) (gifts : List Gift) (r : RunningView) : Type 0 where
   pub own : All (λ g. g.term ≡ term) gifts
   pub enough : AreEnough keepers need (givers_in gifts)
   pub new : IsNew (stores_in gifts) term
-  pub at : IsAtPosition image (stores_in gifts) term r.primary.book.start r.primary.opening
+  pub marks : List ℕ
+  pub at : IsAtPosition image (stores_in gifts) term r.primary.book.start r.primary.opening marks
   pub begins : BeginsFrom r.primary.book.start r.primary.book
   pub unused : IsUnused r.primary.book.mode r.primary.book.start (no_limits image.harts)
   pub uncut : IsUncut r.primary.opening.base r.primary.sealed
-  pub fresh : IsFresh r.gate term keepers need image.harts
+  pub fresh : IsFresh r.gate term keepers need image.harts marks
   pub offered : AreAllOffered r.gate.gate r.primary.book.machine
 
 -- it makes each history longer whose frames the stores have

@@ -31,9 +31,10 @@ pub(crate) fn revived(
     ensures refused { IfErr result (λ fault. CannotGoLive image.now keepers need term (map gift_of given.now) fault) }
 {
     let live = go_live_given(alloc, image, given, keepers, need, term)?;
+    let marks = live.marks;
     let primary = Primary::going_on(live.opening, live.book);
     let harts = image.harts();
-    let Ok(mut gate) = TermGate::new(alloc, term, harts, keepers, need) else {
+    let Ok(mut gate) = TermGate::new(alloc, term, harts, keepers, need, &marks) else {
         return Err(GivenFault::Live(LiveFault::Memory));
     };
     if offer_all(&mut gate, primary.book.machine()).is_err() {

@@ -9,7 +9,7 @@ use Rattle.fragment_codec.specs.declared.types.Key.{Key}
 use Rattle.input_log.specs.declared.Input.{Input as HartInput}
 use Rattle.input_log.specs.declared.Input.TheVariants.{Timer, Word, Bell}
 use Rattle.fragment_codec.specs.declared.types.Record.{Record}
-use Rattle.fragment_codec.specs.declared.types.Record.TheVariants.{Edge as EdgeRecord, Input as InputRecord}
+use Rattle.fragment_codec.specs.declared.types.Record.TheVariants.{Edge as EdgeRecord, Input as InputRecord, Note as NoteRecord}
 use Rattle.fragment_codec.specs.declared.frame.Frame.{Frame}
 use Rattle.fragment_codec.specs.declared.frame.Frame.TheVariants.{Log, Opening}
 use Rattle.fragment_codec.specs.declared.reading.BodyError.{BodyError}
@@ -78,10 +78,20 @@ heard_at version from bytes = do
   input ← input_of kind.0 value.0
   Some (InputRecord at.0 input, value.1)
 
+unfoldable pub note_at : ℕ → ℕ → List ℕ → Option (Record × List ℕ)
+note_at version from bytes = do
+  at ← stand_at version from bytes
+  number ← number_at w64 at.1
+  Some (NoteRecord at.0 number.0, number.1)
+
+-- the first version tells of no note
 unfoldable pub record_at : ℕ → ℕ → ℕ → List ℕ → Option (Record × List ℕ)
 record_at version from hart bytes = do
   kind ← byte_at bytes
-  if kind.0 == 1 then edge_at version from hart kind.1 else if kind.0 == 2 then heard_at version from kind.1 else None
+  if kind.0 == 1 then edge_at version from hart kind.1
+      else if kind.0 == 2 then heard_at version from kind.1
+      else if kind.0 == 3 then (if version == FIRST_VERSION then None else note_at version from kind.1)
+      else None
 
 -- so many of one kind, one after the other
 unfoldable pub many : {X : Type 0} → (List ℕ → Option (X × List ℕ)) → ℕ → List ℕ → Option (List X × List ℕ)

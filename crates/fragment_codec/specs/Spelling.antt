@@ -7,7 +7,7 @@ use Rattle.input_log.specs.declared.Input.{Input as HartInput}
 use Rattle.input_log.specs.declared.Input.TheVariants.{Timer, Word, Bell}
 use Rattle.fragment_codec.specs.declared.types.TheConstants.{FIRST_VERSION}
 use Rattle.fragment_codec.specs.declared.types.Record.{Record}
-use Rattle.fragment_codec.specs.declared.types.Record.TheVariants.{Edge as EdgeRecord, Input as InputRecord}
+use Rattle.fragment_codec.specs.declared.types.Record.TheVariants.{Edge as EdgeRecord, Input as InputRecord, Note as NoteRecord}
 use Rattle.fragment_codec.specs.Rules.{FragmentParts, OpeningParts}
 
 -- a number, the lowest byte first
@@ -24,10 +24,11 @@ input_bytes (Bell source) = 2 ∷ number w32 source
 unfoldable pub stand_bytes : ℕ → ℕ → ℕ → List ℕ
 stand_bytes version from at = if version == FIRST_VERSION then number w64 at else number w32 (at - from)
 
--- an edge of 18 bytes, or an input of 14: in the second version 14 and 10
+-- an edge of 18 bytes, or an input of 14: in the second version 14 and 10; and a note, of which the second version alone tells, in 13
 unfoldable pub record_bytes : ℕ → ℕ → Record → List ℕ
 record_bytes version from (EdgeRecord edge) = 1 ∷ (stand_bytes version from edge.at ++ (edge.other ∷ number w64 edge.after))
 record_bytes version from (InputRecord at input) = 2 ∷ (stand_bytes version from at ++ input_bytes input)
+record_bytes version from (NoteRecord at number1) = 3 ∷ (stand_bytes version from at ++ number w64 number1)
 
 -- digest, harts, hart, term, place, from, to, number of records, records
 unfoldable pub log_body : ℕ → FragmentParts → List ℕ

@@ -1,9 +1,9 @@
 //! A piece of a hart's log, and the opening of a term.
 
-ghost use Rattle.std.specs.Prelude.{◌+◌, ◌-◌, nat_lt, ◌≡◌, ◌↔◌, ℕ, ◌<◌, ◌≤◌, Option, Some, None, length, List, All, IsTrue, IsSome, IfSome, IfOk};
-ghost use Rattle.ft_types.specs.declared.names.TheConstants.{HART_LIMIT, INPUT_LIMIT};
-ghost use Rattle.fragment_codec.specs.Rules.{IsKey, AreRecords, FragmentParts, OpeningParts, IsFragment, IsOpening};
-ghost use Rattle.fragment_codec.specs.Slots.{is_source, slot_after};
+ghost use Rattle.std.specs.Prelude.{◌+◌, ◌-◌, nat_lt, ◌≡◌, ◌↔◌, ℕ, suc, ◌<◌, ◌≤◌, Option, Some, None, length, List, All, IsTrue, IsSome, IfSome, IfOk};
+ghost use Rattle.ft_types.specs.declared.names.TheConstants.{HART_LIMIT};
+ghost use Rattle.fragment_codec.specs.Rules.{IsKey, AreRecords, FragmentParts, OpeningParts, IsFragment, IsOpening, has_note};
+ghost use Rattle.fragment_codec.specs.Slots.{is_source, note_slot, said_after, slot_after};
 
 use crate::types::{FIRST_HARTS, Key, RECORD_LIMIT, Record, SPAN_LIMIT};
 use ft_types::{COUNT_LIMIT, Count, Counts, Guest, HART_LIMIT, Hart, INPUT_LIMIT, Memory, Term};
@@ -97,14 +97,22 @@ fn keeps_source(harts: u8, input: Input) -> bool
     }
 }
 
-/// The slots at a count: one for each hart's edge, and behind them one for each input.
-const SLOT_LIMIT: u8 = HART_LIMIT + INPUT_LIMIT as u8;
+/// The slot of a note at its count: one for each hart's edge stands before it, and one for each input.
+const NOTE_SLOT: u8 = HART_LIMIT + INPUT_LIMIT as u8;
 
-/// The slot behind a record, where it keeps the rules.
+/// The slot behind a record, where it keeps the rules, and the number that was noted last is this one.
 #[tactic(auto, unfolding(crate::specs::Slots::slot_after))]
-fn next_slot(harts: u8, hart: Hart, to: Count, at: Count, slot: u8, fact: &Record) -> Option<u8>
-    requires { slot ≤ HART_LIMIT + INPUT_LIMIT }
-    ensures slot { result ≡ slot_after harts hart to at slot fact.now }
+fn next_slot(
+    harts: u8,
+    hart: Hart,
+    to: Count,
+    at: Count,
+    slot: u8,
+    said: u64,
+    fact: &Record,
+) -> Option<u8>
+    requires { slot ≤ suc note_slot }
+    ensures slot { result ≡ slot_after harts hart to at slot said fact.now }
 {
     match fact {
         Record::Edge(edge) => {
@@ -126,13 +134,48 @@ fn next_slot(harts: u8, hart: Hart, to: Count, at: Count, slot: u8, fact: &Recor
         Record::Input(count, input) => {
             let free = if at == *count { slot } else { 0 };
             let place = free.max(HART_LIMIT);
-            if at <= *count && *count < to && keeps_source(harts, *input) && place < SLOT_LIMIT {
+            if at <= *count && *count < to && keeps_source(harts, *input) && place < NOTE_SLOT {
                 Some(place + 1)
             } else {
                 None
             }
         }
+        Record::Note(count, number) => {
+            let free = if at == *count { slot } else { 0 };
+            if at <= *count
+                && *count < to
+                && said < *number
+                && *number <= *count
+                && free <= NOTE_SLOT
+            {
+                Some(NOTE_SLOT + 1)
+            } else {
+                None
+            }
+        }
     }
+}
+
+/// The number that was noted last, where this one was before the record.
+fn said_after(said: u64, fact: &Record) -> u64
+    ensures { result ≡ said_after said fact.now }
+{
+    match fact {
+        Record::Edge(_) | Record::Input(_, _) => said,
+        Record::Note(_, number) => *number,
+    }
+}
+
+/// Whether one of the records is a note.
+fn has_note(records: &[Record]) -> bool
+    ensures { result ≡ has_note records.now }
+{
+    for record in records {
+        if let Record::Note(_, _) = record {
+            return true;
+        }
+    }
+    false
 }
 
 #[tactic(auto, unfolding(crate::specs::Slots::are_right))]
@@ -145,12 +188,14 @@ fn are_records(records: &[Record], harts: u8, hart: Hart, from: Count, to: Count
     }
     let mut at = from;
     let mut slot = 0;
+    let mut said = 0;
     for record in records {
-        match next_slot(harts, hart, to, at, slot, record) {
+        match next_slot(harts, hart, to, at, slot, said, record) {
             None => return false,
             Some(next) => {
                 at = record.count();
                 slot = next;
+                said = said_after(said, record);
             }
         }
     }
@@ -179,7 +224,7 @@ fn is_fragment(guest: &Guest, key: &Key, from: Count, to: Count, records: &[Reco
     is_key(harts, key)
         && from < to
         && to < COUNT_LIMIT
-        && (harts <= FIRST_HARTS || is_short(from, to))
+        && (is_short(from, to) || (harts <= FIRST_HARTS && !has_note(records)))
         && are_records(records, harts, key.hart, from, to)
 }
 

@@ -3,7 +3,7 @@
 ghost use Rattle.std.specs.Prelude.{◌≡◌, ◌≤◌, List, length, Option, Some, None};
 ghost use Rattle.fragment_codec.specs.Rules.{OpeningParts, IsFragment, IsOpening};
 ghost use Rattle.std.specs.Int.{w16, w32, w64};
-ghost use Rattle.fragment_codec.specs.Reading.{Gives, Makes, number_at, byte_at, digest_at, guest_at, input_of, edge_at, heard_at, record_at, many, place_at, rest_of};
+ghost use Rattle.fragment_codec.specs.Reading.{Gives, Makes, number_at, byte_at, digest_at, guest_at, input_of, edge_at, heard_at, note_at, record_at, many, place_at, rest_of};
 ghost use Rattle.fragment_codec.specs.Reading.{log_of, opening_of, stand_at, is_span, harts_limit};
 
 use crate::frame::{Fragment, Opening, is_short};
@@ -163,6 +163,15 @@ fn read_heard(version: u8, from: Count, bytes: &[u8]) -> Result<(Record, &[u8]),
     Ok((Record::Input(at, input), rest))
 }
 
+#[tactic(auto, unfolding(crate::specs::Reading::note_at))]
+fn read_note(version: u8, from: Count, bytes: &[u8]) -> Result<(Record, &[u8]), BodyError>
+    ensures { Gives (λ x. (x.0, x.1.now)) result (note_at version from bytes.now) }
+{
+    let (at, rest) = read_stand(version, from, bytes)?;
+    let (number, rest) = u64_at(rest)?;
+    Ok((Record::Note(at, number), rest))
+}
+
 #[tactic(auto, unfolding(crate::specs::Reading::record_at))]
 fn read_record(
     version: u8,
@@ -176,6 +185,7 @@ fn read_record(
     match kind {
         1 => read_edge(version, from, hart, rest),
         2 => read_heard(version, from, rest),
+        3 if version != FIRST_VERSION => read_note(version, from, rest),
         _ => Err(BodyError::Broken),
     }
 }

@@ -55,6 +55,8 @@ pub enum Record {
     Edge(Edge),
     /// The hart is given an input at this count.
     Input(Count, Input),
+    /// At this count the hart's outputs with numbers below this one were released.
+    Note(Count, u64),
 }
 
 impl Record {
@@ -64,7 +66,7 @@ impl Record {
     {
         match self {
             Record::Edge(edge) => edge.at,
-            Record::Input(at, _) => *at,
+            Record::Input(at, _) | Record::Note(at, _) => *at,
         }
     }
 }

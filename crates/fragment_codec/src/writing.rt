@@ -110,6 +110,11 @@ fn put_record(out: &mut Body, version: u8, from: Count, record: &Record)
             put_stand(out, version, from, *at);
             put_input(out, *input);
         }
+        Record::Note(at, number) => {
+            put(out, &[3]);
+            put_stand(out, version, from, *at);
+            put_u64(out, *number);
+        }
     }
 }
 

@@ -6,7 +6,7 @@ use Rattle.input_log.specs.Alike.{same_input}
 use Rattle.edge_log.specs.declared.Edge.{Edge as OwnedEdge}
 use Rattle.fragment_codec.specs.declared.types.Key.{Key}
 use Rattle.fragment_codec.specs.declared.types.Record.{Record}
-use Rattle.fragment_codec.specs.declared.types.Record.TheVariants.{Edge as EdgeRecord, Input as InputRecord}
+use Rattle.fragment_codec.specs.declared.types.Record.TheVariants.{Edge as EdgeRecord, Input as InputRecord, Note as NoteRecord}
 use Rattle.fragment_codec.specs.Rules.{FragmentParts, OpeningParts}
 
 abbrev pub same_guest : GuestParts → GuestParts → Bool
@@ -21,6 +21,7 @@ same_edge a b = (a.hart == b.hart) && (a.at == b.at) && (a.other == b.other) && 
 abbrev pub same_record : Record → Record → Bool
 same_record (EdgeRecord a) (EdgeRecord b) = same_edge a b
 same_record (InputRecord m a) (InputRecord n b) = (m == n) && same_input a b
+same_record (NoteRecord m a) (NoteRecord n b) = (m == n) && (a == b)
 same_record a b = false
 
 abbrev pub same_opening : OpeningParts → OpeningParts → Bool

@@ -42,9 +42,9 @@ module _ (image : ImageContents) (history : GuestHistory) (stores : List StoreVi
             (honest_nothing history (guest_of image)) honest.each are;
       }
 
-  pub starts : (number : ℕ) (machine : MachineState) (opening : OpeningParts) → IsAtPosition image stores number machine opening →
+  pub starts : (number : ℕ) (machine : MachineState) (opening : OpeningParts) (marks : List ℕ) → IsAtPosition image stores number machine opening marks →
       IsOfHistory image history machine opening
-  starts number machine opening at =
+  starts number machine opening marks at =
       at_position image at.replayed.legs history at.joined at.position at.replayed.rules (honest_in image history at.joined (joined_honest at.joined at.are_joined))
       at.replayed.planned machine
       at.replayed.outcome
@@ -58,9 +58,9 @@ module _ (image : ImageContents) (history : GuestHistory) (stores : List StoreVi
         | inr memory ↦ has.in_memory memory
       ]
 
-  pub longer : (number : ℕ) (machine : MachineState) (opening : OpeningParts) → IsNew stores number → IsAtPosition image stores number machine opening →
-      MakesLonger image history number machine opening
-  longer number machine opening new at granted book past start primary its same =
+  pub longer : (number : ℕ) (machine : MachineState) (opening : OpeningParts) (marks : List ℕ) → IsNew stores number →
+      IsAtPosition image stores number machine opening marks → MakesLonger image history number machine opening
+  longer number machine opening marks new at granted book past start primary its same =
       books_go_live image history at.joined at.position at.replayed.legs number book past at.replayed.rules joined at.replayed.is_position at.replayed.planned
       granted
       (term_below at.joined at.position number at.replayed.is_position new.granted
@@ -80,5 +80,5 @@ pub primaries_make_histories : PrimariesMakeHistories
 primaries_make_histories image history (NoneYet none) = subst (IsHistoryOf image) (sym none) (no_history image)
 primaries_make_histories image history (OneMore before number past are live more) =
     subst (IsHistoryOf image) (sym more)
-    (longer image before live.stores live.honest number live.book.start past.opening live.new live.at live.granted live.book past refl live.primary live.of_book
+    (longer image before live.stores live.honest number live.book.start past.opening live.marks live.new live.at live.granted live.book past refl live.primary live.of_book
     refl)

@@ -41,7 +41,8 @@ pub record WentLive (image : ImageContents) (history : GuestHistory) (number : �
   pub granted : history number ≡ None
   pub book : BookView RecordingView
   pub primary : IsPrimary book
-  pub at : IsAtPosition image stores number book.start past.opening
+  pub marks : List ℕ
+  pub at : IsAtPosition image stores number book.start past.opening marks
   pub of_book : IsTermOfBook book past
 
 -- the terms are those of primaries that went live one after the other, each from stores of the frames of those before it

@@ -40,16 +40,18 @@ pub struct Live {
     pub opening: Opening,
     /// All outputs of the machine with which it begins, by hart and number: they are to be offered again.
     pub outputs: Vec<Output>,
+    /// For each hart the greatest number that is noted inside the position, or 0: its outputs with lower numbers were released.
+    pub marks: Counts,
 }
 
-/// The store's position, and the machine there.
+/// The store's position, the machine there, and what is noted of its harts.
 fn replay_to(
     alloc: Global,
     image: &Image,
     store: &Store,
-) -> Result<(Position, Machine), ReplayFault>
+) -> Result<(Position, Machine, Counts), ReplayFault>
     requires { store.now.guest ≡ guest_of image.now }
-    ensures replayed { IfOk result (λ p. IsReplayed image.now store.now p.0 p.1) }
+    ensures replayed { IfOk result (λ p. IsReplayed image.now store.now p.0 p.1 p.2) }
     ensures harts { IfOk result (λ p. (length p.0.counts ≡ image.now.harts) × (length p.1.harts ≡ image.now.harts)) }
     ensures fault { IfErr result (λ fault. fault ≢ ReplayFault.Memory → HasNoMachine image.now store.now fault) }
 {
@@ -60,7 +62,7 @@ fn replay_to(
     // proof: a plan keeps its rules by type.
     let _planned = plan.legs();
     let machine = replay_plain(alloc, image, &plan)?;
-    Ok((position, machine))
+    Ok((position, machine, plan.marks()))
 }
 
 /// The opening of a term that goes on from the position.
@@ -78,13 +80,20 @@ fn opening_of(guest: Guest, term: Term, position: &Position) -> Opening
     Opening::new(guest, term, position.term, base).unwrap()
 }
 
-/// A primary that goes on from a machine, which has these counts.
-fn begin(alloc: Global, machine: Machine, counts: Counts, opening: Opening) -> Result<Live, Memory>
+/// A primary that goes on from a machine, which has these counts and marks.
+fn begin(
+    alloc: Global,
+    machine: Machine,
+    counts: Counts,
+    opening: Opening,
+    marks: Counts,
+) -> Result<Live, Memory>
     requires { length counts ≡ length machine.harts }
     ensures opening { IfOk result (λ live. live.opening ≡ opening) }
     ensures book { IfOk result (λ live. BeginsFrom machine live.book) }
     ensures mode { IfOk result (λ live. IsUnused live.book.mode machine counts) }
     ensures outputs { IfOk result (λ live. live.outputs.items ≡ outputs_in machine) }
+    ensures marks { IfOk result (λ live. live.marks ≡ marks) }
 {
     let outputs = all_outputs(alloc, &machine)?;
     let book = Book::<Recording>::begin(alloc, machine, counts)?;
@@ -92,6 +101,7 @@ fn begin(alloc: Global, machine: Machine, counts: Counts, opening: Opening) -> R
         book,
         opening,
         outputs,
+        marks,
     })
 }
 
@@ -107,8 +117,8 @@ pub fn go_live(
     requires quorum { (0 < need) × (need ≤ keepers) × (keepers ≤ KEEPER_LIMIT) }
 
     // The book begins with the machine at the position of the joined stores, and nothing is settled in it; the opening names
-    // that position.
-    ensures position { IfOk result (λ live. IsAtPosition image.now (map (λ s. s.1.now) stores.now) term live.book.start live.opening) }
+    // that position, and the marks are what is noted inside.
+    ensures position { IfOk result (λ live. IsAtPosition image.now (map (λ s. s.1.now) stores.now) term live.book.start live.opening live.marks) }
     ensures book { IfOk result (λ live. BeginsFrom live.book.start live.book) }
 
     // Nothing is recorded, each hart's limit is its count, and only the bells that were rung and not heard wait.
@@ -150,7 +160,7 @@ pub fn go_live(
         return Err(LiveFault::Replay(ReplayFault::OtherGuest));
     }
     let joined = join_all(alloc, guest, stores)?;
-    let (position, machine) = replay_to(alloc, image, &joined)?;
+    let (position, machine, marks) = replay_to(alloc, image, &joined)?;
     let opening = opening_of(guest, term, &position);
-    Ok(begin(alloc, machine, position.counts, opening)?)
+    Ok(begin(alloc, machine, position.counts, opening, marks)?)
 }

@@ -3,3 +3,4 @@ pub mod Harts
 pub mod Walk
 pub mod Made
 pub mod Outcomes
+pub mod Marks

@@ -1,5 +1,5 @@
 -- What a leg has of a store.
-use Rattle.std.specs.Prelude.{ℕ, zero, suc, ◌≡◌, ◌≤◌, ◌↔◌, List, [], ◌++◌, map, filter, nat_lt, Contains}
+use Rattle.std.specs.Prelude.{ℕ, zero, suc, ◌≡◌, ◌≤◌, ◌↔◌, List, [], ◌++◌, length, map, filter, nat_lt, Contains}
 use Rattle.std.specs.List.{filter_map}
 use Rattle.ft_types.specs.Counts.{count_at}
 use Rattle.interleaving.specs.Log.{Edge, IsCut}
@@ -7,11 +7,12 @@ use Rattle.interleaving.specs.Cuts.{IsEnough, IsSameOrder}
 use Rattle.edge_log.specs.EdgeLog.{edge_as, edges_of}
 use Rattle.input_log.specs.declared.Input.{Input}
 use Rattle.input_log.specs.Inputs.{inputs_of}
+use Rattle.input_log.specs.Notes.{greatest}
 use Rattle.fragment_codec.specs.declared.types.Record.{Record}
 use Rattle.fragment_codec.specs.Rules.{FragmentParts, count_of}
 use Rattle.log_join.specs.Cells.{Cell, Absent, One, Clash}
 use Rattle.log_join.specs.Stores.{StoreView}
-use Rattle.fragment_codec.specs.Facts.{edge_in, input_in}
+use Rattle.fragment_codec.specs.Facts.{edge_in, input_in, note_in}
 use Rattle.closed_cut.specs.Position.{pieces_of, Avail}
 use Rattle.hart_replay.specs.declared.plans.PlannedLeg.{PlannedLeg}
 use Rattle.hart_replay.specs.Plans.{log_of}
@@ -39,6 +40,10 @@ edges_among records = map edge_as (filter_map edge_in records)
 abbrev pub inputs_among : List Record → List (ℕ × Input)
 inputs_among records = filter_map input_in records
 
+-- the notes among records, each a count and a number
+abbrev pub notes_among : List Record → List (ℕ × ℕ)
+notes_among records = filter_map note_in records
+
 -- the leg goes from its base to a closed cut, and no further than the pieces without a gap
 pub record EndsInside (store : StoreView) (leg : PlannedLeg) : Type 0 where
   pub avail : Avail store leg.term (count_at leg.base)
@@ -61,3 +66,9 @@ pub record HasEdges (store : StoreView) (leg : PlannedLeg) : Type 0 where
 pub record HasInputs (store : StoreView) (leg : PlannedLeg) : Type 0 where
   pub avail : Avail store leg.term (count_at leg.base)
   pub exact : (hart : ℕ) → inputs_of leg.inputs hart ≡ inputs_among (facts_of store leg avail hart)
+
+-- its mark of each hart is the greatest number of the notes among the hart's facts, or 0
+pub record HasMarks (store : StoreView) (leg : PlannedLeg) : Type 0 where
+  pub many : length leg.marks ≡ length leg.base
+  pub avail : Avail store leg.term (count_at leg.base)
+  pub exact : (hart : ℕ) → count_at leg.marks hart ≡ greatest (notes_among (facts_of store leg avail hart))

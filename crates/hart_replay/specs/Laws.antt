@@ -9,7 +9,7 @@ use Rattle.log_join.specs.Stores.{StoreView, IsStore, IsJoin}
 use Rattle.closed_cut.specs.Chain.{LeadsTo}
 use Rattle.ft_types.specs.declared.position.Position.{Position}
 use Rattle.hart_replay.specs.declared.plans.PlannedLeg.{PlannedLeg}
-use Rattle.hart_replay.specs.Facts.{EndsInside, HasEdges, HasInputs}
+use Rattle.hart_replay.specs.Facts.{EndsInside, HasEdges, HasInputs, HasMarks}
 use Rattle.hart_replay.specs.Plans.{terms_of, BeginsAtBase, EndAt, log_of}
 use Rattle.ft_types.specs.Guests.{GuestParts}
 use Rattle.fragment_codec.specs.declared.frame.Frame.{Frame}
@@ -24,6 +24,7 @@ pub record ArePlanned (store : StoreView) (position : Position) (legs : List Pla
   pub cuts : All (EndsInside store) legs
   pub edges : All (HasEdges store) legs
   pub inputs : All (HasInputs store) legs
+  pub marks : All (HasMarks store) legs
 
 module _ {Hart Page : Type 0} (system : System Hart Page (List Input)) where
   -- the term's harts went, as far as the leg's ends, in the order of a schedule of the leg; and each beginning of a

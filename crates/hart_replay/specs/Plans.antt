@@ -1,5 +1,5 @@
 -- Plans, as contracts see them.
-use Rattle.std.specs.Prelude.{ℕ, ◌≡◌, ◌≤◌, List, [], ◌∷◌, All, map, length}
+use Rattle.std.specs.Prelude.{ℕ, ◌≡◌, ◌≤◌, List, [], ◌∷◌, All, map, length, max}
 use Rattle.ft_types.specs.Counts.{count_at}
 use Rattle.ft_types.specs.Guests.{GuestParts}
 use Rattle.interleaving.specs.Log.{Log, IsCut}
@@ -32,6 +32,11 @@ EndAt counts [] = Unit {0}
 EndAt counts (leg ∷ []) = leg.ends ≡ counts
 EndAt counts (leg ∷ next ∷ legs) = (leg.ends ≡ next.base) × EndAt counts (next ∷ legs)
 
+-- the greatest of the legs' marks of a hart, or 0
+abbrev pub noted_in : List PlannedLeg → ℕ → ℕ
+noted_in [] hart = 0
+noted_in (leg ∷ legs) hart = max (count_at leg.marks hart) (noted_in legs hart)
+
 -- what a leg asks for, in the theory's words
 abbrev pub log_of : PlannedLeg → Log (List Input)
 log_of leg =
@@ -45,6 +50,7 @@ log_of leg =
 -- what every leg of a plan keeps
 pub record IsLeg (many : ℕ) (leg : PlannedLeg) : Type 0 where
   pub harts : length leg.base ≡ many
+  pub marks : length leg.marks ≡ many
   pub no_others : (hart : ℕ) → many ≤ hart → count_at leg.ends hart ≡ 0
   pub start : leg.edges.start ≡ leg.base
   pub cut : IsCut (log_of leg) (count_at leg.ends)

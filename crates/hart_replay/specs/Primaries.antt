@@ -6,6 +6,7 @@ use Rattle.interleaving.specs.Lists.{put}
 use Rattle.interleaving.specs.Stored.{view}
 use Rattle.edge_log.specs.EdgeLog.{IsLog, row_of}
 use Rattle.input_log.specs.Inputs.{inputs_of}
+use Rattle.input_log.specs.Notes.{notes_of}
 use Rattle.rv32_hart.specs.Hart.{Hart}
 use Rattle.rv32_hart.specs.Hardware.{hardware}
 use Rattle.guest_image.specs.Image.{ImageContents}
@@ -43,6 +44,7 @@ pub record IsPieceOf (book : BookView RecordingView) (hart : ℕ) (piece : Fragm
   pub exact : told_by piece.records ≡ facts_between piece.from piece.to (record {
     edges = row_of book.mode.edges hart;
     inputs = inputs_of book.mode.inputs hart;
+    notes = notes_of book.mode.notes hart;
   })
 
 -- the term is the book's: its opening has the counts of the book's start, and its pieces are the book's, without a gap from there

@@ -1,17 +1,18 @@
 -- What the facts of a leg are gathered into: private words.
-use Rattle.std.specs.Prelude.{ℕ, ◌≡◌, ◌≢◌, ◌≤◌, ◌<◌, ◌++◌, List, All}
+use Rattle.std.specs.Prelude.{ℕ, ◌≡◌, ◌≢◌, ◌≤◌, ◌<◌, ◌++◌, List, All, length, max}
 use Rattle.interleaving.specs.Log.{Edge}
 use Rattle.interleaving.specs.Cuts.{IsEnough}
 use Rattle.edge_log.specs.EdgeLog.{Edges, row_of, edges_of, start_of}
 use Rattle.input_log.specs.declared.Input.{Input}
 use Rattle.input_log.specs.Inputs.{inputs_of}
+use Rattle.input_log.specs.Notes.{greatest}
 use Rattle.ft_types.specs.Counts.{count_at}
 use Rattle.fragment_codec.specs.Rules.{FragmentParts}
 use Rattle.log_join.specs.Cells.{One}
 use Rattle.log_join.specs.Stores.{StoreView}
 use Rattle.closed_cut.specs.Position.{pieces_of, Goes}
 use Rattle.hart_replay.specs.declared.plans.PlannedLeg.{PlannedLeg}
-use Rattle.hart_replay.specs.Facts.{records_of, below, edges_among, inputs_among}
+use Rattle.hart_replay.specs.Facts.{records_of, below, edges_among, inputs_among, notes_among}
 
 -- these edges were added to a log, all of them of one hart
 pub record TakesEdges (hart : ℕ) (old : Edges) (added : List Edge) (new : Edges) : Type 0 where
@@ -32,6 +33,12 @@ pub record TakesInputs (hart : ℕ) (old : List (List (ℕ × Input))) (added : 
 abbrev pub InputsEndBelow : List (List (ℕ × Input)) → ℕ → ℕ → Type 0
 InputsEndBelow log hart count = All (λ x. x.0 < count) (inputs_of log hart)
 
+-- a hart's mark was raised to the greatest number of these notes
+pub record TakesNotes (hart : ℕ) (old : List ℕ) (added : List (ℕ × ℕ)) (new : List ℕ) : Type 0 where
+  pub many : length new ≡ length old
+  pub own : count_at new hart ≡ max (count_at old hart) (greatest added)
+  pub others : (other : ℕ) → other ≢ hart → count_at new other ≡ count_at old other
+
 -- a leg got the facts of a hart
 pub record TakesHart (store : StoreView) (hart : ℕ) (old new : PlannedLeg) : Type 0 where
   pub places : ℕ
@@ -40,3 +47,4 @@ pub record TakesHart (store : StoreView) (hart : ℕ) (old new : PlannedLeg) : T
   pub stops : (piece : FragmentParts) → pieces_of store old.term hart places ≡ One piece → piece.from ≡ end → ⊥
   pub edges : TakesEdges hart old.edges (edges_among (below (count_at old.ends hart) (records_of (pieces_of store old.term hart) places))) new.edges
   pub inputs : TakesInputs hart old.inputs (inputs_among (below (count_at old.ends hart) (records_of (pieces_of store old.term hart) places))) new.inputs
+  pub notes : TakesNotes hart old.marks (notes_among (below (count_at old.ends hart) (records_of (pieces_of store old.term hart) places))) new.marks

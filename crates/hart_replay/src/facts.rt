@@ -5,8 +5,8 @@ ghost use Rattle.ft_types.specs.Counts.{count_at};
 ghost use Rattle.edge_log.specs.EdgeLog.{row_of};
 ghost use Rattle.input_log.specs.Inputs.{inputs_of};
 ghost use Rattle.log_join.specs.Stores.{IsStore};
-ghost use Rattle.hart_replay.specs.Facts.{below, edges_among, inputs_among};
-ghost use Rattle.hart_replay.specs.Taking.{TakesEdges, EdgesEndBy, TakesInputs, InputsEndBelow, TakesHart};
+ghost use Rattle.hart_replay.specs.Facts.{below, edges_among, inputs_among, notes_among};
+ghost use Rattle.hart_replay.specs.Taking.{TakesEdges, EdgesEndBy, TakesInputs, InputsEndBelow, TakesNotes, TakesHart};
 
 use crate::plans::PlannedLeg;
 use closed_cut::piece_from;
@@ -53,6 +53,22 @@ fn add_inputs(inputs: &mut InputLog, piece: &Fragment, end: Count) -> Result<(),
     Ok(())
 }
 
+/// Raises the hart's mark to the greatest number that a piece notes at a count below the end.
+fn add_notes(marks: &mut Counts, piece: &Fragment, end: Count)
+    requires { piece.now.key.hart < length marks.old }
+    ensures { TakesNotes piece.now.key.hart marks.old (notes_among (below end piece.now.records)) marks.new }
+{
+    let hart = piece.key().hart;
+    for record in piece.records() {
+        if let Record::Note(at, number) = record {
+            if *at < end {
+                let mark = marks.get(hart).max(*number);
+                marks.set(hart, mark);
+            }
+        }
+    }
+}
+
 /// A hart's count, 0 where the row has none.
 pub(crate) fn count_of(counts: Counts, hart: Hart) -> Count
     ensures { result ≡ count_at counts hart }
@@ -72,6 +88,7 @@ pub(crate) fn add_hart(store: &Store, leg: &mut PlannedLeg, hart: Hart) -> Resul
     requires start { leg.old.edges.start ≡ leg.old.base }
     requires edges { row_of leg.old.edges hart ≡ [] }
     requires inputs { inputs_of leg.old.inputs hart ≡ [] }
+    requires marks { length leg.old.marks ≡ length leg.old.base }
     ensures term { leg.new.term ≡ leg.old.term }
     ensures base { leg.new.base ≡ leg.old.base }
     ensures ends { leg.new.ends ≡ leg.old.ends }
@@ -90,6 +107,7 @@ pub(crate) fn add_hart(store: &Store, leg: &mut PlannedLeg, hart: Hart) -> Resul
         };
         add_edges(&mut leg.edges, piece, end)?;
         add_inputs(&mut leg.inputs, piece, end)?;
+        add_notes(&mut leg.marks, piece, end);
         at = piece.to();
     }
     Ok(())

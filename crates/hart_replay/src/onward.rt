@@ -22,6 +22,7 @@ fn same_leg(leg: &PlannedLeg, other: &PlannedLeg) -> bool
     leg.term == other.term
         && same_counts(leg.base.as_slice(), other.base.as_slice())
         && same_counts(leg.ends.as_slice(), other.ends.as_slice())
+        && same_counts(leg.marks.as_slice(), other.marks.as_slice())
         && leg.edges.same(&other.edges)
         && leg.inputs.same(&other.inputs)
 }

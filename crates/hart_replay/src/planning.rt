@@ -5,7 +5,7 @@ ghost use Rattle.log_join.specs.Cells.{One};
 ghost use Rattle.log_join.specs.Stores.{opening_at, IsStore};
 ghost use Rattle.closed_cut.specs.Chain.{LeadsTo, IsChain};
 ghost use Rattle.closed_cut.specs.Position.{IsPosition};
-ghost use Rattle.hart_replay.specs.Facts.{EndsInside, HasEdges, HasInputs};
+ghost use Rattle.hart_replay.specs.Facts.{EndsInside, HasEdges, HasInputs, HasMarks};
 ghost use Rattle.hart_replay.specs.Plans.{terms_of, BeginsAtBase, EndAt, IsPlan};
 
 use crate::facts::add_hart;
@@ -36,6 +36,7 @@ fn leg_to(
     ensures start { IfOk result (λ leg. leg.edges.start ≡ leg.base) }
     ensures edges { IfOk result (λ leg. HasEdges store.now leg) }
     ensures inputs { IfOk result (λ leg. HasInputs store.now leg) }
+    ensures marks { IfOk result (λ leg. HasMarks store.now leg) }
 {
     let base = opening.base();
     let mut leg = PlannedLeg {
@@ -44,6 +45,7 @@ fn leg_to(
         ends,
         edges: EdgeLog::new(alloc, base),
         inputs: InputLog::new(alloc),
+        marks: Counts::zero(base.harts()),
     };
     for number in 0..base.harts() {
         add_hart(store, &mut leg, Hart::new(number))?;
@@ -60,6 +62,7 @@ fn legs_to(alloc: Global, store: &Store, position: &Position) -> Result<Vec<Plan
     ensures cuts { IfOk result (λ legs. All (EndsInside store.now) legs.items) }
     ensures edges { IfOk result (λ legs. All (HasEdges store.now) legs.items) }
     ensures inputs { IfOk result (λ legs. All (HasInputs store.now) legs.items) }
+    ensures marks { IfOk result (λ legs. All (HasMarks store.now) legs.items) }
     ensures plan { IfOk result (λ legs. IsPlan store.now.guest legs.items) }
 {
     let mut legs = Vec::new(alloc);
@@ -88,9 +91,10 @@ pub fn plan(alloc: Global, store: &Store, position: &Position) -> Result<Plan, R
     ensures ends { IfOk result (λ plan. EndAt position.now.counts plan.legs) }
     ensures cuts { IfOk result (λ plan. All (EndsInside store.now) plan.legs) }
 
-    // Each has the store's edges and inputs inside.
+    // Each has the store's edges and inputs inside, and the greatest number that is noted there of each hart.
     ensures edges { IfOk result (λ plan. All (HasEdges store.now) plan.legs) }
     ensures inputs { IfOk result (λ plan. All (HasInputs store.now) plan.legs) }
+    ensures marks { IfOk result (λ plan. All (HasMarks store.now) plan.legs) }
     ensures fault { IfErr result (λ fault. fault ≡ ReplayFault.Memory) }
 {
     let legs = legs_to(alloc, store, position)?;

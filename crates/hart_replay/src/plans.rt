@@ -1,7 +1,8 @@
 //! What a replay is to do.
 
-ghost use Rattle.std.specs.Prelude.{◌≡◌};
-ghost use Rattle.hart_replay.specs.Plans.{IsPlan};
+ghost use Rattle.std.specs.Prelude.{◌≡◌, ℕ, length};
+ghost use Rattle.ft_types.specs.Counts.{count_at};
+ghost use Rattle.hart_replay.specs.Plans.{IsPlan, noted_in};
 
 use edge_log::EdgeLog;
 use ft_types::{Counts, Guest, Term};
@@ -20,6 +21,8 @@ pub struct PlannedLeg {
     pub edges: EdgeLog,
     /// What its steps are given.
     pub inputs: InputLog,
+    /// For each hart the greatest number that is noted inside: outputs with lower numbers were released. 0 where none is.
+    pub marks: Counts,
 }
 
 impl Drop for PlannedLeg {
@@ -30,6 +33,7 @@ impl Drop for PlannedLeg {
             ends: _,
             edges: _,
             inputs: _,
+            marks: _,
         } = self;
     }
 }
@@ -71,6 +75,18 @@ impl Plan {
         ensures { result ≡ self.now.guest }
     {
         self.guest
+    }
+
+    /// For each hart the greatest number that is noted in one of its legs, or 0.
+    pub fn marks(&self) -> Counts
+        ensures harts { length result ≡ self.now.guest.harts }
+        ensures greatest { (hart : ℕ) → count_at result hart ≡ noted_in self.now.legs hart }
+    {
+        let mut marks = Counts::zero(self.guest.harts());
+        for leg in &self.legs {
+            marks = marks.max(leg.marks);
+        }
+        marks
     }
 
     /// The legs, the oldest term first.

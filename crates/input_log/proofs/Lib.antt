@@ -5,3 +5,4 @@ mod Rows
 mod Taking
 pub mod Told
 mod More
+pub mod Notings

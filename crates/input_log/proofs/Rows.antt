@@ -18,20 +18,20 @@ use Rattle.input_log.proofs.Added.{at_append, at_same}
 -- ---- the elements whose number is n, in a list where these numbers rise
 
 module _ {A : Type 0} where
-  all_front : (P : A → Type 0) (xs : List A) (i : ℕ) → i ≤ length xs → AllWithin P xs 0 i → All P (take i xs)
+  pub all_front : (P : A → Type 0) (xs : List A) (i : ℕ) → i ≤ length xs → AllWithin P xs 0 i → All P (take i xs)
   all_front P xs i within all k d below =
       let less : k < i = omega (arith, length-take i xs) in
       rw (get_or-take i xs k d less) (all k d (omega arith) less)
 
-  all_back : (P : A → Type 0) (xs : List A) (i : ℕ) → i ≤ length xs → AllWithin P xs i (length xs) → All P (drop i xs)
+  pub all_back : (P : A → Type 0) (xs : List A) (i : ℕ) → i ≤ length xs → AllWithin P xs i (length xs) → All P (drop i xs)
   all_back P xs i within all k d below =
       rw (get_or-drop i xs k d) (all (i + k) d (omega arith) (omega (arith, length-drop i xs)))
 
-  filter_none : (p : A → Bool) (xs : List A) → All (λ x. p x ≡ false) xs → filter p xs ≡ []
+  pub filter_none : (p : A → Bool) (xs : List A) → All (λ x. p x ≡ false) xs → filter p xs ≡ []
   filter_none p [] none = refl
   filter_none p (x ∷ xs) none = rw (All-head (λ e. p e ≡ false) x xs none) (filter_none p xs (All-tail (λ e. p e ≡ false) x xs none))
 
-  filter_all : (p : A → Bool) (xs : List A) → All (λ x. p x ≡ true) xs → filter p xs ≡ xs
+  pub filter_all : (p : A → Bool) (xs : List A) → All (λ x. p x ≡ true) xs → filter p xs ≡ xs
   filter_all p [] all = refl
   filter_all p (x ∷ xs) all =
       rw (All-head (λ e. p e ≡ true) x xs all) (ap (λ l. x ∷ l) (filter_all p xs (All-tail (λ e. p e ≡ true) x xs all)))

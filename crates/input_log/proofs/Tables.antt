@@ -1,6 +1,6 @@
 -- Tables with a value for each hart.
 use Rattle.std.proofs.Common.{◌≡◌, ◌≢◌, ℕ, zero, suc, ◌-◌, List, [], ◌∷◌, ◌++◌, get_or, length, take, length-append, arith, inl, inr, refl}
-use Rattle.std.proofs.Common.{sym, ◌∙◌, ◌+◌, ◌<◌, slice_set, slice_index_or, length-set}
+use Rattle.std.proofs.Common.{sym, ◌∙◌, ◌+◌, ◌<◌, slice_set, slice_index_or}
 use Rattle.std.specs.List.{AllByRecursion}
 use Rattle.std.proofs.Math.Seq.{take-append_seam}
 use Rattle.std.proofs.lemmas.Bool.{cases_eq}

@@ -2,3 +2,4 @@ pub mod Inputs
 pub mod Alike
 pub mod Waiting
 pub mod Offers
+pub mod Notes

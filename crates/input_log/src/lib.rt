@@ -6,6 +6,8 @@ ghost use Rattle.input_log.specs.Inputs.{is_bell};
 
 mod desk;
 mod log;
+mod note_log;
+mod note_row;
 mod offered;
 mod queue;
 mod row;
@@ -13,6 +15,7 @@ mod row;
 pub use desk::Desk;
 use ft_types::{Count, Hart};
 pub use log::InputLog;
+pub use note_log::NoteLog;
 pub use offered::{Offer, Offered};
 
 /// What a hart is given at a step, before it takes it.
@@ -69,4 +72,15 @@ pub struct WaitingInput {
     pub not_before: Count,
     /// What is given.
     pub input: Input,
+}
+
+/// At this count of a hart, all its outputs with numbers below `number` were released.
+#[derive(Clone, Copy, Debug, PartialEq, Eq)]
+pub struct Note {
+    /// The hart.
+    pub hart: Hart,
+    /// The count at which this was noted.
+    pub at: Count,
+    /// The number of the next output.
+    pub number: u64,
 }

@@ -28,7 +28,7 @@ use Rattle.book_modes.specs.Recordings.{AreLogged, RecordingView, IsFilled, IsTa
 use Rattle.lease_rounds.specs.Leading.{IsFreeAlone, Fills, NoneYet, Steps, Takes, GoesOn}
 use Rattle.lease_rounds.proofs.GoingOn.{IsAhead, lease_filled, own, harts_stay}
 use Rattle.page_book.specs.Tellings.{HearsMore}
-use Rattle.page_book.proofs.Tellings.{hears_on, edges_on}
+use Rattle.page_book.proofs.Tellings.{hears_on, edges_on, notes_kept}
 use Rattle.lease_rounds.specs.Running.{recording, Continues, KeepsOffered, KeepHeld}
 use Rattle.lease_rounds.proofs.Offers.{kept_on}
 use Rattle.lease_rounds.proofs.Offered.{same_offered, filled_offered, settled_offered}
@@ -144,6 +144,9 @@ module _ (keep : Keep) (hart : ℕ) (b d : BookView RecordingView) (on : GoesOn 
   pub limits : d.mode.limits ≡ b.mode.limits
   limits = on.leads.back.mode.limits ∙ ap (λ (m : RecordingView). m.limits) mode_is
 
+  pub notes : d.mode.notes ≡ b.mode.notes
+  notes = on.leads.back.mode.notes ∙ ap (λ (m : RecordingView). m.notes) mode_is
+
   -- its inputs were those due to its hart
   is_due : on.leads.lease.inputs ≡ (due_at on.leads.filled.mode.due on.leads.lease.hart).inputs
   is_due =
@@ -182,6 +185,7 @@ module _ (keep : Keep) (hart : ℕ) (b d : BookView RecordingView) (on : GoesOn 
         edges =
             edges_on (counts_of b.machine) k b.mode.edges d.mode.edges counted
             (subst (λ (m : RecordingView). AreLogged m.edges k.edges d.mode.edges) mode_is on.leads.back.mode.edges) on.leads.back.mode.unsettled;
+        notes = notes_kept b d notes;
       }
 
 -- where it keeps all rights, each page that was held is held

@@ -28,31 +28,31 @@ use Rattle.book_modes.specs.Dues.{DueView, nothing_due, due_at, due_from, is_sil
 use Rattle.book_modes.specs.Recordings.{RecordingView, IsFilled, LogsInputs, offers_at, right_at, right_stored}
 use Rattle.page_book.specs.Books.{BookView}
 use Rattle.page_book.specs.Tellings.{TellsOn}
-use Rattle.page_book.proofs.Tellings.{tells_the_same}
+use Rattle.page_book.proofs.Tellings.{notes_kept, tells_the_same}
 use Rattle.lease_rounds.specs.Leading.{IsIdle, IsHeld, GoesOn, GivesUp, Goes, HasNotGone}
 use Rattle.lease_rounds.proofs.Filling.{HasFilled, has_filled}
 use Rattle.lease_rounds.proofs.Lending.{hart_at}
 use Rattle.lease_rounds.proofs.GoingOn.{HasGoneOn, count_is, from, stop, went_far, has_gone_on, lease_filled, own, harts_stay}
 use Rattle.lease_rounds.specs.Running.{KeepsOffered, offers, recording}
-use Rattle.lease_rounds.proofs.Leasing.{KeepsRest, ahead, continues, filled_keeps, keeps_rest, offered}
+use Rattle.lease_rounds.proofs.Leasing.{KeepsRest, ahead, continues, filled_keeps, keeps_rest, notes, offered}
 use Rattle.lease_rounds.proofs.Offered.{filled_offered, offered_itself}
 use Rattle.lease_rounds.specs.Steps.{AreWithin, inputs_next, IsGiven, HasStepped, HoldsNothing, IsUnmoved, Runs}
 
 -- ---- a book that has not moved
 
 pub unmoved_itself : (b : BookView RecordingView) → IsUnmoved b b
-unmoved_itself b = record { book = refl; edges = refl; inputs = refl; limits = refl; offered = offered_itself b }
+unmoved_itself b = record { book = refl; edges = refl; inputs = refl; notes = refl; limits = refl; offered = offered_itself b }
 
 -- it tells on from itself
 pub tells_itself : (b : BookView RecordingView) → TellsOn b b
-tells_itself b = tells_the_same b b refl refl refl
+tells_itself b = tells_the_same b b refl refl refl (notes_kept b b refl)
 
 module _ (b c : BookView RecordingView) (same : IsUnmoved b c) where
   pub machine_stays : c.machine ≡ b.machine
   machine_stays = ap (λ (x : BookView RecordingView). x.machine) same.book
 
   pub unmoved_tells : TellsOn b c
-  unmoved_tells = tells_the_same b c machine_stays same.inputs same.edges
+  unmoved_tells = tells_the_same b c machine_stays same.inputs same.edges (notes_kept b c same.notes)
 
 but_for_mode : (b c : BookView RecordingView) → c.start ≡ b.start → c.machine ≡ b.machine → c.journal ≡ b.journal → c.leases ≡ b.leases →
     c ≡ record b { mode = c.mode }
@@ -110,6 +110,10 @@ module _ (hart : ℕ) (b d : BookView RecordingView) (up : GivesUp recording har
             ap (λ (m : RecordingView). m.inputs) up.leaves.ends.mode.rest
             ∙ ap (λ (m : RecordingView). m.inputs) rest.mode
             ∙ ap (λ (m : RecordingView). m.inputs) opened;
+        notes =
+            ap (λ (m : RecordingView). m.notes) up.leaves.ends.mode.rest
+            ∙ ap (λ (m : RecordingView). m.notes) rest.mode
+            ∙ ap (λ (m : RecordingView). m.notes) opened;
         limits =
             ap (λ (m : RecordingView). m.limits) up.leaves.ends.mode.rest
             ∙ ap (λ (m : RecordingView). m.limits) rest.mode
@@ -258,8 +262,9 @@ module _ (hart : ℕ) (b : BookView RecordingView) (once : List ℕ) (d : BookVi
         record {
           idle = on.idle;
           journal = journal;
-          continues = record { start = p.start; harts = p.harts; journal = p.journal; inputs = p.inputs; edges = p.edges };
-          tells = record { counts = λ other. (counts_go other).0; inputs = p.inputs; edges = p.edges };
+          continues = record { start = p.start; harts = p.harts; journal = p.journal; inputs = p.inputs; edges = p.edges; notes = p.notes };
+          tells = record { counts = λ other. (counts_go other).0; inputs = p.inputs; edges = p.edges; notes = p.notes };
+          notes = notes told.Nothing hart low d on;
           limits = same;
           given = record { own = is_given.own; others = is_given.others };
           offered = offered told.Nothing hart low d on (λ other. (counts_go other).0);
@@ -280,6 +285,7 @@ module _ (hart : ℕ) (b : BookView RecordingView) (once : List ℕ) (d : BookVi
             (ap (λ (x : BookView RecordingView). x.journal) un.book) (ap (λ (x : BookView RecordingView). x.leases) un.book);
         edges = un.edges;
         inputs = un.inputs;
+        notes = un.notes;
         limits = same;
         offered = un.offered;
       }

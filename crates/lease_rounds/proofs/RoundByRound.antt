@@ -5,6 +5,8 @@ use Rattle.std.proofs.lemmas.Grind.{common_steps}
 use Rattle.rv32_hart.specs.Hart.{Hart}
 use Rattle.ft_types.specs.Counts.{count_at}
 use Rattle.input_log.specs.Inputs.{inputs_of}
+use Rattle.input_log.specs.Notes.{notes_of}
+use Rattle.input_log.proofs.Notings.{notes_more_on}
 use Rattle.book_modes.specs.declared.keep.Keep.TheVariants as told
 use Rattle.hart_lease.specs.declared.stretch.Stretch.{Stretch}
 use Rattle.hart_lease.specs.Runs.{counts_of, steps_taken}
@@ -13,7 +15,7 @@ use Rattle.book_modes.specs.Recordings.{RecordingView}
 use Rattle.lease_rounds.specs.Leading.{IsHeld, GoesOn, Rounds}
 use Rattle.lease_rounds.proofs.GoingOn.{HasGoneOn, AsFar, has_gone_on, has_fewer, round_far, steps_left}
 use Rattle.page_book.proofs.Later.{adds_nothing, adds_on}
-use Rattle.page_book.proofs.Tellings.{hears_nothing, hears_more}
+use Rattle.page_book.proofs.Tellings.{hears_nothing, hears_more, notes_kept}
 use Rattle.lease_rounds.specs.Running.{IsIdle, AreThrough, IsThrough, Continues, GoWithin, recording, NoRound, OneMore, KeepsOffered, KeepHeld}
 use Rattle.lease_rounds.specs.SoFar.{HasRun, IsSoFar}
 use Rattle.lease_rounds.proofs.Leasing.{ahead, limits, continues, offered, keep_held}
@@ -28,6 +30,7 @@ continues_none b = record {
   journal = ([], sym (append-nil b.journal));
   inputs = λ hart. hears_nothing (inputs_of b.mode.inputs hart) (counts_of b.machine hart) (inputs_of b.mode.inputs hart) refl;
   edges = adds_nothing b.mode.edges (counts_of b.machine) b.mode.edges refl;
+  notes = notes_kept b b refl;
 }
 
 pub continues_on : (b c d : BookView RecordingView) → ((hart : ℕ) → counts_of b.machine hart ≤ counts_of c.machine hart) → Continues b c → Continues c d → Continues b d
@@ -44,6 +47,9 @@ continues_on b c d counts p q =
           (inputs_of d.mode.inputs hart) (counts hart) (p.inputs hart) (q.inputs hart);
       edges =
           adds_on b.mode.edges (counts_of b.machine) c.mode.edges (counts_of c.machine) d.mode.edges counts p.edges q.edges;
+      notes = λ hart.
+          notes_more_on (notes_of b.mode.notes hart) (notes_of c.mode.notes hart) (notes_of d.mode.notes hart) (counts_of b.machine hart)
+          (counts_of c.machine hart) (counts hart) (p.notes hart) (q.notes hart);
     }
 
 within_none : (b : BookView RecordingView) → GoWithin b b

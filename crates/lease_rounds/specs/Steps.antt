@@ -42,6 +42,7 @@ pub record HasStepped (hart : ℕ) (b c : BookView RecordingView) : Type 0 where
   pub journal : c.journal ≡ added b.journal hart 1
   pub continues : Continues b c
   pub tells : TellsOn b c
+  pub notes : c.mode.notes ≡ b.mode.notes
   pub limits : c.mode.limits ≡ b.mode.limits
   pub given : IsGiven hart b c
   pub offered : KeepsOffered b c
@@ -55,6 +56,7 @@ pub record IsUnmoved (b c : BookView RecordingView) : Type 0 where
   pub book : c ≡ record b { mode = c.mode }
   pub edges : c.mode.edges ≡ b.mode.edges
   pub inputs : c.mode.inputs ≡ b.mode.inputs
+  pub notes : c.mode.notes ≡ b.mode.notes
   pub limits : c.mode.limits ≡ b.mode.limits
   pub offered : KeepsOffered b c
 

@@ -10,7 +10,7 @@ use Rattle.input_log.proofs.Told.{inputs_told}
 use Rattle.edge_log.specs.declared.Edge.{Edge as OwnedEdge}
 use Rattle.fragment_codec.specs.declared.types.Key.{Key}
 use Rattle.fragment_codec.specs.declared.types.Record.{Record}
-use Rattle.fragment_codec.specs.declared.types.Record.TheVariants.{Edge as EdgeRecord, Input as InputRecord}
+use Rattle.fragment_codec.specs.declared.types.Record.TheVariants.{Edge as EdgeRecord, Input as InputRecord, Note as NoteRecord}
 use Rattle.fragment_codec.specs.Rules.{FragmentParts, OpeningParts}
 use Rattle.frame_content.specs.Tests.{same_guest, same_key, same_edge, same_record, same_opening, same_fragment}
 
@@ -35,7 +35,13 @@ edges_told a b =
 records_told : (a b : Record) → Decides (same_record a b) (a ≡ b)
 records_told (EdgeRecord a) (EdgeRecord b) = Decides-like (same_edge a b) (λ e. ap EdgeRecord e) (λ e. cc e) (edges_told a b)
 records_told (EdgeRecord a) (InputRecord n b) = (λ e. absurd (cc e), λ e. absurd (cc e))
+records_told (EdgeRecord a) (NoteRecord n b) = (λ e. absurd (cc e), λ e. absurd (cc e))
 records_told (InputRecord m a) (EdgeRecord b) = (λ e. absurd (cc e), λ e. absurd (cc e))
+records_told (InputRecord m a) (NoteRecord n b) = (λ e. absurd (cc e), λ e. absurd (cc e))
+records_told (NoteRecord m a) (EdgeRecord b) = (λ e. absurd (cc e), λ e. absurd (cc e))
+records_told (NoteRecord m a) (InputRecord n b) = (λ e. absurd (cc e), λ e. absurd (cc e))
+records_told (NoteRecord m a) (NoteRecord n b) =
+    Decides-like ((m == n) && (a == b)) (λ p i. NoteRecord (p.0 i) (p.1 i)) (λ e. (cc e, cc e)) (Decides-and _ _ (Decides-eqb m n) (Decides-eqb a b))
 records_told (InputRecord m a) (InputRecord n b) =
     Decides-like ((m == n) && same_input a b) (λ p i. InputRecord (p.0 i) (p.1 i)) (λ e. (cc e, cc e)) (Decides-and _ _ (Decides-eqb m n) (inputs_told a b))
 

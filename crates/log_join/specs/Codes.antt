@@ -8,7 +8,7 @@ use Rattle.input_log.specs.declared.Input.TheVariants.{Timer, Word, Bell}
 use Rattle.edge_log.specs.declared.Edge.{Edge as OwnedEdge}
 use Rattle.fragment_codec.specs.declared.types.Key.{Key}
 use Rattle.fragment_codec.specs.declared.types.Record.{Record}
-use Rattle.fragment_codec.specs.declared.types.Record.TheVariants.{Edge as EdgeRecord, Input as InputRecord}
+use Rattle.fragment_codec.specs.declared.types.Record.TheVariants.{Edge as EdgeRecord, Input as InputRecord, Note as NoteRecord}
 use Rattle.fragment_codec.specs.Rules.{FragmentParts, OpeningParts}
 
 abbrev pub coded_guest : Coded GuestParts
@@ -46,20 +46,25 @@ input_back (Bell hart) = refl
 abbrev pub coded_input : Coded HartInput
 coded_input = code_by (Option (ℕ ⊎ ℕ)) (coded_option (coded⊎ coded_ℕ coded_ℕ)) input_out input_in input_back
 
-abbrev pub record_out : Record → OwnedEdge ⊎ (ℕ × HartInput)
+abbrev pub record_out : Record → OwnedEdge ⊎ ((ℕ × HartInput) ⊎ (ℕ × ℕ))
 record_out (EdgeRecord edge) = inl edge
-record_out (InputRecord at input) = inr (at, input)
+record_out (InputRecord at input) = inr (inl (at, input))
+record_out (NoteRecord at number) = inr (inr (at, number))
 
-abbrev pub record_in : OwnedEdge ⊎ (ℕ × HartInput) → Record
+abbrev pub record_in : OwnedEdge ⊎ ((ℕ × HartInput) ⊎ (ℕ × ℕ)) → Record
 record_in (inl edge) = EdgeRecord edge
-record_in (inr p) = InputRecord p.0 p.1
+record_in (inr (inl p)) = InputRecord p.0 p.1
+record_in (inr (inr p)) = NoteRecord p.0 p.1
 
 pub record_back : (r : Record) → record_in (record_out r) ≡ r
 record_back (EdgeRecord edge) = refl
 record_back (InputRecord at input) = refl
+record_back (NoteRecord at number) = refl
 
 abbrev pub coded_record : Coded Record
-coded_record = code_by (OwnedEdge ⊎ (ℕ × HartInput)) (coded⊎ coded_edge (coded× coded_ℕ coded_input)) record_out record_in record_back
+coded_record =
+    code_by (OwnedEdge ⊎ ((ℕ × HartInput) ⊎ (ℕ × ℕ))) (coded⊎ coded_edge (coded⊎ (coded× coded_ℕ coded_input) (coded× coded_ℕ coded_ℕ))) record_out record_in
+    record_back
 
 abbrev pub coded_opening : Coded OpeningParts
 coded_opening =

@@ -3,6 +3,7 @@ pub mod Filters
 pub mod Records
 pub mod Columns
 pub mod Merging
+pub mod Noting
 pub mod Between
 pub mod Chunks
 pub mod Harts

@@ -6,7 +6,7 @@ use Rattle.input_log.specs.declared.Input.{Input as HartInput}
 use Rattle.ft_types.specs.declared.names.TheConstants.{COUNT_LIMIT, HART_ROW, INPUT_LIMIT}
 use Rattle.fragment_codec.specs.declared.types.TheConstants.{RECORD_LIMIT, SPAN_LIMIT}
 use Rattle.fragment_codec.specs.declared.types.Record.{Record}
-use Rattle.fragment_codec.specs.declared.types.Record.TheVariants.{Edge as EdgeRecord, Input as InputRecord}
+use Rattle.fragment_codec.specs.declared.types.Record.TheVariants.{Edge as EdgeRecord, Input as InputRecord, Note as NoteRecord}
 use Rattle.fragment_codec.specs.declared.frame.Frame.{Frame}
 use Rattle.fragment_codec.specs.declared.frame.Frame.TheVariants.{Log}
 use Rattle.ft_types.specs.Guests.{IsGuest}
@@ -67,3 +67,4 @@ abbrev pub IsFirst : List OwnedEdge → List ℕ → List HartInput → Record �
 IsFirst edges counts inputs (EdgeRecord edge) = (edges ≡ edge ∷ drop 1 edges) × All (λ count. edge.at ≤ count) (take 1 counts)
 IsFirst edges counts inputs (InputRecord at input) =
     (counts ≡ at ∷ drop 1 counts) × (inputs ≡ input ∷ drop 1 inputs) × All (λ edge. at < edge.at) (take 1 edges)
+IsFirst edges counts inputs (NoteRecord at number) = ⊥

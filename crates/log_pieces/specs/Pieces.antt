@@ -6,6 +6,7 @@ use Rattle.ft_types.specs.Guests.{GuestParts}
 use Rattle.edge_log.specs.EdgeLog.{Edges, row_of}
 use Rattle.input_log.specs.declared.Input.{Input as HartInput}
 use Rattle.input_log.specs.Inputs.{inputs_of}
+use Rattle.input_log.specs.Notes.{NotesOfOne, notes_of}
 use Rattle.page_book.specs.Books.{BookView}
 use Rattle.page_book.specs.Words.{counts_of, RecordingView}
 use Rattle.fragment_codec.specs.declared.types.TheConstants.{RECORD_LIMIT, SPAN_LIMIT}
@@ -71,14 +72,14 @@ abbrev pub mark_of : SealedView → ℕ → Mark
 mark_of seals hart = record { place = slice_index seals.places hart; count = count_at seals.reached hart }
 
 -- the log of a hart, out of those of all harts
-abbrev pub hart_log : GuestParts → ℕ → Edges → List (List (ℕ × HartInput)) → List ℕ → ℕ → HartLog
-hart_log guest term edges inputs settled hart =
+abbrev pub hart_log : GuestParts → ℕ → Edges → List (List (ℕ × HartInput)) → List NotesOfOne → List ℕ → ℕ → HartLog
+hart_log guest term edges inputs notes settled hart =
     record {
       guest = guest;
       term = term;
       hart = hart;
       settled = count_at settled hart;
-      facts = record { edges = row_of edges hart; inputs = inputs_of inputs hart };
+      facts = record { edges = row_of edges hart; inputs = inputs_of inputs hart; notes = notes_of notes hart };
     }
 
 -- the log of a hart of a recording book
@@ -89,7 +90,7 @@ book_log guest term book hart =
       term = term;
       hart = hart;
       settled = counts_of book.machine hart;
-      facts = record { edges = row_of book.mode.edges hart; inputs = inputs_of book.mode.inputs hart };
+      facts = record { edges = row_of book.mode.edges hart; inputs = inputs_of book.mode.inputs hart; notes = notes_of book.mode.notes hart };
     }
 
 -- each edge of the log is one that a fragment of a guest with so many harts can tell

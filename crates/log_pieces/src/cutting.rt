@@ -12,7 +12,7 @@ use crate::sealed::Sealed;
 use edge_log::EdgeLog;
 use fragment_codec::{Fragment, Frame, Key, RECORD_LIMIT, Record, SPAN_LIMIT};
 use ft_types::{COUNT_LIMIT, Count, Counts, Guest, Hart, Memory, Term};
-use input_log::InputLog;
+use input_log::{InputLog, NoteLog};
 use page_book::{Book, Recording};
 use std::alloc::Global;
 
@@ -114,6 +114,7 @@ pub fn cut_logs(
     alloc: Global,
     edges: &EdgeLog,
     inputs: &InputLog,
+    notes: &NoteLog,
     settled: &Counts,
     guest: &Guest,
     term: Term,
@@ -125,7 +126,7 @@ pub fn cut_logs(
     requires within { IsWithin sealed.old.reached settled.now }
     requires edges { AreEdgesOf guest.now.harts edges.now }
     requires inputs { AreInputsOf guest.now.harts inputs.now }
-    ensures cut { IfOk result (λ frames. IsCut (hart_log guest.now term edges.now inputs.now settled.now) guest.now.harts sealed.old frames.items sealed.new) }
+    ensures cut { IfOk result (λ frames. IsCut (hart_log guest.now term edges.now inputs.now notes.now settled.now) guest.now.harts sealed.old frames.items sealed.new) }
     ensures kept { OnErr result (sealed.new ≡ sealed.old) }
 {
     let mut frames = Vec::new(alloc);
@@ -139,7 +140,7 @@ pub fn cut_logs(
             settled: settled.get(hart),
         };
         let from = next.reached(hart);
-        let records = records_between(alloc, edges, inputs, hart, from, origin.settled)?;
+        let records = records_between(alloc, edges, inputs, notes, hart, from, origin.settled)?;
         cut_hart(alloc, &origin, &records, &mut next, &mut frames)?;
     }
     *sealed = next;
@@ -167,6 +168,7 @@ pub fn cut_pieces(
         alloc,
         book.edges(),
         book.inputs(),
+        book.notes(),
         &settled,
         guest,
         term,

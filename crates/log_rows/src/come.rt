@@ -19,6 +19,8 @@ pub enum Fact {
     Word(Count, u32),
     /// A bell at a count from a hart.
     Bell(Count, u8),
+    /// At a count, outputs below a number were released.
+    Note(Count, u64),
 }
 
 /// A frame that comes to a store.
@@ -44,6 +46,7 @@ pub fn records_of(alloc: Global, number: u8, facts: &[Fact]) -> Result<Vec<Recor
             Fact::Timer(at) => Record::Input(at, Input::Timer),
             Fact::Word(at, word) => Record::Input(at, Input::Word(word)),
             Fact::Bell(at, source) => Record::Input(at, Input::Bell(hart(source))),
+            Fact::Note(at, number) => Record::Note(at, number),
         };
         records.push(record)?;
     }

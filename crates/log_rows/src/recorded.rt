@@ -6,7 +6,7 @@ use edge_log::EdgeLog;
 use fixtures::{Crew, hart, image_of, recorder};
 use fragment_codec::Frame;
 use ft_types::{Count, Counts, Guest, Memory};
-use input_log::InputLog;
+use input_log::{InputLog, NoteLog};
 use log_pieces::{Sealed, cut_logs, cut_pieces};
 use page_book::{Book, Keep, Recording};
 use std::alloc::Global;
@@ -92,10 +92,29 @@ fn plain_pieces(alloc: Global, settled: Count) -> Result<Vec<Frame>, Fail> {
     let (zero, guest) = (Counts::zero(1), one_hart());
     let settled = Counts::from_slice(&[settled]).ok_or("a count")?;
     let (edges, inputs) = (EdgeLog::new(alloc, zero), InputLog::new(alloc));
+    let notes = NoteLog::new(alloc);
     let mut sealed = Sealed::new(zero);
-    match cut_logs(alloc, &edges, &inputs, &settled, &guest, 1, &mut sealed) {
+    match cut_logs(
+        alloc,
+        &edges,
+        &inputs,
+        &notes,
+        &settled,
+        &guest,
+        1,
+        &mut sealed,
+    ) {
         Ok(frames) => Ok(frames),
-        Err(Memory) => Ok(cut_logs(alloc, &edges, &inputs, &settled, &guest, 1, &mut sealed)?),
+        Err(Memory) => Ok(cut_logs(
+            alloc,
+            &edges,
+            &inputs,
+            &notes,
+            &settled,
+            &guest,
+            1,
+            &mut sealed,
+        )?),
     }
 }
 

@@ -245,6 +245,47 @@ fn plans(rt: HostRuntime) -> Result<(), Fail> {
     Ok(())
 }
 
+/// How many harts a store has, what comes to it, and what its plan knows to be out: of each hart below which number. In the second one a
+/// note stands at the count that the second term begins with, and in the third one behind a piece that is missing.
+static NOTES: [(u8, &[Come], &[Count]); 3] = [
+    (
+        1,
+        &[
+            Come::Opening(1, 0, &[0]),
+            Come::Piece(1, 0, 0, 0, 5, &[Fact::Note(2, 1), Fact::Note(4, 3)]),
+        ],
+        &[3],
+    ),
+    (
+        2,
+        &[
+            Come::Opening(2, 1, &[3, 4]),
+            Come::Opening(1, 0, &[0, 0]),
+            Come::Piece(1, 0, 0, 0, 5, &[Fact::Note(2, 1), Fact::Note(3, 2)]),
+            Come::Piece(1, 1, 0, 0, 4, &[Fact::Note(3, 3)]),
+            Come::Piece(2, 1, 0, 4, 6, &[Fact::Note(5, 1)]),
+        ],
+        &[1, 3],
+    ),
+    (
+        1,
+        &[
+            Come::Opening(1, 0, &[0]),
+            Come::Piece(1, 0, 1, 5, 9, &[Fact::Note(6, 2)]),
+        ],
+        &[0],
+    ),
+];
+
+#[test]
+fn marks_of_plans(rt: HostRuntime) -> Result<(), Fail> {
+    for (harts, frames, marks) in NOTES {
+        let plan = plan_of(rt.alloc(), &store_of(rt.alloc(), guest_of(harts), frames)?)?;
+        assert_eq!(rt; plan.marks().as_slice(), marks);
+    }
+    Ok(())
+}
+
 /// The count of the first hart, or 0 where there is none.
 fn first_count(machine: &Machine) -> Count {
     if machine.harts() == 0 {

@@ -7,9 +7,9 @@ use mathlib.Core.Logic.{dite}
 use native.Mathlib.Decide.{dec_lt}
 use Rattle.ft_types.specs.declared.output.Output.{Output}
 use Rattle.ft_types.specs.declared.names.TheConstants.{HART_LIMIT, HART_ROW}
-use Rattle.output_gate.specs.Gates.{LineView, GateView, line_of, waiting_of, holder_count, is_held, is_not_held, after_release, held_outputs}
+use Rattle.output_gate.specs.Gates.{LineView, GateView, fresh_line, offered_in, line_of, waiting_of, holder_count, is_held, is_not_held, after_release, held_outputs}
 use Rattle.output_gate.specs.Orders.{IsLineOf, IsBefore, RiseByHart, AreLaterThan, AreEarlier}
-use Rattle.output_gate.proofs.Alls.{all_so, all_join, all_back, all_filter, kept_pass}
+use Rattle.output_gate.proofs.Alls.{all_so, all_both, all_join, all_back, all_filter, kept_pass}
 use Rattle.output_gate.proofs.Fronts.{holder_count-earlier}
 use Rattle.output_gate.proofs.Insides.{all_held}
 
@@ -57,7 +57,7 @@ rise_join [] ys a b before = b
 rise_join (x ∷ xs) ys a b before = (all_join (IsBefore x) xs ys a.0 before.0, rise_join xs ys a.1 b before.1)
 
 abbrev no_line : LineView
-no_line = record { gone = []; waiting = [] }
+no_line = fresh_line 0
 
 -- the lines are those of the harts from n on
 abbrev AreLinesFrom : ℕ → List LineView → Type 0
@@ -75,7 +75,12 @@ lines_from n (line ∷ lines) each = (
 -- what is held of a line is of its hart
 its_hart : (p : Output → Bool) (n : ℕ) (line : LineView) → IsLineOf n line → AllByRecursion (λ o. o.hart ≡ n) (filter p line.waiting)
 its_hart p n line is = all_filter (λ o. o.hart ≡ n) p line.waiting (all_back (λ o. o.hart ≡ n) line.gone line.waiting
-    (all_so (λ o. (o.hart ≡ n) × (o.number < length (line.gone ++ line.waiting))) (λ o. o.hart ≡ n) (λ o h. h.0) (line.gone ++ line.waiting) is.of_hart))
+    (all_back (λ o. o.hart ≡ n) line.passed (line.gone ++ line.waiting)
+    (all_so (λ o. (o.hart ≡ n) × (o.number < length (offered_in line))) (λ o. o.hart ≡ n) (λ o h. h.0) (offered_in line) is.of_hart)))
+
+-- and not below its mark
+its_mark : (p : Output → Bool) (n : ℕ) (line : LineView) → IsLineOf n line → AllByRecursion (λ o. line.mark ≤ o.number) (filter p line.waiting)
+its_mark p n line is = all_filter (λ o. line.mark ≤ o.number) p line.waiting (all_back (λ o. line.mark ≤ o.number) line.gone line.waiting is.others)
 
 harts_from : (need : ℕ) (noted : List (List ℕ)) (n : ℕ) (lines : List LineView) → AreLinesFrom n lines → AllByRecursion (λ o. n ≤ o.hart)
     (held_outputs need noted lines)
@@ -102,3 +107,28 @@ pub given_rises : (need : ℕ) (noted : List (List ℕ)) (lines : List LineView)
 given_rises need noted lines given many each is = subst RiseByHart (sym is)
     (held_rise need noted 0 lines (lines_from 0 lines (λ i below. subst (λ (h : ℕ). IsLineOf h (slice_index_or lines i no_line))
     (let e : i ≡ 0 + i = omega arith in e) (each i no_line (omega arith)))))
+
+-- what is given of these lines is not below their marks
+above_from : (need : ℕ) (noted : List (List ℕ)) (marks : ℕ → ℕ) (n : ℕ) (lines : List LineView) → AreLinesFrom n lines →
+    ((i : ℕ) → i < length lines → (slice_index_or lines i no_line).mark ≡ marks (n + i)) →
+    AllByRecursion (λ o. marks o.hart ≤ o.number) (held_outputs need noted lines)
+above_from need noted marks n [] each are = tt
+above_from need noted marks n (line ∷ lines) each are =
+    let p : Output → Bool = is_held need noted in
+    let mark : line.mark ≡ marks n = are 0 (omega arith) ∙ ap marks (let e : n + 0 ≡ n = omega arith in e) in
+    all_join (λ o. marks o.hart ≤ o.number) (filter p line.waiting) (held_outputs need noted lines)
+    (all_so (λ o. (o.hart ≡ n) × (line.mark ≤ o.number)) (λ o. marks o.hart ≤ o.number)
+    (λ o h. subst (λ (m : ℕ). m ≤ o.number) (mark ∙ ap marks (sym h.0)) h.1) (filter p line.waiting)
+    (all_both (λ o. o.hart ≡ n) (λ o. line.mark ≤ o.number) (filter p line.waiting) (its_hart p n line each.0) (its_mark p n line each.0)))
+    (above_from need noted marks (suc n) lines each.1
+    (λ i below. are (suc i) (omega (arith, below)) ∙ ap marks (let e : n + suc i ≡ suc n + i = omega arith in e)))
+
+pub given_above : (need : ℕ) (noted : List (List ℕ)) (lines : List LineView) (given : List Output) → length lines ≡ HART_ROW →
+    ((hart : ℕ) (other : LineView) → hart < HART_LIMIT → IsLineOf hart (slice_index_or lines hart other)) → given ≡ held_outputs need noted lines →
+    AllByRecursion (λ o. (slice_index_or lines o.hart no_line).mark ≤ o.number) given
+given_above need noted lines given many each is =
+    subst (AllByRecursion (λ o. (slice_index_or lines o.hart no_line).mark ≤ o.number)) (sym is)
+    (above_from need noted (λ hart. (slice_index_or lines hart no_line).mark) 0 lines
+    (lines_from 0 lines (λ i below. subst (λ (h : ℕ). IsLineOf h (slice_index_or lines i no_line))
+    (let e : i ≡ 0 + i = omega arith in e) (each i no_line (omega arith))))
+    (λ i below. ap (λ (h : ℕ). (slice_index_or lines h no_line).mark) (let e : i ≡ 0 + i = omega arith in e)))

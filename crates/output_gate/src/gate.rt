@@ -4,16 +4,18 @@ ghost use Rattle.std.specs.Prelude.{◌≡◌, ◌≢◌, ◌↔◌, ◌⊎◌, 
 ghost use Rattle.std.specs.Prelude.{OnOk, OnErr};
 ghost use Rattle.std.specs.List.{AllByRecursion};
 ghost use Rattle.std.specs.List.Sorted.{IsPermutation};
-ghost use Rattle.ft_types.specs.Counts.{count_at};
 ghost use Rattle.ft_types.specs.declared.names.TheConstants.{HART_LIMIT, KEEPER_LIMIT};
+ghost use Rattle.ft_types.specs.Counts.{count_at};
 ghost use Rattle.ft_types.specs.Sets.{IsMember};
-ghost use Rattle.output_gate.specs.Gates.{LineView, noted_at, line_of, gone_of, waiting_of, offered_of, holder_count, after_release, held_outputs};
-ghost use Rattle.output_gate.specs.Gates.{is_held, waiting_count};
-ghost use Rattle.output_gate.specs.Orders.{StepsRise, RiseByHart, AreEarlier, AreBehind, IsLineOf};
+ghost use Rattle.output_gate.specs.Gates.{LineView, fresh_line, with_offer, noted_at, line_of, offered_of, holder_count, after_release, held_outputs};
+ghost use Rattle.output_gate.specs.Gates.{is_held, kept_count};
+ghost use Rattle.output_gate.specs.Orders.{StepsRise, RiseByHart, AreAbove, AreEarlier, ArePassedBelow, IsNext, IsLineOf};
 
 use crate::line::Line;
 use crate::notes::keepers_counted;
-use ft_types::{Count, HART_ROW, Hart, KEEPER_ROW, Keeper, KeeperSet, Memory, Output, Term};
+use ft_types::{
+    Count, Counts, HART_ROW, Hart, KEEPER_ROW, Keeper, KeeperSet, Memory, Output, Term,
+};
 use std::alloc::Global;
 use std::array;
 use std::marker::Model;
@@ -21,8 +23,8 @@ use std::result::Result;
 
 /// Holds outputs back until enough keepers hold their steps.
 ///
-/// Contracts see the counts that were noted of each keeper, and the outputs of each hart: those that went out, and those
-/// that wait.
+/// Contracts see the counts that were noted of each keeper, and the outputs of each hart: those that are passed over, since they are
+/// known to be out, those that went out, and those that wait.
 pub struct Gate {
     term: Term,
     keepers: u8,
@@ -54,9 +56,9 @@ impl Model for Gate {
     ghost invariant = { λ g. IsGate g.keepers g.need g.noted g.lines };
 }
 
-/// How many outputs wait.
+/// How many outputs were offered and have not gone out.
 fn kept_in(lines: &[Line; HART_ROW]) -> usize
-    ensures { result ≡ waiting_count lines.now }
+    ensures { result ≡ kept_count lines.now }
 {
     let mut kept = 0usize;
     for hart in 0..HART_ROW {
@@ -103,11 +105,10 @@ fn advance_all(
 
 /// Puts an output behind the others of its hart.
 fn offer_in(lines: &mut [Line; HART_ROW], output: Output) -> Result<(), Memory>
-    requires { output.hart < HART_LIMIT → (other : LineView) → AreBehind output (slice_index_or lines.old output.hart other).waiting }
+    requires { output.hart < HART_LIMIT → (other : LineView) → IsNext output (slice_index_or lines.old output.hart other) }
     ensures hart { output.hart < HART_LIMIT }
     ensures harts { length lines.new ≡ HART_ROW }
-    ensures line { OnOk result ((other : LineView) → slice_index_or lines.new output.hart other
-        ≡ record { gone = (slice_index_or lines.old output.hart other).gone; waiting = (slice_index_or lines.old output.hart other).waiting ++ output ∷ [] }) }
+    ensures line { OnOk result ((other : LineView) → slice_index_or lines.new output.hart other ≡ with_offer (slice_index_or lines.old output.hart other) output) }
     ensures others { (hart : ℕ) (other : LineView) → hart ≢ output.hart → slice_index_or lines.new hart other ≡ slice_index_or lines.old hart other }
     ensures err { OnErr result (lines.new ≡ lines.old) }
 {
@@ -115,9 +116,22 @@ fn offer_in(lines: &mut [Line; HART_ROW], output: Output) -> Result<(), Memory>
 }
 
 fn no_lines(alloc: Global) -> [Line; HART_ROW]
-    ensures { result ≡ replicate HART_ROW (record { gone = []; waiting = [] }) }
+    ensures { result ≡ replicate HART_ROW (fresh_line 0) }
 {
-    array::from_fn(|_| Line::new(alloc))
+    array::from_fn(|_| Line::new(alloc, 0))
+}
+
+/// A line of each hart, with its mark.
+fn lines_after(alloc: Global, marks: &Counts) -> [Line; HART_ROW]
+    ensures harts { length result ≡ HART_ROW }
+    ensures each { (hart : ℕ) → slice_index_or result hart (fresh_line 0) ≡ fresh_line (count_at marks.now hart) }
+{
+    let mut lines = no_lines(alloc);
+    for number in 0..marks.harts() {
+        let hart = Hart::new(number);
+        lines[hart.index()] = Line::new(alloc, marks.get(hart));
+    }
+    lines
 }
 
 /// Of each keeper, a count of 0 for each hart.
@@ -135,14 +149,25 @@ impl Gate {
         requires { (0 < need) × (need ≤ keepers) × (keepers ≤ KEEPER_LIMIT) }
         ensures parts { (result.term ≡ term) × (result.keepers ≡ keepers) × (result.need ≡ need) }
         ensures noted { (keeper hart : ℕ) → noted_at result keeper hart ≡ 0 }
-        ensures lines { (hart : ℕ) → line_of result hart ≡ record { gone = []; waiting = [] } }
+        ensures lines { (hart : ℕ) → line_of result hart ≡ fresh_line 0 }
+    {
+        Gate::new_after(alloc, term, keepers, need, &Counts::zero(0))
+    }
+
+    /// The same, where each hart's outputs with numbers below its mark are known to be out: they are to be offered as the others are,
+    /// and are never released. Without a mark none is.
+    pub fn new_after(alloc: Global, term: Term, keepers: u8, need: u8, marks: &Counts) -> Gate
+        requires { (0 < need) × (need ≤ keepers) × (keepers ≤ KEEPER_LIMIT) }
+        ensures parts { (result.term ≡ term) × (result.keepers ≡ keepers) × (result.need ≡ need) }
+        ensures noted { (keeper hart : ℕ) → noted_at result keeper hart ≡ 0 }
+        ensures lines { (hart : ℕ) → line_of result hart ≡ fresh_line (count_at marks.now hart) }
     {
         Gate {
             term,
             keepers,
             need,
             noted: nothing_noted(),
-            lines: no_lines(alloc),
+            lines: lines_after(alloc, marks),
         }
     }
 
@@ -150,8 +175,8 @@ impl Gate {
     /// of this hart.
     pub fn offer(&mut self, output: Output) -> Result<(), Memory>
         requires number { output.number ≡ length (offered_of self.old output.hart) }
-        ensures line { OnOk result (line_of self.new output.hart
-            ≡ record { gone = gone_of self.old output.hart; waiting = waiting_of self.old output.hart ++ output ∷ [] }) }
+        ensures line { OnOk result (line_of self.new output.hart ≡ with_offer (line_of self.old output.hart) output) }
+        ensures offered { OnOk result (offered_of self.new output.hart ≡ offered_of self.old output.hart ++ output ∷ []) }
         ensures others { (hart : ℕ) → hart ≢ output.hart → line_of self.new hart ≡ line_of self.old hart }
         ensures rest { self.new ≡ record self.old { lines = self.new.lines } }
         ensures err { OnErr result (self.new ≡ self.old) }
@@ -163,6 +188,7 @@ impl Gate {
     pub fn offered(&self, hart: Hart) -> usize
         ensures number { result ≡ length (offered_of self.now hart) }
         ensures harts { length self.now.lines ≡ HART_ROW }
+        ensures passed { ArePassedBelow self.now }
     {
         self.lines[hart.index()].offered()
     }
@@ -181,7 +207,7 @@ impl Gate {
 
     /// The number of outputs that were offered and not released.
     pub fn kept(&self) -> usize
-        ensures { result ≡ waiting_count self.now.lines }
+        ensures { result ≡ kept_count self.now.lines }
     {
         kept_in(&self.lines)
     }
@@ -194,7 +220,7 @@ impl Gate {
         keepers_counted(&self.noted, hart, step)
     }
 
-    /// Each hart's outputs are in line: those that went out, and behind them those that wait.
+    /// Each hart's outputs are in line: those that are passed over, behind them those that went out, and behind them those that wait.
     pub(crate) fn tell_lines(&self)
         ensures harts { length self.now.lines ≡ HART_ROW }
         ensures each { (hart : ℕ) → hart < HART_LIMIT → IsLineOf hart (line_of self.now hart) }
@@ -206,6 +232,7 @@ impl Gate {
     fn release_held(&mut self, alloc: Global) -> Result<Vec<Output>, Memory>
         ensures given { IfOk result (λ given. given.items ≡ held_outputs self.old.need self.old.noted self.old.lines) }
         ensures rising { IfOk result (λ given. RiseByHart given.items) }
+        ensures above { IfOk result (λ given. AreAbove self.old given.items) }
         ensures lines { OnOk result ((hart : ℕ) → hart < HART_LIMIT → line_of self.new hart ≡ after_release self.old.need self.old.noted (line_of self.old hart)) }
         ensures same { OnOk result ((hart : ℕ) → hart < HART_LIMIT → IsPermutation (offered_of self.old hart) (offered_of self.new hart)) }
         ensures offered { OnOk result ((hart : ℕ) → hart < HART_LIMIT → StepsRise (offered_of self.old hart) →
@@ -227,7 +254,8 @@ impl Gate {
         ensures same { OnOk result ((hart : ℕ) → hart < HART_LIMIT → IsPermutation (offered_of self.old hart) (offered_of self.new hart)) }
         ensures offered { OnOk result ((hart : ℕ) → hart < HART_LIMIT → StepsRise (offered_of self.old hart) →
             offered_of self.new hart ≡ offered_of self.old hart) }
-        // What still waits has a later step than what is given of its hart.
+        // None is below its hart's mark, and what still waits has a later step than what is given of its hart.
+        ensures above { IfOk result (λ given. AreAbove self.old given.items) }
         ensures earlier { IfOk result (λ given. AreEarlier given.items self.new) }
         ensures rest { self.new ≡ record self.old { lines = self.new.lines } }
         ensures err { OnErr result (self.new ≡ self.old) }

@@ -1,9 +1,10 @@
 //! The outputs of one hart.
 
 ghost use Rattle.std.specs.Prelude.{◌≡◌, ◌+◌, ◌^◌, ◌<◌, ◌≤◌, ◌++◌, ◌∷◌, List, [], take, drop, filter, length, OnOk, OnErr, IfOk, IsTrue};
+ghost use Rattle.ft_types.specs.declared.names.TheConstants.{COUNT_LIMIT};
 ghost use Rattle.ft_types.specs.declared.output.Output.{Output as output_of_specs};
-ghost use Rattle.output_gate.specs.Gates.{is_held, is_not_held, after_release};
-ghost use Rattle.output_gate.specs.Orders.{AreInLine, AreBehind, AreUpTo};
+ghost use Rattle.output_gate.specs.Gates.{fresh_line, offered_in, with_offer, is_held, is_not_held, after_release};
+ghost use Rattle.output_gate.specs.Orders.{AreInLine, IsNext, AreUpTo};
 ghost use Rattle.output_gate.specs.Lines.{IsFront};
 
 use crate::notes::keepers_above;
@@ -12,10 +13,14 @@ use std::alloc::Global;
 use std::marker::Model;
 use std::result::Result;
 
-/// The outputs that were offered of one hart, and how many of them were released. Contracts see those that went out, and
-/// those that wait.
+/// The outputs that were offered of one hart, and how many of them were released. Contracts see those that are passed over, those that
+/// went out, and those that wait.
 #[derive(Drop)]
 pub(crate) struct Line {
+    mark: u64,
+    /// Those with numbers below the mark.
+    passed: Vec<Output>,
+    /// The others.
     offered: Vec<Output>,
     released: usize,
     /// That the steps of those that wait rise. Where it is not set, they may fall.
@@ -23,15 +28,22 @@ pub(crate) struct Line {
 }
 
 impl Model for Line {
-    ghost use Rattle.std.specs.Prelude.{◌≤◌, length, take, drop, IsTrue};
+    ghost use Rattle.std.specs.Prelude.{◌<◌, ◌≤◌, length, take, drop, IsTrue};
+    ghost use Rattle.ft_types.specs.declared.names.TheConstants.{COUNT_LIMIT};
     ghost use Rattle.output_gate.specs.Gates.{LineView};
     ghost use Rattle.output_gate.specs.Orders.{AreInLine};
 
     ghost Value = { LineView };
 
-    ghost view = { λ l. record { gone = take l.released l.offered.items; waiting = drop l.released l.offered.items } };
+    ghost view = { λ l. record {
+      mark = l.mark;
+      passed = l.passed.items;
+      gone = take l.released l.offered.items;
+      waiting = drop l.released l.offered.items;
+    } };
 
-    ghost invariant = { λ l. (l.released ≤ length l.offered.items) × (IsTrue l.rises → AreInLine (drop l.released l.offered.items)) };
+    ghost invariant = { λ l. (l.released ≤ length l.offered.items) × (IsTrue l.rises → AreInLine (drop l.released l.offered.items))
+        × (length l.passed.items ≤ l.mark) × (l.mark < COUNT_LIMIT) };
 }
 
 /// Whether enough keepers are noted above the output's step.
@@ -98,11 +110,14 @@ fn bring_held(need: u8, noted: &[[Count; HART_ROW]; KEEPER_ROW], waiting: &mut [
 }
 
 impl Line {
-    /// A line without outputs.
-    pub(crate) fn new(alloc: Global) -> Line
-        ensures { result ≡ record { gone = []; waiting = [] } }
+    /// A line without outputs, which passes over those with numbers below the mark.
+    pub(crate) fn new(alloc: Global, mark: u64) -> Line
+        requires { mark < COUNT_LIMIT }
+        ensures { result ≡ fresh_line mark }
     {
         Line {
+            mark,
+            passed: Vec::new(alloc),
             offered: Vec::new(alloc),
             released: 0,
             rises: true,
@@ -121,10 +136,14 @@ impl Line {
 
     /// Takes the next output.
     pub(crate) fn push(&mut self, output: Output) -> Result<(), Memory>
-        requires { AreBehind output self.old.waiting }
-        ensures ok { OnOk result (self.new ≡ record { gone = self.old.gone; waiting = self.old.waiting ++ output ∷ [] }) }
+        requires { IsNext output self.old }
+        ensures ok { OnOk result (self.new ≡ with_offer self.old output) }
         ensures err { OnErr result (self.new ≡ self.old) }
     {
+        if output.number < self.mark {
+            self.passed.push(output)?;
+            return Ok(());
+        }
         let rises = self.rises_to(output.step);
         self.offered.push(output)?;
         self.rises = rises;
@@ -133,18 +152,19 @@ impl Line {
 
     /// How many outputs were offered.
     pub(crate) fn offered(&self) -> usize
-        ensures { result ≡ length (self.now.gone ++ self.now.waiting) }
+        ensures { result ≡ length (offered_in self.now) }
     {
-        self.offered.len()
+        let (passed, offered) = (self.passed.as_slice(), self.offered.as_slice());
+        passed.len() + offered.len()
     }
 
-    /// How many outputs wait.
+    /// How many outputs were offered and have not gone out.
     pub(crate) fn kept(&self) -> usize
-        ensures value { result ≡ length self.now.waiting }
+        ensures value { result ≡ length self.now.passed + length self.now.waiting }
         ensures limit { result < 2 ^ 59 }
     {
-        let offered = self.offered.as_slice();
-        offered.len() - self.released
+        let (passed, offered) = (self.passed.as_slice(), self.offered.as_slice());
+        passed.len() + (offered.len() - self.released)
     }
 
     /// Adds the outputs that are held, and says how many they are. They still wait.
@@ -168,8 +188,7 @@ impl Line {
 
     /// Brings those that wait and are held before the others.
     fn bring_forward(&mut self, need: u8, noted: &[[Count; HART_ROW]; KEEPER_ROW])
-        ensures { self.new ≡ record {
-          gone = self.old.gone;
+        ensures { self.new ≡ record self.old {
           waiting = filter (is_held need noted.now) self.old.waiting ++ filter (is_not_held need noted.now) self.old.waiting;
         } }
     {

@@ -8,7 +8,7 @@ ghost use Rattle.ack_core.specs.Lists.{StartsWith};
 ghost use Rattle.ack_core.specs.Seats.{term_of, harts_of, keepers_of, heard, seen, IsGateOf};
 ghost use Rattle.output_gate.specs.Gates.{noted_at, line_of, offered_of, after_release, held_outputs};
 ghost use Rattle.output_gate.specs.Looks.{IsSeen, IsInside};
-ghost use Rattle.output_gate.specs.Orders.{StepsRise, RiseByHart, AreEarlier};
+ghost use Rattle.output_gate.specs.Orders.{StepsRise, RiseByHart, AreAbove, AreEarlier};
 
 use crate::gate::Gate;
 use ack_core::{Board, GateSeat};
@@ -73,6 +73,7 @@ impl Gate {
         ensures given { IfOk result (λ given. given.items ≡ held_outputs self.new.need self.new.noted self.old.lines) }
         ensures inside { IfOk result (λ given. AllByRecursion (IsInside board.now self.new seat.new) given.items) }
         ensures rising { IfOk result (λ given. RiseByHart given.items) }
+        ensures above { IfOk result (λ given. AreAbove self.old given.items) }
         ensures lines { OnOk result ((hart : ℕ) → hart < HART_LIMIT → line_of self.new hart ≡ after_release self.new.need self.new.noted (line_of self.old hart)) }
         ensures same { OnOk result ((hart : ℕ) → hart < HART_LIMIT → IsPermutation (offered_of self.old hart) (offered_of self.new hart)) }
         ensures offered { OnOk result ((hart : ℕ) → hart < HART_LIMIT → StepsRise (offered_of self.old hart) →

@@ -1,19 +1,22 @@
 -- What a recording book tells on.
-use Rattle.std.proofs.Common.{◌≡◌, ◌≤◌, ◌++◌, ℕ, zero, suc, List, [], All, Option, None, Some, map, sym, ap, subst, ◌∙◌, inl, inr, arith, le_trans}
+use Rattle.std.proofs.Common.{◌≡◌, ◌≤◌, ◌++◌, ℕ, zero, suc, List, [], All, Option, None, Some, map, refl, sym, ap, subst, ◌∙◌, inl, inr, arith, le_trans}
 use Rattle.std.proofs.Common.{le_of_eq, append_assoc, append-nil}
 use Rattle.std.proofs.lemmas.Bool.{cases_eq}
 use Rattle.std.proofs.lemmas.List.Elements.{All-append, All-map, All-nil, All-weaker}
 use Rattle.edge_log.specs.EdgeLog.{Edges, IsOfHart, row_of}
 use Rattle.input_log.specs.declared.Input.{Input}
 use Rattle.input_log.specs.Inputs.{inputs_of}
+use Rattle.input_log.specs.Notes.{NotesOfOne, notes_of, NotesMore}
+use Rattle.input_log.proofs.Notings.{notes_same, notes_more_on, noted_more}
 use Rattle.guest_image.specs.Machine.{MachineState}
 use Rattle.hart_lease.specs.Leases.{LeaseView, laid, whole_in, IsLentBy}
 use Rattle.hart_lease.specs.OpenLeases.{OpenView, open_at}
 use Rattle.hart_lease.specs.Runs.{StandsIn, counts_of, steps_taken}
 use Rattle.hart_lease.proofs.journals.GoingOn.{get-set_here, others_laid, stands_ours}
-use Rattle.book_modes.specs.Recordings.{AreLogged, LogsInputs, IsFrom}
+use Rattle.book_modes.specs.Recordings.{RecordingView, AreLogged, LogsInputs, IsFrom, IsNoting, HasRoomed}
 use Rattle.page_book.proofs.Later.{adds_nothing, adds_on, all_added_later}
-use Rattle.page_book.specs.Tellings.{HearsMore, AddsLater, TellsTheSame, TellsFurther, SettledTellsOn}
+use Rattle.page_book.specs.Books.{BookView}
+use Rattle.page_book.specs.Tellings.{HearsMore, AddsLater, TellsOn, OnlyNotes, TellsTheSame, TellsFurther, SettledTellsOn}
 
 -- ---- inputs
 
@@ -66,15 +69,74 @@ lent_at : (lent : Option OpenView) (m : MachineState) (l : LeaseView) → IsLent
 lent_at None m l p = absurd p
 lent_at (Some lent) m l p = ap steps_taken p.is_lent.state
 
+-- notes that are as they were
+pub notes_kept : (b c : BookView RecordingView) → c.mode.notes ≡ b.mode.notes → (hart : ℕ) →
+    NotesMore (notes_of b.mode.notes hart) (counts_of b.machine hart) (notes_of c.mode.notes hart)
+notes_kept b c notes hart =
+    subst (λ (n : List NotesOfOne). NotesMore (notes_of b.mode.notes hart) (counts_of b.machine hart) (notes_of n hart)) (sym notes)
+    (notes_same (notes_of b.mode.notes hart) (counts_of b.machine hart))
+
 pub tells_the_same : TellsTheSame
-tells_the_same b c machine inputs edges =
+tells_the_same b c machine inputs edges notes =
     record {
       counts = λ hart. le_of_eq (ap (λ (m : MachineState). counts_of m hart) (sym machine));
       inputs = λ hart.
           hears_nothing (inputs_of b.mode.inputs hart) (counts_of b.machine hart) (inputs_of c.mode.inputs hart)
           (ap (λ (x : List (List (ℕ × Input))). inputs_of x hart) inputs);
       edges = adds_nothing b.mode.edges (counts_of b.machine) c.mode.edges edges;
+      notes = notes;
     }
+
+-- ---- notes alone
+
+pub only_notes_none : (b : BookView RecordingView) → OnlyNotes b b
+only_notes_none b = record { book = refl; mode = refl; notes = λ hart. notes_same (notes_of b.mode.notes hart) (counts_of b.machine hart) }
+
+pub only_notes_on : (b c d : BookView RecordingView) → OnlyNotes b c → OnlyNotes c d → OnlyNotes b d
+only_notes_on b c d p q =
+    let machine : c.machine ≡ b.machine = ap (λ (x : BookView RecordingView). x.machine) p.book in
+    record {
+      book = q.book ∙ ap (λ (x : BookView RecordingView). let y : BookView RecordingView = record x { mode = d.mode } in y) p.book;
+      mode = q.mode ∙ ap (λ (m : RecordingView). let n : RecordingView = record m { notes = d.mode.notes } in n) p.mode;
+      notes = λ hart.
+          notes_more_on (notes_of b.mode.notes hart) (notes_of c.mode.notes hart) (notes_of d.mode.notes hart) (counts_of b.machine hart)
+          (counts_of c.machine hart) (le_of_eq (ap (λ (m : MachineState). counts_of m hart) (sym machine))) (p.notes hart) (q.notes hart);
+    }
+
+-- one note more, at its hart's count
+pub only_one_noted : (b c : BookView RecordingView) (hart number : ℕ) → IsNoting b.mode hart (counts_of b.machine hart) number c.mode →
+    c ≡ record b { mode = c.mode } → OnlyNotes b c
+only_one_noted b c hart number is book =
+    record {
+      book = book;
+      mode = is.rest;
+      notes = λ other. elim (cases_eq hart other) [
+        | inl same ↦
+            subst (λ n. NotesMore (notes_of b.mode.notes n) (counts_of b.machine n) (notes_of c.mode.notes n)) same
+            (subst (NotesMore (notes_of b.mode.notes hart) (counts_of b.machine hart)) (sym is.noted)
+            (noted_more (notes_of b.mode.notes hart) (counts_of b.machine hart) number))
+        | inr ne ↦
+            subst (NotesMore (notes_of b.mode.notes other) (counts_of b.machine other)) (sym (is.others other (λ e. ne (sym e))))
+            (notes_same (notes_of b.mode.notes other) (counts_of b.machine other))
+      ];
+    }
+
+-- room for more
+pub only_room : (b c : BookView RecordingView) → HasRoomed b.mode c.mode → c ≡ record b { mode = c.mode } → OnlyNotes b c
+only_room b c roomed book =
+    record {
+      book = book;
+      mode = roomed.rest;
+      notes = λ hart.
+          subst (NotesMore (notes_of b.mode.notes hart) (counts_of b.machine hart)) (sym (roomed.same hart))
+          (notes_same (notes_of b.mode.notes hart) (counts_of b.machine hart));
+    }
+
+-- such a book tells on
+pub only_notes_tell_on : (b c : BookView RecordingView) → OnlyNotes b c → TellsOn b c
+only_notes_tell_on b c is =
+    tells_the_same b c (ap (λ (x : BookView RecordingView). x.machine) is.book) (ap (λ (m : RecordingView). m.inputs) is.mode)
+    (ap (λ (m : RecordingView). m.edges) is.mode) is.notes
 
 pub tells_further : TellsFurther
 tells_further b c d p q =
@@ -84,6 +146,9 @@ tells_further b c d p q =
           hears_more (inputs_of b.mode.inputs hart) (counts_of b.machine hart) (inputs_of c.mode.inputs hart) (counts_of c.machine hart)
           (inputs_of d.mode.inputs hart) (p.counts hart) (p.inputs hart) (q.inputs hart);
       edges = adds_on b.mode.edges (counts_of b.machine) c.mode.edges (counts_of c.machine) d.mode.edges p.counts p.edges q.edges;
+      notes = λ hart.
+          notes_more_on (notes_of b.mode.notes hart) (notes_of c.mode.notes hart) (notes_of d.mode.notes hart) (counts_of b.machine hart)
+          (counts_of c.machine hart) (p.counts hart) (p.notes hart) (q.notes hart);
     }
 
 -- no count falls where a lease is laid
@@ -106,4 +171,5 @@ settled_tells_on b c l keep ours machine is =
           hart);
       inputs = hears_on b.machine l l.steps b.mode.inputs c.mode.inputs lent is.inputs;
       edges = edges_on (counts_of b.machine) l b.mode.edges c.mode.edges lent is.edges is.unsettled;
+      notes = notes_kept b c is.notes;
     }

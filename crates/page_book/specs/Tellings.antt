@@ -1,6 +1,7 @@
 -- What a recording book tells, and what it tells more later.
 use Rattle.std.specs.Prelude.{◌≡◌, ◌≤◌, ℕ}
 use Rattle.input_log.specs.Inputs.{inputs_of}
+use Rattle.input_log.specs.Notes.{notes_of, NotesMore}
 use Rattle.hart_lease.specs.Leases.{LeaseView, laid, whole_in}
 use Rattle.hart_lease.specs.Runs.{counts_of}
 use Rattle.book_modes.specs.declared.keep.Keep.{Keep}
@@ -16,11 +17,19 @@ pub record TellsOn (b c : BookView RecordingView) : Type 0 where
   pub counts : (hart : ℕ) → counts_of b.machine hart ≤ counts_of c.machine hart
   pub inputs : (hart : ℕ) → HearsMore (inputs_of b.mode.inputs hart) (counts_of b.machine hart) (inputs_of c.mode.inputs hart)
   pub edges : AddsLater b.mode.edges (counts_of b.machine) c.mode.edges
+  pub notes : (hart : ℕ) → NotesMore (notes_of b.mode.notes hart) (counts_of b.machine hart) (notes_of c.mode.notes hart)
 
--- a book whose machine, inputs and edges are the same tells on
+-- nothing but the notes is another: those of earlier counts are as they were, and no number is forgotten
+pub record OnlyNotes (b c : BookView RecordingView) : Type 0 where
+  pub book : c ≡ record b { mode = c.mode }
+  pub mode : c.mode ≡ record b.mode { notes = c.mode.notes }
+  pub notes : (hart : ℕ) → NotesMore (notes_of b.mode.notes hart) (counts_of b.machine hart) (notes_of c.mode.notes hart)
+
+-- a book whose machine, inputs and edges are the same, and whose notes are those that there were and later ones, tells on
 abbrev pub TellsTheSame : Type 0
 TellsTheSame =
-    (b c : BookView RecordingView) → c.machine ≡ b.machine → c.mode.inputs ≡ b.mode.inputs → c.mode.edges ≡ b.mode.edges → TellsOn b c
+    (b c : BookView RecordingView) → c.machine ≡ b.machine → c.mode.inputs ≡ b.mode.inputs → c.mode.edges ≡ b.mode.edges →
+    ((hart : ℕ) → NotesMore (notes_of b.mode.notes hart) (counts_of b.machine hart) (notes_of c.mode.notes hart)) → TellsOn b c
 
 -- one that tells on from one that tells on tells on
 abbrev pub TellsFurther : Type 0

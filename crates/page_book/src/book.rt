@@ -1,7 +1,7 @@
 //! The book.
 
 ghost use Rattle.std.specs.Prelude.{All, ◌≡◌, ◌≢◌, ◌<◌, ◌≤◌, ◌⊎◌, ◌+◌, ◌↔◌, ◌++◌, ◌∷◌, ℕ, List, [], length, replicate, map, slice_set, slice_get};
-ghost use Rattle.std.specs.Prelude.{slice_index, slice_index_or, Some, None, Ok, Err, true, false, IfOk, IfErr, IfSome, OnOk, OnErr, IsTrue};
+ghost use Rattle.std.specs.Prelude.{slice_index, slice_index_or, Some, None, Ok, Err, true, false, IfOk, IfErr, IfSome, OnOk, OnErr, IsTrue, IsOk, min};
 ghost use Rattle.std.specs.Vec.{vec_len, vec_capacity};
 ghost use Rattle.page_book.specs.Words.{added, asked_by, base_at, BeginsSchedule, count_at, counts_of, edges_after, fresh, given_more, greater, HasHonestLog, HasUnmet};
 ghost use Rattle.page_book.specs.Words.{heard_by, inputs_of, is_bell, IsAsking, IsBareLease, IsBetween, IsFull, IsInputOf, IsLentBy};
@@ -10,6 +10,9 @@ ghost use Rattle.page_book.specs.Words.{OpenView, RecordingView, row_of, slot_at
 ghost use Rattle.page_book.specs.Books.{BookView, IsOurs, HasTaken, refusal};
 ghost use Rattle.page_book.specs.Reclaims.{EndsOne, EndsFirst, IsBeginning, GoesOnFrom};
 ghost use Rattle.page_book.specs.Answers.{IfHeldBy, OnHeldBy, OnGiven};
+ghost use Rattle.book_modes.specs.Recordings.{IsNoting, HasRoomed};
+ghost use Rattle.input_log.specs.Notes.{notes_of, HasRoom};
+ghost use Rattle.ft_types.specs.declared.names.TheConstants.{HART_ROW};
 ghost use Rattle.rv32_hart.specs.Hart.{Hart as HartRecord, with_outputs_of, without_outputs};
 
 use crate::answers::{BookFault, Need};
@@ -24,7 +27,7 @@ use ft_types::{
 };
 use guest_image::{Machine, Page, SharedPage};
 use hart_lease::{Asked, EDGE_ROOM, Lent, OpenLease, Stretch, TakenPages};
-use input_log::{Input, InputLog};
+use input_log::{Input, InputLog, NoteLog};
 use smallvec::SmallVec;
 use std::alloc::Global;
 use std::marker::Model;
@@ -118,6 +121,39 @@ impl Book<Recording> {
         ensures within { (hart : ℕ) → All (λ x. (counts_of self.now.start hart ≤ x.0) × (x.0 < counts_of self.now.machine hart)) (inputs_of result.now hart) }
     {
         self.mode.inputs()
+    }
+
+    /// The notes of the outputs that were released. They steer nothing: no lease, no replay and no position takes account of them.
+    pub fn notes(&self) -> &NoteLog
+        ensures value { result.now ≡ self.now.mode.notes }
+        // None is at a count that its hart has yet to reach.
+        ensures within { (hart : ℕ) → All (λ x. x.0 ≤ counts_of self.now.machine hart) (notes_of result.now hart) }
+    {
+        self.mode.notes()
+    }
+
+    /// Notes at the hart's settled count that its outputs with numbers below this one were released, of which the caller knows. A hart
+    /// has no more outputs than steps: of a greater number as many are noted as there are steps.
+    pub fn note_released(&mut self, hart: Hart, number: u64) -> Result<(), Memory>
+        requires hart { hart < length self.old.machine.harts }
+        requires some { 1 ≤ number }
+        requires outputs { (h : HartRecord) → slice_get self.old.machine.harts hart ≡ Some h → number ≤ length h.outputs }
+        ensures noted { OnOk result (IsNoting self.old.mode hart (counts_of self.old.machine hart) (min number (counts_of self.old.machine hart)) self.new.mode) }
+        ensures room { HasRoom self.old.mode.notes hart → IsOk result }
+        ensures book { self.new ≡ record self.old { mode = self.new.mode } }
+        ensures err { OnErr result (self.new ≡ self.old) }
+    {
+        let count = steps_taken(&self.machine, hart);
+        self.mode.note_released(hart, count, number.min(count))
+    }
+
+    /// Makes room for one note of each hart: then each hart's next note takes no memory.
+    pub fn room_for_notes(&mut self) -> Result<(), Memory>
+        ensures same { HasRoomed self.old.mode self.new.mode }
+        ensures book { self.new ≡ record self.old { mode = self.new.mode } }
+        ensures room { OnOk result ((hart : ℕ) → hart < HART_ROW → HasRoom self.new.mode.notes hart) }
+    {
+        self.mode.room_for_notes()
     }
 
     /// Puts an input, which is no bell, behind the others that wait for the hart. It is given at no count before this one.

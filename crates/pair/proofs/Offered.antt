@@ -1,6 +1,6 @@
 -- What a gate was offered, with one output more.
 use Rattle.std.proofs.Common.{◌≡◌, ◌↔◌, IsTrue, nat_le, ◌<◌, ◌≤◌, ℕ, List, [], ◌∷◌, ◌++◌}
-use Rattle.std.proofs.Common.{length, slice_index, slice_set, inl, inr, ap, arith, sym, subst, ◌∙◌, append_assoc}
+use Rattle.std.proofs.Common.{length, slice_index, slice_set, inl, inr, ap, arith, sym, subst, ◌∙◌}
 use Rattle.std.proofs.lemmas.Bool.{cases_eq}
 use Rattle.std.proofs.lemmas.Bool.Decides.{nat_tests}
 use Rattle.std.proofs.lemmas.List.{get_or-set_same, get_or-set_other}
@@ -10,7 +10,7 @@ use Rattle.std.specs.List.{AllByRecursion}
 use Rattle.std.specs.List.Sorted.{IsPermutation}
 use Rattle.ft_types.specs.declared.output.Output.{Output}
 use Rattle.ft_types.specs.declared.names.TheConstants.{HART_LIMIT}
-use Rattle.output_gate.specs.Gates.{LineView, GateView, gone_of, waiting_of, offered_of}
+use Rattle.output_gate.specs.Gates.{GateView, offered_in, offered_of}
 use Rattle.output_gate.proofs.Alls.{all_so, all_join, all_back}
 use Rattle.pair.specs.Exits.{AreLast, IsNext, IsOffered}
 
@@ -65,10 +65,10 @@ pub last_offered : (old new : GateView) (steps : List ℕ) (o : Output) (place :
     IsNext old o → IsOffered old o new → AreLast new (slice_set steps place o.step)
 last_offered old new steps o place at there last next is hart below = elim (cases_eq hart place) [
   | inl same ↦ subst (IsLastAt new (slice_set steps place o.step)) (sym (same ∙ at)) (last_own old new (slice_set steps place o.step) o next
-      (ap (λ (l : LineView). l.gone ++ l.waiting) is.line ∙ sym (append_assoc (gone_of old o.hart) (waiting_of old o.hart) (o ∷ [])))
+      is.offered
       (ap (λ (p : ℕ). slice_index (slice_set steps place o.step) p) (sym at) ∙ get_or-set_same steps place o.step 0 there))
   | inr ne ↦ last_same old new steps (slice_set steps place o.step) hart
-      (ap (λ (l : LineView). l.gone ++ l.waiting) (is.others hart (λ e. ne (e ∙ sym at)))) (get_or-set_other steps place hart o.step 0 ne) (last hart below)
+      (ap offered_in (is.others hart (λ e. ne (e ∙ sym at)))) (get_or-set_other steps place hart o.step 0 ne) (last hart below)
 ]
 
 moved_all : (P : Output → Type 0) (xs ys : List Output) → IsPermutation xs ys → AllByRecursion P xs → AllByRecursion P ys

@@ -6,7 +6,7 @@ use Rattle.ack_core.specs.declared.board.Board.{Board}
 use Rattle.ack_core.specs.declared.seats.GateSeat.{GateSeat}
 use Rattle.ack_core.specs.Seats.{term_of, keepers_of, harts_of, heard, IsGateOf}
 use Rattle.ack_core.specs.Lists.{StartsWith}
-use Rattle.output_gate.specs.Gates.{GateView, line_of, gone_of, waiting_of, offered_of}
+use Rattle.output_gate.specs.Gates.{GateView, with_offer, line_of, offered_of}
 use Rattle.output_gate.specs.Looks.{IsSeen}
 use Rattle.ft_types.specs.declared.output.Output.{Output}
 use Rattle.pair.specs.declared.messages.ToGate.{ToGate}
@@ -30,9 +30,10 @@ AreLonger board seat later =
 abbrev pub IsNext : GateView → Output → Type 0
 IsNext gate o = (length (offered_of gate o.hart) ≡ o.number) × AllByRecursion (λ x. x.step ≤ o.step) (offered_of gate o.hart)
 
--- the output waits behind those of its hart, and every other hart's are as they were
+-- the output is behind those of its hart, and every other hart's are as they were
 pub record IsOffered (old : GateView) (o : Output) (new : GateView) : Type 0 where
-  pub line : line_of new o.hart ≡ record { gone = gone_of old o.hart; waiting = waiting_of old o.hart ++ o ∷ [] }
+  pub line : line_of new o.hart ≡ with_offer (line_of old o.hart) o
+  pub offered : offered_of new o.hart ≡ offered_of old o.hart ++ o ∷ []
   pub others : (hart : ℕ) → hart ≢ o.hart → line_of new hart ≡ line_of old hart
 
 -- what a gate takes in of a message: an output that is its hart's next is offered, and nothing else changes it

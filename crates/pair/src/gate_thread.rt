@@ -10,6 +10,7 @@ ghost use Rattle.pair.specs.Serving.{IsHeard};
 
 use crate::exits::{LastSteps, close, look_on, no_steps, take_in};
 use crate::messages::ToGate;
+use crate::noting::tell_out;
 use crate::posts::Watch;
 use ack_core::{Board, GateSeat};
 use crossbeam_channel::Receiver;
@@ -74,6 +75,7 @@ pub(crate) fn guard<R: Wait>(
         mut gate,
         mut seat,
         channel,
+        primary,
     } = watch;
     let mut last = no_steps();
     let mut released = Vec::new(alloc);
@@ -85,7 +87,9 @@ pub(crate) fn guard<R: Wait>(
         if ended {
             early = released.len();
         }
+        let before = released.len();
         look_on(alloc, board, &mut gate, &mut seat, &mut released)?;
+        tell_out(rt, &primary, &released, before);
     }
     let (_gate, seat, released) = close(alloc, board, gate, seat, released)?;
     Ok(GateEnd {

@@ -7,6 +7,7 @@ mod gate_thread;
 mod keeper_thread;
 mod keeping;
 mod messages;
+mod noting;
 mod posts;
 mod primary_thread;
 mod printing;

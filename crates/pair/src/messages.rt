@@ -2,7 +2,7 @@
 
 use crossbeam_channel::Sender;
 use fragment_codec::Frame;
-use ft_types::Memory;
+use ft_types::{Hart, Memory};
 use output_gate::Output;
 use std::alloc::Global;
 use std::sync::Wait;
@@ -19,6 +19,14 @@ pub(crate) enum ToGate {
     Published,
     /// The primary is at its end.
     End,
+}
+
+/// What the primary is sent: the hart's outputs up to this one went out.
+#[derive(Drop)]
+pub(crate) struct Went {
+    pub(crate) hart: Hart,
+    /// Its number.
+    pub(crate) last: u64,
 }
 
 /// Sends a message. A channel that has lost its receiver takes as little as one that finds no memory.

@@ -4,7 +4,7 @@ ghost use Rattle.std.specs.Prelude.{◌≡◌, IfOk};
 ghost use Rattle.ack_core.specs.Seats.{harts_of};
 ghost use Rattle.pair.specs.Posts.{AreKeepersOf, ArePostsOf};
 
-use crate::messages::{ToGate, ToKeeper};
+use crate::messages::{ToGate, ToKeeper, Went};
 use ack_core::{Board, GateSeat, KeeperSeat};
 use crossbeam_channel::{Receiver, Sender, unbounded};
 use ft_types::{Guest, Memory};
@@ -29,6 +29,8 @@ pub(crate) struct Watch {
     pub(crate) gate: Gate,
     pub(crate) seat: GateSeat,
     pub(crate) channel: Receiver<ToGate, Global>,
+    /// Whom it tells what went out.
+    pub(crate) primary: Sender<Went, Global>,
 }
 
 /// What the primary's thread begins with.
@@ -41,6 +43,8 @@ pub(crate) struct Primary {
     /// Whom it sends to.
     pub(crate) keepers: Vec<Sender<ToKeeper, Global>>,
     pub(crate) gate: Sender<ToGate, Global>,
+    /// What went out.
+    pub(crate) went: Receiver<Went, Global>,
 }
 
 /// A post for this seat, and the sender of its frames.

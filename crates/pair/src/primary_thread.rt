@@ -9,6 +9,7 @@ ghost use Rattle.pair.specs.Leading.{HasLed};
 ghost use Rattle.pair.specs.Posts.{MayLead};
 
 use crate::messages::{ToGate, ToKeeper, send};
+use crate::noting::note_out;
 use crate::posts::Primary;
 use crate::rounds::{are_at_end, round_end};
 use crossbeam_channel::Sender;
@@ -105,7 +106,7 @@ fn new_pieces(
     Ok(frames)
 }
 
-/// The primary's thread: round by round it goes on, offers what was put out, and sends the pieces of its log.
+/// The primary's thread: round by round it notes what went out, goes on, offers what was put out, and sends the pieces of its log.
 pub(crate) fn lead<R: Threads + Wait + Sync>(
     rt: &R,
     alloc: Global,
@@ -120,6 +121,7 @@ pub(crate) fn lead<R: Threads + Wait + Sync>(
         budget,
         keepers,
         gate,
+        went,
     } = primary;
     send_frame(rt, alloc, &keepers, &Frame::Opening(first_opening(guest)))?;
     let mut sealed = Sealed::new(book.counts());
@@ -128,6 +130,7 @@ pub(crate) fn lead<R: Threads + Wait + Sync>(
             break;
         }
         let told = outputs_told(book.machine());
+        note_out(rt, &went, &mut book);
         book = go_on(rt, alloc, book, budget)?;
         send_outputs(rt, alloc, book.machine(), &told, &gate)?;
         for frame in new_pieces(alloc, &book, &guest, &mut sealed)? {

@@ -192,6 +192,7 @@ pub fn run_pair<R: Threads + Wait + Sync>(
     let (board, seats, seat) = Board::new(alloc, FIRST_TERM, image.harts(), orders.keepers())?;
     let gate = Gate::new(alloc, FIRST_TERM, orders.keepers(), orders.need());
     let (to_gate, channel) = unbounded(alloc)?;
+    let (to_primary, went) = unbounded(alloc)?;
     let guest = image.guest();
     let (posts, keepers) = man_posts(alloc, &board, guest, seats, &to_gate)?;
     let primary = Primary {
@@ -200,11 +201,13 @@ pub fn run_pair<R: Threads + Wait + Sync>(
         budget: orders.budget(),
         keepers,
         gate: to_gate,
+        went,
     };
     let watch = Watch {
         gate,
         seat,
         channel,
+        primary: to_primary,
     };
     run_all(rt, alloc, &board, watch, posts, primary)
 }

@@ -1,13 +1,13 @@
 -- A gate to which more is offered, and what it then gives.
-use Rattle.std.proofs.Common.{◌≡◌, ◌⊎◌, inl, inr, ℕ, zero, suc, ◌+◌, ◌<◌, ◌≤◌, ◌∷◌, [], List, Bool, true, false, cond, length, length-append, filter, get_or, Result, Ok, Err, OnOk, OnErr, refl, sym, ap, subst, ◌∙◌, arith}
+use Rattle.std.proofs.Common.{◌≡◌, ◌⊎◌, inl, inr, ℕ, zero, suc, ◌+◌, ◌<◌, ◌≤◌, ◌∷◌, [], List, Bool, true, false, cond, length, length-append, filter, get_or, slice_index_or, Result, Ok, Err, OnOk, OnErr, refl, sym, ap, subst, ◌∙◌, arith}
 use Rattle.std.specs.Result.{is_err}
 use Rattle.std.proofs.lemmas.Bool.{cases_lt}
 use Rattle.std.proofs.lemmas.List.Sums.{sum_by-cons}
 use Rattle.ft_types.specs.declared.names.TheConstants.{HART_LIMIT, HART_ROW}
 use Rattle.guest_image.specs.Machine.{MachineState}
-use Rattle.output_gate.specs.Gates.{LineView, GateView, line_of, gone_of, waiting_of, offered_of, is_held, held_outputs, after_release, waiting_count}
+use Rattle.output_gate.specs.Gates.{LineView, GateView, fresh_line, line_of, offered_of, is_held, held_outputs, after_release, kept_count}
 use Rattle.term_gate.specs.TermGates.{TermGateView, AreAcked}
-use Rattle.primary.specs.Gating.{AreOffered, OffersMore, IsAsItWas}
+use Rattle.primary.specs.Gating.{AreOffered, HasMore, OffersMore, IsAsItWas}
 use Rattle.primary.proofs.Waiting.{released_offered}
 
 -- as offers leave it
@@ -42,11 +42,8 @@ was_offered g h i more rest same noted =
         | inl none ↦ inl (none ∙ ap (λ (x : TermGateView). x.gate.noted) more.rest)
         | inr acked ↦ inr (acked_before g h i.gate.noted more acked)
       ];
-      gone = λ hart. ap (λ lines. let x : GateView = record h.gate { lines = lines } in gone_of x hart) same ∙ more.gone hart;
-      waiting = λ hart. (
-        (more.waiting hart).0,
-        ap (λ lines. let x : GateView = record h.gate { lines = lines } in waiting_of x hart) same ∙ (more.waiting hart).1,
-      );
+      lines = λ hart.
+          subst (λ lines. HasMore (line_of g.gate hart) (slice_index_or lines hart (fresh_line 0))) (sym same) (more.lines hart);
     }
 
 pub same_lines : (h i : GateView) (m : MachineState) → i.lines ≡ h.lines → AreOffered h m → AreOffered i m
@@ -66,8 +63,8 @@ every_line need noted h i many too lines hart =
     elim (cases_lt hart HART_ROW) [
       | inl less ↦ lines hart less
       | inr over ↦
-          none_past i.lines hart (record { gone = []; waiting = [] }) (omega (arith, too, over))
-          ∙ ap (after_release need noted) (sym (none_past h.lines hart (record { gone = []; waiting = [] }) (omega (arith, many, over))))
+          none_past i.lines hart (fresh_line 0) (omega (arith, too, over))
+          ∙ ap (after_release need noted) (sym (none_past h.lines hart (fresh_line 0) (omega (arith, many, over))))
     ]
 
 one_shorter : {A : Type 0} (x : A) (ys xs : List A) (b : Bool) → length ys ≤ length xs → length (cond b (x ∷ ys) ys) ≤ suc (length xs)
@@ -79,13 +76,14 @@ shorter f [] = omega arith
 shorter f (x ∷ xs) = one_shorter x (filter f xs) xs (f x) (shorter f xs)
 
 -- no more go out than wait
-pub few_held : (need : ℕ) (noted : List (List ℕ)) (lines : List LineView) → length (held_outputs need noted lines) ≤ waiting_count lines
+pub few_held : (need : ℕ) (noted : List (List ℕ)) (lines : List LineView) → length (held_outputs need noted lines) ≤ kept_count lines
 few_held need noted [] = omega arith
 few_held need noted (line ∷ lines) =
     let rest = few_held need noted lines in
     let own = shorter (is_held need noted) line.waiting in
     let many = length-append (filter (is_held need noted) line.waiting) (held_outputs need noted lines) in
-    let sum : waiting_count (line ∷ lines) ≡ length line.waiting + waiting_count lines = sum_by-cons (λ (l : LineView). length l.waiting) line lines in
+    let sum : kept_count (line ∷ lines) ≡ (length line.passed + length line.waiting) + kept_count lines =
+    sum_by-cons (λ (l : LineView). length l.passed + length l.waiting) line lines in
     omega (arith, rest, own, many, sum)
 
 pub on_ok : {A E : Type 0} (r : Result A E) (P : Type 0) → is_err r ≡ false → OnOk r P → P

@@ -36,6 +36,7 @@ unused_too b c before limits is unused =
     (record {
       limits_are = refl;
       inputs = unused.inputs;
+      notes = unused.notes;
       due = unused.due;
       bells = unused.bells;
       others = unused.others;

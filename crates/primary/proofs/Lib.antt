@@ -5,6 +5,9 @@ pub mod Books
 pub mod Offers
 pub mod Told
 pub mod Waiting
+pub mod Said
+pub mod Last
+pub mod Renoting
 pub mod Gates
 pub mod Pieces
 pub mod Sending

@@ -3,12 +3,12 @@ use Rattle.std.proofs.Common.{◌≡◌, ◌≢◌, inl, inr, ℕ, zero, suc, �
 use Rattle.std.specs.List.{enumerate_from}
 use Rattle.interleaving.proofs.Put.{same_or_not}
 use Rattle.ft_types.specs.declared.output.Output.{Output}
-use Rattle.output_gate.specs.Gates.{LineView, line_of, gone_of, waiting_of, offered_of}
+use Rattle.output_gate.specs.Gates.{LineView, offered_in, with_offer, line_of, offered_of}
 use Rattle.term_gate.specs.TermGates.{TermGateView}
 use Rattle.primary.specs.Outputs.{numbered, said_by, said_at}
 use Rattle.guest_image.specs.Machine.{MachineState}
-use Rattle.std.proofs.lemmas.Bool.{cases_lt}
-use Rattle.primary.specs.Gating.{OffersMore, AreOffered, AreAllOffered}
+use Rattle.std.proofs.lemmas.Bool.{cases_lt, lt-ltb, le-ltb}
+use Rattle.primary.specs.Gating.{HasMore, OffersMore, AreOffered, AreAllOffered}
 use Rattle.primary.proofs.Rows.{take_all, take_next}
 
 -- the first outputs of the hart were offered, up to this number, and nothing else was done
@@ -18,8 +18,38 @@ pub record AtNumber (g h : TermGateView) (hart : ℕ) (outputs : List (ℕ × �
   pub offered : offered_of h.gate hart ≡ take number (numbered hart outputs)
   pub others : (other : ℕ) → other ≢ hart → line_of h.gate other ≡ line_of g.gate other
 
+none_more : (line : LineView) → HasMore line line
+none_more line = record { mark = refl; gone = refl; passed = ([], sym (append-nil line.passed)); waiting = ([], sym (append-nil line.waiting)) }
+
+-- one output more
+one_more : (line : LineView) (o : Output) → HasMore line (with_offer line o)
+one_more line o = elim (cases_lt o.number line.mark) [
+  | inl below ↦
+      rw (lt-ltb o.number line.mark below)
+      (record { mark = refl; gone = refl; passed = (o ∷ [], refl); waiting = ([], sym (append-nil line.waiting)) })
+  | inr above ↦
+      rw (le-ltb o.number line.mark above)
+      (record { mark = refl; gone = refl; passed = ([], sym (append-nil line.passed)); waiting = (o ∷ [], refl) })
+]
+
+longer : (a b c : List Output) → (more : List Output) × (b ≡ a ++ more) → (more : List Output) × (c ≡ b ++ more) → (more : List Output) × (c ≡ a ++ more)
+longer a b c (first, p) (second, q) = (first ++ second, q ∙ ap (λ (xs : List Output). xs ++ second) p ∙ append_assoc a first second)
+
+more_on : (a b c : LineView) → HasMore a b → HasMore b c → HasMore a c
+more_on a b c p q =
+    record {
+      mark = q.mark ∙ p.mark;
+      gone = q.gone ∙ p.gone;
+      passed = longer a.passed b.passed c.passed p.passed q.passed;
+      waiting = longer a.waiting b.waiting c.waiting p.waiting q.waiting;
+    }
+
+-- a line that is as it was
+more_same : (a b c : LineView) → c ≡ b → HasMore a b → HasMore a c
+more_same a b c same p = subst (HasMore a) (sym same) p
+
 pub offers_none : (g : TermGateView) → OffersMore g g
-offers_none g = record { rest = refl; gone = λ hart. refl; waiting = λ hart. ([], sym (append-nil (waiting_of g.gate hart))) }
+offers_none g = record { rest = refl; lines = λ hart. none_more (line_of g.gate hart) }
 
 abbrev numbers : ℕ → ℕ → List (ℕ × ℕ) → List Output
 numbers hart n said = map (λ o. record { hart = hart; number = o.0; step = o.1.0; word = o.1.1 }) (enumerate_from n said)
@@ -51,36 +81,23 @@ numbered_at hart k said o is =
 -- one more is offered
 pub next_number : (g h i : TermGateView) (hart number : ℕ) (outputs : List (ℕ × ℕ)) (o : ℕ × ℕ) → AtNumber g h hart outputs number →
     slice_get outputs number ≡ Some o →
-    line_of i.gate hart ≡ record {
-      gone = gone_of h.gate hart;
-      waiting = waiting_of h.gate hart ++ record { hart = hart; number = number; step = o.0; word = o.1 } ∷ [];
-    } →
+    line_of i.gate hart ≡ with_offer (line_of h.gate hart) (record { hart = hart; number = number; step = o.0; word = o.1 }) →
+    offered_of i.gate hart ≡ offered_of h.gate hart ++ record { hart = hart; number = number; step = o.0; word = o.1 } ∷ [] →
     ((other : ℕ) → other ≢ hart → line_of i.gate other ≡ line_of h.gate other) →
     i ≡ record h { gate = record h.gate { lines = i.gate.lines } } →
     AtNumber g i hart outputs (number + 1)
-next_number g h i hart number outputs o at is line others rest =
+next_number g h i hart number outputs o at is line offered others rest =
     let out : Output = record { hart = hart; number = number; step = o.0; word = o.1 } in
-    let gone : gone_of i.gate hart ≡ gone_of h.gate hart = ap (λ (l : LineView). l.gone) line in
-    let waiting : waiting_of i.gate hart ≡ waiting_of h.gate hart ++ out ∷ [] = ap (λ (l : LineView). l.waiting) line in
-    let offered : offered_of i.gate hart ≡ offered_of h.gate hart ++ out ∷ [] =
-    ap (λ xs. xs ++ waiting_of i.gate hart) gone ∙ ap (λ ys. gone_of h.gate hart ++ ys) waiting
-    ∙ sym (append_assoc (gone_of h.gate hart) (waiting_of h.gate hart) (out ∷ [])) in
     let longer = length-append (offered_of h.gate hart) (out ∷ []) in
     record {
       more = record {
         rest = rest ∙ ap (λ (x : TermGateView). let y : TermGateView = record x { gate = record x.gate { lines = i.gate.lines } } in y) at.more.rest;
-        gone = λ hart'. elim (same_or_not hart' hart) [
-          | inl same ↦ subst (λ k. gone_of i.gate k ≡ gone_of h.gate k) (sym same) gone ∙ at.more.gone hart'
-          | inr other ↦ ap (λ (l : LineView). l.gone) (others hart' other) ∙ at.more.gone hart'
-        ];
-        waiting = λ hart'. elim (same_or_not hart' hart) [
-          | inl same ↦ (
-            (at.more.waiting hart').0 ++ out ∷ [],
-            subst (λ k. waiting_of i.gate k ≡ waiting_of h.gate k ++ out ∷ []) (sym same) waiting
-                ∙ ap (λ xs. xs ++ out ∷ []) (at.more.waiting hart').1
-                ∙ append_assoc (waiting_of g.gate hart') (at.more.waiting hart').0 (out ∷ []),
-          )
-          | inr other ↦ ((at.more.waiting hart').0, ap (λ (l : LineView). l.waiting) (others hart' other) ∙ (at.more.waiting hart').1)
+        lines = λ other. elim (same_or_not other hart) [
+          | inl same ↦
+              subst (λ k. HasMore (line_of g.gate k) (line_of i.gate k)) (sym same)
+              (more_same (line_of g.gate hart) (with_offer (line_of h.gate hart) out) (line_of i.gate hart) line
+              (more_on (line_of g.gate hart) (line_of h.gate hart) (with_offer (line_of h.gate hart) out) (at.more.lines hart) (one_more (line_of h.gate hart) out)))
+          | inr ne ↦ more_same (line_of g.gate other) (line_of h.gate other) (line_of i.gate other) (others other ne) (at.more.lines other)
         ];
       };
       many = let was = at.many in let e = ap length offered in omega (arith, was, e, longer);
@@ -99,17 +116,11 @@ pub offers_on : (g h i : TermGateView) → OffersMore g h → OffersMore h i →
 offers_on g h i one two =
     record {
       rest = two.rest ∙ ap (λ (x : TermGateView). let y : TermGateView = record x { gate = record x.gate { lines = i.gate.lines } } in y) one.rest;
-      gone = λ hart. two.gone hart ∙ one.gone hart;
-      waiting = λ hart. (
-        (one.waiting hart).0 ++ (two.waiting hart).0,
-        (two.waiting hart).1
-            ∙ ap (λ xs. xs ++ (two.waiting hart).0) (one.waiting hart).1
-            ∙ append_assoc (waiting_of g.gate hart) (one.waiting hart).0 (two.waiting hart).0,
-      );
+      lines = λ hart. more_on (line_of g.gate hart) (line_of h.gate hart) (line_of i.gate hart) (one.lines hart) (two.lines hart);
     }
 
 line_stays : (h i : TermGateView) (hart : ℕ) → line_of i.gate hart ≡ line_of h.gate hart → offered_of i.gate hart ≡ offered_of h.gate hart
-line_stays h i hart same = ap (λ (l : LineView). l.gone ++ l.waiting) same
+line_stays h i hart same = ap offered_in same
 
 -- the outputs of one more hart were offered
 pub next_hart : (g h i : TermGateView) (machine : MachineState) (number : ℕ) → AreOfferedTo g h machine number → OffersMore h i →
@@ -145,7 +156,7 @@ first_still h i machine number first own others hart =
           stays ∙ first hart ∙ ap (λ xs. take (length xs) (numbered hart (said_at machine hart))) (sym stays)
     ]
 
-not_there : {A : Type 0} (xs : List A) (k : ℕ) → length xs ≤ k → slice_get xs k ≡ None
+pub not_there : {A : Type 0} (xs : List A) (k : ℕ) → length xs ≤ k → slice_get xs k ≡ None
 not_there [] k le = refl
 not_there (x ∷ xs) zero le = absurd (omega (arith, le))
 not_there (x ∷ xs) (suc k) le = not_there xs k (omega (arith, le))

@@ -5,18 +5,18 @@ use Rattle.std.proofs.lemmas.Bool.{leb-true, le-leb}
 use Rattle.interleaving.specs.Lists.{Each, EachPair}
 use Rattle.guest_image.specs.Machine.{MachineState}
 use Rattle.ft_types.specs.declared.output.Output.{Output}
-use Rattle.output_gate.specs.Gates.{LineView, GateView, line_of, gone_of, waiting_of, offered_of, holder_count, is_held, is_not_held, after_release}
+use Rattle.output_gate.specs.Gates.{LineView, GateView, offered_in, line_of, offered_of, holder_count, is_held, is_not_held, after_release}
 use Rattle.output_gate.proofs.Fronts.{holder_count-earlier}
 use Rattle.primary.specs.Outputs.{said_at, numbered}
 use Rattle.primary.specs.Gating.{AreRising, AreOffered, AreAllOffered}
 use Rattle.primary.proofs.Rows.{take_all}
 
-see_bool : (b : Bool) → (b ≡ true) ⊎ (b ≡ false)
+pub see_bool : (b : Bool) → (b ≡ true) ⊎ (b ≡ false)
 see_bool true = inl refl
 see_bool false = inr refl
 
 -- of one hart, and no earlier
-abbrev Follows : Output → Output → Type 0
+abbrev pub Follows : Output → Output → Type 0
 Follows a b = (b.hart ≡ a.hart) × (a.step ≤ b.step)
 
 each_take : (P : Output → Type 0) (n : ℕ) (xs : List Output) → Each P xs → Each P (take n xs)
@@ -47,7 +47,7 @@ numbers_follow hart n (o ∷ said) (first, rest) = (later_ones hart (n + 1) n o 
 
 module _ (need : ℕ) (noted : List (List ℕ)) where
   -- what is not held holds back whatever follows it
-  held_back : (a b : Output) → Follows a b → is_held need noted a ≡ false → is_held need noted b ≡ false
+  pub held_back : (a b : Output) → Follows a b → is_held need noted a ≡ false → is_held need noted b ≡ false
   held_back a b (hart, step) none =
       elim (see_bool (is_held need noted b)) [
         | inl held ↦
@@ -89,9 +89,13 @@ module _ (need : ℕ) (noted : List (List ℕ)) where
       let follow : EachPair Follows (offered_of g hart) =
       subst (EachPair Follows) (sym (offered hart))
       (pairs_take (length (offered_of g hart)) (numbered hart (said_at m hart)) (numbers_follow hart 0 (said_at m hart) (rising hart))) in
-      ap (λ (l : LineView). l.gone ++ l.waiting) (lines hart)
-      ∙ append_assoc (gone_of g hart) (filter (is_held need noted) (waiting_of g hart)) (filter (is_not_held need noted) (waiting_of g hart))
-      ∙ ap (λ ws. gone_of g hart ++ ws) (in_front (waiting_of g hart) (pairs_right (gone_of g hart) (waiting_of g hart) follow))
+      let line : LineView = line_of g hart in
+      let waits : EachPair Follows line.waiting =
+      pairs_right line.gone line.waiting (pairs_right line.passed (line.gone ++ line.waiting) follow) in
+      ap offered_in (lines hart)
+      ∙ ap (λ ws. line.passed ++ ws)
+      (append_assoc line.gone (filter (is_held need noted) line.waiting) (filter (is_not_held need noted) line.waiting)
+      ∙ ap (λ ws. line.gone ++ ws) (in_front line.waiting waits))
 
 -- so they are still the machine's first
 pub released_offered : (g h : GateView) (m : MachineState) → AreOffered g m → ((hart : ℕ) → offered_of h hart ≡ offered_of g hart) → AreOffered h m

@@ -1,3 +1,4 @@
 pub mod Primaries
 pub mod Outputs
 pub mod Gating
+pub mod Noting

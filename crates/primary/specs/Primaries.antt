@@ -4,6 +4,7 @@ use Rattle.ft_types.specs.Counts.{count_at}
 use Rattle.ft_types.specs.declared.names.TheConstants.{COUNT_LIMIT, HART_ROW}
 use Rattle.guest_image.specs.Image.{ImageContents, guest_of}
 use Rattle.guest_image.specs.Machine.{MachineState, boot_machine}
+use Rattle.input_log.specs.Notes.{notes_of}
 use Rattle.hart_lease.specs.declared.stretch.Stretch.{Stretch}
 use Rattle.hart_lease.specs.Runs.{LeadsTo}
 use Rattle.book_modes.specs.Recordings.{RecordingView, IsUnused, heard_by}
@@ -38,12 +39,13 @@ pub record IsBooted (image : ImageContents) (p : Primary) : Type 0 where
   pub unused : IsUnused p.book.mode p.book.start (no_limits image.harts)
   pub uncut : IsUncut p.opening.base p.sealed
 
--- The second book goes on from the first: it has the first's start, more in its journal, and tells what the first tells. Each is led to its machine by its
--- journal, and the second one's log is honest.
+-- The second book goes on from the first: it has the first's start, more in its journal, tells what the first tells, and notes what it notes. Each is led
+-- to its machine by its journal, and the second one's log is honest.
 pub record GoesOn (b c : BookView RecordingView) : Type 0 where
   pub start : c.start ≡ b.start
   pub journal : (more : List Stretch) × (c.journal ≡ b.journal ++ more)
   pub tells : TellsOn b c
+  pub notes : (hart : ℕ) → notes_of c.mode.notes hart ≡ notes_of b.mode.notes hart
   pub primary : IsPrimary c
   pub before : LeadsTo (heard_by b.mode) b.start b.journal b.machine
   pub after : LeadsTo (heard_by c.mode) c.start c.journal c.machine

@@ -1,6 +1,6 @@
 //! The outputs of a machine, at the gate.
 
-ghost use Rattle.std.specs.Prelude.{◌≡◌, ◌≢◌, ◌≤◌, ◌+◌, ◌++◌, ℕ, length, take, OnOk, OnErr, vec_len, vec_capacity};
+ghost use Rattle.std.specs.Prelude.{◌≡◌, ◌≢◌, ◌≤◌, ◌+◌, ◌++◌, ℕ, length, take, IfOk, OnOk, OnErr, vec_len, vec_capacity};
 ghost use Rattle.output_gate.specs.Gates.{line_of, offered_of};
 ghost use Rattle.primary.specs.Outputs.{numbered};
 ghost use Rattle.primary.specs.Gating.{AreRising, AreOffered, AreAllOffered, OffersMore, IsAsItWas, LetGo, released_in};
@@ -60,16 +60,17 @@ fn add_released(released: &mut Vec<Released>, term: Term, given: &[Output])
     }
 }
 
-/// All outputs of the machine are offered at the gate, and those go out in the term whose step enough keepers acknowledged.
+/// All outputs of the machine are offered at the gate, and those go out in the term whose step enough keepers acknowledged: it is these that are
+/// returned.
 pub fn release_outputs(
     alloc: Global,
     term: Term,
     machine: &Machine,
     gate: &mut TermGate,
     released: &mut Vec<Released>,
-) -> Result<(), Memory>
+) -> Result<Vec<Output>, Memory>
     requires { AreOffered gate.old.gate machine.now }
-    ensures goes { OnOk result (LetGo term machine.now gate.old released.old.items gate.new released.new.items) }
+    ensures goes { IfOk result (λ given. (goes : LetGo term machine.now gate.old released.old.items gate.new released.new.items) × (given.items ≡ goes.given)) }
     ensures was { OnErr result (IsAsItWas gate.old gate.new) }
     ensures none { OnErr result (released.new.items ≡ released.old.items) }
     // In either case:
@@ -82,6 +83,7 @@ pub fn release_outputs(
     let _before = gate.offered(Hart::new(0));
     let given = gate.release(alloc);
     let _after = gate.offered(Hart::new(0));
-    add_released(released, term, &given?);
-    Ok(())
+    let given = given?;
+    add_released(released, term, &given);
+    Ok(given)
 }

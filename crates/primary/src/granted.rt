@@ -7,7 +7,7 @@ ghost use Rattle.ft_types.specs.Guests.{IsGuest};
 ghost use Rattle.input_log.specs.Inputs.{is_bell};
 ghost use Rattle.guest_image.specs.Image.{guest_of};
 ghost use Rattle.hart_lease.specs.Runs.{LeadsTo, counts_of};
-ghost use Rattle.book_modes.specs.Recordings.{heard_by, IsOffered, IsUnused};
+ghost use Rattle.book_modes.specs.Recordings.{heard_by, HasRoomed, IsOffered, IsUnused};
 ghost use Rattle.fragment_codec.specs.declared.frame.Frame.{Frame as frame_of_specs};
 ghost use Rattle.fragment_codec.specs.Rules.{IsOpening};
 ghost use Rattle.log_pieces.specs.Pieces.{IsCut, book_log};
@@ -15,8 +15,13 @@ ghost use Rattle.lease_rounds.specs.Running.{IsIdle};
 ghost use Rattle.lease_rounds.specs.Steps.{AreWithin, HasStepped, HoldsNothing, IsUnmoved, RefusesStep};
 ghost use Rattle.hart_replay.specs.Primaries.{IsPrimary};
 ghost use Rattle.primary.specs.Primaries.{no_limits as greatest_limits, BeginsFrom, GoesOn, IsBooted, IsUncut};
+ghost use Rattle.primary.specs.Gating.{AreOffered, AreRising, IsAsItWas, LetGo};
+ghost use Rattle.primary.specs.Noting.{NotesAll};
 
+use crate::gating::release_outputs;
 use crate::limits::no_limits;
+use crate::noting::note_all;
+use crate::released::Released;
 use fragment_codec::{Frame, Opening, first_opening};
 use ft_types::{Count, Counts, Hart, Memory};
 use guest_image::{Image, Machine};
@@ -26,6 +31,7 @@ use log_pieces::{Sealed, cut_pieces};
 use page_book::{Book, BookFault, Recording};
 use std::alloc::Global;
 use std::result::Result;
+use term_gate::TermGate;
 
 /// A primary: the opening of its term, its book, and how far its log was cut into pieces.
 #[derive(Drop)]
@@ -154,6 +160,61 @@ impl Primary {
         let mut pieces = cut_pieces(alloc, &self.book, &guest, term, &mut sealed)?;
         sent.append(&mut pieces)?;
         self.sealed = sealed;
+        Ok(())
+    }
+
+    /// All outputs of its machine are offered at its term's gate, those go out whose step enough keepers acknowledged, and its book notes that they
+    /// did. First whatever grows does: once an output is out, no memory is taken.
+    pub fn release(
+        &mut self,
+        alloc: Global,
+        gate: &mut TermGate,
+        released: &mut Vec<Released>,
+    ) -> Result<(), Memory>
+        requires { AreOffered gate.old.gate self.old.book.machine }
+        ensures goes { OnOk result ((goes : LetGo self.old.opening.term self.old.book.machine gate.old released.old.items gate.new released.new.items)
+            × NotesAll goes.given self.old.book self.new.book) }
+        ensures was { OnErr result (IsAsItWas gate.old gate.new) }
+        ensures none { OnErr result (released.new.items ≡ released.old.items) }
+        ensures room { OnErr result (HasRoomed self.old.book.mode self.new.book.mode) }
+        ensures book { OnErr result (self.new.book ≡ record self.old.book { mode = self.new.book.mode }) }
+        // In either case:
+        ensures rest { self.new ≡ record self.old { book = self.new.book } }
+        ensures gate { gate.new ≡ record gate.old { gate = record gate.old.gate { noted = gate.new.gate.noted; lines = gate.new.gate.lines } } }
+        ensures offered { AreRising self.old.book.machine → AreOffered gate.new.gate self.old.book.machine }
+        ensures before { LeadsTo (heard_by self.old.book.mode) self.old.book.start self.old.book.journal self.old.book.machine }
+        ensures primary { IsPrimary self.new.book }
+    {
+        // proof: what its type tells of the book, before and after.
+        tell_primary(&self.book);
+        let done = self.let_out(alloc, gate, released);
+        tell_primary(&self.book);
+        done
+    }
+
+    /// What a release does.
+    fn let_out(
+        &mut self,
+        alloc: Global,
+        gate: &mut TermGate,
+        released: &mut Vec<Released>,
+    ) -> Result<(), Memory>
+        requires { AreOffered gate.old.gate self.old.book.machine }
+        ensures goes { OnOk result ((goes : LetGo self.old.opening.term self.old.book.machine gate.old released.old.items gate.new released.new.items)
+            × NotesAll goes.given self.old.book self.new.book) }
+        ensures was { OnErr result (IsAsItWas gate.old gate.new) }
+        ensures none { OnErr result (released.new.items ≡ released.old.items) }
+        ensures room { OnErr result (HasRoomed self.old.book.mode self.new.book.mode) }
+        ensures book { OnErr result (self.new.book ≡ record self.old.book { mode = self.new.book.mode }) }
+        ensures rest { self.new ≡ record self.old { book = self.new.book } }
+        ensures gate { gate.new ≡ record gate.old { gate = record gate.old.gate { noted = gate.new.gate.noted; lines = gate.new.gate.lines } } }
+        ensures offered { AreRising self.old.book.machine → AreOffered gate.new.gate self.old.book.machine }
+    {
+        self.book.room_for_notes()?;
+        let term = self.opening.term();
+        let given = release_outputs(alloc, term, self.book.machine(), gate, released)?;
+        // From here on no memory is taken: what went out is noted.
+        note_all(&mut self.book, &given);
         Ok(())
     }
 }

@@ -4,6 +4,7 @@
 mod gating;
 mod granted;
 mod limits;
+mod noting;
 mod outputs;
 mod released;
 

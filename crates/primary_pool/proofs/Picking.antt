@@ -5,6 +5,7 @@ use Rattle.interleaving.proofs.Beginnings.{counts_after_le}
 use Rattle.edge_log.specs.EdgeLog.{Edges}
 use Rattle.input_log.specs.declared.Input.{Input}
 use Rattle.input_log.specs.Inputs.{inputs_of}
+use Rattle.input_log.specs.Notes.{NotesOfOne, notes_of, NotesMore}
 use Rattle.guest_image.specs.Machine.{MachineState}
 use Rattle.hart_lease.specs.declared.stretch.Stretch.{Stretch}
 use Rattle.hart_lease.specs.OpenLeases.{OpenView, open_at}
@@ -15,7 +16,7 @@ use Rattle.page_book.specs.Books.{BookView}
 use Rattle.page_book.specs.Reclaims.{EndsOpen, EndsFirst, GoesOnFrom}
 use Rattle.page_book.specs.Tellings.{HearsMore, AddsLater}
 use Rattle.page_book.proofs.Later.{adds_nothing}
-use Rattle.page_book.proofs.Tellings.{hears_nothing}
+use Rattle.page_book.proofs.Tellings.{hears_nothing, notes_kept}
 use Rattle.lease_rounds.specs.Running.{Continues, KeepsOffered, offers}
 use Rattle.lease_rounds.specs.SoFar.{HasRun, IsRestOf}
 use Rattle.lease_rounds.proofs.Offers.{kept_same}
@@ -42,6 +43,7 @@ goes_on_itself b =
                   given = hears_nothing (inputs_of b.mode.inputs hart) (counts_of b.machine hart) (inputs_of b.mode.inputs hart) refl;
                   offered = offered_itself b hart;
                 };
+            notes = notes_kept b b refl;
           };
     }
 
@@ -66,6 +68,7 @@ module _ (b c : BookView RecordingView) (on : GoesOnFrom (λ r settled new now. 
         journal = on.journal;
         inputs = λ hart. (on.mode.inputs hart).given;
         edges = on.mode.edges;
+        notes = on.mode.notes;
       }
 
 -- ---- but for leases, rights and limits
@@ -87,6 +90,7 @@ module _ (b c : BookView RecordingView) (rest : IsRestOf b c) where
       let journal : c.journal ≡ b.journal = ap (λ (x : BookView RecordingView). x.journal) rest.book in
       let edges = ap (λ (r : RecordingView). r.edges) rest.mode in
       let inputs = ap (λ (r : RecordingView). r.inputs) rest.mode in
+      let notes = ap (λ (r : RecordingView). r.notes) rest.mode in
       record {
         start = p.start ∙ start;
         harts = p.harts ∙ ap (λ (m : MachineState). length m.harts) machine_stays;
@@ -98,6 +102,9 @@ module _ (b c : BookView RecordingView) (rest : IsRestOf b c) where
         edges =
             subst (λ (m : MachineState). AddsLater b.mode.edges (counts_of m) d.mode.edges) machine_stays
             (subst (λ (log : Edges). AddsLater log (counts_of c.machine) d.mode.edges) edges p.edges);
+        notes = λ hart.
+            subst (λ (m : MachineState). NotesMore (notes_of b.mode.notes hart) (counts_of m hart) (notes_of d.mode.notes hart)) machine_stays
+            (subst (λ (log : List NotesOfOne). NotesMore (notes_of log hart) (counts_of c.machine hart) (notes_of d.mode.notes hart)) notes (p.notes hart));
       }
 
 -- what is left where leases end and limits are set
@@ -118,7 +125,7 @@ limited_rest b r d leases limits is rights then =
 pub limits_aside : (p b f : BookView RecordingView) (limits : List ℕ) → f ≡ record b { mode = record b.mode { limits = limits } } → Continues p b → Continues p f
 limits_aside p b f limits is q =
     subst (λ (x : BookView RecordingView). Continues p x) (sym is)
-    (record { start = q.start; harts = q.harts; journal = q.journal; inputs = q.inputs; edges = q.edges })
+    (record { start = q.start; harts = q.harts; journal = q.journal; inputs = q.inputs; edges = q.edges; notes = q.notes })
 
 -- ---- leases that end
 

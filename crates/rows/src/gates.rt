@@ -8,7 +8,7 @@ ghost use Rattle.rows.specs.Made.{IsOfTwo, IsOfThree};
 use crate::boards::{desk, position, publish, told};
 use crate::rights::hart;
 use ack_core::{Board, GateSeat};
-use ft_types::{Count, Hart, Keeper, Memory, Position, Term};
+use ft_types::{Count, Counts, Hart, Keeper, Memory, Position, Term};
 use output_gate::{Gate, Output, outputs_go_in_order};
 use std::alloc::Global;
 use std::result::Result;
@@ -186,6 +186,33 @@ fn an_earlier_step_behind_a_later_one(rt: HostRuntime) -> Result<(), Fail> {
     Ok(())
 }
 
+/// The first of two outputs is known to be out: it is never given.
+static MARKED: Row = (
+    &[(0, 4), (0, 6)],
+    &[
+        ([10, 5, 6], &[], 2),
+        ([10, 7, 12], &[(0, 1, 6)], 1),
+        ([0, 0, 0], &[], 1),
+    ],
+);
+
+/// Whether a row holds of a gate that passes over the first hart's outputs below a mark.
+fn holds_after(alloc: Global, mark: u64, row: Row) -> Result<bool, Memory> {
+    let marks = Counts::from_slice(&[mark]).ok_or(Memory)?;
+    let mut gate = Gate::new_after(alloc, 1, 3, 2, &marks);
+    does(alloc, &mut gate, row)
+}
+
+#[test]
+fn an_output_below_the_mark(rt: HostRuntime) -> Result<(), Fail> {
+    let right = match holds_after(rt.alloc(), 1, MARKED) {
+        Ok(right) => right,
+        Err(Memory) => holds_after(rt.alloc(), 1, MARKED)?,
+    };
+    assert!(rt; right);
+    Ok(())
+}
+
 /// Whether a gate of three outputs that looks gives this and keeps so many. Where the look is refused memory it keeps all, its
 /// notes stand, and a release without a further look gives what the look would have given.
 fn gives(
@@ -342,7 +369,7 @@ fn all_tell(alloc: Global, gate: &mut TermGate) -> Result<bool, Memory>
 
 /// Whether each does at a term's gate of two harts and three keepers, of which two are needed.
 fn acknowledged(alloc: Global) -> Result<bool, Memory> {
-    let mut gate = TermGate::new(alloc, 1, 2, 3, 2)?;
+    let mut gate = TermGate::new(alloc, 1, 2, 3, 2, &Counts::zero(2))?;
     all_tell(alloc, &mut gate)
 }
 

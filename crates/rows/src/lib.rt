@@ -25,6 +25,8 @@ mod machines;
 #[cfg(test)]
 mod names;
 #[cfg(test)]
+mod notes;
+#[cfg(test)]
 mod queues;
 #[cfg(test)]
 mod rights;

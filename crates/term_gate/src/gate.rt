@@ -2,13 +2,14 @@
 
 ghost use Rattle.std.specs.Prelude.{◌≡◌, ◌≢◌, ◌↔◌, ℕ, ◌<◌, ◌≤◌, ◌++◌, ◌∷◌, [], Err, length, replicate, slice_index, slice_set, IfOk, IfErr, OnOk, OnErr};
 ghost use Rattle.ft_types.specs.declared.names.TheConstants.{HART_LIMIT, HART_ROW, KEEPER_LIMIT};
-ghost use Rattle.output_gate.specs.Gates.{noted_at, line_of, gone_of, waiting_of, offered_of, waiting_count, held_outputs, after_release};
-ghost use Rattle.output_gate.specs.Orders.{RiseByHart};
+ghost use Rattle.output_gate.specs.Gates.{fresh_line, with_offer, noted_at, line_of, offered_of, kept_count, held_outputs, after_release};
+ghost use Rattle.output_gate.specs.Orders.{RiseByHart, AreAbove, ArePassedBelow};
+ghost use Rattle.ft_types.specs.Counts.{count_at};
 ghost use Rattle.term_gate.specs.TermGates.{acked_at, AreAcked};
 
 use crate::seeing::{know_all, see_all};
 use ack_core::{AckFault, Board, GateSeat, KeeperSeat};
-use ft_types::{Hart, Keeper, Memory, Position, Term};
+use ft_types::{Counts, Hart, Keeper, Memory, Position, Term};
 use output_gate::{Gate, Output};
 use std::alloc::Global;
 use std::marker::Model;
@@ -48,13 +49,15 @@ impl Model for TermGate {
 }
 
 impl TermGate {
-    /// A gate to which nothing was offered and at which nothing is noted, and a board on which nothing was published.
+    /// A gate to which nothing was offered and at which nothing is noted, and a board on which nothing was published. Outputs with
+    /// numbers below their hart's mark are never released.
     pub fn new(
         alloc: Global,
         term: Term,
         harts: u8,
         keepers: u8,
         need: u8,
+        marks: &Counts,
     ) -> Result<TermGate, Memory>
         requires harts { (0 < harts) × (harts ≤ HART_LIMIT) }
         requires quorum { (0 < need) × (need ≤ keepers) × (keepers ≤ KEEPER_LIMIT) }
@@ -62,14 +65,14 @@ impl TermGate {
         ensures parts { IfOk result (λ g. (g.gate.term ≡ term) × (g.gate.keepers ≡ keepers) × (g.gate.need ≡ need)) }
         ensures acked { IfOk result (λ g. g.acked ≡ replicate keepers (replicate harts 0)) }
         ensures noted { IfOk result (λ g. (keeper hart : ℕ) → noted_at g.gate keeper hart ≡ 0) }
-        ensures lines { IfOk result (λ g. (hart : ℕ) → line_of g.gate hart ≡ record { gone = []; waiting = [] }) }
+        ensures lines { IfOk result (λ g. (hart : ℕ) → line_of g.gate hart ≡ fresh_line (count_at marks.now hart)) }
     {
         let (board, seats, gate_seat) = Board::new(alloc, term, harts, keepers)?;
         Ok(TermGate {
             board,
             seats,
             gate_seat,
-            gate: Gate::new(alloc, term, keepers, need),
+            gate: Gate::new_after(alloc, term, keepers, need, marks),
         })
     }
 
@@ -94,6 +97,7 @@ impl TermGate {
     pub fn offered(&self, hart: Hart) -> usize
         ensures number { result ≡ length (offered_of self.now.gate hart) }
         ensures harts { length self.now.gate.lines ≡ HART_ROW }
+        ensures passed { ArePassedBelow self.now.gate }
     {
         self.gate.offered(hart)
     }
@@ -101,8 +105,8 @@ impl TermGate {
     /// Takes a hart's next output.
     pub fn offer(&mut self, output: Output) -> Result<(), Memory>
         requires number { output.number ≡ length (offered_of self.old.gate output.hart) }
-        ensures line { OnOk result (line_of self.new.gate output.hart
-            ≡ record { gone = gone_of self.old.gate output.hart; waiting = waiting_of self.old.gate output.hart ++ output ∷ [] }) }
+        ensures line { OnOk result (line_of self.new.gate output.hart ≡ with_offer (line_of self.old.gate output.hart) output) }
+        ensures offered { OnOk result (offered_of self.new.gate output.hart ≡ offered_of self.old.gate output.hart ++ output ∷ []) }
         ensures others { (hart : ℕ) → hart ≢ output.hart → line_of self.new.gate hart ≡ line_of self.old.gate hart }
         ensures rest { self.new ≡ record self.old { gate = record self.old.gate { lines = self.new.gate.lines } } }
         ensures err { OnErr result (self.new ≡ self.old) }
@@ -110,9 +114,9 @@ impl TermGate {
         self.gate.offer(output)
     }
 
-    /// How many outputs wait.
+    /// How many outputs were offered and not released.
     pub fn kept(&self) -> usize
-        ensures { result ≡ waiting_count self.now.gate.lines }
+        ensures { result ≡ kept_count self.now.gate.lines }
     {
         self.gate.kept()
     }
@@ -122,6 +126,7 @@ impl TermGate {
         ensures acked { AreAcked self.old self.new.gate.noted }
         ensures given { IfOk result (λ given. given.items ≡ held_outputs self.old.gate.need self.new.gate.noted self.old.gate.lines) }
         ensures rising { IfOk result (λ given. RiseByHart given.items) }
+        ensures above { IfOk result (λ given. AreAbove self.old.gate given.items) }
         ensures lines { OnOk result ((hart : ℕ) → hart < HART_LIMIT →
             line_of self.new.gate hart ≡ after_release self.old.gate.need self.new.gate.noted (line_of self.old.gate hart)) }
         ensures rest { self.new ≡ record self.old {

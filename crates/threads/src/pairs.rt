@@ -8,6 +8,7 @@ use ft_types::{Failed, HART_LIMIT, Hart, Memory, MemorySink, MemorySource};
 use guest_image::{Image, Machine};
 use log_join::Store;
 use output_gate::Output;
+use page_book::{Book, Recording};
 use pair::{OnThreads, PairEnd, run_pair};
 use std::alloc::Global;
 use std::sync::Wait;
@@ -129,6 +130,30 @@ fn steps_of(machine: &Machine) -> usize {
     steps
 }
 
+/// How many of these outputs are the hart's, with a number below this one.
+fn below(released: &[Output], hart: Hart, number: u64) -> u64 {
+    let mut below = 0u64;
+    for output in released {
+        if output.hart == hart && output.number < number {
+            below = below.saturating_add(1);
+        }
+    }
+    below
+}
+
+/// Whether all that the book notes went out.
+fn notes_are_true(book: &Book<Recording>, released: &[Output]) -> bool {
+    for number in 0..book.machine().harts().min(HART_LIMIT) {
+        let hart = Hart::new(number);
+        for (_at, number) in book.notes().of_hart(hart) {
+            if below(released, hart, *number) != *number {
+                return false;
+            }
+        }
+    }
+    true
+}
+
 /// Of what a pair left: the steps of its harts, how many keepers it has, how many of their stores replay to its machine, and whether all
 /// joined do; how many outputs went out, and stand in order, and are held by as many keepers as are needed.
 fn counted(
@@ -152,7 +177,7 @@ fn counted(
     Ok((numbers, join_leads(alloc, image, stores, machine)?))
 }
 
-/// The same of a pair of this image, where no output is kept back.
+/// The same of a pair of this image, where no output is kept back, and what is noted went out.
 fn counted_of<R: Threads + Wait + Sync>(
     rt: &R,
     alloc: Global,
@@ -167,9 +192,10 @@ fn counted_of<R: Threads + Wait + Sync>(
         book,
         stores,
     } = end_of(rt, alloc, image, keepers, need)?;
+    let is_true = notes_are_true(&book, &released);
     let machine = book.into_machine();
     let (numbers, is_whole) = counted(alloc, image, &stores, &released, &machine, need)?;
-    Ok((numbers, is_whole && kept == 0))
+    Ok((numbers, is_whole && is_true && kept == 0))
 }
 
 #[test]

@@ -8,7 +8,7 @@ use Rattle.ft_types.specs.Counts.{count_at, IsCount}
 use Rattle.interleaving.proofs.Cuts.{here_or_later}
 use Rattle.edge_log.specs.declared.Edge.{Edge}
 use Rattle.fragment_codec.specs.declared.types.Record.{Record}
-use Rattle.fragment_codec.specs.declared.types.Record.TheVariants.{Edge as EdgeRecord, Input as InputRecord}
+use Rattle.fragment_codec.specs.declared.types.Record.TheVariants.{Edge as EdgeRecord, Input as InputRecord, Note as NoteRecord}
 use Rattle.fragment_codec.specs.Facts.{edge_in}
 use Rattle.fragment_codec.specs.Rules.{FragmentParts, OpeningParts, IsRecordOf}
 use Rattle.log_join.specs.Cells.{Cell, One}
@@ -119,6 +119,7 @@ record_of_edge P (EdgeRecord edge ∷ records) e all has =
       | inr later ↦ record_of_edge P records e all.1 later
     ]
 record_of_edge P (InputRecord at input ∷ records) e all has = record_of_edge P records e all.1 has
+record_of_edge P (NoteRecord at number ∷ records) e all has = record_of_edge P records e all.1 has
 
 -- an edge is its piece's hart's, and stands in the range of the piece
 pub record IsEdgeOf (hart : ℕ) (x : FragmentParts) (e : Edge) : Type 0 where

@@ -1,10 +1,10 @@
 -- Looking for the least edge that the counts do not meet.
-use Rattle.std.proofs.Common.{◌≡◌, inl, inr, ℕ, ◌<◌, ◌≤◌, List, [], ◌∷◌, ◌++◌, Contains, Option, Some, None, IfSome, IfNone, refl, sym, ap, subst, ◌∙◌, arith}
+use Rattle.std.proofs.Common.{◌≡◌, ◌≢◌, inl, inr, ℕ, ◌<◌, ◌≤◌, List, [], ◌∷◌, ◌++◌, Contains, Option, Some, None, IfSome, IfNone, refl, sym, ap, subst, ◌∙◌, arith}
 use Rattle.std.proofs.Common.{take, length, get_or, ◌+◌}
 use Rattle.std.specs.List.{filter_map}
 use Rattle.std.proofs.lemmas.List.{take_more, append-nil}
 use Rattle.fragment_codec.specs.declared.types.Record.{Record}
-use Rattle.fragment_codec.specs.declared.types.Record.TheVariants.{Edge as EdgeRecord, Input as InputRecord}
+use Rattle.fragment_codec.specs.declared.types.Record.TheVariants.{Edge as EdgeRecord, Input as InputRecord, Note as NoteRecord}
 use Rattle.input_log.specs.declared.Input.{Input as HartInput}
 use Rattle.fragment_codec.specs.Facts.{edge_in}
 use Rattle.std.proofs.lemmas.List.Elements.{Contains-append_cases, Contains-append_left, Contains-append_right, filter_map-append}
@@ -104,5 +104,10 @@ module _ (records : List Record) (i : ℕ) (x : Record) (less : i < length recor
   next_skipped e edge fine =
       rw (edges_more records i x less is, edge) (scanned_skip (filter_map edge_in (take i records)) cut ceiling below least so_far e fine)
 
-  pub next_input : (at : ℕ) (input : HartInput) → x ≡ InputRecord at input → Scanned (filter_map edge_in (take (i + 1) records)) cut ceiling least below
-  next_input at input other = rw (edges_more records i x less is, other, append-nil (filter_map edge_in (take i records))) so_far
+  no_edge : (r : Record) → ((e : Edge) → r ≢ EdgeRecord e) → filter_map edge_in (r ∷ []) ≡ []
+  no_edge (EdgeRecord e) other = absurd (other e refl)
+  no_edge (InputRecord at input) other = refl
+  no_edge (NoteRecord at number) other = refl
+
+  pub next_other : ((e : Edge) → x ≢ EdgeRecord e) → Scanned (filter_map edge_in (take (i + 1) records)) cut ceiling least below
+  next_other other = rw (edges_more records i x less is, no_edge x other, append-nil (filter_map edge_in (take i records))) so_far

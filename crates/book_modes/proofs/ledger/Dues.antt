@@ -80,6 +80,7 @@ module _ (r new : RecordingView) (hart count : ℕ) (start m : MachineState) (jo
         limits = p.limits;
         logged = p.logged;
         begun = p.begun;
+        noted = p.noted;
         due = record {
           many = ap length t.due ∙ (length-set r.due hart _ ∙ p.due.many);
           edges =

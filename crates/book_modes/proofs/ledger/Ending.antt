@@ -107,6 +107,7 @@ module _ (r : RecordingView) (hart count : ℕ) (taken : List (Option Taken))
           limits = e.kept.limits;
           logged = e.kept.logged;
           begun = e.kept.begun;
+          noted = e.kept.noted;
           due = record {
             many = e.kept.due.many;
             edges = e.kept.due.edges;

@@ -27,10 +27,12 @@ use Rattle.hart_lease.specs.Runs.{counts_of, harts_of, journal_turns}
 use Rattle.book_modes.specs.Dues.{DueView, nothing_due, due_at}
 use Rattle.book_modes.proofs.bells.Unheard.{unheard_rung}
 use Rattle.input_log.specs.Inputs.{is_bell, IsInputOf, inputs_of}
+use Rattle.input_log.specs.Notes.{notes_of}
 use Rattle.input_log.specs.Waiting.{bells_of, others_of}
+use Rattle.input_log.proofs.Notings.{noted_within}
 use Rattle.std.proofs.lemmas.List.Elements.{All-append, All-cons, Contains-get_or}
 use Rattle.std.proofs.lemmas.List.{length-replicate}
-use Rattle.book_modes.specs.Recordings.{RecordingView, IsRecorded, IsUnused, IsOffered, IsDueEdge, IsRung, heard_by, stub_as, IsBetween, log_of, HasHonestLog}
+use Rattle.book_modes.specs.Recordings.{RecordingView, IsRecorded, IsUnused, IsOffered, IsNoting, HasRoomed, IsDueEdge, IsRung, heard_by, stub_as, IsBetween, log_of, HasHonestLog}
 use Rattle.hart_lease.proofs.pages.Slots.{none-replicate}
 use Rattle.book_modes.specs.Hearings.{HearsInTurn}
 use Rattle.hart_lease.proofs.journals.Counts.{counts_is}
@@ -185,6 +187,7 @@ begun_kept r start limits many u rows =
       limits = ap length u.limits_are ∙ many;
       logged = λ hart. subst (All (λ x. x.0 < counts_of start hart)) (sym (u.inputs hart)) (λ k d below. absurd (omega arith));
       begun = λ hart. subst (All (λ x. counts_of start hart ≤ x.0)) (sym (u.inputs hart)) (λ k d below. absurd (omega arith));
+      noted = λ hart. subst (All (λ x. x.0 ≤ counts_of start hart)) (sym (u.notes hart)) (λ k d below. absurd (omega arith));
       due = record {
         many = ap length u.due ∙ length-replicate {A = DueView} HART_ROW nothing_due;
         edges =
@@ -225,6 +228,7 @@ raised_kept r limits start machine journal leases as_many p =
       limits = as_many ∙ p.limits;
       logged = p.logged;
       begun = p.begun;
+      noted = p.noted;
       due = p.due;
       bells = p.bells;
       inputs = p.inputs;
@@ -246,6 +250,7 @@ offered_kept r new hart not_before input start machine journal leases o told pla
       limits = p.limits;
       logged = p.logged;
       begun = p.begun;
+      noted = p.noted;
       due = p.due;
       bells =
           λ other.
@@ -271,4 +276,54 @@ offered_kept r new hart not_before input start machine journal leases o told pla
                 ];
           };
       heard = offered_bells start p.ledger.machine _ p.ledger.edges r new hart not_before input o plain p.heard;
+    })
+
+-- so does a note at a count that its hart has reached
+pub noting_kept : (r new : RecordingView) (hart count number : ℕ) (start machine : MachineState) (journal : List Stretch)
+    (leases : List (Option OpenView)) → IsNoting r hart count number new → count ≤ counts_of machine hart →
+    IsRecorded r start machine journal leases → IsRecorded new start machine journal leases
+noting_kept r new hart count number start machine journal leases is reached p =
+    subst (λ v. IsRecorded v start machine journal leases) (sym is.rest)
+    (record {
+      ledger = p.ledger;
+      led = p.led;
+      size = p.size;
+      log = p.log;
+      rights = p.rights;
+      limits = p.limits;
+      logged = p.logged;
+      begun = p.begun;
+      noted = λ other.
+          elim (same_or_not hart other) [
+            | inl same ↦
+                subst (λ h. All (λ x. x.0 ≤ counts_of machine h) (notes_of new.notes h)) same
+                (subst (All (λ x. x.0 ≤ counts_of machine hart)) (sym is.noted)
+                (noted_within (notes_of r.notes hart) count number (counts_of machine hart) reached (p.noted hart)))
+            | inr ne ↦ subst (All (λ x. x.0 ≤ counts_of machine other)) (sym (is.others other (λ e. ne (sym e)))) (p.noted other)
+          ];
+      due = p.due;
+      bells = p.bells;
+      inputs = p.inputs;
+      heard = p.heard;
+    })
+
+-- and room for more
+pub roomed_kept : (r new : RecordingView) (start machine : MachineState) (journal : List Stretch) (leases : List (Option OpenView)) → HasRoomed r new →
+    IsRecorded r start machine journal leases → IsRecorded new start machine journal leases
+roomed_kept r new start machine journal leases is p =
+    subst (λ v. IsRecorded v start machine journal leases) (sym is.rest)
+    (record {
+      ledger = p.ledger;
+      led = p.led;
+      size = p.size;
+      log = p.log;
+      rights = p.rights;
+      limits = p.limits;
+      logged = p.logged;
+      begun = p.begun;
+      noted = λ hart. subst (All (λ x. x.0 ≤ counts_of machine hart)) (sym (is.same hart)) (p.noted hart);
+      due = p.due;
+      bells = p.bells;
+      inputs = p.inputs;
+      heard = p.heard;
     })

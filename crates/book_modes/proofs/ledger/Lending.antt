@@ -86,6 +86,7 @@ lent_due r hart lent start m journal leases is_hart row closed inputs edges p =
       limits = p.limits;
       logged = p.logged;
       begun = p.begun;
+      noted = p.noted;
       due = record {
         many = p.due.many;
         edges = p.due.edges;
@@ -342,6 +343,7 @@ module _ (r : RecordingView) (machine : MachineState) (leases : List (Option Ope
             limits = p.limits;
             logged = p.logged;
             begun = p.begun;
+            noted = p.noted;
             due = record {
               many = p.due.many;
               edges = p.due.edges;

@@ -1,6 +1,6 @@
 -- A lease that comes back to a book that records.
 use Rattle.std.proofs.Common.{◌≡◌, inl, inr, ℕ, zero, suc, ◌<◌, ◌≤◌, List, [], ◌∷◌, ◌++◌, length, map, get_or, slice_set, Option, None, Some, option_map}
-use Rattle.std.proofs.Common.{Contains, All, AllPairs, refl, sym, ap, subst, ◌∙◌, arith, append_assoc, length-set}
+use Rattle.std.proofs.Common.{Contains, All, AllPairs, refl, sym, ap, subst, ◌∙◌, arith, append_assoc, length-set, le_trans, le_of_eq}
 use Rattle.std.proofs.lemmas.List.{get_or-set_same, get_or-set_other, map-append}
 use Rattle.std.proofs.lemmas.List.Elements.{All-cons, All-head, All-tail, Contains-append_left}
 use Rattle.std.proofs.lemmas.List.Kept.{AllPairs-cons}
@@ -36,6 +36,7 @@ use Rattle.book_modes.proofs.bells.InTurn.{settled_bells}
 use Rattle.book_modes.proofs.bells.Steps.{step_below}
 use Rattle.hart_lease.proofs.journals.Ledger.{lent_ours, settled_is}
 use Rattle.input_log.specs.Inputs.{IsInputOf, inputs_of}
+use Rattle.input_log.specs.Notes.{NotesOfOne, notes_of}
 use Rattle.book_modes.specs.Dues.{DueView}
 use Rattle.hart_lease.proofs.journals.GoingOn.{turns_go_on, stands_ours, row-set_some, row-set_other, others_laid, get-set_here}
 use Rattle.hart_lease.proofs.pages.Places.{get_within}
@@ -187,6 +188,13 @@ module _ (r : RecordingView) (l : LeaseView) (s : IsSettling (IsRecorded r) l) w
       let far = counts_after_le (counts_of s.start) (harts_of s.journal) l.hart in
       omega (arith, far, s.counted l.hart)
 
+  -- no count falls
+  counts_grow : (hart : ℕ) → counts_of s.machine hart ≤ counts_of (laid s.machine l) hart
+  counts_grow hart = elim (same_or_not l.hart hart) [
+    | inl same ↦ subst (λ h. counts_of s.machine h ≤ counts_of (laid s.machine l) h) same (omega (arith, lent_at, now_at, s.is_lease.count))
+    | inr ne ↦ le_of_eq (sym (others_laid s.machine l hart ne))
+  ]
+
   harts_many : length (laid s.machine l).harts ≡ length s.machine.harts
   harts_many = length-set s.machine.harts l.hart l.present
 
@@ -275,6 +283,9 @@ module _ (r : RecordingView) (l : LeaseView) (s : IsSettling (IsRecorded r) l) w
               l.steps refl is.inputs;
           begun = still_begun r new s.start s.machine s.journal s.leases l s.is_lease lent_at now_at in_row (others_laid s.machine l) harts_many s.kept since
               l.steps is.inputs;
+          noted = λ hart.
+              subst (λ (notes : List NotesOfOne). All (λ x. x.0 ≤ counts_of (laid s.machine l) hart) (notes_of notes hart)) (sym is.notes)
+              (λ k d below. le_trans (s.kept.noted hart k d below) (counts_grow hart));
           due = record {
             many = dues_stay r new s.start s.machine s.journal s.leases l s.is_lease lent_at now_at in_row (others_laid s.machine l) harts_many s.kept l.steps
                 is.due;
@@ -320,6 +331,7 @@ settled_of_whole earlier r l keep new is = record {
   unsettled = is.unsettled;
   counts = is.counts;
   inputs = logs_of_whole earlier l.steps r.inputs l new.inputs is.inputs;
+  notes = is.notes;
   due = is.due;
   desk = record { bells = is.desk.bells; others = is.desk.others };
   many = is.many;

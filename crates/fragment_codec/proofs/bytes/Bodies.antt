@@ -1,9 +1,9 @@
 -- What is read of a body is spelled so, and what is spelled so is read.
-use Rattle.std.proofs.Common.{◌≡◌, ◌≢◌, ℕ, ◌+◌, ◌-◌, ◌^◌, ◌<◌, ◌≤◌, ◌&&◌, true, ltb, eqb, List, [], ◌∷◌, ◌++◌, length, Option, Some, refl, sym, ap, subst, ◌∙◌}
+use Rattle.std.proofs.Common.{◌≡◌, ◌≢◌, ℕ, ◌+◌, ◌-◌, ◌^◌, ◌<◌, ◌≤◌, ◌&&◌, true, false, ltb, eqb, List, [], ◌∷◌, ◌++◌, length, Option, Some, refl, sym, ap, subst, ◌∙◌}
 use Rattle.std.proofs.Common.{append_assoc, arith, inl, inr}
 use Rattle.std.specs.Int.{w16, w32, w64}
 use Rattle.std.specs.List.{flat_map, AllByRecursion}
-use Rattle.std.proofs.lemmas.Bool.{ltb-true, lt-ltb, eqb-true, eqb-false, cases_Bool, and_parts}
+use Rattle.std.proofs.lemmas.Bool.{ltb-true, lt-ltb, eqb-true, eqb-false, ne_eqb, cases_Bool, and_parts}
 use Rattle.std.proofs.lemmas.List.{append-nil, nil_from_length}
 use Rattle.ft_types.specs.Guests.{GuestParts}
 use Rattle.ft_types.specs.declared.names.TheConstants.{HART_LIMIT}
@@ -11,13 +11,13 @@ use Rattle.fragment_codec.specs.declared.types.Key.{Key}
 use Rattle.input_log.specs.declared.Input.{Input as HartInput}
 use Rattle.input_log.specs.declared.Input.TheVariants.{Timer, Word, Bell}
 use Rattle.fragment_codec.specs.declared.types.Record.{Record}
-use Rattle.fragment_codec.specs.declared.types.Record.TheVariants.{Edge as EdgeRecord, Input as InputRecord}
-use Rattle.fragment_codec.specs.Rules.{FragmentParts, OpeningParts, IsFragment, IsOpening}
+use Rattle.fragment_codec.specs.declared.types.Record.TheVariants.{Edge as EdgeRecord, Input as InputRecord, Note as NoteRecord}
+use Rattle.fragment_codec.specs.Rules.{FragmentParts, OpeningParts, IsFragment, IsOpening, has_note}
 use Rattle.fragment_codec.specs.Spelling.{log_body, opening_body, number, input_bytes, stand_bytes, record_bytes}
-use Rattle.fragment_codec.specs.Reading.{number_at, byte_at, stand_at, harts_limit, is_span, guest_at, input_of, edge_at, heard_at, record_at, many, place_at}
+use Rattle.fragment_codec.specs.Reading.{number_at, byte_at, stand_at, harts_limit, is_span, guest_at, input_of, edge_at, heard_at, note_at, record_at, many, place_at}
 use Rattle.fragment_codec.specs.Reading.{rest_of, log_of, opening_of}
-use Rattle.fragment_codec.proofs.records.Rules.{FitsInput, FitsStand, FitsRecord, records_fit, counts_fit}
-use Rattle.fragment_codec.proofs.bytes.Fields.{IsBytes, bind_some, chosen_some, chosen, some_is, Reads, reads_byte, reads_guest, reads16, reads32, reads64}
+use Rattle.fragment_codec.proofs.records.Rules.{FitsInput, FitsStand, FitsRecord, noted_later, records_fit, counts_fit}
+use Rattle.fragment_codec.proofs.bytes.Fields.{IsBytes, bind_some, chosen_some, chosen, guard_then, some_is, Reads, reads_byte, reads_guest, reads16, reads32, reads64}
 use Rattle.fragment_codec.proofs.bytes.Fields.{many_all, many_again, FitsGuest}
 
 input_of_is : (kind value : ℕ) (i : HartInput) → value < 2 ^ 32 → input_of kind value ≡ Some i → (kind ∷ number w32 value ≡ input_bytes i) × FitsInput i
@@ -148,6 +148,27 @@ heard_all version from hart bytes r rest fits e =
     subst (λ (y : Record × List ℕ). Got (2 ∷ bytes) (record_bytes version from y.0) y.1 (FitsRecord version from hart y.0)) (some_is (made, d.0.1) (r, rest) i.2)
     (record { parts = whole; rest_fits = reads32.rest b.0.1 d.0.0 d.0.1 fb d.1; fits = (reads.fits bytes a.0.0 a.0.1 fits a.1, is.1) })
 
+note_all : (version from hart : ℕ) (bytes : List ℕ) (r : Record) (rest : List ℕ) → IsBytes bytes → version ≢ 1 → note_at version from bytes ≡ Some (r, rest) →
+    Got (3 ∷ bytes) (record_bytes version from r) rest (FitsRecord version from hart r)
+unfolding note_at record_bytes
+note_all version from hart bytes r rest fits later e =
+    let reads = reads_stand version from in
+    let a = bind_some (stand_at version from bytes) _ (r, rest) e in
+    let d = bind_some (number_at w64 a.0.1) _ (r, rest) a.2 in
+    let fa = reads.rest bytes a.0.0 a.0.1 fits a.1 in
+    let made : Record = NoteRecord a.0.0 d.0.0 in
+    let stand : List ℕ = stand_bytes version from a.0.0 in
+    let inner : bytes ≡ (stand ++ number w64 d.0.0) ++ d.0.1 =
+    reads.parts bytes a.0.0 a.0.1 fits a.1 ∙ ap (λ (x : List ℕ). stand ++ x) (reads64.parts a.0.1 d.0.0 d.0.1 fa d.1) ∙
+    sym (append_assoc stand (number w64 d.0.0) d.0.1) in
+    let whole : 3 ∷ bytes ≡ record_bytes version from made ++ d.0.1 = ap (λ (x : List ℕ). 3 ∷ x) inner in
+    subst (λ (y : Record × List ℕ). Got (3 ∷ bytes) (record_bytes version from y.0) y.1 (FitsRecord version from hart y.0)) (some_is (made, d.0.1) (r, rest) d.2)
+    (record {
+      parts = whole;
+      rest_fits = reads64.rest a.0.1 d.0.0 d.0.1 fa d.1;
+      fits = (reads.fits bytes a.0.0 a.0.1 fits a.1, reads64.fits a.0.1 d.0.0 d.0.1 fa d.1, later);
+    })
+
 record_all : (version from hart : ℕ) (bytes : List ℕ) (r : Record) (rest : List ℕ) → IsBytes bytes → record_at version from hart bytes ≡ Some (r, rest) →
     Got bytes (record_bytes version from r) rest (FitsRecord version from hart r)
 unfolding record_at
@@ -160,14 +181,21 @@ record_all version from hart bytes r rest fits e =
           let g = edge_all version from hart a.0.1 r rest fa h.1 in
           record { parts = p ∙ ap (λ (k : ℕ). k ∷ a.0.1) (eqb-true a.0.0 1 h.0) ∙ g.parts; rest_fits = g.rest_fits; fits = g.fits }
       | inr h ↦
-          let m = chosen_some (eqb a.0.0 2) _ (r, rest) h.1 in
-          let g = heard_all version from hart a.0.1 r rest fa m.1 in
-          record { parts = p ∙ ap (λ (k : ℕ). k ∷ a.0.1) (eqb-true a.0.0 2 m.0) ∙ g.parts; rest_fits = g.rest_fits; fits = g.fits }
+          elim (chosen (eqb a.0.0 2) _ _ _ h.1) [
+            | inl m ↦
+                let g = heard_all version from hart a.0.1 r rest fa m.1 in
+                record { parts = p ∙ ap (λ (k : ℕ). k ∷ a.0.1) (eqb-true a.0.0 2 m.0) ∙ g.parts; rest_fits = g.rest_fits; fits = g.fits }
+            | inr m ↦
+                let n = chosen_some (eqb a.0.0 3) _ (r, rest) m.1 in
+                let l = guard_then (eqb version 1) _ (r, rest) n.1 in
+                let g = note_all version from hart a.0.1 r rest fa (eqb-false version 1 l.0) l.1 in
+                record { parts = p ∙ ap (λ (k : ℕ). k ∷ a.0.1) (eqb-true a.0.0 3 n.0) ∙ g.parts; rest_fits = g.rest_fits; fits = g.fits }
+          ]
     ]
 
 record_again : (version from hart : ℕ) (r : Record) (rest : List ℕ) → FitsRecord version from hart r →
     record_at version from hart (record_bytes version from r ++ rest) ≡ Some (r, rest)
-unfolding record_at record_bytes byte_at edge_at heard_at
+unfolding record_at record_bytes byte_at edge_at heard_at note_at
 record_again version from hart (EdgeRecord e) rest h =
     rw (
       append_assoc (stand_bytes version from e.at) (e.other ∷ number w64 e.after) rest,
@@ -184,6 +212,13 @@ record_again version from hart (InputRecord at input) rest h =
       i.2,
       reads32.again i.1 rest i.3,
       i.4,
+    ) refl
+record_again version from hart (NoteRecord at number1) rest h =
+    rw (
+      append_assoc (stand_bytes version from at) (number w64 number1) rest,
+      ne_eqb version 1 h.2,
+      stand_again version from at (number w64 number1 ++ rest) h.0,
+      reads64.again number1 rest h.1,
     ) refl
 
 pub reads_record : (version from hart : ℕ) → Reads (record_at version from hart) (record_bytes version from) (FitsRecord version from hart)
@@ -241,6 +276,7 @@ pub record GotLog (version : ℕ) (bytes : List ℕ) (f : FragmentParts) : Type 
   pub text : bytes ≡ log_body version f
   pub few : f.guest.harts ≤ harts_limit version
   pub span : is_span version f.from f.to ≡ true
+  pub plain : version ≡ 1 → has_note f.records ≡ false
 
 pub log_all : (version : ℕ) (bytes : List ℕ) (f : FragmentParts) → IsBytes bytes → log_of version bytes ≡ Some f → GotLog version bytes f
 unfolding log_of rest_of log_body
@@ -269,12 +305,17 @@ log_all version bytes f fits e =
     (sym m.2))) in
     let whole : bytes ≡ log_body version parts = g.parts ∙ ap (λ (x : List ℕ). q.0.0.digest ++
     (q.0.0.harts ∷ q.0.1.hart ∷ (number w32 q.0.1.term ++ (number w32 q.0.1.place ++ x)))) inner in
-    subst (λ (y : FragmentParts). GotLog version bytes y) (some_is parts f g0.1) (record { text = whole; few = g.few; span = tests.0 })
+    subst (λ (y : FragmentParts). GotLog version bytes y) (some_is parts f g0.1) (record {
+      text = whole;
+      few = g.few;
+      span = tests.0;
+      plain = noted_later version a.0.0 q.0.1.hart r.0.0 m.3;
+    })
 
 pub log_again : (version : ℕ) (f : FragmentParts) → IsFragment f → f.guest.harts ≤ harts_limit version → is_span version f.from f.to ≡ true →
-    (version ≢ 1 → f.to - f.from < 2 ^ 32) → log_of version (log_body version f) ≡ Some f
+    (version ≢ 1 → f.to - f.from < 2 ^ 32) → (has_note f.records ≡ true → version ≢ 1) → log_of version (log_body version f) ≡ Some f
 unfolding log_of rest_of log_body byte_at place_at
-log_again version f h few span short =
+log_again version f h few span short later =
     let limit = h.records.limit in
     let hart : f.key.hart < HART_LIMIT = omega (arith, h.key.hart, h.guest.limit) in
     rw (
@@ -286,7 +327,7 @@ log_again version f h few span short =
       reads64.again f.to _ (omega (arith, h.end)),
       reads16.again (length f.records) _ (omega (arith, limit)),
       many_whole (record_at version f.from f.key.hart) (record_bytes version f.from) (FitsRecord version f.from f.key.hart)
-          (reads_record version f.from f.key.hart) f.records (records_fit version f h short),
+          (reads_record version f.from f.key.hart) f.records (records_fit version f h short later),
       span,
     ) refl
 

@@ -1,5 +1,5 @@
 -- A whole frame at the front of a stream.
-use Rattle.std.proofs.Common.{◌≡◌, ◌≢◌, ℕ, ◌+◌, ◌-◌, ◌<◌, ◌≤◌, ◌^◌, eqb, true, List, [], ◌∷◌, ◌++◌, length, slice_index, take, drop, Some, Ok, refl, sym, ap, subst, ◌∙◌}
+use Rattle.std.proofs.Common.{◌≡◌, ◌≢◌, ℕ, ◌+◌, ◌-◌, ◌<◌, ◌≤◌, ◌^◌, eqb, true, false, true≢false, List, [], ◌∷◌, ◌++◌, length, slice_index, take, drop, Some, Ok, refl, sym, ap, subst, ◌∙◌}
 use Rattle.std.proofs.Common.{append_assoc, arith, inl, inr, ◌⊎◌}
 use Rattle.std.specs.Int.{w32, from_le_bytes, to_le_bytes}
 use Rattle.std.proofs.lemmas.Bool.{eqb-true, eqb-false, ltb-true}
@@ -11,7 +11,7 @@ use Rattle.ft_types.specs.declared.names.TheConstants.{HART_LIMIT}
 use Rattle.fragment_codec.specs.declared.frame.Frame.{Frame}
 use Rattle.fragment_codec.specs.declared.frame.Frame.TheVariants.{Log, Opening}
 use Rattle.fragment_codec.specs.Spelling.{number, headed, sealed, log_body, opening_body}
-use Rattle.fragment_codec.specs.Rules.{FragmentParts, OpeningParts}
+use Rattle.fragment_codec.specs.Rules.{FragmentParts, OpeningParts, has_note}
 use Rattle.fragment_codec.specs.Reading.{harts_limit, is_span, log_of, opening_of, frame_of}
 use Rattle.fragment_codec.specs.Streams.{Spelled, text_of, spelled, harts_of, HasSpelling, IsSpelled, IsFrame, head_of, HasDigest}
 use Rattle.fragment_codec.proofs.bytes.Heads.{IsHead, head_is, head_bounds}
@@ -69,12 +69,12 @@ unseal version kind body whole more text w t =
 
 -- what was read in a version has a spelling in it
 log_told : (version : ℕ) (f : FragmentParts) → (version ≡ 1) ⊎ (version ≡ 2) → f.guest.harts ≤ harts_limit version → is_span version f.from f.to ≡ true →
-    HasSpelling version (Log f)
-log_told version f (inl one) few span = inl (one, subst (λ (v : ℕ). f.guest.harts ≤ harts_limit v) one few)
-log_told version f (inr two) few span = inr (two, subst (λ (v : ℕ). is_span v f.from f.to ≡ true) two span)
+    (version ≡ 1 → has_note f.records ≡ false) → HasSpelling version (Log f)
+log_told version f (inl one) few span plain = inl (one, subst (λ (v : ℕ). f.guest.harts ≤ harts_limit v) one few, plain one)
+log_told version f (inr two) few span plain = inr (two, subst (λ (v : ℕ). is_span v f.from f.to ≡ true) two span)
 
 opening_told : (version : ℕ) (o : OpeningParts) → (version ≡ 1) ⊎ (version ≡ 2) → o.guest.harts ≤ harts_limit version → HasSpelling version (Opening o)
-opening_told version o (inl one) few = inl (one, subst (λ (v : ℕ). o.guest.harts ≤ harts_limit v) one few)
+opening_told version o (inl one) few = inl (one, subst (λ (v : ℕ). o.guest.harts ≤ harts_limit v) one few, refl)
 opening_told version o (inr two) few = inr (two, refl)
 
 -- and what has a spelling in a version keeps to its limits
@@ -89,6 +89,10 @@ right_span version f (inr h) = subst (λ (v : ℕ). is_span v f.from f.to ≡ tr
 pub short_span : (version : ℕ) (f : FragmentParts) → HasSpelling version (Log f) → version ≢ 1 → f.to - f.from < 2 ^ 32
 short_span version f (inl h) ne = absurd (ne h.0)
 short_span version f (inr h) ne = ltb-true (f.to - f.from) (2 ^ 32) h.1
+
+told_later : (version : ℕ) (f : FragmentParts) → HasSpelling version (Log f) → has_note f.records ≡ true → version ≢ 1
+told_later version f (inl h) noted one = true≢false (sym noted ∙ h.2)
+told_later version f (inr h) noted one = absurd (omega (arith, h.0))
 
 -- ---- frames
 
@@ -108,7 +112,7 @@ frame_all version kind body f v k fits e =
           let text : sealed (headed version 1 body) ≡ spelled version (Log a.0) = ap (λ (x : List ℕ). sealed (headed version 1 x)) g.text in
           subst (IsRead version kind body) (some_is (Log a.0) f a.2) (record {
             text = ap (λ (i : ℕ). sealed (headed version i body)) (eqb-true kind 1 h.0) ∙ text;
-            told = log_told version a.0 v g.few g.span;
+            told = log_told version a.0 v g.few g.span g.plain;
           })
       | inr h ↦
           let a = bind_some (opening_of version body) _ f h.1 in
@@ -131,7 +135,8 @@ pub frame_again : (version : ℕ) (f : Frame) (whole more text : List ℕ) → I
 unfolding frame_of
 frame_again version (Log g) whole more text h told w t =
     let u = unseal version 1 (log_body version g) whole more text w t in
-    let again = log_again version g h (few_harts version (Log g) h.guest.limit told) (right_span version g told) (short_span version g told) in
+    let again = log_again version g h (few_harts version (Log g) h.guest.limit told) (right_span version g told) (short_span version g told)
+    (told_later version g told) in
     record { byte = u.0; frame = rw (u.1, u.2, again) refl }
 frame_again version (Opening o) whole more text h told w t =
     let u = unseal version 2 (opening_body o) whole more text w t in

@@ -11,7 +11,7 @@ use Rattle.std.specs.List.{flat_map}
 use Rattle.input_log.specs.declared.Input.{Input as HartInput}
 use Rattle.input_log.specs.declared.Input.TheVariants.{Timer, Word, Bell}
 use Rattle.fragment_codec.specs.declared.types.Record.{Record}
-use Rattle.fragment_codec.specs.declared.types.Record.TheVariants.{Edge as EdgeRecord, Input as InputRecord}
+use Rattle.fragment_codec.specs.declared.types.Record.TheVariants.{Edge as EdgeRecord, Input as InputRecord, Note as NoteRecord}
 use Rattle.fragment_codec.specs.Rules.{FragmentParts, OpeningParts}
 use Rattle.fragment_codec.specs.Spelling.{number, input_bytes, stand_bytes, record_bytes, log_body, opening_body}
 
@@ -48,6 +48,10 @@ length_record version from (InputRecord at input) =
     let l = length-append (stand_bytes version from at) (input_bytes input) in
     let s = length_stand version from at in
     (omega (arith, length_input input, l, s.0), λ ne. omega (arith, length_input input, l, s.1 ne))
+length_record version from (NoteRecord at number1) =
+    let l = length-append (stand_bytes version from at) (number w64 number1) in
+    let s = length_stand version from at in
+    (omega (arith, length_number number1, l, s.0), λ ne. omega (arith, length_number number1, l, s.1 ne))
 
 -- a log body with this text in the place of the records
 abbrev pub log_front : FragmentParts → List ℕ → List ℕ

@@ -12,9 +12,9 @@ use Rattle.fragment_codec.specs.declared.frame.Frame.{Frame}
 use Rattle.fragment_codec.specs.declared.frame.Frame.TheVariants.{Log, Opening}
 use Rattle.fragment_codec.specs.declared.types.Key.{Key}
 use Rattle.fragment_codec.specs.declared.types.Record.{Record}
-use Rattle.fragment_codec.specs.Rules.{IsKey, AreRecords, FragmentParts, IsFragment, OpeningParts, IsOpening}
+use Rattle.fragment_codec.specs.Rules.{IsKey, AreRecords, FragmentParts, IsFragment, OpeningParts, IsOpening, has_note}
 use Rattle.fragment_codec.specs.Slots.{are_right}
-use Rattle.fragment_codec.specs.Streams.{Spelled, harts_of, is_short, IsSpelled, IsFrame}
+use Rattle.fragment_codec.specs.Streams.{Spelled, harts_of, is_noted, is_short, HasSpelling, IsSpelled, IsFrame}
 use Rattle.fragment_codec.proofs.records.Slots.{right_records, records_right}
 
 -- it holds, or it does not
@@ -82,20 +82,30 @@ records harts hart from to rs le =
     elim (cases_lt RECORD_LIMIT (length rs)) [
       | inl long ↦ inr (λ h. let limit = h.limit in omega (arith, limit, long))
       | inr limit ↦
-          elim (cases_Bool (are_right harts hart to from 0 rs)) [
-            | inl e ↦ inl (right_records harts hart from to rs le limit e)
-            | inr e ↦ inr (λ h. let yes = sym e ∙ records_right harts hart from to rs le h in cc)
+          elim (cases_Bool (are_right harts hart to from 0 0 rs)) [
+            | inl e ↦ inl (right_records harts hart from to le rs limit e)
+            | inr e ↦ inr (λ h. let yes = sym e ∙ records_right harts hart from to le rs h in cc)
           ]
     ]
+
+is_true : (b : Bool) → Decided (b ≡ true)
+is_true true = inl refl
+is_true false = inr (λ e. cc)
+
+is_false : (b : Bool) → Decided (b ≡ false)
+is_false true = inr (λ e. cc)
+is_false false = inl refl
 
 fragment : (f : FragmentParts) → Decided (IsFragment f)
 fragment f =
     elim (guest f.guest) [
       | inl g ↦
-          by_same (λ h. record { guest = g; key = h.0; some = h.1.0; end = h.1.1.0; short = h.1.1.1.0; records = h.1.1.1.1 })
-          (λ h. (h.key, (h.some, (h.end, (h.short, h.records)))))
+          by_same (λ h. record { guest = g; key = h.0; some = h.1.0; end = h.1.1.0; short = h.1.1.1.0; noted = h.1.1.1.1.0; records = h.1.1.1.1.1 })
+          (λ h. (h.key, (h.some, (h.end, (h.short, (h.noted, h.records))))))
           (both (key f.guest.harts f.key) (both (below f.from f.to) (both (below f.to (2 ^ 48))
-          (both (given (below FIRST_HARTS f.guest.harts) (below (f.to - f.from) (2 ^ 32))) (records f.guest.harts f.key.hart f.from f.to f.records g.limit)))))
+          (both (given (below FIRST_HARTS f.guest.harts) (below (f.to - f.from) (2 ^ 32)))
+          (both (given (is_true (has_note f.records)) (below (f.to - f.from) (2 ^ 32)))
+          (records f.guest.harts f.key.hart f.from f.to f.records g.limit))))))
       | inr fails ↦ inr (λ h. fails h.guest)
     ]
 
@@ -119,11 +129,12 @@ either (inl p) q = inl (inl p)
 either (inr fails) (inl q) = inl (inr q)
 either (inr fails) (inr ends) = inr (λ h. elim h [ inl p ↦ fails p | inr q ↦ ends q ])
 
-is_true : (b : Bool) → Decided (b ≡ true)
-is_true true = inl refl
-is_true false = inr (λ e. cc)
+told : (version : ℕ) (f : Frame) → Decided (HasSpelling version f)
+told version f =
+    either
+    (by_same (λ h. (h.0, h.1.0, h.1.1)) (λ h. (h.0, (h.1, h.2)))
+    (both (cases_eq version 1) (both (at_most (harts_of f) FIRST_HARTS) (is_false (is_noted f)))))
+    (both (cases_eq version 2) (is_true (is_short f)))
 
 pub spelled : (s : Spelled) → Decided (IsSpelled s)
-spelled s =
-    by_same (λ h. record { rules = h.0; told = h.1 }) (λ h. (h.rules, h.told))
-    (both (frame s.frame) (either (both (cases_eq s.version 1) (at_most (harts_of s.frame) FIRST_HARTS)) (both (cases_eq s.version 2) (is_true (is_short s.frame)))))
+spelled s = by_same (λ h. record { rules = h.0; told = h.1 }) (λ h. (h.rules, h.told)) (both (frame s.frame) (told s.version s.frame))

@@ -7,6 +7,7 @@ use Rattle.std.proofs.lemmas.List.Concat.{flat_map-append}
 use Rattle.fragment_codec.specs.declared.frame.Frame.{Frame}
 use Rattle.fragment_codec.specs.declared.frame.Frame.TheVariants.{Log, Opening}
 use Rattle.fragment_codec.specs.declared.front.Front.TheVariants.{Whole}
+use Rattle.fragment_codec.specs.Rules.{has_note}
 use Rattle.fragment_codec.specs.Streams.{Spelled, text_of, is_short, HasSpelling, IsSpelled, version_of, spelling, IsFrame, Splits}
 use Rattle.fragment_codec.specs.Fronts.{IsFront, spelled_in}
 use Rattle.fragment_codec.specs.declared.types.TheConstants.{FIRST_HARTS}
@@ -134,6 +135,10 @@ written (Log g) h e =
       elim (cases_lt FIRST_HARTS g.guest.harts) [
         | inl more ↦ absurd (let yes = lt-ltb _ _ (h.short more) in let same = sym e ∙ yes in cc)
         | inr few ↦ few
+      ],
+      elim (cases_Bool (has_note g.records)) [
+        | inl noted ↦ absurd (let yes = lt-ltb _ _ (h.noted noted) in let same = sym e ∙ yes in cc)
+        | inr plain ↦ plain
       ],
     )
 

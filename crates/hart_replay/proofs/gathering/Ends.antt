@@ -9,7 +9,7 @@ use Rattle.interleaving.proofs.Cuts.{here, here_or_later}
 use Rattle.edge_log.specs.declared.Edge.{Edge as OwnedEdge}
 use Rattle.edge_log.specs.EdgeLog.{edge_as}
 use Rattle.fragment_codec.specs.declared.types.Record.{Record}
-use Rattle.fragment_codec.specs.declared.types.Record.TheVariants.{Edge as EdgeRecord, Input as InputRecord}
+use Rattle.fragment_codec.specs.declared.types.Record.TheVariants.{Edge as EdgeRecord, Input as InputRecord, Note as NoteRecord}
 use Rattle.fragment_codec.specs.Rules.{FragmentParts, count_of}
 use Rattle.log_join.specs.Cells.{Cell, Absent, One, Clash}
 use Rattle.log_join.specs.Stores.{StoreView}
@@ -23,7 +23,7 @@ use Rattle.hart_replay.proofs.walking.Walk.{Leaves}
 
 -- ---- what is among records
 
-in_filter : (p : Record → Bool) (rs : List Record) (r : Record) → Contains (filter p rs) r → Contains rs r × (p r ≡ true)
+pub in_filter : (p : Record → Bool) (rs : List Record) (r : Record) → Contains (filter p rs) r → Contains rs r × (p r ≡ true)
 in_filter p [] r (k, less, is) = absurd (omega arith)
 in_filter p (x ∷ rs) r has = go (p x) refl (in_filter p rs r) has
   where
@@ -46,6 +46,8 @@ edge_record (EdgeRecord x ∷ rs) e has =
     ]
 edge_record (InputRecord at input ∷ rs) e has =
     let (y, in_rest, is) = edge_record rs e has in (y, Contains-append_right (InputRecord at input ∷ []) rs (EdgeRecord y) in_rest, is)
+edge_record (NoteRecord at number ∷ rs) e has =
+    let (y, in_rest, is) = edge_record rs e has in (y, Contains-append_right (NoteRecord at number ∷ []) rs (EdgeRecord y) in_rest, is)
 
 pub record_edge : (rs : List Record) (x : OwnedEdge) → Contains rs (EdgeRecord x) → Contains (edges_among rs) (edge_as x)
 record_edge [] x (k, less, is) = absurd (omega arith)
@@ -59,6 +61,11 @@ record_edge (EdgeRecord y ∷ rs) x has =
     same_edge e = cc
 record_edge (InputRecord at input ∷ rs) x has =
     elim (here_or_later (InputRecord at input) rs (EdgeRecord x) has) [
+      | inl same ↦ cc
+      | inr later ↦ record_edge rs x later
+    ]
+record_edge (NoteRecord at number ∷ rs) x has =
+    elim (here_or_later (NoteRecord at number) rs (EdgeRecord x) has) [
       | inl same ↦ cc
       | inr later ↦ record_edge rs x later
     ]

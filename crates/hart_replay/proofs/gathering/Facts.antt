@@ -9,7 +9,7 @@ use Rattle.interleaving.proofs.Cuts.{here, here_or_later}
 use Rattle.input_log.specs.declared.Input.{Input}
 use Rattle.input_log.specs.Inputs.{inputs_at}
 use Rattle.fragment_codec.specs.declared.types.Record.{Record}
-use Rattle.fragment_codec.specs.declared.types.Record.TheVariants.{Edge as EdgeRecord, Input as InputRecord}
+use Rattle.fragment_codec.specs.declared.types.Record.TheVariants.{Edge as EdgeRecord, Input as InputRecord, Note as NoteRecord}
 use Rattle.fragment_codec.specs.Rules.{FragmentParts, IsFragment, IsRecordOf, count_of}
 use Rattle.log_join.specs.Cells.{Cell, One}
 use Rattle.closed_cut.specs.Position.{edges_of as piece_edges, Goes}
@@ -23,7 +23,7 @@ use Rattle.hart_replay.proofs.gathering.Ends.{edge_record, record_edge, fact_edg
 
 -- ---- lists of records
 
-to_filter : (p : Record → Bool) (rs : List Record) (r : Record) → Contains rs r → p r ≡ true → Contains (filter p rs) r
+pub to_filter : (p : Record → Bool) (rs : List Record) (r : Record) → Contains rs r → p r ≡ true → Contains (filter p rs) r
 to_filter p [] r (k, less, is) tells = absurd (omega arith)
 to_filter p (x ∷ rs) r has tells = go (p x) refl (to_filter p rs r)
   where
@@ -39,7 +39,7 @@ to_filter p (x ∷ rs) r has tells = go (p x) refl (to_filter p rs r)
           | inr later ↦ among later tells
         ]
 
-to_records : (pieces : ℕ → Cell FragmentParts) (n place : ℕ) (f : FragmentParts) (r : Record) → place < n → pieces place ≡ One f → Contains f.records r →
+pub to_records : (pieces : ℕ → Cell FragmentParts) (n place : ℕ) (f : FragmentParts) (r : Record) → place < n → pieces place ≡ One f → Contains f.records r →
     Contains (records_of pieces n) r
 to_records pieces zero place f r less one has = absurd (omega arith)
 to_records pieces (suc n) place f r less one has =
@@ -60,6 +60,7 @@ none_there (EdgeRecord e ∷ rs) n all = none_there rs n (All-tail (λ r. count_
 none_there (InputRecord at input ∷ rs) n all =
     rw (ne_eqb at n (All-head (λ r. count_of r ≢ n) (InputRecord at input) rs all))
     (none_there rs n (All-tail (λ r. count_of r ≢ n) (InputRecord at input) rs all))
+none_there (NoteRecord at number ∷ rs) n all = none_there rs n (All-tail (λ r. count_of r ≢ n) (NoteRecord at number) rs all)
 
 -- those below an end have them all
 below_there : (end : ℕ) (rs : List Record) (n : ℕ) → n < end → inputs_at (inputs_among (below end rs)) n ≡ inputs_at (inputs_among rs) n
@@ -68,6 +69,11 @@ below_there end (EdgeRecord e ∷ rs) n less =
     elim (cases_lt e.at end) [
       | inl inside ↦ rw (lt-ltb e.at end inside) (below_there end rs n less)
       | inr over ↦ rw (le-ltb e.at end over) (below_there end rs n less)
+    ]
+below_there end (NoteRecord at number ∷ rs) n less =
+    elim (cases_lt at end) [
+      | inl inside ↦ rw (lt-ltb at end inside) (below_there end rs n less)
+      | inr over ↦ rw (le-ltb at end over) (below_there end rs n less)
     ]
 below_there end (InputRecord at input ∷ rs) n less =
     elim (cases_lt at end) [

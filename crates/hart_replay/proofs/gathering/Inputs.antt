@@ -10,7 +10,7 @@ use Rattle.ft_types.specs.declared.names.TheConstants.{INPUT_LIMIT}
 use Rattle.input_log.specs.declared.Input.{Input}
 use Rattle.input_log.specs.Inputs.{inputs_of, inputs_at, MayFollow}
 use Rattle.fragment_codec.specs.declared.types.Record.{Record}
-use Rattle.fragment_codec.specs.declared.types.Record.TheVariants.{Edge as EdgeRecord, Input as InputRecord}
+use Rattle.fragment_codec.specs.declared.types.Record.TheVariants.{Edge as EdgeRecord, Input as InputRecord, Note as NoteRecord}
 use Rattle.fragment_codec.specs.Rules.{FragmentParts, IsFragment, is_input_at}
 use Rattle.hart_replay.specs.Facts.{below, inputs_among}
 use Rattle.hart_replay.specs.Taking.{TakesInputs, InputsEndBelow}
@@ -54,6 +54,13 @@ few_at end n (EdgeRecord e ∷ rs) =
     (elim (cases_lt e.at end) [
       | inl less ↦ rw (lt-ltb e.at end less) (omega arith)
       | inr over ↦ rw (le-ltb e.at end over) (omega arith)
+    ])
+few_at end n (NoteRecord at number ∷ rs) =
+    let ih = few_at end n rs in
+    subst (λ m. length (inputs_at (inputs_among (below end (NoteRecord at number ∷ rs))) n) ≤ m) (sym (count-cons n (NoteRecord at number) rs))
+    (elim (cases_lt at end) [
+      | inl less ↦ rw (lt-ltb at end less) (omega arith)
+      | inr over ↦ rw (le-ltb at end over) (omega arith)
     ])
 few_at end n (InputRecord at input ∷ rs) =
     let ih = few_at end n rs in

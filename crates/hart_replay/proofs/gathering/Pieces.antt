@@ -7,10 +7,11 @@ use Rattle.log_join.specs.Cells.{Cell, One}
 use Rattle.log_join.specs.Stores.{StoreView, IsStore}
 use Rattle.closed_cut.specs.Position.{pieces_of, Goes}
 use Rattle.closed_cut.proofs.Reach.{goes_above}
-use Rattle.hart_replay.specs.Facts.{records_in, records_of, below, edges_among, inputs_among}
-use Rattle.hart_replay.specs.Taking.{TakesEdges, TakesInputs}
-use Rattle.hart_replay.proofs.gathering.Records.{below-append, edges_among-append, inputs_among-append, takes_both}
+use Rattle.hart_replay.specs.Facts.{records_in, records_of, below, edges_among, inputs_among, notes_among}
+use Rattle.hart_replay.specs.Taking.{TakesEdges, TakesInputs, TakesNotes}
+use Rattle.hart_replay.proofs.gathering.Records.{below-append, edges_among-append, inputs_among-append, notes_among-append, takes_both}
 use Rattle.hart_replay.proofs.gathering.Inputs.{takes_both as takes_both_inputs}
+use Rattle.hart_replay.proofs.gathering.Notes.{takes_both as takes_both_notes}
 
 -- a piece of a store stands at its key, and is of its guest
 module _ (store : StoreView) (rules : IsStore store) (term hart place : ℕ) (f : FragmentParts) (one : pieces_of store term hart place ≡ One f) where
@@ -50,3 +51,10 @@ module _ (pieces : ℕ → Cell FragmentParts) (place : ℕ) (f : FragmentParts)
       subst (λ l. TakesInputs hart old l new)
       (sym (ap inputs_among below_more ∙ inputs_among-append (below end (records_of pieces place)) (below end f.records)))
       (takes_both_inputs hart old mid new (inputs_among (below end (records_of pieces place))) (inputs_among (below end f.records)) so_far more)
+
+  pub notes_on : (hart : ℕ) (old mid new : List ℕ) → TakesNotes hart old (notes_among (below end (records_of pieces place))) mid →
+      TakesNotes hart mid (notes_among (below end f.records)) new → TakesNotes hart old (notes_among (below end (records_of pieces (place + 1)))) new
+  notes_on hart old mid new so_far more =
+      subst (λ l. TakesNotes hart old l new)
+      (sym (ap notes_among below_more ∙ notes_among-append (below end (records_of pieces place)) (below end f.records)))
+      (takes_both_notes hart old mid new (notes_among (below end (records_of pieces place))) (notes_among (below end f.records)) so_far more)

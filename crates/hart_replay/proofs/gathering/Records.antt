@@ -12,10 +12,10 @@ use Rattle.edge_log.specs.declared.Edge.{Edge as OwnedEdge}
 use Rattle.edge_log.specs.EdgeLog.{Edges, edge_as, edges_of, row_of, start_of}
 use Rattle.input_log.specs.declared.Input.{Input}
 use Rattle.fragment_codec.specs.declared.types.Record.{Record}
-use Rattle.fragment_codec.specs.declared.types.Record.TheVariants.{Edge as EdgeRecord, Input as InputRecord}
+use Rattle.fragment_codec.specs.declared.types.Record.TheVariants.{Edge as EdgeRecord, Input as InputRecord, Note as NoteRecord}
 use Rattle.fragment_codec.specs.Rules.{FragmentParts, IsFragment, IsRecordOf, MayPrecede, AreInOrder, count_of}
-use Rattle.fragment_codec.specs.Facts.{edge_in, input_in}
-use Rattle.hart_replay.specs.Facts.{below, edges_among, inputs_among}
+use Rattle.fragment_codec.specs.Facts.{edge_in, input_in, note_in}
+use Rattle.hart_replay.specs.Facts.{below, edges_among, inputs_among, notes_among}
 use Rattle.hart_replay.specs.Taking.{TakesEdges, EdgesEndBy}
 
 -- ---- order
@@ -26,6 +26,11 @@ no_earlier (EdgeRecord first) (EdgeRecord second) (inr (same, lower)) = omega ar
 no_earlier (EdgeRecord first) (InputRecord at input) le = le
 no_earlier (InputRecord at input) (EdgeRecord second) less = omega arith
 no_earlier (InputRecord at input) (InputRecord next other) le = le
+no_earlier (EdgeRecord first) (NoteRecord at number) le = le
+no_earlier (InputRecord at input) (NoteRecord next number) le = le
+no_earlier (NoteRecord at number) (EdgeRecord second) less = omega arith
+no_earlier (NoteRecord at number) (InputRecord next input) less = omega arith
+no_earlier (NoteRecord at number) (NoteRecord next more) less = omega (arith, less.0)
 
 order_drop : (rs : List Record) (i : ℕ) → AreInOrder rs → AreInOrder (drop i rs)
 order_drop rs zero order = order
@@ -58,6 +63,9 @@ edges_among-append a b = ap (map edge_as) (filter_map-append edge_in a b) ∙ ma
 pub inputs_among-append : (a b : List Record) → inputs_among (a ++ b) ≡ inputs_among a ++ inputs_among b
 inputs_among-append a b = filter_map-append input_in a b
 
+pub notes_among-append : (a b : List Record) → notes_among (a ++ b) ≡ notes_among a ++ notes_among b
+notes_among-append a b = filter_map-append note_in a b
+
 module _ (end : ℕ) (rs : List Record) (i : ℕ) (r : Record) (less : i < length rs) (is : r ≡ get_or rs i r) where
   below_more : below end (take (i + 1) rs) ≡ below end (take i rs) ++ below end (r ∷ [])
   below_more = ap (below end) (take_more rs i r less ∙ ap (λ x. take i rs ++ x ∷ []) (sym is)) ∙ below-append end (take i rs) (r ∷ [])
@@ -68,25 +76,50 @@ module _ (end : ℕ) (rs : List Record) (i : ℕ) (r : Record) (less : i < lengt
   pub inputs_more : inputs_among (below end (take (i + 1) rs)) ≡ inputs_among (below end (take i rs)) ++ inputs_among (below end (r ∷ []))
   inputs_more = ap inputs_among below_more ∙ inputs_among-append (below end (take i rs)) (below end (r ∷ []))
 
+  pub notes_more : notes_among (below end (take (i + 1) rs)) ≡ notes_among (below end (take i rs)) ++ notes_among (below end (r ∷ []))
+  notes_more = ap notes_among below_more ∙ notes_among-append (below end (take i rs)) (below end (r ∷ []))
+
 pub below_one : (end : ℕ) (r : Record) → count_of r < end → below end (r ∷ []) ≡ r ∷ []
 below_one end r less = rw (lt-ltb (count_of r) end less) refl
 
 pub below_none : (end : ℕ) (r : Record) → end ≤ count_of r → below end (r ∷ []) ≡ []
 below_none end r over = rw (le-ltb (count_of r) end over) refl
 
--- an input is no edge, and an edge no input
-pub no_edge : (end at : ℕ) (input : Input) → edges_among (below end (InputRecord at input ∷ [])) ≡ []
-no_edge end at input =
-    elim (cases_lt at end) [
-      | inl less ↦ ap edges_among (below_one end (InputRecord at input) less)
-      | inr over ↦ ap edges_among (below_none end (InputRecord at input) over)
+-- a record of one kind is none of another
+is_no_edge : (r : Record) → ((e : OwnedEdge) → r ≢ EdgeRecord e) → edges_among (r ∷ []) ≡ []
+is_no_edge (EdgeRecord e) other = absurd (other e refl)
+is_no_edge (InputRecord at input) other = refl
+is_no_edge (NoteRecord at number) other = refl
+
+pub no_edge : (end : ℕ) (r : Record) → ((e : OwnedEdge) → r ≢ EdgeRecord e) → edges_among (below end (r ∷ [])) ≡ []
+no_edge end r other =
+    elim (cases_lt (count_of r) end) [
+      | inl less ↦ ap edges_among (below_one end r less) ∙ is_no_edge r other
+      | inr over ↦ ap edges_among (below_none end r over)
     ]
 
-pub no_input : (end : ℕ) (e : OwnedEdge) → inputs_among (below end (EdgeRecord e ∷ [])) ≡ []
-no_input end e =
-    elim (cases_lt e.at end) [
-      | inl less ↦ ap inputs_among (below_one end (EdgeRecord e) less)
-      | inr over ↦ ap inputs_among (below_none end (EdgeRecord e) over)
+is_no_input : (r : Record) → ((at : ℕ) (input : Input) → r ≢ InputRecord at input) → inputs_among (r ∷ []) ≡ []
+is_no_input (EdgeRecord e) other = refl
+is_no_input (InputRecord at input) other = absurd (other at input refl)
+is_no_input (NoteRecord at number) other = refl
+
+pub no_input : (end : ℕ) (r : Record) → ((at : ℕ) (input : Input) → r ≢ InputRecord at input) → inputs_among (below end (r ∷ [])) ≡ []
+no_input end r other =
+    elim (cases_lt (count_of r) end) [
+      | inl less ↦ ap inputs_among (below_one end r less) ∙ is_no_input r other
+      | inr over ↦ ap inputs_among (below_none end r over)
+    ]
+
+is_no_note : (r : Record) → ((at number : ℕ) → r ≢ NoteRecord at number) → notes_among (r ∷ []) ≡ []
+is_no_note (EdgeRecord e) other = refl
+is_no_note (InputRecord at input) other = refl
+is_no_note (NoteRecord at number) other = absurd (other at number refl)
+
+pub no_note : (end : ℕ) (r : Record) → ((at number : ℕ) → r ≢ NoteRecord at number) → notes_among (below end (r ∷ [])) ≡ []
+no_note end r other =
+    elim (cases_lt (count_of r) end) [
+      | inl less ↦ ap notes_among (below_one end r less) ∙ is_no_note r other
+      | inr over ↦ ap notes_among (below_none end r over)
     ]
 
 -- ---- records of a piece

@@ -4,9 +4,9 @@ use Rattle.std.proofs.lemmas.Bool.{cases_lt, lt-ltb, le-ltb}
 use Rattle.std.proofs.lemmas.List.Elements.{filter-append, All-head, All-tail, All-weaker}
 use Rattle.edge_log.specs.declared.Edge.{Edge}
 use Rattle.edge_log.specs.EdgeLog.{row_of}
-use Rattle.edge_log.specs.Rows.{SayOn}
 use Rattle.input_log.specs.declared.Input.{Input}
 use Rattle.input_log.specs.Inputs.{inputs_of}
+use Rattle.input_log.specs.Notes.{notes_of}
 use Rattle.hart_lease.specs.Runs.{counts_of}
 use Rattle.fragment_codec.specs.Facts.{Facts, is_between}
 use Rattle.hart_replay.specs.Primaries.{PiecesLast}
@@ -23,21 +23,23 @@ later_fails : (from to n : ℕ) → to ≤ n → is_between from to n ≡ false
 later_fails from to n le = grind (arith, le-ltb n to le)
 
 module _ (from to : ℕ) where
-  -- what is between lies before the end
-  between_early : (m : ℕ) (xs : List Edge) → to ≤ m →
-      filter (λ e. is_between from to e.at) (filter (λ e. nat_lt e.at m) xs) ≡ filter (λ e. is_between from to e.at) xs
-  between_early m [] le = refl
-  between_early m (x ∷ xs) le = elim (cases_lt x.at m) [
-    | inl less ↦
-        rw (lt-ltb x.at m less)
-        (ap (λ (row : List Edge). if is_between from to x.at then x ∷ row else row) (between_early m xs le))
-    | inr more ↦ rw (le-ltb x.at m more, later_fails from to x.at (le_trans le more)) (between_early m xs le)
-  ]
+  module _ {A : Type 0} (count : A → ℕ) where
+    -- what is between lies before the end
+    between_early : (m : ℕ) (xs : List A) → to ≤ m →
+        filter (λ x. is_between from to (count x)) (filter (λ x. nat_lt (count x) m) xs) ≡ filter (λ x. is_between from to (count x)) xs
+    between_early m [] le = refl
+    between_early m (x ∷ xs) le = elim (cases_lt (count x) m) [
+      | inl less ↦
+          rw (lt-ltb (count x) m less)
+          (ap (λ (row : List A). if is_between from to (count x) then x ∷ row else row) (between_early m xs le))
+      | inr more ↦ rw (le-ltb (count x) m more, later_fails from to (count x) (le_trans le more)) (between_early m xs le)
+    ]
 
-  edges_last : (m : ℕ) (old new : List Edge) → to ≤ m → SayOn old m new →
-      filter (λ e. is_between from to e.at) new ≡ filter (λ e. is_between from to e.at) old
-  edges_last m old new le says =
-      sym (between_early m new le) ∙ ap (filter (λ e. is_between from to e.at)) says.below ∙ between_early m old le
+    -- so it is the same where what lies before a later count is
+    between_last : (m : ℕ) (old new : List A) → to ≤ m → filter (λ x. nat_lt (count x) m) new ≡ filter (λ x. nat_lt (count x) m) old →
+        filter (λ x. is_between from to (count x)) new ≡ filter (λ x. is_between from to (count x)) old
+    between_last m old new le same =
+        sym (between_early m new le) ∙ ap (filter (λ x. is_between from to (count x))) same ∙ between_early m old le
 
   heard_later : (before more after : List (ℕ × Input)) → after ≡ before ++ more → All (λ x. to ≤ x.0) more →
       filter (λ x. is_between from to x.0) after ≡ filter (λ x. is_between from to x.0) before
@@ -49,26 +51,23 @@ module _ (from to : ℕ) where
       (All-weaker (λ x. to ≤ x.0) (λ x. is_between from to x.0 ≡ false) (λ x le. later_fails from to x.0 le) more later))
       ∙ append-nil (filter (λ x. is_between from to x.0) before)
 
+same_facts : (edges more_edges : List Edge) (inputs more_inputs : List (ℕ × Input)) (notes more_notes : List (ℕ × ℕ)) → more_edges ≡ edges →
+    more_inputs ≡ inputs → more_notes ≡ notes →
+    (let f : Facts = record { edges = edges; inputs = inputs; notes = notes } in f) ≡ record { edges = more_edges; inputs = more_inputs; notes = more_notes }
+same_facts edges more_edges inputs more_inputs notes more_notes e i n = rw (e, i, n) refl
+
 pub pieces_last : PiecesLast
 pieces_last b c hart piece tells its =
-    let settled : piece.to ≤ counts_of b.machine hart = its.settled in
+    let m : ℕ = counts_of b.machine hart in
+    let settled : piece.to ≤ m = its.settled in
     let (more, heard, from) = tells.inputs hart in
-    let edges =
-    edges_last piece.from piece.to (counts_of b.machine hart) (row_of b.mode.edges hart) (row_of c.mode.edges hart) settled (tells.edges.rows hart) in
+    let edges = between_last piece.from piece.to (λ (e : Edge). e.at) m (row_of b.mode.edges hart) (row_of c.mode.edges hart) settled (tells.edges.rows hart).below in
     let inputs =
     heard_later piece.from piece.to (inputs_of b.mode.inputs hart) more (inputs_of c.mode.inputs hart) heard
-    (All-weaker (λ x. counts_of b.machine hart ≤ x.0) (λ x. piece.to ≤ x.0) (λ x le. le_trans settled le) more from) in
+    (All-weaker (λ x. m ≤ x.0) (λ x. piece.to ≤ x.0) (λ x le. le_trans settled le) more from) in
+    let notes =
+    between_last piece.from piece.to (λ (x : ℕ × ℕ). x.0) m (notes_of b.mode.notes hart) (notes_of c.mode.notes hart) settled (tells.notes hart).below in
     record {
       settled = le_trans settled (tells.counts hart);
-      exact =
-          its.exact
-          ∙ ap (λ (es : List Edge). let f : Facts = record {
-            edges = es;
-            inputs = filter (λ x. is_between piece.from piece.to x.0)
-                (inputs_of b.mode.inputs hart);
-          } in f) (sym edges)
-          ∙ ap (λ (is : List (ℕ × Input)). let f : Facts = record {
-            edges = filter (λ e. is_between piece.from piece.to e.at) (row_of c.mode.edges hart);
-            inputs = is;
-          } in f) (sym inputs);
+      exact = its.exact ∙ same_facts _ _ _ _ _ _ edges inputs notes;
     }

@@ -1,5 +1,5 @@
 -- What a leg gets of all harts, one after the other.
-use Rattle.std.proofs.Common.{◌≡◌, ◌≢◌, ◌↔◌, inl, inr, ℕ, ◌+◌, ◌<◌, ◌≤◌, List, [], ◌++◌, Contains, refl, sym, ap, subst, ◌∙◌, arith}
+use Rattle.std.proofs.Common.{◌≡◌, ◌≢◌, ◌↔◌, inl, inr, ℕ, ◌+◌, ◌<◌, ◌≤◌, max, length, List, [], ◌++◌, Contains, refl, sym, ap, subst, ◌∙◌, arith}
 use Rattle.std.proofs.lemmas.Bool.{cases_lt, cases_eq}
 use Rattle.std.proofs.lemmas.List.Elements.{Contains-append_cases, Contains-append_left, Contains-append_right}
 use Rattle.ft_types.specs.Counts.{count_at}
@@ -11,13 +11,14 @@ use Rattle.interleaving.proofs.Cuts.{same_order}
 use Rattle.edge_log.specs.EdgeLog.{Edges, edges_of, row_of}
 use Rattle.input_log.specs.declared.Input.{Input}
 use Rattle.input_log.specs.Inputs.{inputs_of}
+use Rattle.input_log.specs.Notes.{greatest}
 use Rattle.fragment_codec.specs.declared.types.Record.{Record}
 use Rattle.fragment_codec.specs.Rules.{FragmentParts}
 use Rattle.log_join.specs.Cells.{One}
 use Rattle.log_join.specs.Stores.{StoreView, IsStore}
 use Rattle.closed_cut.specs.Position.{pieces_of, Goes, Avail}
 use Rattle.hart_replay.specs.declared.plans.PlannedLeg.{PlannedLeg}
-use Rattle.hart_replay.specs.Facts.{records_of, below, edges_among, inputs_among, HasEdges, HasInputs}
+use Rattle.hart_replay.specs.Facts.{records_of, below, edges_among, inputs_among, notes_among, HasEdges, HasInputs, HasMarks}
 use Rattle.hart_replay.specs.Taking.{TakesHart}
 use Rattle.hart_replay.proofs.gathering.Pieces.{hart_is, harts_are, rules_of}
 
@@ -26,7 +27,8 @@ abbrev pub facts : StoreView → ℕ → List ℕ → ℕ → ℕ → List Recor
 facts store term ends hart places = below (count_at ends hart) (records_of (pieces_of store term hart) places)
 
 -- what a leg got of the first harts
-pub record AreTaken (store : StoreView) (term : ℕ) (base ends : List ℕ) (log : Edges) (given : List (List (ℕ × Input))) (number : ℕ) : Type 0 where
+pub record AreTaken (store : StoreView) (term : ℕ) (base ends : List ℕ) (log : Edges) (given : List (List (ℕ × Input))) (marks : List ℕ) (number : ℕ) :
+    Type 0 where
   pub places : ℕ → ℕ
   pub end : ℕ → ℕ
   pub goes : (h : ℕ) → Goes (pieces_of store term h) (count_at base h) (places h) (end h)
@@ -38,11 +40,14 @@ pub record AreTaken (store : StoreView) (term : ℕ) (base ends : List ℕ) (log
   pub enough : IsEnough (edges_of log) all (count_at base)
   pub no_edges : (h : ℕ) → number ≤ h → row_of log h ≡ []
   pub inputs : (h : ℕ) → inputs_of given h ≡ inputs_among (facts store term ends h (places h))
+  pub many : length marks ≡ length base
+  pub marked : (h : ℕ) → count_at marks h ≡ greatest (notes_among (facts store term ends h (places h)))
 
 -- a leg without facts
-pub taken_none : (store : StoreView) (term : ℕ) (base ends : List ℕ) (log : Edges) (given : List (List (ℕ × Input))) → log.start ≡ base → edges_of log ≡ [] →
-    ((h : ℕ) → row_of log h ≡ []) → ((h : ℕ) → inputs_of given h ≡ []) → AreTaken store term base ends log given 0
-taken_none store term base ends log given start none rows inputs =
+pub taken_none : (store : StoreView) (term : ℕ) (base ends : List ℕ) (log : Edges) (given : List (List (ℕ × Input))) (marks : List ℕ) → log.start ≡ base →
+    edges_of log ≡ [] → ((h : ℕ) → row_of log h ≡ []) → ((h : ℕ) → inputs_of given h ≡ []) → length marks ≡ length base → ((h : ℕ) → count_at marks h ≡ 0) →
+    AreTaken store term base ends log given marks 0
+taken_none store term base ends log given marks start none rows inputs many zeros =
     record {
       places = λ h. 0;
       end = count_at base;
@@ -61,10 +66,12 @@ taken_none store term base ends log given start none rows inputs =
           });
       no_edges = λ h le. rows h;
       inputs = inputs;
+      many = many;
+      marked = zeros;
     }
 
 module _ (store : StoreView) (old new : PlannedLeg) (number : ℕ)
-    (so_far : AreTaken store old.term old.base old.ends old.edges old.inputs number) (more : TakesHart store number old new) where
+    (so_far : AreTaken store old.term old.base old.ends old.edges old.inputs old.marks number) (more : TakesHart store number old new) where
   abbrev moved : ℕ → ℕ
   moved = put so_far.places number more.places
 
@@ -135,7 +142,17 @@ module _ (store : StoreView) (old new : PlannedLeg) (number : ℕ)
         | inr ne ↦ rw (others h ne) (more.inputs.others h ne ∙ so_far.inputs h)
       ]
 
-  pub taken_more : AreTaken store old.term old.base old.ends new.edges new.inputs (number + 1)
+  marked_after : (h : ℕ) → count_at new.marks h ≡ greatest (notes_among (facts store old.term old.ends h (moved h)))
+  marked_after h =
+      elim (cases_eq h number) [
+        | inl same ↦
+            (let none : count_at old.marks number ≡ 0 = so_far.marked number ∙ ap (λ l. greatest (notes_among l)) was_none in
+            let most = greatest (notes_among (facts store old.term old.ends number more.places)) in
+            rw (same, here) (let own : count_at new.marks number ≡ max (count_at old.marks number) most = more.notes.own in omega (arith, own, none)))
+        | inr ne ↦ rw (others h ne) (more.notes.others h ne ∙ so_far.marked h)
+      ]
+
+  pub taken_more : AreTaken store old.term old.base old.ends new.edges new.inputs new.marks (number + 1)
   taken_more =
       record {
         places = moved;
@@ -151,6 +168,8 @@ module _ (store : StoreView) (old new : PlannedLeg) (number : ℕ)
             (more.edges.enough so_far.all (subst (λ (s : List ℕ). IsEnough (edges_of old.edges) so_far.all (count_at s)) (sym so_far.start) so_far.enough));
         no_edges = λ h le. more.edges.others h (λ e. absurd (omega arith)) ∙ so_far.no_edges h (omega arith);
         inputs = inputs_after;
+        many = more.notes.many ∙ so_far.many;
+        marked = marked_after;
       }
 
   -- what the next hart finds
@@ -158,7 +177,7 @@ module _ (store : StoreView) (old new : PlannedLeg) (number : ℕ)
   none_of = so_far.inputs number ∙ ap inputs_among was_none
 
 module _ (store : StoreView) (rules : IsStore store) (leg : PlannedLeg) (number : ℕ) (many : number ≡ store.guest.harts)
-    (taken : AreTaken store leg.term leg.base leg.ends leg.edges leg.inputs number) where
+    (taken : AreTaken store leg.term leg.base leg.ends leg.edges leg.inputs leg.marks number) where
   no_further : (h : ℕ) (piece : FragmentParts) → pieces_of store leg.term h (taken.places h) ≡ One piece → piece.from ≡ taken.end h → ⊥
   no_further h piece one =
       elim (cases_lt h number) [
@@ -185,3 +204,6 @@ module _ (store : StoreView) (rules : IsStore store) (leg : PlannedLeg) (number 
 
   pub has_inputs : HasInputs store leg
   has_inputs = record { avail = avail; exact = taken.inputs }
+
+  pub has_marks : HasMarks store leg
+  has_marks = record { many = taken.many; avail = avail; exact = taken.marked }

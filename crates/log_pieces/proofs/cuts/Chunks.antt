@@ -198,6 +198,7 @@ module _ (origin : Origin) (records : List Record) (mark : Mark) (may : MayCut o
           some = right.some;
           end = (let high = may.end in let inside = right.inside in omega arith);
           short = λ more. right.short;
+          noted = λ is. right.short;
           records = part_records;
         }
 

@@ -17,12 +17,12 @@ module _ {A : Type 0} where
   filter_all p (x ∷ xs) all =
       rw (All-head (λ y. p y ≡ true) x xs all) (ap (λ l. x ∷ l) (filter_all p xs (All-tail (λ y. p y ≡ true) x xs all)))
 
-  all_front : (P : A → Type 0) (xs : List A) (k : ℕ) → AllWithin P xs 0 k → All P (take k xs)
+  pub all_front : (P : A → Type 0) (xs : List A) (k : ℕ) → AllWithin P xs 0 k → All P (take k xs)
   all_front P xs k all j d below =
       let less : j < k = omega (arith, length-take k xs) in
       rw (get_or-take k xs j d less) (all j d (omega arith) less)
 
-  all_back : (P : A → Type 0) (xs : List A) (k : ℕ) → AllWithin P xs k (length xs) → All P (drop k xs)
+  pub all_back : (P : A → Type 0) (xs : List A) (k : ℕ) → AllWithin P xs k (length xs) → All P (drop k xs)
   all_back P xs k all j d below =
       rw (get_or-drop k xs j d) (all (k + j) d (omega arith) (omega (arith, length-drop k xs)))
 

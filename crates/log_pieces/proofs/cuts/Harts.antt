@@ -11,6 +11,7 @@ use Rattle.edge_log.specs.declared.Edge.{Edge}
 use Rattle.edge_log.specs.EdgeLog.{Edges, row_of}
 use Rattle.input_log.specs.declared.Input.{Input as HartInput}
 use Rattle.input_log.specs.Inputs.{inputs_of}
+use Rattle.input_log.specs.Notes.{NotesOfOne, notes_of}
 use Rattle.fragment_codec.specs.declared.types.Record.{Record}
 use Rattle.fragment_codec.specs.declared.frame.Frame.{Frame}
 use Rattle.fragment_codec.specs.declared.frame.Frame.TheVariants.{Log}
@@ -43,6 +44,8 @@ module _ (from to a b : ℕ) (low : from ≤ a) (high : b ≤ to) where
       filter_agree (λ (e : Edge). is_between from to e.at && is_between a b e.at) (λ e. is_between a b e.at) (λ e. both_between e.at) facts.edges in
       let inputs = filter-filter (λ (x : ℕ × HartInput). is_between a b x.0) (λ x. is_between from to x.0) facts.inputs ∙
       filter_agree (λ (x : ℕ × HartInput). is_between from to x.0 && is_between a b x.0) (λ x. is_between a b x.0) (λ x. both_between x.0) facts.inputs in
+      let notes = filter-filter (λ (x : ℕ × ℕ). is_between a b x.0) (λ x. is_between from to x.0) facts.notes ∙
+      filter_agree (λ (x : ℕ × ℕ). is_between from to x.0 && is_between a b x.0) (λ x. is_between a b x.0) (λ x. both_between x.0) facts.notes in
       cc
 
 -- the log with its facts between a count and the settled one alone
@@ -86,16 +89,16 @@ pieces_of_whole from log old (piece ∷ pieces) new low row = (
 )
 
 -- the records of a hart, as its log
-pub log_is : (guest : GuestParts) (term : ℕ) (edges : Edges) (inputs : List (List (ℕ × HartInput))) (settled : List ℕ) (seals : SealedView)
+pub log_is : (guest : GuestParts) (term : ℕ) (edges : Edges) (inputs : List (List (ℕ × HartInput))) (notes : List NotesOfOne) (settled : List ℕ) (seals : SealedView)
     (number hart from end : ℕ) (facts : List Record) →
     hart ≡ number → from ≡ (mark_of seals hart).count → end ≡ count_at settled hart →
-    told_by facts ≡ facts_between from end (record { edges = row_of edges hart; inputs = inputs_of inputs hart }) →
+    told_by facts ≡ facts_between from end (record { edges = row_of edges hart; inputs = inputs_of inputs hart; notes = notes_of notes hart }) →
     log_of_records (record { guest = guest; term = term; hart = hart; settled = end }) facts ≡ log_from (mark_of seals number).count
-    (hart_log guest term edges inputs settled number)
-log_is guest term edges inputs settled seals number hart from end facts same begins ends told =
+    (hart_log guest term edges inputs notes settled number)
+log_is guest term edges inputs notes settled seals number hart from end facts same begins ends told =
     subst
     (λ n. log_of_records (record { guest = guest; term = term; hart = hart; settled = end }) facts ≡ log_from (mark_of seals n).count
-    (hart_log guest term edges inputs settled n)) same
+    (hart_log guest term edges inputs notes settled n)) same
     (rw (← begins, ← ends, told) refl)
 
 -- ---- all harts so far

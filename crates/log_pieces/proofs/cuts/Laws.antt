@@ -11,16 +11,16 @@ use Rattle.std.proofs.lemmas.List.Sums.{sum_by-cons}
 use Rattle.edge_log.specs.declared.Edge.{Edge}
 use Rattle.input_log.specs.declared.Input.{Input as HartInput}
 use Rattle.fragment_codec.specs.declared.types.Record.{Record}
-use Rattle.fragment_codec.specs.declared.types.Record.TheVariants.{Edge as EdgeRecord, Input as InputRecord}
+use Rattle.fragment_codec.specs.declared.types.Record.TheVariants.{Edge as EdgeRecord, Input as InputRecord, Note as NoteRecord}
 use Rattle.fragment_codec.specs.declared.frame.Frame.{Frame}
 use Rattle.fragment_codec.specs.declared.frame.Frame.TheVariants.{Log}
 use Rattle.fragment_codec.specs.Rules.{count_of, FragmentParts, IsRecordOf, MayPrecede, AreInOrder}
-use Rattle.fragment_codec.specs.Facts.{Facts, edge_in, input_in, told_by, facts_between, is_between, number_of}
+use Rattle.fragment_codec.specs.Facts.{Facts, edge_in, input_in, note_in, told_by, facts_between, is_between, number_of}
 use Rattle.log_pieces.specs.Pieces.{HartLog, Mark, SealedView, mark_of}
 use Rattle.fragment_codec.specs.Facts.{records_at}
 use Rattle.log_pieces.specs.Pieces.{IsPiece, ArePieces, mark_behind, IsHartCut, IsCut}
 use Rattle.log_pieces.proofs.cuts.Filters.{filter-filter, filter-le-length}
-use Rattle.log_pieces.proofs.cuts.Records.{number_told, order_filter, edges_kept, inputs_kept}
+use Rattle.log_pieces.proofs.cuts.Records.{number_told, order_filter, edges_kept, inputs_kept, notes_kept, nothing_behind}
 use Rattle.log_pieces.proofs.cuts.Harts.{between_between}
 
 -- ---- records in order are known by what they tell
@@ -30,6 +30,7 @@ after_all : (P : Record → Type 0) (rs : List Record) (e : Edge) (es : List Edg
 after_all P [] e es all is = absurd cc
 after_all P (EdgeRecord f ∷ rs) e es all is = let same : f ≡ e = cc in subst (λ g. P (EdgeRecord g)) same all.0
 after_all P (InputRecord at input ∷ rs) e es all is = after_all P rs e es all.1 is
+after_all P (NoteRecord at number ∷ rs) e es all is = after_all P rs e es all.1 is
 
 after_all_input : (P : Record → Type 0) (rs : List Record) (at : ℕ) (input : HartInput) (xs : List (ℕ × HartInput)) → AllByRecursion P rs →
     filter_map input_in rs ≡ (at, input) ∷ xs → P (InputRecord at input)
@@ -40,6 +41,16 @@ after_all_input P (InputRecord n i ∷ rs) at input xs all is =
     let same_at : n ≡ at = ap (λ (x : ℕ × HartInput). x.0) here in
     let same : i ≡ input = ap (λ (x : ℕ × HartInput). x.1) here in
     subst (λ m. P (InputRecord m input)) same_at (subst (λ j. P (InputRecord n j)) same all.0)
+after_all_input P (NoteRecord n m ∷ rs) at input xs all is = after_all_input P rs at input xs all.1 is
+
+after_all_note : (P : Record → Type 0) (rs : List Record) (at number : ℕ) (xs : List (ℕ × ℕ)) → AllByRecursion P rs →
+    filter_map note_in rs ≡ (at, number) ∷ xs → P (NoteRecord at number)
+after_all_note P [] at number xs all is = absurd cc
+after_all_note P (EdgeRecord f ∷ rs) at number xs all is = after_all_note P rs at number xs all.1 is
+after_all_note P (InputRecord n i ∷ rs) at number xs all is = after_all_note P rs at number xs all.1 is
+after_all_note P (NoteRecord n m ∷ rs) at number xs all is =
+    let here : ◌≡◌ {A = ℕ × ℕ} (n, m) (at, number) = cc in
+    subst (λ (x : ℕ × ℕ). P (NoteRecord x.0 x.1)) here all.0
 
 -- an edge stands at the front of one list, and an input at that of the other
 apart : (e : Edge) (rs : List Record) (at : ℕ) (input : HartInput) (ss : List Record) → AreInOrder (EdgeRecord e ∷ rs) →
@@ -50,26 +61,60 @@ apart e rs at input ss order other edges inputs =
     let high : at < e.at = after_all (MayPrecede (InputRecord at input)) ss e (filter_map edge_in rs) other.0 (sym edges) in
     omega arith
 
+-- an edge, and a note
+edge_apart : (e : Edge) (rs : List Record) (at number : ℕ) (ss : List Record) → AreInOrder (EdgeRecord e ∷ rs) → AreInOrder (NoteRecord at number ∷ ss) →
+    e ∷ filter_map edge_in rs ≡ filter_map edge_in ss → filter_map note_in rs ≡ (at, number) ∷ filter_map note_in ss → ⊥
+edge_apart e rs at number ss order other edges notes =
+    let low : e.at ≤ at = after_all_note (MayPrecede (EdgeRecord e)) rs at number (filter_map note_in ss) order.0 notes in
+    let high : at < e.at = after_all (MayPrecede (NoteRecord at number)) ss e (filter_map edge_in rs) other.0 (sym edges) in
+    omega arith
+
+-- an input, and a note
+input_apart : (at : ℕ) (input : HartInput) (rs : List Record) (n number : ℕ) (ss : List Record) → AreInOrder (InputRecord at input ∷ rs) →
+    AreInOrder (NoteRecord n number ∷ ss) →
+    (at, input) ∷ filter_map input_in rs ≡ filter_map input_in ss → filter_map note_in rs ≡ (n, number) ∷ filter_map note_in ss → ⊥
+input_apart at input rs n number ss order other inputs notes =
+    let low : at ≤ n = after_all_note (MayPrecede (InputRecord at input)) rs n number (filter_map note_in ss) order.0 notes in
+    let high : n < at = after_all_input (MayPrecede (NoteRecord n number)) ss at input (filter_map input_in rs) other.0 (sym inputs) in
+    omega arith
+
 pub one_telling : (rs ss : List Record) → AreInOrder rs → AreInOrder ss → filter_map edge_in rs ≡ filter_map edge_in ss →
-    filter_map input_in rs ≡ filter_map input_in ss → rs ≡ ss
-one_telling [] [] order other edges inputs = refl
-one_telling [] (EdgeRecord e ∷ ss) order other edges inputs = absurd cc
-one_telling [] (InputRecord at input ∷ ss) order other edges inputs = absurd cc
-one_telling (EdgeRecord e ∷ rs) [] order other edges inputs = absurd cc
-one_telling (InputRecord at input ∷ rs) [] order other edges inputs = absurd cc
-one_telling (EdgeRecord e ∷ rs) (EdgeRecord f ∷ ss) order other edges inputs =
+    filter_map input_in rs ≡ filter_map input_in ss → filter_map note_in rs ≡ filter_map note_in ss → rs ≡ ss
+one_telling [] [] order other edges inputs notes = refl
+one_telling [] (EdgeRecord e ∷ ss) order other edges inputs notes = absurd cc
+one_telling [] (InputRecord at input ∷ ss) order other edges inputs notes = absurd cc
+one_telling [] (NoteRecord at number ∷ ss) order other edges inputs notes = absurd cc
+one_telling (EdgeRecord e ∷ rs) [] order other edges inputs notes = absurd cc
+one_telling (InputRecord at input ∷ rs) [] order other edges inputs notes = absurd cc
+one_telling (NoteRecord at number ∷ rs) [] order other edges inputs notes = absurd cc
+one_telling (EdgeRecord e ∷ rs) (EdgeRecord f ∷ ss) order other edges inputs notes =
     let same : e ≡ f = cc in
     let rest : filter_map edge_in rs ≡ filter_map edge_in ss = cc in
-    let later : rs ≡ ss = one_telling rs ss order.1 other.1 rest inputs in
+    let later : rs ≡ ss = one_telling rs ss order.1 other.1 rest inputs notes in
     cc
-one_telling (EdgeRecord e ∷ rs) (InputRecord at input ∷ ss) order other edges inputs = absurd (apart e rs at input ss order other edges inputs)
-one_telling (InputRecord at input ∷ rs) (EdgeRecord e ∷ ss) order other edges inputs = absurd (apart e ss at input rs other order (sym edges) (sym inputs))
-one_telling (InputRecord at input ∷ rs) (InputRecord n i ∷ ss) order other edges inputs =
+one_telling (EdgeRecord e ∷ rs) (InputRecord at input ∷ ss) order other edges inputs notes = absurd (apart e rs at input ss order other edges inputs)
+one_telling (EdgeRecord e ∷ rs) (NoteRecord at number ∷ ss) order other edges inputs notes = absurd (edge_apart e rs at number ss order other edges notes)
+one_telling (InputRecord at input ∷ rs) (EdgeRecord e ∷ ss) order other edges inputs notes =
+    absurd (apart e ss at input rs other order (sym edges) (sym inputs))
+one_telling (InputRecord at input ∷ rs) (InputRecord n i ∷ ss) order other edges inputs notes =
     let here : ◌≡◌ {A = ℕ × HartInput} (at, input) (n, i) = cc in
     let same_at : at ≡ n = ap (λ (x : ℕ × HartInput). x.0) here in
     let same : input ≡ i = ap (λ (x : ℕ × HartInput). x.1) here in
     let rest : filter_map input_in rs ≡ filter_map input_in ss = cc in
-    let later : rs ≡ ss = one_telling rs ss order.1 other.1 edges rest in
+    let later : rs ≡ ss = one_telling rs ss order.1 other.1 edges rest notes in
+    cc
+one_telling (InputRecord at input ∷ rs) (NoteRecord n number ∷ ss) order other edges inputs notes =
+    absurd (input_apart at input rs n number ss order other inputs notes)
+one_telling (NoteRecord at number ∷ rs) (EdgeRecord e ∷ ss) order other edges inputs notes =
+    absurd (edge_apart e ss at number rs other order (sym edges) (sym notes))
+one_telling (NoteRecord at number ∷ rs) (InputRecord n i ∷ ss) order other edges inputs notes =
+    absurd (input_apart n i ss at number rs other order (sym inputs) (sym notes))
+one_telling (NoteRecord at number ∷ rs) (NoteRecord n m ∷ ss) order other edges inputs notes =
+    let here : ◌≡◌ {A = ℕ × ℕ} (at, number) (n, m) = cc in
+    let same_at : at ≡ n = ap (λ (x : ℕ × ℕ). x.0) here in
+    let same : number ≡ m = ap (λ (x : ℕ × ℕ). x.1) here in
+    let rest : filter_map note_in rs ≡ filter_map note_in ss = cc in
+    let later : rs ≡ ss = one_telling rs ss order.1 other.1 edges inputs rest in
     cc
 
 -- ---- one cut
@@ -79,7 +124,8 @@ number_less a b c facts le =
     let whole = between_between a c a b (le_refl a) le facts in
     let edges = filter-le-length (λ (e : Edge). is_between a b e.at) (facts_between a c facts).edges in
     let inputs = filter-le-length (λ (x : ℕ × HartInput). is_between a b x.0) (facts_between a c facts).inputs in
-    omega (arith, edges, inputs, ap number_of whole)
+    let notes = filter-le-length (λ (x : ℕ × ℕ). is_between a b x.0) (facts_between a c facts).notes in
+    omega (arith, edges, inputs, notes, ap number_of whole)
 
 no_longer : (log : HartLog) (mark : Mark) (p q : FragmentParts) → IsPiece log mark p → IsPiece log mark q → p.to < q.to → ⊥
 no_longer log mark p q is_p is_q less =
@@ -114,7 +160,7 @@ one_piece_here log mark p q is_p is_q =
     let told : told_by p.records ≡ told_by q.records =
     is_p.exact ∙ (ap (λ n. facts_between n p.to log.facts) from ∙ (ap (λ n. facts_between q.from n log.facts) to ∙ sym is_q.exact)) in
     let records : p.records ≡ q.records = one_telling p.records q.records is_p.rules.records.order is_q.rules.records.order (ap (λ f. f.edges) told)
-    (ap (λ f. f.inputs) told) in
+    (ap (λ f. f.inputs) told) (ap (λ f. f.notes) told) in
     ap (λ x. record p { guest = x }) guest ∙ (ap (λ x. record p { guest = q.guest; key = x }) key ∙
     (ap (λ x. record p { guest = q.guest; key = q.key; from = x }) from ∙
     (ap (λ x. record p { guest = q.guest; key = q.key; from = q.from; to = x }) to ∙ ap (λ x. record {
@@ -171,17 +217,30 @@ no_edges : (n at : ℕ) (input : HartInput) (rs : List Record) → at ≡ n → 
 no_edges n at input [] here order all = refl
 no_edges n at input (EdgeRecord e ∷ rs) here order all = let same = eqb-true e.at n all.0 in absurd (omega (arith, order.0))
 no_edges n at input (InputRecord k i ∷ rs) here order all = no_edges n at input rs here order.1 all.1
+no_edges n at input (NoteRecord k m ∷ rs) here order all = no_edges n at input rs here order.1 all.1
 
--- at one count edges stand before inputs
-edges_first : (n : ℕ) (rs : List Record) → AreInOrder rs → AllByRecursion (λ r. (count_of r == n) ≡ true) rs →
-    rs ≡ map EdgeRecord (filter_map edge_in rs) ++ map (λ (x : ℕ × HartInput). InputRecord x.0 x.1) (filter_map input_in rs)
-edges_first n [] order all = refl
-edges_first n (EdgeRecord e ∷ rs) order all = ap (λ l. EdgeRecord e ∷ l) (edges_first n rs order.1 all.1)
-edges_first n (InputRecord at input ∷ rs) order all =
+all_stand : (n m : ℕ) (rs : List Record) → m ≡ n → AllByRecursion (λ r. (count_of r == n) ≡ true) rs → AllByRecursion (λ r. count_of r ≡ m) rs
+all_stand n m [] is all = tt
+all_stand n m (r ∷ rs) is all = (eqb-true (count_of r) n all.0 ∙ sym is, all_stand n m rs is all.1)
+
+-- inputs and notes, in that order
+abbrev behind_edges : List (ℕ × HartInput) → List (ℕ × ℕ) → List Record
+behind_edges inputs notes = map (λ (x : ℕ × HartInput). InputRecord x.0 x.1) inputs ++ map (λ (x : ℕ × ℕ). NoteRecord x.0 x.1) notes
+
+-- at one count edges stand before inputs, and both before notes
+kinds_first : (n : ℕ) (rs : List Record) → AreInOrder rs → AllByRecursion (λ r. (count_of r == n) ≡ true) rs →
+    rs ≡ map EdgeRecord (filter_map edge_in rs) ++ behind_edges (filter_map input_in rs) (filter_map note_in rs)
+kinds_first n [] order all = refl
+kinds_first n (EdgeRecord e ∷ rs) order all = ap (λ l. EdgeRecord e ∷ l) (kinds_first n rs order.1 all.1)
+kinds_first n (InputRecord at input ∷ rs) order all =
     let none = no_edges n at input rs (eqb-true at n all.0) order.0 all.1 in
-    let rest : rs ≡ map EdgeRecord [] ++ map (λ (x : ℕ × HartInput). InputRecord x.0 x.1) (filter_map input_in rs) =
-    edges_first n rs order.1 all.1 ∙ ap (λ es. map EdgeRecord es ++ map (λ (x : ℕ × HartInput). InputRecord x.0 x.1) (filter_map input_in rs)) none in
+    let rest : rs ≡ map EdgeRecord [] ++ behind_edges (filter_map input_in rs) (filter_map note_in rs) =
+    kinds_first n rs order.1 all.1 ∙ ap (λ es. map EdgeRecord es ++ behind_edges (filter_map input_in rs) (filter_map note_in rs)) none in
     rw none (ap (λ l. InputRecord at input ∷ l) rest)
+kinds_first n (NoteRecord at number ∷ rs) order all =
+    let none : rs ≡ [] = nothing_behind at number rs order.0 (all_stand n at rs (eqb-true at n all.0) all.1) in
+    subst (λ l. NoteRecord at number ∷ l ≡ map EdgeRecord (filter_map edge_in l) ++ behind_edges (filter_map input_in l) ((at, number) ∷ filter_map note_in l))
+    (sym none) refl
 
 -- a test for a count between two others
 inner : (from to n : ℕ) → from ≤ n → n < to → (k : ℕ) → (is_between from to k && (k == n)) ≡ (k == n)
@@ -195,7 +254,7 @@ pub count_whole : (log : HartLog) (mark : Mark) (piece : FragmentParts) → IsPi
     filter (λ r. count_of r == count) piece.records ≡ records_at count log.facts
 count_whole log mark piece is n low high =
     let at : List Record = filter (λ r. count_of r == n) piece.records in
-    let split = edges_first n at (order_filter (λ r. count_of r == n) piece.records is.rules.records.order)
+    let split = kinds_first n at (order_filter (λ r. count_of r == n) piece.records is.rules.records.order)
     (kept_by_passes (λ r. count_of r == n) piece.records) in
     let edges : filter_map edge_in at ≡ filter (λ e. e.at == n) log.facts.edges =
     edges_kept (λ k. k == n) piece.records ∙
@@ -209,9 +268,16 @@ count_whole log mark piece is n low high =
     (filter-filter (λ (x : ℕ × HartInput). x.0 == n) (λ x. is_between piece.from piece.to x.0) log.facts.inputs ∙
     filter_agree (λ (x : ℕ × HartInput). is_between piece.from piece.to x.0 && (x.0 == n)) (λ x. x.0 == n) (λ x. inner piece.from piece.to n low high x.0)
     log.facts.inputs)) in
+    let notes : filter_map note_in at ≡ filter (λ x. x.0 == n) log.facts.notes =
+    notes_kept (λ k. k == n) piece.records ∙
+    (ap (filter (λ (x : ℕ × ℕ). x.0 == n)) (ap (λ f. f.notes) is.exact) ∙
+    (filter-filter (λ (x : ℕ × ℕ). x.0 == n) (λ x. is_between piece.from piece.to x.0) log.facts.notes ∙
+    filter_agree (λ (x : ℕ × ℕ). is_between piece.from piece.to x.0 && (x.0 == n)) (λ x. x.0 == n) (λ x. inner piece.from piece.to n low high x.0)
+    log.facts.notes)) in
     split ∙
-    (ap (λ es. map EdgeRecord es ++ map (λ (x : ℕ × HartInput). InputRecord x.0 x.1) (filter_map input_in at)) edges ∙
-    ap (λ xs. map EdgeRecord (filter (λ e. e.at == n) log.facts.edges) ++ map (λ (x : ℕ × HartInput). InputRecord x.0 x.1) xs) inputs)
+    (ap (λ es. map EdgeRecord es ++ behind_edges (filter_map input_in at) (filter_map note_in at)) edges ∙
+    (ap (λ xs. map EdgeRecord (filter (λ e. e.at == n) log.facts.edges) ++ behind_edges xs (filter_map note_in at)) inputs ∙
+    ap (λ xs. map EdgeRecord (filter (λ e. e.at == n) log.facts.edges) ++ behind_edges (filter (λ x. x.0 == n) log.facts.inputs) xs) notes))
 
 -- ---- each count in one piece
 

@@ -11,7 +11,7 @@ use Rattle.input_log.specs.declared.Input.{Input as HartInput}
 use Rattle.fragment_codec.specs.declared.types.Record.{Record}
 use Rattle.fragment_codec.specs.declared.types.Record.TheVariants.{Edge as EdgeRecord, Input as InputRecord}
 use Rattle.fragment_codec.specs.Rules.{MayPrecede, AreInOrder}
-use Rattle.fragment_codec.specs.Facts.{edge_in, input_in}
+use Rattle.fragment_codec.specs.Facts.{edge_in, input_in, note_in, told_by}
 use Rattle.log_pieces.specs.Cutting.{IsFirst}
 use Rattle.log_pieces.proofs.cuts.Filters.{all_both}
 
@@ -23,11 +23,12 @@ Waits edges inputs fact = AllByRecursion (λ e. MayPrecede fact (EdgeRecord e)) 
 pub record Merges (edges waiting : List Edge) (inputs later : List (ℕ × HartInput)) (facts : List Record) : Type 0 where
   pub of_edges : edges ≡ filter_map edge_in facts ++ waiting
   pub of_inputs : inputs ≡ filter_map input_in facts ++ later
+  pub plain : filter_map note_in facts ≡ []
   pub order : AreInOrder facts
   pub waits : AllByRecursion (Waits waiting later) facts
 
 pub merges_nothing : (edges : List Edge) (inputs : List (ℕ × HartInput)) → Merges edges edges inputs inputs []
-merges_nothing edges inputs = record { of_edges = refl; of_inputs = refl; order = tt; waits = tt }
+merges_nothing edges inputs = record { of_edges = refl; of_inputs = refl; plain = refl; order = tt; waits = tt }
 
 all_push : {A : Type 0} (P : A → Type 0) (xs : List A) (y : A) → AllByRecursion P xs → P y → AllByRecursion P (xs ++ y ∷ [])
 all_push P [] y all one = (one, tt)
@@ -58,6 +59,7 @@ merge_edge edges e es inputs later facts behind first h =
       of_edges = h.of_edges ∙ (sym (append_assoc (filter_map edge_in facts) (e ∷ []) es) ∙
           ap (λ l. l ++ es) (sym (filter_map-append edge_in facts (EdgeRecord e ∷ []))));
       of_inputs = h.of_inputs ∙ ap (λ l. l ++ later) (sym (filter_map-append input_in facts (EdgeRecord e ∷ []) ∙ append-nil (filter_map input_in facts)));
+      plain = filter_map-append note_in facts (EdgeRecord e ∷ []) ∙ append-nil (filter_map note_in facts) ∙ h.plain;
       order = order_push facts (EdgeRecord e) h.order (all_weaker (Waits (e ∷ es) later) (λ r. MayPrecede r (EdgeRecord e)) (λ r w. w.0.0) facts h.waits);
       waits =
           all_push (Waits es later) facts (EdgeRecord e)
@@ -77,6 +79,7 @@ merge_input edges waiting inputs at input later facts behind first h =
           h.of_inputs ∙
           (sym (append_assoc (filter_map input_in facts) ((at, input) ∷ []) later) ∙ ap (λ l. l ++ later)
           (sym (filter_map-append input_in facts (InputRecord at input ∷ []))));
+      plain = filter_map-append note_in facts (InputRecord at input ∷ []) ∙ append-nil (filter_map note_in facts) ∙ h.plain;
       order =
           order_push facts (InputRecord at input) h.order
           (all_weaker (Waits waiting ((at, input) ∷ later)) (λ r. MayPrecede r (InputRecord at input)) (λ r w. w.1.0) facts h.waits);
@@ -183,11 +186,11 @@ less_inputs es ks ks' vs first at input is_first is less =
     omega (arith, ap length split, ap length less)
 
 pub merging_ends : (edges es : List Edge) (counts ks : List ℕ) (inputs vs : List HartInput) (facts : List Record) →
-    Merging edges es counts ks inputs vs facts → length es ≡ 0 → length ks ≡ 0 → (filter_map edge_in facts ≡ edges) ×
-    (filter_map input_in facts ≡ zip counts inputs)
-merging_ends edges [] counts [] inputs vs facts h none no_counts = (
-  sym (h.merges.of_edges ∙ append-nil (filter_map edge_in facts)),
-  sym (h.merges.of_inputs ∙ append-nil (filter_map input_in facts)),
-)
+    Merging edges es counts ks inputs vs facts → length es ≡ 0 → length ks ≡ 0 →
+    told_by facts ≡ record { edges = edges; inputs = zip counts inputs; notes = [] }
+merging_ends edges [] counts [] inputs vs facts h none no_counts =
+    let of_edges : filter_map edge_in facts ≡ edges = sym (h.merges.of_edges ∙ append-nil (filter_map edge_in facts)) in
+    let of_inputs : filter_map input_in facts ≡ zip counts inputs = sym (h.merges.of_inputs ∙ append-nil (filter_map input_in facts)) in
+    rw (of_edges, of_inputs, h.merges.plain) refl
 merging_ends edges [] counts (k ∷ ks) inputs vs facts h none no_counts = absurd (omega arith)
 merging_ends edges (e ∷ es) counts ks inputs vs facts h none no_counts = absurd (omega arith)

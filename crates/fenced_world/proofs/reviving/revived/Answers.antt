@@ -28,12 +28,12 @@ returns-in_err-live-clause-refused c =
 pub going_on-primary-requires-clause-harts : goal.going_on-primary-requires-clause-harts
 going_on-primary-requires-clause-harts c =
     at_harts c.args.image.now (map (λ g. g.store.now) c.args.given.now) c.args.term c.in_ok-live.live.book.start c.in_ok-live.live.opening
-    c.in_ok-live.ensures.position
+    c.in_ok-live.live.marks c.in_ok-live.ensures.position
 
 pub going_on-primary-requires-clause-counts : goal.going_on-primary-requires-clause-counts
 going_on-primary-requires-clause-counts c =
     at_counts c.args.image.now (map (λ g. g.store.now) c.args.given.now) c.args.term c.in_ok-live.live.book.start c.in_ok-live.live.opening
-    c.in_ok-live.ensures.position
+    c.in_ok-live.live.marks c.in_ok-live.ensures.position
 
 module _ (c : goal.Else-is_err) where
   abbrev p : Primary
@@ -43,8 +43,9 @@ module _ (c : goal.Else-is_err) where
   running = record { primary = p; gate = c.offer_all.new.gate }
 
   at : IsAtPosition c.args.image.now (stores_in (map gift_of c.args.given.now)) c.args.term c.in_ok-live.live.book.start c.in_ok-live.live.opening
+      c.in_ok-live.live.marks
   at =
-      subst (λ xs. IsAtPosition c.args.image.now xs c.args.term c.in_ok-live.live.book.start c.in_ok-live.live.opening) (given_stores c.args.given.now)
+      subst (λ xs. IsAtPosition c.args.image.now xs c.args.term c.in_ok-live.live.book.start c.in_ok-live.live.opening c.in_ok-live.live.marks) (given_stores c.args.given.now)
       c.in_ok-live.ensures.position
 
   goes : GoesLive c.args.image.now c.args.keepers c.args.need c.args.term (map gift_of c.args.given.now) running
@@ -57,12 +58,13 @@ module _ (c : goal.Else-is_err) where
         own = all_told gift_of (λ g. g.term ≡ c.args.term) c.args.given.now c.in_ok-live.ensures.given;
         enough = subst (AreEnough c.args.keepers c.args.need) (given_givers c.args.given.now) c.in_ok-live.ensures.enough;
         new = subst (λ xs. IsNew xs c.args.term) (given_stores c.args.given.now) c.in_ok-live.ensures.new;
-        at = at_too c.args.image.now stores c.args.term live.book.start live.opening at p opens start;
+        marks = live.marks;
+        at = at_too c.args.image.now stores c.args.term live.book.start live.opening live.marks at p opens start;
         begins = c.going_on-primary.ensures.begins;
-        unused = unused_so c.args.image.now stores c.args.term live.book.start live.opening at p opens start c.going_on-primary.ensures.unused;
-        uncut = uncut_so c.args.image.now stores c.args.term live.book.start live.opening at p opens start c.going_on-primary.ensures.uncut;
+        unused = unused_so c.args.image.now stores c.args.term live.book.start live.opening live.marks at p opens start c.going_on-primary.ensures.unused;
+        uncut = uncut_so c.args.image.now stores c.args.term live.book.start live.opening live.marks at p opens start c.going_on-primary.ensures.uncut;
         fresh =
-            fresh c.in-Ok.gate c.offer_all.new.gate c.args.term c.args.keepers c.args.need c.args.image.now.harts
+            fresh c.in-Ok.gate c.offer_all.new.gate c.args.term c.args.keepers c.args.need c.args.image.now.harts live.marks
             (c.in-Ok.ensures.harts ∙ c.harts-harts.ensures.value) c.in-Ok.ensures.parts.0 c.in-Ok.ensures.parts.1 c.in-Ok.ensures.parts.2
             (c.in-Ok.ensures.acked ∙ ap (λ n. replicate c.args.keepers (replicate n 0)) c.harts-harts.ensures.value) c.in-Ok.ensures.noted c.in-Ok.ensures.lines
             c.offer_all.ensures.more;

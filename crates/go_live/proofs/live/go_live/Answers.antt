@@ -1,4 +1,4 @@
-use Rattle.std.proofs.Common.{◌≡◌, ◌≢◌, map, refl, sym, ap, subst, ◌∙◌}
+use Rattle.std.proofs.Common.{◌≡◌, ◌≢◌, ℕ, List, map, refl, sym, ap, subst, ◌∙◌}
 use Rattle.std.specs.List.{Any}
 use Rattle.std.proofs.lemmas.Result.{err_from_is_err_and}
 use Rattle.ft_types.specs.Guests.{GuestParts}
@@ -110,8 +110,10 @@ returns-clause-position c =
       are_joined = subst (λ (guest : GuestParts). AreJoined guest stores c.in_ok-joined.joined) c.guest-guest.ensures c.in_ok-joined.ensures;
       position = c.in_ok-position.position;
       replayed =
-          subst (λ (m : MachineState). IsReplayed c.args.image.now c.in_ok-joined.joined c.in_ok-position.position m)
-          (sym (ap (λ (b : BookView RecordingView). b.start) c.in_ok-begin.ensures.book)) c.in_ok-position.ensures.replayed;
+          subst (λ (m : List ℕ). IsReplayed c.args.image.now c.in_ok-joined.joined c.in_ok-position.position c.in_ok-begin.field-0.book.start m)
+          (sym c.in_ok-begin.ensures.marks)
+          (subst (λ (m : MachineState). IsReplayed c.args.image.now c.in_ok-joined.joined c.in_ok-position.position m c.in_ok-position.marks)
+          (sym (ap (λ (b : BookView RecordingView). b.start) c.in_ok-begin.ensures.book)) c.in_ok-position.ensures.replayed);
       opened = c.in_ok-begin.ensures.opening ∙ c.opening_of-opening.ensures ∙ ap (λ (guest : GuestParts). opening_from guest c.args.term c.in_ok-position.position)
           c.guest-guest.ensures;
     }
@@ -125,9 +127,9 @@ returns-clause-not_new c = (
 pub returns-clause-history : goal.returns-clause-history
 returns-clause-history c = λ history honest.
     starts c.args.image.now history (map (λ s. s.1.now) c.args.stores.now) honest c.args.term c.in_ok-begin.field-0.book.start c.in_ok-begin.field-0.opening
-    (returns-clause-position c)
+    c.in_ok-begin.field-0.marks (returns-clause-position c)
 
 pub returns-clause-longer : goal.returns-clause-longer
 returns-clause-longer c = λ history honest.
     longer c.args.image.now history (map (λ s. s.1.now) c.args.stores.now) honest c.args.term c.in_ok-begin.field-0.book.start
-    c.in_ok-begin.field-0.opening (c.if-not-is_new.ensures.new refl) (returns-clause-position c)
+    c.in_ok-begin.field-0.opening c.in_ok-begin.field-0.marks (c.if-not-is_new.ensures.new refl) (returns-clause-position c)

@@ -9,7 +9,7 @@ pub returns-clause-replayed : goal.returns-clause-replayed
 returns-clause-replayed c =
     let plan = c.in_ok-plan.ensures in
     let planned : ArePlanned c.args.store.now c.in_ok-position.position c.in_ok-plan.plan.legs =
-    record { terms = plan.terms; bases = plan.bases; ends = plan.ends; cuts = plan.cuts; edges = plan.edges; inputs = plan.inputs } in
+    record { terms = plan.terms; bases = plan.bases; ends = plan.ends; cuts = plan.cuts; edges = plan.edges; inputs = plan.inputs; marks = plan.marks } in
     record {
       rules = c.guest-rules.ensures.rules;
       is_position = c.in_ok-position.ensures.position;
@@ -23,6 +23,7 @@ returns-clause-replayed c =
           (subst (λ (guest : GuestParts). IsPlan guest c.in_ok-plan.plan.legs) (plan.guest ∙ c.requires)
           c.legs-planned.ensures.rules)
           c.in_ok-machine.ensures.outcome;
+      noted = c.marks.ensures.greatest;
     }
 
 pub returns-clause-harts : goal.returns-clause-harts

@@ -1,4 +1,4 @@
-use Rattle.std.proofs.Common.{◌≡◌, ◌≤◌, ◌<◌, ◌+◌, List, length, drop, ap, subst, arith, le_trans, le_of_lt}
+use Rattle.std.proofs.Common.{◌≡◌, ◌≤◌, ◌<◌, ◌+◌, List, length, drop, refl, ap, subst, arith, le_trans, le_of_lt}
 use Rattle.std.proofs.lemmas.List.Elements.{All-weaker}
 use Rattle.fragment_codec.specs.declared.types.Record.{Record}
 use Rattle.fragment_codec.specs.declared.types.Record.TheVariants.{Edge as EdgeRecord, Input as InputRecord}
@@ -71,12 +71,12 @@ loop-record-preserved c =
             last = c.loop-record.invariant.last;
           })
       | in_default w ↦
-          let fact = InputRecord w.in_default.field-0 w.in_default.field-1 in
-          let is = read fact w.in_default.is in
+          let fact = item in
+          let is = read fact refl in
           rw w.edges-is
           (record {
             taken =
-                skips_edge hart old c.loop-record.edges c.args.end f.records i fact less is (no_edge c.args.end w.in_default.field-0 w.in_default.field-1)
+                skips_edge hart old c.loop-record.edges c.args.end f.records i fact less is (no_edge c.args.end fact w.in_default.not-Edge)
                 c.loop-record.invariant.taken;
             ahead = (ahead_at (λ r. EdgesEndBy c.loop-record.edges hart (count_of r)) f.records i fact less is c.loop-record.invariant.ahead).1;
             last = c.loop-record.invariant.last;

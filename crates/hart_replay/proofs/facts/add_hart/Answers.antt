@@ -3,9 +3,9 @@ use Rattle.ft_types.specs.Counts.{count_at}
 use Rattle.log_join.specs.Cells.{One}
 use Rattle.closed_cut.specs.Position.{pieces_of}
 use Rattle.closed_cut.proofs.Walking.{goes_on, no_place}
-use Rattle.hart_replay.specs.Facts.{below, edges_among, inputs_among}
-use Rattle.hart_replay.specs.Taking.{TakesEdges, TakesInputs}
-use Rattle.hart_replay.proofs.gathering.Pieces.{hart_is, harts_are, no_lower, edges_on, inputs_on}
+use Rattle.hart_replay.specs.Facts.{below, edges_among, inputs_among, notes_among}
+use Rattle.hart_replay.specs.Taking.{TakesEdges, TakesInputs, TakesNotes}
+use Rattle.hart_replay.proofs.gathering.Pieces.{hart_is, harts_are, no_lower, edges_on, inputs_on, notes_on}
 use Rattle.hart_replay.proofs.facts.add_hart.Goals as goal
 
 pub add_edges-requires-clause-harts : goal.add_edges-requires-clause-harts
@@ -81,6 +81,9 @@ loop-place-preserved c =
           (subst (λ h. TakesInputs h c.loop-place.leg.inputs (inputs_among (below end piece.records)) c.add_inputs.new.inputs) same
           c.in_ok-add_inputs.ensures.taken);
       inputs_end = rw (← same, c.to-at.ensures) c.in_ok-add_inputs.ensures.last;
+      notes =
+          notes_on pieces place piece one end hart was.marks c.loop-place.leg.marks c.add_notes.new.marks c.loop-place.invariant.notes
+          (subst (λ h. TakesNotes h c.loop-place.leg.marks (notes_among (below end piece.records)) c.add_notes.new.marks) same c.add_notes.ensures);
     }
 
 pub returns-in_ok-add_inputs-clause-taken : goal.returns-in_ok-add_inputs-clause-taken
@@ -112,4 +115,18 @@ returns-in_ok-add_inputs-clause-taken c =
           (inputs_on pieces place piece one end hart was.inputs c.loop-place.leg.inputs c.add_inputs.new.inputs c.loop-place.invariant.inputs
           (subst (λ h. TakesInputs h c.loop-place.leg.inputs (inputs_among (below end piece.records)) c.add_inputs.new.inputs) same
           c.in_ok-add_inputs.ensures.taken));
+      notes =
+          rw (← c.count_of-end.ensures)
+          (notes_on pieces place piece one end hart was.marks c.loop-place.leg.marks c.add_notes.new.marks c.loop-place.invariant.notes
+          (subst (λ h. TakesNotes h c.loop-place.leg.marks (notes_among (below end piece.records)) c.add_notes.new.marks) same c.add_notes.ensures));
     }
+
+pub add_notes-requires : goal.add_notes-requires
+add_notes-requires c =
+    let store = c.args.store.now in
+    let was = c.args.leg.now in
+    let piece = c.in-Some.piece.now in
+    let one : pieces_of store was.term c.args.hart c.loop-place.place ≡ One piece =
+    subst (λ t. pieces_of store t c.args.hart c.loop-place.place ≡ One piece) c.loop-place.invariant.term c.in-Some.ensures.one in
+    rw (hart_is store c.requires.rules was.term c.args.hart c.loop-place.place piece one)
+    (omega (arith, c.requires.hart, c.loop-place.invariant.notes.many, c.requires.marks))

@@ -1,4 +1,4 @@
-use Rattle.std.proofs.Common.{◌≡◌, ◌≢◌, ℕ, ◌≤◌, ◌<◌, ◌+◌, List, [], ◌∷◌, ◌++◌, length, drop, ap, subst, arith, le_refl, le_trans}
+use Rattle.std.proofs.Common.{◌≡◌, ◌≢◌, ℕ, ◌≤◌, ◌<◌, ◌+◌, List, [], ◌∷◌, ◌++◌, length, drop, refl, ap, subst, arith, le_refl, le_trans}
 use Rattle.std.proofs.lemmas.List.Elements.{All-weaker}
 use Rattle.fragment_codec.specs.declared.types.Record.{Record}
 use Rattle.fragment_codec.specs.declared.types.Record.TheVariants.{Edge as EdgeRecord, Input as InputRecord}
@@ -75,12 +75,13 @@ loop-record-preserved c =
             last = c.loop-record.invariant.last;
           })
       | in_default w ↦
-          let e = w.in_default.field-0 in
-          let is = read (EdgeRecord e) w.in_default.is in
+          let fact = item in
+          let is = read fact refl in
           rw w.inputs-is
           (record {
-            taken = skips_input hart old now c.args.end f.records i (EdgeRecord e) less is (no_input c.args.end e) c.loop-record.invariant.taken;
-            ahead = (ahead_at (λ r. InputsEndBy now hart (count_of r)) f.records i (EdgeRecord e) less is c.loop-record.invariant.ahead).1;
+            taken =
+                skips_input hart old now c.args.end f.records i fact less is (no_input c.args.end fact w.in_default.not-Input) c.loop-record.invariant.taken;
+            ahead = (ahead_at (λ r. InputsEndBy now hart (count_of r)) f.records i fact less is c.loop-record.invariant.ahead).1;
             last = c.loop-record.invariant.last;
           })
     ]

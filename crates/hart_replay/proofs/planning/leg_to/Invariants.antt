@@ -8,5 +8,5 @@ invariant-loop-number l =
       term : l.leg.term ≡ l.opening.term;
       base : l.leg.base ≡ l.opening.base;
       ends : l.leg.ends ≡ l.fn.ends;
-      taken : AreTaken l.store l.leg.term l.leg.base l.leg.ends l.leg.edges l.leg.inputs l.number;
+      taken : AreTaken l.store l.leg.term l.leg.base l.leg.ends l.leg.edges l.leg.inputs l.leg.marks l.number;
     }

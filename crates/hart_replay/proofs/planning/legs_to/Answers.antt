@@ -26,7 +26,7 @@ loop-opening-preserved c =
     let same = (c.in-Some.ensures.rules.openings term o c.in-Some.ensures.one).same_term in
     rw (c.in_ok-push.ensures.items, reverse-append c.loop-opening.legs.items (leg ∷ []), c.parent-term.ensures, c.base-ends.ensures.base)
     (made_more store c.in-Some.ensures.rules c.args.position.now c.requires legs term c.loop-opening.ends c.loop-opening.invariant o c.in-Some.ensures.one leg
-    (at.term ∙ same) at.base at.ends at.start at.edges at.inputs)
+    (at.term ∙ same) at.base at.ends at.start at.edges at.inputs at.marks)
 
 pub loop-opening-smaller : goal.loop-opening-smaller
 loop-opening-smaller c =
@@ -38,3 +38,6 @@ returns-clause-inputs c = rw c.reverse.ensures.items c.loop-opening.invariant.in
 
 pub returns-clause-cuts : goal.returns-clause-cuts
 returns-clause-cuts c = rw c.reverse.ensures.items c.loop-opening.invariant.inside
+
+pub returns-clause-marks : goal.returns-clause-marks
+returns-clause-marks c = rw c.reverse.ensures.items c.loop-opening.invariant.marks

@@ -12,3 +12,6 @@ returns-clause-inputs c = rw c.new.ensures.legs c.in_ok-legs.ensures.inputs
 
 pub returns-clause-cuts : goal.returns-clause-cuts
 returns-clause-cuts c = rw c.new.ensures.legs c.in_ok-legs.ensures.cuts
+
+pub returns-clause-marks : goal.returns-clause-marks
+returns-clause-marks c = rw c.new.ensures.legs c.in_ok-legs.ensures.marks

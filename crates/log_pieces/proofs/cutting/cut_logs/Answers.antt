@@ -24,18 +24,18 @@ cut_hart-requires-clause-may c =
 
 pub loop-number-preserved : goal.loop-number-preserved
 loop-number-preserved c =
-    let logs = hart_log c.args.guest.now c.args.term c.args.edges.now c.args.inputs.now c.args.settled.now in
+    let logs = hart_log c.args.guest.now c.args.term c.args.edges.now c.args.inputs.now c.args.notes.now c.args.settled.now in
     let origin : Origin = record { guest = c.args.guest.now; term = c.args.term; hart = c.new-hart.result; settled = c.get.result } in
     hart_cut logs c.loop-number.number c.args.sealed.now c.loop-number.frames.items c.loop-number.next c.cut_hart.new.frames.items c.cut_hart.new.sealed
     (log_of_records origin c.deref.result.now) c.loop-number.invariant
-    (log_is c.args.guest.now c.args.term c.args.edges.now c.args.inputs.now c.args.settled.now c.loop-number.next c.loop-number.number c.new-hart.result
+    (log_is c.args.guest.now c.args.term c.args.edges.now c.args.inputs.now c.args.notes.now c.args.settled.now c.loop-number.next c.loop-number.number c.new-hart.result
     c.reached-from.result c.get.result
     c.deref.result.now c.new-hart.ensures c.reached-from.ensures.value c.get.ensures.value (ap told_by c.deref.ensures.value ∙ c.in_ok-records.ensures.told))
     c.new-hart.ensures c.in_ok-cut_hart.ensures
 
 pub returns-clause-cut : goal.returns-clause-cut
 returns-clause-cut c =
-    let logs = hart_log c.args.guest.now c.args.term c.args.edges.now c.args.inputs.now c.args.settled.now in
+    let logs = hart_log c.args.guest.now c.args.term c.args.edges.now c.args.inputs.now c.args.notes.now c.args.settled.now in
     let number : c.loop-number.number ≡ c.args.guest.now.harts = omega arith in
     all_cut logs c.args.guest.now.harts c.args.sealed.now c.loop-number.frames.items c.loop-number.next
     (subst (λ n. HartsCut logs n c.args.sealed.now c.loop-number.frames.items c.loop-number.next) number c.loop-number.invariant) c.requires.sealed_harts

@@ -1,4 +1,5 @@
-use Rattle.std.proofs.Common.{arith, length, ap, ◌∙◌}
+use Rattle.std.proofs.Common.{arith, length, ap, subst, ◌∙◌}
+use Rattle.log_pieces.specs.Cutting.{IsFirst}
 use Rattle.log_pieces.proofs.cuts.Merging.{merges_nothing, turn_at_edge, turn_at_input, less_edges, less_inputs, merging_ends}
 use Rattle.log_pieces.proofs.merging.merged.Goals as goal
 use Rattle.log_pieces.proofs.merging.merged.Goals.{in-Edge, in-Input}
@@ -42,7 +43,7 @@ loop-first-preserved c =
 pub returns-clause-told : goal.returns-clause-told
 returns-clause-told c =
     let h = c.in_default.ensures.none in
-    let told = merging_ends _ _ _ _ _ _ _ c.loop-first.invariant h.0 h.1 in
-    let edges = told.0 in
-    let inputs = told.1 in
-    cc
+    merging_ends _ _ _ _ _ _ _ c.loop-first.invariant h.0 h.1
+
+pub unreachable-requires : goal.unreachable-requires
+unreachable-requires c = subst (IsFirst _ _ _) c.in-Note.is c.in-Some.ensures.first

@@ -1,5 +1,5 @@
 use Rattle.std.specs.Global.{Vec}
-use Rattle.std.proofs.Common.{◌≡◌, ◌<◌, ◌++◌, ℕ, List, [], ◌∷◌, Bool, true, false, filter, take, length, length-append, ◌∙◌, sym, ap, arith}
+use Rattle.std.proofs.Common.{◌≡◌, ◌<◌, ◌++◌, ℕ, List, [], ◌∷◌, Bool, true, filter, take, length, length-append, ◌∙◌, sym, ap, arith}
 use Rattle.ft_types.specs.declared.output.Output.{Output}
 use Rattle.output_gate.specs.Gates.{is_held}
 use Rattle.output_gate.proofs.Moves.{passes_more, stops_more, one_added}

@@ -6,4 +6,8 @@ pub returns-in_ok-offer-clause-last : goal.returns-in_ok-offer-clause-last
 returns-in_ok-offer-clause-last c =
     last_offered c.args.gate.now c.offer.new.self c.args.last.now c.args.output c.index.result c.index.ensures.value
     (let w = c.fits-last in let b = c.index.ensures.below in omega arith) c.requires
-    (c.is_next.ensures.0 c.if-is_next.true) (record { line = c.in_ok-offer.ensures.line; others = c.offer.ensures.others })
+    (c.is_next.ensures.0 c.if-is_next.true) (record {
+      line = c.in_ok-offer.ensures.line;
+      offered = c.in_ok-offer.ensures.offered;
+      others = c.offer.ensures.others;
+    })

@@ -1,8 +1,10 @@
 use Rattle.std.proofs.Common.{◌≡◌, ◌∙◌, ℕ, List, length, replicate, ap, sym, arith}
 use Rattle.std.proofs.lemmas.Bool.{false≢true}
 use Rattle.ft_types.specs.Counts.{count_at}
+use Rattle.guest_image.specs.Machine.{MachineState}
 use Rattle.hart_lease.specs.Runs.{counts_of}
 use Rattle.pair.proofs.Leading.{has_led, led_none, led_more}
+use Rattle.pair.proofs.NotesAlone.{machine_stays, still_full, noted_led}
 use Rattle.pair.proofs.primary_thread.lead.Goals as goal
 use Rattle.pair.proofs.primary_thread.lead.Goals.{in-None, in-Some+then-are_at_end}
 
@@ -24,21 +26,27 @@ loop-round-init g c =
 pub new_pieces-requires-clause-within : goal.new_pieces-requires-clause-within
 new_pieces-requires-clause-within g c hart =
     let before = c.loop-round.invariant.within hart in
-    let further = (c.in_ok-book.ensures.counts hart).0 in omega (arith, before, further)
+    let same = ap (λ (m : MachineState). counts_of m hart) (machine_stays c.loop-round.book c.note_out.new.book c.note_out.ensures) in
+    let further = (c.in_ok-book.ensures.counts hart).0 in omega (arith, before, same, further)
 
 pub loop-round-preserved : goal.loop-round-preserved
 loop-round-preserved g c =
     let was = c.loop-round.book in
+    let noted = c.note_out.new.book in
     let now = c.in_ok-book.book in
     let went = c.in_ok-book.ensures in
+    let machine = machine_stays was noted c.note_out.ensures in
     record {
       idle = went.idle;
-      harts = went.harts ∙ c.loop-round.invariant.harts;
+      harts = went.harts ∙ ap (λ (m : MachineState). length m.harts) machine ∙ c.loop-round.invariant.harts;
       sealed = c.in_ok-frame-items.ensures.sealed;
       within = c.in_ok-frame-items.ensures.within;
-      full = went.limits ∙ c.loop-round.invariant.full ∙ ap (λ (n : ℕ). replicate n c.args.primary.budget) (sym went.harts);
+      full =
+          went.limits ∙ still_full was noted c.note_out.ensures c.args.primary.budget c.loop-round.invariant.full
+          ∙ ap (λ (n : ℕ). replicate n c.args.primary.budget) (sym went.harts);
       below = went.below;
-      led = led_more c.args.primary.book was now c.loop-round.invariant.led went.continues went.offered went.counts went.limits;
+      led =
+          led_more c.args.primary.book noted now (noted_led was noted c.note_out.ensures c.args.primary.book c.loop-round.invariant.led) went.continues went.offered went.counts went.limits;
     }
 
 pub returns : goal.returns

@@ -10,7 +10,7 @@ loop-number-preserved c =
     let lt = c.loop-number-test.true in
     next_number c.args.gate.now c.loop-number.gate c.offer.new.self c.args.hart c.loop-number.number c.args.outputs.now
     (slice_index_or c.args.outputs.now c.loop-number.number (0, 0)) c.loop-number.invariant
-    (slice_get-get_or c.args.outputs.now c.loop-number.number (0, 0) (omega (arith, lt))) c.in_ok-offer.ensures.line c.in_ok-offer.ensures.others
+    (slice_get-get_or c.args.outputs.now c.loop-number.number (0, 0) (omega (arith, lt))) c.in_ok-offer.ensures.line c.in_ok-offer.ensures.offered c.in_ok-offer.ensures.others
     c.in_ok-offer.ensures.rest
 
 pub returns-clause-all : goal.returns-clause-all

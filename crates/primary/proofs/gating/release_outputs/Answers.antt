@@ -1,8 +1,10 @@
-use Rattle.std.proofs.Common.{◌≡◌, inl, inr, ◌++◌, List, length, refl, ap, ◌∙◌, arith}
+use Rattle.std.proofs.Common.{◌≡◌, inl, inr, ◌++◌, List, length, refl, ap, subst, ◌∙◌, arith}
+use Rattle.ft_types.specs.declared.output.Output.{Output}
+use Rattle.output_gate.specs.Orders.{AreAbove}
 use Rattle.output_gate.specs.Gates.{line_of, held_outputs, after_release}
 use Rattle.term_gate.specs.TermGates.{TermGateView}
 use Rattle.primary.specs.declared.released.Released.{Released}
-use Rattle.primary.specs.Gating.{IsAsItWas, released_in}
+use Rattle.primary.specs.Gating.{IsAsItWas, LetGo, released_in}
 use Rattle.primary.proofs.Waiting.{still_offered, released_offered}
 use Rattle.primary.proofs.Gates.{offers_rest, rest_after, was_offered, acked_before, same_lines, every_line, few_held, left_if}
 use Rattle.primary.proofs.gating.release_outputs.Goals as goal
@@ -73,17 +75,24 @@ returns-clause-goes c =
     let g = c.offer_all.new.gate in
     let h = c.release-given.new.self in
     let need : g.gate.need ≡ r.gate.need = ap (λ (x : TermGateView). x.gate.need) c.offer_all.ensures.more.rest in
-    let given : c.deref.result.now ≡ held_outputs r.gate.need h.gate.noted g.gate.lines =
-    c.deref.ensures.value ∙ c.in_ok-given.ensures.given ∙ ap (λ n. held_outputs n h.gate.noted g.gate.lines) need in
-    record {
+    let out = held_outputs r.gate.need h.gate.noted g.gate.lines in
+    let given = c.in_ok-given.ensures.given ∙ ap (λ n. held_outputs n h.gate.noted g.gate.lines) need in
+    let goes : LetGo c.args.term c.args.machine.now r c.args.released.now.items h c.add_released.new.released.items = record {
       offered = g;
       more = c.offer_all.ensures.more;
       all = c.in_ok-offer_all.ensures.all;
+      harts = c.offered-before.ensures.harts;
+      passed = c.offered-before.ensures.passed;
       acked = acked_before r g h.gate.noted c.offer_all.ensures.more c.release-given.ensures.acked;
-      lines = λ hart less. c.in_ok-given.ensures.lines hart less ∙ ap (λ n. after_release n h.gate.noted (line_of g.gate hart)) need;
+      lines = λ hart.
+          every_line g.gate.need h.gate.noted g.gate h.gate c.offered-before.ensures.harts c.offered-after.ensures.harts c.in_ok-given.ensures.lines hart
+          ∙ ap (λ n. after_release n h.gate.noted (line_of g.gate hart)) need;
       gate = rest_after r g h c.offer_all.ensures.more c.release-given.ensures.rest;
+      given = out;
+      held = refl;
+      above = subst (λ (os : List Output). AreAbove g.gate os) given c.in_ok-given.ensures.above;
       out =
           c.add_released.ensures
           ∙ ap (λ (rs : List Released). rs ++ released_in c.args.term c.deref.result.now) c.reserve.ensures.items
-          ∙ ap (λ os. c.args.released.now.items ++ released_in c.args.term os) given;
-    }
+          ∙ ap (λ os. c.args.released.now.items ++ released_in c.args.term os) (c.deref.ensures.value ∙ given);
+    } in (goes, given)

@@ -70,7 +70,7 @@ returns-clause-counts g c = counts_are g c
 
 pub returns-clause-tells : goal.returns-clause-tells
 returns-clause-tells g c =
-    let on = continues_is g c in record { counts = λ hart. (counts_are g c hart).0; inputs = on.inputs; edges = on.edges }
+    let on = continues_is g c in record { counts = λ hart. (counts_are g c hart).0; inputs = on.inputs; edges = on.edges; notes = on.notes }
 
 pub returns-clause-runs : goal.returns-clause-runs
 returns-clause-runs g c = runs_on c.args.book c.limit_to.new.self (continues_is g c) c.has_run.ensures c.has_run-4.ensures

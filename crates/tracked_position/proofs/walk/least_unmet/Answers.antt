@@ -1,6 +1,6 @@
 use Rattle.std.proofs.Common.{arith}
 use Rattle.ft_types.specs.Counts.{count_at}
-use Rattle.tracked_position.proofs.Scans.{next_taken, next_skipped, next_input}
+use Rattle.tracked_position.proofs.Scans.{next_taken, next_skipped, next_other}
 use Rattle.tracked_position.proofs.walk.least_unmet.Goals as goal
 use Rattle.tracked_position.proofs.walk.least_unmet.Goals.{in-Edge+then-edge-below+then-count_of-edge, in-Edge+else-edge-below}
 use Rattle.tracked_position.proofs.walk.least_unmet.Goals.{else-edge-below-via-then-edge-below+else-count_of-edge, else-edge-below-via-else-edge-below}
@@ -28,6 +28,6 @@ loop-record-preserved c =
           ]))
       | in_default w ↦
           rw (w.least-is, w.below-is)
-          (next_input records i x c.loop-record-test.true c.record-item.is cut c.args.ceiling c.loop-record.below c.loop-record.least c.loop-record.invariant
-          w.in_default.field-0 w.in_default.field-1 w.in_default.is)
+          (next_other records i x c.loop-record-test.true c.record-item.is cut c.args.ceiling c.loop-record.below c.loop-record.least c.loop-record.invariant
+          w.in_default.not-Edge)
     ]

@@ -6,7 +6,7 @@ use Rattle.book_modes.proofs.ledger.ChangedRights.{right_there, changed_none, ch
 use Rattle.book_modes.proofs.recording.Recording.keep_rights.Goals as goal
 
 pub loop-page-init : goal.loop-page-init
-loop-page-init c = record { limits = refl; edges = refl; inputs = refl; due = refl; desk = refl; rights = changed_none _ _ }
+loop-page-init c = record { limits = refl; edges = refl; inputs = refl; notes = refl; due = refl; desk = refl; rights = changed_none _ _ }
 
 pub loop-page-preserved : goal.loop-page-preserved
 loop-page-preserved c =
@@ -18,6 +18,7 @@ loop-page-preserved c =
       limits = now.limits;
       edges = now.edges;
       inputs = now.inputs;
+      notes = now.notes;
       due = now.due;
       desk = now.desk;
       rights =
@@ -37,6 +38,7 @@ returns-clause-rest c =
       rights = c.loop-page.self-inside.rights.items;
       edges = now.edges i;
       inputs = now.inputs i;
+      notes = now.notes i;
       due = (now.due i).value;
       desk = now.desk i;
     })

@@ -23,7 +23,7 @@ give_up-requires c =
     held
 
 pub loop-page-init : goal.loop-page-init
-loop-page-init c = record { limits = refl; edges = refl; inputs = refl; due = refl; desk = refl; rights = changed_none _ _ }
+loop-page-init c = record { limits = refl; edges = refl; inputs = refl; notes = refl; due = refl; desk = refl; rights = changed_none _ _ }
 
 pub loop-page-preserved : goal.loop-page-preserved
 loop-page-preserved c =
@@ -39,6 +39,7 @@ loop-page-preserved c =
             limits = now.limits;
             edges = now.edges;
             inputs = now.inputs;
+            notes = now.notes;
             due = now.due;
             desk = now.desk;
             rights =
@@ -56,6 +57,7 @@ loop-page-preserved c =
             limits = now.limits;
             edges = now.edges;
             inputs = now.inputs;
+            notes = now.notes;
             due = now.due;
             desk = now.desk;
             rights = changed_same _ _ _ _ now.rights (rw not refl);
@@ -69,6 +71,7 @@ after c = record {
   rights = c.loop-page.self-inside.rights.items;
   edges = c.loop-page.self-inside.edges;
   inputs = c.loop-page.self-inside.inputs;
+  notes = c.loop-page.self-inside.notes;
   due = c.loop-page.self-inside.due.value;
   desk = c.loop-page.self-inside.desk;
 }
@@ -86,6 +89,7 @@ is_ended c =
             rights = c.loop-page.self-inside.rights.items;
             edges = now.edges i;
             inputs = now.inputs i;
+            notes = now.notes i;
             due = (now.due i).value;
             desk = now.desk i;
           };

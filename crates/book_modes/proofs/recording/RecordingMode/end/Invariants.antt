@@ -8,6 +8,7 @@ invariant-loop-page l = record {
   limits : l.self-inside.limits ≡ l.initial.self-inside.limits;
   edges : l.self-inside.edges ≡ l.initial.self-inside.edges;
   inputs : l.self-inside.inputs ≡ l.initial.self-inside.inputs;
+  notes : l.self-inside.notes ≡ l.initial.self-inside.notes;
   due : l.self-inside.due ≡ l.initial.self-inside.due;
   desk : l.self-inside.desk ≡ l.initial.self-inside.desk;
   rights : AreChanged (given_back l.taken l.hart l.count) l.initial.self-inside.rights.items l.self-inside.rights.items l.page;

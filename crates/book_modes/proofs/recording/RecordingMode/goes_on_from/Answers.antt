@@ -8,6 +8,7 @@ use Rattle.input_log.specs.declared.Input.{Input}
 use Rattle.input_log.specs.Inputs.{inputs_of}
 use Rattle.input_log.specs.declared.offered.Offer.{Offer}
 use Rattle.input_log.specs.Offers.{all_offers, but_bells, AreKept}
+use Rattle.input_log.specs.Notes.{notes_of, NotesMore}
 use Rattle.input_log.specs.Waiting.{Queues, others_of, empty}
 use Rattle.book_modes.specs.Dues.{DueView, due_at, nothing_due}
 use Rattle.book_modes.specs.Recordings.{RecordingView, HasRows, KeepsInputs, offers_at}
@@ -47,12 +48,25 @@ loop-number-preserved c h below = elim (cases_lt h c.loop-number.number) [
       c.count_of-later.ensures.value told)
 ]
 
+pub returns-then-not-adds_later-2 : goal.returns-then-not-adds_later-2
+returns-then-not-adds_later-2 c = (
+  λ e. absurd (cc e),
+  λ on.
+      let more : (hart : ℕ) → NotesMore (notes_of c.before-2.inside.notes hart) (count_at c.args.settled.now hart) (notes_of c.self.inside.notes hart) =
+      λ hart.
+      subst (λ (r : RecordingView). NotesMore (notes_of r.notes hart) (count_at c.args.settled.now hart) (notes_of c.self.inside.notes hart)) (sym c.before-2.view_is)
+      (subst (λ (r : RecordingView). NotesMore (notes_of c.args.before.now.notes hart) (count_at c.args.settled.now hart) (notes_of r.notes hart)) (sym c.self.view_is)
+      (on.notes hart)) in
+      let told = c.adds_later-2.ensures.1 more in absurd (let no = c.if-not-adds_later-2.true in cc),
+)
+
 pub returns : goal.returns
 returns c = (
   λ e.
       record {
         edges =
             rw (← c.self.view_is, ← c.before-2.view_is) (c.adds_later.ensures.0 c.if-not-adds_later.false);
+        notes = rw (← c.self.view_is, ← c.before-2.view_is) (c.adds_later-2.ensures.0 c.if-not-adds_later-2.false);
         inputs = λ h. elim (cases_lt h c.loop-number.number) [
           | inl less ↦ c.loop-number.invariant h less
           | inr more ↦

@@ -125,7 +125,7 @@ cause v is keeper s p Lower r at there is_position other lower =
           let (hart, less) = lower refl in
           let t = is.tied in
           let more = never_lower t.is_recorder.recorder (guest_of v.image) (quorum_of v)
-          (theory_world v.image.pages t.are_theory (guest_of v.image) v t.terms t.out) t.comes keeper s p
+          (theory_world v.image.pages t.are_theory (guest_of v.image) v t.terms t.notes t.marks t.out) t.comes keeper s p
           (there_too v.stores keeper s (Some (nothing (guest_of v.image))) there) is_position (same ∙ is.parts.gate_term) hart in
           absurd (omega (arith, less, more))
       | inr ne ↦ let both = sym at ∙ other.1 ne in absurd cc

@@ -1,5 +1,7 @@
 use Rattle.std.proofs.Common.{◌≡◌, ℕ, true, List, [], ◌∷◌, ◌++◌, replicate, Some, refl, sym, ap, subst, ◌∙◌}
+use Rattle.ft_types.specs.Counts.{count_at}
 use Rattle.ft_types.specs.Guests.{GuestParts, IsGuest}
+use Rattle.output_gate.specs.Gates.{fresh_line}
 use Rattle.guest_image.specs.Image.{ImageContents, guest_of}
 use Rattle.fragment_codec.specs.Rules.{OpeningParts}
 use Rattle.fragment_codec.specs.declared.frame.Frame.{Frame}
@@ -47,5 +49,5 @@ invariant_of-result c =
       gate_need = parts.2;
       gate_harts = c.in_ok-gate.ensures.harts ∙ harts;
       acked = c.in_ok-gate.ensures.acked ∙ ap (λ (n : ℕ). let zero : ℕ = 0 in replicate c.args.keepers (replicate n zero)) harts;
-      lines = c.in_ok-gate.ensures.lines;
+      lines = λ hart. c.in_ok-gate.ensures.lines hart ∙ ap (λ (row : List ℕ). fresh_line (count_at row hart)) c.zero.ensures;
     })

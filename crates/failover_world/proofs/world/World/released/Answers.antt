@@ -2,7 +2,7 @@ use Rattle.std.proofs.Common.{subst}
 use Rattle.failover_world.specs.Promises.{IsOfMachine}
 use Rattle.failover_world.specs.Worlds.{WorldView}
 use Rattle.failover_world.specs.Tied.{IsWorld}
-use Rattle.failover_world.proofs.Promises.{is_one, is_of_machine, is_kept, are_held, are_acked_inside}
+use Rattle.failover_world.proofs.Promises.{is_one, is_of_machine, is_kept, are_held, are_acked_inside, are_notes_released, none_is_noted}
 use Rattle.failover_world.proofs.world.World.released.Goals as goal
 
 pub returns-clause-one : goal.returns-clause-one
@@ -38,3 +38,12 @@ returns-clause-held c =
 pub returns-clause-acknowledged : goal.returns-clause-acknowledged
 returns-clause-acknowledged c =
     let is : IsWorld c.args.self.now = subst (λ (v : WorldView). IsWorld v) c.self.view_is c.self.invariant in are_acked_inside c.args.self.now is.tied
+
+pub returns-clause-noted : goal.returns-clause-noted
+returns-clause-noted c =
+    let is : IsWorld c.args.self.now = subst (λ (v : WorldView). IsWorld v) c.self.view_is c.self.invariant in are_notes_released c.args.self.now is.tied
+
+pub returns-clause-fresh : goal.returns-clause-fresh
+returns-clause-fresh c =
+    let is : IsWorld c.args.self.now = subst (λ (v : WorldView). IsWorld v) c.self.view_is c.self.invariant in
+    none_is_noted c.args.self.now is.tied is.parts.guest

@@ -63,12 +63,12 @@ returns-in_err-live-clause-refused c =
 pub going_on-primary-requires-clause-harts : goal.going_on-primary-requires-clause-harts
 going_on-primary-requires-clause-harts c =
     at_harts c.self.inside.image (map (λ s. s.1.now) c.as_slice.result.now) c.if-term.asked c.in_ok-live.live.book.start c.in_ok-live.live.opening
-    c.in_ok-live.ensures.position
+    c.in_ok-live.live.marks c.in_ok-live.ensures.position
 
 pub going_on-primary-requires-clause-counts : goal.going_on-primary-requires-clause-counts
 going_on-primary-requires-clause-counts c =
     at_counts c.self.inside.image (map (λ s. s.1.now) c.as_slice.result.now) c.if-term.asked c.in_ok-live.live.book.start c.in_ok-live.live.opening
-    c.in_ok-live.ensures.position
+    c.in_ok-live.live.marks c.in_ok-live.ensures.position
 
 pub returns-clause-begins : goal.returns-clause-begins
 returns-clause-begins c =
@@ -137,9 +137,9 @@ returns-clause-goes c =
     let is : IsGiven v c.args.term c.if-term.asked stores = given v c.args.term c.if-term.asked stores asks c.in_ok-live.ensures.new in
     let live = c.in_ok-live.live in
     let p : Primary = c.going_on-primary.result in
-    let at : IsAtPosition v.image (map (λ s. s.1) (stores_of v.stores c.args.keepers.now)) c.args.term live.book.start live.opening =
-    subst (λ n. IsAtPosition v.image (map (λ s. s.1) (stores_of v.stores c.args.keepers.now)) n live.book.start live.opening) is.same
-    (subst (λ xs. IsAtPosition v.image xs c.if-term.asked live.book.start live.opening) are c.in_ok-live.ensures.position) in
+    let at : IsAtPosition v.image (map (λ s. s.1) (stores_of v.stores c.args.keepers.now)) c.args.term live.book.start live.opening live.marks =
+    subst (λ n. IsAtPosition v.image (map (λ s. s.1) (stores_of v.stores c.args.keepers.now)) n live.book.start live.opening live.marks) is.same
+    (subst (λ xs. IsAtPosition v.image xs c.if-term.asked live.book.start live.opening live.marks) are c.in_ok-live.ensures.position) in
     let opens = c.going_on-primary.ensures.opening in
     let start = c.going_on-primary.ensures.start in
     let named = map (λ s. s.1) (stores_of v.stores c.args.keepers.now) in
@@ -148,12 +148,13 @@ returns-clause-goes c =
       enough = subst (AreEnough v.keepers v.need) are_keepers c.in_ok-live.ensures.enough;
       later = is.later;
       new = subst (λ xs. IsNew xs c.args.term) are is.new;
-      at = at_too v.image named c.args.term live.book.start live.opening at p opens start;
+      marks = live.marks;
+      at = at_too v.image named c.args.term live.book.start live.opening live.marks at p opens start;
       begins = c.going_on-primary.ensures.begins;
-      unused = unused_so v.image named c.args.term live.book.start live.opening at p opens start c.going_on-primary.ensures.unused;
-      uncut = uncut_so v.image named c.args.term live.book.start live.opening at p opens start c.going_on-primary.ensures.uncut;
+      unused = unused_so v.image named c.args.term live.book.start live.opening live.marks at p opens start c.going_on-primary.ensures.unused;
+      uncut = uncut_so v.image named c.args.term live.book.start live.opening live.marks at p opens start c.going_on-primary.ensures.uncut;
       fresh =
-          fresh c.in_ok-gate.gate c.offer_all.new.gate c.args.term v.keepers v.need v.image.harts (c.in_ok-gate.ensures.harts ∙ c.harts-harts.ensures.value)
+          fresh c.in_ok-gate.gate c.offer_all.new.gate c.args.term v.keepers v.need v.image.harts live.marks (c.in_ok-gate.ensures.harts ∙ c.harts-harts.ensures.value)
           c.in_ok-gate.ensures.parts.0 c.in_ok-gate.ensures.parts.1 c.in_ok-gate.ensures.parts.2
           (c.in_ok-gate.ensures.acked ∙ ap (λ n. replicate v.keepers (replicate n 0)) c.harts-harts.ensures.value) c.in_ok-gate.ensures.noted c.in_ok-gate.ensures.lines
           c.offer_all.ensures.more;

@@ -65,4 +65,4 @@ returns-clause-goes c =
     subst (λ (q : RunningView). LetsGo q c.args.released.now.items s now) c.self.view_is
     (subst (λ t. LetGo t r.primary.book.machine r.gate c.args.released.now.items s.gate now) c.term-term.ensures
     (subst (λ (m : MachineState). LetGo c.term-term.result m r.gate c.args.released.now.items s.gate now) c.machine.ensures.value
-    c.in_ok-release_outputs.ensures.goes))
+    c.in_ok-release_outputs.ensures.goes.0))

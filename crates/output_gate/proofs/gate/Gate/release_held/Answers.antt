@@ -1,11 +1,11 @@
-use Rattle.std.proofs.Common.{◌≡◌, ◌<◌, ℕ, List, [], ◌++◌, ◌∙◌, ap, subst, slice_index_or}
+use Rattle.std.proofs.Common.{◌≡◌, ◌<◌, ℕ, List, ◌++◌, ◌∙◌, ap, subst, slice_index_or}
 use Rattle.std.specs.List.Sorted.{IsPermutation}
 use Rattle.ft_types.specs.declared.output.Output.{Output}
 use Rattle.ft_types.specs.declared.names.TheConstants.{HART_LIMIT}
-use Rattle.output_gate.specs.Gates.{LineView, GateView, offered_of, held_outputs}
-use Rattle.output_gate.specs.Orders.{StepsRise}
+use Rattle.output_gate.specs.Gates.{LineView, GateView, fresh_line, offered_in, offered_of, held_outputs}
+use Rattle.output_gate.specs.Orders.{StepsRise, AreAbove}
 use Rattle.output_gate.proofs.Gates.{gate_releases, offered_moves, offered_stays}
-use Rattle.output_gate.proofs.Orders.{given_rises}
+use Rattle.output_gate.proofs.Orders.{given_rises, given_above}
 use Rattle.output_gate.proofs.gate.Gate.release_held.Goals as goal
 
 pub invariant_of-self : goal.invariant_of-self
@@ -18,8 +18,17 @@ returns-clause-rising c = given_rises c.self.inside.need c.self.inside.noted c.s
     c.new-given.ensures.items)
 
 abbrev now_offered : List LineView → ℕ → List Output
-now_offered lines hart =
-    (slice_index_or lines hart (record { gone = []; waiting = [] })).gone ++ (slice_index_or lines hart (record { gone = []; waiting = [] })).waiting
+now_offered lines hart = offered_in (slice_index_or lines hart (fresh_line 0))
+
+-- whatever is given is above the marks that are seen
+above_seen : (inside seen : GateView) (given : List Output) → inside ≡ seen → AreAbove inside given → AreAbove seen given
+above_seen inside seen given is above = subst (λ (v : GateView). AreAbove v given) is above
+
+pub returns-clause-above : goal.returns-clause-above
+returns-clause-above c = above_seen _ _ _ c.self.view_is
+    (given_above c.self.inside.need c.self.inside.noted c.self.inside.lines _ c.self.invariant.harts c.self.invariant.each
+    (c.in_ok-held.ensures.given ∙ ap (λ (l : List Output). l ++ held_outputs c.self.inside.need c.self.inside.noted c.self.inside.lines)
+    c.new-given.ensures.items))
 
 pub returns-clause-same : goal.returns-clause-same
 returns-clause-same c =

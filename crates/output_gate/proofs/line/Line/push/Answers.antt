@@ -12,10 +12,12 @@ invariant_of-self-2 c =
     let xs : List Output = c.self.inside.offered.items in
     let x : Output = c.args.output in
     let waits : drop r xs ≡ c.args.self.now.waiting = ap (λ (l : LineView). l.waiting) c.self.view_is in
-    let one : c.push.new.self.items ≡ xs ++ x ∷ [] = c.in_ok-push.ensures.items in
+    let one : c.push-2.new.self.items ≡ xs ++ x ∷ [] = c.in_ok-push-2.ensures.items in
     let within : r ≤ length xs = c.self.invariant.0 in
     let long = ap length one ∙ length-append xs (x ∷ []) in (
       omega arith,
       λ t. subst AreInLine (ap (λ (l : List Output). l ++ x ∷ []) (sym waits) ∙ sym (ap (drop r) one ∙ drop-append-le r xs (x ∷ []) within))
-          (line-more c.args.self.now.waiting x (c.rises_to-rises.ensures t).0 c.requires (c.rises_to-rises.ensures t).1),
+          (line-more c.args.self.now.waiting x (c.rises_to-rises.ensures t).0 c.requires.1 (c.rises_to-rises.ensures t).1),
+      c.self.invariant.2,
+      c.self.invariant.3,
     )

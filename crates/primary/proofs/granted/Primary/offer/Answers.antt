@@ -1,3 +1,5 @@
+use Rattle.std.proofs.Common.{ap}
+use Rattle.input_log.specs.Notes.{notes_of}
 use Rattle.primary.proofs.Books.{offered_so}
 use Rattle.primary.proofs.granted.Primary.offer.Goals as goal
 
@@ -9,6 +11,7 @@ returns-clause-goes_on c =
       start = so.start;
       journal = so.journal;
       tells = so.tells;
+      notes = λ hart. ap (λ notes. notes_of notes hart) so.notes;
       primary = c.tell_primary-2.ensures.primary;
       before = c.tell_primary.ensures.leads;
       after = c.tell_primary-2.ensures.leads;

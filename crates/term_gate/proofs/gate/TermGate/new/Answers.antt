@@ -6,7 +6,7 @@ use Rattle.term_gate.proofs.gate.TermGate.new.Goals as goal
 pub invariant_of-result : goal.invariant_of-result
 invariant_of-result c =
     let made = c.in_ok-board.ensures in
-    let parts = c.new-2.ensures.parts in
+    let parts = c.new_after.ensures.parts in
     let b = c.in_ok-board.board in
     record {
       term = made.board.0 ∙ sym parts.0;
@@ -16,9 +16,9 @@ invariant_of-result c =
       at_board = (dealt b c.in_ok-board.seats.items (made.seats ∙ sym made.board.2) (λ k d lt. made.keepers k d (omega (arith, lt, made.board.2)))).0;
       at_gate = made.gate.0;
       seen = record {
-        below = λ keeper hart few wide. omega (arith, c.new-2.ensures.noted keeper hart);
-        no_keeper = λ keeper hart past. c.new-2.ensures.noted keeper hart;
-        no_hart = λ keeper hart past. c.new-2.ensures.noted keeper hart;
+        below = λ keeper hart few wide. omega (arith, c.new_after.ensures.noted keeper hart);
+        no_keeper = λ keeper hart past. c.new_after.ensures.noted keeper hart;
+        no_hart = λ keeper hart past. c.new_after.ensures.noted keeper hart;
       };
     }
 

@@ -1,0 +1,232 @@
+-- What is noted as released: that it was, and that no later term releases it again.
+use Rattle.std.proofs.Common.{◌≡◌, ◌≢◌, ◌⊎◌, inl, inr, ℕ, ◌<◌, ◌≤◌, List, [], ◌∷◌, Contains, Option, Some, None, refl, sym, ap, subst, ◌∙◌, arith, le_trans}
+use Rattle.std.specs.Prelude.{slice_get}
+use Rattle.std.proofs.lemmas.List.Elements.{Contains-append_right}
+use Rattle.interleaving.specs.Lists.{put}
+use Rattle.interleaving.proofs.Put.{same_or_not, put_same, put_other}
+use Rattle.interleaving.proofs.Cuts.{here_or_later}
+use Rattle.log_join.specs.Families.{Past, HonestStore}
+use Rattle.fragment_codec.specs.Rules.{FragmentParts, OpeningParts}
+use Rattle.log_join.specs.Stores.{StoreView}
+use Rattle.closed_cut.specs.Position.{pieces_of, base_of}
+use Rattle.failover_theory.specs.Recorders.{Recorder}
+use Rattle.failover_theory.specs.Families.{IsFamily, Keeps, Here, Above}
+use Rattle.failover_theory.specs.Notes.{HasNotes, IsNoting, IsTold}
+use Rattle.failover_theory.specs.Worlds.{Released, WentOut}
+use Rattle.failover_theory.proofs.Growing.{some_none, Covered, a_piece}
+use Rattle.failover_theory.proofs.Walks.{in_a_piece}
+use Rattle.failover_theory.proofs.Fate.{keeps_less}
+
+-- one more went out
+pub out_grows : (released : List Released) (new : Released) (hart number : ℕ) → WentOut released hart number → WentOut (new ∷ released) hart number
+out_grows released new hart number (r, has, same, is) = (r, Contains-append_right (new ∷ []) released r has, same, is)
+
+module _ {Book : Type 0} where
+  -- each term's pieces have exactly its notes
+  abbrev pub AreTold : (ℕ → Option (Past Book)) → (ℕ → ℕ → List (ℕ × ℕ)) → Type 0
+  AreTold terms notes =
+      (u : ℕ) (p : Past Book) → terms u ≡ Some p → (hart place : ℕ) (x : FragmentParts) → slice_get (p.pieces hart) place ≡ Some x → HasNotes (notes u hart) x
+
+  pub record AreNoted (terms : ℕ → Option (Past Book)) (notes : ℕ → ℕ → List (ℕ × ℕ)) (marks : ℕ → ℕ → ℕ) (released : List Released) : Type 0 where
+    pub told : AreTold terms notes
+    -- none is at a count before the term's base
+    pub from : (u : ℕ) (p : Past Book) → terms u ≡ Some p → (hart : ℕ) (note : ℕ × ℕ) → Contains (notes u hart) note → base_of p.opening hart ≤ note.0
+    -- what is noted went out, and so did what is below a mark
+    pub out : (u hart : ℕ) (note : ℕ × ℕ) (k : ℕ) → Contains (notes u hart) note → k < note.1 → WentOut released hart k
+    pub passed : (u hart k : ℕ) → k < marks u hart → WentOut released hart k
+    -- no note inside a term's base is above its mark, and what went out in the term is not below it
+    pub marked : (u t hart : ℕ) (note : ℕ × ℕ) → Keeps terms t hart note.0 u → Contains (notes t hart) note → note.1 ≤ marks u hart
+    pub above : (r : Released) → Contains released r → marks r.term r.hart ≤ r.number
+
+  -- each term was there, with its opening
+  abbrev pub HadAll : (ℕ → Option (Past Book)) → (ℕ → Option (Past Book)) → Type 0
+  HadAll terms more = (u : ℕ) (q : Past Book) → more u ≡ Some q → (p : Past Book) × (terms u ≡ Some p) × (p.opening ≡ q.opening)
+
+  -- what is kept was kept
+  keeps_back : (terms more : ℕ → Option (Past Book)) → HadAll terms more → (term hart step : ℕ) {u : ℕ} → Keeps more term hart step u → Keeps terms term hart step u
+  keeps_back terms more had term hart step (Here {u = u} q is parent below) =
+      let (p, was, e) = had u q is in
+      Here p was (ap (λ (o : OpeningParts). o.parent) e ∙ parent) (subst (λ (o : OpeningParts). step < base_of o hart) (sym e) below)
+  keeps_back terms more had term hart step (Above {u = u} q is k) =
+      let (p, was, e) = had u q is in
+      Above p was (subst (λ n. Keeps terms term hart step n) (sym (ap (λ (o : OpeningParts). o.parent) e)) (keeps_back terms more had term hart step k))
+
+  -- the terms go on
+  pub noted_evolves : (terms more : ℕ → Option (Past Book)) (notes : ℕ → ℕ → List (ℕ × ℕ)) (marks : ℕ → ℕ → ℕ) (released : List Released) →
+      AreNoted terms notes marks released → HadAll terms more → AreTold more notes → AreNoted more notes marks released
+  noted_evolves terms more notes marks released v had told =
+      record {
+        told = told;
+        from =
+            λ u q is hart note has.
+            let (p, was, e) = had u q is in
+            subst (λ (o : OpeningParts). base_of o hart ≤ note.0) e (v.from u p was hart note has);
+        out = v.out;
+        passed = v.passed;
+        marked = λ u t hart note k has. v.marked u t hart note (keeps_back terms more had t hart note.0 k) has;
+        above = v.above;
+      }
+
+  -- one term goes on, with these pieces
+  pub told_one : (terms : ℕ → Option (Past Book)) (notes : ℕ → ℕ → List (ℕ × ℕ)) (now : ℕ) (r : Past Book) → AreTold terms notes →
+      ((hart place : ℕ) (x : FragmentParts) → slice_get (r.pieces hart) place ≡ Some x → HasNotes (notes now hart) x) → AreTold (put terms now (Some r)) notes
+  told_one terms notes now r told its u p is hart place x at =
+      elim (same_or_not now u) [
+        | inl e ↦
+            let same : r ≡ p = of_some (sym (put_same terms now u (Some r) e) ∙ is) in
+            subst (λ n. HasNotes (notes n hart) x) e (its hart place x (subst (λ (q : Past Book). slice_get (q.pieces hart) place ≡ Some x) (sym same) at))
+        | inr ne ↦ told u p (sym (put_other terms now u (Some r) ne) ∙ is) hart place x at
+      ]
+    where
+      of_some : {p q : Past Book} → Some p ≡ Some q → p ≡ q
+      of_some e = cc
+
+  -- an output went out
+  pub noted_releases : (terms : ℕ → Option (Past Book)) (notes : ℕ → ℕ → List (ℕ × ℕ)) (marks : ℕ → ℕ → ℕ) (released : List Released) (new : Released) →
+      AreNoted terms notes marks released → marks new.term new.hart ≤ new.number → AreNoted terms notes marks (new ∷ released)
+  noted_releases terms notes marks released new v above =
+      record {
+        told = v.told;
+        from = v.from;
+        out = λ u hart note k has less. out_grows released new hart k (v.out u hart note k has less);
+        passed = λ u hart k less. out_grows released new hart k (v.passed u hart k less);
+        marked = v.marked;
+        above =
+            λ r has.
+            elim (here_or_later new released r has) [
+              | inl e ↦ subst (λ (r : Released). marks r.term r.hart ≤ r.number) e above
+              | inr later ↦ v.above r later
+            ];
+      }
+
+module _ {Book Fact : Type 0} (recorder : Recorder Book Fact) (terms : ℕ → Option (Past Book)) (family : IsFamily recorder terms)
+    (notes : ℕ → ℕ → List (ℕ × ℕ)) (marks : ℕ → ℕ → ℕ) (released : List Released) (v : AreNoted terms notes marks released) (now : ℕ)
+    (last : (term : ℕ) (p : Past Book) → terms term ≡ Some p → term ≤ now) where
+  at_most : (term hart step : ℕ) {u : ℕ} → Keeps terms term hart step u → u ≤ now
+  at_most term hart step (Here {u = u} p is parent below) = last u p is
+  at_most term hart step (Above {u = u} p is k) = last u p is
+
+  -- a note more of the last term
+  module _ (p : Past Book) (is : terms now ≡ Some p) (hart number : ℕ) (more : List (ℕ × ℕ))
+      (one : IsNoting (notes now hart) (recorder.counts p.told hart) number more)
+      (known : (k : ℕ) → k < number → (k < marks now hart) ⊎ WentOut released hart k) where
+    abbrev after : ℕ → ℕ → List (ℕ × ℕ)
+    after = put notes now (put (notes now) hart more)
+
+    either : (u h : ℕ) → record { 0 : now ≡ u; 1 : hart ≡ h; 2 : after u h ≡ more } ⊎ (after u h ≡ notes u h)
+    either u h =
+        elim (same_or_not now u) [
+          | inl e ↦
+              let row : after u h ≡ put (notes now) hart more h = ap (λ (f : ℕ → List (ℕ × ℕ)). f h) (put_same notes now u (put (notes now) hart more) e) in
+              elim (same_or_not hart h) [
+                | inl f ↦ inl (e, f, row ∙ put_same (notes now) hart h more f)
+                | inr ne ↦ inr (row ∙ put_other (notes now) hart h more ne ∙ ap (λ n. notes n h) e)
+              ]
+          | inr ne ↦ inr (ap (λ (f : ℕ → List (ℕ × ℕ)). f h) (put_other notes now u (put (notes now) hart more) ne))
+        ]
+
+    -- of the pieces of the hart nothing is new
+    still_told : (place : ℕ) (x : FragmentParts) → slice_get (p.pieces hart) place ≡ Some x → HasNotes more x
+    still_told place x at =
+        let old : HasNotes (notes now hart) x = v.told now p is hart place x at in
+        let settled : x.to ≤ recorder.counts p.told hart = ((family.honest now p is).cut_from hart place x at).settled in
+        record {
+          has =
+              λ note has lo hi.
+              elim (one.only note has) [
+                | inl was ↦ old.has note was lo hi
+                | inr new ↦ let e : note.0 ≡ recorder.counts p.told hart = new.0 in absurd (omega arith)
+              ];
+          only =
+              λ note has.
+              let (was, lo, hi) = old.only note has in
+              (one.kept note was (let high : note.0 < x.to = hi in omega arith), lo, hi);
+        }
+
+    of_some : {a b : Past Book} → terms now ≡ Some a → terms now ≡ Some b → a ≡ b
+    of_some e f = cc
+
+    pub noted_more : AreNoted terms after marks released
+    noted_more =
+        record {
+          told =
+              λ u q at_u h place x at.
+              elim (either u h) [
+                | inl (e, f, row) ↦
+                    (let same : p ≡ q = of_some is (ap terms e ∙ at_u) in
+                    let here : slice_get (p.pieces hart) place ≡ Some x =
+                    subst (λ (q : Past Book). slice_get (q.pieces hart) place ≡ Some x) (sym same) (subst (λ n. slice_get (q.pieces n) place ≡ Some x) (sym f) at) in
+                    subst (λ (l : List (ℕ × ℕ)). HasNotes l x) (sym row) (still_told place x here))
+                | inr row ↦ subst (λ (l : List (ℕ × ℕ)). HasNotes l x) (sym row) (v.told u q at_u h place x at)
+              ];
+          from =
+              λ u q at_u h note has.
+              elim (either u h) [
+                | inl (e, f, row) ↦
+                    (let same : p ≡ q = of_some is (ap terms e ∙ at_u) in
+                    let base : base_of p.opening hart ≤ note.0 =
+                    elim (one.only note (subst (λ (l : List (ℕ × ℕ)). Contains l note) row has)) [
+                      | inl was ↦ v.from now p is hart note was
+                      | inr new ↦
+                          (let at_count : note.0 ≡ recorder.counts p.told hart = new.0 in
+                          let start : recorder.start p.told hart ≡ base_of p.opening hart = (family.honest now p is).start hart in
+                          let forward : recorder.start p.told hart ≤ recorder.counts p.told hart = recorder.forward p.told hart in
+                          omega arith)
+                    ] in
+                    subst (λ n. base_of q.opening n ≤ note.0) f (subst (λ (q : Past Book). base_of q.opening hart ≤ note.0) same base))
+                | inr row ↦ v.from u q at_u h note (subst (λ (l : List (ℕ × ℕ)). Contains l note) row has)
+              ];
+          out =
+              λ u h note k has less.
+              elim (either u h) [
+                | inl (e, f, row) ↦
+                    subst (λ n. WentOut released n k) f
+                    (elim (one.only note (subst (λ (l : List (ℕ × ℕ)). Contains l note) row has)) [
+                      | inl was ↦ v.out now hart note k was less
+                      | inr new ↦
+                          elim (known k (let is_number : note.1 ≡ number = new.1 in omega arith)) [
+                            | inl below ↦ v.passed now hart k below
+                            | inr out ↦ out
+                          ]
+                    ])
+                | inr row ↦ v.out u h note k (subst (λ (l : List (ℕ × ℕ)). Contains l note) row has) less
+              ];
+          passed = v.passed;
+          marked =
+              λ u t h note k has.
+              elim (either t h) [
+                | inl (e, f, row) ↦
+                    (let less : t < u = keeps_less recorder terms family t h note.0 k in
+                    let le : u ≤ now = at_most t h note.0 k in
+                    absurd (omega arith))
+                | inr row ↦ v.marked u t h note k (subst (λ (l : List (ℕ × ℕ)). Contains l note) row has)
+              ];
+          above = v.above;
+        }
+
+  -- a note inside what a store covers of its term is told in the store
+  pub told_in : (s : StoreView) → HonestStore terms s → (t hart : ℕ) (cut : ℕ → ℕ) (note : ℕ × ℕ) → Covered recorder terms s t cut → note.0 < cut hart →
+      Contains (notes t hart) note → IsTold s t hart note
+  told_in s honest t hart cut note c below has =
+      let (place, end, goes, far) = c.goes hart in
+      let base : base_of c.past.opening hart ≤ note.0 = v.from t c.past c.is hart note has in
+      let (at, x, under, one, lo, hi) = in_a_piece (pieces_of s t hart) (base_of c.past.opening hart) place end note.0 goes base (omega arith) in
+      let (q, is_q, there) = a_piece terms s t hart at x honest one in
+      record {
+        opening = c.past.opening;
+        opens = c.opens;
+        places = place;
+        end = end;
+        goes = goes;
+        place = at;
+        over = under;
+        piece = x;
+        one = one;
+        tells = (v.told t q is_q hart at x there).has note has lo hi;
+      }
+
+  -- and what is told in a store went out
+  pub told_out : (s : StoreView) → HonestStore terms s → (t hart : ℕ) (note : ℕ × ℕ) (k : ℕ) → IsTold s t hart note → k < note.1 → WentOut released hart k
+  told_out s honest t hart note k told less =
+      let (q, is_q, there) = a_piece terms s t hart told.place told.piece honest told.one in
+      v.out t hart note k ((v.told t q is_q hart told.place told.piece there).only note told.tells).0 less
