@@ -86,7 +86,7 @@ impl Leg {
         ensures value { IsStop (edges_of self.now.edges) (heard_in self.now.inputs) (count_at self.now.ends hart) hart count result }
         ensures limit { result < COUNT_LIMIT }
     {
-        let end = count_of(self.ends, hart);
+        let end = count_of(&self.ends, hart);
         let next_edge = self.edges.next(hart, count + 1);
         let next_input = self.inputs.next(hart, count + 1);
         lesser(lesser(end, next_edge), next_input)
@@ -273,6 +273,16 @@ fn held_by(lease: &Option<OpenLease>, page: PageNo) -> Option<Want>
     }
 }
 
+/// Whether the hart's open lease is in the asker's way.
+fn is_holder(leases: &[Option<OpenLease>; HART_ROW], asked: &Asked, hart: Hart) -> bool
+    ensures { IsTrue result ↔ IsHolder leases.now asked.now.hart asked.now.page asked.now.want hart }
+{
+    if hart == asked.hart {
+        return false;
+    }
+    stands_in_the_way(held_by(&leases[hart.index()], asked.page), asked.want)
+}
+
 impl Mode for Replaying {
     ghost stops = { λ r. r.ends };
 
@@ -306,7 +316,7 @@ impl Mode for Replaying {
     }
 
     fn limit(&self, hart: Hart) -> Count {
-        count_of(self.leg.ends, hart)
+        count_of(&self.leg.ends, hart)
     }
 
     fn is_open(&self, hart: Hart, machine: &Machine) -> bool {
@@ -324,9 +334,7 @@ impl Mode for Replaying {
         let mut harts = HartSet::new();
         for number in 0..HART_LIMIT {
             let hart = Hart::new(number);
-            if hart != asked.hart
-                && stands_in_the_way(held_by(&leases[hart.index()], asked.page), asked.want)
-            {
+            if is_holder(leases, asked, hart) {
                 harts = harts.with(hart);
             }
         }

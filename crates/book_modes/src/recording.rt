@@ -23,8 +23,8 @@ use crate::keep::Keep;
 use crate::mode::Mode;
 use crate::settled::{count_of, settled_counts};
 use crate::unheard::desk_of;
-use crate::yielding::{is_at_hand, right_yielded};
-use crew_pages::{Ask, PageRight};
+use crate::yielding::{is_at_hand, yield_right};
+use crew_pages::PageRight;
 use edge_log::{Edge, EdgeLog};
 use ft_types::{COUNT_LIMIT, Count, Counts, HART_LIMIT, HART_ROW, Hart, HartSet, Memory, PageNo};
 use guest_image::Machine;
@@ -414,33 +414,6 @@ impl Recording {
         }
         harts
     }
-
-    /// What the asker is answered, once nobody is in its way: the page's right from then on, and the edges that it owes.
-    #[inline(never)]
-    fn answer(
-        &self,
-        alloc: Global,
-        settled: &Counts,
-        asked: &Asked,
-    ) -> (PageRight, SmallVec<Edge, HART_ROW>)
-        requires page { asked.now.page < length self.now.rights }
-        requires hart { asked.now.hart < length settled.now }
-        requires count { asked.now.count < COUNT_LIMIT }
-        requires few { (other : ℕ) → holds (right_at self.now.rights asked.now.page) other ≡ true → other < HART_LIMIT }
-        requires free { IsFree (right_met self.now (count_at settled.now) asked.now) asked.now.hart asked.now.want }
-        ensures right { right_of result.0 ≡ given (right_met self.now (count_at settled.now) asked.now) asked.now.hart asked.now.want asked.now.count }
-        ensures edges { (e : edge_found) → Contains result.1.items e ↔ IsOwed (right_met self.now (count_at settled.now) asked.now) asked.now.hart
-            asked.now.want asked.now.count (edge_as e) }
-        ensures rising { AllPairs (λ a b. a.other < b.other) result.1.items }
-    {
-        let mut right = right_yielded(self.rights[asked.page.index()], settled, asked);
-        let mut counts = *settled;
-        counts.set(asked.hart, asked.count);
-        match right.ask(alloc, asked.hart, asked.want, &counts) {
-            Ask::Given(edges) => (right, edges),
-            Ask::HeldBy(_) => unreachable!(),
-        }
-    }
 }
 
 impl Mode for Recording {
@@ -491,8 +464,8 @@ impl Mode for Recording {
         before.has_rows();
         for number in 0..HART_LIMIT {
             let hart = Hart::new(number);
-            let later = count_of(*now, hart);
-            if !self.keeps_inputs(later, hart, count_of(*settled, hart), before) {
+            let later = count_of(now, hart);
+            if !self.keeps_inputs(later, hart, count_of(settled, hart), before) {
                 return false;
             }
         }
@@ -500,7 +473,7 @@ impl Mode for Recording {
     }
 
     fn limit(&self, hart: Hart) -> Count {
-        count_of(self.limits, hart)
+        count_of(&self.limits, hart)
     }
 
     fn is_open(&self, _hart: Hart, _machine: &Machine) -> bool {
@@ -509,7 +482,7 @@ impl Mode for Recording {
 
     fn lend(&mut self, alloc: Global, hart: Hart, count: Count) -> Lent {
         self.fill_due(alloc, hart, count);
-        let limit = count_of(self.limits, hart);
+        let limit = count_of(&self.limits, hart);
         let stop = stop_before(limit, count, self.desk.next(hart));
         self.due[hart.index()].lent(alloc, stop)
     }
@@ -528,18 +501,22 @@ impl Mode for Recording {
         settled: &Counts,
         asked: &Asked,
     ) -> SmallVec<Edge, HART_ROW> {
-        if is_at_hand(&self.rights[asked.page.index()], asked) {
+        let right = &self.rights[asked.page.index()];
+        if is_at_hand(right, asked) {
             return SmallVec::new(alloc);
         }
-        self.answer(alloc, settled, asked).1
+        let mut right = *right;
+        yield_right(&mut right, settled, asked);
+        right.edges_owed(alloc, asked.hart, asked.want, asked.count)
     }
 
-    fn give(&mut self, alloc: Global, settled: &Counts, asked: &Asked) {
-        if is_at_hand(&self.rights[asked.page.index()], asked) {
+    fn give(&mut self, _alloc: Global, settled: &Counts, asked: &Asked) {
+        let right = &mut self.rights[asked.page.index()];
+        if is_at_hand(right, asked) {
             return;
         }
-        let (right, _) = self.answer(alloc, settled, asked);
-        self.rights[asked.page.index()] = right;
+        yield_right(right, settled, asked);
+        right.give(asked.hart, asked.want, asked.count);
     }
 
     fn settle(&mut self, lease: &Lease, keep: Keep) -> Result<(), Memory> {

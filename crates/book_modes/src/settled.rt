@@ -33,8 +33,8 @@ pub fn settled_counts(machine: &Machine) -> Counts
 }
 
 /// The count of a hart in a row: 0 where the row has no such hart.
-pub(crate) fn count_of(counts: Counts, hart: Hart) -> Count
-    ensures value { result ≡ count_at counts hart }
+pub(crate) fn count_of(counts: &Counts, hart: Hart) -> Count
+    ensures value { result ≡ count_at counts.now hart }
     ensures limit { result < COUNT_LIMIT }
 {
     if hart.number() < counts.harts() {

@@ -3,3 +3,4 @@ pub mod Laws
 pub mod Histories
 mod Owed
 mod Reaches
+mod Left

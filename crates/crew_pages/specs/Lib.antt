@@ -3,3 +3,4 @@ pub mod Answers
 pub mod Page
 pub mod Histories
 pub mod Reach
+pub mod Leaving

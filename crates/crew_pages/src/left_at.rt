@@ -1,40 +1,43 @@
 //! Who left a page, and when.
 
-ghost use Rattle.std.specs.Prelude.{◌≡◌, ◌≤◌, ℕ, Some, None, replicate, slice_index_or, slice_set};
+ghost use Rattle.std.specs.Prelude.{◌≡◌, ◌<◌, ◌≤◌, ℕ, Some, None, length, replicate, slice_index_or, slice_set};
 
-use ft_types::{Count, HART_LIMIT, HART_ROW, Hart};
+use ft_types::{Count, HART_LIMIT, HART_ROW, Hart, HartSet};
 use std::marker::Model;
 use std::option::Option;
 
 /// For each hart that left, its count on leaving.
 #[derive(Clone, Copy, Debug, PartialEq, Eq)]
 pub struct LeftAt {
-    counts: [Option<Count>; HART_ROW],
-    /// One more than the highest hart that left, or 0.
+    /// The harts that left.
+    harts: HartSet,
+    /// One more than the highest of them, or 0.
     reach: u8,
+    /// Their counts; 0 for each other hart.
+    counts: [Count; HART_ROW],
 }
 
 impl Model for LeftAt {
-    ghost use Rattle.std.specs.Prelude.{◌≡◌, ℕ, List, Option, length};
-    ghost use Rattle.ft_types.specs.declared.names.TheConstants.{HART_ROW};
+    ghost use Rattle.std.specs.Prelude.{ℕ, List, Option};
+    ghost use Rattle.crew_pages.specs.Leaving.{left_of, harts_of, counts_of, AreLeft, harts_back, counts_back};
     ghost use Rattle.crew_pages.specs.Reach.{reach_of};
 
     ghost Value = { List (Option ℕ) };
 
-    ghost view = { λ l. l.counts };
+    ghost view = { λ l. left_of l.harts l.counts };
 
-    ghost invariant = { λ l. (length l.counts ≡ HART_ROW) × (reach_of l.counts ≡ l.reach) };
+    ghost invariant = { λ l. AreLeft l.harts l.counts l.reach };
 
-    ghost inverse = { λ v. record { counts = v; reach = reach_of v } };
+    ghost inverse = { λ v. record { harts = harts_of v; reach = reach_of v; counts = counts_of v } };
 
-    ghost inverse_ok = { λ l are i. record { counts = l.counts; reach = are.1 i } };
+    ghost inverse_ok = { λ l are i. record { harts = harts_back are i; reach = are.reaches i; counts = counts_back are i } };
 }
 
-/// No hart has a count.
-fn no_counts() -> [Option<Count>; HART_ROW]
-    ensures { result ≡ replicate HART_ROW None }
+/// A count of 0, for each hart.
+fn no_counts() -> [Count; HART_ROW]
+    ensures { result ≡ replicate HART_ROW 0 }
 {
-    [None; HART_ROW]
+    [0; HART_ROW]
 }
 
 impl LeftAt {
@@ -42,9 +45,13 @@ impl LeftAt {
     pub(crate) fn none() -> LeftAt
         ensures { (hart : ℕ) → slice_index_or result hart None ≡ None }
     {
+        let harts = HartSet::new();
+        // proof: it has a flag for each hart.
+        harts.has_row();
         LeftAt {
-            counts: no_counts(),
+            harts,
             reach: 0,
+            counts: no_counts(),
         }
     }
 
@@ -52,19 +59,21 @@ impl LeftAt {
     pub(crate) fn get(&self, hart: Hart) -> Option<Count>
         ensures { result ≡ slice_index_or self.now hart None }
     {
-        self.counts[hart.index()]
+        if self.harts.contains(hart) {
+            Some(self.counts[hart.index()])
+        } else {
+            None
+        }
     }
 
-    /// With this hart, which left at this count.
-    pub(crate) fn with(self, hart: Hart, count: Count) -> LeftAt
-        ensures { result ≡ slice_set self hart (Some count) }
+    /// This hart left, at this count.
+    pub(crate) fn leave(&mut self, hart: Hart, count: Count)
+        ensures value { self.new ≡ slice_set self.old hart (Some count) }
+        ensures row { hart < length self.old }
     {
-        let mut counts = self.counts;
-        counts[hart.index()] = Some(count);
-        LeftAt {
-            counts,
-            reach: self.reach.max(hart.number() + 1),
-        }
+        self.harts = self.harts.with(hart);
+        self.reach = self.reach.max(hart.number() + 1);
+        self.counts[hart.index()] = count;
     }
 
     /// From this hart on none has left.

@@ -60,23 +60,6 @@ pub enum Ask {
     Given(SmallVec<Edge, HART_ROW>),
 }
 
-/// The set without this hart.
-fn without(set: HartSet, hart: Hart) -> HartSet
-    ensures { (g : ℕ) → IsMember result g ↔ ((g ≢ hart) × IsMember set g) }
-{
-    if !set.contains(hart) {
-        return set;
-    }
-    let mut others = HartSet::new();
-    for number in 0..HART_LIMIT {
-        let other = Hart::new(number);
-        if other != hart && set.contains(other) {
-            others = others.with(other);
-        }
-    }
-    others
-}
-
 /// The last writer's count, where it is this hart.
 fn count_since(since: &Option<LastWriter>, other: Hart) -> Option<Count>
     ensures { result ≡ count_of since.now other }
@@ -188,20 +171,20 @@ impl PageRight {
         match *self {
             PageRight::Shared { readers, .. } => match want {
                 Want::Read => HartSet::new(),
-                Want::Write => without(readers, hart),
+                Want::Write => readers.without(hart),
             },
             PageRight::Exclusive { owner, .. } => {
                 if owner == hart {
                     HartSet::new()
                 } else {
-                    HartSet::new().with(owner)
+                    HartSet::of(owner)
                 }
             }
         }
     }
 
-    /// The edges that the hart owes, which lacks what it wants.
-    fn edges_owed(
+    /// The edges that the hart owes at this count, which lacks what it wants.
+    pub fn edges_owed(
         &self,
         alloc: Global,
         hart: Hart,
@@ -214,12 +197,12 @@ impl PageRight {
         ensures inline { result.capacity ≡ HART_ROW }
     {
         let mut edges = SmallVec::new(alloc);
-        let PageRight::Shared { since, left, .. } = *self else {
+        let PageRight::Shared { since, left, .. } = self else {
             return edges;
         };
-        for number in 0..reach_of(&since, &left) {
+        for number in 0..reach_of(since, left) {
             let other = Hart::new(number);
-            let before = count_before(&since, &left, want, other);
+            let before = count_before(since, left, want, other);
             if let Some(after) = before {
                 if other != hart {
                     edges.push_reserved(Edge {
@@ -234,9 +217,9 @@ impl PageRight {
         edges
     }
 
-    /// The right, once the hart was given what it asked for.
-    fn with(self, hart: Hart, want: Want, at: Count) -> PageRight
-        ensures { right_of result ≡ given (right_of self) hart want at }
+    /// The hart is given what it asked for at this count.
+    pub fn give(&mut self, hart: Hart, want: Want, at: Count)
+        ensures { right_of self.new ≡ given (right_of self.old) hart want at }
     {
         match self {
             PageRight::Shared {
@@ -244,19 +227,17 @@ impl PageRight {
                 readers,
                 left,
             } => match want {
-                Want::Read => PageRight::Shared {
-                    since,
-                    readers: readers.with(hart),
-                    left,
-                },
-                Want::Write => PageRight::Exclusive {
-                    owner: hart,
-                    at,
-                    since,
-                    left,
-                },
+                Want::Read => *readers = readers.with(hart),
+                Want::Write => {
+                    *self = PageRight::Exclusive {
+                        owner: hart,
+                        at,
+                        since: *since,
+                        left: *left,
+                    };
+                }
             },
-            PageRight::Exclusive { .. } => self,
+            PageRight::Exclusive { .. } => {}
         }
     }
 
@@ -282,7 +263,7 @@ impl PageRight {
         }
         let at = counts.get(hart);
         let edges = self.edges_owed(alloc, hart, want, at);
-        *self = self.with(hart, want, at);
+        self.give(hart, want, at);
         Ask::Given(edges)
     }
 
@@ -291,7 +272,29 @@ impl PageRight {
         requires { holds (right_of self.old) hart ≡ true }
         ensures { right_of self.new ≡ give_up (right_of self.old) hart count }
     {
-        *self = self.given_up(hart, count);
+        match self {
+            PageRight::Shared { readers, left, .. } => {
+                *readers = readers.without(hart);
+                left.leave(hart, count);
+            }
+            PageRight::Exclusive {
+                owner,
+                at,
+                since,
+                left,
+            } => {
+                if *at < count {
+                    *self = PageRight::written(*owner, count, HartSet::new());
+                } else {
+                    left.leave(*owner, count);
+                    *self = PageRight::Shared {
+                        since: *since,
+                        readers: HartSet::new(),
+                        left: *left,
+                    };
+                }
+            }
+        }
     }
 
     /// The owner goes on as a reader from this count. Takes no memory.
@@ -299,63 +302,23 @@ impl PageRight {
         requires { owns (right_of self.old) hart ≡ true }
         ensures { right_of self.new ≡ lower (right_of self.old) hart count }
     {
-        let readers = HartSet::new().with(hart);
-        *self = self.lowered(readers, count);
-    }
-
-    fn given_up(self, hart: Hart, count: Count) -> PageRight
-        requires { holds (right_of self) hart ≡ true }
-        ensures { right_of result ≡ give_up (right_of self) hart count }
-    {
+        let readers = HartSet::of(hart);
         match self {
-            PageRight::Shared {
-                since,
-                readers,
-                left,
-            } => PageRight::Shared {
-                since,
-                readers: without(readers, hart),
-                left: left.with(hart, count),
-            },
+            PageRight::Shared { .. } => {}
             PageRight::Exclusive {
                 owner,
                 at,
                 since,
                 left,
             } => {
-                if at < count {
-                    PageRight::written(owner, count, HartSet::new())
+                if count > *at {
+                    *self = PageRight::written(*owner, count, readers);
                 } else {
-                    PageRight::Shared {
-                        since,
-                        readers: HartSet::new(),
-                        left: left.with(owner, count),
-                    }
-                }
-            }
-        }
-    }
-
-    fn lowered(self, readers: HartSet, count: Count) -> PageRight
-        requires { (g : ℕ) → IsMember readers g ↔ (owns (right_of self) g ≡ true) }
-        ensures { right_of result ≡ lower (right_of self) 0 count }
-    {
-        match self {
-            PageRight::Shared { .. } => self,
-            PageRight::Exclusive {
-                owner,
-                at,
-                since,
-                left,
-            } => {
-                if count > at {
-                    PageRight::written(owner, count, readers)
-                } else {
-                    PageRight::Shared {
-                        since,
+                    *self = PageRight::Shared {
+                        since: *since,
                         readers,
-                        left,
-                    }
+                        left: *left,
+                    };
                 }
             }
         }

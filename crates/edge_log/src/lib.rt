@@ -12,11 +12,11 @@ pub use log::EdgeLog;
 pub struct Edge {
     /// The hart that waits.
     pub hart: Hart,
-    /// The count at which its step finds it.
-    pub at: Count,
     /// The hart that it waits for.
     pub other: Hart,
-    /// How many steps that hart has taken by then, at the least.
+    /// The count at which its step finds it.
+    pub at: Count,
+    /// How many steps that other hart has taken by then, at the least.
     pub after: Count,
 }
 

@@ -1,5 +1,7 @@
 //! Why a keeper refuses.
 
+ghost use Rattle.std.specs.Prelude.{◌≡◌};
+
 use crate::places::Place;
 use ft_types::Memory;
 
@@ -13,7 +15,9 @@ pub enum PlaceFault {
 }
 
 impl From<Memory> for PlaceFault {
-    fn from(_e: Memory) -> PlaceFault {
+    fn from(_e: Memory) -> PlaceFault
+        ensures { result ≡ PlaceFault.Memory }
+    {
         PlaceFault::Memory
     }
 }

@@ -67,6 +67,8 @@ impl<P: Place> FencedKeeper<P> {
         ensures known { IfOk result (λ k. IsSome k.saved) }
         // It is refused exactly where the place fails or lacks memory, and what is written down stays.
         ensures told { MatchResult result (λ k. P.failures k.place ≡ P.failures place) (λ e. IsOneMore (P.failures place) (P.failures e.place)) }
+        // It is refused for what the place answered.
+        ensures fault { IfErr result (λ e. e.fault ≡ P.answered e.place) }
         ensures left { IfErr result (λ e. (P.store e.place ≡ P.store place) × (P.fence e.place ≡ P.fence place)) }
     {
         let (held, fence) = match place.read(alloc) {
@@ -135,6 +137,8 @@ impl<P: Place> FencedKeeper<P> {
         ensures known { OnOk result (IsSome self.new.saved) }
         // It is refused exactly where the place fails or lacks memory.
         ensures told { MatchResult result (λ _. P.failures self.new.place ≡ P.failures self.old.place) (λ _. IsOneMore (P.failures self.old.place) (P.failures self.new.place)) }
+        // It is refused for what the place answered.
+        ensures fault { IfErr result (λ e. e ≡ P.answered self.new.place) }
     {
         self.saved = None;
         self.place.write_store(alloc, self.held.store())?;
@@ -152,6 +156,8 @@ impl<P: Place> FencedKeeper<P> {
         // Else it is refused exactly where the place fails or lacks memory.
         ensures told { MatchResult result (λ _. P.failures self.new.place ≡ P.failures self.old.place)
             (λ fault. fault ≢ RaiseFault.Fenced → IsOneMore (P.failures self.old.place) (P.failures self.new.place)) }
+        // Then it is refused for what the place answered.
+        ensures fault { IfErr result (λ e. e ≢ RaiseFault.Fenced → e ≡ RaiseFault.Place (P.answered self.new.place)) }
         ensures store { (self.new.number ≡ self.old.number) × (self.new.store ≡ self.old.store) × (P.store self.new.place ≡ P.store self.old.place) }
         ensures saved { self.new.saved ≡ self.old.saved }
     {

@@ -1,8 +1,9 @@
 //! A place in memory: what of a keeper outlives its crash.
 
-ghost use Rattle.std.specs.Prelude.{◌≡◌, IfOk};
+ghost use Rattle.std.specs.Prelude.{◌≡◌, IfOk, IfErr};
 ghost use Rattle.ft_types.specs.Devices.{IsOneMore};
 ghost use Rattle.log_join.specs.Stores.{nothing};
+ghost use Rattle.fenced_keeper.specs.declared.faults.PlaceFault.TheVariants.{Memory};
 
 use fenced_keeper::{Place, PlaceFault};
 use fragment_codec::FIRST_TERM;
@@ -46,7 +47,8 @@ impl MemoryPlace {
 
 /// A tracked store with what this one has.
 fn tracked(alloc: Global, store: &Store) -> Result<Tracked, PlaceFault>
-    ensures { IfOk result (λ tracked. tracked ≡ store.now) }
+    ensures tracked { IfOk result (λ tracked. tracked ≡ store.now) }
+    ensures fault { IfErr result (λ e. e ≡ Memory) }
 {
     // proof: a join with a store to which nothing came changes nothing.
     joins_of_stores();
@@ -64,12 +66,14 @@ impl Place for MemoryPlace {
 
     ghost failures = { λ d. d.failures };
 
+    ghost answered = { λ _. Memory };
+
     fn write_store(&mut self, alloc: Global, written: &Store) -> Result<(), PlaceFault> {
         match written.copy(alloc) {
             Ok(store) => self.store = store,
-            Err(fault) => {
+            Err(_) => {
                 self.fail();
-                return Err(fault.into());
+                return Err(PlaceFault::Memory);
             }
         }
         Ok(())

@@ -1,6 +1,5 @@
 -- Rows of flags none of which is set.
 use Rattle.std.proofs.Common.{◌≡◌, ℕ, zero, suc, Bool, true, false, List, [], ◌∷◌, length, get_or, count_by, refl, sym, ap, ◌∙◌, arith, true≢false}
-use Rattle.std.proofs.Common.{replicate}
 use Rattle.std.specs.List.{filter}
 use Rattle.std.proofs.lemmas.List.Sums.{length-filter}
 
@@ -22,9 +21,3 @@ counted_none xs zero_is = go xs (length-filter (λ member. member) xs ∙ zero_i
     go (true ∷ xs) e g is = omega arith
     go (false ∷ xs) e zero is = true≢false (sym is)
     go (false ∷ xs) e (suc g) is = go xs e g is
-
--- of flags that are not set none is
-pub unset_none : (n g : ℕ) → get_or (replicate n false) g false ≡ true → ⊥
-unset_none zero g is = true≢false (sym is)
-unset_none (suc n) zero is = true≢false (sym is)
-unset_none (suc n) (suc g) is = unset_none n g is

@@ -2,3 +2,4 @@ pub mod Texts
 pub mod Writings
 pub mod Zips
 pub mod Flags
+pub mod FlagBits

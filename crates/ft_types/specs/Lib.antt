@@ -5,3 +5,4 @@ pub mod Sets
 pub mod Text
 pub mod MemoryDevices
 pub mod Guests
+pub mod Flags

@@ -5,4 +5,5 @@ mod Rows
 mod Taking
 pub mod Told
 mod More
+pub mod NoteRows
 pub mod Notings

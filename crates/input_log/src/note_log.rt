@@ -1,14 +1,14 @@
 //! The outputs that were noted as released.
 
-ghost use Rattle.std.specs.Prelude.{◌≡◌, ◌≢◌, ℕ, ◌≤◌, ◌<◌, ◌↔◌, List, [], All, Contains, false, length, IsTrue, IsOk, IfOk, OnOk, OnErr, IfSome, IfNone};
+ghost use Rattle.std.specs.Prelude.{◌≡◌, ◌≢◌, ℕ, ◌≤◌, ◌<◌, ◌-◌, ◌↔◌, ◌++◌, List, [], ◌∷◌, All, Contains, false, length, replicate, IsTrue, IsOk, IfOk, OnOk, OnErr, IfSome, IfNone};
+ghost use Rattle.std.specs.Prelude.{vec_len, vec_capacity};
 ghost use Rattle.ft_types.specs.Counts.{count_at};
-ghost use Rattle.input_log.specs.Notes.{NotesOfOne, notes_of, HasRoom, noted, AreNotes, NotesMore};
+ghost use Rattle.input_log.specs.Notes.{NotesOfOne, notes_of, nothing_noted, HasRoom, noted, AreNotes, NotesMore};
 
 use crate::Note;
-use crate::note_row::NoteRow;
-use ft_types::{Count, Counts, HART_LIMIT, HART_ROW, Hart, Memory};
+use crate::note_row::{NoteRow, notes_more};
+use ft_types::{Count, Counts, HART_ROW, Hart, Memory};
 use std::alloc::Global;
-use std::array;
 use std::marker::Model;
 use std::option::Option;
 use std::result::Result;
@@ -16,59 +16,64 @@ use std::result::Result;
 /// The notes of the harts of one machine.
 ///
 /// Contracts see, for each hart, the list of its notes, each a count and a number, both rising, and whether one more takes no memory.
+#[derive(Drop)]
 pub struct NoteLog {
-    rows: [NoteRow; HART_ROW],
-}
-
-impl Drop for NoteLog {
-    fn drop(self) {
-        let NoteLog { rows: _ } = self;
-    }
+    // Of each hart up to the last one that has a note, or room for one.
+    rows: Vec<NoteRow>,
 }
 
 impl Model for NoteLog {
-    ghost use Rattle.std.specs.Prelude.{◌≡◌, List, length};
+    ghost use Rattle.std.specs.Prelude.{List};
     ghost use Rattle.input_log.specs.Notes.{NotesOfOne};
-    ghost use Rattle.ft_types.specs.declared.names.TheConstants.{HART_ROW};
 
     ghost Value = { List NotesOfOne };
 
-    ghost view = { λ l. l.rows };
-
-    ghost invariant = { λ l. length l.rows ≡ HART_ROW };
-}
-
-fn rows_copied(rows: &[NoteRow; HART_ROW]) -> Result<[NoteRow; HART_ROW], Memory>
-    ensures { IfOk result (λ copied. copied ≡ rows.now) }
-{
-    let alloc = rows[0].allocator();
-    let mut copied = array::from_fn(|_| NoteRow::new(alloc));
-    for hart in 0..HART_ROW {
-        copied[hart] = rows[hart].copy()?;
-    }
-    Ok(copied)
+    ghost view = { λ l. l.rows.items };
 }
 
 /// The count of a hart in a row: 0 where the row has no such hart.
-fn count_of(counts: &Counts, hart: u8) -> Count
+fn count_of(counts: &Counts, hart: usize) -> Count
     ensures { result ≡ count_at counts.now hart }
 {
-    if hart < counts.harts() {
-        counts.get(Hart::new(hart))
+    if hart < usize::from(counts.harts()) {
+        counts.get(Hart::new(hart as u8))
     } else {
         0
     }
 }
 
-fn rows_note_more(
-    rows: &[NoteRow; HART_ROW],
-    settled: &Counts,
-    before: &[NoteRow; HART_ROW],
-) -> bool
+/// The notes of a hart: none where there is no row of it.
+fn notes_in(rows: &[NoteRow], hart: usize) -> &[(Count, u64)]
+    ensures value { result.now ≡ notes_of rows.now hart }
+    ensures rules { AreNotes result.now }
+{
+    match rows.get(hart) {
+        Some(row) => row.notes(),
+        None => &[],
+    }
+}
+
+/// Empty rows are added until there are so many: there is room for them.
+fn add_rows(rows: &mut Vec<NoteRow>, many: usize)
+    requires { many ≤ vec_capacity rows.old }
+    ensures more { rows.new.items ≡ rows.old.items ++ replicate (many - vec_len rows.old) nothing_noted }
+    ensures room { vec_capacity rows.new ≡ vec_capacity rows.old }
+{
+    for _more in rows.len()..many {
+        let alloc = *rows.allocator();
+        rows.push_reserved(NoteRow::new(alloc));
+    }
+}
+
+fn rows_note_more(rows: &[NoteRow], settled: &Counts, before: &[NoteRow]) -> bool
     ensures { IsTrue result ↔ ((hart : ℕ) → NotesMore (notes_of before.now hart) (count_at settled.now hart) (notes_of rows.now hart)) }
 {
-    for hart in 0..HART_LIMIT {
-        if !rows[hart as usize].notes_more(count_of(settled, hart), &before[hart as usize]) {
+    for hart in 0..rows.len().max(before.len()) {
+        if !notes_more(
+            notes_in(before, hart),
+            count_of(settled, hart),
+            notes_in(rows, hart),
+        ) {
             return false;
         }
     }
@@ -81,7 +86,7 @@ impl NoteLog {
         ensures { (hart : ℕ) → notes_of result hart ≡ [] }
     {
         NoteLog {
-            rows: array::from_fn(|_| NoteRow::new(alloc)),
+            rows: Vec::new(alloc),
         }
     }
 
@@ -89,7 +94,11 @@ impl NoteLog {
     pub fn copy(&self) -> Result<NoteLog, Memory>
         ensures { IfOk result (λ log. log ≡ self.now) }
     {
-        let rows = rows_copied(&self.rows)?;
+        let mut rows = Vec::new(*self.rows.allocator());
+        rows.reserve(self.rows.len())?;
+        for row in &self.rows {
+            rows.push_reserved(row.copy()?);
+        }
         Ok(NoteLog { rows })
     }
 
@@ -98,7 +107,7 @@ impl NoteLog {
     pub fn adds_later(&self, settled: &Counts, before: &NoteLog) -> bool
         ensures { IsTrue result ↔ ((hart : ℕ) → NotesMore (notes_of before.now hart) (count_at settled.now hart) (notes_of self.now hart)) }
     {
-        rows_note_more(&self.rows, settled, &before.rows)
+        rows_note_more(self.rows.as_slice(), settled, before.rows.as_slice())
     }
 
     /// All notes of a hart, each a count and a number.
@@ -106,7 +115,7 @@ impl NoteLog {
         ensures value { result.now ≡ notes_of self.now hart }
         ensures rules { AreNotes result.now }
     {
-        self.rows[hart.index()].notes()
+        notes_in(self.rows.as_slice(), hart.index())
     }
 
     /// The number that is noted of a hart at a count: outputs with lower numbers were released.
@@ -114,7 +123,10 @@ impl NoteLog {
         ensures some { IfSome result (λ number. Contains (notes_of self.now hart) (count, number)) }
         ensures none { IfNone result (All (λ x. x.0 ≢ count) (notes_of self.now hart)) }
     {
-        self.rows[hart.index()].at(count)
+        match self.rows.get(hart.index()) {
+            Some(row) => row.at(count),
+            None => None,
+        }
     }
 
     /// Adds a note: it is dropped where its number is not above that of its hart's last, and takes the place of one at the same count.
@@ -128,8 +140,16 @@ impl NoteLog {
         ensures others_room { (other : ℕ) → other ≢ note.hart → HasRoom self.old other → HasRoom self.new other }
         ensures err { OnErr result (self.new ≡ self.old) }
     {
-        let row = &mut self.rows[note.hart.index()];
-        row.add(note.at, note.number)
+        let index = note.hart.index();
+        if index < self.rows.len() {
+            return self.rows[index].add(note.at, note.number);
+        }
+        let mut row = NoteRow::new(*self.rows.allocator());
+        row.add(note.at, note.number)?;
+        self.rows.reserve(index + 1 - self.rows.len())?;
+        add_rows(&mut self.rows, index);
+        self.rows.push_reserved(row);
+        Ok(())
     }
 
     /// Makes room for one note of each hart.
@@ -137,7 +157,9 @@ impl NoteLog {
         ensures same { (hart : ℕ) → notes_of self.new hart ≡ notes_of self.old hart }
         ensures room { OnOk result ((hart : ℕ) → hart < HART_ROW → HasRoom self.new hart) }
     {
-        for hart in 0..HART_ROW {
+        self.rows.reserve(HART_ROW.saturating_sub(self.rows.len()))?;
+        add_rows(&mut self.rows, HART_ROW);
+        for hart in 0..self.rows.len() {
             self.rows[hart].room()?;
         }
         Ok(())

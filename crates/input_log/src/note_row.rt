@@ -86,6 +86,16 @@ fn ends_at(notes: &[(Count, u64)], count: Count) -> bool
     notes[notes.len() - 1].0 == count
 }
 
+/// Whether these notes have the others of earlier counts and none beside, and none of their numbers is forgotten.
+pub(crate) fn notes_more(before: &[(Count, u64)], count: Count, notes: &[(Count, u64)]) -> bool
+    requires before { AreNotes before.now }
+    requires rules { AreNotes notes.now }
+    ensures { IsTrue result ↔ NotesMore before.now count notes.now }
+{
+    same_notes(notes_below(notes, count), notes_below(before, count))
+        && last_number(before) <= last_number(notes)
+}
+
 impl NoteRow {
     /// A row without notes.
     pub(crate) fn new(alloc: Global) -> NoteRow
@@ -96,11 +106,6 @@ impl NoteRow {
             notes: Vec::new(alloc),
             spare: false,
         }
-    }
-
-    /// Where its notes lie.
-    pub(crate) fn allocator(&self) -> Global {
-        *self.notes.allocator()
     }
 
     /// An equal row.
@@ -123,16 +128,6 @@ impl NoteRow {
         ensures rules { AreNotes result.now }
     {
         self.notes.as_slice()
-    }
-
-    /// Whether it has the other's notes of earlier counts and none beside, and none of its numbers is forgotten.
-    pub(crate) fn notes_more(&self, count: Count, before: &NoteRow) -> bool
-        ensures { IsTrue result ↔ NotesMore before.now.notes count self.now.notes }
-    {
-        let notes = self.notes.as_slice();
-        let old = before.notes.as_slice();
-        same_notes(notes_below(notes, count), notes_below(old, count))
-            && last_number(old) <= last_number(notes)
     }
 
     /// The number that is noted at a count.

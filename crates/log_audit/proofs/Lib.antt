@@ -12,6 +12,7 @@ pub mod Knowing
 pub mod KnownBefore
 pub mod Latest
 pub mod Lists
+pub mod Trimming
 pub mod NextMarks
 pub mod NextStep
 pub mod Rising

@@ -1,5 +1,6 @@
 pub mod Faults
 pub mod Coverage
+pub mod Widened
 pub mod Marks
 pub mod Asking
 pub mod Befores

@@ -1,6 +1,6 @@
 -- Pages with the steps that used them last: private words.
-use Rattle.std.specs.Prelude.{ℕ, Bool, false, ◌≡◌, ◌≢◌, ◌<◌, ◌≤◌, ◌+◌, max, List, length, replicate, slice_index, slice_index_or, slice_set}
-use Rattle.ft_types.specs.declared.names.TheConstants.{HART_LIMIT, HART_ROW, PAGE_LIMIT, PAGE_ROW}
+use Rattle.std.specs.Prelude.{ℕ, ◌≡◌, ◌≢◌, ◌<◌, ◌≤◌, ◌+◌, max, List, length, replicate, slice_index, slice_index_or, slice_set}
+use Rattle.ft_types.specs.declared.names.TheConstants.{HART_LIMIT, HART_ROW}
 use Rattle.ft_types.specs.declared.names.Want.{Want}
 use Rattle.ft_types.specs.declared.names.Want.TheVariants.{Read, Write}
 use Rattle.log_audit.specs.declared.marks.Uses.{Uses}
@@ -40,11 +40,6 @@ noted hart Write mark u = record u { written = slice_set u.written hart mark }
 
 abbrev pub noted_at : List Uses → ℕ → ℕ → Want → ℕ → List Uses
 noted_at uses page hart want mark = slice_set uses page (noted hart want mark (uses_at uses page))
-
--- no step asked to write a page that has no such flag
-pub record AreUnwritten (uses : List Uses) (flags : List Bool) : Type 0 where
-  pub many : length flags ≡ PAGE_ROW
-  pub unwritten : (page : ℕ) → page < PAGE_LIMIT → slice_index_or flags page false ≡ false → (uses_at uses page).written ≡ replicate HART_ROW 0
 
 -- a step of another hart, by its hart and count, stands against this use: it conflicts with it, and it is none of the first steps
 -- that come before

@@ -41,7 +41,7 @@ fn pages_of(alloc: Global, machine: &Machine) -> Result<Vec<Page>, Memory>
 }
 
 /// No page's flag is set.
-pub(crate) fn no_flags() -> [bool; PAGE_ROW]
+fn no_flags() -> [bool; PAGE_ROW]
     ensures { result ≡ replicate PAGE_ROW false }
 {
     [false; PAGE_ROW]

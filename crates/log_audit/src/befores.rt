@@ -4,7 +4,7 @@ ghost use Rattle.std.specs.Prelude.{◌≡◌, ◌<◌, ◌≤◌, ◌^◌, ℕ,
 ghost use Rattle.ft_types.specs.Counts.{greater};
 ghost use Rattle.log_audit.specs.Befores.{row_of, AreRising, IsLatest, IsBrought, Brings};
 
-use crate::marks::{Row, no_steps};
+use crate::trimmed::{Row, TrimmedRow, no_steps};
 use edge_log::Edge;
 use ft_types::{Count, HART_ROW, Hart, Memory};
 use std::alloc::Global;
@@ -12,17 +12,18 @@ use std::array;
 use std::marker::Model;
 
 /// From a count of a hart on, so many first steps of each come before its steps.
-#[derive(Clone, Copy)]
+#[derive(Drop)]
 pub(crate) struct Before {
     /// The hart's count.
     pub(crate) since: Count,
     /// How many steps of each.
-    pub(crate) steps: Row,
+    pub(crate) steps: TrimmedRow,
 }
 
 /// For each hart, what comes before its steps, by rising count.
 #[derive(Drop)]
 pub(crate) struct Befores {
+    alloc: Global,
     rows: [Vec<Before>; HART_ROW],
 }
 
@@ -45,7 +46,7 @@ fn latest(row: &[Before], count: Count) -> Row
     if place == 0 {
         no_steps()
     } else {
-        row[place - 1].steps
+        row[place - 1].steps.row()
     }
 }
 
@@ -64,6 +65,7 @@ impl Befores {
         ensures { result ≡ replicate HART_ROW [] }
     {
         Befores {
+            alloc,
             rows: array::from_fn(|_| Vec::new(alloc)),
         }
     }
@@ -94,10 +96,11 @@ impl Befores {
         for edge in edges {
             self.bring_one(&mut steps, edge);
         }
+        let kept = TrimmedRow::of(self.alloc, &steps)?;
         let row = &mut self.rows[hart.index()];
         row.push(Before {
             since: count,
-            steps,
+            steps: kept,
         })?;
         Ok(steps)
     }

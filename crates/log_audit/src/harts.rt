@@ -15,7 +15,8 @@ ghost use Rattle.log_audit.specs.Turns.{Turns};
 
 use crate::asked_pages::AskedPages;
 use crate::befores::Befores;
-use crate::marks::{Marks, Row};
+use crate::marks::Marks;
+use crate::trimmed::Row;
 use edge_log::Edge;
 use ft_types::{COUNT_LIMIT, Count, Counts, Hart, Memory, PageNo};
 use guest_image::Machine;
@@ -160,7 +161,7 @@ impl Harts {
                         let one = (hart, count);
                         return Ok(Some(Clash { page, one, other }));
                     }
-                    self.marks.note(page, hart, want, count + 1);
+                    self.marks.note(page, hart, want, count + 1)?;
                     self.pages.grant(page, want);
                 }
                 Tick::Halted => unreachable!(),

@@ -8,6 +8,7 @@ mod fault;
 mod harts;
 mod legs;
 mod marks;
+mod trimmed;
 
 pub use auditing::audit;
 pub use fault::AuditFault;

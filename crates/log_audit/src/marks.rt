@@ -1,39 +1,42 @@
 //! The steps that used pages last.
 
-ghost use Rattle.std.specs.Prelude.{◌≡◌, ◌≢◌, ◌<◌, ◌≤◌, ℕ, length, replicate, IfOk, IfSome, IfNone};
+ghost use Rattle.std.specs.Prelude.{◌≡◌, ◌≢◌, ◌<◌, ◌≤◌, ℕ, length, replicate, IfOk, OnOk, OnErr, IfSome, IfNone};
+ghost use Rattle.ft_types.specs.declared.names.TheConstants.{HART_LIMIT, HART_ROW};
 ghost use Rattle.log_audit.specs.Marks.{unused, uses_at, used_by, noted_at, StandsAgainst, IsClear};
 
-use crate::asked_pages::no_flags;
-use ft_types::{Count, HART_LIMIT, HART_ROW, Hart, Memory, PAGE_ROW, PageNo, Want};
+use crate::trimmed::{Row, TrimmedRow};
+use ft_types::{Count, Hart, Memory, PageNo, Want};
 use std::alloc::Global;
 use std::marker::Model;
 
-/// One count per hart.
-pub(crate) type Row = [Count; HART_ROW];
-
 /// For each hart, the last step that asked to read a page and the last that asked to write it, as one more than that step's
 /// count; 0 where there is none.
-#[derive(Clone, Copy)]
+#[derive(Drop)]
 pub(crate) struct Uses {
-    read: Row,
-    written: Row,
-}
-
-/// Of each hart, a count of 0.
-pub(crate) fn no_steps() -> Row
-    ensures { result ≡ replicate HART_ROW 0 }
-{
-    [0; HART_ROW]
+    read: TrimmedRow,
+    written: TrimmedRow,
 }
 
 impl Uses {
     /// No step used the page.
-    fn none() -> Uses
+    fn none(alloc: Global) -> Uses
         ensures { result ≡ unused }
     {
         Uses {
-            read: no_steps(),
-            written: no_steps(),
+            read: TrimmedRow::none(alloc),
+            written: TrimmedRow::none(alloc),
+        }
+    }
+
+    /// How many harts may have a step that conflicts with such a use by another.
+    fn reach(&self, want: Want) -> u8
+        ensures few { result ≤ HART_LIMIT }
+        ensures rest { (hart : ℕ) → result ≤ hart → used_by self.now want hart ≡ 0 }
+    {
+        let written = self.written.reach();
+        match want {
+            Want::Read => written,
+            Want::Write => written.max(self.read.reach()),
         }
     }
 
@@ -41,10 +44,10 @@ impl Uses {
     fn conflicting(&self, want: Want, hart: Hart) -> Count
         ensures { result ≡ used_by self.now want hart }
     {
-        let written = self.written[hart.index()];
+        let written = self.written.count(hart);
         match want {
             Want::Read => written,
-            Want::Write => written.max(self.read[hart.index()]),
+            Want::Write => written.max(self.read.count(hart)),
         }
     }
 }
@@ -53,27 +56,24 @@ impl Uses {
 #[derive(Drop)]
 pub(crate) struct Marks {
     uses: Vec<Uses>,
-    /// Whether any step asked to write a page: most pages are code that none writes.
-    is_written: [bool; PAGE_ROW],
 }
 
 impl Model for Marks {
     ghost use Rattle.std.specs.Prelude.{List};
     ghost use Rattle.log_audit.specs.declared.marks.Uses.{Uses};
-    ghost use Rattle.log_audit.specs.Marks.{AreUnwritten};
 
     ghost Value = { List Uses };
 
     ghost view = { λ m. m.uses.items };
-
-    ghost invariant = { λ m. AreUnwritten m.uses.items m.is_written };
 }
 
 fn no_uses(alloc: Global, pages: u16) -> Result<Vec<Uses>, Memory>
     ensures { IfOk result (λ v. v.items ≡ replicate pages unused) }
 {
-    let mut uses = Vec::new(alloc);
-    uses.resize(pages as usize, Uses::none())?;
+    let mut uses = Vec::with_capacity(alloc, pages as usize)?;
+    for _page in 0..pages {
+        uses.push(Uses::none(alloc))?;
+    }
     Ok(uses)
 }
 
@@ -83,10 +83,7 @@ impl Marks {
         ensures { IfOk result (λ m. m ≡ replicate pages unused) }
     {
         let uses = no_uses(alloc, pages)?;
-        Ok(Marks {
-            uses,
-            is_written: no_flags(),
-        })
+        Ok(Marks { uses })
     }
 
     /// The last step of another hart, by its hart and count, that stands against such a use of the page by this one: the use
@@ -102,11 +99,8 @@ impl Marks {
         ensures some { IfSome result (λ other. StandsAgainst self.now page hart want before.now other) }
         ensures none { IfNone result (IsClear self.now page hart want before.now) }
     {
-        if want == Want::Read && !self.is_written[page.index()] {
-            return None;
-        }
         let uses = &self.uses[page.index()];
-        for number in 0..HART_LIMIT {
+        for number in 0..uses.reach(want) {
             let other = Hart::new(number);
             let used = uses.conflicting(want, other);
             if other != hart && before[other.index()] < used {
@@ -116,19 +110,25 @@ impl Marks {
         None
     }
 
-    /// A step of this hart, with this mark, uses the page.
-    pub(crate) fn note(&mut self, page: PageNo, hart: Hart, want: Want, mark: Count)
+    /// A step of this hart, with this mark, uses the page. Where memory is refused nothing has changed.
+    pub(crate) fn note(
+        &mut self,
+        page: PageNo,
+        hart: Hart,
+        want: Want,
+        mark: Count,
+    ) -> Result<(), Memory>
         requires { page < length self.old }
-        ensures noted { self.new ≡ noted_at self.old page hart want mark }
+        ensures noted { OnOk result (self.new ≡ noted_at self.old page hart want mark) }
+        ensures kept { OnErr result (self.new ≡ self.old) }
         ensures rows { (length (uses_at self.old page).read ≡ HART_ROW) × (length (uses_at self.old page).written ≡ HART_ROW) }
     {
         let uses = &mut self.uses[page.index()];
+        // proof: both rows are whole by type.
+        let _rows = (uses.read.reach(), uses.written.reach());
         match want {
-            Want::Read => uses.read[hart.index()] = mark,
-            Want::Write => {
-                uses.written[hart.index()] = mark;
-                self.is_written[page.index()] = true;
-            }
+            Want::Read => uses.read.put(hart, mark),
+            Want::Write => uses.written.put(hart, mark),
         }
     }
 }

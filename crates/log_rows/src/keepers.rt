@@ -1,6 +1,6 @@
 //! A keeper that fences terms off: what it acknowledges, what it comes back with, and what it gives.
 
-ghost use Rattle.std.specs.Prelude.{◌≡◌, ◌⊎◌, IfOk, OnOk, OnErr, MatchResult};
+ghost use Rattle.std.specs.Prelude.{◌≡◌, ◌⊎◌, IfOk, IfErr, OnOk, OnErr, MatchResult};
 ghost use Rattle.ft_types.specs.Devices.{IsOneMore};
 
 use crate::come::{Come, frame_of, guest_of};
@@ -20,6 +20,7 @@ struct Drawer {
     writes: u32,
     failing: u32,
     failures: u64,
+    answered: PlaceFault,
 }
 
 impl Drawer {
@@ -31,6 +32,7 @@ impl Drawer {
             writes: 0,
             failing,
             failures: 0,
+            answered: PlaceFault::Failed,
         }
     }
 
@@ -44,13 +46,17 @@ impl Drawer {
         self.writes == self.failing
     }
 
-    /// Writes down that it failed.
-    fn fail(&mut self)
+    /// Writes down that it failed and what it answers, and answers that.
+    fn fail(&mut self, fault: PlaceFault) -> PlaceFault
+        ensures fault { result ≡ fault }
+        ensures answered { self.new.answered ≡ fault }
         ensures store { self.new.store ≡ self.old.store }
         ensures fence { self.new.fence ≡ self.old.fence }
         ensures failures { IsOneMore self.old.failures self.new.failures }
     {
         self.failures = self.failures.wrapping_add(1);
+        self.answered = fault;
+        fault
     }
 }
 
@@ -74,25 +80,22 @@ impl Place for Drawer {
 
     ghost failures = { λ d. d.failures };
 
+    ghost answered = { λ d. d.answered };
+
     fn write_store(&mut self, alloc: Global, written: &Store) -> Result<(), PlaceFault> {
         if self.fails() {
-            self.fail();
-            return Err(PlaceFault::Failed);
+            return Err(self.fail(PlaceFault::Failed));
         }
         match written.copy(alloc) {
             Ok(store) => self.store = store,
-            Err(fault) => {
-                self.fail();
-                return Err(fault.into());
-            }
+            Err(fault) => return Err(self.fail(fault.into())),
         }
         Ok(())
     }
 
     fn write_fence(&mut self, term: Term) -> Result<(), PlaceFault> {
         if self.fails() {
-            self.fail();
-            return Err(PlaceFault::Failed);
+            return Err(self.fail(PlaceFault::Failed));
         }
         self.fence = term;
         Ok(())
@@ -101,10 +104,7 @@ impl Place for Drawer {
     fn read(&mut self, alloc: Global) -> Result<(Tracked, Term), PlaceFault> {
         match tracked(alloc, &self.store) {
             Ok(held) => Ok((held, self.fence)),
-            Err(fault) => {
-                self.fail();
-                Err(fault)
-            }
+            Err(fault) => Err(self.fail(fault)),
         }
     }
 }

@@ -1,18 +1,18 @@
 -- Harts that yield to an asker.
 use Rattle.std.proofs.Common.{◌≡◌, ◌≢◌, ℕ, zero, suc, ◌+◌, ◌↔◌, ◌<◌, ◌≤◌, List, [], ◌∷◌, length, slice_set, slice_index_or, inl, inr, Bool, true, false}
-use Rattle.std.proofs.Common.{if◌then◌else◌, refl, sym, ap, subst, ◌∙◌, arith, true≢false}
+use Rattle.std.proofs.Common.{if◌then◌else◌, length-set, refl, sym, ap, subst, ◌∙◌, arith, true≢false}
 use Rattle.std.proofs.lemmas.Bool.{cases_eq, cases_lt}
 use Rattle.std.proofs.lemmas.List.{get_or-set_same, get_or-set_other}
 use Rattle.ft_types.specs.Sets.{IsMember}
 use Rattle.ft_types.specs.declared.names.TheConstants.{HART_LIMIT}
-use Rattle.crew_pages.specs.Rights.{Right, stands, holds, give_up, IsFree}
+use Rattle.crew_pages.specs.Rights.{Right, stands, holds, given, give_up, IsFree}
 use Rattle.lease_ledger.proofs.Laws.{leaves_the_way}
 use Rattle.lease_ledger.proofs.Stays.{stands_holds}
 use Rattle.hart_lease.specs.declared.asked.Asked.{Asked}
 use Rattle.crew_pages.specs.declared.right.PageRight.{PageRight}
 use Rattle.crew_pages.specs.Rights.{right_of}
 use Rattle.book_modes.specs.Yielding.{yielded}
-use Rattle.book_modes.specs.Recordings.{RecordingView, right_at, right_met}
+use Rattle.book_modes.specs.Recordings.{RecordingView, IsGiven, right_at, right_met}
 use Rattle.book_modes.proofs.ledger.MetRights.{met_is}
 
 untrue : (b : Bool) → (b ≡ true → ⊥) → b ≡ false
@@ -136,3 +136,17 @@ pub met_read : (r : RecordingView) (settled : ℕ → ℕ) (asked : Asked) (insi
 met_read r settled asked inside index x y same at lt read is few =
     is ∙ (ap (yielded asked settled HART_LIMIT) (right_read r.rights inside.rights asked.page index x (ap (λ (v : RecordingView). v.rights) same) at lt read) ∙
     sym (met_is r settled asked few))
+
+-- a right that was written at an index is what the asker is given
+pub given_there : (r : RecordingView) (settled : ℕ → ℕ) (asked : Asked) (inside : RecordingView) (index : ℕ) (x : PageRight) → inside ≡ r →
+    index ≡ asked.page → asked.page < length r.rights → right_of x ≡ given (right_met r settled asked) asked.hart asked.want asked.count →
+    IsGiven r settled asked (record inside { rights = slice_set inside.rights index x })
+given_there r settled asked inside index x same at lt is =
+    subst (λ (v : RecordingView). IsGiven r settled asked (record v { rights = slice_set v.rights index x })) (sym same)
+    (subst (λ (page : ℕ). IsGiven r settled asked (record r { rights = slice_set r.rights page x })) (sym at)
+    (record {
+      rest = refl;
+      many = length-set r.rights asked.page x;
+      page = right_set r.rights asked.page x lt ∙ is;
+      others = λ page ne. right_stays r.rights asked.page x page ne;
+    }))

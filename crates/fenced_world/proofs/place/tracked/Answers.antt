@@ -3,8 +3,8 @@ use Rattle.log_join.specs.Stores.{IsJoin, nothing}
 use Rattle.fenced_world.proofs.place.tracked.Goals as goal
 
 -- a join with a store to which nothing came, from the left
-pub returns-in-Ok : goal.returns-in-Ok
-returns-in-Ok c =
+pub returns-in-Ok-clause-tracked : goal.returns-in-Ok-clause-tracked
+returns-in-Ok-clause-tracked c =
     let law = c.joins_of_stores.ensures in
     let empty = nothing c.guest.result in
     let turned = (law.one c.args.store.now empty).there in

@@ -1,4 +1,4 @@
-use Rattle.std.proofs.Common.{◌≡◌, suc, ◌-◌, ◌≤◌, ap, sym, arith, leb, rules, [], length, ◌∙◌}
+use Rattle.std.proofs.Common.{◌≡◌, suc, ◌-◌, ◌≤◌, ap, sym, arith, leb, rules, length, ◌∙◌}
 use Rattle.std.proofs.lemmas.Bool.{leb-true, leb-false}
 use Rattle.std.proofs.lemmas.List.Sorted.{IsPartitionPoint-from_clause, IsPartitionedBy-leb}
 use Rattle.std.proofs.lemmas.List.{get_or_default}
@@ -34,8 +34,9 @@ returns-else-place-eq0 c =
           let some = c.if-place-eq0.false in
           let bound : c.partition_point-place.result ≤ length c.args.row.now = c.partition_point-place.ensures.bound in
           let same : suc (c.partition_point-place.result - 1) ≡ c.partition_point-place.result = omega (arith, some) in
-          ap (λ (b : Before). b.steps)
-          (get_or_default c.args.row.now (c.partition_point-place.result - 1) (record { since = 0; steps = [] }) (record { since = 0; steps = no_steps })
+          c.row.ensures
+          ∙ ap (λ (b : Before). b.steps)
+          (get_or_default c.args.row.now (c.partition_point-place.result - 1) c.index-row-place.result (record { since = 0; steps = no_steps })
           (omega (arith, some, bound)))
           ∙ ap (steps_in_front c.args.row.now) same;
     }

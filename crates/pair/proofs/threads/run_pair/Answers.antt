@@ -1,4 +1,6 @@
-use Rattle.std.proofs.Common.{◌∙◌, ℕ, sym, subst}
+use Rattle.std.proofs.Common.{rules, arith, ◌∙◌, ℕ, ap, sym, subst}
+use Rattle.output_gate.specs.Gates.{offered_in}
+use Rattle.output_gate.specs.Looks.{IsSeen}
 use Rattle.std.specs.List.{AllByRecursion}
 use Rattle.log_streams.specs.Primary.{IsReady, IsRunOf}
 use Rattle.pair.specs.Serving.{IsHeldOnTheWay}
@@ -12,6 +14,20 @@ run_all-requires-clause-primary g c κs order =
     may_lead c.args.image.now c.args.script.now c.budget.result c.in_ok-book.book c.guest-guest.result c.budget-2.result c.in_ok-book.ensures c.guest-guest.ensures
     (c.budget-2.ensures ∙ sym c.budget.ensures) in
     record { idle = c.in_ok-book.ensures.idle; harts = may.0; limits = may.1; below = may.2 }
+
+pub run_all-requires-clause-watch : goal.run_all-requires-clause-watch
+run_all-requires-clause-watch g c κs within =
+    let noted = c.new-gate.ensures.noted in
+    let seen : IsSeen c.in_ok-board.board c.new-gate.result c.in_ok-board.seat =
+    record {
+      below = λ keeper hart few less. omega (arith, noted keeper hart);
+      no_keeper = λ keeper hart past. noted keeper hart;
+      no_hart = λ keeper hart past. noted keeper hart;
+    } in
+    record {
+      place = (search rules, search rules, c.in_ok-board.ensures.gate.0, seen);
+      empty = λ hart below. ap offered_in (c.new-gate.ensures.lines hart);
+    }
 
 pub returns-clause-run : goal.returns-clause-run
 returns-clause-run g c =

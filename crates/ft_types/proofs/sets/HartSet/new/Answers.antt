@@ -1,6 +1,6 @@
-use Rattle.ft_types.proofs.Flags.{unset_none}
-use Rattle.ft_types.specs.declared.names.TheConstants.{HART_ROW}
+use Rattle.std.proofs.Common.{w32}
+use Rattle.ft_types.proofs.FlagBits.{no_flag}
 use Rattle.ft_types.proofs.sets.HartSet.new.Goals as goal
 
 pub returns : goal.returns
-returns c = rw c.no_flags.ensures (unset_none HART_ROW)
+returns c = no_flag w32

@@ -1,4 +1,4 @@
-use Rattle.std.proofs.Common.{◌≡◌, ◌≤◌, ◌++◌, ◌∷◌, [], refl, ap, sym, subst, ◌∙◌, arith, AllPairs, List, length, slice_set, slice_index_or, true≢false, ◌==◌, rules}
+use Rattle.std.proofs.Common.{◌≡◌, ◌≤◌, ◌++◌, ◌∷◌, [], refl, ap, sym, subst, ◌∙◌, arith, AllPairs, ℕ, List, length, slice_set, slice_index_or, true≢false, ◌==◌, rules}
 use Rattle.edge_log.specs.declared.Edge.{Edge}
 use Rattle.log_audit.specs.declared.befores.Before.{Before}
 use Rattle.log_audit.specs.Befores.{row_of, IsLatest, AreBrought, NoneYet, Next}
@@ -50,7 +50,9 @@ returns c =
     λ e. true≢false (sym (ap (λ (l : List Edge). length l == 0) e) ∙ sym c.is_empty.ensures ∙ c.if-is_empty.false) in
     let entry : Before = record { since = c.args.count; steps = c.loop-edge.steps } in
     let pushed : c.push.new.self.items ≡ (slice_index_or c.self.inside.rows c.index-2.result c.index-self-index-2.result).items ++ entry ∷ [] =
-    c.in_ok-push.ensures.items in
+    c.in_ok-push.ensures.items
+    ∙ ap (λ (s : List ℕ). (slice_index_or c.self.inside.rows c.index-2.result c.index-self-index-2.result).items ++ record { since = c.args.count; steps = s } ∷ [])
+    c.in_ok-kept.ensures in
     let here : (slice_index_or c.self.inside.rows c.index-2.result c.index-self-index-2.result).items ≡ row_of c.args.self.now c.args.hart =
     row_read c.self.inside.rows c.args.self.now c.index-2.result c.args.hart c.index-self-index-2.result
     (slice_index_or c.self.inside.rows c.index-2.result c.index-self-index-2.result).items refl c.self.view_is c.index-self-index-2.is (search rules)

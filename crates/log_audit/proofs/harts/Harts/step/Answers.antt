@@ -65,6 +65,14 @@ note-requires c =
     c.in-Miss.page c.in-Miss.want c.in-Miss.ensures.miss
     c.self.invariant
 
+pub invariant_of-self-in_err-note-in-Miss : goal.invariant_of-self-in_err-note-in-Miss
+invariant_of-self-in_err-note-in-Miss c =
+    stays_kept c.args.hart c.args.inputs.now c.args.before.now _ c.args.self.now c.self.view_is c.requires.hart c.loop-page.self-inside.harts.items
+    c.loop-page.invariant.harts c.index-in-loop-page.result c.index-in-loop-page.ensures.value c.index_mut-state.result.now c.index_mut-state.ensures.value
+    c.requires.marks c.begin_step.new.self c.begin_step.ensures c.loop-page.self-inside.pages c.loop-page.self-inside.marks c.loop-page.invariant.asking
+    _ c.tick_with.new.state c.tick_with.new.pages c.self.invariant c.in-Miss.ensures.hart_kept c.in-Miss.ensures.pages_kept c.loop-page.invariant.start
+    refl refl c.in_err-note-in-Miss.ensures.kept
+
 pub loop-page-smaller : goal.loop-page-smaller
 loop-page-smaller c =
     fewer_rights c.args.hart c.args.inputs.now c.args.before.now _ c.args.self.now c.self.view_is c.requires.hart c.loop-page.self-inside.harts.items
@@ -89,7 +97,7 @@ loop-page-preserved c =
           c.in-Miss.page c.in-Miss.want c.in-Miss.ensures.miss
           c.index.result c.index.ensures.value c.index-2.result.now c.index-2.ensures c.count-count.result c.count-count.ensures.value
           c.tick_with.new.pages c.grant.new.self c.note.new.self c.self.invariant c.index.ensures.below c.in-Miss.ensures.pages_kept c.grant.ensures.granted
-          c.note.ensures.noted c.note.ensures.rows c.in_default.ensures.none;
+          c.in_ok-note-in-Miss.ensures.noted c.note.ensures.rows c.in_default.ensures.none;
     }
 
 pub unreachable-requires : goal.unreachable-requires
