@@ -32,9 +32,9 @@ use hart_lease::{Asked, Lease, Lent, OpenLease, Taken};
 use input_log::{Desk, Input, InputLog, Note, NoteLog, Offered, WaitingBell};
 use smallvec::SmallVec;
 use std::alloc::Global;
-use std::array;
 use std::marker::Model;
 use std::option::Option;
+use std::{array, mem};
 
 /// The log is written.
 pub struct Recording {
@@ -208,6 +208,14 @@ impl Recording {
         ensures room { OnOk result ((hart : ℕ) → hart < HART_ROW → HasRoom self.new.notes hart) }
     {
         self.notes.room()
+    }
+
+    /// Exchanges the notes for others.
+    pub fn swap_notes(&mut self, notes: &mut NoteLog)
+        ensures new { self.new ≡ record self.old { notes = notes.old } }
+        ensures old { notes.new ≡ self.old.notes }
+    {
+        mem::swap(&mut self.notes, notes);
     }
 
     /// Puts an input behind the others that wait for the hart. It is given at no count before this one.

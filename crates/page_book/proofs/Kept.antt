@@ -1,5 +1,5 @@
 -- What a book keeps, when a lease goes out, is given a page, comes back or ends.
-use Rattle.std.proofs.Common.{◌≡◌, ℕ, ◌<◌, ◌≤◌, List, length, slice_set, Option, None, inl, inr, ap, sym, ◌∙◌, arith, Some, subst, length-set, refl, [], false}
+use Rattle.std.proofs.Common.{◌≡◌, ℕ, ◌<◌, ◌≤◌, List, All, length, slice_set, Option, None, inl, inr, ap, sym, ◌∙◌, arith, Some, subst, length-set, refl, [], false}
 use Rattle.std.proofs.Common.{◌∷◌, zero, suc, replicate}
 use Rattle.std.proofs.lemmas.Bool.{cases_eq}
 use Rattle.std.proofs.lemmas.List.{get_or-set_same, get_or-set_other, length-replicate}
@@ -23,8 +23,9 @@ use Rattle.interleaving.specs.Machine.{after}
 use Rattle.interleaving.specs.Log as theory
 use Rattle.input_log.specs.declared.Input.{Input}
 use Rattle.input_log.specs.Inputs.{is_bell, IsInputOf}
+use Rattle.input_log.specs.Notes.{notes_of}
 use Rattle.book_modes.specs.Recordings.{RecordingView, IsRecorded, IsOffered, IsNoting, HasRoomed, heard_by}
-use Rattle.book_modes.proofs.ledger.Honesty.{offered_kept, noting_kept, roomed_kept}
+use Rattle.book_modes.proofs.ledger.Honesty.{offered_kept, renoted_kept, noting_within}
 use Rattle.hart_lease.proofs.pages.Slots.{none-replicate}
 
 set_known : (leases : List (Option OpenView)) (hart : ℕ) (new : Option OpenView) (harts : ℕ) → hart < length leases → (harts ≤ hart → new ≡ None) →
@@ -170,23 +171,28 @@ offered_book r new hart not_before input start m journal leases o told plain p =
     (IsRecorded (record r { desk = new.desk }) start m journal leases) p
     (subst (λ v. IsRecorded v start m journal leases) o.rest (offered_kept r new hart not_before input start m journal leases o told plain p.keeps)))
 
+pub renoted_book : (r new : RecordingView) (start m : MachineState) (journal : List Stretch) (leases : List (Option OpenView)) →
+    new ≡ record r { notes = new.notes } → ((hart : ℕ) → All (λ x. x.0 ≤ counts_of m hart) (notes_of new.notes hart)) →
+    IsBook start m journal leases r.limits [] (heard_by r) (IsRecorded r start m journal leases) →
+    IsBook start m journal leases new.limits [] (heard_by new) (IsRecorded new start m journal leases)
+renoted_book r new start m journal leases rest within p =
+    subst (λ v. IsBook start m journal leases v.limits [] (heard_by v) (IsRecorded v start m journal leases)) (sym rest)
+    (kept_so start m journal leases r.limits [] (heard_by r) (IsRecorded r start m journal leases)
+    (IsRecorded (record r { notes = new.notes }) start m journal leases) p
+    (subst (λ v. IsRecorded v start m journal leases) rest (renoted_kept r new start m journal leases rest within p.keeps)))
+
 pub noting_book : (r new : RecordingView) (hart count number : ℕ) (start m : MachineState) (journal : List Stretch) (leases : List (Option OpenView)) →
     IsNoting r hart count number new → count ≤ counts_of m hart → IsBook start m journal leases r.limits [] (heard_by r) (IsRecorded r start m journal leases) →
     IsBook start m journal leases new.limits [] (heard_by new) (IsRecorded new start m journal leases)
 noting_book r new hart count number start m journal leases is reached p =
-    subst (λ v. IsBook start m journal leases v.limits [] (heard_by v) (IsRecorded v start m journal leases)) (sym is.rest)
-    (kept_so start m journal leases r.limits [] (heard_by r) (IsRecorded r start m journal leases)
-    (IsRecorded (record r { notes = new.notes }) start m journal leases) p
-    (subst (λ v. IsRecorded v start m journal leases) is.rest (noting_kept r new hart count number start m journal leases is reached p.keeps)))
+    renoted_book r new start m journal leases is.rest (noting_within r new hart count number m is reached p.keeps.noted) p
 
 pub roomed_book : (r new : RecordingView) (start m : MachineState) (journal : List Stretch) (leases : List (Option OpenView)) → HasRoomed r new →
     IsBook start m journal leases r.limits [] (heard_by r) (IsRecorded r start m journal leases) →
     IsBook start m journal leases new.limits [] (heard_by new) (IsRecorded new start m journal leases)
 roomed_book r new start m journal leases is p =
-    subst (λ v. IsBook start m journal leases v.limits [] (heard_by v) (IsRecorded v start m journal leases)) (sym is.rest)
-    (kept_so start m journal leases r.limits [] (heard_by r) (IsRecorded r start m journal leases)
-    (IsRecorded (record r { notes = new.notes }) start m journal leases) p
-    (subst (λ v. IsRecorded v start m journal leases) is.rest (roomed_kept r new start m journal leases is p.keeps)))
+    renoted_book r new start m journal leases is.rest
+    (λ hart. subst (All (λ x. x.0 ≤ counts_of m hart)) (sym (is.same hart)) (p.keeps.noted hart)) p
 
 begins_higher : (edges : List theory.Edge) (cut higher now : ℕ → ℕ) (order : List ℕ) → ((hart : ℕ) → cut hart ≤ higher hart) →
     Begins edges cut now order → Begins edges higher now order

@@ -156,6 +156,17 @@ impl Book<Recording> {
         self.mode.room_for_notes()
     }
 
+    /// Exchanges the notes for others, none of which is at a count that its hart has yet to reach.
+    pub fn swap_notes(&mut self, notes: &mut NoteLog)
+        requires within { (hart : ℕ) → All (λ x. x.0 ≤ counts_of self.old.machine hart) (notes_of notes.old hart) }
+        ensures new { self.new ≡ record self.old { mode = record self.old.mode { notes = notes.old } } }
+        ensures old { notes.new ≡ self.old.mode.notes }
+        // Nor is any of those that were there.
+        ensures within { (hart : ℕ) → All (λ x. x.0 ≤ counts_of self.old.machine hart) (notes_of notes.new hart) }
+    {
+        self.mode.swap_notes(notes);
+    }
+
     /// Puts an input, which is no bell, behind the others that wait for the hart. It is given at no count before this one.
     pub fn offer(&mut self, hart: Hart, not_before: Count, input: Input) -> Result<(), Memory>
         requires hart { hart < length self.old.machine.harts }

@@ -13,6 +13,7 @@ use crate::fault::PoolFault;
 use crate::turns::Pace;
 use crate::turnstile::Turnstile;
 use ft_types::{Counts, HART_ROW, HartSet};
+use input_log::NoteLog;
 use lease_rounds::{has_run, run_plain};
 use page_book::{Book, Recording};
 use std::alloc::Global;
@@ -84,6 +85,45 @@ pub fn run<R: Threads + Wait + Sync, T: Turnstile + Sync>(
     run_with(rt, alloc, book, budget, turnstile, HartSet::new())
 }
 
+/// What `run_with` does, of a book that it copies, and compares with the copy, whole.
+fn run_copied<R: Threads + Wait + Sync, T: Turnstile + Sync>(
+    rt: &R,
+    alloc: Global,
+    book: Book<Recording>,
+    budget: Counts,
+    turnstile: &T,
+    here: HartSet,
+) -> Result<Book<Recording>, PoolFault>
+    requires idle { IsIdle book }
+    requires harts { length budget ≡ length book.machine.harts }
+    requires below { (hart : ℕ) → counts_of book.machine hart ≤ count_at budget hart }
+    ensures done { IfOk result (λ b. AreAtBudget budget b) }
+    ensures idle { IfOk result (λ b. IsIdle b) }
+    ensures continues { IfOk result (λ b. Continues book b) }
+    ensures runs { IfOk result (λ b. RunsOn book b) }
+    ensures offered { IfOk result (λ b. KeepsOffered book b) }
+    ensures limits { IfOk result (λ b. b.mode.limits ≡ greater budget book.mode.limits) }
+    ensures counts { IfOk result (λ b. GoToBudget budget book b) }
+{
+    // proof: the journal leads to the machine.
+    has_run(&book);
+    let limits = book.limits();
+    let mut book = book;
+    book.limit_at(budget);
+    // proof: the journal leads to the machine.
+    has_run(&book);
+    let copy = book.copy()?;
+    let held = run_crew(rt, alloc, book, budget, turnstile, Pace::Even, here);
+    let book = pick(held, copy, &budget);
+    // proof: the journal leads to the machine.
+    has_run(&book);
+    let mut book = finish(alloc, book, budget)?;
+    book.limit_to(limits);
+    // proof: the journal leads to the machine.
+    has_run(&book);
+    Ok(book)
+}
+
 /// The same, and harts of this set have no threads: they go on the calling thread beside the others, in turn and without the
 /// turnstile, as `run` has those go whose threads cannot be made.
 pub fn run_with<R: Threads + Wait + Sync, T: Turnstile + Sync>(
@@ -106,21 +146,11 @@ pub fn run_with<R: Threads + Wait + Sync, T: Turnstile + Sync>(
     ensures limits { IfOk result (λ b. b.mode.limits ≡ greater budget book.mode.limits) }
     ensures counts { IfOk result (λ b. GoToBudget budget book b) }
 {
-    // proof: the journal leads to the machine.
-    has_run(&book);
-    let limits = book.limits();
     let mut book = book;
-    book.limit_at(budget);
-    // proof: the journal leads to the machine.
-    has_run(&book);
-    let copy = book.copy()?;
-    let held = run_crew(rt, alloc, book, budget, turnstile, Pace::Even, here);
-    let book = pick(held, copy, &budget);
-    // proof: the journal leads to the machine.
-    has_run(&book);
-    let mut book = finish(alloc, book, budget)?;
-    book.limit_to(limits);
-    // proof: the journal leads to the machine.
-    has_run(&book);
+    // No hart notes anything. So the notes lie aside, and are neither copied nor compared.
+    let mut notes = NoteLog::new(alloc);
+    book.swap_notes(&mut notes);
+    let mut book = run_copied(rt, alloc, book, budget, turnstile, here)?;
+    book.swap_notes(&mut notes);
     Ok(book)
 }

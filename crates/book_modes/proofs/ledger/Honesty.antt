@@ -278,12 +278,12 @@ offered_kept r new hart not_before input start machine journal leases o told pla
       heard = offered_bells start p.ledger.machine _ p.ledger.edges r new hart not_before input o plain p.heard;
     })
 
--- so does a note at a count that its hart has reached
-pub noting_kept : (r new : RecordingView) (hart count number : ℕ) (start machine : MachineState) (journal : List Stretch)
-    (leases : List (Option OpenView)) → IsNoting r hart count number new → count ≤ counts_of machine hart →
+-- so do other notes, none at a count that its hart has yet to reach
+pub renoted_kept : (r new : RecordingView) (start machine : MachineState) (journal : List Stretch) (leases : List (Option OpenView)) →
+    new ≡ record r { notes = new.notes } → ((hart : ℕ) → All (λ x. x.0 ≤ counts_of machine hart) (notes_of new.notes hart)) →
     IsRecorded r start machine journal leases → IsRecorded new start machine journal leases
-noting_kept r new hart count number start machine journal leases is reached p =
-    subst (λ v. IsRecorded v start machine journal leases) (sym is.rest)
+renoted_kept r new start machine journal leases rest within p =
+    subst (λ v. IsRecorded v start machine journal leases) (sym rest)
     (record {
       ledger = p.ledger;
       led = p.led;
@@ -293,37 +293,22 @@ noting_kept r new hart count number start machine journal leases is reached p =
       limits = p.limits;
       logged = p.logged;
       begun = p.begun;
-      noted = λ other.
-          elim (same_or_not hart other) [
-            | inl same ↦
-                subst (λ h. All (λ x. x.0 ≤ counts_of machine h) (notes_of new.notes h)) same
-                (subst (All (λ x. x.0 ≤ counts_of machine hart)) (sym is.noted)
-                (noted_within (notes_of r.notes hart) count number (counts_of machine hart) reached (p.noted hart)))
-            | inr ne ↦ subst (All (λ x. x.0 ≤ counts_of machine other)) (sym (is.others other (λ e. ne (sym e)))) (p.noted other)
-          ];
+      noted = within;
       due = p.due;
       bells = p.bells;
       inputs = p.inputs;
       heard = p.heard;
     })
 
--- and room for more
-pub roomed_kept : (r new : RecordingView) (start machine : MachineState) (journal : List Stretch) (leases : List (Option OpenView)) → HasRoomed r new →
-    IsRecorded r start machine journal leases → IsRecorded new start machine journal leases
-roomed_kept r new start machine journal leases is p =
-    subst (λ v. IsRecorded v start machine journal leases) (sym is.rest)
-    (record {
-      ledger = p.ledger;
-      led = p.led;
-      size = p.size;
-      log = p.log;
-      rights = p.rights;
-      limits = p.limits;
-      logged = p.logged;
-      begun = p.begun;
-      noted = λ hart. subst (All (λ x. x.0 ≤ counts_of machine hart)) (sym (is.same hart)) (p.noted hart);
-      due = p.due;
-      bells = p.bells;
-      inputs = p.inputs;
-      heard = p.heard;
-    })
+-- such are they with a note more at a count that its hart has reached
+pub noting_within : (r new : RecordingView) (hart count number : ℕ) (machine : MachineState) → IsNoting r hart count number new →
+    count ≤ counts_of machine hart → ((other : ℕ) → All (λ x. x.0 ≤ counts_of machine other) (notes_of r.notes other)) → (other : ℕ) →
+    All (λ x. x.0 ≤ counts_of machine other) (notes_of new.notes other)
+noting_within r new hart count number machine is reached were other =
+    elim (same_or_not hart other) [
+      | inl same ↦
+          subst (λ h. All (λ x. x.0 ≤ counts_of machine h) (notes_of new.notes h)) same
+          (subst (All (λ x. x.0 ≤ counts_of machine hart)) (sym is.noted)
+          (noted_within (notes_of r.notes hart) count number (counts_of machine hart) reached (were hart)))
+      | inr ne ↦ subst (All (λ x. x.0 ≤ counts_of machine other)) (sym (is.others other (λ e. ne (sym e)))) (were other)
+    ]
