@@ -1,4 +1,7 @@
 pub mod Lists
+pub mod Ready
+pub mod Waiting
+pub mod First
 pub mod StreamLemmas
 pub mod Taken
 pub mod Lifted

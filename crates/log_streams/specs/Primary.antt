@@ -1,5 +1,5 @@
 -- A primary's run of an image in term 1, and the frames that tell of it.
-use Rattle.std.specs.Prelude.{◌≡◌, ℕ, ◌==◌, List, [], ◌∷◌, ◌++◌, map, filter, replicate}
+use Rattle.std.specs.Prelude.{◌≡◌, ℕ, ◌==◌, List, [], ◌∷◌, ◌++◌, length, map, filter, replicate}
 use Rattle.ft_types.specs.declared.names.TheConstants.{HART_ROW}
 use Rattle.ft_types.specs.Guests.{GuestParts}
 use Rattle.input_log.specs.declared.WaitingInput.{WaitingInput}
@@ -16,6 +16,8 @@ use Rattle.page_book.specs.Books.{BookView}
 use Rattle.book_modes.specs.Dues.{nothing_due}
 use Rattle.book_modes.specs.Recordings.{RecordingView}
 use Rattle.lease_rounds.specs.Running.{IsIdle, AreThrough, Continues, RunsOn, GoWithin, KeepsOffered}
+use Rattle.primary.specs.declared.granted.Primary.{Primary}
+use Rattle.primary.specs.Primaries.{IsUncut}
 
 -- what a script offers to a hart, in its order
 abbrev pub offered_to : List Offered → ℕ → List WaitingInput
@@ -57,6 +59,12 @@ pub record IsRunBy (goes : BookView RecordingView → BookView RecordingView →
     (b : BookView RecordingView) : Type 0 where
   pub run : IsRunOf image script limit b
   pub order : goes run.before b
+
+-- a primary of term 1, from boot, nothing of whose log is cut
+pub record IsFirst (p : Primary) : Type 0 where
+  pub opening : p.opening ≡ record { guest = p.opening.guest; term = 1; parent = 0; base = replicate p.opening.guest.harts 0 }
+  pub uncut : IsUncut p.opening.base p.sealed
+  pub harts : length p.book.machine.harts ≡ p.opening.guest.harts
 
 -- The opening of term 1, from boot, and behind it the pieces of the book's log, each hart's from count 0 and place 0 on.
 pub record AreFramesOf (guest : GuestParts) (b : BookView RecordingView) (frames : List Frame) : Type 0 where

@@ -3,10 +3,10 @@
 #![tactic(auto)]
 
 mod faults;
+mod first_term;
 mod laws;
 mod lines;
 mod pairs;
-mod primary;
 mod reading;
 mod replays;
 mod runs;
@@ -14,11 +14,11 @@ mod stores;
 mod streams;
 
 pub use faults::StreamsFault;
+pub use first_term::{begin_primary, begin_run, frames_of, run_primary};
 pub use ft_types::Quorum;
 pub use laws::honest_runs;
 pub use lines::{write_counts_line, write_long_line, write_numbered, write_three};
 pub use pairs::{PairOrders, Pairs};
-pub use primary::{begin_run, frames_of, run_primary};
 pub use reading::read_store;
 pub use replays::{Plainly, Replays};
 pub use runs::Runs;

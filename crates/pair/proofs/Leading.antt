@@ -10,14 +10,15 @@ use Rattle.book_modes.specs.Recordings.{RecordingView, heard_by}
 use Rattle.lease_rounds.specs.Running.{AreThrough, Continues, GoWithin, GoToBudget, KeepsOffered}
 use Rattle.lease_rounds.proofs.RoundByRound.{continues_none, continues_on}
 use Rattle.lease_rounds.proofs.Offered.{offered_itself, offered_on}
-use Rattle.ft_types.specs.Guests.{GuestParts}
-use Rattle.guest_image.specs.Image.{ImageContents, guest_of}
+use Rattle.guest_image.specs.Image.{ImageContents}
 use Rattle.guest_image.specs.Machine.{MachineState}
 use Rattle.hart_lease.specs.declared.stretch.Stretch.{Stretch}
 use Rattle.hart_replay.proofs.walking.Outcomes.{booted_length, booted_none}
 use Rattle.input_script.specs.declared.script.Offered.{Offered}
-use Rattle.log_streams.specs.Primary.{IsReady, IsRunOf}
+use Rattle.log_streams.specs.Primary.{IsFirst, IsReady, IsRunOf}
 use Rattle.pair.specs.Leading.{HasLed}
+use Rattle.pair.specs.Posts.{MayLead}
+use Rattle.pair.specs.declared.posts.PrimaryPost.{PrimaryPost}
 use Rattle.pair.specs.Rounds.{IsAtEnd, IsRoundFrom}
 
 -- a round ends at the budget
@@ -128,18 +129,19 @@ pub ready_below : (image : ImageContents) (script : List Offered) (limit : ℕ) 
 ready_below image script limit b ready hart =
     subst (λ (n : ℕ). n ≤ limit) (sym (ap (λ (m : MachineState). counts_of m hart) ready.machine ∙ booted_none _ (range_with_len 0 _) hart)) (omega arith)
 
--- such a book may be led to the limit
-pub may_lead : (image : ImageContents) (script : List Offered) (limit : ℕ) (b : BookView RecordingView) (guest : GuestParts) (budget : ℕ) →
-    IsReady image script limit b → guest ≡ guest_of image → budget ≡ limit →
-    (length b.machine.harts ≡ guest.harts) × (b.mode.limits ≡ replicate (length b.machine.harts) budget)
-    × ((hart : ℕ) → counts_of b.machine hart ≤ budget)
-may_lead image script limit b guest budget ready of same =
+-- the primary of such a book may be led to the limit
+pub may_lead : (image : ImageContents) (script : List Offered) (limit : ℕ) (post : PrimaryPost) → IsReady image script limit post.primary.book →
+    IsFirst post.primary → post.budget ≡ limit → MayLead post
+may_lead image script limit post ready first same =
+    let b = post.primary.book in
     let harts : length b.machine.harts ≡ image.harts =
-    ap (λ (m : MachineState). length m.harts) ready.machine ∙ booted_length image.harts 0 image.harts in (
-      harts ∙ sym (ap (λ (g : GuestParts). g.harts) of),
-      ready.limits ∙ ap (λ (n : ℕ). replicate n limit) (sym harts) ∙ ap (λ (n : ℕ). replicate (length b.machine.harts) n) (sym same),
-      λ hart. subst (λ (n : ℕ). counts_of b.machine hart ≤ n) (sym same) (ready_below image script limit b ready hart),
-    )
+    ap (λ (m : MachineState). length m.harts) ready.machine ∙ booted_length image.harts 0 image.harts in
+    record {
+      first = first;
+      idle = ready.idle;
+      limits = ready.limits ∙ ap (λ (n : ℕ). replicate n limit) (sym harts) ∙ ap (λ (n : ℕ). replicate (length b.machine.harts) n) (sym same);
+      below = λ hart. subst (λ (n : ℕ). counts_of b.machine hart ≤ n) (sym same) (ready_below image script limit b ready hart);
+    }
 
 -- rounds of a book that is ready are a run
 pub run_of : (image : ImageContents) (script : List Offered) (limit : ℕ) (before b : BookView RecordingView) → IsReady image script limit before →

@@ -1,13 +1,16 @@
 -- What was cut is settled.
-use Rattle.std.proofs.Common.{◌≡◌, ◌<◌, ◌≤◌, ⊎_elim, ℕ, List, [], ◌∷◌, slice_index_or, ap, arith}
-use Rattle.ft_types.specs.Guests.{GuestParts}
+use Rattle.std.proofs.Common.{◌≡◌, ◌∙◌, ◌<◌, ◌≤◌, ⊎_elim, ℕ, List, [], ◌∷◌, length, slice_index_or, ap, subst, sym, arith}
 use Rattle.ft_types.specs.Counts.{count_at}
 use Rattle.fragment_codec.specs.declared.frame.Frame.{Frame}
 use Rattle.fragment_codec.specs.Rules.{FragmentParts}
 use Rattle.log_pieces.specs.Pieces.{HartLog, IsFull, Mark, SealedView, ArePieces, IsCut, mark_behind, mark_of, book_log}
+use Rattle.log_streams.specs.Primary.{IsFirst}
+use Rattle.log_streams.proofs.First.{cut_within, harts_cut}
 use Rattle.page_book.specs.Books.{BookView}
 use Rattle.book_modes.specs.Recordings.{RecordingView}
 use Rattle.hart_lease.specs.Runs.{counts_of}
+use Rattle.primary.specs.declared.granted.Primary.{Primary}
+use Rattle.pair.specs.Posts.{IsCutWithin}
 
 pieces_within : (log : HartLog) (old : Mark) (pieces : List FragmentParts) (new : Mark) → old.count ≤ log.settled → ArePieces log old pieces new →
     new.count ≤ log.settled
@@ -18,8 +21,27 @@ pieces_within log old (piece ∷ pieces) new le at =
     at.0.far in
     pieces_within log (mark_behind piece) pieces new to at.1
 
-pub cut_within : (guest : GuestParts) (book : BookView RecordingView) (old : SealedView) (frames : List Frame) (new : SealedView) →
-    ((hart : ℕ) → count_at old.reached hart ≤ counts_of book.machine hart) → IsCut (book_log guest 1 book) guest.harts old frames new →
-    (hart : ℕ) → count_at new.reached hart ≤ counts_of book.machine hart
-cut_within guest book old frames new within cut hart =
-    pieces_within (book_log guest 1 book hart) (mark_of old hart) (slice_index_or cut.pieces hart []) (mark_of new hart) (within hart) (cut.each hart).row
+-- nothing is cut of a primary from boot
+pub first_within : (p : Primary) → IsFirst p → IsCutWithin p
+first_within p first = record { harts = harts_cut p first; within = cut_within p first }
+
+-- with new pieces
+pub sealed_within : (p q : Primary) (frames : List Frame) → IsCutWithin p → q ≡ record p { sealed = q.sealed } →
+    IsCut (book_log p.opening.guest p.opening.term p.book) p.opening.guest.harts p.sealed frames q.sealed → IsCutWithin q
+sealed_within p q frames is rest cut =
+    let with_new : Primary = record p { sealed = q.sealed } in
+    let all : IsCutWithin with_new = record {
+      harts = cut.same_harts ∙ is.harts;
+      within = λ hart.
+          pieces_within (book_log p.opening.guest p.opening.term p.book hart) (mark_of p.sealed hart) (slice_index_or cut.pieces hart [])
+          (mark_of q.sealed hart) (is.within hart) (cut.each hart).row;
+    } in
+    subst IsCutWithin (sym rest) all
+
+-- with a book that went on
+pub further_within : (p : Primary) (book : BookView RecordingView) → IsCutWithin p →
+    ((hart : ℕ) → counts_of p.book.machine hart ≤ counts_of book.machine hart) → IsCutWithin (record p { book = book })
+further_within p book is goes = record {
+  harts = is.harts;
+  within = λ hart. (let before = is.within hart in let on = goes hart in omega (arith, before, on));
+}

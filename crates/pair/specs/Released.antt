@@ -1,13 +1,7 @@
 -- Which outputs of a machine went out.
-use Rattle.std.specs.Prelude.{◌≡◌, ◌==◌, ◌&&◌, ℕ, Bool, List, [], filter, get_or}
+use Rattle.std.specs.Prelude.{◌≡◌, ◌==◌, ◌&&◌, ℕ, Bool, List, filter, get_or}
 use Rattle.std.specs.List.{list_any}
 use Rattle.ft_types.specs.declared.output.Output.{Output}
-use Rattle.guest_image.specs.Machine.{MachineState}
-use Rattle.primary.specs.Outputs.{outputs_since}
-
--- all outputs of a machine, by hart and number
-abbrev pub outputs_in : MachineState → List Output
-outputs_in machine = outputs_since [] machine
 
 -- output n of a hart that said this
 abbrev pub output_at : ℕ → List (ℕ × ℕ) → ℕ → Output

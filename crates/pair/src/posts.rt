@@ -9,7 +9,7 @@ use ack_core::{Board, GateSeat, KeeperSeat};
 use crossbeam_channel::{Receiver, Sender, unbounded};
 use ft_types::{Guest, Memory};
 use output_gate::Gate;
-use page_book::{Book, Recording};
+use primary::Primary;
 use std::alloc::Global;
 use std::result::Result;
 use tracked_position::Tracked;
@@ -35,9 +35,8 @@ pub(crate) struct Watch {
 
 /// What the primary's thread begins with.
 #[derive(Drop)]
-pub(crate) struct Primary {
-    pub(crate) book: Book<Recording>,
-    pub(crate) guest: Guest,
+pub(crate) struct PrimaryPost {
+    pub(crate) primary: Primary,
     /// The limit of each hart.
     pub(crate) budget: u32,
     /// Whom it sends to.

@@ -1,24 +1,21 @@
 //! The primary's thread.
 
 ghost use Rattle.std.specs.Prelude.{◌≡◌, ◌≤◌, ℕ, length, replicate, IfOk, OnOk};
-ghost use Rattle.ft_types.specs.Counts.{count_at};
-ghost use Rattle.log_pieces.specs.Pieces.{IsCut, book_log};
 ghost use Rattle.hart_lease.specs.Runs.{counts_of};
 ghost use Rattle.lease_rounds.specs.Running.{Continues, GoWithin, IsIdle, KeepsOffered};
 ghost use Rattle.pair.specs.Leading.{HasLed};
-ghost use Rattle.pair.specs.Posts.{MayLead};
+ghost use Rattle.pair.specs.Posts.{IsCutWithin, MayLead};
 
 use crate::messages::{ToGate, ToKeeper, send};
 use crate::noting::note_out;
-use crate::posts::Primary;
+use crate::posts::PrimaryPost;
 use crate::rounds::{are_at_end, round_end};
 use crossbeam_channel::Sender;
-use fragment_codec::{FIRST_TERM, Frame, first_opening};
-use ft_types::{Guest, HART_ROW, Memory};
+use fragment_codec::Frame;
+use ft_types::{HART_ROW, Memory};
 use guest_image::Machine;
-use log_pieces::{Sealed, cut_pieces};
 use page_book::{Book, Recording};
-use primary::{outputs_since, outputs_told};
+use primary::{Primary, outputs_since, outputs_told};
 use primary_pool::{Free, PoolFault, run};
 use std::alloc::Global;
 use std::result::Result;
@@ -88,58 +85,57 @@ fn go_on<R: Threads + Wait + Sync>(
     }
 }
 
-/// The pieces of the book's log that were not cut yet.
-fn new_pieces(
+/// Sends each keeper the pieces of the primary's log that were not cut yet.
+fn send_pieces<R: Wait>(
+    rt: &R,
     alloc: Global,
-    book: &Book<Recording>,
-    guest: &Guest,
-    sealed: &mut Sealed,
-) -> Result<Vec<Frame>, Memory>
-    requires harts { length book.now.machine.harts ≡ guest.now.harts }
-    requires sealed { length sealed.old.reached ≡ guest.now.harts }
-    requires within { (hart : ℕ) → count_at sealed.old.reached hart ≤ counts_of book.now.machine hart }
-    ensures cut { IfOk result (λ frames. IsCut (book_log guest.now 1 book.now) guest.now.harts sealed.old frames.items sealed.new) }
-    ensures sealed { OnOk result (length sealed.new.reached ≡ guest.now.harts) }
-    ensures within { OnOk result ((hart : ℕ) → count_at sealed.new.reached hart ≤ counts_of book.now.machine hart) }
+    primary: &mut Primary,
+    keepers: &[Sender<ToKeeper, Global>],
+) -> Result<(), Memory>
+    requires harts { length primary.old.book.machine.harts ≡ primary.old.opening.guest.harts }
+    requires cut { IsCutWithin primary.old }
+    ensures rest { primary.new ≡ record primary.old { sealed = primary.new.sealed } }
+    ensures cut { OnOk result (IsCutWithin primary.new) }
 {
-    let frames = cut_pieces(alloc, book, guest, FIRST_TERM, sealed)?;
-    Ok(frames)
+    let mut pieces = Vec::new(alloc);
+    primary.seal(alloc, &mut pieces)?;
+    for frame in pieces {
+        send_frame(rt, alloc, keepers, &frame)?;
+    }
+    Ok(())
 }
 
 /// The primary's thread: round by round it notes what went out, goes on, offers what was put out, and sends the pieces of its log.
 pub(crate) fn lead<R: Threads + Wait + Sync>(
     rt: &R,
     alloc: Global,
-    primary: Primary,
+    post: PrimaryPost,
 ) -> Result<Book<Recording>, Memory>
-    requires { MayLead primary }
-    ensures { IfOk result (λ b. HasLed primary.book b) }
+    requires { MayLead post }
+    ensures { IfOk result (λ b. HasLed post.primary.book b) }
 {
-    let Primary {
-        mut book,
-        guest,
+    let PrimaryPost {
+        mut primary,
         budget,
         keepers,
         gate,
         went,
-    } = primary;
-    send_frame(rt, alloc, &keepers, &Frame::Opening(first_opening(guest)))?;
-    let mut sealed = Sealed::new(book.counts());
+    } = post;
+    send_frame(rt, alloc, &keepers, &Frame::Opening(primary.opening.copy()))?;
     for _round in rt.forever() {
-        if are_at_end(book.machine(), budget) {
+        if are_at_end(primary.book.machine(), budget) {
             break;
         }
-        let told = outputs_told(book.machine());
-        note_out(rt, &went, &mut book);
-        book = go_on(rt, alloc, book, budget)?;
-        send_outputs(rt, alloc, book.machine(), &told, &gate)?;
-        for frame in new_pieces(alloc, &book, &guest, &mut sealed)? {
-            send_frame(rt, alloc, &keepers, &frame)?;
-        }
+        let told = outputs_told(primary.book.machine());
+        note_out(rt, &went, &mut primary.book);
+        let book = go_on(rt, alloc, primary.book, budget)?;
+        primary.book = book;
+        send_outputs(rt, alloc, primary.book.machine(), &told, &gate)?;
+        send_pieces(rt, alloc, &mut primary, &keepers)?;
     }
     send(rt, &gate, ToGate::End)?;
     for keeper in &keepers {
         send(rt, keeper, None)?;
     }
-    Ok(book)
+    Ok(primary.book)
 }

@@ -1,8 +1,8 @@
 //! Which outputs of a machine went out: those that the gate gave, at their numbers.
 
 ghost use Rattle.std.specs.Prelude.{◌≡◌, ◌<◌, ◌++◌, ◌&&◌, ◌==◌, ℕ, Bool, filter, length, slice_index_or, true, IfOk, OnOk};
-ghost use Rattle.primary.specs.Outputs.{numbered_from};
-ghost use Rattle.pair.specs.Released.{is_among, is_same, output_at, outputs_in};
+ghost use Rattle.primary.specs.Outputs.{numbered, outputs_in};
+ghost use Rattle.pair.specs.Released.{is_among, is_same, output_at};
 
 use ft_types::{Count, Hart, Memory};
 use guest_image::Machine;
@@ -51,7 +51,7 @@ fn add_given(
     given: &[Output],
     released: &mut Vec<Output>,
 ) -> Result<(), Memory>
-    ensures { OnOk result (released.new.items ≡ released.old.items ++ filter (is_among given.now) (numbered_from hart 0 said.now)) }
+    ensures { OnOk result (released.new.items ≡ released.old.items ++ filter (is_among given.now) (numbered hart said.now)) }
 {
     let marks = marks_of(alloc, hart, said, given)?;
     for (number, (step, word)) in said.iter().enumerate() {

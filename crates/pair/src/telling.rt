@@ -1,7 +1,7 @@
 //! How much a machine has put out.
 
 ghost use Rattle.std.specs.Prelude.{◌≡◌, length};
-ghost use Rattle.pair.specs.Released.{outputs_in};
+ghost use Rattle.primary.specs.Outputs.{outputs_in};
 
 use ft_types::Hart;
 use guest_image::Machine;

@@ -5,14 +5,15 @@ ghost use Rattle.std.specs.List.{AllByRecursion};
 ghost use Rattle.ack_core.specs.Seats.{term_of, harts_of, keepers_of, keeper_of, IsGateOf};
 ghost use Rattle.input_script.specs.Script.{AreOffered};
 ghost use Rattle.log_streams.specs.Primary.{IsRunOf};
+ghost use Rattle.primary.specs.Outputs.{outputs_in};
 ghost use Rattle.pair.specs.Leading.{HasLed};
 ghost use Rattle.pair.specs.Posts.{ArePostsOf, IsPostOf, IsWatchOf, MayLead};
-ghost use Rattle.pair.specs.Released.{IsPartOf, is_among, outputs_in};
+ghost use Rattle.pair.specs.Released.{IsPartOf, is_among};
 ghost use Rattle.pair.specs.Serving.{AreHad, AreServed, IsHeard, IsHeldOnTheWay, IsServed};
 
 use crate::gate_thread::{GateEnd, guard};
 use crate::keeper_thread::{Served, serve};
-use crate::posts::{Post, Primary, Watch, man_posts};
+use crate::posts::{Post, PrimaryPost, Watch, man_posts};
 use crate::primary_thread::lead;
 use crate::printing::write_pair;
 use crate::released::released_in;
@@ -25,7 +26,7 @@ use ft_types::{Memory, Sink};
 use guest_image::{Image, Machine};
 use hart_replay::{Plan, ReplayFault};
 use input_script::Offered;
-use log_streams::{PairOrders, Pairs, Replays, Runs, StreamsFault, begin_run};
+use log_streams::{PairOrders, Pairs, Replays, Runs, StreamsFault, begin_primary};
 use output_gate::{Gate, Output};
 use page_book::{Book, Recording};
 use primary_pool::{Free, PoolFault, run};
@@ -78,15 +79,15 @@ fn lead_and_serve<R: Threads + Wait + Sync>(
     alloc: Global,
     board: &Board,
     posts: Vec<Post>,
-    primary: Primary,
+    primary_post: PrimaryPost,
 ) -> (
     Result<Vec<Result<Served, Memory>>, Memory>,
     Result<Book<Recording>, Memory>,
 )
     requires posts { ArePostsOf board.now posts.items }
-    requires primary { MayLead primary }
+    requires primary { MayLead primary_post }
     ensures served { IfOk result.0 (λ all. AreServed board.now all.items) }
-    ensures led { IfOk result.1 (λ book. HasLed primary.book book) }
+    ensures led { IfOk result.1 (λ book. HasLed primary_post.primary.book book) }
 {
     thread::join(
         rt,
@@ -95,9 +96,9 @@ fn lead_and_serve<R: Threads + Wait + Sync>(
             ensures { IfOk result (λ all. AreServed board.entry.now all.items) }
         { serve_all(rt, alloc, board, posts) },
         move || -> Result<Book<Recording>, Memory>
-            requires { MayLead primary }
-            ensures { IfOk result (λ book. HasLed primary.book book) }
-        { lead(rt, alloc, primary) },
+            requires { MayLead primary_post }
+            ensures { IfOk result (λ book. HasLed primary_post.primary.book book) }
+        { lead(rt, alloc, primary_post) },
     )
 }
 
@@ -108,13 +109,13 @@ fn run_all<R: Threads + Wait + Sync>(
     board: &Board,
     watch: Watch,
     posts: Vec<Post>,
-    primary: Primary,
+    primary_post: PrimaryPost,
 ) -> Result<PairEnd, Memory>
     requires watch { IsWatchOf board.now watch }
     requires posts { ArePostsOf board.now posts.items }
-    requires primary { MayLead primary }
+    requires primary { MayLead primary_post }
     requires harts { 0 < harts_of board.now }
-    ensures led { IfOk result (λ end. HasLed primary.book end.book) }
+    ensures led { IfOk result (λ end. HasLed primary_post.primary.book end.book) }
     ensures inside { IfOk result (λ end. AllByRecursion (IsHeldOnTheWay end.stores.items (term_of board.now) watch.gate.need) end.released.items) }
     ensures part { IfOk result (λ end. IsPartOf end.released.items (outputs_in end.book.machine)) }
     ensures kept { IfOk result (λ end. length end.released.items + end.kept ≡ length (outputs_in end.book.machine)) }
@@ -129,9 +130,9 @@ fn run_all<R: Threads + Wait + Sync>(
             Result<Vec<Result<Served, Memory>>, Memory>,
             Result<Book<Recording>, Memory>,
         )
-            requires { ArePostsOf board.now posts.items × MayLead primary }
-            ensures { IfOk result.0 (λ all. AreServed board.entry.now all.items) × IfOk result.1 (λ book. HasLed primary.book book) }
-        { lead_and_serve(rt, alloc, board, posts, primary) },
+            requires { ArePostsOf board.now posts.items × MayLead primary_post }
+            ensures { IfOk result.0 (λ all. AreServed board.entry.now all.items) × IfOk result.1 (λ book. HasLed primary_post.primary.book book) }
+        { lead_and_serve(rt, alloc, board, posts, primary_post) },
     );
     end_of(alloc, board, gate?, served?, book?)
 }
@@ -188,16 +189,14 @@ pub fn run_pair<R: Threads + Wait + Sync>(
     ensures part { IfOk result (λ end. IsPartOf end.released.items (outputs_in end.book.machine)) }
     ensures kept { IfOk result (λ end. length end.released.items + end.kept ≡ length (outputs_in end.book.machine)) }
 {
-    let book = begin_run(alloc, image, script, orders.budget())?;
+    let primary = begin_primary(alloc, image, script, orders.budget())?;
     let (board, seats, seat) = Board::new(alloc, FIRST_TERM, image.harts(), orders.keepers())?;
     let gate = Gate::new(alloc, FIRST_TERM, orders.keepers(), orders.need());
     let (to_gate, channel) = unbounded(alloc)?;
     let (to_primary, went) = unbounded(alloc)?;
-    let guest = image.guest();
-    let (posts, keepers) = man_posts(alloc, &board, guest, seats, &to_gate)?;
-    let primary = Primary {
-        book,
-        guest,
+    let (posts, keepers) = man_posts(alloc, &board, image.guest(), seats, &to_gate)?;
+    let primary_post = PrimaryPost {
+        primary,
         budget: orders.budget(),
         keepers,
         gate: to_gate,
@@ -209,7 +208,7 @@ pub fn run_pair<R: Threads + Wait + Sync>(
         channel,
         primary: to_primary,
     };
-    run_all(rt, alloc, &board, watch, posts, primary)
+    run_all(rt, alloc, &board, watch, posts, primary_post)
 }
 
 /// Runs, pairs and replays on the threads of a runtime.

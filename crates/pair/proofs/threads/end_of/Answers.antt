@@ -1,6 +1,7 @@
 use Rattle.std.proofs.Common.{◌≡◌, ◌≤◌, length, filter, ap, sym, ◌∙◌, arith}
 use Rattle.guest_image.specs.Machine.{MachineState}
-use Rattle.pair.specs.Released.{is_among, outputs_in}
+use Rattle.primary.specs.Outputs.{outputs_in}
+use Rattle.pair.specs.Released.{is_among}
 use Rattle.pair.proofs.Among.{no_more}
 use Rattle.pair.proofs.threads.end_of.Goals as goal
 

@@ -5,8 +5,9 @@ use Rattle.ft_types.specs.declared.errors.Memory.{Memory}
 use Rattle.ft_types.specs.declared.output.Output.{Output}
 use Rattle.book_modes.specs.Recordings.{RecordingView}
 use Rattle.page_book.specs.Books.{BookView}
+use Rattle.primary.specs.Outputs.{outputs_in}
 use Rattle.pair.specs.Leading.{HasLed}
-use Rattle.pair.specs.Released.{IsPartOf, is_among, outputs_in}
+use Rattle.pair.specs.Released.{IsPartOf, is_among}
 use Rattle.pair.specs.Serving.{IsHeard, IsHeldOnTheWay}
 use Rattle.pair.specs.declared.gate_thread.GateEnd.{GateEnd}
 use Rattle.pair.proofs.Held.{all_held, if_ok}
@@ -15,9 +16,9 @@ use Rattle.pair.proofs.threads.run_all.Goals as goal
 pub returns-clause-led : goal.returns-clause-led
 returns-clause-led g c =
     let said = c.end_of.ensures in
-    if_ok c.end_of.result (λ end. HasLed c.args.primary.book end.book) said.rest said.rest said.rest
-    (λ end rest _ _. subst (λ (b : BookView RecordingView). HasLed c.args.primary.book b) (sym rest.1)
-    (subst (λ (r : Result (BookView RecordingView) Memory). IfOk r (λ b. HasLed c.args.primary.book b)) c.in_ok-book.was c.join-gate.ensures.second.1))
+    if_ok c.end_of.result (λ end. HasLed c.args.primary_post.primary.book end.book) said.rest said.rest said.rest
+    (λ end rest _ _. subst (λ (b : BookView RecordingView). HasLed c.args.primary_post.primary.book b) (sym rest.1)
+    (subst (λ (r : Result (BookView RecordingView) Memory). IfOk r (λ b. HasLed c.args.primary_post.primary.book b)) c.in_ok-book.was c.join-gate.ensures.second.1))
 
 pub returns-clause-inside : goal.returns-clause-inside
 returns-clause-inside g c =

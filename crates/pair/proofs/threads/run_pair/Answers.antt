@@ -10,10 +10,8 @@ use Rattle.pair.proofs.threads.run_pair.Goals as goal
 
 pub run_all-requires-clause-primary : goal.run_all-requires-clause-primary
 run_all-requires-clause-primary g c κs order =
-    let may =
-    may_lead c.args.image.now c.args.script.now c.budget.result c.in_ok-book.book c.guest-guest.result c.budget-2.result c.in_ok-book.ensures c.guest-guest.ensures
-    (c.budget-2.ensures ∙ sym c.budget.ensures) in
-    record { idle = c.in_ok-book.ensures.idle; harts = may.0; limits = may.1; below = may.2 }
+    may_lead c.args.image.now c.args.script.now c.budget.result _ c.in_ok-primary.ensures.ready c.in_ok-primary.ensures.first
+    (c.budget-2.ensures ∙ sym c.budget.ensures)
 
 pub run_all-requires-clause-watch : goal.run_all-requires-clause-watch
 run_all-requires-clause-watch g c κs within =
@@ -31,10 +29,10 @@ run_all-requires-clause-watch g c κs within =
 
 pub returns-clause-run : goal.returns-clause-run
 returns-clause-run g c =
-    let ready = subst (λ (n : ℕ). IsReady c.args.image.now c.args.script.now n c.in_ok-book.book) c.budget.ensures c.in_ok-book.ensures in
+    let ready = subst (λ (n : ℕ). IsReady c.args.image.now c.args.script.now n c.in_ok-primary.primary.book) c.budget.ensures c.in_ok-primary.ensures.ready in
     let said = c.run_all.ensures in
     if_ok c.run_all.result (λ end. IsRunOf c.args.image.now c.args.script.now c.args.orders.now.budget end.book) said.led said.led said.led
-    (λ end led _ _. run_of c.args.image.now c.args.script.now c.args.orders.now.budget c.in_ok-book.book end.book ready led)
+    (λ end led _ _. run_of c.args.image.now c.args.script.now c.args.orders.now.budget c.in_ok-primary.primary.book end.book ready led)
 
 pub returns-clause-inside : goal.returns-clause-inside
 returns-clause-inside g c =

@@ -9,7 +9,7 @@ use Rattle.hart_lease.specs.Recorded.{system}
 use Rattle.hart_lease.specs.Runs.{journal_turns}
 use Rattle.book_modes.specs.Recordings.{heard_by, log_of, HasHonestLog}
 use Rattle.log_streams.proofs.Ends.{reach_its_end}
-use Rattle.log_streams.proofs.primary.frames_of.Goals as goal
+use Rattle.log_streams.proofs.first_term.frames_of.Goals as goal
 
 pub returns-clause-frames : goal.returns-clause-frames
 returns-clause-frames c =

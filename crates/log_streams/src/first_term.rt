@@ -4,16 +4,17 @@ ghost use Rattle.std.specs.Prelude.{◌≡◌, ◌<◌, ◌≤◌, ◌^◌, ℕ,
 ghost use Rattle.ft_types.specs.declared.names.TheConstants.{HART_LIMIT};
 ghost use Rattle.guest_image.specs.Image.{guest_of};
 ghost use Rattle.input_script.specs.Script.{AreOffered};
-ghost use Rattle.log_streams.specs.Primary.{AreOfferedTo, IsReady, IsRunBy, AreFramesOf};
+ghost use Rattle.log_streams.specs.Primary.{AreOfferedTo, IsFirst, IsReady, IsRunBy, AreFramesOf};
 ghost use Rattle.log_streams.specs.Ends.{ReachItsEnd};
 
 use crate::runs::Runs;
 use fragment_codec::{FIRST_TERM, Frame, first_opening};
 use ft_types::{Count, Counts, Hart, Memory};
-use guest_image::{Image, Machine};
+use guest_image::Image;
 use input_script::Offered;
 use log_pieces::{Sealed, cut_pieces};
 use page_book::{Book, Recording};
+use primary::Primary;
 use std::alloc::Global;
 
 /// One limit for all harts.
@@ -29,15 +30,33 @@ fn limits_of(harts: u8, limit: u32) -> Counts
 }
 
 /// Offers all that the script says, in its order.
-fn offer_all(book: &mut Book<Recording>, script: &[Offered]) -> Result<(), Memory>
-    requires { AreOffered (length book.old.machine.harts) script.now }
-    ensures offered { OnOk result (AreOfferedTo book.old.mode script.now book.new.mode) }
-    ensures book { OnOk result (book.new ≡ record book.old { mode = book.new.mode }) }
+fn offer_script(primary: &mut Primary, script: &[Offered]) -> Result<(), Memory>
+    requires { AreOffered (length primary.old.book.machine.harts) script.now }
+    ensures offered { OnOk result (AreOfferedTo primary.old.book.mode script.now primary.new.book.mode) }
+    ensures rest { OnOk result (primary.new ≡ record primary.old { book = record primary.old.book { mode = primary.new.book.mode } }) }
 {
     for offered in script {
-        book.offer(offered.hart, offered.not_before, offered.input)?;
+        primary.offer(offered.hart, offered.not_before, offered.input)?;
     }
     Ok(())
+}
+
+/// A primary of the image from boot, whose harts may go to the limit, with what the script offers.
+pub fn begin_primary(
+    alloc: Global,
+    image: &Image,
+    script: &[Offered],
+    limit: u32,
+) -> Result<Primary, Memory>
+    requires { AreOffered image.now.harts script.now }
+    ensures ready { IfOk result (λ p. IsReady image.now script.now limit p.book) }
+    ensures first { IfOk result (λ p. IsFirst p) }
+    ensures guest { IfOk result (λ p. p.opening.guest ≡ guest_of image.now) }
+{
+    let mut primary = Primary::boot(alloc, image)?;
+    primary.book.limit_at(limits_of(image.harts(), limit));
+    offer_script(&mut primary, script)?;
+    Ok(primary)
 }
 
 /// A book of the image from boot, with what the script offers.
@@ -50,11 +69,8 @@ pub fn begin_run(
     requires { AreOffered image.now.harts script.now }
     ensures { IfOk result (λ b. IsReady image.now script.now limit b) }
 {
-    let start = Machine::boot(alloc, image)?;
-    let limits = limits_of(image.harts(), limit);
-    let mut book = Book::<Recording>::begin(alloc, start, limits)?;
-    offer_all(&mut book, script)?;
-    Ok(book)
+    let primary = begin_primary(alloc, image, script, limit)?;
+    Ok(primary.book)
 }
 
 /// Runs a primary of the image from boot, with what the script offers, until each hart is halted or at the limit.

@@ -4,7 +4,7 @@ use Rattle.std.specs.List.{range_with_len}
 use Rattle.hart_lease.specs.Runs.{counts_of}
 use Rattle.hart_replay.proofs.walking.Outcomes.{booted_none}
 use Rattle.log_streams.specs.Primary.{IsRunBy}
-use Rattle.log_streams.proofs.primary.run_primary.Goals as goal
+use Rattle.log_streams.proofs.first_term.run_primary.Goals as goal
 
 -- what follows from all that a run's clauses say of its book
 if_all : {X E : Type 0} (r : Result X E) {A B C D F G H : X → Type 0} (Q : X → Type 0) →
