@@ -4,17 +4,33 @@ top=$(cd "$here/../.." && pwd)
 work=$(mktemp -d)
 trap 'rm -rf "$work"' EXIT
 
-# workspace NAME CRATES USES [WORDS..]: the program NAME, which uses USES, with the crates CRATES that it stands on, in a
-# workspace of their own. Proves, builds and runs it with these words, and sets `program` to it. Where `kept` is set, as in
-# `kept=yes sh measure.sh`, what checks of the repository kept in out/ is copied too, and not proved again.
+# below CRATE..: those of these that the repository has, and all that they stand on there, in the order of crates.txt.
+below() {
+    awk -v want="$*" '
+        { name = $1; sub(/:$/, "", name); order[NR] = name; line[name] = $0; sub(/^[^:]*:/, "", line[name]) }
+        END {
+            many = split(want, next_ones, " ")
+            for (at = 1; at <= many; at++) {
+                one = next_ones[at]
+                if (!(one in line) || one in found) continue
+                found[one] = 1
+                more = split(line[one], deps, " ")
+                for (dep = 1; dep <= more; dep++) next_ones[++many] = deps[dep]
+            }
+            for (at = 1; at <= NR; at++) if (order[at] in found) print order[at]
+        }' "$top/crates.txt"
+}
+
+# workspace NAME USES [WORDS..]: the program NAME, which uses USES, with all crates that it stands on, in a workspace of their own. Proves,
+# builds and runs it with these words, and sets `program` to it. Where `kept` is set, as in `kept=yes sh measure.sh`, what checks of the
+# repository kept in out/ is copied too, and not proved again.
 workspace() {
     name=$1
-    crates=$2
-    uses=$3
-    shift 3
+    uses=$2
+    shift 2
     mkdir "$work/crates"
     cp "$top/HANDLES" "$work/"
-    for crate in $crates; do
+    for crate in $(below "$uses"); do
         mkdir "$work/crates/$crate"
         for part in src specs proofs ${kept:+out}; do
             if [ -d "$top/crates/$crate/$part" ]; then

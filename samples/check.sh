@@ -1,7 +1,7 @@
 #!/bin/sh
 # check.sh [PROGRAM]: runs what README.md, docs/GUIDE.md and docs/FAILOVER.md print, as printed, in a fresh copy of the repository, and compares
 # the answers that they show; then runs each guest of guests/ and replays its log, looks for each name that the documents cite (tools/names), refuses
-# memory to the rows of benches/refusals, and kills keepers that are processes (samples/live). PROGRAM is the built workbench, by itself the one that `.ci/run` and `rt run` leave. The last line is 'N passed, N
+# memory to the rows of benches/refusals, and kills keepers and primaries that are processes (samples/live). PROGRAM is the built workbench, by itself the one that `.ci/run` and `rt run` leave. The last line is 'N passed, N
 # failed'. Needs rt; what needs more is left out where that is not there.
 #
 # In these documents each indented block is typed into a shell of its own at the top of the repository. Where it has lines that begin with
@@ -23,6 +23,11 @@ mkdir "$fresh"
 tar -C "$top" --exclude=./.git --exclude=out -cf - . | tar -C "$fresh" -xf -
 mkdir -p "$fresh/crates/workbench/out"
 cp "$program" "$fresh/crates/workbench/out/workbench"
+live=$top/crates/live/out/live
+if [ -x "$live" ]; then
+    mkdir -p "$fresh/crates/live/out"
+    cp "$live" "$fresh/crates/live/out/live"
+fi
 
 pass() {
     passed=$((passed + 1))
@@ -45,6 +50,10 @@ lacks() {
         echo "this program was built by rt try"
     elif grep -q 'rt run' "$1"; then
         echo "it proves every crate below the program, for half an hour"
+    elif grep -q 'samples/live' "$1" && [ ! -x "$fresh/crates/live/out/live" ]; then
+        echo "there is no $live"
+    elif grep -q 'samples/live' "$1" && ! command -v bash > /dev/null; then
+        echo "no bash is installed"
     elif grep -q 'apt-get' "$1"; then
         echo "it installs packages"
     elif grep -q 'make ' "$1" && [ "$(riscv64-unknown-elf-gcc -dumpfullversion 2> /dev/null)" != 12.2.0 ]; then
@@ -161,8 +170,8 @@ else
     echo "left out benches/refusals, since a C compiler, python3 or /dev/shm is not there"
 fi
 
-# Three keepers over FIFOs: one is killed and begins again, two hand their logs over behind a fence, in some twenty seconds.
-live=$top/crates/live/out/live
+# Three keepers over FIFOs: one is killed and begins again, two hand their logs over behind a fence, in some twenty seconds. Then primaries and clients
+# too: primaries are killed and paused.
 if [ ! -x "$live" ]; then
     echo "left out samples/live, since there is no $live"
 elif ! command -v bash > /dev/null; then
@@ -171,6 +180,13 @@ elif bash "$top/samples/live/keeper.sh" "$live" "$program" 2 > "$work/keepers" 2
     pass
 else
     fail "keepers that are processes" < "$work/keepers"
+fi
+if [ -x "$live" ] && command -v bash > /dev/null; then
+    if bash "$top/samples/live/drill.sh" "$live" "$program" 10 > "$work/drills" 2>&1; then
+        pass
+    else
+        fail "primaries that are processes" < "$work/drills"
+    fi
 fi
 
 echo "$passed passed, $failed failed"

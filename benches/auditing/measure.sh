@@ -6,7 +6,7 @@ set -eu
 here=$(cd "$(dirname "$0")" && pwd)
 . "$here/../workspace.sh"
 
-workspace auditing_bench "interleaving zaamo ft_types rv32_isa input_log input_script rv32_hart edge_log guest_image crew_pages lease_ledger hart_lease book_modes page_book lease_rounds primary_pool fragment_codec log_pieces log_join closed_cut frame_content hart_replay log_audit log_streams" "ft_types input_script guest_image page_book log_join closed_cut hart_replay log_streams log_audit anyhow" audit "$top/samples/four_harts.image" "$top/samples/four_harts.script" 100000 1
+workspace auditing_bench "ft_types input_script guest_image page_book log_join closed_cut hart_replay log_streams log_audit anyhow" audit "$top/samples/four_harts.image" "$top/samples/four_harts.script" 100000 1
 
 # What two more rounds cost, each.
 per_round() {

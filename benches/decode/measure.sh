@@ -6,7 +6,7 @@ set -eu
 here=$(cd "$(dirname "$0")" && pwd)
 . "$here/../workspace.sh"
 
-workspace decode_bench "zaamo rv32_isa" "rv32_isa anyhow"
+workspace decode_bench "rv32_isa anyhow"
 proved=$program
 
 # The same decoder in plain Rust.

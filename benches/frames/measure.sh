@@ -6,7 +6,7 @@ set -eu
 here=$(cd "$(dirname "$0")" && pwd)
 . "$here/../workspace.sh"
 
-workspace frames_bench "interleaving ft_types input_log edge_log fragment_codec log_join" "log_join fragment_codec ft_types input_log edge_log sha2 anyhow"
+workspace frames_bench "log_join fragment_codec ft_types input_log edge_log sha2 anyhow"
 
 # What two more rounds over the stream cost, per byte.
 per_byte() {

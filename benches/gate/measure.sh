@@ -6,7 +6,7 @@ set -eu
 here=$(cd "$(dirname "$0")" && pwd)
 . "$here/../workspace.sh"
 
-workspace gate_bench "interleaving zaamo ft_types rv32_isa input_log rv32_hart edge_log guest_image crew_pages lease_ledger hart_lease book_modes page_book fragment_codec log_join closed_cut ack_core output_gate" "ft_types closed_cut ack_core output_gate anyhow" still 1
+workspace gate_bench "ft_types closed_cut ack_core output_gate anyhow" still 1
 
 # What 1,000 more rounds cost, each.
 per_round() {

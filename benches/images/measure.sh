@@ -6,7 +6,7 @@ set -eu
 here=$(cd "$(dirname "$0")" && pwd)
 . "$here/../workspace.sh"
 
-workspace images_bench "interleaving zaamo ft_types rv32_isa input_log rv32_hart guest_image" "guest_image ft_types anyhow" 1 1
+workspace images_bench "guest_image ft_types anyhow" 1 1
 
 for pages in 8 16 32 64; do
     "$program" "$pages" 20

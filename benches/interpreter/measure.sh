@@ -6,7 +6,7 @@ set -eu
 here=$(cd "$(dirname "$0")" && pwd)
 . "$here/../workspace.sh"
 
-workspace interpreter_bench "ft_types zaamo rv32_isa input_log interleaving rv32_hart" "ft_types rv32_hart anyhow"
+workspace interpreter_bench "ft_types rv32_hart anyhow"
 proved=$program
 
 # The same interpreter in plain Rust.

@@ -6,7 +6,7 @@ set -eu
 here=$(cd "$(dirname "$0")" && pwd)
 . "$here/../workspace.sh"
 
-workspace pair_bench "interleaving zaamo ft_types rv32_isa input_log input_script rv32_hart edge_log guest_image crew_pages lease_ledger hart_lease book_modes page_book lease_rounds primary_pool fragment_codec log_pieces log_join closed_cut tracked_position ack_core output_gate hart_replay replay_pool log_streams pair" "ft_types input_log edge_log guest_image page_book fragment_codec log_join closed_cut tracked_position primary_pool output_gate log_streams pair anyhow" positions once 1
+workspace pair_bench "ft_types input_log edge_log guest_image page_book fragment_codec log_join closed_cut tracked_position primary_pool output_gate log_streams pair anyhow" positions once 1
 
 # Five runs of each.
 for _run in 1 2 3 4 5; do

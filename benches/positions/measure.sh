@@ -6,7 +6,7 @@ set -eu
 here=$(cd "$(dirname "$0")" && pwd)
 . "$here/../workspace.sh"
 
-workspace positions_bench "interleaving ft_types input_log edge_log fragment_codec log_join closed_cut" "closed_cut log_join fragment_codec ft_types input_log edge_log anyhow"
+workspace positions_bench "closed_cut log_join fragment_codec ft_types input_log edge_log anyhow"
 
 # What two more rounds cost, per edge.
 for edges in 100000 1000000; do

@@ -6,7 +6,7 @@ set -eu
 here=$(cd "$(dirname "$0")" && pwd)
 . "$here/../workspace.sh"
 
-workspace recording_bench "interleaving zaamo ft_types rv32_isa input_log rv32_hart edge_log guest_image crew_pages lease_ledger hart_lease book_modes page_book lease_rounds primary_pool" "ft_types rv32_hart guest_image page_book primary_pool anyhow" record loop 3000
+workspace recording_bench "ft_types rv32_hart guest_image page_book primary_pool anyhow" record loop 3000
 
 # All leave the same hart.
 for guest in loop outputs; do

@@ -8,7 +8,7 @@ set -eu
 here=$(cd "$(dirname "$0")" && pwd)
 . "$here/../workspace.sh"
 
-workspace replaying_bench "interleaving zaamo ft_types rv32_isa input_log rv32_hart edge_log guest_image crew_pages lease_ledger hart_lease book_modes page_book lease_rounds primary_pool fragment_codec log_pieces log_join closed_cut hart_replay replay_pool ack_core output_gate go_live" "ft_types input_log guest_image page_book primary_pool fragment_codec log_join closed_cut hart_replay replay_pool go_live anyhow" run 1
+workspace replaying_bench "ft_types input_log guest_image page_book primary_pool fragment_codec log_join closed_cut hart_replay replay_pool go_live anyhow" run 1
 
 "$program" run 1
 "$program" replay 1

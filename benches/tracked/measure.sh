@@ -7,7 +7,7 @@ set -eu
 here=$(cd "$(dirname "$0")" && pwd)
 . "$here/../workspace.sh"
 
-workspace tracked_bench "interleaving zaamo ft_types rv32_isa input_log rv32_hart edge_log guest_image crew_pages lease_ledger hart_lease book_modes page_book fragment_codec log_join closed_cut tracked_position" "closed_cut tracked_position log_join fragment_codec ft_types input_log edge_log anyhow"
+workspace tracked_bench "closed_cut tracked_position log_join fragment_codec ft_types input_log edge_log anyhow"
 
 for frames in ${counts:-10000 100000 1000000}; do
     for order in in_turn streams mixed; do

@@ -12,13 +12,12 @@ rounds=${3:-5}
 RANDOM=${4:-1}
 image=$top/samples/four_harts.image
 work=$(mktemp -d)
-children=()
 passed=0
 failed=0
 
 # Ends what this script started, and nothing else.
 finish() {
-    { for child in "${children[@]}"; do kill -9 "$child"; done; wait; } 2> /dev/null
+    { kill -9 $(jobs -rp); wait; } 2> /dev/null
     rm -rf "$work"
 }
 trap finish EXIT
@@ -42,7 +41,7 @@ fail() {
 
 # is WHAT WANTED GOT: whether two texts are one.
 is() {
-    if [ "$2" = "$3" ]; then pass; else printf 'wanted: %s\ngot: %s\n' "$2" "$3" | fail "$1"; fi
+    if [ "$2" = "$3" ]; then pass; else fail "$1" < <(printf 'wanted: %s\ngot: %s\n' "$2" "$3"); fi
 }
 
 # split LOG FOLDER: writes the frames of a log into the folder, each into a file with its number of four digits.
@@ -90,7 +89,6 @@ hear() {
 keep() {
     "$live" keeper "$image" "$2" "$1/log.$2" from "$1/frames.$2" to "$1/acks.$2" 2>> "$1/faults.$2" &
     started=$!
-    children+=("$started")
 }
 
 # counts FILE: the term and the counts of the position of the frames in a file.
@@ -124,14 +122,12 @@ round() {
         keep "$at" "$k"
         process[$k]=$started
         hear "$at/acks.$k" "$at/said.$k" &
-        children+=("$!")
         feed "$at/frames.$k" "$work/frames" &
         feeder[$k]=$!
-        children+=("$!")
     done
     for kills in 1 2 3; do
         sleep "0.$((RANDOM % 3))$((RANDOM % 10))"
-        if ! kill -0 "${process[$victim]}" 2> /dev/null; then echo "it has ended" | fail "round $1: keeper $victim runs until it is killed"; fi
+        if ! kill -0 "${process[$victim]}" 2> /dev/null; then fail "round $1: keeper $victim runs until it is killed" <<< 'it has ended'; fi
         stop "${process[$victim]}"
         keep "$at" "$victim"
         process[$victim]=$started
@@ -148,9 +144,9 @@ round() {
     done
     # Until the keeper that is not fenced has come to the end.
     k=$(((victim + 2) % 3))
-    for _ in $(seq 100); do
+    for _ in $(seq 1200); do
         if tail -n 1 "$at/said.$k" | grep -q "^ack 1 $k $end "; then break; fi
-        sleep 0.05
+        sleep 0.1
     done
     is "round $1: keeper $k comes to the end" "ack 1 $k $end" "$(tail -n 1 "$at/said.$k" | sed 's/ [0-9a-f]*$//')"
     "$workbench" replay "$image" "$at/log.$k" > "$at/text" 2>&1
@@ -228,7 +224,6 @@ refuses "another guest's log, handed over" 1 'fault log guest' hand "$image" 0 "
 mkfifo "$work/waits"
 "$live" keeper "$image" 0 "$work/log" from "$work/waits" to "$work/acks" &
 holder=$!
-children+=("$holder")
 for _ in $(seq 100); do
     if [ "$(grep -c '^again 0' "$work/acks")" -gt 1 ]; then break; fi
     sleep 0.05

@@ -1,8 +1,10 @@
 //! What can go wrong, and the line that says so.
 
+use ends::FileName;
 use fragment_codec::FrameFault;
 use ft_types::{Memory, Term};
 use guest_image::ImageFault;
+use live_words::NoTask;
 use stations::{FenceFault, FilesFault, LogFault};
 use std::alloc::{AllocError, AllocFailed};
 use std::fmt;
@@ -66,6 +68,15 @@ impl Fault {
         match self {
             Fault::File(file) => Some(*file),
             _ => None,
+        }
+    }
+}
+
+impl From<NoTask> for Fault {
+    fn from(none: NoTask) -> Fault {
+        match none {
+            NoTask::Usage => Fault::Usage,
+            NoTask::Memory => Fault::Memory,
         }
     }
 }
@@ -134,20 +145,8 @@ struct Told<'a> {
     name: &'a str,
 }
 
-/// Writes a name so that it stays in its line.
-fn write_name<W: fmt::Write>(name: &str, f: &mut Formatter<W>) -> fmt::Result {
-    for c in name.chars() {
-        match c {
-            '\n' => f.write_str("\\n")?,
-            c => f.write_char(c)?,
-        }
-    }
-    Ok(())
-}
-
 fn write_file<W: fmt::Write>(file: NamedFile, name: &str, f: &mut Formatter<W>) -> fmt::Result {
-    f.write_str("file ")?;
-    write_name(name, f)?;
+    write!(f, "file {}", FileName(name))?;
     match file {
         NamedFile::Fences => f.write_str(".fences"),
         _ => Ok(()),

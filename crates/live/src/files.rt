@@ -3,20 +3,19 @@
 ghost use Rattle.std.specs.Prelude.{None};
 
 use crate::faults::{Fault, NamedFile};
-use crate::host::Paths;
+use ends::{Paths, read_file, sync_folder};
 use ft_types::{Guest, Term};
 use guest_image::{Image, read_image};
 use stations::{FilesFault, KeeperFiles};
 use std::alloc::Global;
 use std::fs::{File, TryLockError};
 use std::io;
-use std::io::{Read, Write};
-use std::path::Path;
+use std::io::Write;
 use wire::{fence_entry, last_fence};
 
 /// The image of this name.
 pub fn read_image_file<R: Paths + AllocGlobal>(rt: &R, name: &str) -> Result<Image, Fault> {
-    match read_whole(rt, name) {
+    match read_file(rt, name) {
         Ok(bytes) => Ok(read_image(rt.alloc(), &bytes)?),
         Err(error) => Err(fault_of(&error, NamedFile::Image)),
     }
@@ -43,28 +42,12 @@ fn fences_fault(error: &io::Error) -> FilesFault {
     }
 }
 
-/// The bytes of a file.
-fn read_whole<R: Paths + AllocGlobal>(rt: &R, name: &str) -> io::Result<Vec<u8>> {
-    let mut bytes = Vec::new(rt.alloc());
-    rt.open(name)?.read_to_end(&mut bytes)?;
-    Ok(bytes)
-}
-
 /// The bytes of a file, none where there is no file.
 fn read_if_there<R: Paths + AllocGlobal>(rt: &R, name: &str) -> io::Result<Vec<u8>> {
-    match read_whole(rt, name) {
+    match read_file(rt, name) {
         Err(error) if error.kind() == io::ErrorKind::NotFound => Ok(Vec::new(rt.alloc())),
         read => read,
     }
-}
-
-/// Brings the folder of a file to disk, and with it that the file is there.
-fn sync_folder<R: Paths + AllocGlobal>(rt: &R, name: &str) -> io::Result<()> {
-    let folder = match Path::new(name).parent() {
-        Some(folder) if !folder.as_str().is_empty() => folder.as_str(),
-        _ => ".",
-    };
-    rt.open(folder)?.sync_all()
 }
 
 /// A file to which is added, which is made where it is not there.

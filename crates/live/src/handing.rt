@@ -2,9 +2,8 @@
 
 use crate::faults::Fault;
 use crate::files::{HostFiles, read_image_file};
-use crate::host::Host;
-use crate::words::Request;
-use ft_types::Term;
+use ends::Host;
+use live_words::HandWords;
 use stations::{fence_off, hand_over};
 use std::io;
 use std::io::Write;
@@ -18,14 +17,14 @@ fn write_handed<H: Host>(rt: &H, line: &[u8], frames: &[u8]) -> io::Result<()> {
 }
 
 /// Hands a log over to a term, and gives the status that the program ends with.
-pub fn hand<H: Host>(rt: &H, request: &Request<'_>, term: Term) -> Result<u8, Fault> {
-    let guest = read_image_file(rt, request.image)?.guest();
-    let mut files = HostFiles::of_hand(rt, guest, request.log)?;
-    let fenced = fence_off(rt.alloc(), &mut files, term)?;
+pub fn hand<H: Host>(rt: &H, words: &HandWords<'_>) -> Result<u8, Fault> {
+    let guest = read_image_file(rt, words.image)?.guest();
+    let mut files = HostFiles::of_hand(rt, guest, words.log)?;
+    let fenced = fence_off(rt.alloc(), &mut files, words.term)?;
     let frames = hand_over(rt.alloc(), &guest, fenced, &mut files)?;
     let handed = Handed {
-        term,
-        keeper: request.keeper,
+        term: words.term,
+        keeper: words.keeper,
         length: frames.len() as u64,
     };
     match write_handed(rt, handed_line(&guest, &handed).as_slice(), &frames) {

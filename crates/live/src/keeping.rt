@@ -3,12 +3,12 @@
 use crate::events::{Event, Receiver, Sender};
 use crate::faults::{Fault, tell};
 use crate::files::{HostFiles, read_image_file};
-use crate::host::Host;
 use crate::posting::Post;
-use crate::words::Request;
 use crate::{listening, posting};
 use crossbeam_channel::bounded;
+use ends::Host;
 use ft_types::{Guest, Keeper, Position};
+use live_words::KeeperWords;
 use log_join::Put;
 use stations::KeeperStation;
 use wire::Acknowledgement;
@@ -51,21 +51,15 @@ fn post_all<H: Host>(
 
 impl Keeping {
     /// Starts the threads of all inputs and outputs.
-    fn start<H: Host>(
-        rt: &H,
-        guest: Guest,
-        keeper: Keeper,
-        inputs: &[&str],
-        outputs: &[&str],
-    ) -> Result<Keeping, Fault> {
+    fn start<H: Host>(rt: &H, guest: Guest, words: &KeeperWords<'_>) -> Result<Keeping, Fault> {
         let (to, events) = bounded(rt.alloc(), BATCH)?;
-        let posts = post_all(rt, guest, keeper, outputs, &to)?;
-        listen_all(rt, guest, inputs, &to)?;
+        let posts = post_all(rt, guest, words.keeper, &words.outputs, &to)?;
+        listen_all(rt, guest, &words.inputs, &to)?;
         Ok(Keeping {
-            keeper,
+            keeper: words.keeper,
             events,
             posts,
-            open: inputs.len(),
+            open: words.inputs.len(),
             passed: false,
         })
     }
@@ -153,16 +147,11 @@ fn log<H: Host>(
 }
 
 /// Keeps a log until all inputs are at their end, and gives the status that the program ends with.
-pub fn keep<H: Host>(
-    rt: &H,
-    request: &Request<'_>,
-    inputs: &[&str],
-    outputs: &[&str],
-) -> Result<u8, Fault> {
-    let guest = read_image_file(rt, request.image)?.guest();
-    let mut files = HostFiles::of_keeper(rt, guest, request.log)?;
+pub fn keep<H: Host>(rt: &H, words: &KeeperWords<'_>) -> Result<u8, Fault> {
+    let guest = read_image_file(rt, words.image)?.guest();
+    let mut files = HostFiles::of_keeper(rt, guest, words.log)?;
     let mut station = KeeperStation::begin(rt.alloc(), guest, &mut files)?;
-    let mut keeping = Keeping::start(rt, guest, request.keeper, inputs, outputs)?;
+    let mut keeping = Keeping::start(rt, guest, words)?;
     let mut came = true;
     for _ in rt.forever() {
         if came {

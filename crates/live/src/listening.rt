@@ -2,13 +2,12 @@
 
 use crate::events::{Event, Gone, Sender, send};
 use crate::faults::{Fault, NamedFile};
-use crate::host::{Host, Paths};
+use ends::{Host, Paths, is_fifo};
 use fragment_codec::{Feed, Frame, FrameFault};
 use ft_types::Guest;
 use stations::is_of;
 use std::fs::File;
 use std::io::Read;
-use std::os::unix::fs::FileTypeExt;
 use std::sync::Wait;
 use std::thread;
 
@@ -132,13 +131,6 @@ impl Input {
             }
         }
         Err(Gone)
-    }
-}
-
-fn is_fifo(file: &File) -> bool {
-    match file.metadata() {
-        Ok(metadata) => metadata.file_type().is_fifo(),
-        Err(_) => false,
     }
 }
 

@@ -1,19 +1,24 @@
-//! The program of a pair over several processes: a keeper, and whoever hands its log over. Frames come and acknowledgements go over FIFOs or files.
+//! The program of a pair over several processes: a keeper, whoever hands its log over, a primary, and a client. All that passes between them goes over
+//! FIFOs or files.
 #![tactic(auto)]
 
 mod events;
 mod faults;
 mod files;
 mod handing;
-mod host;
 mod keeping;
 mod listening;
+mod names;
 mod posting;
-mod words;
 
 use crate::faults::{Fault, tell};
-use crate::host::Host;
-use crate::words::{Request, Task, read_words};
+use crate::handing::hand;
+use crate::keeping::keep;
+use crate::names::{name_of_hand, name_of_keeper};
+use ends::Host;
+use live_client::ask;
+use live_primary::lead;
+use live_words::{HandWords, KeeperWords, Task, read_task};
 use std::process::ExitCode;
 use std::{env, io};
 
@@ -26,33 +31,40 @@ fn arguments(rt: &HostRuntime) -> io::Result<Vec<String>> {
     Ok(words)
 }
 
-/// Does what is asked for.
-fn run<H: Host>(rt: &H, request: &Request<'_>) -> Result<u8, Fault> {
-    match &request.task {
-        Task::Keep { inputs, outputs } => keeping::keep(rt, request, inputs, outputs),
-        Task::Hand(term) => handing::hand(rt, request, *term),
+/// Tells a fault with the name of its file, and gives the status that the program ends with.
+fn refuse<H: Host>(rt: &H, fault: Fault, name: &str) -> u8 {
+    tell(rt, &fault, name);
+    fault.status()
+}
+
+fn keep_and_tell<H: Host>(rt: &H, words: &KeeperWords<'_>) -> u8 {
+    match keep(rt, words) {
+        Ok(status) => status,
+        Err(fault) => match fault.file() {
+            Some(file) => refuse(rt, fault, name_of_keeper(words, file)),
+            None => refuse(rt, fault, ""),
+        },
+    }
+}
+
+fn hand_and_tell<H: Host>(rt: &H, words: &HandWords<'_>) -> u8 {
+    match hand(rt, words) {
+        Ok(status) => status,
+        Err(fault) => match fault.file() {
+            Some(file) => refuse(rt, fault, name_of_hand(words, file)),
+            None => refuse(rt, fault, ""),
+        },
     }
 }
 
 /// Does what is asked for, tells a fault, and gives the status that the program ends with.
-fn run_and_tell<H: Host>(rt: &H, request: &Request<'_>) -> u8 {
-    match run(rt, request) {
-        Ok(status) => status,
-        Err(fault) => {
-            let name = match fault.file() {
-                Some(file) => request.name(file),
-                None => "",
-            };
-            tell(rt, &fault, name);
-            fault.status()
-        }
+fn run<H: Host>(rt: &H, task: &Task<'_>) -> u8 {
+    match task {
+        Task::Keeper(words) => keep_and_tell(rt, words),
+        Task::Hand(words) => hand_and_tell(rt, words),
+        Task::Primary(words) => lead(rt, words),
+        Task::Client(words) => ask(rt, words),
     }
-}
-
-/// Tells that there is no request.
-fn refuse<H: Host>(rt: &H, fault: Fault) -> u8 {
-    tell(rt, &fault, "");
-    fault.status()
 }
 
 fn fault_of(error: &io::Error) -> Fault {
@@ -63,9 +75,9 @@ fn fault_of(error: &io::Error) -> Fault {
 }
 
 fn command<H: Host>(rt: &H, words: &[String]) -> u8 {
-    match read_words(rt.alloc(), words) {
-        Ok(request) => run_and_tell(rt, &request),
-        Err(fault) => refuse(rt, fault),
+    match read_task(rt.alloc(), words) {
+        Ok(task) => run(rt, &task),
+        Err(none) => refuse(rt, Fault::from(none), ""),
     }
 }
 
@@ -73,7 +85,7 @@ fn command<H: Host>(rt: &H, words: &[String]) -> u8 {
 fn status<H: Host>(rt: &H, words: io::Result<Vec<String>>) -> u8 {
     match words {
         Ok(words) => command(rt, &words),
-        Err(error) => refuse(rt, fault_of(&error)),
+        Err(error) => refuse(rt, fault_of(&error), ""),
     }
 }
 

@@ -2,7 +2,7 @@
 
 use crate::events::{Event, Sender, send};
 use crate::faults::{Fault, NamedFile};
-use crate::host::{Host, Paths};
+use ends::{Host, Paths};
 use ft_types::{Guest, Keeper};
 use std::alloc::Global;
 use std::fs::File;

@@ -172,6 +172,24 @@ impl Asker {
         heard
     }
 
+    /// How many words it has, each of which has an answer or none.
+    pub fn words(&self) -> usize
+        ensures words { result ≡ length self.now.words }
+        ensures answers { result ≡ length self.now.answers }
+    {
+        self.words.len()
+    }
+
+    /// What was heard of the word of this number.
+    pub fn answer(&self, number: usize) -> Option<u32>
+        ensures { result ≡ had self.now number }
+    {
+        match self.answers.get(number) {
+            Some(answer) => *answer,
+            None => None,
+        }
+    }
+
     /// Whether each word has its answer.
     pub fn is_done(&self) -> bool
         ensures { IsTrue result ↔ (first_open self.now.answers ≡ length self.now.words) }

@@ -1,10 +1,11 @@
-//! What the program asks of the system.
+//! What the programs ask of the system.
 
 use std::fs::{File, OpenOptions};
-use std::io;
 use std::io::{Eprint, Print};
 use std::sync::Wait;
 use std::thread::Threads;
+use std::time::Clock;
+use std::{fs, io};
 
 /// What opens files by name. The threads of inputs and outputs have it too, which `Files` with its folders does not allow.
 pub trait Paths {
@@ -16,6 +17,9 @@ pub trait Paths {
 
     /// Opens a file to which is added, and makes it where it is not there.
     fn make_to_add(&self, path: &str) -> io::Result<File>;
+
+    /// Removes a file.
+    fn remove(&self, path: &str) -> io::Result<()>;
 }
 
 impl Paths for HostRuntime {
@@ -33,9 +37,23 @@ impl Paths for HostRuntime {
             .create(true)
             .open(self, path)
     }
+
+    fn remove(&self, path: &str) -> io::Result<()> {
+        fs::remove_file(self, path)
+    }
 }
 
-/// Files, standard output and standard error, waiting and threads.
-pub trait Host: Paths + AllocGlobal + Print + Eprint + Wait + Threads + Copy + Send + 'static {}
+/// Files, the clock, standard output and standard error, waiting and threads.
+pub trait Host: Paths
+    + AllocGlobal
+    + Clock
+    + Print
+    + Eprint
+    + Wait
+    + Threads
+    + Copy
+    + Send
+    + 'static {}
 
-impl<R: Paths + AllocGlobal + Print + Eprint + Wait + Threads + Copy + Send + 'static> Host for R {}
+impl<R: Paths + AllocGlobal + Clock + Print + Eprint + Wait + Threads + Copy + Send + 'static> Host
+    for R {}

@@ -1,0 +1,53 @@
+//! What the threads of inputs and outputs tell the one that decides.
+
+use std::alloc::{AllocError, Global};
+use std::sync::Wait;
+use wire::Line;
+
+/// What a process can't go on with.
+#[derive(Clone, Copy, Debug, PartialEq, Eq)]
+pub enum Trouble {
+    /// The input with this number can't be opened or read.
+    Input(usize),
+    /// The output with this number can't be opened or written.
+    Output(usize),
+    /// A growth was refused.
+    Memory,
+}
+
+/// What came of an input or an output.
+#[derive(Drop)]
+pub enum Event {
+    /// The input with this number brought a line, which stands here without its line feed.
+    Line(usize, Line),
+    /// An input is at its end, for good.
+    Ended,
+    /// The process can't go on.
+    Failed(Trouble),
+}
+
+/// Where threads leave events.
+pub type Sender = crossbeam_channel::Sender<Event, Global>;
+
+/// Where the thread that decides takes them.
+pub type Receiver = crossbeam_channel::Receiver<Event, Global>;
+
+/// How many events wait at the most. Whoever has one more waits for room.
+const ROOM: usize = 512;
+
+/// Both ends of a row of events.
+pub fn row(alloc: Global) -> Result<(Sender, Receiver), AllocError> {
+    crossbeam_channel::bounded(alloc, ROOM)
+}
+
+/// Whoever takes the events is gone.
+#[derive(Clone, Copy, Debug, PartialEq, Eq)]
+pub(crate) struct Gone;
+
+/// Sends an event.
+pub(crate) fn send<R: Wait>(rt: &R, to: &Sender, event: Event) -> Result<(), Gone> {
+    match to.send(rt, event) {
+        Ok(()) => Ok(()),
+        Err(_) => Err(Gone),
+    }
+}

@@ -1,0 +1,55 @@
+//! Files that are read whole, and their names.
+
+use crate::host::Paths;
+use std::fmt::{Display, Formatter};
+use std::fs::File;
+use std::io::Read;
+use std::os::unix::fs::FileTypeExt;
+use std::path::Path;
+use std::{fmt, io};
+
+/// The bytes of a file.
+pub fn read_file<R: Paths + AllocGlobal>(rt: &R, name: &str) -> io::Result<Vec<u8>> {
+    let mut bytes = Vec::new(rt.alloc());
+    rt.open(name)?.read_to_end(&mut bytes)?;
+    Ok(bytes)
+}
+
+/// Brings the folder of a file to disk, and with it whether the file is there.
+pub fn sync_folder<R: Paths + AllocGlobal>(rt: &R, name: &str) -> io::Result<()> {
+    let folder = match Path::new(name).parent() {
+        Some(folder) if !folder.as_str().is_empty() => folder.as_str(),
+        _ => ".",
+    };
+    rt.open(folder)?.sync_all()
+}
+
+/// Removes a file, and brings that to disk.
+pub fn remove_file<R: Paths + AllocGlobal>(rt: &R, name: &str) -> io::Result<()> {
+    rt.remove(name)?;
+    sync_folder(rt, name)
+}
+
+/// Whether a file is a FIFO, whose other end may come again.
+pub fn is_fifo(file: &File) -> bool {
+    match file.metadata() {
+        Ok(metadata) => metadata.file_type().is_fifo(),
+        Err(_) => false,
+    }
+}
+
+/// The name of a file, which is told so that it stays in its line: a line feed is written as `\n`.
+#[derive(Clone, Copy)]
+pub struct FileName<'a>(pub &'a str);
+
+impl Display for FileName<'_> {
+    fn fmt<W: fmt::Write>(&self, f: &mut Formatter<W>) -> fmt::Result {
+        for c in self.0.chars() {
+            match c {
+                '\n' => f.write_str("\\n")?,
+                c => f.write_char(c)?,
+            }
+        }
+        Ok(())
+    }
+}

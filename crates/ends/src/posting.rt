@@ -1,0 +1,214 @@
+//! A thread for each output: it opens the path and writes the pieces that are left for it. Where nobody reads any more it opens the path again.
+
+use crate::events::{Event, Sender as EventSender, Trouble, send};
+use crate::host::{Host, Paths};
+use crossbeam_channel::{Receiver, Sender, bounded, unbounded};
+use ft_types::Memory;
+use std::alloc::{AllocError, Global};
+use std::fs::File;
+use std::io::Write;
+use std::sync::{Arc, Wait};
+use std::thread::{JoinHandle, Threads};
+use std::time::{Clock, Duration};
+use std::{io, thread};
+
+/// Bytes that are written to some outputs.
+pub type Piece = Arc<Vec<u8>, Global>;
+
+/// How many milliseconds a connection that is to begin anew is closed, so that whoever reads sees its end.
+const GAP: u64 = 100;
+
+/// How many pieces wait for an output that keeps the last one, at the most.
+const ROOM: usize = 512;
+
+/// With what of the pieces before a new connection begins.
+#[derive(Clone, Copy, Debug, PartialEq, Eq)]
+pub enum Keeps {
+    /// With all: whoever reads gets each piece in one connection. Pieces wait for a reader that is slow.
+    All,
+    /// With the last one. A piece for which there is no room is left out, so that nobody waits for a reader that is slow.
+    Last,
+}
+
+/// What an output is to do.
+#[derive(Drop)]
+enum Order {
+    Write(Piece),
+    /// Begin the connection anew.
+    BeginAnew,
+}
+
+/// How a connection ended.
+#[derive(Clone, Copy)]
+enum End {
+    /// Nobody reads any more.
+    Left,
+    /// It is to begin anew.
+    Anew,
+    /// All is written.
+    Done,
+    /// Writing failed.
+    Failed,
+    /// A growth was refused.
+    Memory,
+}
+
+impl From<AllocError> for End {
+    fn from(_e: AllocError) -> End {
+        End::Memory
+    }
+}
+
+/// An output.
+#[derive(Drop)]
+struct Output {
+    number: usize,
+    path: String,
+    keeps: Keeps,
+    orders: Receiver<Order, Global>,
+    to: EventSender,
+}
+
+fn write(file: &mut File, piece: &Piece) -> Result<(), End> {
+    match file.write_all(piece.as_slice()) {
+        Ok(()) => Ok(()),
+        Err(error) if error.kind() == io::ErrorKind::BrokenPipe => Err(End::Left),
+        Err(_) => Err(End::Failed),
+    }
+}
+
+fn write_kept(file: &mut File, kept: &[Piece]) -> Result<(), End> {
+    for piece in kept {
+        write(file, piece)?;
+    }
+    Ok(())
+}
+
+impl Output {
+    /// Keeps a piece, and writes it.
+    fn take(&self, file: &mut File, kept: &mut Vec<Piece>, piece: Piece) -> Result<(), End> {
+        let same = Arc::try_clone(&piece)?;
+        if let Keeps::Last = self.keeps {
+            kept.clear();
+        }
+        if kept.push(same).is_err() {
+            return Err(End::Memory);
+        }
+        write(file, &piece)
+    }
+
+    /// One connection, which begins with what is kept.
+    fn serve<R: Wait>(&self, rt: &R, file: &mut File, kept: &mut Vec<Piece>) -> Result<(), End> {
+        write_kept(file, kept)?;
+        for _ in rt.forever() {
+            match self.orders.recv(rt) {
+                Ok(Order::Write(piece)) => self.take(file, kept, piece)?,
+                Ok(Order::BeginAnew) => return Err(End::Anew),
+                Err(_) => return Err(End::Done),
+            }
+        }
+        Ok(())
+    }
+
+    fn fail<R: Wait>(&self, rt: &R, trouble: Trouble) {
+        let _told = send(rt, &self.to, Event::Failed(trouble));
+    }
+
+    /// One connection behind the other.
+    fn run<R: Paths + AllocGlobal + Clock + Wait>(&self, rt: &R) {
+        let mut kept = Vec::new(rt.alloc());
+        for _ in rt.forever() {
+            let Ok(mut file) = rt.open_to_add(self.path.as_str()) else {
+                return self.fail(rt, Trouble::Output(self.number));
+            };
+            let end = self.serve(rt, &mut file, &mut kept);
+            drop(file);
+            match end {
+                Ok(()) | Err(End::Done) => return,
+                Err(End::Left) => {}
+                Err(End::Anew) => {
+                    let _slept = thread::sleep(rt, Duration::from_millis(GAP));
+                }
+                Err(End::Failed) => return self.fail(rt, Trouble::Output(self.number)),
+                Err(End::Memory) => return self.fail(rt, Trouble::Memory),
+            }
+        }
+    }
+}
+
+/// An output, for the thread that decides.
+#[derive(Drop)]
+pub struct Post {
+    keeps: Keeps,
+    to: Sender<Order, Global>,
+    thread: JoinHandle<()>,
+}
+
+impl Post {
+    /// Has a piece written.
+    pub fn leave<R: Wait>(&self, rt: &R, piece: &Piece) -> Result<(), Memory> {
+        let order = Order::Write(Arc::try_clone(piece)?);
+        match self.keeps {
+            Keeps::All => {
+                let _left = self.to.send(rt, order);
+            }
+            Keeps::Last => {
+                let _left = self.to.try_send(rt, order);
+            }
+        }
+        Ok(())
+    }
+
+    /// Has the connection begin anew.
+    pub fn begin_anew<R: Wait>(&self, rt: &R) {
+        let _left = self.to.send(rt, Order::BeginAnew);
+    }
+
+    /// Waits until all is written.
+    pub fn end<R: Wait + Threads>(self, rt: &R) {
+        let Post {
+            keeps: _,
+            to,
+            thread,
+        } = self;
+        drop(to);
+        thread.join(rt);
+    }
+}
+
+fn orders(
+    alloc: Global,
+    keeps: Keeps,
+) -> Result<(Sender<Order, Global>, Receiver<Order, Global>), AllocError> {
+    match keeps {
+        Keeps::All => unbounded(alloc),
+        Keeps::Last => bounded(alloc, ROOM),
+    }
+}
+
+/// Starts a thread that writes to the output with this number.
+pub fn begin_post<H: Host>(
+    rt: &H,
+    number: usize,
+    path: &str,
+    keeps: Keeps,
+    to: &EventSender,
+) -> Result<Post, Memory> {
+    let own = *rt;
+    let (left, orders) = orders(rt.alloc(), keeps)?;
+    let output = Output {
+        number,
+        path: String::from_str(rt.alloc(), path)?,
+        keeps,
+        orders,
+        to: to.clone()?,
+    };
+    match thread::spawn(rt, move || output.run(&own)) {
+        Ok(thread) => Ok(Post {
+            keeps,
+            to: left,
+            thread,
+        }),
+        Err(_) => Err(Memory),
+    }
+}

@@ -1,0 +1,17 @@
+pub mod Gathering
+pub mod Lines
+pub mod Saying
+pub mod Outset
+pub mod Offering
+pub mod Onward
+pub mod Led
+pub mod Queueing
+pub mod Handing
+pub mod Noting
+pub mod Beginning
+pub mod Hearing
+pub mod Within
+pub mod Sound
+pub mod Alone
+pub mod Releasing
+pub mod Round

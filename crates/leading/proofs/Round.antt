@@ -1,0 +1,94 @@
+-- The parts of a primary fit together all through a round.
+use Rattle.std.proofs.Common.{◌≡◌, ◌≤◌, ℕ, List, length, sym, ap, subst, ◌∙◌, arith}
+use Rattle.ft_types.specs.Counts.{count_at}
+use Rattle.guest_image.specs.Machine.{MachineState}
+use Rattle.hart_lease.specs.Runs.{counts_of}
+use Rattle.book_modes.specs.Recordings.{RecordingView}
+use Rattle.page_book.specs.Books.{BookView}
+use Rattle.fragment_codec.specs.declared.frame.Frame.{Frame}
+use Rattle.fragment_codec.specs.Rules.{OpeningParts}
+use Rattle.log_pieces.specs.Pieces.{SealedView, IsCut, book_log}
+use Rattle.lease_rounds.specs.Running.{IsIdle}
+use Rattle.lease_rounds.specs.Steps.{AreWithin}
+use Rattle.lease_rounds.specs.SoFar.{HasRun}
+use Rattle.term_gate.specs.TermGates.{TermGateView}
+use Rattle.primary.specs.declared.granted.Primary.{Primary}
+use Rattle.primary.specs.Primaries.{GoesOn}
+use Rattle.primary.specs.Gating.{AreOffered, AreAllOffered, OffersMore}
+use Rattle.primary.proofs.Waiting.{all_stay}
+use Rattle.requests.specs.Queues.{QueueView}
+use Rattle.leading.specs.Leaders.{IsSound}
+use Rattle.leading.specs.Rounds.{HasGoneOn, LeadsOn}
+use Rattle.leading.proofs.Offering.{offered_later}
+use Rattle.leading.proofs.Onward.{as_many, book_later, leads_of, leads_further}
+use Rattle.leading.proofs.Saying.{AreLater}
+use Rattle.leading.proofs.Sound.{sound_gate, sound_queues, sound_book}
+use Rattle.leading.proofs.Within.{cut_within}
+
+module _ (p q : Primary) (g : TermGateView) (queues : List QueueView) (s : IsSound p g queues) (handed : GoesOn p.book q.book)
+    (rest : q ≡ record p { book = record p.book { mode = q.book.mode } }) (limits : q.book.mode.limits ≡ p.book.mode.limits) where
+  machine : q.book.machine ≡ p.book.machine
+  machine = ap (λ (x : Primary). x.book.machine) rest
+
+  pub idle : IsIdle q.book
+  idle = ap (λ (x : Primary). x.book.leases) rest ∙ s.idle
+
+  pub within : AreWithin q.book
+  within hart =
+      let low = s.within hart in
+      let same = ap (λ (m : MachineState). counts_of m hart) machine in
+      let far = ap (λ (row : List ℕ). count_at row hart) limits in
+      omega (arith, low, same, far)
+
+  -- and then the book went on
+  module _ (steps : ℕ) (r : Primary) (on : HasGoneOn steps q.book r.book) (first : HasRun p.book) (second : HasRun r.book) (opening : r.opening ≡ q.opening)
+      (sealed : r.sealed ≡ q.sealed) where
+    pub whole : LeadsOn p.book r.book
+    whole = leads_further p.book q.book r.book (leads_of p.book q.book handed) on.on
+
+    pub later : AreLater p.book.machine r.book.machine
+    later = book_later p.book r.book whole first second
+
+    pub offered : AreOffered g.gate r.book.machine
+    offered = offered_later g.gate p.book.machine r.book.machine later s.offered
+
+    pub same_opening : r.opening ≡ p.opening
+    same_opening = opening ∙ ap (λ (x : Primary). x.opening) rest
+
+    pub same_sealed : r.sealed ≡ p.sealed
+    same_sealed = sealed ∙ ap (λ (x : Primary). x.sealed) rest
+
+    harts_of_guest : p.opening.guest.harts ≡ r.opening.guest.harts
+    harts_of_guest = ap (λ (o : OpeningParts). o.guest.harts) (sym same_opening)
+
+    pub harts : length r.book.machine.harts ≡ r.opening.guest.harts
+    harts = as_many p.book r.book whole first second ∙ s.harts ∙ sym s.guest ∙ harts_of_guest
+
+    pub reached : length r.sealed.reached ≡ r.opening.guest.harts
+    reached = ap (λ (x : SealedView). length x.reached) same_sealed ∙ s.reached ∙ sym s.guest ∙ harts_of_guest
+
+    pub behind : (hart : ℕ) → count_at r.sealed.reached hart ≤ counts_of r.book.machine hart
+    behind hart =
+        let low = s.behind hart in
+        let same = ap (λ (x : SealedView). count_at x.reached hart) same_sealed in
+        let up = (later hart).counts in
+        omega (arith, low, same, up)
+
+    -- and what is new of it was cut
+    pub sound : (t : Primary) (h : TermGateView) (new : List QueueView) (frames : List Frame) → t ≡ record r { sealed = t.sealed } →
+        IsCut (book_log r.opening.guest r.opening.term r.book) r.opening.guest.harts r.sealed frames t.sealed → OffersMore g h →
+        AreAllOffered h.gate r.book.machine → length new ≡ length queues → IsSound t h new
+    sound t h new frames only cut more all many =
+        let book : t.book ≡ r.book = ap (λ (x : Primary). x.book) only in
+        let same : t.book.machine ≡ r.book.machine = ap (λ (x : BookView RecordingView). x.machine) book in
+        sound_queues t h queues new many
+        (sound_gate t g h queues (ap (λ (x : TermGateView). x.harts) more.rest) (ap (λ (x : TermGateView). x.gate.term) more.rest)
+        (subst (AreOffered h.gate) (sym same) (all_stay h.gate r.book.machine all))
+        (sound_book p t g queues (ap (λ (x : Primary). x.opening) only ∙ same_opening)
+        (ap (λ (m : MachineState). length m.harts) same ∙ as_many p.book r.book whole first second)
+        (cut.same_harts ∙ ap (λ (x : SealedView). length x.reached) same_sealed) (subst IsIdle (sym book) on.idle) (subst AreWithin (sym book) on.within)
+        (subst (AreLater p.book.machine) (sym same) later)
+        (λ hart.
+        let low = cut_within r.opening.guest r.opening.term r.book r.sealed frames t.sealed behind cut hart in
+        let is = ap (λ (m : MachineState). counts_of m hart) same in
+        omega (arith, low, is)) s))

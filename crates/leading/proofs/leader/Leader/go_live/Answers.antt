@@ -1,0 +1,20 @@
+use Rattle.std.proofs.Common.{◌≡◌, length, ap, subst, ◌∙◌}
+use Rattle.guest_image.specs.Machine.{MachineState}
+use Rattle.book_modes.specs.Recordings.{RecordingView}
+use Rattle.page_book.specs.Books.{BookView}
+use Rattle.leading.specs.Leaders.{BeginBehind}
+use Rattle.leading.proofs.Beginning.{begins_sound}
+use Rattle.leading.proofs.leader.Leader.go_live.Goals as goal
+
+pub invariant_of-leader : goal.invariant_of-leader
+invariant_of-leader c = (
+  begins_sound c.args.image.now c.args.quorum c.args.term c.args.given.now c.in_ok-primary.primary c.in_ok-primary.gate c.in-Ok.queues.items
+      c.in_ok-primary.ensures.goes (c.in-Ok.ensures.harts ∙ ap (λ (m : MachineState). length m.harts) c.machine.ensures.value),
+  c.in_ok-primary.ensures.goes.gate.of_keepers,
+  c.in_ok-primary.ensures.marks,
+)
+
+pub returns-clause-queues : goal.returns-clause-queues
+returns-clause-queues c =
+    subst (λ (m : MachineState). BeginBehind m c.in-Ok.queues.items)
+    (c.machine.ensures.value ∙ ap (λ (b : BookView RecordingView). b.machine) c.in_ok-primary.ensures.goes.begins) c.in-Ok.ensures.behind

@@ -1,0 +1,62 @@
+use Rattle.std.proofs.Common.{◌≡◌, sym, ap, subst, ◌∙◌}
+use Rattle.guest_image.specs.Machine.{MachineState}
+use Rattle.book_modes.specs.Recordings.{RecordingView}
+use Rattle.page_book.specs.Books.{BookView}
+use Rattle.term_gate.specs.TermGates.{TermGateView}
+use Rattle.primary.specs.declared.granted.Primary.{Primary}
+use Rattle.primary.specs.Gating.{AreOffered, AreAllOffered}
+use Rattle.leading.specs.Leaders.{LeaderView}
+use Rattle.leading.specs.Rounds.{HasGoneOn, IsRound}
+use Rattle.leading.proofs.Round.{offered, sound}
+use Rattle.leading.proofs.leader.Leader.round.Goals as goal
+
+pub offer_all-requires : goal.offer_all-requires
+offer_all-requires c =
+    let s = c.self.invariant.0 in
+    let given = c.in_ok-hand_all.ensures in
+    let led = c.in_ok-led.ensures in
+    subst (λ (m : MachineState). AreOffered c.self.inside.gate.gate m) (sym c.machine.ensures.value)
+    (offered c.self.inside.primary c.hand_all.new.primary c.self.inside.gate c.self.inside.queues.items s given.goes_on given.rest given.limits
+    c.args.steps c.in_ok-led.led led.on c.has_run.ensures c.has_run-2.ensures led.opening led.sealed)
+
+pub invariant_of-leader : goal.invariant_of-leader
+invariant_of-leader c =
+    let given = c.in_ok-hand_all.ensures in
+    let led = c.in_ok-led.ensures in
+    let h = c.offer_all.new.gate in
+    let cut = c.in_ok-seal.ensures.cut in
+    let more = c.in_ok-offer_all.ensures.more in
+    let all = subst (λ (m : MachineState). AreAllOffered h.gate m) c.machine.ensures.value c.in_ok-offer_all.ensures.all in (
+      sound c.self.inside.primary c.hand_all.new.primary c.self.inside.gate c.self.inside.queues.items c.self.invariant.0 given.goes_on given.rest
+          given.limits c.args.steps c.in_ok-led.led led.on c.has_run.ensures c.has_run-2.ensures led.opening led.sealed c.seal.new.self h
+          c.hand_all.new.queues.items cut.0 c.in_ok-seal.ensures.rest cut.1 more all given.many,
+      ap (λ (x : TermGateView). x.gate.keepers) more.rest ∙ c.self.invariant.1,
+      λ hart. (more.lines hart).mark ∙ c.self.invariant.2 hart,
+    )
+
+pub returns-clause-round : goal.returns-clause-round
+returns-clause-round c =
+    let given = c.in_ok-hand_all.ensures in
+    let old : LeaderView = record {
+      primary = c.self.inside.primary;
+      gate = c.self.inside.gate;
+      queues = c.self.inside.queues.items;
+      released = c.self.inside.released.items;
+    } in
+    let new : LeaderView = record {
+      primary = c.seal.new.self;
+      gate = c.offer_all.new.gate;
+      queues = c.hand_all.new.queues.items;
+      released = c.self.inside.released.items;
+    } in
+    let q = c.hand_all.new.primary.book in
+    subst (λ (o : LeaderView). IsRound c.args.steps o new) c.self.view_is
+    (record {
+      given = q;
+      handed = given.goes_on;
+      book = ap (λ (x : Primary). x.book) given.rest
+          ∙ ap (λ (m : RecordingView). let x : BookView RecordingView = record c.self.inside.primary.book { mode = m } in x) given.waiting;
+      bells = given.bells;
+      hands = given.hands;
+      on = subst (λ (b : BookView RecordingView). HasGoneOn c.args.steps q b) (sym (ap (λ (x : Primary). x.book) c.in_ok-seal.ensures.rest)) c.in_ok-led.ensures.on;
+    })

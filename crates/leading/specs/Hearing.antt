@@ -1,0 +1,72 @@
+-- What a primary hears.
+use Rattle.std.specs.Prelude.{◌≡◌, ◌≤◌, ◌<◌, ◌⊎◌, ℕ, List, [], Option, length, slice_index, slice_set}
+use Rattle.interleaving.specs.Lists.{Each}
+use Rattle.input_log.specs.declared.Input.TheVariants.{Timer as TimerInput, Word as WordInput}
+use Rattle.book_modes.specs.Recordings.{HasRoomed}
+use Rattle.output_gate.specs.Gates.{mark_at}
+use Rattle.term_gate.specs.TermGates.{TermGateView, acked_at}
+use Rattle.primary.specs.Gating.{LetGo, IsAsItWas}
+use Rattle.primary.specs.Noting.{NotesAll}
+use Rattle.wire.specs.declared.acknowledgements.Acknowledgement.{Acknowledgement}
+use Rattle.wire.specs.declared.answers.Answer.{Answer}
+use Rattle.wire.specs.declared.requests.Request.{Request}
+use Rattle.wire.specs.declared.requests.Request.TheVariants.{Timer, Word, From}
+use Rattle.requests.specs.Numbered.{came_of}
+use Rattle.requests.specs.Queues.{QueueView, came, with_input}
+use Rattle.requests.specs.declared.queue.Came.{Came}
+use Rattle.requests.specs.declared.queue.Came.TheVariants.{Taken}
+use Rattle.leading.specs.Telling.{IsOut, told_again}
+use Rattle.leading.specs.Leaders.{LeaderView, queue_at}
+
+-- ---- requests
+
+-- with another queue for a hart, where it is there
+abbrev pub with_queue : LeaderView → ℕ → QueueView → LeaderView
+with_queue leader hart queue = record leader { queues = slice_set leader.queues hart queue }
+
+-- the queue, once this became of a word
+abbrev pub put_as : QueueView → ℕ → Came → QueueView
+put_as queue word Taken = with_input queue (WordInput word)
+put_as queue word came = queue
+
+-- the queue, once a word was asked for by this number, or by none
+abbrev pub put_word : QueueView → ℕ → Option ℕ → QueueView
+put_word queue word number = put_as queue word (came_of (came queue) number)
+
+-- what a request does, and what is told at once
+abbrev pub Hears : LeaderView → Request → LeaderView → List Answer → Type 0
+Hears old (Timer hart) new answers = (answers ≡ []) × (new ≡ with_queue old hart (with_input (queue_at old.queues hart) TimerInput))
+Hears old (Word hart word number) new answers = (answers ≡ []) × (new ≡ with_queue old hart (put_word (queue_at old.queues hart) word number))
+Hears old (From hart number) new answers =
+    (answers ≡ told_again old.primary.opening.term old.primary.book.machine (mark_at old.gate.gate hart) old.released hart number) × (new ≡ old)
+
+-- ---- acknowledgements
+
+-- it is of the gate's term, of one of its keepers and of all harts, and below none of what its keeper acknowledged
+pub record IsCounted (g : TermGateView) (a : Acknowledgement) : Type 0 where
+  pub term : a.term ≡ g.gate.term
+  pub keeper : a.keeper < g.gate.keepers
+  pub harts : length a.counts ≡ g.harts
+  pub no_lower : (hart : ℕ) → hart < g.harts → acked_at g a.keeper hart ≤ slice_index a.counts hart
+
+-- it is what its keeper acknowledged now, where it counts, and else changes nothing
+abbrev pub Notes : TermGateView → Acknowledgement → TermGateView → Type 0
+Notes g a h = (IsCounted g a × (h ≡ record g { acked = slice_set g.acked a.keeper a.counts })) ⊎ ((IsCounted g a → ⊥) × (h ≡ g))
+
+-- All outputs of the machine were offered at this gate, those went out that waited and whose step enough keepers acknowledged in the
+-- term, and the book notes that they did.
+pub record LetsGo (old : LeaderView) (noted : TermGateView) (new : LeaderView) : Type 0 where
+  pub lets : LetGo old.primary.opening.term old.primary.book.machine noted old.released new.gate new.released
+  pub out : Each (IsOut old.primary.book.machine new.gate.gate) lets.given
+  pub notes : NotesAll lets.given old.primary.book new.primary.book
+
+-- nothing went out and nothing is noted; more may have been offered, and room made
+pub record LetsNothingGo (old : LeaderView) (noted : TermGateView) (new : LeaderView) : Type 0 where
+  pub gate : IsAsItWas noted new.gate
+  pub room : HasRoomed old.primary.book.mode new.primary.book.mode
+  pub book : new.primary.book ≡ record old.primary.book { mode = new.primary.book.mode }
+  pub released : new.released ≡ old.released
+
+-- once the acknowledgement was noted
+abbrev pub WithNoted : LeaderView → Acknowledgement → (TermGateView → Type 0) → Type 0
+WithNoted old a P = (noted : TermGateView) × Notes old.gate a noted × P noted

@@ -1,0 +1,6 @@
+pub mod Handed
+pub mod Telling
+pub mod Leaders
+pub mod Beginning
+pub mod Hearing
+pub mod Rounds

@@ -1,0 +1,320 @@
+//! A primary of a term that leads.
+
+ghost use Rattle.std.specs.Prelude.{◌≡◌, ℕ, [], true, None, Some, Ok, length, slice_get, IfOk, IfErr, OnOk, OnErr};
+ghost use Rattle.ft_types.specs.Counts.{count_at};
+ghost use Rattle.hart_lease.specs.Runs.{counts_of};
+ghost use Rattle.rv32_hart.specs.Hart.{Hart as HartRecord};
+ghost use Rattle.fragment_codec.specs.declared.frame.Frame.TheVariants.{Opening as OpeningFrame};
+ghost use Rattle.lease_rounds.specs.Running.{KeepsOffered};
+ghost use Rattle.log_pieces.specs.Pieces.{IsCut, book_log};
+ghost use Rattle.output_gate.specs.Gates.{kept_count, mark_at};
+ghost use Rattle.input_log.specs.declared.Input.TheVariants.{Timer as TimerInput};
+ghost use Rattle.primary.specs.Gating.{AreAllOffered, OffersMore};
+ghost use Rattle.primary.specs.Primaries.{GoesOn};
+ghost use Rattle.requests.specs.Queues.{with_input};
+ghost use Rattle.leading.specs.Beginning.{GoesLive, CannotGoLive};
+ghost use Rattle.leading.specs.Hearing.{Hears, LetsGo, LetsNothingGo, Notes, WithNoted, put_word, with_queue};
+ghost use Rattle.leading.specs.Leaders.{BeginBehind, queue_at};
+ghost use Rattle.leading.specs.Rounds.{IsRound, next_of};
+ghost use Rattle.leading.specs.Telling.{told_again};
+
+use crate::inputs::{hand_all, has_input, queues_of};
+use crate::rounds::go_on;
+use crate::starting::started;
+use crate::telling::tell_again;
+use crate::waiting::only_waits;
+use fenced_keeper::Given;
+use fenced_live::GivenFault;
+use fragment_codec::Frame;
+use ft_types::{Count, Counts, Hart, Memory, Position, Quorum, Term};
+use go_live::LiveFault;
+use guest_image::{Image, Machine};
+use lease_rounds::has_run;
+use primary::{Primary, Released, offer_all, tell_primary};
+use requests::{Came, Queue};
+use std::alloc::Global;
+use std::marker::Model;
+use std::result::Result;
+use term_gate::TermGate;
+use wire::{Acknowledgement, Answer, Request};
+
+/// A primary of a term, with the gate of its term, the inputs that wait, and what went out.
+pub struct Leader {
+    primary: Primary,
+    gate: TermGate,
+    /// The inputs that wait for each hart.
+    queues: Vec<Queue>,
+    /// The outputs that went out.
+    released: Vec<Released>,
+    /// How many keepers there are, and how many must hold an output.
+    quorum: Quorum,
+    /// For each hart the number below which its outputs are known to be out.
+    marks: Counts,
+}
+
+impl Drop for Leader {
+    fn drop(self) {
+        let Leader {
+            primary: _,
+            gate: _,
+            queues: _,
+            released: _,
+            quorum: _,
+            marks: _,
+        } = self;
+    }
+}
+
+impl Model for Leader {
+    ghost use Rattle.std.specs.Prelude.{◌≡◌, ℕ};
+    ghost use Rattle.ft_types.specs.Counts.{count_at};
+    ghost use Rattle.output_gate.specs.Gates.{mark_at};
+    ghost use Rattle.leading.specs.Leaders.{LeaderView, IsSound};
+
+    ghost Value = { LeaderView };
+
+    ghost view = { λ l. record { primary = l.primary; gate = l.gate; queues = l.queues.items; released = l.released.items } };
+
+    ghost invariant = { λ l. IsSound l.primary l.gate l.queues.items × (l.gate.gate.keepers ≡ l.quorum.keepers)
+        × ((hart : ℕ) → mark_at l.gate.gate hart ≡ count_at l.marks hart) };
+}
+
+impl Leader {
+    /// The primary of a new term, from stores that were given to it, and the frame by which the term begins, which is sent to the
+    /// keepers before all others.
+    pub fn go_live(
+        alloc: Global,
+        image: &Image,
+        given: &[Given<'_>],
+        quorum: Quorum,
+        term: Term,
+    ) -> Result<(Leader, Frame), GivenFault>
+        ensures live { IfOk result (λ r. GoesLive image.now quorum term given.now r.0.primary r.0.gate) }
+        ensures opening { IfOk result (λ r. r.1 ≡ OpeningFrame r.0.primary.opening) }
+        ensures queues { IfOk result (λ r. BeginBehind r.0.primary.book.start r.0.queues) }
+        ensures released { IfOk result (λ r. r.0.released ≡ []) }
+        ensures refused { IfErr result (λ fault. CannotGoLive image.now quorum term given.now fault) }
+    {
+        let (primary, gate, marks) = started(alloc, image, given, quorum, term)?;
+        let Ok(queues) = queues_of(alloc, primary.book.machine()) else {
+            return Err(GivenFault::Live(LiveFault::Memory));
+        };
+        let opening = primary.opening.copy();
+        let leader = Leader {
+            primary,
+            gate,
+            queues,
+            released: Vec::new(alloc),
+            quorum,
+            marks,
+        };
+        Ok((leader, Frame::Opening(opening)))
+    }
+
+    /// The term.
+    pub fn term(&self) -> Term
+        ensures { result ≡ self.now.primary.opening.term }
+    {
+        self.primary.opening.term()
+    }
+
+    /// The machine.
+    pub fn machine(&self) -> &Machine
+        ensures { result.now ≡ self.now.primary.book.machine }
+    {
+        self.primary.book.machine()
+    }
+
+    /// The counts of its harts.
+    pub fn counts(&self) -> Counts
+        ensures counts { (hart : ℕ) → count_at result hart ≡ counts_of self.now.primary.book.machine hart }
+        ensures harts { length result ≡ length self.now.primary.book.machine.harts }
+    {
+        self.primary.book.counts()
+    }
+
+    /// What went out, in its order.
+    pub fn released(&self) -> &[Released]
+        ensures { result.now ≡ self.now.released }
+    {
+        self.released.as_slice()
+    }
+
+    /// How many outputs were offered at the gate and did not go out there.
+    pub fn kept(&self) -> usize
+        ensures { result ≡ kept_count self.now.gate.gate.lines }
+    {
+        self.gate.kept()
+    }
+
+    /// Whether rounds would change nothing but counts until an input comes: no hart could be handed one, and all of them only wait, which
+    /// some steps of each show. It steers rounds alone.
+    pub fn only_waits(&mut self, alloc: Global) -> Result<bool, Memory>
+        ensures waits { result ≡ Ok true → (hart : ℕ) (h : HartRecord) → slice_get self.old.primary.book.machine.harts hart ≡ Some h →
+            next_of h (queue_at self.old.queues hart) ≡ None }
+        ensures on { GoesOn self.old.primary.book self.new.primary.book }
+        ensures offered { KeepsOffered self.old.primary.book self.new.primary.book }
+        ensures rest { self.new ≡ record self.old { primary = record self.old.primary { book = self.new.primary.book } } }
+    {
+        // proof: its log is honest, and its journal leads to its machine, before and after.
+        tell_primary(&self.primary.book);
+        has_run(&self.primary.book);
+        if has_input(self.primary.book.machine(), &self.queues) {
+            return Ok(false);
+        }
+        let waits = only_waits(alloc, &mut self.primary);
+        has_run(&self.primary.book);
+        waits
+    }
+
+    /// Takes a word that is asked for, where its hart is there.
+    fn take_word(&mut self, hart: Hart, word: u32, number: Option<Count>) -> Result<(), Memory>
+        ensures ok { OnOk result (self.new ≡ with_queue self.old hart (put_word (queue_at self.old.queues hart) word number)) }
+        ensures err { OnErr result (self.new ≡ self.old) }
+    {
+        if hart.index() >= self.queues.len() {
+            return Ok(());
+        }
+        let queue = &mut self.queues[hart.index()];
+        let _came: Came = queue.put_word(word, number)?;
+        Ok(())
+    }
+
+    /// Takes the timer's interrupt for a hart, where it is there.
+    fn take_timer(&mut self, hart: Hart) -> Result<(), Memory>
+        ensures ok { OnOk result (self.new ≡ with_queue self.old hart (with_input (queue_at self.old.queues hart) TimerInput)) }
+        ensures err { OnErr result (self.new ≡ self.old) }
+    {
+        if hart.index() >= self.queues.len() {
+            return Ok(());
+        }
+        let queue = &mut self.queues[hart.index()];
+        queue.put_timer()
+    }
+
+    /// What is told once more: the outputs of a hart, from this number on, that are known to be out.
+    fn tell_again(&self, alloc: Global, hart: Hart, number: Count) -> Result<Vec<Answer>, Memory>
+        ensures { IfOk result (λ answers. answers.items ≡ told_again self.now.primary.opening.term self.now.primary.book.machine
+            (mark_at self.now.gate.gate hart) self.now.released hart number) }
+    {
+        let mark = if hart.number() < self.marks.harts() {
+            self.marks.get(hart)
+        } else {
+            0
+        };
+        tell_again(
+            alloc,
+            self.term(),
+            self.machine(),
+            mark,
+            &self.released,
+            hart,
+            number,
+        )
+    }
+
+    /// Takes a request. What is told at once: outputs that are known to be out.
+    pub fn hear(&mut self, alloc: Global, request: &Request) -> Result<Vec<Answer>, Memory>
+        ensures hears { IfOk result (λ answers. Hears self.old request.now self.new answers.items) }
+        ensures err { OnErr result (self.new ≡ self.old) }
+    {
+        match request {
+            Request::Timer(hart) => self.take_timer(*hart)?,
+            Request::Word { hart, word, number } => self.take_word(*hart, *word, *number)?,
+            Request::From { hart, number } => return self.tell_again(alloc, *hart, *number),
+        }
+        Ok(Vec::new(alloc))
+    }
+
+    /// All outputs are offered at the gate, those go out whose step enough keepers acknowledged, and the book notes that they did.
+    fn release(&mut self, alloc: Global) -> Result<(), Memory>
+        ensures lets { OnOk result (LetsGo self.old self.old.gate self.new) }
+        ensures nothing { OnErr result (LetsNothingGo self.old self.old.gate self.new) }
+        ensures rest { self.new ≡ record self.old {
+          primary = record self.old.primary { book = self.new.primary.book };
+          gate = self.new.gate;
+          released = self.new.released;
+        } }
+    {
+        self.primary
+            .release(alloc, &mut self.gate, &mut self.released)
+    }
+
+    /// Has a keeper's acknowledgement noted. One of another term, below what the keeper acknowledged, or of no keeper is none.
+    fn note(&mut self, acknowledgement: &Acknowledgement)
+        ensures notes { Notes self.old.gate acknowledgement.now self.new.gate }
+        ensures rest { self.new ≡ record self.old { gate = self.new.gate } }
+    {
+        let Acknowledgement {
+            term,
+            keeper,
+            counts,
+        } = *acknowledgement;
+        if keeper.number() < self.quorum.keepers()
+            && usize::from(counts.harts()) == self.queues.len()
+        {
+            let position = Position {
+                term,
+                counts,
+                top: term,
+            };
+            let _taken = self.gate.acknowledge(keeper, &position);
+        }
+    }
+
+    /// Takes an acknowledgement. What goes out then stands behind what went out before. Want of memory lets nothing go.
+    pub fn acknowledge(
+        &mut self,
+        alloc: Global,
+        acknowledgement: &Acknowledgement,
+    ) -> Result<(), Memory>
+        ensures lets { OnOk result (WithNoted self.old acknowledgement.now (λ noted. LetsGo self.old noted self.new)) }
+        ensures nothing { OnErr result (WithNoted self.old acknowledgement.now (λ noted. LetsNothingGo self.old noted self.new)) }
+        ensures rest { self.new ≡ record self.old {
+          primary = record self.old.primary { book = self.new.primary.book };
+          gate = self.new.gate;
+          released = self.new.released;
+        } }
+    {
+        self.note(acknowledgement);
+        self.release(alloc)
+    }
+
+    /// One round: inputs go from the queues to the machine, each hart goes on for so many steps, its outputs come to the gate, and what is
+    /// new of the log is cut. The frames are sent to the keepers. Want of memory ends the primary.
+    pub fn round(self, alloc: Global, steps: Count) -> Result<(Leader, Vec<Frame>), Memory>
+        ensures opening { IfOk result (λ r. r.0.primary.opening ≡ self.primary.opening) }
+        ensures round { IfOk result (λ r. IsRound steps self r.0) }
+        ensures cut { IfOk result (λ r. IsCut (book_log self.primary.opening.guest self.primary.opening.term r.0.primary.book)
+            self.primary.opening.guest.harts self.primary.sealed r.1.items r.0.primary.sealed) }
+        ensures gate { IfOk result (λ r. OffersMore self.gate r.0.gate) }
+        ensures offered { IfOk result (λ r. AreAllOffered r.0.gate.gate r.0.primary.book.machine) }
+        ensures released { IfOk result (λ r. r.0.released ≡ self.released) }
+    {
+        let Leader {
+            mut primary,
+            mut gate,
+            mut queues,
+            released,
+            quorum,
+            marks,
+        } = self;
+        // proof: its journal leads to its machine, before and after.
+        has_run(&primary.book);
+        hand_all(&mut primary, &mut queues)?;
+        let mut led = go_on(alloc, primary, steps)?;
+        has_run(&led.book);
+        offer_all(&mut gate, led.book.machine())?;
+        let mut frames = Vec::new(alloc);
+        led.seal(alloc, &mut frames)?;
+        let leader = Leader {
+            primary: led,
+            gate,
+            queues,
+            released,
+            quorum,
+            marks,
+        };
+        Ok((leader, frames))
+    }
+}

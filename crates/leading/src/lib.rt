@@ -1,0 +1,14 @@
+//! What a primary decides that is a process of its own, one event at a time: it goes live from logs that were handed over to its term,
+//! takes requests and acknowledgements, goes on in rounds, and says which frames are sent and which outputs are told.
+#![tactic(auto)]
+
+mod handed;
+mod inputs;
+mod leader;
+mod rounds;
+mod starting;
+mod telling;
+mod waiting;
+
+pub use handed::{HandedFault, HandedLog, read_handed_log};
+pub use leader::Leader;

@@ -1,0 +1,187 @@
+//! The threads of a client, and what it does with them.
+
+use crate::faults::{Fault, tell, words_fault};
+use asking::{Heard, Talk, read_words, told_line};
+use crossbeam_channel::RecvTimeoutError;
+use ends::{Event, Host, Keeps, Post, Receiver, Sender, begin_post, listen, read_file, row};
+use live_words::ClientWords;
+use std::io;
+use std::io::Write;
+use std::sync::Arc;
+use std::time::{Duration, Instant};
+use wire::{Request, request_line};
+
+/// A client with its threads.
+#[derive(Drop)]
+struct Client {
+    talk: Talk,
+    /// How many words are asked for.
+    words: usize,
+    events: Receiver,
+    posts: Vec<Post>,
+    /// How many inputs are not at their end.
+    open: usize,
+    patience: Duration,
+    /// When the last new answer came, or all that lack were asked for.
+    last: Instant,
+}
+
+fn words_of<H: Host>(rt: &H, name: &str) -> Result<Vec<u32>, Fault> {
+    match read_file(rt, name) {
+        Ok(bytes) => Ok(read_words(rt.alloc(), &bytes)?),
+        Err(error) => Err(words_fault(&error)),
+    }
+}
+
+fn now<H: Host>(rt: &H) -> Result<Instant, Fault> {
+    match Instant::now(rt) {
+        Ok(now) => Ok(now),
+        Err(_) => Err(Fault::Clock),
+    }
+}
+
+fn post_all<H: Host>(rt: &H, paths: &[&str], to: &Sender) -> Result<Vec<Post>, Fault> {
+    let mut posts = Vec::new(rt.alloc());
+    for (number, path) in paths.iter().enumerate() {
+        posts.push(begin_post(rt, number, path, Keeps::Last, to)?)?;
+    }
+    Ok(posts)
+}
+
+fn listen_all<H: Host>(rt: &H, paths: &[&str], to: &Sender) -> Result<(), Fault> {
+    for (number, path) in paths.iter().enumerate() {
+        listen(rt, number, path, to)?;
+    }
+    Ok(())
+}
+
+impl Client {
+    /// Starts the threads of all inputs and outputs.
+    fn start<H: Host>(rt: &H, words: &ClientWords<'_>) -> Result<Client, Fault> {
+        let asked = words_of(rt, words.file)?;
+        let many = asked.len();
+        let talk = Talk::new(rt.alloc(), asked, words.window)?;
+        let (to, events) = row(rt.alloc())?;
+        let posts = post_all(rt, &words.requests, &to)?;
+        listen_all(rt, &words.answers, &to)?;
+        Ok(Client {
+            talk,
+            words: many,
+            events,
+            posts,
+            open: words.answers.len(),
+            patience: Duration::from_millis(words.millis),
+            last: now(rt)?,
+        })
+    }
+
+    /// Sends a request on all outputs.
+    fn send<H: Host>(&self, rt: &H, request: &Request) -> Result<(), Fault> {
+        let bytes = request_line(request).as_slice().to_vec(rt.alloc())?;
+        let piece = Arc::new(rt.alloc(), bytes)?;
+        for post in &self.posts {
+            post.leave(rt, &piece)?;
+        }
+        Ok(())
+    }
+
+    /// Asks for as many words as may be open.
+    fn ask<H: Host>(&mut self, rt: &H) -> Result<(), Fault> {
+        for _word in 0..self.words {
+            let Some(request) = self.talk.ask() else {
+                break;
+            };
+            self.send(rt, &request)?;
+        }
+        Ok(())
+    }
+
+    /// Asks once more for all that lacks, where its time has come. How long there is to be waited.
+    fn ask_again<H: Host>(&mut self, rt: &H) -> Result<Duration, Fault> {
+        let waited = now(rt)?.duration_since(self.last);
+        if waited < self.patience {
+            return Ok(self.patience.saturating_sub(waited));
+        }
+        for request in &self.talk.ask_again(rt.alloc())? {
+            self.send(rt, request)?;
+        }
+        self.last = now(rt)?;
+        Ok(self.patience)
+    }
+
+    /// Prints the answers that are there, in the order of their words.
+    fn tell<H: Host>(&mut self, rt: &H) -> io::Result<()> {
+        let mut out = io::writer(rt);
+        for _word in self.talk.told()..self.words {
+            let Some(told) = self.talk.tell() else {
+                break;
+            };
+            out.write_all(told_line(&told).as_slice())?;
+        }
+        out.flush()
+    }
+
+    /// Takes an event.
+    fn take<H: Host>(&mut self, rt: &H, event: Event) -> Result<(), Fault> {
+        match event {
+            Event::Line(_, line) => match self.talk.hear(line.as_slice()) {
+                Heard::New => {
+                    self.last = now(rt)?;
+                    Ok(())
+                }
+                Heard::Contradiction => Err(Fault::Contradiction),
+                Heard::Known | Heard::Foreign => Ok(()),
+            },
+            Event::Ended => {
+                self.open = self.open.saturating_sub(1);
+                Ok(())
+            }
+            Event::Failed(trouble) => Err(Fault::from(trouble)),
+        }
+    }
+
+    /// Waits for an event, for so long, and takes it.
+    fn wait<H: Host>(&mut self, rt: &H, time: Duration) -> Result<(), Fault> {
+        match self.events.recv_timeout(rt, time) {
+            Ok(event) => self.take(rt, event),
+            Err(RecvTimeoutError::Timeout) => Ok(()),
+            Err(_) => Err(Fault::Memory),
+        }
+    }
+
+    /// Asks until each word has its answer.
+    fn run<H: Host>(&mut self, rt: &H) -> Result<(), Fault> {
+        for _ in rt.forever() {
+            if self.tell(rt).is_err() {
+                return Err(Fault::Write);
+            }
+            if self.talk.is_done() {
+                return Ok(());
+            }
+            if self.open == 0 {
+                return Err(Fault::Unanswered(self.talk.told()));
+            }
+            self.ask(rt)?;
+            let time = self.ask_again(rt)?;
+            self.wait(rt, time)?;
+        }
+        Ok(())
+    }
+}
+
+fn ask_all<H: Host>(rt: &H, words: &ClientWords<'_>) -> Result<(), Fault> {
+    let mut client = Client::start(rt, words)?;
+    client.run(rt)
+}
+
+/// Asks for the words of a file, and prints each answer once, in the order of the words. The status that the program ends with; a fault
+/// is told on standard error.
+pub fn ask<H: Host>(rt: &H, words: &ClientWords<'_>) -> u8 {
+    match ask_all(rt, words) {
+        Ok(()) => 0,
+        Err(fault) => {
+            tell(rt, &fault, words);
+            1
+        }
+    }
+}

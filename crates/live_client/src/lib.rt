@@ -1,0 +1,7 @@
+//! `live client`: words are asked for, and their answers printed.
+#![tactic(auto)]
+
+mod client;
+mod faults;
+
+pub use client::ask;

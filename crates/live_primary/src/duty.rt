@@ -1,0 +1,189 @@
+//! A primary: events are taken, and rounds led, one after the other, on one thread.
+
+use crate::faults::{Fault, tell};
+use crate::office::Office;
+use crate::outset::{Outset, frame_bytes, set_out};
+use crate::pace::{FIRST_ROUND, next_round};
+use ends::{Event, Host};
+use ft_types::{Count, Guest};
+use leading::Leader;
+use live_words::PrimaryWords;
+use primary::Released;
+use wire::{Answer, Line, read_acknowledgement, read_again, read_request};
+
+/// How many events are taken between two rounds, at the most.
+const BATCH: usize = 512;
+
+/// A primary that leads.
+#[derive(Drop)]
+struct Duty {
+    guest: Guest,
+    leader: Leader,
+    /// How many of the outputs that went out were told.
+    told: usize,
+    /// How many inputs are not at their end.
+    open: usize,
+    /// How many steps the next round has.
+    steps: Count,
+    /// Whether rounds change nothing until a request comes.
+    waits: bool,
+}
+
+/// What went out behind the first so many.
+fn behind(released: &[Released], told: usize) -> &[Released] {
+    if told <= released.len() {
+        &released[told..]
+    } else {
+        &[]
+    }
+}
+
+/// Tells the outputs that went out and were not told yet.
+fn tell_new<H: Host>(rt: &H, duty: &mut Duty, office: &Office) -> Result<(), Fault> {
+    let term = duty.leader.term();
+    for released in behind(duty.leader.released(), duty.told) {
+        let output = released.output;
+        office.tell(rt, &Answer { term, output })?;
+    }
+    duty.told = duty.leader.released().len();
+    Ok(())
+}
+
+/// Takes the line of a client.
+fn take_request<H: Host>(
+    rt: &H,
+    duty: &mut Duty,
+    office: &Office,
+    line: &Line,
+) -> Result<(), Fault> {
+    let Some(request) = read_request(duty.guest.harts(), line.as_slice()) else {
+        return Ok(());
+    };
+    for answer in &duty.leader.hear(rt.alloc(), &request)? {
+        office.tell(rt, answer)?;
+    }
+    duty.steps = FIRST_ROUND;
+    duty.waits = false;
+    Ok(())
+}
+
+/// Takes the line of a keeper.
+fn take_said<H: Host>(rt: &H, duty: &mut Duty, office: &Office, line: &Line) -> Result<(), Fault> {
+    if let Some(acknowledgement) = read_acknowledgement(&duty.guest, line.as_slice()) {
+        duty.leader.acknowledge(rt.alloc(), &acknowledgement)?;
+        tell_new(rt, duty, office)
+    } else {
+        if let Some(keeper) = read_again(&duty.guest, line.as_slice()) {
+            office.begin_anew(rt, keeper);
+        }
+        Ok(())
+    }
+}
+
+/// Takes an event.
+fn take<H: Host>(rt: &H, duty: &mut Duty, office: &Office, event: Event) -> Result<(), Fault> {
+    match event {
+        Event::Line(input, line) if input < office.requests => {
+            take_request(rt, duty, office, &line)
+        }
+        Event::Line(_, line) => take_said(rt, duty, office, &line),
+        Event::Ended => {
+            duty.open = duty.open.saturating_sub(1);
+            Ok(())
+        }
+        Event::Failed(trouble) => Err(Fault::from(trouble)),
+    }
+}
+
+/// Takes the events that are there. Where rounds would change nothing, it waits for one.
+fn take_all<H: Host>(rt: &H, duty: &mut Duty, office: &Office) -> Result<(), Fault> {
+    if duty.waits {
+        let Ok(event) = office.events.recv(rt) else {
+            return Err(Fault::Memory);
+        };
+        take(rt, duty, office, event)?;
+    }
+    for _more in 0..office.events.len().min(BATCH) {
+        let Ok(event) = office.events.try_recv(rt) else {
+            break;
+        };
+        take(rt, duty, office, event)?;
+    }
+    Ok(())
+}
+
+/// Leads a round, sends its frames, and looks whether more rounds would change anything.
+fn go_on<H: Host>(rt: &H, duty: Duty, office: &Office) -> Result<Duty, Fault> {
+    let Duty {
+        guest,
+        leader,
+        told,
+        open,
+        steps,
+        waits: _,
+    } = duty;
+    let (mut leader, frames) = leader.round(rt.alloc(), steps)?;
+    office.send(rt, frame_bytes(rt.alloc(), &frames)?)?;
+    let waits = leader.only_waits(rt.alloc())?;
+    Ok(Duty {
+        guest,
+        leader,
+        told,
+        open,
+        steps: next_round(steps),
+        waits,
+    })
+}
+
+/// Leads until all inputs are at their end, and only waiting is left.
+fn lead_on<H: Host>(rt: &H, mut duty: Duty, office: &Office) -> Result<(), Fault> {
+    for _ in rt.forever() {
+        if duty.waits && duty.open == 0 {
+            return Ok(());
+        }
+        take_all(rt, &mut duty, office)?;
+        if !duty.waits {
+            duty = go_on(rt, duty, office)?;
+        }
+    }
+    Ok(())
+}
+
+/// Whether there is a path to each keeper, or one to all.
+fn has_paths(words: &PrimaryWords<'_>) -> bool {
+    words.frames.len() == 1 || words.frames.len() == usize::from(words.quorum.keepers())
+}
+
+fn lead_all<H: Host>(rt: &H, words: &PrimaryWords<'_>) -> Result<(), Fault> {
+    if !has_paths(words) {
+        return Err(Fault::Usage);
+    }
+    let Outset {
+        guest,
+        leader,
+        frames,
+    } = set_out(rt, words)?;
+    let office = Office::open(rt, words, frames)?;
+    let duty = Duty {
+        guest,
+        leader,
+        told: 0,
+        open: words.requests.len() + words.acknowledgements.len(),
+        steps: FIRST_ROUND,
+        waits: false,
+    };
+    lead_on(rt, duty, &office)?;
+    office.close(rt);
+    Ok(())
+}
+
+/// Leads a term, from what keepers handed over to it. The status that the program ends with; a fault is told on standard error.
+pub fn lead<H: Host>(rt: &H, words: &PrimaryWords<'_>) -> u8 {
+    match lead_all(rt, words) {
+        Ok(()) => 0,
+        Err(fault) => {
+            tell(rt, &fault, words);
+            fault.status()
+        }
+    }
+}

@@ -1,0 +1,153 @@
+//! Going live from what was handed over.
+
+ghost use Rattle.std.specs.Prelude.{◌≡◌, ◌++◌, ℕ, List, map, IfOk};
+ghost use Rattle.std.specs.List.{flat_map};
+ghost use Rattle.fragment_codec.specs.Streams.{spelling};
+ghost use Rattle.log_join.specs.Stores.{clashes_of};
+ghost use Rattle.log_streams.specs.Stores.{IsStoreText};
+ghost use Rattle.go_live.specs.Joined.{AreJoined};
+
+use crate::faults::{Fault, file_fault};
+use ends::{Host, read_file, remove_file};
+use fenced_keeper::Given;
+use fragment_codec::Frame;
+use ft_types::{Guest, Memory, MemorySink};
+use guest_image::{Image, read_image};
+use leading::{HandedFault, HandedLog, Leader, read_handed_log};
+use live_words::PrimaryWords;
+use log_join::Store;
+use log_streams::{write_frames, write_store};
+use std::alloc::Global;
+use std::result::Result;
+
+/// A primary that has gone live.
+#[derive(Drop)]
+pub(crate) struct Outset {
+    pub(crate) guest: Guest,
+    pub(crate) leader: Leader,
+    /// What keepers are sent first: all frames that were handed over, and then the opening of the term.
+    pub(crate) frames: Vec<u8>,
+}
+
+/// The image of this name.
+fn image_of<H: Host>(rt: &H, name: &str) -> Result<Image, Fault> {
+    match read_file(rt, name) {
+        Ok(bytes) => Ok(read_image(rt.alloc(), &bytes)?),
+        Err(error) => Err(file_fault(&error, Fault::ImageFile)),
+    }
+}
+
+/// What was handed over, with this number.
+fn handed_log<H: Host>(
+    rt: &H,
+    guest: Guest,
+    number: usize,
+    name: &str,
+) -> Result<HandedLog, Fault> {
+    match read_file(rt, name) {
+        Ok(bytes) => match read_handed_log(rt.alloc(), guest, &bytes) {
+            Ok(log) => Ok(log),
+            Err(HandedFault::Memory) => Err(Fault::Memory),
+            Err(fault) => Err(Fault::Handed(number, fault)),
+        },
+        Err(error) => Err(file_fault(&error, Fault::HandedFile(number))),
+    }
+}
+
+fn handed_logs<H: Host>(rt: &H, guest: Guest, names: &[&str]) -> Result<Vec<HandedLog>, Fault> {
+    let mut logs = Vec::new(rt.alloc());
+    for (number, name) in names.iter().enumerate() {
+        logs.push(handed_log(rt, guest, number, name)?)?;
+    }
+    Ok(logs)
+}
+
+/// What was handed over makes one primary: whoever is started once more by the same words finds it no more, also where the machine stopped.
+fn remove_all<H: Host>(rt: &H, names: &[&str]) -> Result<(), Fault> {
+    for (number, name) in names.iter().enumerate() {
+        if let Err(error) = remove_file(rt, name) {
+            return Err(file_fault(&error, Fault::HandedFile(number)));
+        }
+    }
+    Ok(())
+}
+
+/// All frames that were handed over, each once.
+fn joined(alloc: Global, guest: Guest, logs: &[HandedLog]) -> Result<Store, Fault>
+    ensures all { IfOk result (λ store. AreJoined guest (map (λ l. l.store) logs.now) store) }
+    ensures clean { IfOk result (λ store. clashes_of store ≡ 0) }
+{
+    let mut store = Store::new(alloc, guest);
+    for log in logs {
+        store.join(alloc, &log.store)?;
+    }
+    if store.clashes() > 0 {
+        return Err(Fault::Clash);
+    }
+    Ok(store)
+}
+
+/// The bytes of frames.
+pub(crate) fn frame_bytes(alloc: Global, frames: &[Frame]) -> Result<Vec<u8>, Memory>
+    ensures { IfOk result (λ bytes. bytes.items ≡ flat_map spelling frames.now) }
+{
+    let mut sink = MemorySink::new(alloc, usize::MAX);
+    match write_frames(frames, &mut sink) {
+        Ok(()) => Ok(sink.bytes().to_vec(alloc)?),
+        Err(_) => Err(Memory),
+    }
+}
+
+/// The bytes of all frames of a store, and then of this one.
+fn sent_first(alloc: Global, store: &Store, opening: Frame) -> Result<Vec<u8>, Fault>
+    ensures { IfOk result (λ bytes. (text : List ℕ) × IsStoreText store.now text × (bytes.items ≡ text ++ spelling opening)) }
+{
+    let mut sink = MemorySink::new(alloc, usize::MAX);
+    write_store(alloc, store, &mut sink)?;
+    write_frames(&[opening], &mut sink)?;
+    Ok(sink.bytes().to_vec(alloc)?)
+}
+
+/// The stores of these logs, as they were given.
+fn given_of<'k>(alloc: Global, logs: &'k [HandedLog]) -> Result<Vec<Given<'k>>, Memory>
+    ensures keepers { IfOk result (λ given. map (λ g. g.keeper) given.items ≡ map (λ l. l.keeper) logs.now) }
+    ensures terms { IfOk result (λ given. map (λ g. g.term) given.items ≡ map (λ l. l.term) logs.now) }
+    ensures stores { IfOk result (λ given. map (λ g. g.store.now) given.items ≡ map (λ l. l.store) logs.now) }
+{
+    let mut given = Vec::new(alloc);
+    given.reserve(logs.len())?;
+    for log in logs {
+        given.push_reserved(log.given());
+    }
+    Ok(given)
+}
+
+/// The primary that goes live from these logs, and its opening.
+fn go_live(
+    alloc: Global,
+    image: &Image,
+    words: &PrimaryWords<'_>,
+    logs: &[HandedLog],
+) -> Result<(Leader, Frame), Fault> {
+    let given = given_of(alloc, logs)?;
+    match Leader::go_live(alloc, image, &given, words.quorum, words.term) {
+        Ok(live) => Ok(live),
+        Err(fault) => Err(Fault::from(fault)),
+    }
+}
+
+/// Goes live from what was handed over, and removes that.
+pub(crate) fn set_out<H: Host>(rt: &H, words: &PrimaryWords<'_>) -> Result<Outset, Fault> {
+    let alloc = rt.alloc();
+    let image = image_of(rt, words.image)?;
+    let guest = image.guest();
+    let logs = handed_logs(rt, guest, &words.handed)?;
+    let (leader, opening) = go_live(alloc, &image, words, &logs)?;
+    let frames = sent_first(alloc, &joined(alloc, guest, &logs)?, opening)?;
+    remove_all(rt, &words.handed)?;
+    Ok(Outset {
+        guest,
+        leader,
+        frames,
+    })
+}

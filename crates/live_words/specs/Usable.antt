@@ -1,0 +1,11 @@
+-- Words that ask for what can be done.
+use Rattle.std.specs.Prelude.{◌<◌}
+use Rattle.live_words.specs.declared.tasks.Task.{Task}
+use Rattle.live_words.specs.declared.tasks.Task.TheVariants.{Keeper, Hand, Primary, Client}
+
+-- the term is one that is granted; some word may be without an answer, for some time
+abbrev pub IsUsable : Task → Type 0
+IsUsable (Keeper words) = Unit {0}
+IsUsable (Hand words) = 0 < words.term
+IsUsable (Primary words) = 0 < words.term
+IsUsable (Client words) = (0 < words.window) × (0 < words.millis)

@@ -1,0 +1,61 @@
+//! What there is to do.
+
+use ft_types::{Keeper, Quorum, Term};
+
+/// `keeper IMAGE K LOG from FRAMES.. to ACKS..`: frames are taken from inputs, and acknowledged on outputs.
+#[derive(Drop)]
+pub struct KeeperWords<'a> {
+    pub image: &'a str,
+    /// The keeper's number.
+    pub keeper: Keeper,
+    pub log: &'a str,
+    pub inputs: Vec<&'a str>,
+    pub outputs: Vec<&'a str>,
+}
+
+/// `hand IMAGE K LOG T`: a log is handed over to a term.
+#[derive(Drop)]
+pub struct HandWords<'a> {
+    pub image: &'a str,
+    /// The keeper's number.
+    pub keeper: Keeper,
+    pub log: &'a str,
+    pub term: Term,
+}
+
+/// `primary IMAGE T KEEPERS NEED in REQUESTS.. out ANSWERS.. to FRAMES.. from ACKS.. with HANDED..`: a term is led.
+#[derive(Drop)]
+pub struct PrimaryWords<'a> {
+    pub image: &'a str,
+    pub term: Term,
+    /// How many keepers there are, and how many must hold an output.
+    pub quorum: Quorum,
+    pub requests: Vec<&'a str>,
+    pub answers: Vec<&'a str>,
+    pub frames: Vec<&'a str>,
+    pub acknowledgements: Vec<&'a str>,
+    /// What keepers handed over to the term.
+    pub handed: Vec<&'a str>,
+}
+
+/// `client FILE WINDOW MILLIS to REQUESTS.. from ANSWERS..`: words are asked for.
+#[derive(Drop)]
+pub struct ClientWords<'a> {
+    /// The file of words.
+    pub file: &'a str,
+    /// How many words may be without an answer.
+    pub window: usize,
+    /// After how many milliseconds without a new answer those that lack are asked for again.
+    pub millis: u64,
+    pub requests: Vec<&'a str>,
+    pub answers: Vec<&'a str>,
+}
+
+/// What is to be done.
+#[derive(Drop)]
+pub enum Task<'a> {
+    Keeper(KeeperWords<'a>),
+    Hand(HandWords<'a>),
+    Primary(PrimaryWords<'a>),
+    Client(ClientWords<'a>),
+}

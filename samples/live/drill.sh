@@ -1,0 +1,315 @@
+#!/bin/bash
+# drill.sh [LIVE [WORKBENCH [ROUNDS [SEED [REQUESTS]]]]]: a primary, three keepers of whom two must hold an answer, and a client, each a process of its own,
+# over FIFOs, with the service of guests/service. So many rounds in each of which the primary is killed (kill -9) twice at random moments, mostly a keeper
+# too, and the next one goes live at another site from what two random keepers hand over. The client must have the answers that the service gives to
+# requests that are taken in order, each once, and the machine to which the keepers' logs lead must have those outputs and no others. Then as many rounds in
+# which the primary is paused (SIGSTOP), two keepers hand over, and it goes on (SIGCONT) beside the next one, each with a client of its own: no number may
+# have two words. And one round in which copies of the logs are handed over, so that no keeper is fenced off: there they must contradict, or the rounds
+# before show nothing. LIVE and WORKBENCH are the built programs, by themselves those that `rt run` leaves. The last line is 'N passed, N failed'. Needs
+# bash and mkfifo.
+set -u
+top=$(cd "$(dirname "$0")/../.." && pwd)
+live=${1:-$top/crates/live/out/live}
+workbench=${2:-$top/crates/workbench/out/workbench}
+rounds=${3:-10}
+RANDOM=${4:-1}
+many=${5:-800}
+image=$top/guests/images/service.image
+work=$(mktemp -d)
+passed=0
+failed=0
+: > "$work/tally"
+
+# Ends what this script started, and nothing else.
+finish() {
+    { kill -9 $(jobs -rp); wait; } 2> /dev/null
+    rm -rf "$work"
+}
+trap finish EXIT
+trap 'exit 1' INT TERM
+
+for program in "$live" "$workbench"; do
+    if [ ! -x "$program" ]; then
+        echo "there is no $program: build it by .ci/run, or by rt run in its folder"
+        exit 2
+    fi
+done
+
+pass() { passed=$((passed + 1)); }
+
+# fail WHAT: counts it, and shows what standard input has of it.
+fail() {
+    failed=$((failed + 1))
+    echo "failed: $1"
+    sed -n '1,20s/^/    /p'
+}
+
+# same WHAT WANTED GOT: whether two files are one.
+same() {
+    if cmp -s "$2" "$3"; then pass; else fail "$1" < <(diff "$2" "$3"); fi
+}
+
+# Whether a process that this script started runs.
+runs() { jobs -rp | grep -qx "$1"; }
+
+# stop PROCESS: kills it, where it runs, as a machine that stops would.
+stop() { if runs "$1"; then { kill -9 "$1" && wait "$1"; } 2> /dev/null; fi; }
+
+# ask SEED FOLDER NAME: writes random requests of the service, and its answers to them, each as the client prints it.
+ask() {
+    awk -v seed="$1" -v many="$many" -v words="$2/$3.words" -v answers="$2/$3.wanted" '
+        BEGIN {
+            srand(seed)
+            for (number = 0; number < many; number++) {
+                asked = substr("11123", int(rand() * 5) + 1, 1)
+                seat = int(rand() * 42)
+                client = int(rand() * 7) + 1
+                printf "%02x%02x%04x\n", asked, seat, client > words
+                is_free = book[seat] == 0
+                is_own = book[seat] == client
+                if (asked == 1 && is_free) book[seat] = client
+                if (asked == 2 && is_own) book[seat] = 0
+                head = asked == 3 || is_own || (asked == 1 && is_free) ? "a0" : "b0"
+                if (seat >= 40) printf "number %d word e0%02x%04x\n", number, seat, client > answers
+                else printf "number %d word %s%02x%04x\n", number, head, seat, book[seat] > answers
+            }
+        }'
+}
+
+# keep FOLDER K: starts keeper K, whose process is then `started`.
+keep() {
+    "$live" keeper "$image" "$2" "$1/log.$2" from "$1/frames.$2.a" "$1/frames.$2.b" to "$1/acks.$2.a" "$1/acks.$2.b" 2>> "$1/faults.$2" &
+    started=$!
+}
+
+# hand FOLDER TERM LOGS K..: what these keepers hand over to the term, from LOGS.K; its files are then `handed`.
+hand() {
+    local at=$1 term=$2 logs=$3 k
+    shift 3
+    handed=()
+    for k in "$@"; do
+        if ! "$live" hand "$image" "$k" "$logs.$k" "$term" > "$at/handed.$term.$k" 2> "$at/refused"; then fail "$at: hand $k to term $term" < "$at/refused"; fi
+        handed+=("$at/handed.$term.$k")
+    done
+}
+
+# lead FOLDER TERM SITE: a primary of the term, from what was handed over; its process is then `started`.
+lead() {
+    local at=$1 s=$3
+    "$live" primary "$image" "$2" 3 2 in "$at/in.$s" out "$at/out.$s" to "$at/frames.0.$s" "$at/frames.1.$s" "$at/frames.2.$s" \
+        from "$at/acks.0.$s" "$at/acks.1.$s" "$at/acks.2.$s" with "${handed[@]}" 2>> "$at/faults.primary" &
+    started=$!
+}
+
+# begin FOLDER: FIFOs and keepers.
+begin() {
+    local k s
+    mkdir "$1"
+    for s in a b; do
+        mkfifo "$1/in.$s" "$1/out.$s"
+        for k in 0 1 2; do mkfifo "$1/frames.$k.$s" "$1/acks.$k.$s"; done
+    done
+    for k in 0 1 2; do
+        keep "$1" "$k"
+        keeper[$k]=$started
+    done
+}
+
+# Two of three keepers, which are then `heirs`.
+choose() {
+    local k=$((RANDOM % 3))
+    heirs="$k $(((k + 1 + RANDOM % 2) % 3))"
+}
+
+# has FILE N PROCESS: waits until the file has N lines, or the process has ended.
+has() {
+    for _ in $(seq 6000); do
+        if [ "$(wc -l < "$1")" -ge "$2" ] || ! runs "$3"; then return; fi
+        sleep 0.01
+    done
+}
+
+# ends PROCESS: waits until it has ended, for two minutes.
+ends() {
+    for _ in $(seq 1200); do
+        if ! runs "$1"; then return; fi
+        sleep 0.1
+    done
+}
+
+# nap [TENTHS]: sleeps less than so many tenths of a second, or than one.
+nap() { sleep "0.$((RANDOM % ${1:-1}))$((RANDOM % 10))"; }
+
+# outputs FOLDER FILE: the outputs of the machine to which the keepers' logs lead, each as the client prints it.
+outputs() {
+    "$workbench" replay "$image" "$1/log.0" "$1/log.1" "$1/log.2" > "$1/text" 2>&1
+    awk '$1 == "hart" { hart = $2 } $1 == "out" && hart == 0 { print "number", $2, "word", $6 }' "$1/text" > "$2"
+}
+
+# killed ROUND: the primary is killed twice.
+killed() {
+    local at=$work/killed.$1 term=1 site=a other=b kills window=$((1 + RANDOM % 4)) victim when primary client swap
+    begin "$at"
+    ask "$((RANDOM * 32768 + RANDOM))" "$at" client
+    choose
+    hand "$at" 1 "$at/log" $heirs
+    lead "$at" 1 a
+    primary=$started
+    : > "$at/answers"
+    "$live" client "$at/client.words" "$window" 700 to "$at/in.a" "$at/in.b" from "$at/out.a" "$at/out.b" > "$at/answers" 2> "$at/faults.client" &
+    client=$!
+    for kills in 1 2; do
+        has "$at/answers" "$((kills * many / 3 - RANDOM % (many / 4)))" "$client"
+        nap
+        victim=$((RANDOM % 3))
+        when=$((RANDOM % 4))
+        if [ "$when" = 0 ]; then stop "${keeper[$victim]}"; fi
+        if ! runs "$primary"; then fail "round $1: the primary of term $term runs until it is killed" < "$at/faults.primary"; fi
+        stop "$primary"
+        if [ "$when" = 1 ]; then stop "${keeper[$victim]}"; fi
+        term=$((term + 1))
+        choose
+        hand "$at" "$term" "$at/log" $heirs
+        if [ "$when" = 2 ]; then stop "${keeper[$victim]}"; fi
+        swap=$site site=$other other=$swap
+        lead "$at" "$term" "$site"
+        primary=$started
+        if [ "$when" != 3 ]; then
+            nap
+            keep "$at" "$victim"
+            keeper[$victim]=$started
+        fi
+    done
+    ends "$client"
+    if runs "$client"; then fail "round $1: the client comes to its end" < "$at/answers"; fi
+    stop "$client"
+    for victim in 0 1 2; do stop "${keeper[$victim]}"; done
+    stop "$primary"
+    same "round $1: the answers, with $window under way" "$at/client.wanted" "$at/answers"
+    outputs "$at" "$at/outputs"
+    same "round $1: each request stands once in the logs" "$at/client.wanted" "$at/outputs"
+    cat "$at/faults.client" "$at/faults.primary" > "$at/faults"
+    if [ -s "$at/faults" ]; then fail "round $1: a fault" < "$at/faults"; else pass; fi
+    wc -l < "$at/answers" >> "$work/tally"
+    rm -rf "$at"
+}
+
+# contradicts ONE OTHER: numbers to which two files of answers have different words.
+contradicts() { awk 'NR == FNR { word[$2] = $4; next } $2 in word && word[$2] != $4 { print $2, word[$2], $4 }' "$1" "$2"; }
+
+# split ROUND LOGS..: the primary is paused, and goes on beside the next one. What is handed over are the logs, or copies of them.
+split() {
+    local at=$work/split.$1 first second one other k
+    begin "$at"
+    ask "$((RANDOM * 32768 + RANDOM))" "$at" one
+    ask "$((RANDOM * 32768 + RANDOM))" "$at" other
+    choose
+    hand "$at" 1 "$at/log" $heirs
+    lead "$at" 1 a
+    first=$started
+    : > "$at/answers.one"
+    "$live" client "$at/one.words" 3 700 to "$at/in.a" from "$at/out.a" > "$at/answers.one" 2> /dev/null &
+    one=$!
+    has "$at/answers.one" "$((RANDOM % (many / 3) + 2))" "$one"
+    nap
+    kill -STOP "$first"
+    choose
+    if [ "$2" = copies ]; then
+        for k in $heirs; do cp "$at/log.$k" "$at/copy.$k"; done
+        hand "$at" 2 "$at/copy" $heirs
+        kill -CONT "$first"
+        has "$at/answers.one" "$((many / 2))" "$one"
+        lead "$at" 2 b
+    else
+        hand "$at" 2 "$at/log" $heirs
+        if [ "$((RANDOM % 2))" = 0 ]; then
+            kill -CONT "$first"
+            nap 9
+            lead "$at" 2 b
+        else
+            lead "$at" 2 b
+            second=$started
+            nap 9
+            kill -CONT "$first"
+        fi
+    fi
+    second=$started
+    : > "$at/answers.other"
+    "$live" client "$at/other.words" 3 700 to "$at/in.b" from "$at/out.b" > "$at/answers.other" 2> "$at/faults.client" &
+    other=$!
+    ends "$other"
+    nap
+    stop "$one"
+    stop "$other"
+    stop "$first"
+    stop "$second"
+    for k in 0 1 2; do stop "${keeper[$k]}"; done
+    contradicts "$at/answers.one" "$at/answers.other" > "$at/contradictions"
+    if [ "$2" = copies ]; then
+        if [ -s "$at/contradictions" ]; then pass; else fail "without a fence two primaries contradict each other" < /dev/null; fi
+    else
+        if [ -s "$at/contradictions" ]; then fail "split $1: numbers with two words" < "$at/contradictions"; else pass; fi
+        if [ "$(wc -l < "$at/answers.other")" = "$many" ]; then pass; else fail "split $1: the next primary answers all" < "$at/faults.client"; fi
+        outputs "$at" "$at/outputs"
+        same "split $1: what the second client has is in the logs, each once" "$at/outputs" "$at/answers.other"
+        wc -l < "$at/answers.one" >> "$work/tally"
+    fi
+    rm -rf "$at"
+}
+
+# is WHAT WANTED GOT: whether two texts are one.
+is() {
+    if [ "$2" = "$3" ]; then pass; else fail "$1" < <(printf 'wanted: %s\ngot: %s\n' "$2" "$3"); fi
+}
+
+# refuses WHAT STATUS LINE WORDS..: what the words are answered, on standard error, with this status.
+refuses() {
+    local what=$1 status=$2 line=$3 got
+    shift 3
+    "$live" "$@" > "$work/out" 2> "$work/err" < /dev/null
+    got=$?
+    is "$what: status" "$status" "$got"
+    is "$what: line" "$line" "$(cat "$work/err")"
+}
+
+# Files as inputs and outputs are read and written once, and a primary and a client end.
+ask 1 "$work" files
+awk '{ print "0 word", $1, NR - 1 }' "$work/files.words" > "$work/requests"
+for name in none frames answers log.0; do : > "$work/$name"; done
+"$live" hand "$image" 0 "$work/log.0" 1 > "$work/handed"
+cp "$work/handed" "$work/again"
+leads=(in "$work/requests" out "$work/answers" to "$work/frames" from "$work/none" with)
+refuses 'a primary over files' 0 '' primary "$image" 1 1 1 "${leads[@]}" "$work/handed"
+is 'it tells nothing that no keeper has' 0 "$(wc -c < "$work/answers")"
+cp "$work/frames" "$work/log.1"
+for k in 0 2; do : > "$work/log.$k"; done
+outputs "$work" "$work/outputs"
+same 'its frames have each request once' "$work/files.wanted" "$work/outputs"
+refuses 'it is started once more' 1 "fault file $work/handed" primary "$image" 1 1 1 "${leads[@]}" "$work/handed"
+refuses 'a client over files' 0 '' client "$work/files.words" 4 1000 to "$work/answers" from <(sed 's/number/term 1 hart 0 number/; s/word/step 1 word/' "$work/files.wanted")
+same 'it prints the answers' "$work/files.wanted" "$work/out"
+
+# What a primary and a client refuse.
+refuses 'a primary without what was handed over' 2 'fault usage' primary "$image" 1 1 1 in "$work/none" out "$work/none" to "$work/none" from "$work/none"
+refuses 'a need above the keepers' 2 'fault usage' primary "$image" 1 1 2 "${leads[@]}" "$work/again"
+refuses 'two paths to three keepers' 2 'fault usage' primary "$image" 1 3 2 in "$work/none" out "$work/none" to "$work/none" "$work/none" from "$work/none" with "$work/again"
+refuses 'another term' 1 'fault handed term' primary "$image" 2 1 1 "${leads[@]}" "$work/again"
+refuses 'one of two keepers' 1 'fault live 1' primary "$image" 1 3 2 "${leads[@]}" "$work/again"
+refuses 'nothing was handed over' 1 'fault handed 0 line' primary "$image" 1 1 1 "${leads[@]}" "$work/none"
+refuses "another guest's" 1 'fault handed 0 line' primary "$top/samples/four_harts.image" 1 1 1 "${leads[@]}" "$work/again"
+printf x >> "$work/again"
+refuses 'a stream that goes on' 1 'fault handed 0 length' primary "$image" 1 1 1 "${leads[@]}" "$work/again"
+printf '01070011\n0107\n' > "$work/bad.words"
+refuses 'a word of another form' 1 'fault words line 2' client "$work/bad.words" 1 1000 to "$work/none" from "$work/none"
+refuses 'no answers' 1 'fault unanswered 0' client "$work/files.words" 1 1000 to "$work/answers" from "$work/none"
+refuses 'two answers to one word' 1 'fault contradiction' client "$work/files.words" 1 1000 to "$work/answers" from \
+    <(printf 'term 1 hart 0 number 0 step 1 word 0000000%s\n' 1 2)
+refuses 'no word may be open' 2 'fault usage' client "$work/files.words" 0 1000 to "$work/answers" from "$work/none"
+
+for number in $(seq "$rounds"); do killed "$number"; done
+for number in $(seq "$rounds"); do split "$number" logs; done
+split 0 copies
+
+echo "of $(awk '{ sum += $1 } END { print sum + 0 }' "$work/tally") answers each is in the machine that goes on, unless it is told above"
+echo "$passed passed, $failed failed"
+[ "$failed" = 0 ]
