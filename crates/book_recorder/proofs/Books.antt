@@ -26,9 +26,9 @@ use Rattle.page_book.specs.Tellings.{TellsOn}
 use Rattle.hart_replay.proofs.honesty.Replays.{boot_pages}
 use Rattle.hart_replay.proofs.honesty.Primaries.{passed, passing}
 use Rattle.lease_rounds.proofs.Onward.{heard_before}
-use Rattle.failover_theory.specs.Recorders.{Output}
-use Rattle.failover_theory.specs.Machines.{Outs, AreTidy, Book, RunsOn}
-use Rattle.failover_theory.proofs.Recording.{at_cut}
+use Rattle.fenced_theory.specs.Recorders.{Output}
+use Rattle.fenced_theory.specs.Machines.{Outs, AreTidy, Book, RunsOn}
+use Rattle.fenced_theory.proofs.Recording.{at_cut}
 use Rattle.book_recorder.specs.TermBooks.{outputs_of, IsTermBook, ComesOf, AreTheory, BootedAreTermBooks, LaterAreTermBooks, RevivedAreTermBooks}
 use Rattle.book_recorder.proofs.Outputs.{effect_adds}
 

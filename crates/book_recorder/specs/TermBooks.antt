@@ -13,8 +13,8 @@ use Rattle.book_modes.specs.Recordings.{RecordingView, heard_by, log_of}
 use Rattle.page_book.specs.Books.{BookView}
 use Rattle.page_book.specs.Tellings.{TellsOn}
 use Rattle.hart_replay.specs.Primaries.{IsPrimary}
-use Rattle.failover_theory.specs.Recorders.{Output}
-use Rattle.failover_theory.specs.Machines.{Outs, AreTidy, Book, RunsOn}
+use Rattle.fenced_theory.specs.Recorders.{Output}
+use Rattle.fenced_theory.specs.Machines.{Outs, AreTidy, Book, RunsOn}
 
 -- what a hart has put out; nothing where it is not there
 abbrev pub outputs_of : Option Hart → List Output

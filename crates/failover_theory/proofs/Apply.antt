@@ -1,37 +1,29 @@
 -- Events as they are asked for, one after the other.
-use Rattle.std.proofs.Common.{◌≡◌, ◌⊎◌, inl, inr, ℕ, zero, suc, ◌+◌, ◌==◌, ◌&&◌, ◌<◌, ◌^◌, Bool, true, false, cond, List, [], ◌∷◌, Contains, filter, nat_lt, Option, Some, None, refl, sym, ap, subst, ◌∙◌, arith, eqb-true}
-use Rattle.log_join.specs.Families.{Past, end_of}
+use Rattle.std.proofs.Common.{◌≡◌, ◌⊎◌, inl, inr, ℕ, zero, suc, ◌+◌, ◌==◌, ◌&&◌, ◌<◌, ◌^◌, Bool, true, false, cond, List, [], ◌∷◌, filter, nat_lt, Option, Some, None, refl, sym, ap, subst, arith, eqb-true}
+use Rattle.log_join.specs.Families.{end_of}
 use Rattle.std.specs.Prelude.{slice_get, nat_le, ◌||◌}
 use Rattle.std.proofs.lemmas.Bool.{cases_lt, lt-ltb, ltb-true, leb-true}
-use Rattle.std.proofs.lemmas.List.Elements.{Contains-append_left, Contains-append_right, Contains-append_cases}
+use Rattle.std.proofs.lemmas.List.Elements.{Contains-append_left, Contains-append_cases}
 use Rattle.interleaving.specs.Lists.{put}
 use Rattle.interleaving.proofs.Cuts.{here, here_or_later}
-use Rattle.fragment_codec.specs.Rules.{FragmentParts}
-use Rattle.fragment_codec.specs.Facts.{is_between}
 use Rattle.log_join.specs.Stores.{IsStore}
 use Rattle.ft_types.specs.Counts.{count_at}
 use Rattle.ft_types.specs.Guests.{GuestParts, IsGuest}
 use Rattle.log_join.specs.Stores.{StoreView, alone}
-use Rattle.closed_cut.specs.Position.{base_of, IsPosition, NoTop, Top}
-use Rattle.ft_types.specs.declared.position.Position.{Position}
-use Rattle.failover_theory.specs.Lists.{how_many, option, same_pairs}
-use Rattle.failover_theory.specs.Recorders.{Recorder, IsCutOf}
-use Rattle.failover_theory.specs.Worlds.{Released, World, Quorum, WentOut, Joined, NoneYet, Skip, Take, first_world, stepped, sealed, held, noting, granted, BeginsAt, AtBoot, AtCut, Happens, Idle, Step, Seal, Deliver, Join, Acknowledge, Release, Note, Stop, Lose, Grant, Comes, Begins, Then}
-use Rattle.failover_theory.specs.Happenings.{Event, Steps, Offers, Seals, Delivers, Joins, Acknowledges, Releases, Notes, Stops, Loses, Grants, went_out, are_out, with_note, has_notes, all_there, Tools, all_of, book_at, next_key, apply, apply_all, AfterEvents}
-use Rattle.failover_theory.specs.Notes.{notes_in, HasNotes, IsNoting}
-use Rattle.failover_theory.proofs.Growing.{some_same, some_none}
+use Rattle.closed_cut.specs.Position.{base_of}
+use Rattle.fenced_theory.specs.Lists.{how_many, option}
+use Rattle.fenced_theory.specs.Recorders.{Recorder}
+use Rattle.fenced_theory.specs.Happenings.{all_there, Tools}
+use Rattle.fenced_theory.proofs.Ruled.{opening_right}
+use Rattle.fenced_theory.proofs.Apply.{both, in_list, joined_of, begins_at}
+use Rattle.failover_theory.specs.Worlds.{Released, World, Quorum, WentOut, Joined, first_world, stepped, sealed, held, noting, granted, Happens, Idle, Step, Seal, Deliver, Join, Acknowledge, Release, Note, Stop, Lose, Grant, Comes, Begins, Then}
+use Rattle.failover_theory.specs.Happenings.{Event, Steps, Offers, Seals, Delivers, Joins, Acknowledges, Releases, Notes, Stops, Loses, Grants, went_out, are_out, with_note, has_notes, same_pairs, Marker, all_held, book_at, next_key, apply, apply_all, AfterEvents}
+use Rattle.failover_theory.specs.Notes.{notes_in, IsNoting}
 use Rattle.failover_theory.proofs.Noting.{out_grows}
-use Rattle.failover_theory.proofs.Cutting.{both, between, in_filter, of_filter}
-use Rattle.failover_theory.proofs.Events.{failover, less_of, always}
-use Rattle.failover_theory.proofs.Invariant.{Invariant, walked_covered, covered_cut}
-use Rattle.failover_theory.proofs.Stores.{honest_joined}
-use Rattle.failover_theory.proofs.Ruled.{stores_are_right}
-use Rattle.failover_theory.proofs.Granting.{opening_right}
-
-in_list : {A : Type 0} (xs : List A) (i : ℕ) (x : A) → slice_get xs i ≡ Some x → Contains xs x
-in_list [] i x is = some_none is refl
-in_list (y ∷ xs) zero x is = subst (λ x. Contains (y ∷ xs) x) (some_same refl is) (here y xs)
-in_list (y ∷ xs) (suc i) x is = Contains-append_right (y ∷ []) xs x (in_list xs i x is)
+use Rattle.failover_theory.proofs.Cutting.{in_filter, of_filter, filtered_notes}
+use Rattle.failover_theory.proofs.Stopped.{new_above}
+use Rattle.failover_theory.proofs.Events.{Invariant, always, failover}
+use Rattle.failover_theory.proofs.Ruled.{right, stores_are_right}
 
 one_of : (a b : Bool) → (a || b) ≡ true → (a ≡ true) ⊎ (b ≡ true)
 one_of true b e = inl refl
@@ -49,22 +41,6 @@ pairs_same (x ∷ xs) (y ∷ ys) e =
     let q : x.1 ≡ y.1 = eqb-true x.1 y.1 second in
     let more : xs ≡ ys = pairs_same xs ys rest in
     λ i. (p i, q i) ∷ more i
-
--- a piece that was tested has its notes
-its_notes : (notes : List (ℕ × ℕ)) (x : FragmentParts) → has_notes notes x ≡ true → HasNotes notes x
-its_notes notes x tested =
-    let same : notes_in x ≡ filter (λ (n : ℕ × ℕ). is_between x.from x.to n.0) notes = pairs_same (notes_in x) _ tested in
-    record {
-      has =
-          λ note has lo hi.
-          subst (λ (l : List (ℕ × ℕ)). Contains l note) (sym same)
-          (of_filter (λ (n : ℕ × ℕ). is_between x.from x.to n.0) notes note has (between x.from x.to note.0 lo hi));
-      only =
-          λ note has.
-          let r = in_filter (λ (n : ℕ × ℕ). is_between x.from x.to n.0) notes note (subst (λ (l : List (ℕ × ℕ)). Contains l note) same has) in
-          let (lo, hi) = both (nat_le x.from note.0) (nat_lt note.0 x.to) r.1 in
-          (r.0, leb-true x.from note.0 lo, ltb-true note.0 x.to hi);
-    }
 
 is_noting : (notes : List (ℕ × ℕ)) (count number : ℕ) → IsNoting notes count number (with_note notes count number)
 is_noting notes count number =
@@ -85,25 +61,31 @@ is_noting notes count number =
           (of_filter (λ (n : ℕ × ℕ). nat_lt n.0 count) notes note has (lt-ltb note.0 count early));
     }
 
-module _ {Book Fact Input : Type 0} (recorder : Recorder Book Fact) (guest : GuestParts) (tools : Tools recorder guest Input) (quorum : Quorum)
-    (rules : IsGuest guest) where
-  joined_of : (stores : ℕ → Option StoreView) (chosen : ℕ → Bool) (n : ℕ) → all_there stores chosen n ≡ true →
-      Joined guest stores chosen n (all_of recorder guest tools quorum stores chosen n)
-  joined_of stores chosen zero h = NoneYet
-  joined_of stores chosen (suc n) h = by (joined_of stores chosen n) (chosen n) refl (stores n) refl h
-    where
-      by : (all_there stores chosen n ≡ true → Joined guest stores chosen n (all_of recorder guest tools quorum stores chosen n)) → (b : Bool) →
-          chosen n ≡ b → (a : Option StoreView) → stores n ≡ a →
-          cond b (option a false (λ s. all_there stores chosen n)) (all_there stores chosen n) ≡ true →
-          Joined guest stores chosen (suc n)
-          (
-          cond b (option a (all_of recorder guest tools quorum stores chosen n) (λ r. tools.join r (all_of recorder guest tools quorum stores chosen n)))
-          (all_of recorder guest tools quorum stores chosen n)
-          )
-      by rec true e None f h = cc
-      by rec true e (Some r) f h = Take r e f (rec h) (tools.joins r (all_of recorder guest tools quorum stores chosen n))
-      by rec false e a f h = Skip e (rec h)
+went : (released : List Released) (hart number : ℕ) → went_out released hart number ≡ true → WentOut released hart number
+went [] hart number is = cc
+went (r ∷ released) hart number is =
+    elim (one_of ((r.hart == hart) && (r.number == number)) (went_out released hart number) is) [
+      | inl here_is ↦
+          (let (same, number_is) = both (r.hart == hart) (r.number == number) here_is in
+          (r, here r released, eqb-true r.hart hart same, eqb-true r.number number number_is))
+      | inr later ↦ out_grows released r hart number (went released hart number later)
+    ]
 
+each_out : (released : List Released) (mark hart number : ℕ) → are_out released mark hart number ≡ true → (k : ℕ) → k < number →
+    (k < mark) ⊎ WentOut released hart k
+each_out released mark hart zero is k less = absurd (omega arith)
+each_out released mark hart (suc n) is k less =
+    let (last, rest) = both (nat_lt n mark || went_out released hart n) (are_out released mark hart n) is in
+    elim (cases_lt k n) [
+      | inl before ↦ each_out released mark hart n rest k before
+      | inr over ↦
+          let e : n ≡ k = omega arith in
+          subst (λ m. (m < mark) ⊎ WentOut released hart m) e
+          (elim (one_of (nat_lt n mark) (went_out released hart n) last) [ inl below ↦ inl (ltb-true n mark below) | inr out ↦ inr (went released hart n out) ])
+    ]
+
+module _ {Book Fact Input : Type 0} (recorder : Recorder Book Fact) (guest : GuestParts) (tools : Tools recorder guest Input) (marker : Marker Book)
+    (quorum : Quorum) (rules : IsGuest guest) where
   -- a test before an event, and a look-up
   if_so : (w v : World Book) (b : Bool) → (b ≡ true → Happens recorder guest quorum w v) → Happens recorder guest quorum w (cond b v w)
   if_so w v true h = h refl
@@ -121,70 +103,27 @@ module _ {Book Fact Input : Type 0} (recorder : Recorder Book Fact) (guest : Gue
   store_of : (w : World Book) → Comes recorder guest quorum w → (keeper : ℕ) (s : StoreView) → w.stores keeper ≡ Some s → IsStore s
   store_of w c keeper s is = (stores_are_right recorder guest quorum rules w c).keepers keeper s is
 
-  begins_at : (w : World Book) → Comes recorder guest quorum w → (chosen : ℕ → Bool) (all : StoreView) → Joined guest w.stores chosen quorum.keepers all →
-      (p : Position) → IsPosition all p → BeginsAt recorder w.terms p (book_at recorder guest tools quorum w p)
-  begins_at w c chosen all j p is = by is (w.terms p.term) refl
-    where
-      v : Invariant recorder quorum w
-      v = always recorder guest quorum c
-
-      by : IsPosition all p → (a : Option (Past Book)) → w.terms p.term ≡ a →
-          BeginsAt recorder w.terms p (option a tools.boot (λ q. tools.live q.told (count_at p.counts)))
-      by is None at = AtBoot at tools.boots
-      by (NoTop none at_boot zeros t) (Some q) at = some_none at (ap w.terms at_boot ∙ v.family.none)
-      by (Top walked) (Some q) at =
-          let honest = (honest_joined w.terms guest w.stores chosen v.stores j).honest in
-          let k = walked_covered recorder w.terms v.family all honest p walked in
-          AtCut q at
-          (tools.lives q.told (count_at p.counts)
-          (subst (λ q. IsCutOf recorder q.told (count_at p.counts)) (some_same k.is at)
-          (covered_cut recorder w.terms v.family all honest p.term (count_at p.counts) k)))
-
-  went : (w : World Book) (released : List Released) (hart number : ℕ) → went_out released hart number ≡ true → WentOut released hart number
-  went w [] hart number is = cc
-  went w (r ∷ released) hart number is =
-      elim (one_of ((r.hart == hart) && (r.number == number)) (went_out released hart number) is) [
-        | inl here_is ↦
-            (let (same, number_is) = both (r.hart == hart) (r.number == number) here_is in
-            (r, here r released, eqb-true r.hart hart same, eqb-true r.number number number_is))
-        | inr later ↦ out_grows released r hart number (went w released hart number later)
-      ]
-
-  each_out : (w : World Book) (hart number : ℕ) → are_out w.released (w.marks w.now hart) hart number ≡ true → (k : ℕ) → k < number →
-      (k < w.marks w.now hart) ⊎ WentOut w.released hart k
-  each_out w hart zero is k less = absurd (omega arith)
-  each_out w hart (suc n) is k less =
-      let (last, rest) =
-      both (nat_lt n (w.marks w.now hart) || went_out w.released hart n) (are_out w.released (w.marks w.now hart) hart n) is in
-      elim (cases_lt k n) [
-        | inl before ↦ each_out w hart n rest k before
-        | inr over ↦
-            let e : n ≡ k = omega arith in
-            subst (λ m. (m < w.marks w.now hart) ⊎ WentOut w.released hart m) e
-            (elim (one_of (nat_lt n (w.marks w.now hart)) (went_out w.released hart n) last) [
-              | inl below ↦ inl (ltb-true n (w.marks w.now hart) below)
-              | inr out ↦ inr (went w w.released hart n out)
-            ])
-      ]
+  abbrev all : World Book → (ℕ → Bool) → StoreView
+  all w chosen = all_held recorder guest tools marker quorum w chosen
 
   grants : (w : World Book) → Comes recorder guest quorum w → (term : ℕ) (chosen : ℕ → Bool) → w.runs ≡ false → w.now < term → term < 2 ^ 32 →
-      Joined guest w.stores chosen quorum.keepers (all_of recorder guest tools quorum w.stores chosen quorum.keepers) →
-      quorum.keepers < quorum.need + how_many quorum.keepers chosen →
-      Happens recorder guest quorum w (granted guest w term (tools.position (all_of recorder guest tools quorum w.stores chosen quorum.keepers))
-      (book_at recorder guest tools quorum w (tools.position (all_of recorder guest tools quorum w.stores chosen quorum.keepers)))
-      (tools.mark w.terms (all_of recorder guest tools quorum w.stores chosen quorum.keepers)
-      (tools.position (all_of recorder guest tools quorum w.stores chosen quorum.keepers))))
+      Joined guest w.stores chosen quorum.keepers (all w chosen) → quorum.keepers < quorum.need + how_many quorum.keepers chosen →
+      Happens recorder guest quorum w
+      (granted guest w term (tools.position (all w chosen)) (book_at recorder guest tools marker quorum w (tools.position (all w chosen)))
+      (marker.mark w.terms (all w chosen) (tools.position (all w chosen))))
   grants w c term chosen stopped later low j enough =
-      let all = all_of recorder guest tools quorum w.stores chosen quorum.keepers in
-      let store : IsStore all = (stores_are_right recorder guest quorum rules w c).joined chosen quorum.keepers all j in
-      Grant term chosen all (tools.position all) (book_at recorder guest tools quorum w (tools.position all)) (tools.mark w.terms all (tools.position all)) stopped later j enough (tools.finds all store)
-      (opening_right recorder guest quorum rules w c chosen all j (tools.position all) (tools.finds all store) (tools.harts_are all store)
-      (tools.counts_are all store) term later low)
-      (begins_at w c chosen all j (tools.position all) (tools.finds all store))
-      (tools.marks w.terms all (tools.position all) (honest_joined w.terms guest w.stores chosen (always recorder guest quorum c).stores j).honest
-      (tools.finds all store))
+      let v : Invariant recorder w = always recorder guest quorum c in
+      let its = right recorder guest quorum rules c chosen quorum.keepers (all w chosen) j in
+      let is = tools.finds (all w chosen) its.is_store in
+      Grant term chosen (all w chosen) (tools.position (all w chosen)) (book_at recorder guest tools marker quorum w (tools.position (all w chosen)))
+      (marker.mark w.terms (all w chosen) (tools.position (all w chosen))) stopped later j enough is
+      (opening_right guest rules w.terms v.family.none (all w chosen) its term (omega arith) low
+      (new_above w.terms w.now v.last (all w chosen) its.honest term later) (tools.position (all w chosen)) is (tools.harts_are (all w chosen) its.is_store)
+      (tools.counts_are (all w chosen) its.is_store))
+      (begins_at recorder guest tools w.terms v.family (all w chosen) its.honest (tools.position (all w chosen)) is)
+      (marker.marks w.terms (all w chosen) (tools.position (all w chosen)) its.honest is)
 
-  happens : (w : World Book) → Comes recorder guest quorum w → (e : Event Input) → Happens recorder guest quorum w (apply recorder guest tools quorum w e)
+  happens : (w : World Book) → Comes recorder guest quorum w → (e : Event Input) → Happens recorder guest quorum w (apply recorder guest tools marker quorum w e)
   happens w c (Steps i) =
       if_so w (option (w.terms w.now) w (λ p. stepped w p (tools.step p.told i))) w.runs
       (λ runs. if_there w (w.terms w.now) (λ p. stepped w p (tools.step p.told i)) (λ p is. Step p (tools.step p.told i) runs is (tools.steps p.told i)))
@@ -194,24 +133,24 @@ module _ {Book Fact Input : Type 0} (recorder : Recorder Book Fact) (guest : Gue
       (
       option (w.terms w.now) w
       (λ p.
-      option (tools.piece p.told (next_key recorder guest tools quorum w p hart) (end_of (base_of p.opening hart) (p.pieces hart)) upto) w
+      option (tools.piece p.told (next_key recorder guest tools marker quorum w p hart) (end_of (base_of p.opening hart) (p.pieces hart)) upto) w
       (λ x. cond (has_notes (w.notes w.now hart) x) (sealed w p hart x) w))
       )
       w.runs
       (λ runs.
       if_there w (w.terms w.now)
       (λ p.
-      option (tools.piece p.told (next_key recorder guest tools quorum w p hart) (end_of (base_of p.opening hart) (p.pieces hart)) upto) w
+      option (tools.piece p.told (next_key recorder guest tools marker quorum w p hart) (end_of (base_of p.opening hart) (p.pieces hart)) upto) w
       (λ x. cond (has_notes (w.notes w.now hart) x) (sealed w p hart x) w))
       (λ p is.
-      if_there w (tools.piece p.told (next_key recorder guest tools quorum w p hart) (end_of (base_of p.opening hart) (p.pieces hart)) upto)
+      if_there w (tools.piece p.told (next_key recorder guest tools marker quorum w p hart) (end_of (base_of p.opening hart) (p.pieces hart)) upto)
       (λ x. cond (has_notes (w.notes w.now hart) x) (sealed w p hart x) w)
       (λ x there.
       if_so w (sealed w p hart x) (has_notes (w.notes w.now hart) x)
       (λ tells.
       let (right, from, cut) =
-      tools.cuts p.told (next_key recorder guest tools quorum w p hart) (end_of (base_of p.opening hart) (p.pieces hart)) upto x there in
-      Seal p hart x runs is right from cut (its_notes (w.notes w.now hart) x tells)))))
+      tools.cuts p.told (next_key recorder guest tools marker quorum w p hart) (end_of (base_of p.opening hart) (p.pieces hart)) upto x there in
+      Seal p hart x runs is right from cut (filtered_notes (w.notes w.now hart) x (pairs_same (notes_in x) _ tells))))))
   happens w c (Delivers keeper frame) =
       if_there w (w.stores keeper) (λ s. option (slice_get w.sent frame) w (λ f. held w keeper (tools.join s (alone f))))
       (λ s is.
@@ -256,7 +195,7 @@ module _ {Book Fact Input : Type 0} (recorder : Recorder Book Fact) (guest : Gue
       let (enough, above) =
       both (nat_lt quorum.need (suc (how_many quorum.keepers (λ keeper. nat_lt o.step (w.acked keeper hart))))) (nat_le (w.marks w.now hart) number) fine in
       let a : quorum.need < suc (how_many quorum.keepers (λ keeper. nat_lt o.step (w.acked keeper hart))) =
-      less_of quorum.need (suc (how_many quorum.keepers (λ keeper. nat_lt o.step (w.acked keeper hart)))) enough in
+      ltb-true quorum.need (suc (how_many quorum.keepers (λ keeper. nat_lt o.step (w.acked keeper hart)))) enough in
       Release p hart number o (λ keeper. w.acked keeper hart) runs is at (λ keeper. omega arith) (omega arith) (leb-true (w.marks w.now hart) number above)))))
   happens w c (Notes hart number) =
       if_so w
@@ -276,7 +215,7 @@ module _ {Book Fact Input : Type 0} (recorder : Recorder Book Fact) (guest : Gue
       if_so w (noting w hart (with_note (w.notes w.now hart) (recorder.counts p.told hart) number)) (are_out w.released (w.marks w.now hart) hart number)
       (λ out.
       Note p hart number (with_note (w.notes w.now hart) (recorder.counts p.told hart) number) runs is
-      (is_noting (w.notes w.now hart) (recorder.counts p.told hart) number) (each_out w hart number out))))
+      (is_noting (w.notes w.now hart) (recorder.counts p.told hart) number) (each_out w.released (w.marks w.now hart) hart number out))))
   happens w c Stops = Stop
   happens w c (Loses keeper) = Lose keeper
   happens w c (Grants term chosen) =
@@ -285,19 +224,16 @@ module _ {Book Fact Input : Type 0} (recorder : Recorder Book Fact) (guest : Gue
       cond (((nat_lt w.now term && nat_lt term (2 ^ 32)) && all_there w.stores chosen quorum.keepers) && nat_lt quorum.keepers
       (quorum.need + how_many quorum.keepers chosen))
       (
-      granted guest w term (tools.position (all_of recorder guest tools quorum w.stores chosen quorum.keepers))
-      (book_at recorder guest tools quorum w (tools.position (all_of recorder guest tools quorum w.stores chosen quorum.keepers)))
-      (tools.mark w.terms (all_of recorder guest tools quorum w.stores chosen quorum.keepers)
-      (tools.position (all_of recorder guest tools quorum w.stores chosen quorum.keepers)))
+      granted guest w term (tools.position (all w chosen)) (book_at recorder guest tools marker quorum w (tools.position (all w chosen)))
+      (marker.mark w.terms (all w chosen) (tools.position (all w chosen)))
       )
       w
       )
       w.runs
       (λ stopped.
-      if_so w (granted guest w term (tools.position (all_of recorder guest tools quorum w.stores chosen quorum.keepers))
-      (book_at recorder guest tools quorum w (tools.position (all_of recorder guest tools quorum w.stores chosen quorum.keepers)))
-      (tools.mark w.terms (all_of recorder guest tools quorum w.stores chosen quorum.keepers)
-      (tools.position (all_of recorder guest tools quorum w.stores chosen quorum.keepers))))
+      if_so w
+      (granted guest w term (tools.position (all w chosen)) (book_at recorder guest tools marker quorum w (tools.position (all w chosen)))
+      (marker.mark w.terms (all w chosen) (tools.position (all w chosen))))
       (((nat_lt w.now term && nat_lt term (2 ^ 32)) && all_there w.stores chosen quorum.keepers) && nat_lt quorum.keepers
       (quorum.need + how_many quorum.keepers chosen))
       (λ fine.
@@ -306,15 +242,15 @@ module _ {Book Fact Input : Type 0} (recorder : Recorder Book Fact) (guest : Gue
       (nat_lt quorum.keepers (quorum.need + how_many quorum.keepers chosen)) fine in
       let (range, there) = both (nat_lt w.now term && nat_lt term (2 ^ 32)) (all_there w.stores chosen quorum.keepers) front in
       let (later, low) = both (nat_lt w.now term) (nat_lt term (2 ^ 32)) range in
-      grants w c term chosen stopped (ltb-true w.now term later) (ltb-true term (2 ^ 32) low) (joined_of w.stores chosen quorum.keepers there)
-      (ltb-true quorum.keepers (quorum.need + how_many quorum.keepers chosen) enough)))
+      grants w c term chosen stopped (ltb-true w.now term later) (ltb-true term (2 ^ 32) low)
+      (joined_of recorder guest tools w.stores chosen quorum.keepers there) (ltb-true quorum.keepers (quorum.need + how_many quorum.keepers chosen) enough)))
 
   comes_all : (w : World Book) → Comes recorder guest quorum w → (events : List (Event Input)) →
-      Comes recorder guest quorum (apply_all recorder guest tools quorum w events)
+      Comes recorder guest quorum (apply_all recorder guest tools marker quorum w events)
   comes_all w c [] = c
-  comes_all w c (e ∷ events) = comes_all (apply recorder guest tools quorum w e) (Then c (happens w c e)) events
+  comes_all w c (e ∷ events) = comes_all (apply recorder guest tools marker quorum w e) (Then c (happens w c e)) events
 
 pub after_events : {Book Fact Input : Type 0} (recorder : Recorder Book Fact) (guest : GuestParts) (quorum : Quorum) → AfterEvents recorder guest Input quorum
-after_events recorder guest quorum rules tools events =
-    failover recorder guest quorum (apply_all recorder guest tools quorum (first_world guest tools.boot) events)
-    (comes_all recorder guest tools quorum rules (first_world guest tools.boot) (Begins tools.boot tools.boots) events)
+after_events recorder guest quorum rules tools marker events =
+    failover recorder guest quorum (apply_all recorder guest tools marker quorum (first_world guest tools.boot) events)
+    (comes_all recorder guest tools marker quorum rules (first_world guest tools.boot) (Begins tools.boot tools.boots) events)

@@ -1,5 +1,5 @@
 -- Pieces of a hart's log, in the words of the theory.
-use Rattle.std.proofs.Common.{◌≡◌, inl, inr, ℕ, ◌+◌, ◌&&◌, ◌<◌, ◌≤◌, Bool, true, false, cond, List, [], ◌∷◌, ◌++◌, length, map, Contains, filter, nat_lt, Some, refl, sym, ap, subst, ◌∙◌, arith, length-append}
+use Rattle.std.proofs.Common.{◌≡◌, inl, inr, ℕ, ◌+◌, ◌<◌, ◌≤◌, Bool, true, false, cond, List, [], ◌∷◌, ◌++◌, length, map, Contains, filter, nat_lt, Some, refl, sym, ap, subst, ◌∙◌, arith, length-append}
 use Rattle.log_join.specs.Families.{end_of}
 use Rattle.std.specs.Prelude.{nat_le}
 use Rattle.std.specs.List.{filter_map}
@@ -18,15 +18,11 @@ use Rattle.log_pieces.specs.Pieces.{HartLog, Mark, IsPiece, mark_behind}
 use Rattle.log_join.specs.Stores.{IsFragmentOf}
 use Rattle.closed_cut.specs.Position.{edges_of, base_of}
 use Rattle.closed_cut.proofs.Lowerings.{found, contains_map}
-use Rattle.failover_theory.specs.Recorders.{Recorder}
+use Rattle.fenced_theory.specs.Recorders.{Recorder}
 use Rattle.failover_theory.specs.Notes.{HasNotes, notes_in}
+use Rattle.fenced_theory.proofs.Apply.{both}
 use Rattle.failover_theory.specs.Worlds.{Quorum, sealed, Seal, Then}
 use Rattle.failover_theory.specs.Sealings.{with_piece, PiecesAreCuts, SealsPieces}
-
-pub both : (a b : Bool) → (a && b) ≡ true → record { 0 : a ≡ true; 1 : b ≡ true }
-both true true e = (refl, refl)
-both true false e = cc
-both false b e = cc
 
 pub in_filter : {A : Type 0} (P : A → Bool) (xs : List A) (x : A) → Contains (filter P xs) x → record { 0 : Contains xs x; 1 : P x ≡ true }
 in_filter P [] x (k, below, is) = absurd (omega arith)
@@ -58,30 +54,31 @@ of_filter {A} P (y ∷ ys) x has fine = by (λ later. of_filter P ys x later fin
           | inr later ↦ rec later
         ]
 
-pub between : (from to n : ℕ) → from ≤ n → n < to → is_between from to n ≡ true
+between : (from to n : ℕ) → from ≤ n → n < to → is_between from to n ≡ true
 between from to n lo hi = rw (le-leb from n lo) (lt-ltb n to hi)
 
 end_more : (from : ℕ) (xs : List FragmentParts) (x : FragmentParts) → end_of from (xs ++ x ∷ []) ≡ x.to
 end_more from [] x = refl
 end_more from (y ∷ xs) x = end_more y.to xs x
 
--- a piece of the log has the log's notes
-pub piece_has_notes : (log : HartLog) (mark : Mark) (x : FragmentParts) → IsPiece log mark x → HasNotes log.facts.notes x
-piece_has_notes log mark x piece =
+-- a piece with the notes of its range
+pub filtered_notes : (notes : List (ℕ × ℕ)) (x : FragmentParts) → notes_in x ≡ filter (λ (n : ℕ × ℕ). is_between x.from x.to n.0) notes → HasNotes notes x
+filtered_notes notes x same =
     record {
       has =
           λ note has lo hi.
           subst (λ (l : List (ℕ × ℕ)). Contains l note) (sym same)
-          (of_filter (λ (n : ℕ × ℕ). is_between x.from x.to n.0) log.facts.notes note has (between x.from x.to note.0 lo hi));
+          (of_filter (λ (n : ℕ × ℕ). is_between x.from x.to n.0) notes note has (between x.from x.to note.0 lo hi));
       only =
           λ note has.
-          let r = in_filter (λ (n : ℕ × ℕ). is_between x.from x.to n.0) log.facts.notes note (subst (λ (l : List (ℕ × ℕ)). Contains l note) same has) in
+          let r = in_filter (λ (n : ℕ × ℕ). is_between x.from x.to n.0) notes note (subst (λ (l : List (ℕ × ℕ)). Contains l note) same has) in
           let (lo, hi) = both (nat_le x.from note.0) (nat_lt note.0 x.to) r.1 in
           (r.0, leb-true x.from note.0 lo, ltb-true note.0 x.to hi);
     }
-  where
-    same : notes_in x ≡ filter (λ (n : ℕ × ℕ). is_between x.from x.to n.0) log.facts.notes
-    same = ap (λ (f : Facts). f.notes) piece.exact
+
+-- a piece of the log has the log's notes
+pub piece_has_notes : (log : HartLog) (mark : Mark) (x : FragmentParts) → IsPiece log mark x → HasNotes log.facts.notes x
+piece_has_notes log mark x piece = filtered_notes log.facts.notes x (ap (λ (f : Facts). f.notes) piece.exact)
 
 module _ {Book Fact : Type 0} (recorder : Recorder Book Fact) where
   pub piece_is_cut : PiecesAreCuts recorder

@@ -1,5 +1,5 @@
 -- What is noted as released: that it was, and that no later term releases it again.
-use Rattle.std.proofs.Common.{◌≡◌, ◌≢◌, ◌⊎◌, inl, inr, ℕ, ◌<◌, ◌≤◌, List, [], ◌∷◌, Contains, Option, Some, None, refl, sym, ap, subst, ◌∙◌, arith, le_trans}
+use Rattle.std.proofs.Common.{◌≡◌, ◌⊎◌, inl, inr, ℕ, ◌<◌, ◌≤◌, List, [], ◌∷◌, Contains, Option, Some, refl, sym, ap, subst, ◌∙◌, arith}
 use Rattle.std.specs.Prelude.{slice_get}
 use Rattle.std.proofs.lemmas.List.Elements.{Contains-append_right}
 use Rattle.interleaving.specs.Lists.{put}
@@ -9,13 +9,15 @@ use Rattle.log_join.specs.Families.{Past, HonestStore}
 use Rattle.fragment_codec.specs.Rules.{FragmentParts, OpeningParts}
 use Rattle.log_join.specs.Stores.{StoreView}
 use Rattle.closed_cut.specs.Position.{pieces_of, base_of}
-use Rattle.failover_theory.specs.Recorders.{Recorder}
-use Rattle.failover_theory.specs.Families.{IsFamily, Keeps, Here, Above}
+use Rattle.fenced_theory.specs.Recorders.{Recorder}
+use Rattle.fenced_theory.specs.Families.{IsFamily, Keeps, Here, Above}
 use Rattle.failover_theory.specs.Notes.{HasNotes, IsNoting, IsTold}
-use Rattle.failover_theory.specs.Worlds.{Released, WentOut}
-use Rattle.failover_theory.proofs.Growing.{some_none, Covered, a_piece}
-use Rattle.failover_theory.proofs.Walks.{in_a_piece}
-use Rattle.failover_theory.proofs.Fate.{keeps_less}
+use Rattle.fenced_theory.specs.Worlds.{Released}
+use Rattle.failover_theory.specs.Worlds.{WentOut}
+use Rattle.fenced_theory.proofs.Growing.{some_same, Covered, a_piece}
+use Rattle.fenced_theory.proofs.Onward.{put_cases}
+use Rattle.fenced_theory.proofs.Walks.{in_a_piece}
+use Rattle.fenced_theory.proofs.Fate.{keeps_less}
 
 -- one more went out
 pub out_grows : (released : List Released) (new : Released) (hart number : ℕ) → WentOut released hart number → WentOut (new ∷ released) hart number
@@ -52,7 +54,7 @@ module _ {Book : Type 0} where
       Above p was (subst (λ n. Keeps terms term hart step n) (sym (ap (λ (o : OpeningParts). o.parent) e)) (keeps_back terms more had term hart step k))
 
   -- the terms go on
-  pub noted_evolves : (terms more : ℕ → Option (Past Book)) (notes : ℕ → ℕ → List (ℕ × ℕ)) (marks : ℕ → ℕ → ℕ) (released : List Released) →
+  noted_evolves : (terms more : ℕ → Option (Past Book)) (notes : ℕ → ℕ → List (ℕ × ℕ)) (marks : ℕ → ℕ → ℕ) (released : List Released) →
       AreNoted terms notes marks released → HadAll terms more → AreTold more notes → AreNoted more notes marks released
   noted_evolves terms more notes marks released v had told =
       record {
@@ -68,18 +70,32 @@ module _ {Book : Type 0} where
       }
 
   -- one term goes on, with these pieces
-  pub told_one : (terms : ℕ → Option (Past Book)) (notes : ℕ → ℕ → List (ℕ × ℕ)) (now : ℕ) (r : Past Book) → AreTold terms notes →
+  told_one : (terms : ℕ → Option (Past Book)) (notes : ℕ → ℕ → List (ℕ × ℕ)) (now : ℕ) (r : Past Book) → AreTold terms notes →
       ((hart place : ℕ) (x : FragmentParts) → slice_get (r.pieces hart) place ≡ Some x → HasNotes (notes now hart) x) → AreTold (put terms now (Some r)) notes
   told_one terms notes now r told its u p is hart place x at =
-      elim (same_or_not now u) [
-        | inl e ↦
-            let same : r ≡ p = of_some (sym (put_same terms now u (Some r) e) ∙ is) in
+      elim (put_cases terms now r u p is) [
+        | inl (e, same) ↦
             subst (λ n. HasNotes (notes n hart) x) e (its hart place x (subst (λ (q : Past Book). slice_get (q.pieces hart) place ≡ Some x) (sym same) at))
-        | inr ne ↦ told u p (sym (put_other terms now u (Some r) ne) ∙ is) hart place x at
+        | inr was ↦ told u p was hart place x at
       ]
-    where
-      of_some : {p q : Past Book} → Some p ≡ Some q → p ≡ q
-      of_some e = cc
+
+  pub noted_put : (terms : ℕ → Option (Past Book)) (notes : ℕ → ℕ → List (ℕ × ℕ)) (marks : ℕ → ℕ → ℕ) (released : List Released) →
+      AreNoted terms notes marks released → (now : ℕ) (p r : Past Book) → terms now ≡ Some p → p.opening ≡ r.opening →
+      ((hart place : ℕ) (x : FragmentParts) → slice_get (r.pieces hart) place ≡ Some x → HasNotes (notes now hart) x) →
+      AreNoted (put terms now (Some r)) notes marks released
+  noted_put terms notes marks released v now p r is same its =
+      noted_evolves terms (put terms now (Some r)) notes marks released v
+      (λ u q at.
+      elim (put_cases terms now r u q at) [
+        | inl (e, f) ↦ (p, ap terms (sym e) ∙ is, same ∙ ap (λ (q : Past Book). q.opening) f)
+        | inr was ↦ (q, was, refl)
+      ])
+      (told_one terms notes now r v.told its)
+
+  -- what is kept is of a term that was granted
+  pub keeps_granted : (terms : ℕ → Option (Past Book)) (term hart step : ℕ) {u : ℕ} → Keeps terms term hart step u → (p : Past Book) × (terms u ≡ Some p)
+  keeps_granted terms term hart step (Here {u = u} p is parent below) = (p, is)
+  keeps_granted terms term hart step (Above {u = u} p is k) = (p, is)
 
   -- an output went out
   pub noted_releases : (terms : ℕ → Option (Past Book)) (notes : ℕ → ℕ → List (ℕ × ℕ)) (marks : ℕ → ℕ → ℕ) (released : List Released) (new : Released) →
@@ -102,10 +118,6 @@ module _ {Book : Type 0} where
 module _ {Book Fact : Type 0} (recorder : Recorder Book Fact) (terms : ℕ → Option (Past Book)) (family : IsFamily recorder terms)
     (notes : ℕ → ℕ → List (ℕ × ℕ)) (marks : ℕ → ℕ → ℕ) (released : List Released) (v : AreNoted terms notes marks released) (now : ℕ)
     (last : (term : ℕ) (p : Past Book) → terms term ≡ Some p → term ≤ now) where
-  at_most : (term hart step : ℕ) {u : ℕ} → Keeps terms term hart step u → u ≤ now
-  at_most term hart step (Here {u = u} p is parent below) = last u p is
-  at_most term hart step (Above {u = u} p is k) = last u p is
-
   -- a note more of the last term
   module _ (p : Past Book) (is : terms now ≡ Some p) (hart number : ℕ) (more : List (ℕ × ℕ))
       (one : IsNoting (notes now hart) (recorder.counts p.told hart) number more)
@@ -143,9 +155,6 @@ module _ {Book Fact : Type 0} (recorder : Recorder Book Fact) (terms : ℕ → O
               (one.kept note was (let high : note.0 < x.to = hi in omega arith), lo, hi);
         }
 
-    of_some : {a b : Past Book} → terms now ≡ Some a → terms now ≡ Some b → a ≡ b
-    of_some e f = cc
-
     pub noted_more : AreNoted terms after marks released
     noted_more =
         record {
@@ -153,7 +162,7 @@ module _ {Book Fact : Type 0} (recorder : Recorder Book Fact) (terms : ℕ → O
               λ u q at_u h place x at.
               elim (either u h) [
                 | inl (e, f, row) ↦
-                    (let same : p ≡ q = of_some is (ap terms e ∙ at_u) in
+                    (let same : p ≡ q = some_same is (ap terms e ∙ at_u) in
                     let here : slice_get (p.pieces hart) place ≡ Some x =
                     subst (λ (q : Past Book). slice_get (q.pieces hart) place ≡ Some x) (sym same) (subst (λ n. slice_get (q.pieces n) place ≡ Some x) (sym f) at) in
                     subst (λ (l : List (ℕ × ℕ)). HasNotes l x) (sym row) (still_told place x here))
@@ -163,7 +172,7 @@ module _ {Book Fact : Type 0} (recorder : Recorder Book Fact) (terms : ℕ → O
               λ u q at_u h note has.
               elim (either u h) [
                 | inl (e, f, row) ↦
-                    (let same : p ≡ q = of_some is (ap terms e ∙ at_u) in
+                    (let same : p ≡ q = some_same is (ap terms e ∙ at_u) in
                     let base : base_of p.opening hart ≤ note.0 =
                     elim (one.only note (subst (λ (l : List (ℕ × ℕ)). Contains l note) row has)) [
                       | inl was ↦ v.from now p is hart note was
@@ -197,7 +206,8 @@ module _ {Book Fact : Type 0} (recorder : Recorder Book Fact) (terms : ℕ → O
               elim (either t h) [
                 | inl (e, f, row) ↦
                     (let less : t < u = keeps_less recorder terms family t h note.0 k in
-                    let le : u ≤ now = at_most t h note.0 k in
+                    let (q, is_q) = keeps_granted terms t h note.0 k in
+                    let le : u ≤ now = last u q is_q in
                     absurd (omega arith))
                 | inr row ↦ v.marked u t h note k (subst (λ (l : List (ℕ × ℕ)). Contains l note) row has)
               ];

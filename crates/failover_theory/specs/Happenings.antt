@@ -1,20 +1,19 @@
 -- Events as they are asked for, one after the other; a refused one changes nothing.
-use Rattle.std.specs.Prelude.{ℕ, zero, suc, ◌≡◌, ◌+◌, ◌^◌, ◌&&◌, ◌||◌, ◌==◌, Bool, true, false, cond, List, [], ◌∷◌, ◌++◌, filter, length, nat_lt, nat_le, Option, Some, None}
+use Rattle.std.specs.Prelude.{ℕ, zero, suc, ◌+◌, ◌^◌, ◌&&◌, ◌||◌, ◌==◌, Bool, true, false, cond, List, [], ◌∷◌, ◌++◌, filter, length, nat_lt, nat_le, Option, None}
 use Rattle.log_join.specs.Families.{Past, end_of, HonestStore}
 use Rattle.std.specs.Prelude.{slice_get}
-use Rattle.std.specs.List.{AllByRecursion}
 use Rattle.interleaving.specs.Lists.{put}
-use Rattle.ft_types.specs.Counts.{count_at, IsCount}
+use Rattle.ft_types.specs.Counts.{count_at}
 use Rattle.ft_types.specs.Guests.{GuestParts, IsGuest}
 use Rattle.fragment_codec.specs.declared.types.Key.{Key}
 use Rattle.fragment_codec.specs.Rules.{FragmentParts}
 use Rattle.fragment_codec.specs.Facts.{is_between}
-use Rattle.log_join.specs.Stores.{StoreView, IsStore, IsFragmentOf, IsJoin, nothing, alone}
+use Rattle.log_join.specs.Stores.{StoreView, alone}
 use Rattle.closed_cut.specs.Position.{base_of, IsPosition}
 use Rattle.ft_types.specs.declared.position.Position.{Position}
-use Rattle.failover_theory.specs.Lists.{how_many, option, same_pairs}
-use Rattle.failover_theory.specs.Recorders.{Recorder, IsBoot, GoesTo, LivesOn, IsCutOf}
-use Rattle.failover_theory.specs.Families.{IsCutFrom}
+use Rattle.fenced_theory.specs.Lists.{how_many, option}
+use Rattle.fenced_theory.specs.Recorders.{Recorder}
+use Rattle.fenced_theory.specs.Happenings.{Tools, all_there, all_of}
 use Rattle.failover_theory.specs.Worlds.{Released, World, Quorum, stepped, sealed, held, noting, granted, first_world}
 use Rattle.failover_theory.specs.Notes.{notes_in, IsMark}
 use Rattle.failover_theory.specs.Laws.{IsFailover}
@@ -32,10 +31,12 @@ pub data Event (Input : Type 0) : Type 0 where
   Loses : (keeper : ℕ) → Event Input
   Grants : (term : ℕ) (chosen : ℕ → Bool) → Event Input
 
--- each of the first n that is chosen has a store
-abbrev pub all_there : (ℕ → Option StoreView) → (ℕ → Bool) → ℕ → Bool
-all_there stores chosen zero = true
-all_there stores chosen (suc n) = cond (chosen n) (option (stores n) false (λ s. all_there stores chosen n)) (all_there stores chosen n)
+-- the lists have the same pairs in the same order
+abbrev pub same_pairs : List (ℕ × ℕ) → List (ℕ × ℕ) → Bool
+same_pairs [] [] = true
+same_pairs [] (y ∷ ys) = false
+same_pairs (x ∷ xs) [] = false
+same_pairs (x ∷ xs) (y ∷ ys) = ((x.0 == y.0) && (x.1 == y.1)) && same_pairs xs ys
 
 -- an output of the hart with this number went out
 abbrev pub went_out : List Released → ℕ → ℕ → Bool
@@ -55,34 +56,17 @@ with_note notes count number = filter (λ note. nat_lt note.0 count) notes ++ (c
 abbrev pub has_notes : List (ℕ × ℕ) → FragmentParts → Bool
 has_notes notes x = same_pairs (notes_in x) (filter (λ note. is_between x.from x.to note.0) notes)
 
-module _ {Book Fact : Type 0} (recorder : Recorder Book Fact) (guest : GuestParts) where
-  -- what begins books, takes steps, joins stores, finds positions and marks, and cuts pieces or can't
-  pub record Tools (Input : Type 0) : Type 0 where
-    pub boot : Book
-    pub boots : IsBoot recorder boot
-    pub step : Book → Input → Book
-    pub steps : (b : Book) (i : Input) → GoesTo recorder b (step b i)
-    pub live : Book → (ℕ → ℕ) → Book
-    pub lives : (b : Book) (cut : ℕ → ℕ) → IsCutOf recorder b cut → LivesOn recorder b cut (live b cut)
-    pub join : StoreView → StoreView → StoreView
-    pub joins : (a b : StoreView) → IsJoin a b (join a b)
-    pub position : StoreView → Position
-    pub finds : (s : StoreView) → IsStore s → IsPosition s (position s)
-    pub harts_are : (s : StoreView) → IsStore s → length (position s).counts ≡ s.guest.harts
-    pub counts_are : (s : StoreView) → IsStore s → AllByRecursion IsCount (position s).counts
-    pub mark : (ℕ → Option (Past Book)) → StoreView → Position → ℕ → ℕ
-    pub marks : (terms : ℕ → Option (Past Book)) (s : StoreView) (p : Position) → HonestStore terms s → IsPosition s p → (hart : ℕ) →
-        IsMark terms s p hart (mark terms s p hart)
-    pub piece : Book → Key → ℕ → ℕ → Option FragmentParts  -- of a key, from and to a count
-    pub cuts : (b : Book) (k : Key) (from to : ℕ) (x : FragmentParts) → piece b k from to ≡ Some x →
-        IsFragmentOf guest k x × (x.from ≡ from) × IsCutFrom recorder b k.hart x
+-- what finds the marks of a store at its position
+pub record Marker (Book : Type 0) : Type 0 where
+  pub mark : (ℕ → Option (Past Book)) → StoreView → Position → ℕ → ℕ
+  pub marks : (terms : ℕ → Option (Past Book)) (s : StoreView) (p : Position) → HonestStore terms s → IsPosition s p → (hart : ℕ) →
+      IsMark terms s p hart (mark terms s p hart)
 
-  module _ {Input : Type 0} (tools : Tools Input) (quorum : Quorum) where
+module _ {Book Fact : Type 0} (recorder : Recorder Book Fact) (guest : GuestParts) where
+  module _ {Input : Type 0} (tools : Tools recorder guest Input) (marker : Marker Book) (quorum : Quorum) where
     -- the join of the chosen keepers' stores
-    abbrev pub all_of : (ℕ → Option StoreView) → (ℕ → Bool) → ℕ → StoreView
-    all_of stores chosen zero = nothing guest
-    all_of stores chosen (suc n) = cond (chosen n) (option (stores n) (all_of stores chosen n) (λ r. tools.join r (all_of stores chosen n)))
-        (all_of stores chosen n)
+    abbrev pub all_held : World Book → (ℕ → Bool) → StoreView
+    all_held w chosen = all_of recorder guest tools w.stores chosen quorum.keepers
 
     -- the key of the next piece of a hart of the live term
     abbrev pub next_key : World Book → Past Book → ℕ → Key
@@ -138,8 +122,8 @@ module _ {Book Fact : Type 0} (recorder : Recorder Book Fact) (guest : GuestPart
         cond (((nat_lt w.now term && nat_lt term (2 ^ 32)) && all_there w.stores chosen quorum.keepers) && nat_lt quorum.keepers
         (quorum.need + how_many quorum.keepers chosen))
         (
-        granted guest w term (tools.position (all_of w.stores chosen quorum.keepers)) (book_at w (tools.position (all_of w.stores chosen quorum.keepers)))
-        (tools.mark w.terms (all_of w.stores chosen quorum.keepers) (tools.position (all_of w.stores chosen quorum.keepers)))
+        granted guest w term (tools.position (all_held w chosen)) (book_at w (tools.position (all_held w chosen)))
+        (marker.mark w.terms (all_held w chosen) (tools.position (all_held w chosen)))
         )
         w
         )
@@ -151,5 +135,5 @@ module _ {Book Fact : Type 0} (recorder : Recorder Book Fact) (guest : GuestPart
 
   -- so for every list of events, refused ones among them
   abbrev pub AfterEvents : Type 0 → Quorum → Type 0
-  AfterEvents Input quorum = IsGuest guest → (tools : Tools Input) → (events : List (Event Input)) →
-      IsFailover recorder quorum (apply_all tools quorum (first_world guest tools.boot) events)
+  AfterEvents Input quorum = IsGuest guest → (tools : Tools recorder guest Input) → (marker : Marker Book) → (events : List (Event Input)) →
+      IsFailover recorder quorum (apply_all tools marker quorum (first_world guest tools.boot) events)

@@ -1,35 +1,19 @@
--- The theorems.
-use Rattle.std.specs.Prelude.{ℕ, ◌≡◌, ◌<◌, ◌≤◌, ◌^◌, ◌⊎◌, min, Bool, true, length, Contains, Option, Some, None}
-use Rattle.log_join.specs.Families.{Past, OfFamily, HonestStore, Below}
+-- The theorems of worlds whose primaries stop, and that each of these worlds is one with fences.
+use Rattle.std.specs.Prelude.{ℕ, ◌≡◌, ◌<◌, ◌≤◌, ◌^◌, Bool, true, Contains, Some}
+use Rattle.log_join.specs.Families.{Past}
 use Rattle.std.specs.Prelude.{slice_get}
-use Rattle.std.specs.List.{AllByRecursion}
-use Rattle.ft_types.specs.Counts.{count_at, IsCount}
+use Rattle.ft_types.specs.Counts.{count_at}
 use Rattle.ft_types.specs.Guests.{GuestParts, IsGuest}
 use Rattle.interleaving.specs.Log.{Edge}
-use Rattle.fragment_codec.specs.declared.frame.Frame.{Frame}
 use Rattle.fragment_codec.specs.Rules.{IsOpening}
-use Rattle.log_join.specs.Cells.{One}
-use Rattle.log_join.specs.Stores.{StoreView, IsStore, opening_at}
-use Rattle.closed_cut.specs.Position.{base_of, IsReached, IsPosition}
+use Rattle.log_join.specs.Stores.{StoreView, IsStore}
+use Rattle.closed_cut.specs.Position.{IsPosition}
 use Rattle.ft_types.specs.declared.position.Position.{Position}
-use Rattle.failover_theory.specs.Lists.{how_many}
-use Rattle.failover_theory.specs.Recorders.{Output, Recorder, IsBoot, GoesTo, CanLive}
-use Rattle.failover_theory.specs.Families.{IsHonestTerm, IsFamily, Keeps}
-pub use Rattle.failover_theory.specs.Families.{IsInside}
+use Rattle.fenced_theory.specs.Recorders.{Output, Recorder, IsBoot, GoesTo, CanLive}
+use Rattle.fenced_theory.specs.Families.{Keeps}
+use Rattle.fenced_theory.specs.Worlds as fences
+use Rattle.fenced_theory.specs.Laws.{IsFailover as IsFencedFailover}
 use Rattle.failover_theory.specs.Worlds.{Released, World, Quorum, WentOut, Joined, new_opening, Comes}
-
--- a store with more of the family reaches as far in a term of its chain, but for the base of the chain's next term
-abbrev pub Growth : {Book Fact : Type 0} → Recorder Book Fact → Type 0
-Growth {Book} {Fact} recorder =
-    (terms : ℕ → Option (Past Book)) (s r : StoreView) (term : ℕ) (p : Past Book) (limit : Option (ℕ → ℕ)) (before : ℕ → ℕ) →
-    IsFamily recorder terms → HonestStore terms s → HonestStore terms r → Below s r →
-    terms term ≡ Some p → opening_at s term ≡ One (p.opening) → IsReached s term (base_of p.opening) limit before →
-    ((now : ℕ → ℕ) → IsReached r term (base_of p.opening) None now → (hart : ℕ) → before hart ≤ now hart) ×
-    ((next : ℕ) (n : Past Book) (now : ℕ → ℕ) → terms next ≡ Some n → n.opening.parent ≡ term →
-    IsReached r term (base_of p.opening) (Some (base_of n.opening)) now →
-    (hart : ℕ) → min (before hart) (base_of n.opening hart) ≤ now hart)
-
--- ---- failover
 
 -- the chosen keepers' stores have a join, with a position from which a later term can begin
 pub record CanGo {Book : Type 0} (quorum : Quorum) (guest : GuestParts) (w : World Book) (chosen : ℕ → Bool) : Type 0 where
@@ -39,29 +23,10 @@ pub record CanGo {Book : Type 0} (quorum : Quorum) (guest : GuestParts) (w : Wor
   pub is : IsPosition all position
   pub opening : (u : ℕ) → w.now < u → u < 2 ^ 32 → IsOpening (new_opening guest u position)
 
--- `need` keepers have the output inside the position of whatever store they have, while they have one
-pub record IsHeld {Book : Type 0} (quorum : Quorum) (w : World Book) (r : Released) : Type 0 where
-  pub by : ℕ → Bool
-  pub enough : quorum.need ≤ how_many quorum.keepers by
-  pub inside : (keeper : ℕ) (s : StoreView) (p : Position) → by keeper ≡ true → w.stores keeper ≡ Some s → IsPosition s p →
-      IsInside w.terms r.term r.hart r.output.step p × (r.output.step < count_at p.counts r.hart)
-
 module _ {Book Fact : Type 0} (recorder : Recorder Book Fact) where
-  pub record IsHonestHistory (w : World Book) : Type 0 where
-    pub terms : (term : ℕ) (p : Past Book) → w.terms term ≡ Some p → IsHonestTerm recorder w.terms term p
-    pub frames : (f : Frame) → Contains w.sent f → OfFamily w.terms f
-    pub stores : (keeper : ℕ) (s : StoreView) → w.stores keeper ≡ Some s → HonestStore w.terms s
-
   pub record IsFailover (quorum : Quorum) (w : World Book) : Type 0 where
-    pub honest : IsHonestHistory w
-    -- what was released is held by those who acknowledged it
-    pub held : (r : Released) → Contains w.released r → IsHeld quorum w r
-    -- one step and word for each hart and number
-    pub one : (r s : Released) → Contains w.released r → Contains w.released s → r.hart ≡ s.hart → r.number ≡ s.number → r.output ≡ s.output
-    -- a term granted after a release has it inside its chain
-    pub kept : (r : Released) (u : ℕ) (p : Past Book) → Contains w.released r → w.terms u ≡ Some p → r.term < u → Keeps w.terms r.term r.hart r.output.step u
-    -- and below its base
-    pub within : (r : Released) (u : ℕ) (p : Past Book) → Contains w.released r → w.terms u ≡ Some p → r.term < u → r.output.step < base_of p.opening r.hart
+    -- frames and stores are honest; what was released is held, has one step and word for its hart and number, and each greater term keeps it
+    pub fenced : IsFencedFailover recorder quorum w.terms w.sent w.stores w.released
     -- what was released is of the machine of the term granted last
     pub current : (r : Released) (p : Past Book) → Contains w.released r → w.terms w.now ≡ Some p →
         slice_get (recorder.outputs p.told r.hart) r.number ≡ Some r.output
@@ -111,3 +76,17 @@ module _ {Book Fact : Type 0} (recorder : Recorder Book Fact) where
       slice_get (recorder.outputs b 0) 0 ≡ Some o → o.step ≡ 0 → 0 < recorder.counts b 0 → ((e : Edge) → Contains (recorder.edges b) e → ⊥) →
       CanLive recorder →
       (w : World Book) × Comes recorder guest (record { keepers = 1; need = 1 }) w × (w.now ≡ 2) × ((r : Released) × Contains w.released r × (r.output ≡ o))
+
+-- ---- primaries that stop are those that nobody stops
+
+-- what both worlds have is the same
+pub record HasAllOf {Book : Type 0} (w : World Book) (v : fences.World Book) : Type 0 where
+  pub terms : v.terms ≡ w.terms
+  pub sent : v.sent ≡ w.sent
+  pub stores : v.stores ≡ w.stores
+  pub released : v.released ≡ w.released
+
+-- each world in which a primary stops before the next term is granted is one with fences
+abbrev pub StoppingIsFenced : {Book Fact : Type 0} → Recorder Book Fact → GuestParts → Quorum → Type 0
+StoppingIsFenced {Book} {Fact} recorder guest quorum =
+    (w : World Book) → Comes recorder guest quorum w → (v : fences.World Book) × fences.Comes recorder guest quorum v × HasAllOf w v

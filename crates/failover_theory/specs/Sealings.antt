@@ -8,8 +8,8 @@ use Rattle.ft_types.specs.Guests.{GuestParts}
 use Rattle.fragment_codec.specs.Rules.{FragmentParts}
 use Rattle.log_pieces.specs.Pieces.{HartLog, Mark, IsPiece, ArePieces}
 use Rattle.closed_cut.specs.Position.{base_of}
-use Rattle.failover_theory.specs.Recorders.{Recorder}
-use Rattle.failover_theory.specs.Families.{IsCutFrom}
+use Rattle.fenced_theory.specs.Recorders.{Recorder}
+use Rattle.fenced_theory.specs.Families.{IsCutFrom}
 use Rattle.failover_theory.specs.Worlds.{World, Quorum, sealed, Comes}
 
 -- a term with one more piece of a hart

@@ -1,5 +1,5 @@
--- A primary, keepers of its log, a gate for its outputs, and those who go live after it.
-use Rattle.std.specs.Prelude.{ℕ, suc, ◌≡◌, ◌+◌, ◌<◌, ◌≤◌, ◌⊎◌, Bool, true, false, List, [], ◌∷◌, ◌++◌, length, replicate, Contains, nat_lt, Option, Some, None}
+-- A primary, keepers of its log, a gate for its outputs, and those who go live after it, once it has stopped.
+use Rattle.std.specs.Prelude.{ℕ, ◌≡◌, ◌+◌, ◌<◌, ◌≤◌, ◌⊎◌, Bool, true, false, List, [], ◌∷◌, ◌++◌, length, Contains, nat_lt, Option, Some, None}
 use Rattle.log_join.specs.Families.{Past, end_of}
 use Rattle.std.specs.Prelude.{slice_get}
 use Rattle.interleaving.specs.Lists.{put}
@@ -7,21 +7,15 @@ use Rattle.ft_types.specs.Counts.{count_at}
 use Rattle.ft_types.specs.Guests.{GuestParts}
 use Rattle.fragment_codec.specs.declared.frame.Frame.{Frame}
 use Rattle.fragment_codec.specs.declared.frame.Frame.TheVariants.{Log, Opening}
-use Rattle.fragment_codec.specs.Rules.{FragmentParts, OpeningParts, IsOpening}
+use Rattle.fragment_codec.specs.Rules.{FragmentParts, IsOpening}
 use Rattle.log_join.specs.Stores.{StoreView, IsFragmentOf, IsJoin, nothing, alone}
 use Rattle.closed_cut.specs.Position.{base_of, IsPosition}
 use Rattle.ft_types.specs.declared.position.Position.{Position}
-use Rattle.failover_theory.specs.Lists.{how_many}
-use Rattle.failover_theory.specs.Recorders.{Output, Recorder, IsBoot, GoesTo, LivesOn}
-use Rattle.failover_theory.specs.Families.{IsCutFrom}
+use Rattle.fenced_theory.specs.Lists.{how_many}
+use Rattle.fenced_theory.specs.Recorders.{Output, Recorder, IsBoot, GoesTo}
+use Rattle.fenced_theory.specs.Families.{IsCutFrom}
+pub use Rattle.fenced_theory.specs.Worlds.{Released, Quorum, Joined, NoneYet, Skip, Take, new_opening, first_term, new_term, BeginsAt, AtBoot, AtCut}
 use Rattle.failover_theory.specs.Notes.{HasNotes, IsNoting, IsMark}
-
--- an output that went out
-pub record Released : Type 0 where
-  pub term : ℕ
-  pub hart : ℕ
-  pub number : ℕ
-  pub output : Output
 
 pub record World (Book : Type 0) : Type 0 where
   pub now : ℕ  -- the term granted last
@@ -38,28 +32,6 @@ pub record World (Book : Type 0) : Type 0 where
 abbrev pub WentOut : List Released → ℕ → ℕ → Type 0
 WentOut released hart number = (r : Released) × Contains released r × (r.hart ≡ hart) × (r.number ≡ number)
 
--- how many keepers there are, and how many acknowledge a release
-pub record Quorum : Type 0 where
-  pub keepers : ℕ
-  pub need : ℕ
-
--- the store is the join of those of the chosen keepers below n, each of which has one
-pub data Joined (guest : GuestParts) (stores : ℕ → Option StoreView) (chosen : ℕ → Bool) : ℕ → StoreView → Type 0 where
-  NoneYet : Joined guest stores chosen 0 (nothing guest)
-  Skip : {n : ℕ} {s : StoreView} → chosen n ≡ false → Joined guest stores chosen n s → Joined guest stores chosen (suc n) s
-  Take : {n : ℕ} {s t : StoreView} (r : StoreView) → chosen n ≡ true → stores n ≡ Some r → Joined guest stores chosen n s → IsJoin r s t →
-      Joined guest stores chosen (suc n) t
-
--- the opening of a term that goes live at a position
-abbrev pub new_opening : GuestParts → ℕ → Position → OpeningParts
-new_opening guest u p = record { guest = guest; term = u; parent = p.term; base = p.counts }
-
-abbrev pub first_opening : GuestParts → OpeningParts
-first_opening guest = record { guest = guest; term = 1; parent = 0; base = replicate guest.harts 0 }
-
-abbrev pub first_term : {Book : Type 0} → GuestParts → Book → Past Book
-first_term guest b = record { opening = first_opening guest; told = b; pieces = λ hart. [] }
-
 abbrev pub first_world : {Book : Type 0} → GuestParts → Book → World Book
 first_world guest b =
     record {
@@ -73,10 +45,6 @@ first_world guest b =
       marks = λ term hart. 0;
       released = [];
     }
-
--- the term that goes live at a position, with this book
-abbrev pub new_term : {Book : Type 0} → GuestParts → ℕ → Position → Book → Past Book
-new_term guest u p b = record { opening = new_opening guest u p; told = b; pieces = λ hart. [] }
 
 abbrev pub stepped : {Book : Type 0} → World Book → Past Book → Book → World Book
 stepped w p b = record w { terms = put w.terms w.now (Some (record p { told = b })) }
@@ -106,12 +74,6 @@ granted guest w u p b marks =
       notes = put w.notes u (λ hart. []);
       marks = put w.marks u marks;
     }
-
-module _ {Book Fact : Type 0} (recorder : Recorder Book Fact) where
-  -- the book begins at the position: at the machine of the position's term at its counts, or at boot where it has no term
-  pub data BeginsAt (terms : ℕ → Option (Past Book)) (p : Position) (b : Book) : Type 0 where
-    AtBoot : terms p.term ≡ None → IsBoot recorder b → BeginsAt terms p b
-    AtCut : (q : Past Book) → terms p.term ≡ Some q → LivesOn recorder q.told (count_at p.counts) b → BeginsAt terms p b
 
 module _ {Book Fact : Type 0} (recorder : Recorder Book Fact) (guest : GuestParts) (quorum : Quorum) where
   -- what may happen next

@@ -31,9 +31,9 @@ use Rattle.hart_replay.proofs.honesty.Primaries.{primaries_are_histories}
 use Rattle.hart_replay.proofs.walking.Outcomes.{booted_none, booted_length}
 use Rattle.book_recorder.specs.TermBooks.{IsTermBook, AreTheory}
 use Rattle.book_recorder.proofs.Books.{are_theory, booted_are_term_books}
-use Rattle.failover_theory.specs.Machines.{AtBoot, IsRecorder}
+use Rattle.fenced_theory.specs.Machines.{AtBoot, IsRecorder}
 use Rattle.failover_theory.specs.Worlds as theory
-use Rattle.failover_theory.proofs.Recording.{of_logs}
+use Rattle.fenced_theory.proofs.Recording.{of_logs}
 use Rattle.go_live.specs.Histories.{MakesLonger}
 use Rattle.primary.specs.Outputs.{numbered, said_at}
 use Rattle.primary.specs.declared.released.Released.{Released}

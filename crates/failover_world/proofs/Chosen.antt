@@ -12,7 +12,7 @@ use Rattle.log_join.specs.Families.{Past, opening_of, piece_of, HonestStore}
 use Rattle.log_join.specs.Stores.{StoreView, nothing}
 use Rattle.hart_replay.specs.Images.{GuestHistory, IsHistoryOf}
 use Rattle.hart_replay.specs.Primaries.{term_of as history_of}
-use Rattle.failover_theory.specs.Lists.{how_many}
+use Rattle.fenced_theory.specs.Lists.{how_many}
 use Rattle.failover_theory.specs.Worlds as theory
 use Rattle.failover_theory.proofs.Events.{always}
 use Rattle.go_live.specs.Quorums.{distinct, AreEnough}

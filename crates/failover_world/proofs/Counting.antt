@@ -1,7 +1,7 @@
 -- How many keepers acknowledged more than a step.
 use Rattle.std.proofs.Common.{◌≡◌, ℕ, zero, suc, ◌+◌, ◌<◌, ◌≤◌, Bool, true, false, cond, List, [], ◌∷◌, length, get_or, refl, sym, ap, subst, ◌∙◌, arith}
 use Rattle.std.specs.List.{count_by, fold}
-use Rattle.failover_theory.specs.Lists.{how_many}
+use Rattle.fenced_theory.specs.Lists.{how_many}
 
 one_if : Bool → ℕ
 one_if b = cond b 1 0

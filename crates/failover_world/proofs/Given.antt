@@ -10,7 +10,7 @@ use Rattle.guest_image.specs.Machine.{MachineState}
 use Rattle.output_gate.specs.Gates.{LineView, GateView, fresh_line, line_of, mark_at, passed_of, gone_of, waiting_of, offered_of, is_held, held_outputs, after_release}
 use Rattle.output_gate.specs.Orders.{AreAbove, ArePassedBelow}
 use Rattle.term_gate.specs.TermGates.{TermGateView}
-use Rattle.failover_theory.proofs.Stores.{see_bool}
+use Rattle.fenced_theory.proofs.Stores.{see_bool}
 use Rattle.primary.specs.Outputs.{numbered, said_at}
 use Rattle.primary.specs.Gating.{AreRising, AreOffered, AreAllOffered, OffersMore}
 use Rattle.primary.specs.Noting.{last_of}

@@ -7,8 +7,8 @@ use Rattle.guest_image.specs.Machine.{MachineState}
 use Rattle.ft_types.specs.declared.output.Output.{Output}
 use Rattle.output_gate.specs.Gates.{GateView, waiting_of, holder_count, is_held, held_outputs}
 use Rattle.term_gate.specs.TermGates.{TermGateView, AreAcked, acked_at}
-use Rattle.failover_theory.specs.Lists.{how_many}
-use Rattle.failover_theory.proofs.Stores.{see_bool}
+use Rattle.fenced_theory.specs.Lists.{how_many}
+use Rattle.fenced_theory.proofs.Stores.{see_bool}
 use Rattle.primary.specs.Gating.{AreOffered}
 use Rattle.primary.proofs.Said.{IsSaid, each_filter, each_held, waiting_said}
 use Rattle.failover_world.proofs.Counting.{row_among}

@@ -31,13 +31,12 @@ use Rattle.hart_replay.specs.Plans.{noted_in}
 use Rattle.hart_replay.specs.Primaries.{IsTermOfBook, unsealed, term_of as history_of}
 use Rattle.hart_replay.proofs.honesty.Sealing.{unsealed_is_of_book}
 use Rattle.hart_replay.proofs.honesty.Replays.{legs_keep_pages, boot_pages}
-use Rattle.failover_theory.specs.Machines.{Book, BookFact, AreTidy, AtBoot, AtCut}
-use Rattle.failover_theory.specs.Lists.{how_many}
-use Rattle.failover_theory.specs.Recorders.{Output as TheoryOutput}
+use Rattle.fenced_theory.specs.Machines.{Book, BookFact, AreTidy, AtBoot, AtCut}
+use Rattle.fenced_theory.specs.Lists.{how_many}
+use Rattle.fenced_theory.specs.Recorders.{Output as TheoryOutput}
 use Rattle.failover_theory.specs.Worlds as theory
-use Rattle.failover_theory.proofs.Invariant.{Invariant}
-use Rattle.failover_theory.proofs.Events.{always}
-use Rattle.failover_theory.proofs.Stores.{see, honest_joined}
+use Rattle.failover_theory.proofs.Events.{Invariant, always}
+use Rattle.fenced_theory.proofs.Stores.{see, honest_joined}
 use Rattle.book_recorder.specs.TermBooks.{outputs_of, IsTermBook, IsRevived}
 use Rattle.book_recorder.proofs.Books.{revived_are_term_books}
 use Rattle.term_gate.specs.TermGates.{TermGateView, acked_at}
@@ -122,7 +121,7 @@ module _ (v : WorldView) (is : IsTied v) (term : ℕ) (named : List ℕ) (p : Pr
   as_large : length p.book.start.pages ≡ v.image.pages
   as_large = legs_keep_pages begun_at.replayed.legs (boot_machine v.image) p.book.start begun_at.replayed.outcome ∙ boot_pages v.image
 
-  kept : Invariant is.is_recorder.recorder (quorum_of v) (theory_world v.image.pages is.are_theory (guest_of v.image) v is.terms is.notes is.marks is.out)
+  kept : Invariant is.is_recorder.recorder (theory_world v.image.pages is.are_theory (guest_of v.image) v is.terms is.notes is.marks is.out)
   kept = always is.is_recorder.recorder (guest_of v.image) (quorum_of v) is.comes
 
   -- no such term was granted
@@ -279,7 +278,7 @@ module _ (v : WorldView) (is : IsTied v) (parts : AreParts v) (term : ℕ) (name
       subst (λ n. theory.Joined (guest_of v.image) world.stores (chosen_of v.stores named) n live.at.joined) parts.stores
       (all_joined v is parts.guest named live.at.joined live.at.are_joined)
 
-  invariant : Invariant is.is_recorder.recorder (quorum_of v) world
+  invariant : Invariant is.is_recorder.recorder world
   invariant = always is.is_recorder.recorder (guest_of v.image) (quorum_of v) is.comes
 
   in_theory : v.runs ≡ false → Comes (with_opening p.opening)

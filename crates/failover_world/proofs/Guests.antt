@@ -13,9 +13,8 @@ use Rattle.log_join.proofs.Told.{guests_told, openings_told, fragments_told}
 use Rattle.log_join.proofs.Cells.{cells_join}
 use Rattle.log_join.proofs.Joins.{commutes, idempotent_stores}
 use Rattle.log_join.proofs.Families.{granted_opening, granted_piece}
-use Rattle.failover_theory.proofs.Granting.{a_join}
-use Rattle.failover_theory.proofs.Invariant.{Invariant}
-use Rattle.failover_theory.proofs.Events.{always}
+use Rattle.fenced_theory.proofs.Granting.{a_join}
+use Rattle.failover_theory.proofs.Events.{Invariant, always}
 use Rattle.failover_theory.proofs.Ruled.{IsOfRules, ruled, stores_are_right}
 use Rattle.failover_world.specs.Worlds.{WorldView, store_at, term_of}
 use Rattle.failover_world.specs.Tied.{theory_world, quorum_of, live_book, IsTied}
@@ -58,10 +57,10 @@ own_answer s (Log x) same =
     (not_other same_fragment (fragment_at s x.key) x)
 
 module _ (v : WorldView) (is : IsTied v) (guest : IsGuest (guest_of v.image)) where
-  kept : Invariant is.is_recorder.recorder (quorum_of v) (theory_world v.image.pages is.are_theory (guest_of v.image) v is.terms is.notes is.marks is.out)
+  kept : Invariant is.is_recorder.recorder (theory_world v.image.pages is.are_theory (guest_of v.image) v is.terms is.notes is.marks is.out)
   kept = always is.is_recorder.recorder (guest_of v.image) (quorum_of v) is.comes
 
-  rules : IsOfRules is.is_recorder.recorder (guest_of v.image) (quorum_of v) (theory_world v.image.pages is.are_theory (guest_of v.image) v is.terms is.notes is.marks is.out)
+  rules : IsOfRules (guest_of v.image) (theory_world v.image.pages is.are_theory (guest_of v.image) v is.terms is.notes is.marks is.out)
   rules = ruled is.is_recorder.recorder (guest_of v.image) (quorum_of v) guest is.comes
 
   pub store_guest : (keeper : ℕ) (s : StoreView) → store_at v.stores keeper ≡ Some s → s.guest ≡ guest_of v.image

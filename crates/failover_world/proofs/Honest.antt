@@ -40,7 +40,7 @@ module _ (v : WorldView) (is : IsTied v) where
         is_history = is_history v is;
         sent = λ f has.
             frame_retold (told_as v.image.pages is.are_theory) (λ (t : TermBook v.image.pages). history_of t.book) is.terms f
-            ((laws v is).honest.frames f has);
+            ((laws v is).fenced.honest.frames f has);
         stores = λ keeper s at.
             honest_retold (told_as v.image.pages is.are_theory) (λ (t : TermBook v.image.pages). history_of t.book) is.terms s
             (kept.stores keeper s (there_too v.stores keeper s (Some (nothing (guest_of v.image))) at));

@@ -21,10 +21,10 @@ use Rattle.hart_replay.specs.Laws.{ArePlanned}
 use Rattle.hart_replay.specs.Plans.{terms_of, noted_in, BeginsAtBase, EndAt}
 use Rattle.hart_replay.proofs.gathering.Ends.{FromPiece, from_piece, in_filter}
 use Rattle.hart_replay.proofs.gathering.Facts.{to_filter, to_records}
-use Rattle.failover_theory.specs.Recorders.{Recorder}
-use Rattle.failover_theory.specs.Families.{IsFamily, Keeps, Here, Above, IsInside, Boot, At}
+use Rattle.fenced_theory.specs.Recorders.{Recorder}
+use Rattle.fenced_theory.specs.Families.{IsFamily, Keeps, Here, Above, IsInside, Boot, At}
 use Rattle.failover_theory.specs.Notes.{notes_in, IsTold, IsMark}
-use Rattle.failover_theory.proofs.Growing.{an_opening, one_same, some_same, some_none}
+use Rattle.fenced_theory.proofs.Growing.{an_opening, one_same, some_same, some_none}
 
 -- ---- notes among records
 

@@ -18,7 +18,7 @@ use Rattle.hart_replay.specs.Primaries.{IsPrimary}
 use Rattle.output_gate.specs.Gates.{mark_at}
 use Rattle.failover_theory.specs.Notes.{IsNoting}
 use Rattle.failover_theory.specs.Worlds as theory
-use Rattle.failover_theory.proofs.Stores.{see}
+use Rattle.fenced_theory.proofs.Stores.{see}
 use Rattle.book_recorder.specs.TermBooks.{ComesOf}
 use Rattle.failover_world.specs.Worlds.{WorldView, term_of}
 use Rattle.primary.specs.Noting.{last_of, noted_to, NotesAll}

@@ -9,8 +9,8 @@ use Rattle.page_book.specs.Books.{BookView}
 use Rattle.ft_types.specs.declared.output.Output.{Output}
 use Rattle.output_gate.specs.Gates.{GateView, offered_of}
 use Rattle.primary.specs.Outputs.{numbered, said_by, said_at}
-use Rattle.failover_theory.specs.Recorders.{Output as TheoryOutput}
-use Rattle.failover_theory.specs.Machines.{ByRun}
+use Rattle.fenced_theory.specs.Recorders.{Output as TheoryOutput}
+use Rattle.fenced_theory.specs.Machines.{ByRun}
 use Rattle.book_recorder.specs.TermBooks.{ComesOf, outputs_of}
 use Rattle.hart_replay.specs.Primaries.{IsPrimary}
 use Rattle.failover_world.specs.Worlds.{WorldView}

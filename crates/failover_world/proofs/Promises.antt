@@ -16,13 +16,12 @@ use Rattle.primary.specs.declared.released.Released.{Released}
 use Rattle.log_join.specs.Stores.{nothing}
 use Rattle.log_join.proofs.Families.{granted_opening}
 use Rattle.book_recorder.specs.TermBooks.{outputs_of}
-use Rattle.failover_theory.specs.Recorders.{Output as TheoryOutput}
-use Rattle.failover_theory.specs.Families.{Keeps, Here as IsHere, Above as IsAbove, IsInside}
+use Rattle.fenced_theory.specs.Recorders.{Output as TheoryOutput}
+use Rattle.fenced_theory.specs.Families.{Keeps, Here as IsHere, Above as IsAbove, IsInside}
 use Rattle.failover_theory.specs.Laws.{IsFailover}
 use Rattle.failover_theory.specs.Worlds as theory
-use Rattle.failover_theory.proofs.Events.{failover}
+use Rattle.failover_theory.proofs.Events.{failover, acked_inside}
 use Rattle.failover_theory.proofs.Ruled.{ruled}
-use Rattle.failover_theory.proofs.Reaching.{acked_inside}
 use Rattle.failover_world.specs.Worlds.{WorldView}
 use Rattle.primary.specs.Outputs.{said_by}
 use Rattle.failover_world.specs.Promises.{IsInChain, Here, Above, IsInside as IsInsideHere, IsOne, IsOfMachine, IsKept, AreHeld, AreAckedInside, IsPrimaryOf, AreNotesReleased, NoneIsNoted}
@@ -58,7 +57,7 @@ module _ (v : WorldView) (is : IsTied v) where
 
   pub is_one : IsOne v
   is_one r s has_r has_s hart number =
-      let same = laws.one (theory_released r) (theory_released s) (is.went_out r has_r) (is.went_out s has_s) hart number in
+      let same = laws.fenced.one (theory_released r) (theory_released s) (is.went_out r has_r) (is.went_out s has_s) hart number in
       (ap (λ o. o.step) same, ap (λ o. o.word) same)
 
   pub is_of_machine : LeadsTo (heard_by v.primary.book.mode) v.primary.book.start v.primary.book.journal v.primary.book.machine → IsOfMachine v
@@ -107,11 +106,11 @@ module _ (v : WorldView) (is : IsTied v) where
 
     of_chain : (term hart step : ℕ) {u : ℕ} → IsInChain v term hart step u → Keeps told_terms term hart step u
     of_chain term hart step (Here o sent is_term parent inside) =
-        let (q, at, same) = granted_opening told_terms o.term o (laws.honest.frames (Opening o) sent) in
+        let (q, at, same) = granted_opening told_terms o.term o (laws.fenced.honest.frames (Opening o) sent) in
         subst (Keeps told_terms term hart step) is_term
         (IsHere q at (ap (λ (p : OpeningParts). p.parent) same ∙ parent) (subst (λ (p : OpeningParts). step < count_at p.base hart) (sym same) inside))
     of_chain term hart step (Above o sent is_term rest) =
-        let (q, at, same) = granted_opening told_terms o.term o (laws.honest.frames (Opening o) sent) in
+        let (q, at, same) = granted_opening told_terms o.term o (laws.fenced.honest.frames (Opening o) sent) in
         subst (Keeps told_terms term hart step) is_term
         (IsAbove q at (subst (Keeps told_terms term hart step) (sym (ap (λ (p : OpeningParts). p.parent) same)) (of_chain term hart step rest)))
 
@@ -123,10 +122,10 @@ module _ (v : WorldView) (is : IsTied v) where
 
     pub is_kept : IsKept v
     is_kept r o has sent later =
-        let (q, at, same) = granted_opening told_terms o.term o (laws.honest.frames (Opening o) sent) in (
-          in_chain r.term r.output.hart r.output.step (laws.kept (theory_released r) o.term q (is.went_out r has) at later),
+        let (q, at, same) = granted_opening told_terms o.term o (laws.fenced.honest.frames (Opening o) sent) in (
+          in_chain r.term r.output.hart r.output.step (laws.fenced.kept (theory_released r) o.term q (is.went_out r has) at later),
           subst (λ (p : OpeningParts). r.output.step < count_at p.base r.output.hart) same
-              (laws.within (theory_released r) o.term q (is.went_out r has) at later),
+              (laws.fenced.within (theory_released r) o.term q (is.went_out r has) at later),
         )
 
     -- inside a position in the theory's words
@@ -137,7 +136,7 @@ module _ (v : WorldView) (is : IsTied v) where
 
     pub are_held : AreHeld v
     are_held r has =
-        let held = laws.held (theory_released r) (is.went_out r has) in
+        let held = laws.fenced.held (theory_released r) (is.went_out r has) in
         record {
           by = held.by;
           enough = held.enough;

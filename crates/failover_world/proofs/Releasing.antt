@@ -15,9 +15,9 @@ use Rattle.book_modes.specs.Recordings.{RecordingView, heard_by}
 use Rattle.ft_types.specs.declared.output.Output.{Output}
 use Rattle.output_gate.specs.Gates.{mark_at, gone_of}
 use Rattle.term_gate.specs.TermGates.{TermGateView, acked_at}
-use Rattle.failover_theory.specs.Recorders.{Output as TheoryOutput}
+use Rattle.fenced_theory.specs.Recorders.{Output as TheoryOutput}
 use Rattle.failover_theory.specs.Worlds as theory
-use Rattle.failover_theory.specs.Machines.{IsRecorder}
+use Rattle.fenced_theory.specs.Machines.{IsRecorder}
 use Rattle.book_recorder.specs.TermBooks.{AreTheory, IsTermBook, outputs_of}
 use Rattle.hart_replay.specs.Images.{boot_of}
 use Rattle.page_book.specs.Books.{BookView}

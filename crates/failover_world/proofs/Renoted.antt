@@ -14,7 +14,7 @@ use Rattle.book_modes.specs.Recordings.{RecordingView, HasRoomed}
 use Rattle.hart_replay.specs.Primaries.{IsPrimary}
 use Rattle.output_gate.specs.Gates.{mark_at}
 use Rattle.failover_theory.specs.Worlds as theory
-use Rattle.failover_theory.proofs.Stores.{see}
+use Rattle.fenced_theory.proofs.Stores.{see}
 use Rattle.book_recorder.specs.TermBooks.{ComesOf}
 use Rattle.failover_world.specs.Worlds.{WorldView}
 use Rattle.primary.specs.Gating.{AreOffered}

@@ -11,7 +11,7 @@ use Rattle.fragment_codec.specs.declared.frame.Frame.TheVariants.{Opening}
 use Rattle.log_join.specs.Families.{Family}
 use Rattle.hart_replay.specs.Primaries.{IsPrimary}
 use Rattle.hart_replay.proofs.honesty.Sealing.{terms_go_on}
-use Rattle.failover_theory.specs.Machines.{ByRun}
+use Rattle.fenced_theory.specs.Machines.{ByRun}
 use Rattle.failover_theory.specs.Worlds as theory
 use Rattle.book_recorder.specs.TermBooks.{IsTermBook, ComesOf}
 use Rattle.book_recorder.proofs.Books.{later_are_term_books}

@@ -11,7 +11,7 @@ use Rattle.closed_cut.specs.Position.{IsPosition}
 use Rattle.ft_types.specs.declared.position.Position.{Position}
 use Rattle.hart_replay.specs.Images.{GuestTerm, GuestHistory, IsHistoryOf}
 use Rattle.hart_replay.specs.Primaries.{IsTermOfBook}
-use Rattle.failover_theory.specs.Lists.{how_many}
+use Rattle.fenced_theory.specs.Lists.{how_many}
 use Rattle.term_gate.specs.TermGates.{acked_at}
 use Rattle.primary.specs.declared.granted.Primary.{Primary}
 use Rattle.primary.specs.declared.released.Released.{Released}

@@ -15,7 +15,7 @@ use Rattle.log_join.specs.Families.{Past, Family}
 use Rattle.log_join.specs.Stores.{nothing}
 use Rattle.hart_replay.specs.Images.{GuestTerm, GuestHistory, boot_of}
 use Rattle.hart_replay.specs.Primaries.{term_of as history_of, IsPrimary, IsTermOfBook, IsSealedTo}
-use Rattle.failover_theory.specs.Machines.{Book, IsRecorder}
+use Rattle.fenced_theory.specs.Machines.{Book, IsRecorder}
 use Rattle.failover_theory.specs.Worlds as theory
 use Rattle.book_recorder.specs.TermBooks.{IsTermBook, AreTheory}
 use Rattle.lease_rounds.specs.Running.{IsIdle}

@@ -1,9 +1,8 @@
 -- Each call of a keeper is the event of its name.
 use Rattle.std.proofs.Common.{◌≤◌, sym, subst}
 use Rattle.ft_types.specs.Guests.{GuestParts}
-use Rattle.failover_theory.specs.Recorders.{Recorder}
-use Rattle.failover_theory.specs.Worlds.{Quorum}
-use Rattle.fenced_theory.specs.Worlds.{World, Deliver, Join, Save, Restart, Fence, Acknowledge}
+use Rattle.fenced_theory.specs.Recorders.{Recorder}
+use Rattle.fenced_theory.specs.Worlds.{Quorum, World, Deliver, Join, Save, Restart, Fence, Acknowledge}
 use Rattle.fenced_keeper.specs.Following.{KeepersFollow}
 
 module _ {Book Fact : Type 0} (recorder : Recorder Book Fact) (guest : GuestParts) (quorum : Quorum) where

@@ -5,9 +5,8 @@ use Rattle.ft_types.specs.Guests.{GuestParts}
 use Rattle.ft_types.specs.declared.position.Position.{Position}
 use Rattle.fragment_codec.specs.declared.frame.Frame.{Frame}
 use Rattle.log_join.specs.Stores.{StoreView, IsJoin, alone}
-use Rattle.failover_theory.specs.Recorders.{Recorder}
-use Rattle.failover_theory.specs.Worlds.{Quorum}
-use Rattle.fenced_theory.specs.Worlds.{World, Happens, held, saving, fenced, acking}
+use Rattle.fenced_theory.specs.Recorders.{Recorder}
+use Rattle.fenced_theory.specs.Worlds.{Quorum, World, Happens, held, saving, fenced, acking}
 use Rattle.fenced_keeper.specs.Keepers.{Acknowledges}
 
 -- in the world, the keeper of this number has this store, wrote that one down, and has this fence

@@ -1,8 +1,8 @@
 //! What the calls of a keeper are in the theory of fencing.
 
 ghost use Rattle.ft_types.specs.Guests.{GuestParts};
-ghost use Rattle.failover_theory.specs.Recorders.{Recorder};
-ghost use Rattle.failover_theory.specs.Worlds.{Quorum};
+ghost use Rattle.fenced_theory.specs.Recorders.{Recorder};
+ghost use Rattle.fenced_theory.specs.Worlds.{Quorum};
 ghost use Rattle.fenced_keeper.specs.Following.{KeepersFollow};
 
 /// In each world where a keeper stands with its store, what is written down and its fence, what its calls do is an event.

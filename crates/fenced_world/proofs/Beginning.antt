@@ -23,9 +23,9 @@ use Rattle.hart_replay.proofs.honesty.Primaries.{primaries_are_histories}
 use Rattle.hart_replay.proofs.walking.Outcomes.{booted_none}
 use Rattle.book_recorder.specs.TermBooks.{IsTermBook, AreTheory}
 use Rattle.book_recorder.proofs.Books.{are_theory, booted_are_term_books}
-use Rattle.failover_theory.specs.Machines.{AtBoot, IsRecorder}
-use Rattle.failover_theory.specs.Worlds.{first_term}
-use Rattle.failover_theory.proofs.Recording.{of_logs}
+use Rattle.fenced_theory.specs.Machines.{AtBoot, IsRecorder}
+use Rattle.fenced_theory.specs.Worlds.{first_term}
+use Rattle.fenced_theory.proofs.Recording.{of_logs}
 use Rattle.term_gate.specs.TermGates.{acked_at}
 use Rattle.fenced_theory.specs.Worlds as theory
 use Rattle.primary.specs.declared.released.Released.{Released}

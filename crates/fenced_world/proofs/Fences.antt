@@ -9,10 +9,9 @@ use Rattle.fragment_codec.specs.Rules.{OpeningParts}
 use Rattle.log_join.specs.Cells.{One}
 use Rattle.log_join.specs.Stores.{StoreView, opening_at}
 use Rattle.closed_cut.specs.Position.{IsPosition, NoTop, Top, Stops, Last, Short, On}
-use Rattle.failover_theory.specs.Recorders.{Recorder}
-use Rattle.failover_theory.specs.Worlds.{Quorum}
-use Rattle.failover_theory.proofs.Growing.{an_opening}
-use Rattle.fenced_theory.specs.Worlds.{World, Happens, Idle, Step, Seal, Deliver, Join, Save, Restart, Lose, Fence, Acknowledge, Release, Grant, Comes, Begins, Then}
+use Rattle.fenced_theory.specs.Recorders.{Recorder}
+use Rattle.fenced_theory.specs.Worlds.{Quorum, World, Happens, Idle, Step, Seal, Deliver, Join, Save, Restart, Lose, Fence, Acknowledge, Release, Grant, Comes, Begins, Then}
+use Rattle.fenced_theory.proofs.Growing.{an_opening}
 use Rattle.fenced_keeper.specs.Keepers.{Acknowledges}
 use Rattle.fenced_world.specs.Keepers.{KeptView, kept_at}
 use Rattle.fenced_world.specs.Worlds.{WorldView}

@@ -8,9 +8,9 @@ use Rattle.interleaving.proofs.Put.{same_or_not, put_same, put_other}
 use Rattle.guest_image.specs.Image.{guest_of}
 use Rattle.ft_types.specs.Guests.{IsGuest}
 use Rattle.log_join.specs.Stores.{StoreView, nothing}
-use Rattle.failover_theory.specs.Lists.{how_many}
-use Rattle.failover_theory.specs.Worlds.{Joined, NoneYet, Skip, Take}
-use Rattle.failover_theory.proofs.Stores.{see, see_bool}
+use Rattle.fenced_theory.specs.Lists.{how_many}
+use Rattle.fenced_theory.specs.Worlds.{Joined, NoneYet, Skip, Take}
+use Rattle.fenced_theory.proofs.Stores.{see, see_bool}
 use Rattle.failover_world.proofs.Guests.{either_side}
 use Rattle.fenced_theory.specs.Worlds as theory
 use Rattle.go_live.specs.Quorums.{distinct, AreEnough}

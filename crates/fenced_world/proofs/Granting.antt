@@ -25,10 +25,9 @@ use Rattle.hart_replay.specs.Images.{GuestTerm, IsHistoryOf, machine_of, boot_of
 use Rattle.hart_replay.specs.Primaries.{IsTermOfBook, unsealed}
 use Rattle.hart_replay.proofs.honesty.Sealing.{unsealed_is_of_book}
 use Rattle.hart_replay.proofs.honesty.Replays.{legs_keep_pages, boot_pages}
-use Rattle.failover_theory.specs.Machines.{BookFact, AreTidy, AtBoot, AtCut}
-use Rattle.failover_theory.specs.Worlds as older
-use Rattle.failover_theory.specs.Lists.{how_many}
-use Rattle.failover_theory.proofs.Stores.{see}
+use Rattle.fenced_theory.specs.Machines.{BookFact, AreTidy, AtBoot, AtCut}
+use Rattle.fenced_theory.specs.Lists.{how_many}
+use Rattle.fenced_theory.proofs.Stores.{see}
 use Rattle.fenced_theory.specs.Worlds as theory
 use Rattle.book_recorder.specs.TermBooks.{outputs_of, IsTermBook, IsRevived}
 use Rattle.book_recorder.proofs.Books.{revived_are_term_books}
@@ -226,14 +225,14 @@ module _ (v : WorldView) (is : IsTied v) (parts : AreParts v) (term : ℕ) (name
   terms_then : gave.world.terms ≡ (λ u. retold_in told (is.terms u))
   terms_then = gave.terms ∙ is.terms_are
 
-  begun : older.BeginsAt is.is_recorder.recorder gave.world.terms position now
+  begun : theory.BeginsAt is.is_recorder.recorder gave.world.terms position now
   begun =
-      subst (λ terms. older.BeginsAt is.is_recorder.recorder terms position now) (sym terms_then)
+      subst (λ terms. theory.BeginsAt is.is_recorder.recorder terms position now) (sym terms_then)
       (elim (see (is.terms position.term)) [
         | inl none ↦
             let fact : BookFact (system_of (hardware v.image.pages)) is.are_theory.outs (boot_of v.image) =
             AtBoot now (is.are_theory.from r.primary.book own_book ∙ from_boot none) in
-            older.AtBoot (ap (retold_in told) none) (fact, is.is_recorder.tells fact)
+            theory.AtBoot (ap (retold_in told) none) (fact, is.is_recorder.tells fact)
         | inr (q, there) ↦
             let was = is.are_theory.book q.told.book q.told.is in
             let fact : BookFact (system_of (hardware v.image.pages)) is.are_theory.outs (boot_of v.image) =
@@ -248,14 +247,14 @@ module _ (v : WorldView) (is : IsTied v) (parts : AreParts v) (term : ℕ) (name
             is.are_theory.turns r.primary.book own_book
             ∙ ap (λ (b : BookView RecordingView). journal_turns (heard_by r.primary.book.mode) r.primary.book.start b.journal) live.begins
             ) in
-            older.AtCut (retold told q) (ap (retold_in told) there) (fact, is.is_recorder.tells fact)
+            theory.AtCut (retold told q) (ap (retold_in told) there) (fact, is.is_recorder.tells fact)
       ])
 
   in_theory : theory.Comes is.is_recorder.recorder (guest_of v.image) (quorum_of v) (theory.granted (guest_of v.image) gave.world term position now)
   in_theory =
       theory.Then gave.comes
       (theory.Grant term (chosen_of v.held named) live.at.joined position now (ap (λ f. f term) terms_then ∙ ap (retold_in told) not_granted)
-      (subst (λ n. older.Joined (guest_of v.image) (gave.world.given term) (chosen_of v.held named) n live.at.joined) parts.many
+      (subst (λ n. theory.Joined (guest_of v.image) (gave.world.given term) (chosen_of v.held named) n live.at.joined) parts.many
       (all_joined v is term named live.own parts.guest live.at.joined live.at.are_joined))
       (subst (λ n. v.keepers < v.need + how_many n (chosen_of v.held named)) parts.many (enough v.held named v.keepers v.need live.enough))
       (λ other o one. joined_below (guest_of v.image) (stores_in (gifts_of v.held named)) term live.at.joined live.new live.at.are_joined other o one)
@@ -266,7 +265,7 @@ module _ (v : WorldView) (is : IsTied v) (parts : AreParts v) (term : ℕ) (name
 
   terms_now : (theory.granted (guest_of v.image) gave.world term position now).terms ≡ (λ u. retold_in told (put is.terms r.primary.opening.term (Some new_past) u))
   terms_now =
-      ap (λ f. put f term (Some (older.new_term (guest_of v.image) term position now))) terms_then
+      ap (λ f. put f term (Some (theory.new_term (guest_of v.image) term position now))) terms_then
       ∙ ap (λ (o : OpeningParts). put (λ u. retold_in told (is.terms u)) o.term (Some (let p : Past (Books v.image.pages is.are_theory) = record { opening = o; told = now; pieces = λ hart. [] } in p)))
       (sym live.at.opened)
       ∙ sym (retold_put told is.terms r.primary.opening.term (Some new_past))
@@ -281,7 +280,7 @@ module _ (v : WorldView) (is : IsTied v) (parts : AreParts v) (term : ℕ) (name
         comes = in_theory;
         terms_are = terms_now;
         sent =
-            ap (λ fs. fs ++ Opening (older.new_opening (guest_of v.image) term position) ∷ []) (gave.sent ∙ is.sent)
+            ap (λ fs. fs ++ Opening (theory.new_opening (guest_of v.image) term position) ∷ []) (gave.sent ∙ is.sent)
             ∙ ap (λ (o : OpeningParts). v.sent ++ Opening o ∷ []) (sym live.at.opened);
         are_terms = terms_more is.terms v.running r new_past is.are_terms (λ n q there e. new n q there (sym e ∙ is_term))
             (record {

@@ -1,7 +1,5 @@
 -- What the theory tells of the world: its law, and whose the stores, frames and openings are.
 use Rattle.std.proofs.Common.{◌≡◌, ◌≢◌, ℕ, Bool, true, false, Contains, slice_get, Some, if◌then◌else◌, sym, ap, subst, ◌∙◌}
-use Rattle.interleaving.specs.Stored.{system_of}
-use Rattle.rv32_hart.specs.Hardware.{hardware}
 use Rattle.ft_types.specs.Guests.{GuestParts, IsGuest}
 use Rattle.guest_image.specs.Image.{guest_of}
 use Rattle.fragment_codec.specs.declared.frame.Frame.{Frame}
@@ -13,9 +11,7 @@ use Rattle.log_join.specs.Answers.{answer, answer_to}
 use Rattle.log_join.specs.Stores.{StoreView, IsStore, IsOpeningOf, opening_at, fragment_at}
 use Rattle.log_join.proofs.Told.{guests_told}
 use Rattle.log_join.proofs.Families.{granted_opening, granted_piece}
-use Rattle.hart_replay.specs.Images.{boot_of}
-use Rattle.fenced_theory.specs.Laws.{Lasts, IsFailover, AreStores}
-use Rattle.fenced_theory.proofs.Lasting.{books_last}
+use Rattle.fenced_theory.specs.Laws.{IsLawful, AreStores}
 use Rattle.fenced_theory.proofs.Invariant.{Invariant}
 use Rattle.fenced_theory.proofs.Events.{always, failover}
 use Rattle.fenced_theory.proofs.Ruled.{IsOfRules, ruled}
@@ -52,21 +48,18 @@ own_answer s (Log x) same =
     (not_other same_fragment (fragment_at s x.key) x)
 
 module _ (v : WorldView) (is : IsTied v) where
-  pub lasts : Lasts is.is_recorder.recorder
-  lasts = books_last (system_of (hardware v.image.pages)) is.are_theory.outs (boot_of v.image) is.is_recorder
-
   pub kept : Invariant is.is_recorder.recorder (quorum_of v) is.world
-  kept = always is.is_recorder.recorder (guest_of v.image) (quorum_of v) lasts is.comes
+  kept = always is.is_recorder.recorder (guest_of v.image) (quorum_of v) is.comes
 
-  pub laws : IsFailover is.is_recorder.recorder (quorum_of v) is.world
-  laws = failover is.is_recorder.recorder (guest_of v.image) (quorum_of v) lasts is.world is.comes
+  pub laws : IsLawful is.is_recorder.recorder (quorum_of v) is.world
+  laws = failover is.is_recorder.recorder (guest_of v.image) (quorum_of v) is.world is.comes
 
   module _ (guest : IsGuest (guest_of v.image)) where
     pub rules : IsOfRules is.is_recorder.recorder (guest_of v.image) (quorum_of v) is.world
     rules = ruled is.is_recorder.recorder (guest_of v.image) (quorum_of v) guest is.comes
 
     pub stores_right : AreStores is.is_recorder.recorder (guest_of v.image) (quorum_of v) is.world
-    stores_right = stores_are_right is.is_recorder.recorder (guest_of v.image) (quorum_of v) lasts guest is.world is.comes
+    stores_right = stores_are_right is.is_recorder.recorder (guest_of v.image) (quorum_of v) guest is.world is.comes
 
     -- the opening of a running primary keeps the rules
     pub opening_of : (n : ℕ) (r : RunningView) → slice_get v.running n ≡ Some r → IsOpeningOf (guest_of v.image) r.primary.opening.term r.primary.opening

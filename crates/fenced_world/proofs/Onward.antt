@@ -6,8 +6,8 @@ use Rattle.hart_lease.specs.Runs.{LeadsTo}
 use Rattle.page_book.specs.Books.{BookView}
 use Rattle.book_modes.specs.Recordings.{RecordingView, heard_by}
 use Rattle.output_gate.specs.Gates.{GateView}
-use Rattle.failover_theory.specs.Recorders.{Output as TheoryOutput}
-use Rattle.failover_theory.specs.Machines.{ByRun}
+use Rattle.fenced_theory.specs.Recorders.{Output as TheoryOutput}
+use Rattle.fenced_theory.specs.Machines.{ByRun}
 use Rattle.book_recorder.specs.TermBooks.{outputs_of}
 use Rattle.primary.specs.Outputs.{said_by}
 use Rattle.primary.specs.Gating.{AreRising, AreOffered}

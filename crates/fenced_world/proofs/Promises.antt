@@ -6,8 +6,7 @@ use Rattle.book_modes.specs.Recordings.{heard_by}
 use Rattle.fragment_codec.specs.Rules.{OpeningParts}
 use Rattle.log_join.specs.Families.{Past}
 use Rattle.ft_types.specs.declared.position.Position.{Position}
-use Rattle.failover_theory.specs.Families.{Keeps, Here as IsHere, Above as IsAbove}
-use Rattle.failover_theory.specs.Laws.{IsInside}
+use Rattle.fenced_theory.specs.Families.{Keeps, Here as IsHere, Above as IsAbove, IsInside}
 use Rattle.primary.specs.declared.released.Released.{Released}
 use Rattle.failover_world.specs.Tied.{TermBook, Books, told_as, theory_released}
 use Rattle.failover_world.proofs.Promises.{untold}

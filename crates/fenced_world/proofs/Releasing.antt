@@ -12,7 +12,7 @@ use Rattle.output_gate.specs.Gates.{held_outputs}
 use Rattle.term_gate.specs.TermGates.{TermGateView, acked_at}
 use Rattle.primary.specs.Outputs.{said_by, said_at}
 use Rattle.book_recorder.specs.TermBooks.{outputs_of}
-use Rattle.failover_theory.specs.Worlds.{Released as TheoryReleased}
+use Rattle.fenced_theory.specs.Worlds.{Released as TheoryReleased}
 use Rattle.fenced_theory.specs.Worlds as theory
 use Rattle.primary.specs.declared.released.Released.{Released}
 use Rattle.primary.proofs.Waiting.{all_stay}

@@ -12,7 +12,7 @@ use Rattle.hart_replay.specs.Histories.{TermHistory}
 use Rattle.hart_replay.specs.Primaries.{IsTermOfBook, term_of as history_of}
 use Rattle.rv32_hart.specs.Hart.{Hart}
 use Rattle.hart_replay.proofs.honesty.Sealing.{terms_go_on}
-use Rattle.failover_theory.specs.Machines.{ByRun}
+use Rattle.fenced_theory.specs.Machines.{ByRun}
 use Rattle.fenced_theory.specs.Worlds as theory
 use Rattle.fenced_histories.specs.Books.{BookGoesOn}
 use Rattle.fenced_histories.proofs.Books.{books_go_on}

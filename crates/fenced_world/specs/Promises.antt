@@ -6,7 +6,7 @@ use Rattle.log_join.specs.Families.{OfFamily, HonestStore}
 use Rattle.closed_cut.specs.Position.{IsPosition}
 use Rattle.ft_types.specs.declared.position.Position.{Position}
 use Rattle.hart_replay.specs.Images.{GuestTerm, GuestHistory, IsHistoryOf}
-use Rattle.failover_theory.specs.Lists.{how_many}
+use Rattle.fenced_theory.specs.Lists.{how_many}
 use Rattle.primary.specs.declared.released.Released.{Released}
 use Rattle.primary.specs.Outputs.{said_at}
 use Rattle.failover_world.specs.Promises.{IsItsTerm}

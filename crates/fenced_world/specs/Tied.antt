@@ -12,8 +12,8 @@ use Rattle.log_join.specs.Families.{Past, Family}
 use Rattle.hart_replay.specs.Images.{GuestTerm, IsHistoryOf, boot_of}
 use Rattle.hart_replay.specs.Primaries.{term_of as history_of, IsTermOfBook, IsSealedTo}
 use Rattle.book_recorder.specs.TermBooks.{IsTermBook, AreTheory}
-use Rattle.failover_theory.specs.Machines.{IsRecorder}
-use Rattle.failover_theory.specs.Worlds.{Quorum, Released as TheoryReleased}
+use Rattle.fenced_theory.specs.Machines.{IsRecorder}
+use Rattle.fenced_theory.specs.Worlds.{Quorum, Released as TheoryReleased}
 use Rattle.fenced_theory.specs.Worlds as theory
 use Rattle.fenced_keeper.specs.Following.{Stands}
 use Rattle.term_gate.specs.TermGates.{acked_at}

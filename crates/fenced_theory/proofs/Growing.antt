@@ -7,7 +7,7 @@ use Rattle.log_join.specs.Cells.{Cell, One}
 use Rattle.log_join.specs.Stores.{StoreView, opening_at}
 use Rattle.log_join.proofs.Families.{opening_known, fragment_known, granted_opening, granted_piece, opening_granted, piece_granted, honest_stay}
 use Rattle.closed_cut.specs.Position.{pieces_of, Goes, base_of}
-use Rattle.failover_theory.specs.Recorders.{Output, Recorder}
+use Rattle.fenced_theory.specs.Recorders.{Output, Recorder}
 use Rattle.interleaving.specs.Log.{Edge, IsClosed}
 
 pub below_itself : (s : StoreView) → Below s s

@@ -3,7 +3,7 @@ use Rattle.std.specs.Prelude.{ℕ, ◌≡◌, ◌≤◌, ◌<◌, ◌⊎◌, fal
 use Rattle.interleaving.specs.Lists.{Each, EachPair}
 use Rattle.interleaving.specs.Machine.{Machine, System, Turn, counts, run, at}
 use Rattle.interleaving.specs.Log.{Edge, Log, IsHonest}
-use Rattle.failover_theory.specs.Recorders.{Output, Change, Booted, Went, Revived, Recorder}
+use Rattle.fenced_theory.specs.Recorders.{Output, Change, Booted, Went, Revived, Recorder}
 
 -- what a hart has put out: a step adds at most one output, at its own number
 pub record Outs {Hart Page Input : Type 0} (system : System Hart Page Input) : Type 0 where

@@ -8,10 +8,10 @@ use Rattle.interleaving.specs.Lists.{Each, EachPair}
 use Rattle.ft_types.specs.Guests.{GuestParts}
 use Rattle.log_join.specs.Stores.{StoreView, IsJoin}
 use Rattle.log_join.proofs.Families.{joins_honest, honest_nothing}
-use Rattle.failover_theory.specs.Lists.{how_many}
-use Rattle.failover_theory.specs.Recorders.{Output}
-use Rattle.failover_theory.specs.Worlds.{Joined, NoneYet, Skip, Take}
-use Rattle.failover_theory.proofs.Growing.{below_trans, some_same}
+use Rattle.fenced_theory.specs.Lists.{how_many}
+use Rattle.fenced_theory.specs.Recorders.{Output}
+use Rattle.fenced_theory.specs.Worlds.{Joined, NoneYet, Skip, Take}
+use Rattle.fenced_theory.proofs.Growing.{below_trans, some_same}
 
 pub see : {A : Type 0} (a : Option A) → (a ≡ None) ⊎ ((x : A) × (a ≡ Some x))
 see None = inl refl

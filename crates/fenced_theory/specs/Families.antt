@@ -6,7 +6,7 @@ use Rattle.interleaving.specs.Log.{Edge, IsClosed}
 use Rattle.fragment_codec.specs.Rules.{FragmentParts}
 use Rattle.log_join.specs.Families.{Past, NoGap}
 use Rattle.closed_cut.specs.Position.{edges_of, base_of}
-use Rattle.failover_theory.specs.Recorders.{Recorder, IsBoot, LivesOn, GoesOn}
+use Rattle.fenced_theory.specs.Recorders.{Recorder, IsBoot, LivesOn, GoesOn}
 
 -- step `step` of the hart in the term is inside the chain of u, up to u's base
 pub data Keeps {Book : Type 0} (terms : ℕ → Option (Past Book)) (term hart step : ℕ) : ℕ → Type 0 where

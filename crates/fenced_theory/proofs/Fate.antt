@@ -6,11 +6,11 @@ use Rattle.log_join.specs.Cells.{One}
 use Rattle.log_join.specs.Stores.{StoreView, opening_at}
 use Rattle.closed_cut.specs.Chain.{Sound, Root, Child}
 use Rattle.closed_cut.specs.Position.{IsReached, base_of, InChain, Self, Up, Stops, Last, Short, On}
-use Rattle.failover_theory.specs.Recorders.{Recorder}
-use Rattle.failover_theory.specs.Families.{Starts, Boot, At, IsFamily, Keeps, Here, Above}
+use Rattle.fenced_theory.specs.Recorders.{Recorder}
+use Rattle.fenced_theory.specs.Families.{Starts, Boot, At, IsFamily, Keeps, Here, Above}
 use Rattle.interleaving.specs.Log.{IsClosed}
-use Rattle.failover_theory.proofs.Growing.{Covered, Leads, There, Step, an_opening, some_same, one_same, some_none}
-use Rattle.failover_theory.proofs.Walks.{reaches, meet_covered}
+use Rattle.fenced_theory.proofs.Growing.{Covered, Leads, There, Step, an_opening, some_same, one_same, some_none}
+use Rattle.fenced_theory.proofs.Walks.{reaches, meet_covered}
 
 module _ {Book Fact : Type 0} (recorder : Recorder Book Fact) (terms : ℕ → Option (Past Book)) (family : IsFamily recorder terms) where
   -- a parent is below its child, and no term is 0

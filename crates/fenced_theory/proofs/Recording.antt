@@ -8,9 +8,10 @@ use Rattle.interleaving.specs.Log.{bump}
 use Rattle.interleaving.proofs.Put.{same_or_not, put_same, put_other, bump_le}
 use Rattle.interleaving.proofs.NextStep.{counts_step}
 use Rattle.interleaving.proofs.AsItWas.{hart_as_it_was}
-use Rattle.failover_theory.specs.Recorders.{Output, Booted, Went, Revived}
-use Rattle.failover_theory.specs.Machines.{Outs, AreTidy, Book, RunsOn, BookFact, AtBoot, ByRun, AtCut, told, IsRecorder}
-use Rattle.failover_theory.proofs.Growing.{some_none, some_same}
+use Rattle.fenced_theory.specs.Recorders.{Output, Booted, Went, Revived}
+use Rattle.fenced_theory.specs.Machines.{Outs, AreTidy, Book, RunsOn, BookFact, AtBoot, ByRun, AtCut, told, IsRecorder}
+use Rattle.fenced_theory.proofs.Growing.{some_none, some_same}
+use Rattle.fenced_theory.proofs.Lasting.{stays}
 
 nth_in : {A : Type 0} (P : A → Type 0) (xs : List A) → Each P xs → (i : ℕ) (x : A) → slice_get xs i ≡ Some x → P x
 nth_in P [] h i x is = some_none is refl
@@ -375,6 +376,9 @@ module _ {Hart Page Input : Type 0} (system : System Hart Page Input) (outs : Ou
               boot_start = λ b f is hart. b.honest.start hart ∙ (ap (λ m. counts system m hart) (booted b f is) ∙ zeros hart);
               live_start = λ b c cut f is lo hi closed hart. let r = revived b cut c f is in live_from b c cut r.from lo hi hart;
               live_outputs = λ b c cut f is lo hi closed hart. let r = revived b cut c f is in live_has b c cut r.from r.none lo hi hart;
+              lasts =
+                  λ b c d cut f g is goes lo hi closed.
+                  let r = revived b cut d f is in (AtCut c cut d (stays system outs b c d cut hi (went b c g goes) r.from) r.none, refl);
             };
         start = λ b. refl;
         counts_are = λ b. refl;

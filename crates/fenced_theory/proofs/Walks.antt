@@ -1,5 +1,5 @@
 -- Walks over the pieces of an honest store: what is covered fits, and what is reached is covered.
-use Rattle.std.proofs.Common.{◌≡◌, inl, inr, ℕ, zero, suc, ◌<◌, ◌≤◌, min, Option, Some, MatchOption, refl, sym, ap, subst, ◌∙◌, arith, le_trans}
+use Rattle.std.proofs.Common.{◌≡◌, inl, inr, ℕ, zero, suc, ◌<◌, ◌≤◌, min, Option, Some, None, MatchOption, refl, sym, ap, subst, ◌∙◌, arith, le_trans}
 use Rattle.log_join.specs.Families.{Past, HonestStore}
 use Rattle.std.specs.Prelude.{slice_get}
 use Rattle.std.proofs.lemmas.Bool.{cases_lt}
@@ -7,10 +7,11 @@ use Rattle.fragment_codec.specs.Rules.{FragmentParts}
 use Rattle.log_join.specs.Cells.{Cell, One}
 use Rattle.log_join.specs.Stores.{StoreView, opening_at}
 use Rattle.closed_cut.specs.Position.{pieces_of, Goes, Avail, Fits, IsReached, base_of}
-use Rattle.failover_theory.specs.Recorders.{Recorder}
-use Rattle.failover_theory.specs.Families.{IsCutFrom, IsFamily}
+use Rattle.fenced_theory.specs.Recorders.{Recorder}
+use Rattle.fenced_theory.specs.Families.{IsCutFrom, Starts, Boot, At, IsFamily}
+use Rattle.fenced_theory.specs.Laws.{Growth}
 use Rattle.interleaving.specs.Log.{IsClosed}
-use Rattle.failover_theory.proofs.Growing.{Covered, a_piece, some_same, one_same}
+use Rattle.fenced_theory.proofs.Growing.{Covered, a_piece, some_same, some_none, one_same, covered_grows, grows_itself}
 
 module _ (parts : ℕ → Cell FragmentParts) (start : ℕ) where
   -- over so many places there is one end
@@ -159,3 +160,31 @@ module _ {Book Fact : Type 0} (recorder : Recorder Book Fact) (terms : ℕ → O
             λ e is_edge below.
             let a : e.count ≤ cut e.other = c.closed e is_edge (omega arith) in let b : e.count ≤ other e.other = closed e is_edge (omega arith) in omega arith;
       }
+
+-- more of a family reaches further
+pub growth : {Book Fact : Type 0} (recorder : Recorder Book Fact) → Growth recorder
+growth {Book} {Fact} recorder terms s r term p limit before family honest_s honest_r below is opens reached = (free, bounded)
+  where
+    covered : Covered recorder terms r term before
+    covered = covered_grows recorder terms terms s r term before (grows_itself recorder terms) below
+        (reached_covered recorder terms family s term p limit before honest_s is opens reached)
+
+    free : (now : ℕ → ℕ) → IsReached r term (base_of p.opening) None now → (hart : ℕ) → before hart ≤ now hart
+    free now a = reaches recorder terms family r term p None before now honest_r is a covered tt
+
+    bounded : (next : ℕ) (n : Past Book) (now : ℕ → ℕ) → terms next ≡ Some n → n.opening.parent ≡ term →
+        IsReached r term (base_of p.opening) (Some (base_of n.opening)) now →
+        (hart : ℕ) → min (before hart) ((base_of n.opening) hart) ≤ now hart
+    bounded next n now there up a = by ((family.honest next n there).starts)
+      where
+        by : Starts recorder terms next n → (hart : ℕ) → min (before hart) ((base_of n.opening) hart) ≤ now hart
+        by (Boot at_boot zeros first begun on) = some_none is (ap terms (sym up ∙ at_boot) ∙ family.none)
+        by (At q at less above settled closed first begun on) =
+            let same : q ≡ covered.past = some_same at (ap terms up ∙ covered.is) in
+            reaches recorder terms family r term p (Some (base_of n.opening)) (λ hart. min (before hart) ((base_of n.opening) hart)) now honest_r is a
+            (
+            meet_covered recorder terms r term before (base_of n.opening) covered
+            (subst (λ q. IsClosed (recorder.edges q.told) (base_of n.opening)) same closed)
+            (subst (λ q. (hart : ℕ) → (base_of q.opening) hart ≤ (base_of n.opening) hart) same above)
+            )
+            (λ hart. omega arith)
