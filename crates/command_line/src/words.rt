@@ -139,22 +139,17 @@ fn fault_of(error: Error) -> WordsFault {
     }
 }
 
-/// The command with a word more.
-fn with_word<'a>(
-    alloc: Global,
-    command: Command<'a>,
-    name: &'a str,
-) -> Result<Command<'a>, AllocError> {
-    command.arg(Arg::new(alloc, name).required(true).action(ArgAction::Set))
+fn word<'a>(alloc: Global, name: &'a str) -> Arg<'a> {
+    Arg::new(alloc, name).required(true).action(ArgAction::Set)
 }
 
-/// The command with one to eight logs more.
-fn with_logs<'a>(alloc: Global, command: Command<'a>) -> Result<Command<'a>, AllocError> {
-    let logs = Arg::new(alloc, "logs")
-        .required(true)
-        .action(ArgAction::Set)
-        .num_args(1..=8);
-    command.arg(logs)
+/// One to eight logs.
+fn logs<'a>(alloc: Global) -> Arg<'a> {
+    word(alloc, "logs").num_args(1..=8)
+}
+
+fn with_arg<'a>(command: Command<'a>, arg: Arg<'a>) -> Result<Command<'a>, AllocError> {
+    command.arg(arg)
 }
 
 /// A command, by the names of its words.
@@ -203,13 +198,18 @@ static FORMS: [Form; 7] = [
     },
 ];
 
+/// A command without its words.
+fn bare<'a>(alloc: Global, name: &'a str) -> Command<'a> {
+    Command::new(alloc, name).disable_help_flag(true)
+}
+
 fn command_of<'a>(alloc: Global, form: &Form) -> Result<Command<'a>, AllocError> {
-    let mut command = Command::new(alloc, form.name).disable_help_flag(true);
-    for word in form.words {
-        command = with_word(alloc, command, word)?;
+    let mut command = bare(alloc, form.name);
+    for name in form.words {
+        command = with_arg(command, word(alloc, name))?;
     }
     if form.has_logs {
-        with_logs(alloc, command)
+        with_arg(command, logs(alloc))
     } else {
         Ok(command)
     }
@@ -217,16 +217,19 @@ fn command_of<'a>(alloc: Global, form: &Form) -> Result<Command<'a>, AllocError>
 
 /// The program without its commands.
 fn bare_program<'a>(alloc: Global) -> Command<'a> {
-    Command::new(alloc, "workbench")
+    bare(alloc, "workbench")
         .no_binary_name(true)
-        .disable_help_flag(true)
         .disable_help_subcommand(true)
+}
+
+fn with_command<'a>(program: Command<'a>, command: Command<'a>) -> Result<Command<'a>, AllocError> {
+    program.subcommand(command)
 }
 
 fn program<'a>(alloc: Global) -> Result<Command<'a>, AllocError> {
     let mut program = bare_program(alloc);
     for form in &FORMS {
-        program = program.subcommand(command_of(alloc, form)?)?;
+        program = with_command(program, command_of(alloc, form)?)?;
     }
     Ok(program)
 }

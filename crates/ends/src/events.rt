@@ -1,19 +1,9 @@
 //! What the threads of inputs and outputs tell the one that decides.
 
+use crate::faults::Fault;
 use std::alloc::{AllocError, Global};
 use std::sync::Wait;
 use wire::Line;
-
-/// What a process can't go on with.
-#[derive(Clone, Copy, Debug, PartialEq, Eq)]
-pub enum Trouble {
-    /// The input with this number can't be opened or read.
-    Input(usize),
-    /// The output with this number can't be opened or written.
-    Output(usize),
-    /// A growth was refused.
-    Memory,
-}
 
 /// What came of an input or an output.
 #[derive(Drop)]
@@ -23,7 +13,7 @@ pub enum Event {
     /// An input is at its end, for good.
     Ended,
     /// The process can't go on.
-    Failed(Trouble),
+    Failed(Fault),
 }
 
 /// Where threads leave events.

@@ -40,7 +40,7 @@ pub fn is_fifo(file: &File) -> bool {
 
 /// The name of a file, which is told so that it stays in its line: a line feed is written as `\n`.
 #[derive(Clone, Copy)]
-pub struct FileName<'a>(pub &'a str);
+pub(crate) struct FileName<'a>(pub(crate) &'a str);
 
 impl Display for FileName<'_> {
     fn fmt<W: fmt::Write>(&self, f: &mut Formatter<W>) -> fmt::Result {

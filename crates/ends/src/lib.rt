@@ -1,14 +1,16 @@
-//! The ends of a process: files, and a thread for each input and each output, over files or FIFOs.
+//! The ends of a process: files, a thread for each input and each output, over files or FIFOs, and what can go wrong.
 #![tactic(auto)]
 
 mod events;
+mod faults;
 mod files;
 mod host;
 mod listening;
 mod posting;
 
-pub use events::{Event, Receiver, Sender, Trouble, row};
-pub use files::{FileName, is_fifo, read_file, remove_file, sync_folder};
+pub use events::{Event, Receiver, Sender, row};
+pub use faults::{Fault, Frames, FramesFault, NamedFile, file_fault, name_at, refuse, tell};
+pub use files::{is_fifo, read_file, remove_file, sync_folder};
 pub use host::{Host, Paths};
-pub use listening::listen;
-pub use posting::{Keeps, Piece, Post, begin_post};
+pub use listening::listen_all;
+pub use posting::{Keeps, Post, begin_posts, leave_all};

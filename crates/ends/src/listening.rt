@@ -1,6 +1,7 @@
 //! A thread for each input: it opens the path, reads lines to its end, and opens it again where it is a FIFO.
 
-use crate::events::{Event, Gone, Sender, Trouble, send};
+use crate::events::{Event, Gone, Sender, send};
+use crate::faults::{Fault, NamedFile};
 use crate::files::is_fifo;
 use crate::host::{Host, Paths};
 use ft_types::Memory;
@@ -23,8 +24,8 @@ struct Input {
 
 impl Input {
     /// Tells that the process can't go on.
-    fn fail<R: Wait>(&self, rt: &R, trouble: Trouble) -> Gone {
-        let _told = send(rt, &self.to, Event::Failed(trouble));
+    fn fail<R: Wait>(&self, rt: &R, fault: Fault) -> Gone {
+        let _told = send(rt, &self.to, Event::Failed(fault));
         Gone
     }
 
@@ -42,7 +43,7 @@ impl Input {
                 }
                 Ok(())
             }
-            Err(Memory) => Err(self.fail(rt, Trouble::Memory)),
+            Err(Memory) => Err(self.fail(rt, Fault::Memory)),
         }
     }
 
@@ -52,7 +53,7 @@ impl Input {
         let mut piece = [0; PIECE];
         for _ in rt.forever() {
             let Ok(count) = file.read(&mut piece) else {
-                return Err(self.fail(rt, Trouble::Input(self.number)));
+                return Err(self.fail(rt, Fault::File(NamedFile::Input(self.number))));
             };
             if count == 0 {
                 return Ok(());
@@ -66,7 +67,7 @@ impl Input {
     fn listen<R: Paths + AllocGlobal + Wait>(&self, rt: &R) -> Result<(), Gone> {
         for _ in rt.forever() {
             let Ok(mut file) = rt.open(self.path.as_str()) else {
-                return Err(self.fail(rt, Trouble::Input(self.number)));
+                return Err(self.fail(rt, Fault::File(NamedFile::Input(self.number))));
             };
             let comes_again = is_fifo(&file);
             self.read(rt, &mut file)?;
@@ -79,7 +80,7 @@ impl Input {
 }
 
 /// Starts a thread that listens on the input with this number.
-pub fn listen<H: Host>(rt: &H, number: usize, path: &str, to: &Sender) -> Result<(), Memory> {
+fn listen<H: Host>(rt: &H, number: usize, path: &str, to: &Sender) -> Result<(), Memory> {
     let own = *rt;
     let input = Input {
         number,
@@ -92,4 +93,17 @@ pub fn listen<H: Host>(rt: &H, number: usize, path: &str, to: &Sender) -> Result
         Ok(_thread) => Ok(()),
         Err(_) => Err(Memory),
     }
+}
+
+/// Starts threads that listen on inputs, whose numbers begin with this one.
+pub fn listen_all<H: Host>(
+    rt: &H,
+    first: usize,
+    paths: &[&str],
+    to: &Sender,
+) -> Result<(), Memory> {
+    for (number, path) in paths.iter().enumerate() {
+        listen(rt, first.saturating_add(number), path, to)?;
+    }
+    Ok(())
 }

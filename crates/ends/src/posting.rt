@@ -1,6 +1,7 @@
 //! A thread for each output: it opens the path and writes the pieces that are left for it. Where nobody reads any more it opens the path again.
 
-use crate::events::{Event, Sender as EventSender, Trouble, send};
+use crate::events::{Event, Sender as EventSender, send};
+use crate::faults::{Fault, NamedFile};
 use crate::host::{Host, Paths};
 use crossbeam_channel::{Receiver, Sender, bounded, unbounded};
 use ft_types::Memory;
@@ -13,7 +14,7 @@ use std::time::{Clock, Duration};
 use std::{io, thread};
 
 /// Bytes that are written to some outputs.
-pub type Piece = Arc<Vec<u8>, Global>;
+type Piece = Arc<Vec<u8>, Global>;
 
 /// How many milliseconds a connection that is to begin anew is closed, so that whoever reads sees its end.
 const GAP: u64 = 100;
@@ -110,16 +111,17 @@ impl Output {
         Ok(())
     }
 
-    fn fail<R: Wait>(&self, rt: &R, trouble: Trouble) {
-        let _told = send(rt, &self.to, Event::Failed(trouble));
+    fn fail<R: Wait>(&self, rt: &R, fault: Fault) {
+        let _told = send(rt, &self.to, Event::Failed(fault));
     }
 
     /// One connection behind the other.
     fn run<R: Paths + AllocGlobal + Clock + Wait>(&self, rt: &R) {
+        let failed = Fault::File(NamedFile::Output(self.number));
         let mut kept = Vec::new(rt.alloc());
         for _ in rt.forever() {
             let Ok(mut file) = rt.open_to_add(self.path.as_str()) else {
-                return self.fail(rt, Trouble::Output(self.number));
+                return self.fail(rt, failed);
             };
             let end = self.serve(rt, &mut file, &mut kept);
             drop(file);
@@ -129,8 +131,8 @@ impl Output {
                 Err(End::Anew) => {
                     let _slept = thread::sleep(rt, Duration::from_millis(GAP));
                 }
-                Err(End::Failed) => return self.fail(rt, Trouble::Output(self.number)),
-                Err(End::Memory) => return self.fail(rt, Trouble::Memory),
+                Err(End::Failed) => return self.fail(rt, failed),
+                Err(End::Memory) => return self.fail(rt, Fault::Memory),
             }
         }
     }
@@ -146,7 +148,7 @@ pub struct Post {
 
 impl Post {
     /// Has a piece written.
-    pub fn leave<R: Wait>(&self, rt: &R, piece: &Piece) -> Result<(), Memory> {
+    fn leave<R: Wait>(&self, rt: &R, piece: &Piece) -> Result<(), Memory> {
         let order = Order::Write(Arc::try_clone(piece)?);
         match self.keeps {
             Keeps::All => {
@@ -187,7 +189,7 @@ fn orders(
 }
 
 /// Starts a thread that writes to the output with this number.
-pub fn begin_post<H: Host>(
+fn begin_post<H: Host>(
     rt: &H,
     number: usize,
     path: &str,
@@ -211,4 +213,32 @@ pub fn begin_post<H: Host>(
         }),
         Err(_) => Err(Memory),
     }
+}
+
+/// Starts threads that write to outputs, whose numbers begin with this one.
+pub fn begin_posts<H: Host>(
+    rt: &H,
+    first: usize,
+    paths: &[&str],
+    keeps: Keeps,
+    to: &EventSender,
+) -> Result<Vec<Post>, Memory> {
+    let mut posts = Vec::new(rt.alloc());
+    for (number, path) in paths.iter().enumerate() {
+        posts.push(begin_post(rt, first.saturating_add(number), path, keeps, to)?)?;
+    }
+    Ok(posts)
+}
+
+/// Has bytes written to these outputs.
+pub fn leave_all<R: AllocGlobal + Wait>(
+    rt: &R,
+    posts: &[Post],
+    bytes: Vec<u8>,
+) -> Result<(), Memory> {
+    let piece = Arc::new(rt.alloc(), bytes)?;
+    for post in posts {
+        post.leave(rt, &piece)?;
+    }
+    Ok(())
 }

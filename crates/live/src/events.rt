@@ -1,6 +1,6 @@
 //! What the threads of a keeper tell the one that decides.
 
-use crate::faults::Fault;
+use ends::Fault;
 use fragment_codec::Frame;
 use std::alloc::Global;
 use std::sync::Wait;

@@ -1,32 +1,15 @@
-//! The files of a keeper, and images. What they hold outside is in no contract.
+//! The files of a keeper. What they hold outside is in no contract.
 
 ghost use Rattle.std.specs.Prelude.{None};
 
-use crate::faults::{Fault, NamedFile};
-use ends::{Paths, read_file, sync_folder};
+use ends::{Fault, NamedFile, Paths, file_fault, read_file, sync_folder};
 use ft_types::{Guest, Term};
-use guest_image::{Image, read_image};
 use stations::{FilesFault, KeeperFiles};
 use std::alloc::Global;
 use std::fs::{File, TryLockError};
 use std::io;
 use std::io::Write;
 use wire::{fence_entry, last_fence};
-
-/// The image of this name.
-pub fn read_image_file<R: Paths + AllocGlobal>(rt: &R, name: &str) -> Result<Image, Fault> {
-    match read_file(rt, name) {
-        Ok(bytes) => Ok(read_image(rt.alloc(), &bytes)?),
-        Err(error) => Err(fault_of(&error, NamedFile::Image)),
-    }
-}
-
-fn fault_of(error: &io::Error, file: NamedFile) -> Fault {
-    match error.kind() {
-        io::ErrorKind::OutOfMemory => Fault::Memory,
-        _ => Fault::File(file),
-    }
-}
 
 fn log_fault(error: &io::Error) -> FilesFault {
     match error.kind() {
@@ -62,7 +45,7 @@ fn lock(log: &File) -> Result<(), Fault> {
     match log.try_lock() {
         Ok(()) => Ok(()),
         Err(TryLockError::WouldBlock) => Err(Fault::Locked),
-        Err(TryLockError::Error(error)) => Err(fault_of(&error, NamedFile::Log)),
+        Err(TryLockError::Error(error)) => Err(file_fault(&error, NamedFile::Log)),
     }
 }
 
@@ -98,7 +81,7 @@ impl<'a, R: Paths + AllocGlobal> HostFiles<'a, R> {
                 files.open_log = Some(file);
                 Ok(files)
             }
-            Err(error) => Err(fault_of(&error, NamedFile::Log)),
+            Err(error) => Err(file_fault(&error, NamedFile::Log)),
         }
     }
 
@@ -110,7 +93,7 @@ impl<'a, R: Paths + AllocGlobal> HostFiles<'a, R> {
                 files.open_fences = Some(file);
                 Ok(files)
             }
-            Err(error) => Err(fault_of(&error, NamedFile::Fences)),
+            Err(error) => Err(file_fault(&error, NamedFile::Fences)),
         }
     }
 }

@@ -1,13 +1,14 @@
 //! `keeper IMAGE K LOG from FRAMES.. to ACKS..`: frames come in, new ones go to the log, and then the position is acknowledged.
 
 use crate::events::{Event, Receiver, Sender};
-use crate::faults::{Fault, tell};
-use crate::files::{HostFiles, read_image_file};
+use crate::faults::{files_fault, log_fault};
+use crate::files::HostFiles;
 use crate::posting::Post;
 use crate::{listening, posting};
 use crossbeam_channel::bounded;
-use ends::Host;
+use ends::{Fault, Frames, FramesFault, Host, tell};
 use ft_types::{Guest, Keeper, Position};
+use live_primary::read_image_file;
 use live_words::KeeperWords;
 use log_join::Put;
 use stations::KeeperStation;
@@ -79,7 +80,7 @@ impl Keeping {
     ) -> Result<bool, Fault> {
         match event {
             Event::Frame(input, frame) => match station.take(rt.alloc(), frame)? {
-                Put::Clash => Err(Fault::InputClash(input)),
+                Put::Clash => Err(Fault::Frames(Frames::Input(input), FramesFault::Clash)),
                 _ => Ok(true),
             },
             Event::Ended => {
@@ -141,26 +142,53 @@ fn log<H: Host>(
     station: KeeperStation,
     files: &mut HostFiles<'_, H>,
 ) -> Result<KeeperStation, Fault> {
-    let (station, position) = station.log_and_acknowledge(rt.alloc(), files)?;
-    keeping.acknowledge(rt, position);
-    Ok(station)
+    match station.log_and_acknowledge(rt.alloc(), files) {
+        Ok((station, position)) => {
+            keeping.acknowledge(rt, position);
+            Ok(station)
+        }
+        Err(fault) => Err(files_fault(fault)),
+    }
 }
 
-/// Keeps a log until all inputs are at their end, and gives the status that the program ends with.
-pub fn keep<H: Host>(rt: &H, words: &KeeperWords<'_>) -> Result<u8, Fault> {
-    let guest = read_image_file(rt, words.image)?.guest();
-    let mut files = HostFiles::of_keeper(rt, guest, words.log)?;
-    let mut station = KeeperStation::begin(rt.alloc(), guest, &mut files)?;
-    let mut keeping = Keeping::start(rt, guest, words)?;
+/// A keeper that begins from its log.
+fn begin<H: Host>(
+    rt: &H,
+    guest: Guest,
+    files: &mut HostFiles<'_, H>,
+) -> Result<KeeperStation, Fault> {
+    match KeeperStation::begin(rt.alloc(), guest, files) {
+        Ok(station) => Ok(station),
+        Err(fault) => Err(log_fault(fault)),
+    }
+}
+
+/// Keeps a log until all inputs are at their end.
+fn keep_on<H: Host>(
+    rt: &H,
+    keeping: &mut Keeping,
+    mut station: KeeperStation,
+    files: &mut HostFiles<'_, H>,
+) -> Result<(), Fault> {
     let mut came = true;
     for _ in rt.forever() {
         if came {
-            station = log(rt, &keeping, station, &mut files)?;
+            station = log(rt, keeping, station, files)?;
         }
         if keeping.open == 0 {
             break;
         }
         came = keeping.take_all(rt, &mut station)?;
     }
+    Ok(())
+}
+
+/// Keeps a log until all inputs are at their end, and gives the status that the program ends with.
+pub fn keep<H: Host>(rt: &H, words: &KeeperWords<'_>) -> Result<u8, Fault> {
+    let guest = read_image_file(rt, words.image)?.guest();
+    let mut files = HostFiles::of_keeper(rt, guest, words.log)?;
+    let station = begin(rt, guest, &mut files)?;
+    let mut keeping = Keeping::start(rt, guest, words)?;
+    keep_on(rt, &mut keeping, station, &mut files)?;
     Ok(keeping.end(rt))
 }

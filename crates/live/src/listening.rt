@@ -1,8 +1,7 @@
 //! A thread for each input: it opens the path, reads it to its end, and opens it again where it is a FIFO.
 
 use crate::events::{Event, Gone, Sender, send};
-use crate::faults::{Fault, NamedFile};
-use ends::{Host, Paths, is_fifo};
+use ends::{Fault, Frames, FramesFault, Host, NamedFile, Paths, is_fifo};
 use fragment_codec::{Feed, Frame, FrameFault};
 use ft_types::Guest;
 use stations::is_of;
@@ -40,6 +39,10 @@ impl From<Gone> for Stop {
 }
 
 impl Input {
+    fn at_fault(&self, fault: FramesFault) -> Stop {
+        Stop::Fault(Fault::Frames(Frames::Input(self.number), fault))
+    }
+
     /// Sends frames, up to the first of another guest.
     fn send_all<R: Paths + AllocGlobal + Wait>(
         &self,
@@ -48,7 +51,7 @@ impl Input {
     ) -> Result<(), Stop> {
         for frame in frames {
             if !is_of(&frame, &self.guest) {
-                return Err(Stop::Fault(Fault::InputGuest(self.number)));
+                return Err(self.at_fault(FramesFault::Guest));
             }
             send(rt, &self.to, Event::Frame(self.number, frame))?;
         }
@@ -65,7 +68,7 @@ impl Input {
         match feed.push(rt.alloc(), piece) {
             Ok(frames) => self.send_all(rt, frames),
             Err(FrameFault::Memory) => Err(Stop::Fault(Fault::Memory)),
-            Err(fault) => Err(Stop::Fault(Fault::Input(self.number, fault))),
+            Err(fault) => Err(self.at_fault(FramesFault::Frame(fault.number()))),
         }
     }
 

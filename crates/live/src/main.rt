@@ -11,14 +11,13 @@ mod listening;
 mod names;
 mod posting;
 
-use crate::faults::{Fault, tell};
 use crate::handing::hand;
 use crate::keeping::keep;
-use crate::names::{name_of_hand, name_of_keeper};
-use ends::Host;
+use crate::names::{name_in_hand, name_in_keeper};
+use ends::{Fault, Host, refuse};
 use live_client::ask;
 use live_primary::lead;
-use live_words::{HandWords, KeeperWords, Task, read_task};
+use live_words::{HandWords, KeeperWords, NoTask, Task, read_task};
 use std::process::ExitCode;
 use std::{env, io};
 
@@ -31,29 +30,17 @@ fn arguments(rt: &HostRuntime) -> io::Result<Vec<String>> {
     Ok(words)
 }
 
-/// Tells a fault with the name of its file, and gives the status that the program ends with.
-fn refuse<H: Host>(rt: &H, fault: Fault, name: &str) -> u8 {
-    tell(rt, &fault, name);
-    fault.status()
-}
-
 fn keep_and_tell<H: Host>(rt: &H, words: &KeeperWords<'_>) -> u8 {
     match keep(rt, words) {
         Ok(status) => status,
-        Err(fault) => match fault.file() {
-            Some(file) => refuse(rt, fault, name_of_keeper(words, file)),
-            None => refuse(rt, fault, ""),
-        },
+        Err(fault) => refuse(rt, &fault, name_in_keeper(words, &fault)),
     }
 }
 
 fn hand_and_tell<H: Host>(rt: &H, words: &HandWords<'_>) -> u8 {
     match hand(rt, words) {
         Ok(status) => status,
-        Err(fault) => match fault.file() {
-            Some(file) => refuse(rt, fault, name_of_hand(words, file)),
-            None => refuse(rt, fault, ""),
-        },
+        Err(fault) => refuse(rt, &fault, name_in_hand(words, &fault)),
     }
 }
 
@@ -77,7 +64,8 @@ fn fault_of(error: &io::Error) -> Fault {
 fn command<H: Host>(rt: &H, words: &[String]) -> u8 {
     match read_task(rt.alloc(), words) {
         Ok(task) => run(rt, &task),
-        Err(none) => refuse(rt, Fault::from(none), ""),
+        Err(NoTask::Usage) => refuse(rt, &Fault::Usage, ""),
+        Err(NoTask::Memory) => refuse(rt, &Fault::Memory, ""),
     }
 }
 
@@ -85,7 +73,7 @@ fn command<H: Host>(rt: &H, words: &[String]) -> u8 {
 fn status<H: Host>(rt: &H, words: io::Result<Vec<String>>) -> u8 {
     match words {
         Ok(words) => command(rt, &words),
-        Err(error) => refuse(rt, fault_of(&error), ""),
+        Err(error) => refuse(rt, &fault_of(&error), ""),
     }
 }
 

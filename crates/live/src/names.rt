@@ -1,30 +1,24 @@
 //! The names of files.
 
-use crate::faults::NamedFile;
+use ends::{Fault, NamedFile, name_at};
 use live_words::{HandWords, KeeperWords};
 
-fn name_at<'a>(names: &Vec<&'a str>, number: usize) -> &'a str {
-    match names.get(number) {
-        Some(name) => name,
-        None => "",
+/// The name of the file that a keeper's fault names, which for fences is the log's.
+pub fn name_in_keeper<'a>(words: &KeeperWords<'a>, fault: &Fault) -> &'a str {
+    match fault {
+        Fault::File(NamedFile::Image) => words.image,
+        Fault::File(NamedFile::Log | NamedFile::Fences) => words.log,
+        Fault::File(NamedFile::Input(number)) => name_at(&words.inputs, *number),
+        Fault::File(NamedFile::Output(number)) => name_at(&words.outputs, *number),
+        _ => "",
     }
 }
 
-/// The name of a file of a keeper, which for fences is the log's.
-pub fn name_of_keeper<'a>(words: &KeeperWords<'a>, file: NamedFile) -> &'a str {
-    match file {
-        NamedFile::Image => words.image,
-        NamedFile::Log | NamedFile::Fences => words.log,
-        NamedFile::Input(number) => name_at(&words.inputs, number),
-        NamedFile::Output(number) => name_at(&words.outputs, number),
-    }
-}
-
-/// The name of a file of a log that is handed over, which for fences is the log's.
-pub fn name_of_hand<'a>(words: &HandWords<'a>, file: NamedFile) -> &'a str {
-    match file {
-        NamedFile::Image => words.image,
-        NamedFile::Log | NamedFile::Fences => words.log,
-        NamedFile::Input(_) | NamedFile::Output(_) => "",
+/// The name of the file that a fault names where a log is handed over, which for fences is the log's.
+pub fn name_in_hand<'a>(words: &HandWords<'a>, fault: &Fault) -> &'a str {
+    match fault {
+        Fault::File(NamedFile::Image) => words.image,
+        Fault::File(NamedFile::Log | NamedFile::Fences) => words.log,
+        _ => "",
     }
 }

@@ -1,8 +1,7 @@
 //! A thread for each output: it opens the path and writes what was acknowledged last. Where nobody reads any more it opens the path again.
 
 use crate::events::{Event, Sender, send};
-use crate::faults::{Fault, NamedFile};
-use ends::{Host, Paths};
+use ends::{Fault, Host, NamedFile, Paths};
 use ft_types::{Guest, Keeper};
 use std::alloc::Global;
 use std::fs::File;

@@ -1,13 +1,17 @@
 //! The threads of a client, and what it does with them.
 
-use crate::faults::{Fault, tell, words_fault};
-use asking::{Heard, Talk, read_words, told_line};
+use crate::names::name_in;
+use asking::{Heard, Talk, WordsFault, read_words, told_line};
 use crossbeam_channel::RecvTimeoutError;
-use ends::{Event, Host, Keeps, Post, Receiver, Sender, begin_post, listen, read_file, row};
+use ends::{
+    Event, Fault, Host, Keeps, NamedFile, Post, Receiver, begin_posts, file_fault, leave_all,
+    listen_all, read_file, refuse, row,
+};
+use ft_types::Memory;
 use live_words::ClientWords;
+use std::alloc::Global;
 use std::io;
 use std::io::Write;
-use std::sync::Arc;
 use std::time::{Duration, Instant};
 use wire::{Request, request_line};
 
@@ -26,10 +30,19 @@ struct Client {
     last: Instant,
 }
 
+/// The words of these bytes.
+fn words_in(alloc: Global, bytes: &[u8]) -> Result<Vec<u32>, Fault> {
+    match read_words(alloc, bytes) {
+        Ok(words) => Ok(words),
+        Err(WordsFault::BadLine(line)) => Err(Fault::BadWord(line)),
+        Err(WordsFault::Memory) => Err(Fault::Memory),
+    }
+}
+
 fn words_of<H: Host>(rt: &H, name: &str) -> Result<Vec<u32>, Fault> {
     match read_file(rt, name) {
-        Ok(bytes) => Ok(read_words(rt.alloc(), &bytes)?),
-        Err(error) => Err(words_fault(&error)),
+        Ok(bytes) => words_in(rt.alloc(), &bytes),
+        Err(error) => Err(file_fault(&error, NamedFile::Words)),
     }
 }
 
@@ -40,21 +53,6 @@ fn now<H: Host>(rt: &H) -> Result<Instant, Fault> {
     }
 }
 
-fn post_all<H: Host>(rt: &H, paths: &[&str], to: &Sender) -> Result<Vec<Post>, Fault> {
-    let mut posts = Vec::new(rt.alloc());
-    for (number, path) in paths.iter().enumerate() {
-        posts.push(begin_post(rt, number, path, Keeps::Last, to)?)?;
-    }
-    Ok(posts)
-}
-
-fn listen_all<H: Host>(rt: &H, paths: &[&str], to: &Sender) -> Result<(), Fault> {
-    for (number, path) in paths.iter().enumerate() {
-        listen(rt, number, path, to)?;
-    }
-    Ok(())
-}
-
 impl Client {
     /// Starts the threads of all inputs and outputs.
     fn start<H: Host>(rt: &H, words: &ClientWords<'_>) -> Result<Client, Fault> {
@@ -62,8 +60,8 @@ impl Client {
         let many = asked.len();
         let talk = Talk::new(rt.alloc(), asked, words.window)?;
         let (to, events) = row(rt.alloc())?;
-        let posts = post_all(rt, &words.requests, &to)?;
-        listen_all(rt, &words.answers, &to)?;
+        let posts = begin_posts(rt, 0, &words.requests, Keeps::Last, &to)?;
+        listen_all(rt, 0, &words.answers, &to)?;
         Ok(Client {
             talk,
             words: many,
@@ -76,13 +74,9 @@ impl Client {
     }
 
     /// Sends a request on all outputs.
-    fn send<H: Host>(&self, rt: &H, request: &Request) -> Result<(), Fault> {
+    fn send<H: Host>(&self, rt: &H, request: &Request) -> Result<(), Memory> {
         let bytes = request_line(request).as_slice().to_vec(rt.alloc())?;
-        let piece = Arc::new(rt.alloc(), bytes)?;
-        for post in &self.posts {
-            post.leave(rt, &piece)?;
-        }
-        Ok(())
+        leave_all(rt, &self.posts, bytes)
     }
 
     /// Asks for as many words as may be open.
@@ -136,7 +130,7 @@ impl Client {
                 self.open = self.open.saturating_sub(1);
                 Ok(())
             }
-            Event::Failed(trouble) => Err(Fault::from(trouble)),
+            Event::Failed(fault) => Err(fault),
         }
     }
 
@@ -179,9 +173,6 @@ fn ask_all<H: Host>(rt: &H, words: &ClientWords<'_>) -> Result<(), Fault> {
 pub fn ask<H: Host>(rt: &H, words: &ClientWords<'_>) -> u8 {
     match ask_all(rt, words) {
         Ok(()) => 0,
-        Err(fault) => {
-            tell(rt, &fault, words);
-            1
-        }
+        Err(fault) => refuse(rt, &fault, name_in(words, &fault)),
     }
 }

@@ -2,6 +2,6 @@
 #![tactic(auto)]
 
 mod client;
-mod faults;
+mod names;
 
 pub use client::ask;

@@ -1,10 +1,10 @@
 //! A primary: events are taken, and rounds led, one after the other, on one thread.
 
-use crate::faults::{Fault, tell};
+use crate::names::name_in;
 use crate::office::Office;
 use crate::outset::{Outset, frame_bytes, set_out};
 use crate::pace::{FIRST_ROUND, next_round};
-use ends::{Event, Host};
+use ends::{Event, Fault, Host, refuse};
 use ft_types::{Count, Guest};
 use leading::Leader;
 use live_words::PrimaryWords;
@@ -91,7 +91,7 @@ fn take<H: Host>(rt: &H, duty: &mut Duty, office: &Office, event: Event) -> Resu
             duty.open = duty.open.saturating_sub(1);
             Ok(())
         }
-        Event::Failed(trouble) => Err(Fault::from(trouble)),
+        Event::Failed(fault) => Err(fault),
     }
 }
 
@@ -181,9 +181,6 @@ fn lead_all<H: Host>(rt: &H, words: &PrimaryWords<'_>) -> Result<(), Fault> {
 pub fn lead<H: Host>(rt: &H, words: &PrimaryWords<'_>) -> u8 {
     match lead_all(rt, words) {
         Ok(()) => 0,
-        Err(fault) => {
-            tell(rt, &fault, words);
-            fault.status()
-        }
+        Err(fault) => refuse(rt, &fault, name_in(words, &fault)),
     }
 }

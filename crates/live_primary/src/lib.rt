@@ -3,8 +3,10 @@
 
 mod duty;
 mod faults;
+mod names;
 mod office;
 mod outset;
 mod pace;
 
 pub use duty::lead;
+pub use outset::read_image_file;

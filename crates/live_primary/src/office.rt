@@ -1,10 +1,8 @@
 //! The threads of a primary, and what they are given.
 
-use crate::faults::Fault;
-use ends::{Host, Keeps, Post, Receiver, Sender, begin_post, listen, row};
-use ft_types::Keeper;
+use ends::{Host, Keeps, Post, Receiver, begin_posts, leave_all, listen_all, row};
+use ft_types::{Keeper, Memory};
 use live_words::PrimaryWords;
-use std::sync::Arc;
 use wire::{Answer, answer_line};
 
 /// The inputs and outputs of a primary.
@@ -18,48 +16,17 @@ pub(crate) struct Office {
     keepers: Vec<Post>,
 }
 
-/// Starts the threads of outputs, whose numbers begin with this one.
-fn post_all<H: Host>(
-    rt: &H,
-    first: usize,
-    paths: &[&str],
-    keeps: Keeps,
-    to: &Sender,
-) -> Result<Vec<Post>, Fault> {
-    let mut posts = Vec::new(rt.alloc());
-    for (number, path) in paths.iter().enumerate() {
-        posts.push(begin_post(rt, first.saturating_add(number), path, keeps, to)?)?;
-    }
-    Ok(posts)
-}
-
-/// Starts the threads of inputs, whose numbers begin with this one.
-fn listen_all<H: Host>(rt: &H, first: usize, paths: &[&str], to: &Sender) -> Result<(), Fault> {
-    for (number, path) in paths.iter().enumerate() {
-        listen(rt, first.saturating_add(number), path, to)?;
-    }
-    Ok(())
-}
-
-fn leave<H: Host>(rt: &H, posts: &[Post], bytes: Vec<u8>) -> Result<(), Fault> {
-    let piece = Arc::new(rt.alloc(), bytes)?;
-    for post in posts {
-        post.leave(rt, &piece)?;
-    }
-    Ok(())
-}
-
 impl Office {
     /// Starts all threads. Keepers are sent these frames first.
     pub(crate) fn open<H: Host>(
         rt: &H,
         words: &PrimaryWords<'_>,
         frames: Vec<u8>,
-    ) -> Result<Office, Fault> {
+    ) -> Result<Office, Memory> {
         let (to, events) = row(rt.alloc())?;
-        let answers = post_all(rt, 0, &words.answers, Keeps::Last, &to)?;
-        let keepers = post_all(rt, answers.len(), &words.frames, Keeps::All, &to)?;
-        leave(rt, &keepers, frames)?;
+        let answers = begin_posts(rt, 0, &words.answers, Keeps::Last, &to)?;
+        let keepers = begin_posts(rt, answers.len(), &words.frames, Keeps::All, &to)?;
+        leave_all(rt, &keepers, frames)?;
         listen_all(rt, 0, &words.requests, &to)?;
         listen_all(rt, words.requests.len(), &words.acknowledgements, &to)?;
         Ok(Office {
@@ -71,17 +38,17 @@ impl Office {
     }
 
     /// Sends frames to the keepers.
-    pub(crate) fn send<H: Host>(&self, rt: &H, frames: Vec<u8>) -> Result<(), Fault> {
+    pub(crate) fn send<H: Host>(&self, rt: &H, frames: Vec<u8>) -> Result<(), Memory> {
         if frames.is_empty() {
             return Ok(());
         }
-        leave(rt, &self.keepers, frames)
+        leave_all(rt, &self.keepers, frames)
     }
 
     /// Tells an answer.
-    pub(crate) fn tell<H: Host>(&self, rt: &H, answer: &Answer) -> Result<(), Fault> {
+    pub(crate) fn tell<H: Host>(&self, rt: &H, answer: &Answer) -> Result<(), Memory> {
         let bytes = answer_line(answer).as_slice().to_vec(rt.alloc())?;
-        leave(rt, &self.answers, bytes)
+        leave_all(rt, &self.answers, bytes)
     }
 
     /// Sends all frames to a keeper once more.

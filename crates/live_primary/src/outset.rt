@@ -7,13 +7,13 @@ ghost use Rattle.log_join.specs.Stores.{clashes_of};
 ghost use Rattle.log_streams.specs.Stores.{IsStoreText};
 ghost use Rattle.go_live.specs.Joined.{AreJoined};
 
-use crate::faults::{Fault, file_fault};
-use ends::{Host, read_file, remove_file};
+use crate::faults::{clash, given_fault, handed_fault, image_fault, store_fault};
+use ends::{Fault, Host, NamedFile, Paths, file_fault, read_file, remove_file};
 use fenced_keeper::Given;
 use fragment_codec::Frame;
 use ft_types::{Guest, Memory, MemorySink};
 use guest_image::{Image, read_image};
-use leading::{HandedFault, HandedLog, Leader, read_handed_log};
+use leading::{HandedLog, Leader, read_handed_log};
 use live_words::PrimaryWords;
 use log_join::Store;
 use log_streams::{write_frames, write_store};
@@ -29,11 +29,27 @@ pub(crate) struct Outset {
     pub(crate) frames: Vec<u8>,
 }
 
+/// The image of these bytes.
+fn image_in(alloc: Global, bytes: &[u8]) -> Result<Image, Fault> {
+    match read_image(alloc, bytes) {
+        Ok(image) => Ok(image),
+        Err(fault) => Err(image_fault(fault)),
+    }
+}
+
 /// The image of this name.
-fn image_of<H: Host>(rt: &H, name: &str) -> Result<Image, Fault> {
+pub fn read_image_file<R: Paths + AllocGlobal>(rt: &R, name: &str) -> Result<Image, Fault> {
     match read_file(rt, name) {
-        Ok(bytes) => Ok(read_image(rt.alloc(), &bytes)?),
-        Err(error) => Err(file_fault(&error, Fault::ImageFile)),
+        Ok(bytes) => image_in(rt.alloc(), &bytes),
+        Err(error) => Err(file_fault(&error, NamedFile::Image)),
+    }
+}
+
+/// What these bytes hand over.
+fn log_in(alloc: Global, guest: Guest, number: usize, bytes: &[u8]) -> Result<HandedLog, Fault> {
+    match read_handed_log(alloc, guest, bytes) {
+        Ok(log) => Ok(log),
+        Err(fault) => Err(handed_fault(number, fault)),
     }
 }
 
@@ -45,12 +61,8 @@ fn handed_log<H: Host>(
     name: &str,
 ) -> Result<HandedLog, Fault> {
     match read_file(rt, name) {
-        Ok(bytes) => match read_handed_log(rt.alloc(), guest, &bytes) {
-            Ok(log) => Ok(log),
-            Err(HandedFault::Memory) => Err(Fault::Memory),
-            Err(fault) => Err(Fault::Handed(number, fault)),
-        },
-        Err(error) => Err(file_fault(&error, Fault::HandedFile(number))),
+        Ok(bytes) => log_in(rt.alloc(), guest, number, &bytes),
+        Err(error) => Err(file_fault(&error, NamedFile::Handed(number))),
     }
 }
 
@@ -66,7 +78,7 @@ fn handed_logs<H: Host>(rt: &H, guest: Guest, names: &[&str]) -> Result<Vec<Hand
 fn remove_all<H: Host>(rt: &H, names: &[&str]) -> Result<(), Fault> {
     for (number, name) in names.iter().enumerate() {
         if let Err(error) = remove_file(rt, name) {
-            return Err(file_fault(&error, Fault::HandedFile(number)));
+            return Err(file_fault(&error, NamedFile::Handed(number)));
         }
     }
     Ok(())
@@ -79,10 +91,13 @@ fn joined(alloc: Global, guest: Guest, logs: &[HandedLog]) -> Result<Store, Faul
 {
     let mut store = Store::new(alloc, guest);
     for log in logs {
-        store.join(alloc, &log.store)?;
+        match store.join(alloc, &log.store) {
+            Ok(()) => {}
+            Err(fault) => return Err(store_fault(fault)),
+        }
     }
     if store.clashes() > 0 {
-        return Err(Fault::Clash);
+        return Err(clash());
     }
     Ok(store)
 }
@@ -99,13 +114,17 @@ pub(crate) fn frame_bytes(alloc: Global, frames: &[Frame]) -> Result<Vec<u8>, Me
 }
 
 /// The bytes of all frames of a store, and then of this one.
-fn sent_first(alloc: Global, store: &Store, opening: Frame) -> Result<Vec<u8>, Fault>
+fn sent_first(alloc: Global, store: &Store, opening: Frame) -> Result<Vec<u8>, Memory>
     ensures { IfOk result (λ bytes. (text : List ℕ) × IsStoreText store.now text × (bytes.items ≡ text ++ spelling opening)) }
 {
     let mut sink = MemorySink::new(alloc, usize::MAX);
-    write_store(alloc, store, &mut sink)?;
-    write_frames(&[opening], &mut sink)?;
-    Ok(sink.bytes().to_vec(alloc)?)
+    if write_store(alloc, store, &mut sink).is_err() {
+        return Err(Memory);
+    }
+    match write_frames(&[opening], &mut sink) {
+        Ok(()) => Ok(sink.bytes().to_vec(alloc)?),
+        Err(_) => Err(Memory),
+    }
 }
 
 /// The stores of these logs, as they were given.
@@ -132,14 +151,14 @@ fn go_live(
     let given = given_of(alloc, logs)?;
     match Leader::go_live(alloc, image, &given, words.quorum, words.term) {
         Ok(live) => Ok(live),
-        Err(fault) => Err(Fault::from(fault)),
+        Err(fault) => Err(given_fault(fault)),
     }
 }
 
 /// Goes live from what was handed over, and removes that.
 pub(crate) fn set_out<H: Host>(rt: &H, words: &PrimaryWords<'_>) -> Result<Outset, Fault> {
     let alloc = rt.alloc();
-    let image = image_of(rt, words.image)?;
+    let image = read_image_file(rt, words.image)?;
     let guest = image.guest();
     let logs = handed_logs(rt, guest, &words.handed)?;
     let (leader, opening) = go_live(alloc, &image, words, &logs)?;

@@ -3,83 +3,99 @@
 use clap::{Arg, ArgAction, Command};
 use std::alloc::{AllocError, Global};
 
+/// A command, by the names of its words.
+struct Form {
+    name: &'static str,
+    words: &'static [&'static str],
+    /// The commands behind the words, one behind the other, each with paths.
+    behind: &'static [&'static str],
+}
+
+/// `keeper IMAGE K LOG from FRAMES.. to ACKS..`, `hand IMAGE K LOG T`,
+/// `primary IMAGE T KEEPERS NEED in REQUESTS.. out ANSWERS.. to FRAMES.. from ACKS.. with HANDED..`,
+/// `client FILE WINDOW MILLIS to REQUESTS.. from ANSWERS..`
+static FORMS: [Form; 4] = [
+    Form {
+        name: "keeper",
+        words: &["image", "keeper", "log"],
+        behind: &["from", "to"],
+    },
+    Form {
+        name: "hand",
+        words: &["image", "keeper", "log", "term"],
+        behind: &[],
+    },
+    Form {
+        name: "primary",
+        words: &["image", "term", "keepers", "need"],
+        behind: &["in", "out", "to", "from", "with"],
+    },
+    Form {
+        name: "client",
+        words: &["file", "window", "millis"],
+        behind: &["to", "from"],
+    },
+];
+
 /// A command without its words.
-fn bare<'a>(alloc: Global, name: &'static str) -> Command<'a> {
+fn bare<'a>(alloc: Global, name: &'a str) -> Command<'a> {
     Command::new(alloc, name)
         .disable_help_flag(true)
         .disable_help_subcommand(true)
 }
 
-/// The command with a word more.
-fn with_word<'a>(
+fn word<'a>(alloc: Global, name: &'a str) -> Arg<'a> {
+    Arg::new(alloc, name).required(true).action(ArgAction::Set)
+}
+
+/// One to eight paths.
+fn paths<'a>(alloc: Global) -> Arg<'a> {
+    word(alloc, "paths").num_args(1..=8)
+}
+
+fn with_arg<'a>(command: Command<'a>, arg: Arg<'a>) -> Result<Command<'a>, AllocError> {
+    command.arg(arg)
+}
+
+fn with_command<'a>(command: Command<'a>, behind: Command<'a>) -> Result<Command<'a>, AllocError> {
+    command.subcommand(behind)
+}
+
+/// A command of paths, of which one is the next command's name only where it has a folder before it.
+fn over_paths<'a>(alloc: Global, name: &'a str) -> Result<Command<'a>, AllocError> {
+    let command = bare(alloc, name).subcommand_precedence_over_arg(true);
+    with_arg(command, paths(alloc))
+}
+
+/// The command with these commands of paths behind it, one behind the other.
+fn with_behind<'a>(
     alloc: Global,
     command: Command<'a>,
-    name: &'static str,
+    names: &[&'static str],
 ) -> Result<Command<'a>, AllocError> {
-    command.arg(Arg::new(alloc, name).required(true).action(ArgAction::Set))
+    let Some((last, before)) = names.split_last() else {
+        return Ok(command);
+    };
+    let mut behind = over_paths(alloc, last)?;
+    for name in before.iter().rev() {
+        behind = with_command(over_paths(alloc, name)?, behind)?;
+    }
+    with_command(command, behind)
 }
 
-/// The command with one to eight paths more, of which one is a command's name only where it has a folder before it.
-fn with_paths<'a>(alloc: Global, command: Command<'a>) -> Result<Command<'a>, AllocError> {
-    let paths = Arg::new(alloc, "paths")
-        .required(true)
-        .action(ArgAction::Set)
-        .num_args(1..=8);
-    command.subcommand_precedence_over_arg(true).arg(paths)
-}
-
-/// The name of some paths, with these behind them.
-fn paths<'a>(alloc: Global, name: &'static str) -> Result<Command<'a>, AllocError> {
-    with_paths(alloc, bare(alloc, name))
-}
-
-/// A command with the words of a keeper's image, number and log.
-fn over_log<'a>(alloc: Global, name: &'static str) -> Result<Command<'a>, AllocError> {
-    let command = with_word(alloc, bare(alloc, name), "image")?;
-    let command = with_word(alloc, command, "keeper")?;
-    with_word(alloc, command, "log")
-}
-
-/// `keeper IMAGE K LOG from FRAMES.. to ACKS..`
-fn keeper<'a>(alloc: Global) -> Result<Command<'a>, AllocError> {
-    let to = paths(alloc, "to")?;
-    let from = paths(alloc, "from")?.subcommand(to)?;
-    over_log(alloc, "keeper")?.subcommand(from)
-}
-
-/// `hand IMAGE K LOG T`
-fn hand<'a>(alloc: Global) -> Result<Command<'a>, AllocError> {
-    with_word(alloc, over_log(alloc, "hand")?, "term")
-}
-
-/// `primary IMAGE T KEEPERS NEED in REQUESTS.. out ANSWERS.. to FRAMES.. from ACKS.. with HANDED..`
-fn primary<'a>(alloc: Global) -> Result<Command<'a>, AllocError> {
-    let with = paths(alloc, "with")?;
-    let from = paths(alloc, "from")?.subcommand(with)?;
-    let to = paths(alloc, "to")?.subcommand(from)?;
-    let out = paths(alloc, "out")?.subcommand(to)?;
-    let requests = paths(alloc, "in")?.subcommand(out)?;
-    let command = with_word(alloc, bare(alloc, "primary"), "image")?;
-    let command = with_word(alloc, command, "term")?;
-    let command = with_word(alloc, command, "keepers")?;
-    with_word(alloc, command, "need")?.subcommand(requests)
-}
-
-/// `client FILE WINDOW MILLIS to REQUESTS.. from ANSWERS..`
-fn client<'a>(alloc: Global) -> Result<Command<'a>, AllocError> {
-    let from = paths(alloc, "from")?;
-    let to = paths(alloc, "to")?.subcommand(from)?;
-    let command = with_word(alloc, bare(alloc, "client"), "file")?;
-    let command = with_word(alloc, command, "window")?;
-    with_word(alloc, command, "millis")?.subcommand(to)
+fn command_of<'a>(alloc: Global, form: &Form) -> Result<Command<'a>, AllocError> {
+    let mut command = bare(alloc, form.name);
+    for name in form.words {
+        command = with_arg(command, word(alloc, name))?;
+    }
+    with_behind(alloc, command, form.behind)
 }
 
 /// All forms.
 pub(crate) fn program<'a>(alloc: Global) -> Result<Command<'a>, AllocError> {
-    bare(alloc, "live")
-        .no_binary_name(true)
-        .subcommand(keeper(alloc)?)?
-        .subcommand(hand(alloc)?)?
-        .subcommand(primary(alloc)?)?
-        .subcommand(client(alloc)?)
+    let mut program = bare(alloc, "live").no_binary_name(true);
+    for form in &FORMS {
+        program = with_command(program, command_of(alloc, form)?)?;
+    }
+    Ok(program)
 }

@@ -97,17 +97,26 @@ fn behind<'m, 'a>(matches: &'m ArgMatches<'a>) -> Result<&'m ArgMatches<'a>, NoT
     }
 }
 
+/// The paths of the command behind, and its matches.
+fn next<'m, 'a>(
+    alloc: Global,
+    matches: &'m ArgMatches<'a>,
+) -> Result<(Vec<&'a str>, &'m ArgMatches<'a>), NoTask> {
+    let inner = behind(matches)?;
+    Ok((paths_of(alloc, inner)?, inner))
+}
+
 fn keeping_of<'a>(alloc: Global, matches: &ArgMatches<'a>) -> Result<Task<'a>, NoTask>
     ensures { IfOk result IsUsable }
 {
-    let from = behind(matches)?;
-    let to = behind(from)?;
+    let (inputs, from) = next(alloc, matches)?;
+    let (outputs, _) = next(alloc, from)?;
     Ok(Task::Keeper(KeeperWords {
         image: word_of(matches, "image")?,
         keeper: keeper_of(matches)?,
         log: word_of(matches, "log")?,
-        inputs: paths_of(alloc, from)?,
-        outputs: paths_of(alloc, to)?,
+        inputs,
+        outputs,
     }))
 }
 
@@ -125,34 +134,34 @@ fn handing_of<'a>(matches: &ArgMatches<'a>) -> Result<Task<'a>, NoTask>
 fn leading_of<'a>(alloc: Global, matches: &ArgMatches<'a>) -> Result<Task<'a>, NoTask>
     ensures { IfOk result IsUsable }
 {
-    let requests = behind(matches)?;
-    let out = behind(requests)?;
-    let to = behind(out)?;
-    let from = behind(to)?;
-    let with = behind(from)?;
+    let (requests, at) = next(alloc, matches)?;
+    let (answers, at) = next(alloc, at)?;
+    let (frames, at) = next(alloc, at)?;
+    let (acknowledgements, at) = next(alloc, at)?;
+    let (handed, _) = next(alloc, at)?;
     Ok(Task::Primary(PrimaryWords {
         image: word_of(matches, "image")?,
         term: term_of(matches)?,
         quorum: quorum_of(matches)?,
-        requests: paths_of(alloc, requests)?,
-        answers: paths_of(alloc, out)?,
-        frames: paths_of(alloc, to)?,
-        acknowledgements: paths_of(alloc, from)?,
-        handed: paths_of(alloc, with)?,
+        requests,
+        answers,
+        frames,
+        acknowledgements,
+        handed,
     }))
 }
 
 fn asking_of<'a>(alloc: Global, matches: &ArgMatches<'a>) -> Result<Task<'a>, NoTask>
     ensures { IfOk result IsUsable }
 {
-    let to = behind(matches)?;
-    let from = behind(to)?;
+    let (requests, to) = next(alloc, matches)?;
+    let (answers, _) = next(alloc, to)?;
     Ok(Task::Client(ClientWords {
         file: word_of(matches, "file")?,
         window: some_of(matches, "window")? as usize,
         millis: some_of(matches, "millis")?,
-        requests: paths_of(alloc, to)?,
-        answers: paths_of(alloc, from)?,
+        requests,
+        answers,
     }))
 }
 

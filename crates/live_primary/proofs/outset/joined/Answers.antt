@@ -12,4 +12,4 @@ loop-log-preserved c =
     let within : i < length logs = omega arith in
     rw (taken_more (λ l. l.store) logs i log within c.log-item.is)
     (joined_more (nothing c.args.guest) (take i (map (λ l. l.store) logs)) log.store c.loop-log.store c.join.new.self c.loop-log.invariant
-    c.in_ok-join.ensures.joined)
+    c.in-Ok.ensures.joined)

@@ -24,6 +24,12 @@ loop-round-init g c =
       led = led_none primary.book;
     }
 
+pub send_pieces-requires-clause-harts : goal.send_pieces-requires-clause-harts
+send_pieces-requires-clause-harts g c =
+    c.in_ok-book.ensures.harts
+    ∙ ap (λ (m : MachineState). length m.harts) (machine_stays c.loop-round.primary.book c.note_out.new.book c.note_out.ensures)
+    ∙ c.loop-round.invariant.harts
+
 pub send_pieces-requires-clause-cut : goal.send_pieces-requires-clause-cut
 send_pieces-requires-clause-cut g c =
     further_within c.loop-round.primary c.in_ok-book.book c.loop-round.invariant.cut

@@ -1,4 +1,4 @@
-use Rattle.std.proofs.Common.{rules, arith, ◌∙◌, ℕ, ap, sym, subst}
+use Rattle.std.proofs.Common.{arith, ◌∙◌, ℕ, ap, sym, subst}
 use Rattle.output_gate.specs.Gates.{offered_in}
 use Rattle.output_gate.specs.Looks.{IsSeen}
 use Rattle.std.specs.List.{AllByRecursion}
@@ -23,7 +23,12 @@ run_all-requires-clause-watch g c κs within =
       no_hart = λ keeper hart past. noted keeper hart;
     } in
     record {
-      place = (search rules, search rules, c.in_ok-board.ensures.gate.0, seen);
+      place = (
+        c.in_ok-board.ensures.board.0 ∙ sym c.new-gate.ensures.parts.0,
+        c.in_ok-board.ensures.board.2 ∙ c.keepers.ensures.value ∙ sym c.keepers-2.ensures.value ∙ sym c.new-gate.ensures.parts.1,
+        c.in_ok-board.ensures.gate.0,
+        seen,
+      );
       empty = λ hart below. ap offered_in (c.new-gate.ensures.lines hart);
     }
 

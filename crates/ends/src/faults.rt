@@ -1,0 +1,253 @@
+//! What can go wrong with a process, and the line that says so.
+
+use crate::files::FileName;
+use ft_types::{Memory, Term};
+use std::alloc::{AllocError, AllocFailed};
+use std::fmt::{Display, Formatter};
+use std::{fmt, io};
+
+/// A file that the words name.
+#[derive(Clone, Copy)]
+pub enum NamedFile {
+    Image,
+    /// The log of a keeper.
+    Log,
+    /// The fences beside the log.
+    Fences,
+    /// What a client asks for.
+    Words,
+    /// What was handed over, with this number, from 0 on.
+    Handed(usize),
+    /// The input with this number, from 0 on.
+    Input(usize),
+    /// The output with this number, from 0 on.
+    Output(usize),
+}
+
+/// Where frames are.
+#[derive(Clone, Copy)]
+pub enum Frames {
+    /// In the log of a keeper.
+    Log,
+    /// In the input with this number.
+    Input(usize),
+    /// In what was handed over, with this number.
+    Handed(usize),
+    /// In all that was handed over.
+    AllHanded,
+}
+
+impl Frames {
+    fn words(&self) -> &'static str {
+        match self {
+            Frames::Log => "log",
+            Frames::Input(_) => "input",
+            Frames::Handed(_) | Frames::AllHanded => "handed",
+        }
+    }
+
+    fn number(&self) -> Option<u64> {
+        match self {
+            Frames::Input(number) | Frames::Handed(number) => Some(*number as u64),
+            _ => None,
+        }
+    }
+}
+
+/// What is wrong with frames.
+#[derive(Clone, Copy)]
+pub enum FramesFault {
+    /// A frame has the fault of this number.
+    Frame(u8),
+    /// One is of another guest.
+    Guest,
+    /// Unequal ones have one key.
+    Clash,
+    /// No line before them says that they were handed over.
+    Line,
+    /// They are not as many bytes as the line before them says.
+    Length,
+    /// They end inside one.
+    Torn,
+    /// They were handed over for another term.
+    Term,
+}
+
+impl FramesFault {
+    fn words(&self) -> &'static str {
+        match self {
+            FramesFault::Frame(_) => " frame",
+            FramesFault::Guest => " guest",
+            FramesFault::Clash => " clash",
+            FramesFault::Line => " line",
+            FramesFault::Length => " length",
+            FramesFault::Torn => " torn",
+            FramesFault::Term => " term",
+        }
+    }
+
+    fn number(&self) -> Option<u64> {
+        match self {
+            FramesFault::Frame(number) => Some(u64::from(*number)),
+            _ => None,
+        }
+    }
+}
+
+/// Why a process ends, or what it passes over.
+#[derive(Clone, Copy)]
+pub enum Fault {
+    /// The words have no form that there is.
+    Usage,
+    /// A file can't be opened, made, read, written, removed or brought to disk.
+    File(NamedFile),
+    /// The line of the image, from 1, that is at fault.
+    ImageLine(u64),
+    /// The number of what else is wrong with the image.
+    Image(u8),
+    /// Another keeper has the log.
+    Locked,
+    /// What is wrong with the frames that are there.
+    Frames(Frames, FramesFault),
+    /// The log was handed over to this term, which is not below the one that asks.
+    Fenced(Term),
+    /// The number of why no primary goes live from what was handed over.
+    Live(u8),
+    /// The line of what a client asks for, from 1, that is no word.
+    BadWord(u64),
+    /// Another answer came for the word of a number that had one.
+    Contradiction,
+    /// All inputs are at their end, and the answer of this number is missing.
+    Unanswered(usize),
+    /// The clock can't be read.
+    Clock,
+    /// Standard output failed.
+    Write,
+    /// A growth was refused.
+    Memory,
+}
+
+impl Fault {
+    /// The status that the process ends with.
+    pub fn status(&self) -> u8 {
+        match self {
+            Fault::Usage => 2,
+            _ => 1,
+        }
+    }
+
+    fn words(&self) -> &'static str {
+        match self {
+            Fault::Usage => "usage",
+            Fault::File(_) => "file",
+            Fault::ImageLine(_) => "image 1 line",
+            Fault::Image(_) => "image",
+            Fault::Locked => "log locked",
+            Fault::Frames(frames, _) => frames.words(),
+            Fault::Fenced(_) => "fence",
+            Fault::Live(_) => "live",
+            Fault::BadWord(_) => "words line",
+            Fault::Contradiction => "contradiction",
+            Fault::Unanswered(_) => "unanswered",
+            Fault::Clock => "clock",
+            Fault::Write => "write",
+            Fault::Memory => "memory",
+        }
+    }
+
+    fn number(&self) -> Option<u64> {
+        match self {
+            Fault::ImageLine(line) | Fault::BadWord(line) => Some(*line),
+            Fault::Image(number) | Fault::Live(number) => Some(u64::from(*number)),
+            Fault::Frames(frames, _) => frames.number(),
+            Fault::Fenced(term) => Some(u64::from(*term)),
+            Fault::Unanswered(number) => Some(*number as u64),
+            _ => None,
+        }
+    }
+}
+
+impl From<Memory> for Fault {
+    fn from(_e: Memory) -> Fault {
+        Fault::Memory
+    }
+}
+
+impl From<AllocError> for Fault {
+    fn from(_e: AllocError) -> Fault {
+        Fault::Memory
+    }
+}
+
+impl<T: Drop> From<AllocFailed<T>> for Fault {
+    fn from(_e: AllocFailed<T>) -> Fault {
+        Fault::Memory
+    }
+}
+
+/// The fault of a file with which this went wrong.
+pub fn file_fault(error: &io::Error, file: NamedFile) -> Fault {
+    match error.kind() {
+        io::ErrorKind::OutOfMemory => Fault::Memory,
+        _ => Fault::File(file),
+    }
+}
+
+/// The name of this number, empty where there is none.
+pub fn name_at<'a>(names: &[&'a str], number: usize) -> &'a str {
+    match names.get(number) {
+        Some(name) => name,
+        None => "",
+    }
+}
+
+/// A fault, with the name of the file that it names.
+#[derive(Clone, Copy)]
+struct Told<'a> {
+    fault: &'a Fault,
+    name: &'a str,
+}
+
+fn write_number<W: fmt::Write>(number: Option<u64>, f: &mut Formatter<W>) -> fmt::Result {
+    match number {
+        Some(number) => write!(f, " {number}"),
+        None => Ok(()),
+    }
+}
+
+fn write_name<W: fmt::Write>(file: NamedFile, name: &str, f: &mut Formatter<W>) -> fmt::Result {
+    write!(f, " {}", FileName(name))?;
+    match file {
+        NamedFile::Fences => f.write_str(".fences"),
+        _ => Ok(()),
+    }
+}
+
+fn write_frames_fault<W: fmt::Write>(fault: FramesFault, f: &mut Formatter<W>) -> fmt::Result {
+    f.write_str(fault.words())?;
+    write_number(fault.number(), f)
+}
+
+impl Display for Told<'_> {
+    fn fmt<W: fmt::Write>(&self, f: &mut Formatter<W>) -> fmt::Result {
+        f.write_str(self.fault.words())?;
+        write_number(self.fault.number(), f)?;
+        match *self.fault {
+            Fault::File(file) => write_name(file, self.name, f),
+            Fault::Frames(_, fault) => write_frames_fault(fault, f),
+            _ => Ok(()),
+        }
+    }
+}
+
+/// Tells a fault on standard error, with the name of the file that it names. Where not even that can be told, the status says it alone.
+pub fn tell<R: Eprint>(rt: &R, fault: &Fault, name: &str) {
+    let told = Told { fault, name };
+    let _written = eprintln!(rt; "fault {told}");
+}
+
+/// Tells a fault, and gives the status that the process ends with.
+pub fn refuse<R: Eprint>(rt: &R, fault: &Fault, name: &str) -> u8 {
+    tell(rt, fault, name);
+    fault.status()
+}

@@ -1,0 +1,14 @@
+//! The names of files.
+
+use ends::{Fault, NamedFile, name_at};
+use live_words::ClientWords;
+
+/// The name of the file that a fault names.
+pub(crate) fn name_in<'a>(words: &ClientWords<'a>, fault: &Fault) -> &'a str {
+    match fault {
+        Fault::File(NamedFile::Words) => words.file,
+        Fault::File(NamedFile::Input(number)) => name_at(&words.answers, *number),
+        Fault::File(NamedFile::Output(number)) => name_at(&words.requests, *number),
+        _ => "",
+    }
+}
