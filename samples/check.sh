@@ -1,8 +1,9 @@
 #!/bin/sh
 # check.sh [PROGRAM]: runs what README.md, docs/GUIDE.md and docs/FAILOVER.md print, as printed, in a fresh copy of the repository, and compares
 # the answers that they show; then runs each guest of guests/ and replays its log, looks for each name that the documents cite (tools/names), refuses
-# memory to the rows of benches/refusals, and kills keepers and primaries that are processes (samples/live). PROGRAM is the built workbench, by itself the one that `.ci/run` and `rt run` leave. The last line is 'N passed, N
-# failed'. Needs rt; what needs more is left out where that is not there.
+# memory to the rows of benches/refusals, kills keepers and primaries that are processes (samples/live), refuses their file calls, and sends them
+# what is changed by chance (benches/live). PROGRAM is the built workbench, by itself the one that `.ci/run` and `rt run` leave. The last line is
+# 'N passed, N failed'. Needs rt; what needs more is left out where that is not there.
 #
 # In these documents each indented block is typed into a shell of its own at the top of the repository. Where it has lines that begin with
 # '$ ', these are the commands, and the lines below each are all that it answers. Where it has none, each line is a command.
@@ -187,6 +188,29 @@ if [ -x "$live" ] && command -v bash > /dev/null; then
     else
         fail "primaries that are processes" < "$work/drills"
     fi
+    if bash "$top/samples/live/amiss.sh" "$live" "$program" > "$work/amiss" 2>&1; then
+        pass
+    else
+        fail "what goes amiss between processes" < "$work/amiss"
+    fi
+fi
+
+# Each row of refused file calls with three of them, and what is changed by chance for five seconds.
+if [ -n "${TRIED:-}" ] || [ ! -x "$live" ]; then
+    echo "left out benches/live, since there is no proved $live"
+elif command -v cc > /dev/null && command -v python3 > /dev/null && [ -d /dev/shm ]; then
+    if sh "$top/benches/live/refusals.sh" "$live" "$program" quick > "$work/calls" 2>&1; then
+        pass
+    else
+        fail "processes of which file calls are refused" < "$work/calls"
+    fi
+    if sh "$top/benches/live/chance.sh" "$live" 5 > "$work/chance" 2>&1; then
+        pass
+    else
+        fail "processes that are sent what is changed by chance" < "$work/chance"
+    fi
+else
+    echo "left out benches/live, since a C compiler, python3 or /dev/shm is not there"
 fi
 
 echo "$passed passed, $failed failed"

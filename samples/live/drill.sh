@@ -1,9 +1,9 @@
 #!/bin/bash
-# drill.sh [LIVE [WORKBENCH [ROUNDS [SEED [REQUESTS]]]]]: a primary, three keepers of whom two must hold an answer, and a client, each a process of its own,
+# drill.sh [LIVE [WORKBENCH [ROUNDS [SEED [REQUESTS [PAUSES]]]]]]: a primary, three keepers of whom two must hold an answer, and a client, each a process of its own,
 # over FIFOs, with the service of guests/service. So many rounds in each of which the primary is killed (kill -9) twice at random moments, mostly a keeper
 # too, and the next one goes live at another site from what two random keepers hand over. The client must have the answers that the service gives to
-# requests that are taken in order, each once, and the machine to which the keepers' logs lead must have those outputs and no others. Then as many rounds in
-# which the primary is paused (SIGSTOP), two keepers hand over, and it goes on (SIGCONT) beside the next one, each with a client of its own: no number may
+# requests that are taken in order, each once, and the machine to which the keepers' logs lead must have those outputs and no others. Then PAUSES rounds, as many by
+# themselves, in which the primary is paused (SIGSTOP), two keepers hand over, and it goes on (SIGCONT) beside the next one, each with a client of its own: no number may
 # have two words. And one round in which copies of the logs are handed over, so that no keeper is fenced off: there they must contradict, or the rounds
 # before show nothing. LIVE and WORKBENCH are the built programs, by themselves those that `rt run` leaves. The last line is 'N passed, N failed'. Needs
 # bash and mkfifo.
@@ -14,6 +14,7 @@ workbench=${2:-$top/crates/workbench/out/workbench}
 rounds=${3:-10}
 RANDOM=${4:-1}
 many=${5:-800}
+pauses=${6:-$rounds}
 image=$top/guests/images/service.image
 work=$(mktemp -d)
 passed=0
@@ -307,7 +308,7 @@ refuses 'two answers to one word' 1 'fault contradiction' client "$work/files.wo
 refuses 'no word may be open' 2 'fault usage' client "$work/files.words" 0 1000 to "$work/answers" from "$work/none"
 
 for number in $(seq "$rounds"); do killed "$number"; done
-for number in $(seq "$rounds"); do split "$number" logs; done
+for number in $(seq "$pauses"); do split "$number" logs; done
 split 0 copies
 
 echo "of $(awk '{ sum += $1 } END { print sum + 0 }' "$work/tally") answers each is in the machine that goes on, unless it is told above"

@@ -1,14 +1,10 @@
 #!/bin/bash
 # pair.sh [LIVE]: three keepers, a primary and a client, each a process of its own, over FIFOs. The primary is killed, the next one goes live from what two
-# keepers hand over, and goes on. LIVE is the built program, by itself the one that `rt run` leaves.
+# keepers hand over, and goes on. LIVE is the built program, by itself the one that `rt run` leaves; where there is none, it is built first, without a proof.
 set -eu
 top=$(cd "$(dirname "$0")/../.." && pwd)
 live=${1:-$top/crates/live/out/live}
 image=$top/guests/images/service.image
-if [ ! -x "$live" ]; then
-    echo "there is no $live: build it by .ci/run, or by rt run in its folder"
-    exit 2
-fi
 at=$(mktemp -d)
 # Ends what this script started, and nothing else.
 finish() {
@@ -16,6 +12,11 @@ finish() {
     rm -rf "$at"
 }
 trap finish EXIT
+if [ ! -x "$live" ]; then
+    echo 'live is built, without a proof, in some minutes' >&2
+    "$top/samples/keep_program.sh" live "$at/built" hand image 0 log 1
+    live=$at/built/program
+fi
 cd "$at"
 mkfifo in out frames.0 frames.1 frames.2 acks.0 acks.1 acks.2
 

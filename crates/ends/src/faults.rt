@@ -1,5 +1,7 @@
 //! What can go wrong with a process, and the line that says so.
 
+ghost use Rattle.std.specs.Prelude.{◌≡◌, ◌≢◌};
+
 use crate::files::FileName;
 use ft_types::{Memory, Term};
 use std::alloc::{AllocError, AllocFailed};
@@ -129,7 +131,10 @@ pub enum Fault {
 
 impl Fault {
     /// The status that the process ends with.
-    pub fn status(&self) -> u8 {
+    pub fn status(&self) -> u8
+        ensures usage { self.now ≡ Fault.Usage → result ≡ 2 }
+        ensures other { self.now ≢ Fault.Usage → result ≡ 1 }
+    {
         match self {
             Fault::Usage => 2,
             _ => 1,
@@ -247,7 +252,10 @@ pub fn tell<R: Eprint>(rt: &R, fault: &Fault, name: &str) {
 }
 
 /// Tells a fault, and gives the status that the process ends with.
-pub fn refuse<R: Eprint>(rt: &R, fault: &Fault, name: &str) -> u8 {
+pub fn refuse<R: Eprint>(rt: &R, fault: &Fault, name: &str) -> u8
+    ensures usage { fault.now ≡ Fault.Usage → result ≡ 2 }
+    ensures other { fault.now ≢ Fault.Usage → result ≡ 1 }
+{
     tell(rt, fault, name);
     fault.status()
 }

@@ -15,3 +15,4 @@ pub mod Sound
 pub mod Alone
 pub mod Releasing
 pub mod Round
+pub mod Few

@@ -1,5 +1,5 @@
 -- A round of a primary.
-use Rattle.std.specs.Prelude.{ℕ, ◌≡◌, ◌≤◌, ◌⊎◌, ◌+◌, ◌-◌, ◌^◌, ◌++◌, ◌∷◌, ◌==◌, ◌&&◌, [], List, Bool, true, not, Option, Some, None, length, min, slice_get, bit_and, if◌then◌else◌}
+use Rattle.std.specs.Prelude.{ℕ, ◌≡◌, ◌≢◌, ◌≤◌, ◌⊎◌, ◌+◌, ◌-◌, ◌^◌, ◌++◌, ◌∷◌, ◌==◌, ◌&&◌, [], List, Bool, true, not, Option, Some, None, length, min, slice_get, bit_and, if◌then◌else◌}
 use Rattle.ft_types.specs.declared.names.TheConstants.{COUNT_LIMIT}
 use Rattle.input_log.specs.declared.Input.{Input}
 use Rattle.input_log.specs.Waiting.{bells_of, others_of}
@@ -81,6 +81,11 @@ pub record IsRound (steps : ℕ) (old new : LeaderView) : Type 0 where
   pub on : HasGoneOn steps given new.primary.book
 
 -- ---- private words
+
+-- a hart has taken so many steps more at the most, and no other one any
+pub record GoesFew (hart many : ℕ) (b c : BookView RecordingView) : Type 0 where
+  pub own : counts_of c.machine hart ≤ counts_of b.machine hart + many
+  pub others : (other : ℕ) → other ≢ hart → counts_of c.machine other ≡ counts_of b.machine other
 
 -- the primary's book went on, and nothing else of it is another: no lease is open, no hart is past its limit, and nothing that was offered is lost
 pub record GoesAlone (p q : Primary) : Type 0 where

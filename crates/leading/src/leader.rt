@@ -1,6 +1,6 @@
 //! A primary of a term that leads.
 
-ghost use Rattle.std.specs.Prelude.{◌≡◌, ℕ, [], true, None, Some, Ok, length, slice_get, IfOk, IfErr, OnOk, OnErr};
+ghost use Rattle.std.specs.Prelude.{◌≡◌, ◌≤◌, ◌+◌, ℕ, [], true, false, None, Some, Ok, length, slice_get, IfOk, IfErr, OnOk, OnErr};
 ghost use Rattle.ft_types.specs.Counts.{count_at};
 ghost use Rattle.hart_lease.specs.Runs.{counts_of};
 ghost use Rattle.rv32_hart.specs.Hart.{Hart as HartRecord};
@@ -17,6 +17,7 @@ ghost use Rattle.leading.specs.Hearing.{Hears, LetsGo, LetsNothingGo, Notes, Wit
 ghost use Rattle.leading.specs.Leaders.{BeginBehind, queue_at};
 ghost use Rattle.leading.specs.Rounds.{IsRound, next_of};
 ghost use Rattle.leading.specs.Telling.{told_again};
+ghost use Rattle.leading.specs.declared.waiting.TheConstants.{LOOP};
 
 use crate::inputs::{hand_all, has_input, queues_of};
 use crate::rounds::go_on;
@@ -147,12 +148,21 @@ impl Leader {
         self.gate.kept()
     }
 
+    /// Whether a hart could be handed an input in the next round.
+    pub fn may_hand(&self) -> bool
+        ensures { result ≡ false → (hart : ℕ) (h : HartRecord) → slice_get self.now.primary.book.machine.harts hart ≡ Some h →
+            next_of h (queue_at self.now.queues hart) ≡ None }
+    {
+        has_input(self.primary.book.machine(), &self.queues)
+    }
+
     /// Whether rounds would change nothing but counts until an input comes: no hart could be handed one, and all of them only wait, which
-    /// some steps of each show. It steers rounds alone.
+    /// few steps of each show. It steers rounds alone, and costs no more as the past grows.
     pub fn only_waits(&mut self, alloc: Global) -> Result<bool, Memory>
         ensures waits { result ≡ Ok true → (hart : ℕ) (h : HartRecord) → slice_get self.old.primary.book.machine.harts hart ≡ Some h →
             next_of h (queue_at self.old.queues hart) ≡ None }
         ensures on { GoesOn self.old.primary.book self.new.primary.book }
+        ensures few { (hart : ℕ) → counts_of self.new.primary.book.machine hart ≤ counts_of self.old.primary.book.machine hart + LOOP }
         ensures offered { KeepsOffered self.old.primary.book self.new.primary.book }
         ensures rest { self.new ≡ record self.old { primary = record self.old.primary { book = self.new.primary.book } } }
     {

@@ -1,99 +1,127 @@
 //! Whether a machine only waits. This steers alone: no promise leans on it.
 
-ghost use Rattle.std.specs.Prelude.{◌<◌, length};
+ghost use Rattle.std.specs.Prelude.{◌<◌, ◌≤◌, ◌+◌, ℕ, length};
+ghost use Rattle.hart_lease.specs.Runs.{counts_of};
 ghost use Rattle.lease_rounds.specs.Running.{IsIdle};
 ghost use Rattle.lease_rounds.specs.Steps.{AreWithin};
-ghost use Rattle.leading.specs.Rounds.{GoesAlone};
+ghost use Rattle.leading.specs.Rounds.{GoesAlone, GoesFew};
 
 use ft_types::{Hart, Memory, PageNo};
-use guest_image::Machine;
+use guest_image::{Machine, Page};
 use page_book::BookFault;
 use primary::{Primary, tell_primary};
 use rv32_hart::HartState;
 use std::alloc::Global;
 use std::result::Result;
+use std::sync::Arc;
 
 /// How many steps a loop has in which a hart is found to wait, at the most.
 const LOOP: usize = 64;
 
-/// Whether a hart is as it was but for its count, its pc and its outputs.
-fn rests(before: &HartState, after: &HartState) -> bool {
-    before.registers() == after.registers()
-        && before.csr_words() == after.csr_words()
-        && before.device_words() == after.device_words()
-        && before.rung() == after.rung()
-        && before.heard() == after.heard()
+/// Where a hart stood: its state without its outputs, and how many these were.
+#[derive(Drop)]
+struct Stand {
+    state: HartState,
+    outputs: usize,
 }
 
-/// Whether all harts are as they were but for their counts and pcs.
-fn harts_rest(before: &Machine, after: &Machine) -> bool {
-    for number in 0..after.harts().min(before.harts()) {
-        let hart = Hart::new(number);
-        let (before, after) = (before.hart(hart), after.hart(hart));
-        if !rests(before, after) || before.outputs().len() != after.outputs().len() {
-            return false;
+impl Stand {
+    fn of(state: &HartState) -> Stand {
+        Stand {
+            state: state.without_outputs(),
+            outputs: state.outputs().len(),
         }
     }
-    true
+
+    /// Whether the hart stands there again: nothing of it is another but its count.
+    fn comes_again(&self, now: &HartState) -> bool {
+        let then = &self.state;
+        then.pc() == now.pc()
+            && then.registers() == now.registers()
+            && then.csr_words() == now.csr_words()
+            && then.device_words() == now.device_words()
+            && then.rung() == now.rung()
+            && then.heard() == now.heard()
+            && self.outputs == now.outputs().len()
+    }
+}
+
+/// The pages of a machine, which it goes on sharing where it doesn't write.
+fn pages_of(alloc: Global, machine: &Machine) -> Result<Vec<Arc<Page>>, Memory> {
+    let mut pages = Vec::new(alloc);
+    for number in 0..machine.pages() {
+        pages.push(Arc::try_clone(machine.page(PageNo::new(number)))?)?;
+    }
+    Ok(pages)
 }
 
 /// Whether all pages are as they were.
-fn pages_rest(before: &Machine, after: &Machine) -> bool {
-    for number in 0..after.pages().min(before.pages()) {
+fn pages_rest(before: &[Arc<Page>], after: &Machine) -> bool {
+    for number in 0..after.pages() {
         let page = PageNo::new(number);
-        if !before.page(page).same(after.page(page)) {
+        let index = page.index();
+        if index < before.len() && !before[index].same(after.page(page)) {
             return false;
         }
     }
     true
 }
 
-/// Whether the hart stands where it stood, but for its count, and has put out nothing.
-fn stands(before: &HartState, outputs: usize, after: &HartState) -> bool {
-    after.pc() == before.pc() && after.outputs().len() == outputs && rests(before, after)
-}
-
-/// Lets a hart go on alone until it stands where it stood. Whether it does within so many steps.
+/// Lets a hart go on alone until it stands where it stood. Whether it does within so many steps, or is halted.
 fn comes_round(alloc: Global, primary: &mut Primary, hart: Hart) -> Result<bool, Memory>
     requires hart { hart < length primary.old.book.machine.harts }
     requires idle { IsIdle primary.old.book }
     requires within { AreWithin primary.old.book }
-    ensures { GoesAlone primary.old primary.new }
+    ensures alone { GoesAlone primary.old primary.new }
+    ensures few { GoesFew hart LOOP primary.old.book primary.new.book }
 {
     // proof: its log is honest.
     tell_primary(&primary.book);
     let state = primary.book.machine().hart(hart);
-    let before = state.without_outputs();
-    let outputs = state.outputs().len();
+    if state.is_halted() {
+        return Ok(true);
+    }
+    let stand = Stand::of(state);
     for _step in 0..LOOP {
         match primary.step(alloc, hart) {
             Ok(()) => {}
             Err(BookFault::Memory) => return Err(Memory),
             Err(_) => return Ok(false),
         }
-        if stands(&before, outputs, primary.book.machine().hart(hart)) {
+        if stand.comes_again(primary.book.machine().hart(hart)) {
             return Ok(true);
         }
     }
     Ok(false)
 }
 
-/// Whether the machine only waits: each hart is led on alone, and stands where it stood, and nothing else has changed. The same steps may
-/// come again for ever, unless an input comes.
-pub(crate) fn only_waits(alloc: Global, primary: &mut Primary) -> Result<bool, Memory>
+/// Leads each hart on alone. Whether all of them stand where they stood, or are halted.
+fn harts_come_round(alloc: Global, primary: &mut Primary) -> Result<bool, Memory>
     requires idle { IsIdle primary.old.book }
     requires within { AreWithin primary.old.book }
-    ensures { GoesAlone primary.old primary.new }
+    ensures alone { GoesAlone primary.old primary.new }
+    ensures few { (hart : ℕ) → counts_of primary.new.book.machine hart ≤ counts_of primary.old.book.machine hart + LOOP }
 {
     // proof: its log is honest.
     tell_primary(&primary.book);
-    let here = primary.book.machine().copy()?;
-    for number in 0..here.harts() {
-        let hart = Hart::new(number);
-        if !here.hart(hart).is_halted() && !comes_round(alloc, primary, hart)? {
+    for number in 0..primary.book.machine().harts() {
+        if !comes_round(alloc, primary, Hart::new(number))? {
             return Ok(false);
         }
     }
-    let now = primary.book.machine();
-    Ok(harts_rest(&here, now) && pages_rest(&here, now))
+    Ok(true)
+}
+
+/// Whether the machine only waits: each hart is led on alone, and stands where it stood, and no page has changed. The same steps may come
+/// again for ever, unless an input comes. What the machine has put out is not looked at, so a look costs no more as it grows.
+pub(crate) fn only_waits(alloc: Global, primary: &mut Primary) -> Result<bool, Memory>
+    requires idle { IsIdle primary.old.book }
+    requires within { AreWithin primary.old.book }
+    ensures alone { GoesAlone primary.old primary.new }
+    ensures few { (hart : ℕ) → counts_of primary.new.book.machine hart ≤ counts_of primary.old.book.machine hart + LOOP }
+{
+    // proof: its log is honest.
+    tell_primary(&primary.book);
+    let pages = pages_of(alloc, primary.book.machine())?;
+    Ok(harts_come_round(alloc, primary)? && pages_rest(&pages, primary.book.machine()))
 }

@@ -1,5 +1,7 @@
 //! `hand IMAGE K LOG T`: the keeper of this number and log acknowledges nothing below the term any more, and then its frames are written out.
 
+ghost use Rattle.std.specs.Prelude.{◌≡◌, IfOk};
+
 use crate::faults::{fence_fault, log_fault};
 use crate::files::HostFiles;
 use ends::{Fault, Host};
@@ -9,6 +11,7 @@ use live_words::HandWords;
 use stations::{fence_off, hand_over};
 use std::io;
 use std::io::Write;
+use std::result::Result;
 use wire::{Handed, handed_line};
 
 fn write_handed<H: Host>(rt: &H, line: &[u8], frames: &[u8]) -> io::Result<()> {
@@ -32,7 +35,9 @@ fn handed<H: Host>(rt: &H, guest: &Guest, words: &HandWords<'_>) -> Result<Vec<u
 }
 
 /// Hands a log over to a term, and gives the status that the program ends with.
-pub fn hand<H: Host>(rt: &H, words: &HandWords<'_>) -> Result<u8, Fault> {
+pub fn hand<H: Host>(rt: &H, words: &HandWords<'_>) -> Result<u8, Fault>
+    ensures { IfOk result (λ status. status ≡ 0) }
+{
     let guest = read_image_file(rt, words.image)?.guest();
     let frames = handed(rt, &guest, words)?;
     let handed = Handed {

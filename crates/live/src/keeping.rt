@@ -1,5 +1,7 @@
 //! `keeper IMAGE K LOG from FRAMES.. to ACKS..`: frames come in, new ones go to the log, and then the position is acknowledged.
 
+ghost use Rattle.std.specs.Prelude.{◌≡◌, ◌≤◌, true, false, IfOk};
+
 use crate::events::{Event, Receiver, Sender};
 use crate::faults::{files_fault, log_fault};
 use crate::files::HostFiles;
@@ -12,6 +14,7 @@ use live_primary::read_image_file;
 use live_words::KeeperWords;
 use log_join::Put;
 use stations::KeeperStation;
+use std::result::Result;
 use wire::Acknowledgement;
 
 /// How many events wait for the thread that decides, at the most, and how many it takes before it brings the log to disk.
@@ -127,7 +130,10 @@ impl Keeping {
     }
 
     /// Ends behind the last input, once all is written: the status that the program ends with.
-    fn end<H: Host>(self, rt: &H) -> u8 {
+    fn end<H: Host>(self, rt: &H) -> u8
+        ensures passed { self.passed ≡ true → result ≡ 1 }
+        ensures sound { self.passed ≡ false → result ≡ 0 }
+    {
         for post in self.posts {
             post.end(rt);
         }
@@ -184,7 +190,9 @@ fn keep_on<H: Host>(
 }
 
 /// Keeps a log until all inputs are at their end, and gives the status that the program ends with.
-pub fn keep<H: Host>(rt: &H, words: &KeeperWords<'_>) -> Result<u8, Fault> {
+pub fn keep<H: Host>(rt: &H, words: &KeeperWords<'_>) -> Result<u8, Fault>
+    ensures { IfOk result (λ status. status ≤ 1) }
+{
     let guest = read_image_file(rt, words.image)?.guest();
     let mut files = HostFiles::of_keeper(rt, guest, words.log)?;
     let station = begin(rt, guest, &mut files)?;

@@ -11,6 +11,8 @@ mod listening;
 mod names;
 mod posting;
 
+ghost use Rattle.std.specs.Prelude.{◌≤◌};
+
 use crate::handing::hand;
 use crate::keeping::keep;
 use crate::names::{name_in_hand, name_in_keeper};
@@ -30,14 +32,18 @@ fn arguments(rt: &HostRuntime) -> io::Result<Vec<String>> {
     Ok(words)
 }
 
-fn keep_and_tell<H: Host>(rt: &H, words: &KeeperWords<'_>) -> u8 {
+fn keep_and_tell<H: Host>(rt: &H, words: &KeeperWords<'_>) -> u8
+    ensures { result ≤ 2 }
+{
     match keep(rt, words) {
         Ok(status) => status,
         Err(fault) => refuse(rt, &fault, name_in_keeper(words, &fault)),
     }
 }
 
-fn hand_and_tell<H: Host>(rt: &H, words: &HandWords<'_>) -> u8 {
+fn hand_and_tell<H: Host>(rt: &H, words: &HandWords<'_>) -> u8
+    ensures { result ≤ 2 }
+{
     match hand(rt, words) {
         Ok(status) => status,
         Err(fault) => refuse(rt, &fault, name_in_hand(words, &fault)),
@@ -45,7 +51,9 @@ fn hand_and_tell<H: Host>(rt: &H, words: &HandWords<'_>) -> u8 {
 }
 
 /// Does what is asked for, tells a fault, and gives the status that the program ends with.
-fn run<H: Host>(rt: &H, task: &Task<'_>) -> u8 {
+fn run<H: Host>(rt: &H, task: &Task<'_>) -> u8
+    ensures { result ≤ 2 }
+{
     match task {
         Task::Keeper(words) => keep_and_tell(rt, words),
         Task::Hand(words) => hand_and_tell(rt, words),
@@ -61,7 +69,9 @@ fn fault_of(error: &io::Error) -> Fault {
     }
 }
 
-fn command<H: Host>(rt: &H, words: &[String]) -> u8 {
+fn command<H: Host>(rt: &H, words: &[String]) -> u8
+    ensures { result ≤ 2 }
+{
     match read_task(rt.alloc(), words) {
         Ok(task) => run(rt, &task),
         Err(NoTask::Usage) => refuse(rt, &Fault::Usage, ""),
@@ -70,7 +80,9 @@ fn command<H: Host>(rt: &H, words: &[String]) -> u8 {
 }
 
 /// Does what the words ask for, and gives the status that the program ends with.
-fn status<H: Host>(rt: &H, words: io::Result<Vec<String>>) -> u8 {
+fn status<H: Host>(rt: &H, words: io::Result<Vec<String>>) -> u8
+    ensures { result ≤ 2 }
+{
     match words {
         Ok(words) => command(rt, &words),
         Err(error) => refuse(rt, &fault_of(&error), ""),

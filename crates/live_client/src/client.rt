@@ -1,5 +1,7 @@
 //! The threads of a client, and what it does with them.
 
+ghost use Rattle.std.specs.Prelude.{◌≤◌};
+
 use crate::names::name_in;
 use asking::{Heard, Talk, WordsFault, read_words, told_line};
 use crossbeam_channel::RecvTimeoutError;
@@ -170,7 +172,9 @@ fn ask_all<H: Host>(rt: &H, words: &ClientWords<'_>) -> Result<(), Fault> {
 
 /// Asks for the words of a file, and prints each answer once, in the order of the words. The status that the program ends with; a fault
 /// is told on standard error.
-pub fn ask<H: Host>(rt: &H, words: &ClientWords<'_>) -> u8 {
+pub fn ask<H: Host>(rt: &H, words: &ClientWords<'_>) -> u8
+    ensures { result ≤ 2 }
+{
     match ask_all(rt, words) {
         Ok(()) => 0,
         Err(fault) => refuse(rt, &fault, name_in(words, &fault)),

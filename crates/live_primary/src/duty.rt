@@ -1,9 +1,11 @@
 //! A primary: events are taken, and rounds led, one after the other, on one thread.
 
+ghost use Rattle.std.specs.Prelude.{◌≤◌};
+
 use crate::names::name_in;
 use crate::office::Office;
 use crate::outset::{Outset, frame_bytes, set_out};
-use crate::pace::{FIRST_ROUND, next_round};
+use crate::pace::{FIRST_ROUND, next_blind, next_round};
 use ends::{Event, Fault, Host, refuse};
 use ft_types::{Count, Guest};
 use leading::Leader;
@@ -25,6 +27,8 @@ struct Duty {
     open: usize,
     /// How many steps the next round has.
     steps: Count,
+    /// How many rounds go by without a look.
+    blind: u8,
     /// Whether rounds change nothing until a request comes.
     waits: bool,
 }
@@ -63,6 +67,7 @@ fn take_request<H: Host>(
         office.tell(rt, answer)?;
     }
     duty.steps = FIRST_ROUND;
+    duty.blind = 0;
     duty.waits = false;
     Ok(())
 }
@@ -112,7 +117,7 @@ fn take_all<H: Host>(rt: &H, duty: &mut Duty, office: &Office) -> Result<(), Fau
     Ok(())
 }
 
-/// Leads a round, sends its frames, and looks whether more rounds would change anything.
+/// Leads a round, sends its frames, and looks, unless that is put off, whether more rounds would change anything.
 fn go_on<H: Host>(rt: &H, duty: Duty, office: &Office) -> Result<Duty, Fault> {
     let Duty {
         guest,
@@ -120,17 +125,20 @@ fn go_on<H: Host>(rt: &H, duty: Duty, office: &Office) -> Result<Duty, Fault> {
         told,
         open,
         steps,
+        blind,
         waits: _,
     } = duty;
     let (mut leader, frames) = leader.round(rt.alloc(), steps)?;
     office.send(rt, frame_bytes(rt.alloc(), &frames)?)?;
-    let waits = leader.only_waits(rt.alloc())?;
+    let waits = blind == 0 && leader.only_waits(rt.alloc())?;
+    let may_hand = leader.may_hand();
     Ok(Duty {
         guest,
         leader,
         told,
         open,
-        steps: next_round(steps),
+        steps: next_round(steps, may_hand),
+        blind: next_blind(blind, steps),
         waits,
     })
 }
@@ -170,6 +178,7 @@ fn lead_all<H: Host>(rt: &H, words: &PrimaryWords<'_>) -> Result<(), Fault> {
         told: 0,
         open: words.requests.len() + words.acknowledgements.len(),
         steps: FIRST_ROUND,
+        blind: 0,
         waits: false,
     };
     lead_on(rt, duty, &office)?;
@@ -178,7 +187,9 @@ fn lead_all<H: Host>(rt: &H, words: &PrimaryWords<'_>) -> Result<(), Fault> {
 }
 
 /// Leads a term, from what keepers handed over to it. The status that the program ends with; a fault is told on standard error.
-pub fn lead<H: Host>(rt: &H, words: &PrimaryWords<'_>) -> u8 {
+pub fn lead<H: Host>(rt: &H, words: &PrimaryWords<'_>) -> u8
+    ensures { result ≤ 2 }
+{
     match lead_all(rt, words) {
         Ok(()) => 0,
         Err(fault) => refuse(rt, &fault, name_in(words, &fault)),

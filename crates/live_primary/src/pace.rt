@@ -1,6 +1,6 @@
 //! How long rounds are.
 
-ghost use Rattle.std.specs.Prelude.{◌≡◌, ◌<◌, ◌≤◌, ◌*◌};
+ghost use Rattle.std.specs.Prelude.{◌≡◌, ◌+◌, ◌<◌, ◌≤◌, ◌*◌, true, false};
 
 use ft_types::Count;
 
@@ -10,15 +10,37 @@ pub(crate) const FIRST_ROUND: Count = 240;
 /// How many steps a round has at the most.
 const LONGEST_ROUND: Count = 61_440;
 
-/// How many steps the round behind one of so many has, where no request came between them: four times as many, up to a limit. So an answer
-/// is soon there, and a guest that computes is led on in long rounds.
-pub(crate) fn next_round(steps: Count) -> Count
-    ensures longer { steps * 4 ≤ LONGEST_ROUND → result ≡ steps * 4 }
-    ensures longest { LONGEST_ROUND < steps * 4 → result ≡ LONGEST_ROUND }
+/// How many of the longest rounds go by without a look: a look at a hart that computes takes nearly as many instructions as such a round.
+const BLIND_ROUNDS: u8 = 15;
+
+/// How many steps the round behind one of so many has, where no request came between them: few where an input is to be handed to a hart, and
+/// otherwise four times as many, up to a limit. So an answer is soon there, and a guest that computes is led on in long rounds.
+pub(crate) fn next_round(steps: Count, may_hand: bool) -> Count
+    ensures first { may_hand ≡ true → result ≡ FIRST_ROUND }
+    ensures longer { may_hand ≡ false → steps * 4 ≤ LONGEST_ROUND → result ≡ steps * 4 }
+    ensures longest { may_hand ≡ false → LONGEST_ROUND < steps * 4 → result ≡ LONGEST_ROUND }
 {
-    if steps <= LONGEST_ROUND / 4 {
+    if may_hand {
+        FIRST_ROUND
+    } else if steps <= LONGEST_ROUND / 4 {
         steps * 4
     } else {
         LONGEST_ROUND
+    }
+}
+
+/// How many rounds go by without a look behind one of so many steps, behind which so many were to: behind a look some where it was one of the
+/// longest, and otherwise none.
+pub(crate) fn next_blind(blind: u8, steps: Count) -> u8
+    ensures fewer { 0 < blind → result + 1 ≡ blind }
+    ensures none { blind ≡ 0 → steps < LONGEST_ROUND → result ≡ 0 }
+    ensures some { blind ≡ 0 → LONGEST_ROUND ≤ steps → result ≡ BLIND_ROUNDS }
+{
+    if blind > 0 {
+        blind - 1
+    } else if steps < LONGEST_ROUND {
+        0
+    } else {
+        BLIND_ROUNDS
     }
 }

@@ -7,7 +7,7 @@ use Rattle.leading.proofs.leader.Leader.only_waits.Goals as goal
 
 pub invariant_of-self : goal.invariant_of-self
 invariant_of-self c = (
-  sound_alone c.self.inside.primary c.only_waits-waits.new.primary c.self.inside.gate c.self.inside.queues.items c.only_waits-waits.ensures
+  sound_alone c.self.inside.primary c.only_waits-waits.new.primary c.self.inside.gate c.self.inside.queues.items c.only_waits-waits.ensures.alone
       c.has_run.ensures c.has_run-2.ensures c.self.invariant.0,
   c.self.invariant.1,
   c.self.invariant.2,

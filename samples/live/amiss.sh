@@ -1,0 +1,250 @@
+#!/bin/bash
+# amiss.sh [LIVE [WORKBENCH]]: what goes amiss between the processes of a pair, a row each: lines that are torn, of another guest or of another term, frames at fault,
+# ends of FIFOs that are gone, a disk that is full, two primaries of one term, and logs that are handed over and are none. Each process ends with its fault line and
+# status, or goes on, and then answers what the service of guests/service answers. LIVE and WORKBENCH are the built programs, by themselves those that `rt run` leaves.
+# In some ten seconds; the last line is 'N passed, N failed'. Needs bash, mkfifo, sha256sum and timeout.
+set -u
+top=$(cd "$(dirname "$0")/../.." && pwd)
+live=${1:-$top/crates/live/out/live}
+workbench=${2:-$top/crates/workbench/out/workbench}
+image=$top/guests/images/service.image
+other=$top/samples/hand_over.image
+work=$(mktemp -d)
+passed=0
+failed=0
+asked=0
+
+# Ends what this script started, and nothing else.
+finish() {
+    { kill -9 $(jobs -rp); wait; } 2> /dev/null
+    rm -rf "$work"
+}
+trap finish EXIT
+trap 'exit 1' INT TERM
+
+for program in "$live" "$workbench"; do
+    if [ ! -x "$program" ]; then
+        echo "there is no $program: build it by .ci/run, or by rt run in its folder"
+        exit 2
+    fi
+done
+cd "$work" || exit 2
+
+pass() { passed=$((passed + 1)); }
+
+# fail WHAT: counts it, and shows what standard input has of it.
+fail() {
+    failed=$((failed + 1))
+    echo "failed: $1"
+    sed -n '1,20s/^/    /p'
+}
+
+# is WHAT WANTED GOT: whether two texts are one.
+is() {
+    if [ "$2" = "$3" ]; then pass; else fail "$1" < <(printf 'wanted: %s\ngot: %s\n' "$2" "$3"); fi
+}
+
+# Whether a process that this script started runs.
+runs() { jobs -rp | grep -qx "$1"; }
+
+# stop PROCESS: kills it, where it runs, as a machine that stops would.
+stop() { if runs "$1"; then { kill -9 "$1" && wait "$1"; } 2> /dev/null; fi; }
+
+# ends WHAT PROCESS LINES FILE: whether it ends in time with status 1, and with these lines of fault in the file.
+ends() {
+    for _ in $(seq 200); do
+        if ! runs "$2"; then break; fi
+        sleep 0.05
+    done
+    if runs "$2"; then fail "$1: it ends" < "$4"; else
+        wait "$2"
+        is "$1: status" 1 "$?"
+        is "$1: line" "$3" "$(cat "$4")"
+    fi
+}
+
+# has FILE TEXT: waits until a line of the file is the text.
+has() {
+    for _ in $(seq 200); do
+        if grep -qx "$2" "$1" 2> /dev/null; then return; fi
+        sleep 0.05
+    done
+}
+
+# seal IMAGE TEXT: the line of a text under the seal of the image's guest.
+seal() {
+    local digest
+    digest=$(sha256sum < "$1" | cut -c1-64)
+    echo "$2 $({ printf "$(sed 's/../\\x&/g' <<< "$digest")"; printf %s "$2"; } | sha256sum | cut -c1-8)"
+}
+
+# keep K [WORDS..]: starts keeper K, over two inputs and two outputs, by these words where they are told; its process is then in `keeper`.
+keep() {
+    local k=$1
+    shift
+    "$@" "$live" keeper "$image" "$k" "log.$k" from "frames.$k" "frames.$k.b" to "acks.$k" "acks.$k.b" 2>> "faults.$k" &
+    keeper[$k]=$!
+}
+
+# hand TERM K..: these keepers hand over to the term; the files are then `handed`.
+hand() {
+    local term=$1 k
+    shift
+    handed=()
+    for k in "$@"; do
+        if ! "$live" hand "$image" "$k" "log.$k" "$term" > "handed.$k" 2> refused; then fail "hand $k to term $term" < refused; fi
+        handed+=("handed.$k")
+    done
+}
+
+# lead TERM SITE HANDED..: a primary of the term, whose process is then `primary`. Nobody reads at its second output.
+lead() {
+    local term=$1 s=$2
+    shift 2
+    "$live" primary "$image" "$term" 3 2 in "in$s" out "out$s" nobody to "frames.0$s" "frames.1$s" "frames.2$s" from "acks.0$s" "acks.1$s" "acks.2$s" \
+        with "$@" 2>> faults.primary &
+    primary=$!
+}
+
+# ask WHAT [SITE]: who has seat 7 is asked by one more word, among all that were asked; whether the last answer is that nobody has.
+ask() {
+    local s=${2:-}
+    echo 03070001 >> words
+    asked=$((asked + 1))
+    timeout 20 "$live" client words 8 300 to "in$s" from "out$s" > answers 2> faults.client
+    is "$1" "0 number $((asked - 1)) word a0070000" "$? $(tail -n 1 answers)"
+}
+
+mkfifo in out in.b out.b nobody
+for k in 0 1 2; do
+    mkfifo "frames.$k" "frames.$k.b" "acks.$k" "acks.$k.b"
+    keep "$k"
+done
+: > faults.primary
+
+# The fences of another guest are none; a torn one is ended by the next.
+seal "$other" 'fence 9' > log.0.fences
+printf 'fence 9 0000' >> log.0.fences
+hand 1 0 1
+lead 1 '' "${handed[@]}"
+ask 'a pair answers'
+
+# Lines of clients.
+printf '0 word 0107' > in
+ask 'a torn request'
+printf '0 word 01070009 9 9\n0 word 0107 1\n9 word 01070009\n0  word 01070009\n%0500d%0600d\n' 1 1 > in
+ask 'requests of another form'
+printf '0 word 01070009 0\n0 word 01070009 99\n' > in
+ask 'a number that was taken, and one that comes too early'
+(exec "$live" client words 1 300 to in from out > /dev/null) &
+client=$!
+sleep 0.1
+stop "$client"
+ask 'a client that is gone'
+
+# Lines of keepers: without them nothing goes out, but by an acknowledgement of this guest, term and seal.
+for k in 0 1 2; do stop "${keeper[$k]}"; done
+echo 03070001 >> words
+asked=$((asked + 1))
+"$live" client words 8 300 to in from out > answers &
+client=$!
+for k in 0 1; do
+    printf 'ack 1 %s 999999 999999' "$k" > "acks.$k"
+    sleep 0.2
+    {
+        printf 'ack 1 %s 999999 999999\n' "$k"
+        seal "$other" "ack 1 $k 999999 999999"
+        seal "$image" "ack 2 $k 999999 999999"
+        seal "$image" "ack 1 $k 999999"
+        seal "$image" "ack 1 4 999999 999999"
+        seal "$image" "ack 1 $k 999999 999999" | tr 9 8
+    } > "acks.$k"
+done
+sleep 0.7
+is 'torn acknowledgements, and those of another guest, term, keeper or number of harts, let nothing go' "$((asked - 1))" "$(wc -l < answers)"
+seal "$image" 'ack 1 1 999999 999999' > acks.1
+sleep 0.5
+is 'nor does one keeper' "$((asked - 1))" "$(wc -l < answers)"
+for k in 0 1 2; do keep "$k"; done
+has answers "number $((asked - 1)) word a0070000"
+is 'keepers that are back do' "number $((asked - 1)) word a0070000" "$(tail -n 1 answers)"
+wait "$client"
+
+# Frames at fault come by another way: a keeper goes on with those that come by its first.
+printf 'VFx' > frames.0.b
+has faults.0 'fault input 1 frame 2'
+is 'frames at fault' 'fault input 1 frame 2' "$(cat faults.0)"
+: > faults.0
+stop "${keeper[2]}"
+ask 'its keeper goes on, and one is gone'
+
+# A keeper whose disk is full ends, and the others go on.
+keep 2 bash -c 'trap "" XFSZ; ulimit -f 1; exec "$@"' -
+for _ in 1 2 3 4; do ask 'a disk gets full'; done
+ends 'a keeper whose disk is full' "${keeper[2]}" 'fault file log.2' faults.2
+: > faults.2
+ask 'two keepers are left'
+keep 2
+
+# The other end of a primary's FIFOs is gone: keepers go on.
+stop "$primary"
+sleep 0.1
+hand 2 1 2
+cp handed.1 copy.1
+cp handed.2 copy.2
+lead 2 '' "${handed[@]}"
+ask 'the next primary'
+is 'keepers and primaries have no fault' '' "$(cat faults.*)"
+
+# Two primaries of one term, since what was handed over was copied: keepers take no second frame with a key.
+for k in 0 1 2; do cp "log.$k" "before.$k"; done
+lead 2 .b copy.1 copy.2
+(exec timeout 20 "$live" client words 8 300 to in.b from out.b > other.answers 2> /dev/null) &
+client=$!
+sleep 0.2
+for k in 0 1 2; do ends "two primaries of one term, keeper $k" "${keeper[$k]}" 'fault input 1 clash' "faults.$k"; done
+stop "$client"
+stop "$primary"
+for k in 0 1 2; do
+    if cmp -s -n "$(wc -c < "before.$k")" "before.$k" "log.$k"; then pass; else fail "log $k keeps what it had" < /dev/null; fi
+done
+is 'the logs have no clash' 'clashes 0' "$("$workbench" join "$image" joined log.0 log.1 log.2 | grep -o 'clashes.*')"
+
+# Logs that are handed over and are none. refuses WHAT LINE FILES..: the fault that it is.
+refuses() {
+    local what=$1 line=$2
+    shift 2
+    : > none
+    "$live" primary "$image" 7 1 1 in none out none to none from none with "$@" 2> err
+    is "$what: status" 1 "$?"
+    is "$what: line" "$line" "$(cat err)"
+}
+# as_handed K FILE: what keeper K would hand over to term 7, if the file were its log.
+as_handed() {
+    seal "$image" "handed 7 $1 $(wc -c < "$2")"
+    cat "$2"
+}
+head -c -3 log.0 > torn
+as_handed 0 torn > handed
+refuses 'frames that are torn' 'fault handed 0 torn' handed
+{ cat log.0; printf 'VFx'; } > broken
+as_handed 0 broken > handed
+refuses 'frames at fault' 'fault handed 0 frame 2' handed
+"$workbench" run "$other" "$top/samples/hand_over.script" 100 foreign > /dev/null
+as_handed 0 foreign > handed
+refuses "another guest's frames" 'fault handed 0 guest' handed
+printf '0 5 word 01070011\n' > script
+"$workbench" run "$image" script 1000 clash > /dev/null
+printf '0 5 word 01070012\n' > script
+"$workbench" run "$image" script 1000 clash.too > /dev/null
+cat clash clash.too > both
+as_handed 0 both > handed
+refuses 'frames of one key' 'fault handed 0 clash' handed
+as_handed 0 clash > handed
+as_handed 1 clash.too > handed.too
+refuses 'frames of one key in two logs' 'fault handed clash' handed handed.too
+seal "$image" "handed 7 0 $(wc -c < log.0)" | tr 7 8 | cat - log.0 > handed
+refuses 'a seal that is not its own' 'fault handed 0 line' handed
+
+echo "$passed passed, $failed failed"
+[ "$failed" = 0 ]
