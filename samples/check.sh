@@ -29,6 +29,11 @@ if [ -x "$live" ]; then
     mkdir -p "$fresh/crates/live/out"
     cp "$live" "$fresh/crates/live/out/live"
 fi
+lua=$top/guests/out/-O2/lua.image
+if [ -f "$lua" ]; then
+    mkdir -p "$fresh/guests/out/-O2"
+    cp "$lua" "$fresh/guests/out/-O2/lua.image"
+fi
 
 pass() {
     passed=$((passed + 1))
@@ -55,6 +60,8 @@ lacks() {
         echo "there is no $live"
     elif grep -q 'samples/live' "$1" && ! command -v bash > /dev/null; then
         echo "no bash is installed"
+    elif grep -q 'pair.sh .* lua' "$1" && [ ! -f "$lua" ]; then
+        echo "there is no $lua"
     elif grep -q 'apt-get' "$1"; then
         echo "it installs packages"
     elif grep -q 'make ' "$1" && [ "$(riscv64-unknown-elf-gcc -dumpfullversion 2> /dev/null)" != 12.2.0 ]; then
@@ -182,17 +189,32 @@ elif bash "$top/samples/live/keeper.sh" "$live" "$program" 2 > "$work/keepers" 2
 else
     fail "keepers that are processes" < "$work/keepers"
 fi
+# drills WHAT SCRIPT WORDS..: one of samples/live, with these words behind the programs.
+drills() {
+    what=$1 script=$2
+    shift 2
+    if bash "$top/samples/live/$script" "$live" "$program" "$@" > "$work/drills" 2>&1; then pass; else fail "$what" < "$work/drills"; fi
+}
+
 if [ -x "$live" ] && command -v bash > /dev/null; then
-    if bash "$top/samples/live/drill.sh" "$live" "$program" 10 > "$work/drills" 2>&1; then
-        pass
+    drills 'primaries that are processes' drill.sh 10
+    if [ -f "$lua" ]; then
+        drills 'Lua on primaries that are processes' drill.sh 10 1 800 10 lua
     else
-        fail "primaries that are processes" < "$work/drills"
+        echo "left out Lua on primaries that are processes, since there is no $lua"
     fi
-    if bash "$top/samples/live/amiss.sh" "$live" "$program" > "$work/amiss" 2>&1; then
-        pass
+    if command -v redis-server > /dev/null && command -v python3 > /dev/null; then
+        drills 'processes over a Redis server' carried.sh 10 1 200 redis
     else
-        fail "what goes amiss between processes" < "$work/amiss"
+        echo "left out processes over a Redis server, since no redis-server or python3 is installed"
     fi
+    if command -v socat > /dev/null && ip netns add wazhilom.tried 2> /dev/null; then
+        ip netns del wazhilom.tried
+        drills 'processes in two network namespaces' carried.sh 10 1 200 socat
+    else
+        echo "left out processes in two network namespaces, since there is no socat or no right to make them"
+    fi
+    drills 'what goes amiss between processes' amiss.sh
 fi
 
 # Each row of refused file calls with three of them, and what is changed by chance for five seconds.

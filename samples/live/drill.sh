@@ -1,98 +1,20 @@
 #!/bin/bash
-# drill.sh [LIVE [WORKBENCH [ROUNDS [SEED [REQUESTS [PAUSES]]]]]]: a primary, three keepers of whom two must hold an answer, and a client, each a process of its own,
-# over FIFOs, with the service of guests/service. So many rounds in each of which the primary is killed (kill -9) twice at random moments, mostly a keeper
-# too, and the next one goes live at another site from what two random keepers hand over. The client must have the answers that the service gives to
-# requests that are taken in order, each once, and the machine to which the keepers' logs lead must have those outputs and no others. Then PAUSES rounds, as many by
+# drill.sh [LIVE [WORKBENCH [ROUNDS [SEED [REQUESTS [PAUSES [GUEST]]]]]]]: a primary, three keepers of whom two must hold an answer, and a client, each a process of its own,
+# over FIFOs. GUEST is `service` (guests/service) or `lua`, Lua as a service (guests/README.md). So many rounds in each of which the primary is killed (kill -9) twice at
+# random moments, mostly a keeper too, and the next one goes live at another site from what two random keepers hand over. The client must have the answers that the guest
+# gives to requests that are taken in order, each once, and the machine to which the keepers' logs lead must have those outputs and no others. Then PAUSES rounds, as many by
 # themselves, in which the primary is paused (SIGSTOP), two keepers hand over, and it goes on (SIGCONT) beside the next one, each with a client of its own: no number may
 # have two words. And one round in which copies of the logs are handed over, so that no keeper is fenced off: there they must contradict, or the rounds
 # before show nothing. LIVE and WORKBENCH are the built programs, by themselves those that `rt run` leaves. The last line is 'N passed, N failed'. Needs
 # bash and mkfifo.
-set -u
-top=$(cd "$(dirname "$0")/../.." && pwd)
-live=${1:-$top/crates/live/out/live}
-workbench=${2:-$top/crates/workbench/out/workbench}
+. "$(dirname "$0")/common.sh"
 rounds=${3:-10}
 RANDOM=${4:-1}
 many=${5:-800}
 pauses=${6:-$rounds}
-image=$top/guests/images/service.image
-work=$(mktemp -d)
-passed=0
-failed=0
-: > "$work/tally"
-
-# Ends what this script started, and nothing else.
-finish() {
-    { kill -9 $(jobs -rp); wait; } 2> /dev/null
-    rm -rf "$work"
-}
-trap finish EXIT
-trap 'exit 1' INT TERM
-
-for program in "$live" "$workbench"; do
-    if [ ! -x "$program" ]; then
-        echo "there is no $program: build it by .ci/run, or by rt run in its folder"
-        exit 2
-    fi
-done
-
-pass() { passed=$((passed + 1)); }
-
-# fail WHAT: counts it, and shows what standard input has of it.
-fail() {
-    failed=$((failed + 1))
-    echo "failed: $1"
-    sed -n '1,20s/^/    /p'
-}
-
-# same WHAT WANTED GOT: whether two files are one.
-same() {
-    if cmp -s "$2" "$3"; then pass; else fail "$1" < <(diff "$2" "$3"); fi
-}
-
-# Whether a process that this script started runs.
-runs() { jobs -rp | grep -qx "$1"; }
-
-# stop PROCESS: kills it, where it runs, as a machine that stops would.
-stop() { if runs "$1"; then { kill -9 "$1" && wait "$1"; } 2> /dev/null; fi; }
-
-# ask SEED FOLDER NAME: writes random requests of the service, and its answers to them, each as the client prints it.
-ask() {
-    awk -v seed="$1" -v many="$many" -v words="$2/$3.words" -v answers="$2/$3.wanted" '
-        BEGIN {
-            srand(seed)
-            for (number = 0; number < many; number++) {
-                asked = substr("11123", int(rand() * 5) + 1, 1)
-                seat = int(rand() * 42)
-                client = int(rand() * 7) + 1
-                printf "%02x%02x%04x\n", asked, seat, client > words
-                is_free = book[seat] == 0
-                is_own = book[seat] == client
-                if (asked == 1 && is_free) book[seat] = client
-                if (asked == 2 && is_own) book[seat] = 0
-                head = asked == 3 || is_own || (asked == 1 && is_free) ? "a0" : "b0"
-                if (seat >= 40) printf "number %d word e0%02x%04x\n", number, seat, client > answers
-                else printf "number %d word %s%02x%04x\n", number, head, seat, book[seat] > answers
-            }
-        }'
-}
-
-# keep FOLDER K: starts keeper K, whose process is then `started`.
-keep() {
-    "$live" keeper "$image" "$2" "$1/log.$2" from "$1/frames.$2.a" "$1/frames.$2.b" to "$1/acks.$2.a" "$1/acks.$2.b" 2>> "$1/faults.$2" &
-    started=$!
-}
-
-# hand FOLDER TERM LOGS K..: what these keepers hand over to the term, from LOGS.K; its files are then `handed`.
-hand() {
-    local at=$1 term=$2 logs=$3 k
-    shift 3
-    handed=()
-    for k in "$@"; do
-        if ! "$live" hand "$image" "$k" "$logs.$k" "$term" > "$at/handed.$term.$k" 2> "$at/refused"; then fail "$at: hand $k to term $term" < "$at/refused"; fi
-        handed+=("$at/handed.$term.$k")
-    done
-}
+guest=${7:-service}
+image=$top/guests/images/$guest.image
+if [ "$guest" = lua ]; then image=$top/guests/out/-O2/lua.image; fi
 
 # lead FOLDER TERM SITE: a primary of the term, from what was handed over; its process is then `started`.
 lead() {
@@ -114,37 +36,6 @@ begin() {
         keep "$1" "$k"
         keeper[$k]=$started
     done
-}
-
-# Two of three keepers, which are then `heirs`.
-choose() {
-    local k=$((RANDOM % 3))
-    heirs="$k $(((k + 1 + RANDOM % 2) % 3))"
-}
-
-# has FILE N PROCESS: waits until the file has N lines, or the process has ended.
-has() {
-    for _ in $(seq 6000); do
-        if [ "$(wc -l < "$1")" -ge "$2" ] || ! runs "$3"; then return; fi
-        sleep 0.01
-    done
-}
-
-# ends PROCESS: waits until it has ended, for two minutes.
-ends() {
-    for _ in $(seq 1200); do
-        if ! runs "$1"; then return; fi
-        sleep 0.1
-    done
-}
-
-# nap [TENTHS]: sleeps less than so many tenths of a second, or than one.
-nap() { sleep "0.$((RANDOM % ${1:-1}))$((RANDOM % 10))"; }
-
-# outputs FOLDER FILE: the outputs of the machine to which the keepers' logs lead, each as the client prints it.
-outputs() {
-    "$workbench" replay "$image" "$1/log.0" "$1/log.1" "$1/log.2" > "$1/text" 2>&1
-    awk '$1 == "hart" { hart = $2 } $1 == "out" && hart == 0 { print "number", $2, "word", $6 }' "$1/text" > "$2"
 }
 
 # killed ROUND: the primary is killed twice.
@@ -194,9 +85,6 @@ killed() {
     wc -l < "$at/answers" >> "$work/tally"
     rm -rf "$at"
 }
-
-# contradicts ONE OTHER: numbers to which two files of answers have different words.
-contradicts() { awk 'NR == FNR { word[$2] = $4; next } $2 in word && word[$2] != $4 { print $2, word[$2], $4 }' "$1" "$2"; }
 
 # split ROUND LOGS..: the primary is paused, and goes on beside the next one. What is handed over are the logs, or copies of them.
 split() {
@@ -258,11 +146,6 @@ split() {
     rm -rf "$at"
 }
 
-# is WHAT WANTED GOT: whether two texts are one.
-is() {
-    if [ "$2" = "$3" ]; then pass; else fail "$1" < <(printf 'wanted: %s\ngot: %s\n' "$2" "$3"); fi
-}
-
 # refuses WHAT STATUS LINE WORDS..: what the words are answered, on standard error, with this status.
 refuses() {
     local what=$1 status=$2 line=$3 got
@@ -311,6 +194,4 @@ for number in $(seq "$rounds"); do killed "$number"; done
 for number in $(seq "$pauses"); do split "$number" logs; done
 split 0 copies
 
-echo "of $(awk '{ sum += $1 } END { print sum + 0 }' "$work/tally") answers each is in the machine that goes on, unless it is told above"
-echo "$passed passed, $failed failed"
-[ "$failed" = 0 ]
+tell

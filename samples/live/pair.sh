@@ -1,10 +1,13 @@
 #!/bin/bash
-# pair.sh [LIVE]: three keepers, a primary and a client, each a process of its own, over FIFOs. The primary is killed, the next one goes live from what two
-# keepers hand over, and goes on. LIVE is the built program, by itself the one that `rt run` leaves; where there is none, it is built first, without a proof.
+# pair.sh [LIVE [GUEST]]: three keepers, a primary and a client, each a process of its own, over FIFOs. The primary is killed, the next one goes live from what two
+# keepers hand over, and goes on. LIVE is the built program, by itself the one that `rt run` leaves; where there is none, it is built first, without a proof. GUEST is
+# `service`, which is asked words, or `lua` (guests/README.md), which is asked lines of Lua. Needs bash, GNU od and mkfifo.
 set -eu
 top=$(cd "$(dirname "$0")/../.." && pwd)
 live=${1:-$top/crates/live/out/live}
-image=$top/guests/images/service.image
+guest=${2:-service}
+image=$top/guests/images/$guest.image
+if [ "$guest" = lua ]; then image=$top/guests/out/-O2/lua.image; fi
 at=$(mktemp -d)
 # Ends what this script started, and nothing else.
 finish() {
@@ -19,6 +22,7 @@ if [ ! -x "$live" ]; then
 fi
 cd "$at"
 mkfifo in out frames.0 frames.1 frames.2 acks.0 acks.1 acks.2
+: > words
 
 # lead TERM K..: these keepers hand over to the term, and a primary leads it.
 lead() {
@@ -29,14 +33,38 @@ lead() {
     primary=$!
 }
 
+# A client that asks all that was ever asked: what was answered once is answered so again.
+ask() { "$live" client words 1 1000 to in from out; }
+
+# service WORD..: asks these words too.
+service() {
+    printf '%s\n' "$@" >> words
+    ask
+}
+
+# lua LINE..: asks these lines too, four bytes a word and the first of them its lowest, and behind each line words of 0 that fetch the rest of its answer. It prints
+# what these lines are answered.
+lua() {
+    before=$(wc -l < words)
+    for line in "$@"; do
+        echo "> $line"
+        printf '%s\n' "$line" | od -An -v -tx4 -w4 --endian=little | tr -d ' ' >> words
+        printf '00000000\n%.0s' 1 2 3 4 >> words
+    done
+    ask | tail -n "+$((before + 1))" | sed 's/.* word \(..\)\(..\)\(..\)\(..\)$/\\x\4\\x\3\\x\2\\x\1/' > answers
+    printf "$(tr -d '\n' < answers)" | tr -d '\0'
+}
+
 for k in 0 1 2; do
     "$live" keeper "$image" "$k" "log.$k" from "frames.$k" to "acks.$k" &
 done
+case $guest in
+    service) first=(01070011 01070012 01080012 03070012) second=(02070011 01070012 01280011 00080011) ;;
+    lua) first=('stock = {bolts = 7}' 'stock.bolts = stock.bolts - 2' 'stock.bolts') second=('stock.nuts = 12' 'stock.bolts + stock.nuts') ;;
+esac
 lead 1 0 1
-printf '%s\n' 01070011 01070012 01080012 03070012 > words
-"$live" client words 1 1000 to in from out
+"$guest" "${first[@]}"
 { kill -9 "$primary" && wait "$primary"; } 2> /dev/null || true
 echo 'the primary of term 1 is killed'
 lead 2 1 2
-printf '%s\n' 02070011 01070012 01280011 00080011 >> words
-"$live" client words 1 1000 to in from out
+"$guest" "${second[@]}"
