@@ -88,16 +88,6 @@ impl Beside {
         Ok(answer == wanted && self.released_the_same())
     }
 
-    /// Whether both worlds refuse the act with this fault.
-    pub fn refuse(&mut self, alloc: Global, act: Act, fault: WorldFault) -> Result<bool, Memory> {
-        let wanted = self.plain.apply(alloc, act);
-        if wanted == Err(WorldFault::Memory) {
-            return Err(Memory);
-        }
-        let answer = self.subject.answer(alloc, act);
-        Ok(wanted == Err(fault) && answer == Some(Err(fault)) && self.released_the_same())
-    }
-
     /// Whether the worlds sent the same frames.
     pub fn sent_the_same(&self, alloc: Global, image: &Image) -> Result<bool, Memory> {
         let mut store = Store::new(alloc, image.guest());

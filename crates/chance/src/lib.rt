@@ -1,5 +1,5 @@
 //! What falls by chance, beside plain ones: lists of events for the world, guests and calls for what a primary records, for audits of
-//! it, and for primaries that fail and go live. And rows of the world, and memory that is refused to it.
+//! it, and for primaries that fail and go live.
 #![tactic(auto)]
 
 #[cfg(test)]
@@ -28,8 +28,6 @@ mod plain_audits;
 mod plain_primary;
 #[cfg(test)]
 mod programs;
-#[cfg(test)]
-mod rows;
 #[cfg(test)]
 mod starts;
 #[cfg(test)]

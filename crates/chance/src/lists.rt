@@ -105,25 +105,9 @@ fn difference_in(alloc: Global, part: u64) -> Result<Option<u64>, Fail> {
 }
 
 #[test]
-fn part_0(rt: HostRuntime) -> Result<(), Fail> {
-    assert_eq!(rt; difference_in(rt.alloc(), 0)?, None);
-    Ok(())
-}
-
-#[test]
-fn part_1(rt: HostRuntime) -> Result<(), Fail> {
-    assert_eq!(rt; difference_in(rt.alloc(), 1)?, None);
-    Ok(())
-}
-
-#[test]
-fn part_2(rt: HostRuntime) -> Result<(), Fail> {
-    assert_eq!(rt; difference_in(rt.alloc(), 2)?, None);
-    Ok(())
-}
-
-#[test]
-fn part_3(rt: HostRuntime) -> Result<(), Fail> {
-    assert_eq!(rt; difference_in(rt.alloc(), 3)?, None);
+fn worlds_agree_on_lists_by_chance(rt: HostRuntime) -> Result<(), Fail> {
+    for part in 0..4u64 {
+        assert_eq!(rt; difference_in(rt.alloc(), part)?, None);
+    }
     Ok(())
 }

@@ -97,9 +97,12 @@ impl Beside {
 
     /// Whether they have granted the same terms, and have the same machine in each.
     pub fn have_same_machines(&self) -> bool {
-        let granted = self.plain.granted();
-        granted == self.subject.granted()
-            && (0..granted).all(|number| self.have_same_machine(self.plain.term_at(number)))
+        for number in 0..self.plain.granted() {
+            if !self.have_same_machine(self.plain.term_at(number)) {
+                return false;
+            }
+        }
+        self.plain.granted() == self.subject.granted()
     }
 
     /// Whether the same went out.

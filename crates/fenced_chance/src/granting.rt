@@ -61,10 +61,14 @@ impl PlainWorld {
 
     /// Whether a frame of this term or a later one is in what the keeper gives to the term.
     fn knows(&self, keeper: u64, term: Term) -> bool {
-        self.given(keeper, term).iter().any(|number| match self.sent().get(*number as usize) {
-            Some(frame) => term_of(frame) >= term,
-            None => false,
-        })
+        for number in self.given(keeper, term) {
+            if let Some(frame) = self.sent().get(*number as usize) {
+                if term_of(frame) >= term {
+                    return true;
+                }
+            }
+        }
+        false
     }
 
     /// Whether the keeper gave its store to a later term than this one.
@@ -75,17 +79,47 @@ impl PlainWorld {
         }
     }
 
+    /// Whether one of these keepers is not there.
+    fn lacks_one(&self, keepers: &[u64]) -> bool {
+        for keeper in keepers {
+            if self.keeper(*keeper).is_err() {
+                return true;
+            }
+        }
+        false
+    }
+
+    /// Whether one of them gave its store to a later term than this one.
+    fn one_gave_later(&self, keepers: &[u64], term: Term) -> bool {
+        for keeper in keepers {
+            if self.gave_later(*keeper, term) {
+                return true;
+            }
+        }
+        false
+    }
+
+    /// Whether a frame of this term or a later one is in what one of them gives to the term.
+    fn one_knows(&self, keepers: &[u64], term: Term) -> bool {
+        for keeper in keepers {
+            if self.knows(*keeper, term) {
+                return true;
+            }
+        }
+        false
+    }
+
     /// Why the term is not granted to a primary that begins with what these keepers give, if it is not.
     fn why_not(&self, term: Term, keepers: &[u64]) -> Option<FencedFault> {
-        if keepers.iter().any(|keeper| self.keeper(*keeper).is_err()) {
+        if self.lacks_one(keepers) {
             Some(FencedFault::NoKeeper)
         } else if self.primary(term).is_some() {
             Some(FencedFault::Live(LiveFault::TermNotNew))
-        } else if keepers.iter().any(|keeper| self.gave_later(*keeper, term)) {
+        } else if self.one_gave_later(keepers, term) {
             Some(FencedFault::Fenced)
         } else if !self.are_enough(keepers) {
             Some(FencedFault::Live(LiveFault::TooFewStores))
-        } else if keepers.iter().any(|keeper| self.knows(*keeper, term)) {
+        } else if self.one_knows(keepers, term) {
             Some(FencedFault::Live(LiveFault::TermNotNew))
         } else {
             None

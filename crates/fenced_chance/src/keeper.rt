@@ -78,7 +78,12 @@ impl PlainKeeper {
 
     /// Whether it gave its store to a later term than this one.
     pub fn gave_later(&self, term: Term) -> bool {
-        self.gave.iter().any(|given| *given > term)
+        for given in self.gave.iter() {
+            if *given > term {
+                return true;
+            }
+        }
+        false
     }
 
     /// It gives its store to the term.

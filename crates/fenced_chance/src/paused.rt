@@ -78,11 +78,13 @@ fn done(alloc: Global, worlds: &mut Beside) -> Result<usize, Memory> {
 
 /// Whether this went out.
 fn is_out(released: &[Released]) -> bool {
+    for (one, (term, number, step, word)) in released.iter().zip(&OUT) {
+        let output = &one.output;
+        if (one.term, output.number, output.step, output.word) != (*term, *number, *step, *word) {
+            return false;
+        }
+    }
     released.len() == OUT.len()
-        && released.iter().zip(&OUT).all(|(one, (term, number, step, word))| {
-            let output = &one.output;
-            (one.term, output.number, output.step, output.word) == (*term, *number, *step, *word)
-        })
 }
 
 /// How many events went as they should, and whether both worlds let out what they should.

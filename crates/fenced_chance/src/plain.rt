@@ -54,11 +54,12 @@ fn first_primary(alloc: Global, image: &Image) -> Result<PlainPrimary, Memory> {
 
 /// Whether some hart's count is less than before.
 fn are_lower(counts: &Counts, before: &Counts) -> bool {
-    counts
-        .as_slice()
-        .iter()
-        .zip(before.as_slice())
-        .any(|(count, before)| count < before)
+    for (count, before) in counts.as_slice().iter().zip(before.as_slice()) {
+        if count < before {
+            return true;
+        }
+    }
+    false
 }
 
 /// Whether the hart's count is above the step.
@@ -148,7 +149,12 @@ impl PlainWorld {
 
     /// The term's primary.
     pub(crate) fn primary(&self, term: Term) -> Option<&PlainPrimary> {
-        self.primaries.iter().find(|primary| primary.term() == term)
+        for primary in self.primaries.iter() {
+            if primary.term() == term {
+                return Some(primary);
+            }
+        }
+        None
     }
 
     /// The machine of the term's primary.
@@ -161,14 +167,12 @@ impl PlainWorld {
 
     /// Where the term's primary stands.
     fn number_of(&self, term: Term) -> Result<usize, FencedFault> {
-        match self
-            .primaries
-            .iter()
-            .position(|primary| primary.term() == term)
-        {
-            Some(number) => Ok(number),
-            None => Err(FencedFault::NoPrimary),
+        for (number, primary) in self.primaries.iter().enumerate() {
+            if primary.term() == term {
+                return Ok(number);
+            }
         }
+        Err(FencedFault::NoPrimary)
     }
 
     /// The keeper of this number, where there is one that is not lost.
@@ -181,12 +185,15 @@ impl PlainWorld {
 
     /// The number of the first frame that the keeper lacks.
     pub fn first_missing(&self, number: u64) -> Option<u64> {
-        match self.keeper(number) {
-            Ok(keeper) => {
-                (0..self.sent.len() as u64).find(|frame| !keeper.taken().contains(frame))
+        let Ok(keeper) = self.keeper(number) else {
+            return None;
+        };
+        for frame in 0..self.sent.len() as u64 {
+            if !keeper.taken().contains(&frame) {
+                return Some(frame);
             }
-            Err(_) => None,
         }
+        None
     }
 
     /// Whether the keeper has written down all that it took.
@@ -319,9 +326,15 @@ impl PlainWorld {
 
     /// Whether the keeper acknowledged a greater count of some hart in the term.
     fn acknowledged_more(&self, one: &Acknowledged) -> bool {
-        self.acknowledged.iter().any(|before| {
-            before.by == one.by && before.term == one.term && are_lower(&one.counts, &before.counts)
-        })
+        for before in self.acknowledged.iter() {
+            if before.by == one.by
+                && before.term == one.term
+                && are_lower(&one.counts, &before.counts)
+            {
+                return true;
+            }
+        }
+        false
     }
 
     /// Whether the gate of the term counts what was acknowledged.
@@ -331,9 +344,12 @@ impl PlainWorld {
 
     /// Whether the keeper acknowledged counts with the hart's step inside, in the term.
     fn holds(&self, keeper: u64, term: Term, hart: Hart, step: Count) -> bool {
-        self.acknowledged.iter().any(|one| {
-            one.by == keeper && self.counts(one, term) && has_inside(&one.counts, hart, step)
-        })
+        for one in self.acknowledged.iter() {
+            if one.by == keeper && self.counts(one, term) && has_inside(&one.counts, hart, step) {
+                return true;
+            }
+        }
+        false
     }
 
     /// How many keepers acknowledged counts with the hart's step inside, in the term.

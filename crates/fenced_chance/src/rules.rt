@@ -211,15 +211,23 @@ static ROWS: [Row; 6] = [
 
 /// Whether another output went out with the hart and the number of this one.
 fn is_contradicted(one: &Released, released: &[Released]) -> bool {
-    released.iter().any(|other| {
+    for other in released {
         let (output, another) = (&one.output, &other.output);
-        output.hart == another.hart && output.number == another.number && output != another
-    })
+        if output.hart == another.hart && output.number == another.number && output != another {
+            return true;
+        }
+    }
+    false
 }
 
 /// Whether two words of one number went out.
 fn are_two_words(released: &[Released]) -> bool {
-    released.iter().any(|one| is_contradicted(one, released))
+    for one in released {
+        if is_contradicted(one, released) {
+            return true;
+        }
+    }
+    false
 }
 
 /// Whether a plain world does the event.

@@ -1,4 +1,4 @@
-//! Frames as rows of tables, and stores to which they come. What memory is refused once is asked for once more.
+//! Frames as rows of tables, and stores to which they come. A put that is refused memory is asked for once more.
 
 use fixtures::{edge, guest_with, hart, key, opening_of, piece_of};
 use fragment_codec::{Frame, Record};
@@ -64,38 +64,29 @@ pub fn frame_of(alloc: Global, guest: Guest, come: &Come) -> Result<Frame, Fail>
     }
 }
 
-/// A copy of a frame, asked for again where memory was refused.
-pub fn copy_of(alloc: Global, frame: &Frame) -> Result<Frame, Memory> {
-    match frame.copy(alloc) {
-        Err(Memory) => frame.copy(alloc),
-        copy => copy,
-    }
-}
-
 /// What a store tells of itself in numbers: terms, keys, clashes, the last term.
 pub type Marks = (usize, usize, usize, Term);
 
-/// What a store tells, asked again where memory was refused.
+/// Clashes, and the last term.
+fn told(store: &Store) -> (usize, Term) {
+    (store.clashes(), store.last_term())
+}
+
+/// What a store tells.
 pub fn marks(alloc: Global, store: &Store) -> Result<Marks, Memory> {
-    let terms = match store.terms(alloc) {
-        Ok(terms) => terms,
-        Err(Memory) => store.terms(alloc)?,
-    };
-    let keys = match store.keys(alloc) {
-        Ok(keys) => keys,
-        Err(Memory) => store.keys(alloc)?,
-    };
-    Ok((terms.len(), keys.len(), store.clashes(), store.last_term()))
+    let (terms, keys) = (store.terms(alloc)?, store.keys(alloc)?);
+    let (clashes, last) = told(store);
+    Ok((terms.len(), keys.len(), clashes, last))
 }
 
 /// Puts a frame of a guest, again where memory was refused, which must have left the store as it was.
 pub fn put(alloc: Global, store: &mut Store, guest: Guest, come: &Come) -> Result<Put, Fail> {
     let frame = frame_of(alloc, guest, come)?;
-    let again = copy_of(alloc, &frame)?;
-    let before = (store.clashes(), store.last_term());
+    let again = frame.copy(alloc)?;
+    let before = told(&*store);
     match store.put(frame) {
         Ok(answer) => Ok(answer),
-        Err(Memory) if (store.clashes(), store.last_term()) == before => Ok(store.put(again)?),
+        Err(Memory) if told(&*store) == before => Ok(store.put(again)?),
         Err(Memory) => Err("a refusal changed the store".into()),
     }
 }

@@ -60,14 +60,21 @@ type Told = Option<(Term, Count)>;
 
 /// A keeper begins over the log.
 fn begin(alloc: Global, shelf: &mut Shelf) -> Result<KeeperStation, Fail> {
-    Ok(KeeperStation::begin(alloc, guest_of(1), shelf).map_err(|_| "the log is a keeper's")?)
+    match KeeperStation::begin(alloc, guest_of(1), shelf) {
+        Ok(station) => Ok(station),
+        Err(_) => Err("the log is a keeper's".into()),
+    }
 }
 
 /// It logs what came, and acknowledges.
 fn log(alloc: Global, station: KeeperStation, shelf: &mut Shelf) -> Result<Told, Fail> {
-    let logged = station.log_and_acknowledge(alloc, shelf);
-    let (_station, position) = logged.map_err(|_| "the log takes it")?;
-    Ok(position.map(|it| (it.term, it.counts.as_slice().first().copied().unwrap_or(0))))
+    let Ok((_station, position)) = station.log_and_acknowledge(alloc, shelf) else {
+        return Err("the log takes it".into());
+    };
+    match position {
+        Some(it) => Ok(Some((it.term, it.counts.as_slice().first().copied().unwrap_or(0)))),
+        None => Ok(None),
+    }
 }
 
 /// A keeper begins, takes these frames, logs them, acknowledges, and is killed.
@@ -91,9 +98,9 @@ fn hand(alloc: Global, shelf: &mut Shelf, term: Term) -> Result<Option<(usize, u
 
 /// How many bytes of how many frames of the guest are handed over.
 fn handed(alloc: Global, shelf: &mut Shelf, fenced: FencedLog) -> Result<(usize, usize), Fail> {
-    let bytes = hand_over(alloc, &guest_of(1), fenced, shelf).map_err(
-        |_| "the log is handed over",
-    )?;
+    let Ok(bytes) = hand_over(alloc, &guest_of(1), fenced, shelf) else {
+        return Err("the log is handed over".into());
+    };
     let front = read_frames(alloc, &bytes)?;
     let mut own = 0usize;
     for frame in &front.frames {

@@ -87,14 +87,14 @@ fn one_hart() -> Guest
     Guest::new([7; 32], 1).unwrap()
 }
 
-/// The frames of a hart that has no facts and is settled at a count, asked for again where memory was refused.
+/// The frames of a hart that has no facts and is settled at a count.
 fn plain_pieces(alloc: Global, settled: Count) -> Result<Vec<Frame>, Fail> {
     let (zero, guest) = (Counts::zero(1), one_hart());
     let settled = Counts::from_slice(&[settled]).ok_or("a count")?;
     let (edges, inputs) = (EdgeLog::new(alloc, zero), InputLog::new(alloc));
     let notes = NoteLog::new(alloc);
     let mut sealed = Sealed::new(zero);
-    match cut_logs(
+    Ok(cut_logs(
         alloc,
         &edges,
         &inputs,
@@ -103,19 +103,7 @@ fn plain_pieces(alloc: Global, settled: Count) -> Result<Vec<Frame>, Fail> {
         &guest,
         1,
         &mut sealed,
-    ) {
-        Ok(frames) => Ok(frames),
-        Err(Memory) => Ok(cut_logs(
-            alloc,
-            &edges,
-            &inputs,
-            &notes,
-            &settled,
-            &guest,
-            1,
-            &mut sealed,
-        )?),
-    }
+    )?)
 }
 
 /// How many counts each of the pieces has.

@@ -6,23 +6,18 @@ use fixtures::{HALTS, TWO_LOOPS, edge, hart, image_of};
 use fragment_codec::Record;
 use ft_types::{Count, HART_LIMIT, Hart, Memory, Term};
 use guest_image::Machine;
-use hart_replay::{
-    Plan, PlannedLeg, ReplayFault, honest_plans, honest_primaries, plan, replay_plain,
-};
+use hart_replay::{Plan, PlannedLeg, honest_plans, honest_primaries, plan, replay_plain};
 use log_join::Store;
 use std::alloc::Global;
 use std::result::Result;
 use std::test::Fail;
 
-/// The plan of the store, asked for again where memory was refused.
+/// The plan of the store.
 fn plan_of(alloc: Global, store: &Store) -> Result<Plan, Fail> {
-    let position = match position(alloc, store) {
-        Ok(position) => position,
-        Err(Memory) => position(alloc, store)?,
-    };
+    let position = position(alloc, store)?;
     match plan(alloc, store, &position) {
         Ok(plan) => Ok(plan),
-        Err(_) => Ok(plan(alloc, store, &position).ok().ok_or("a plan")?),
+        Err(_) => Err("a plan".into()),
     }
 }
 
@@ -294,8 +289,7 @@ fn first_count(machine: &Machine) -> Count {
     machine.hart(Hart::new(0)).count()
 }
 
-/// The count of the first hart, to which an image's replay of another one's log comes, asked for again where memory was refused:
-/// else the number of the fault.
+/// The count of the first hart, to which an image's replay of another one's log comes: else the number of the fault.
 fn outcome(
     alloc: Global,
     file: &[u8],
@@ -305,11 +299,7 @@ fn outcome(
     let image = image_of(alloc, file)?;
     let store = store_of(alloc, image_of(alloc, other)?.guest(), frames)?;
     let plan = plan_of(alloc, &store)?;
-    let answer = match replay_plain(alloc, &image, &plan) {
-        Err(ReplayFault::Memory) => replay_plain(alloc, &image, &plan),
-        answer => answer,
-    };
-    match answer {
+    match replay_plain(alloc, &image, &plan) {
         Ok(machine) => Ok(Ok(first_count(&machine))),
         Err(fault) => Ok(Err(fault.number())),
     }

@@ -3,7 +3,7 @@
 use crate::come::{Come, Fact, Marks, guest_of, marks, put, store_of};
 use fixtures::{guest_with, key};
 use fragment_codec::Frame;
-use ft_types::{Count, Memory, Term};
+use ft_types::{Count, Term};
 use log_join::{Found, Put, Store, StoreFault};
 use std::alloc::Global;
 use std::test::Fail;
@@ -93,13 +93,6 @@ fn twenty(alloc: Global, number: u8, steps: Count) -> Result<Store, Fail> {
     Ok(store)
 }
 
-fn copy_of(alloc: Global, store: &Store) -> Result<Store, Memory> {
-    match store.copy(alloc) {
-        Err(Memory) => store.copy(alloc),
-        copy => copy,
-    }
-}
-
 /// Joins a store, again where memory was refused, which must have left this one as it was. Whether they are of one guest.
 fn join(alloc: Global, store: &mut Store, other: &Store) -> Result<bool, Fail> {
     let before = marks(alloc, store)?;
@@ -127,7 +120,7 @@ fn joins(rt: HostRuntime) -> Result<(), Fail> {
     let mut store = store_of(alloc, guest_of(2), &FRONT)?;
     let (first, second) = (twenty(alloc, 0, 1)?, twenty(alloc, 1, 2)?);
     assert!(rt; join(alloc, &mut store, &first)? && join(alloc, &mut store, &second)?);
-    let copy = copy_of(alloc, &store)?;
+    let copy = store.copy(alloc)?;
     assert!(rt; join(alloc, &mut store, &copy)?);
     let foreign = Store::new(alloc, guest_with([8; 32], 2));
     assert!(rt; !join(alloc, &mut store, &foreign)?);

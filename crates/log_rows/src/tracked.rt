@@ -1,6 +1,6 @@
-//! Positions that are kept up, frame by frame. What memory is refused once is asked for once more, and must have changed nothing.
+//! Positions that are kept up, frame by frame. A call that is refused memory is made once more, and must have changed nothing.
 
-use crate::come::{Come, Fact, Marks, copy_of, frame_of, guest_of, marks, store_of};
+use crate::come::{Come, Fact, Marks, frame_of, guest_of, marks, store_of};
 use closed_cut::{Position, chain, position};
 use fragment_codec::Frame;
 use ft_types::{Count, Memory, Term};
@@ -10,26 +10,14 @@ use std::result::Result;
 use std::test::Fail;
 use tracked_position::Tracked;
 
-/// The position of a store, asked for again where memory was refused.
-fn position_of(alloc: Global, store: &Store) -> Result<Position, Memory> {
-    match position(alloc, store) {
-        Err(Memory) => position(alloc, store),
-        position => position,
-    }
-}
-
 /// Whether the position that is kept up is the one that is found from scratch.
 pub fn agrees(alloc: Global, tracked: &Tracked) -> Result<bool, Memory> {
-    Ok(*tracked.position() == position_of(alloc, tracked.store())?)
+    Ok(*tracked.position() == position(alloc, tracked.store())?)
 }
 
-/// The last term of the store's chain, asked for again where memory was refused: 0 where there is none.
+/// The last term of the store's chain: 0 where there is none.
 fn top_of(alloc: Global, store: &Store) -> Result<Term, Memory> {
-    let chain = match chain(alloc, store) {
-        Ok(chain) => chain,
-        Err(Memory) => chain(alloc, store)?,
-    };
-    Ok(chain.last().copied().unwrap_or(0))
+    Ok(chain(alloc, store)?.last().copied().unwrap_or(0))
 }
 
 /// What a tracked store tells of itself.
@@ -39,12 +27,11 @@ fn told(alloc: Global, tracked: &Tracked) -> Result<(Position, Marks), Memory> {
 
 /// Puts a frame, again where memory was refused.
 pub fn put(alloc: Global, tracked: &mut Tracked, frame: &Frame) -> Result<Put, Fail> {
-    let (copy, before) = (copy_of(alloc, frame)?, told(alloc, tracked)?);
+    let (copy, again) = (frame.copy(alloc)?, frame.copy(alloc)?);
+    let before = told(alloc, tracked)?;
     match tracked.put(alloc, copy) {
         Ok(put) => Ok(put),
-        Err(Memory) if told(alloc, tracked)? == before => {
-            Ok(tracked.put(alloc, copy_of(alloc, frame)?)?)
-        }
+        Err(Memory) if told(alloc, tracked)? == before => Ok(tracked.put(alloc, again)?),
         Err(Memory) => Err("a refusal changed the store".into()),
     }
 }

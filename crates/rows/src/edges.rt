@@ -162,9 +162,14 @@ fn edges_at_once(rt: HostRuntime) -> Result<(), Fail> {
     Ok(())
 }
 
+/// The edge of hart 1 that is this much behind a count.
+fn behind(from: Count, more: Count) -> Edge {
+    let count = from.saturating_add(more);
+    edge(&(1, count, 0, count))
+}
+
 fn next_three(from: Count) -> [Edge; 3] {
-    let [one, two, three] = [1, 2, 3].map(|more| from.saturating_add(more));
-    [(1, one, 0, one), (1, two, 0, two), (1, three, 0, three)].map(|told| edge(&told))
+    [behind(from, 1), behind(from, 2), behind(from, 3)]
 }
 
 fn many(log: &EdgeLog) -> usize {

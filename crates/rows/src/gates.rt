@@ -50,7 +50,7 @@ fn offer(gate: &mut Gate, number: u8, step: Count) -> Result<(), Memory>
 }
 
 /// Offers outputs of harts, each at a step.
-fn offer_all(gate: &mut Gate, outputs: &[(u8, Count)]) -> Result<(), Memory>
+pub fn offer_all(gate: &mut Gate, outputs: &[(u8, Count)]) -> Result<(), Memory>
     ensures { gate.new ≡ record gate.old { lines = gate.new.lines } }
 {
     for (number, step) in outputs {

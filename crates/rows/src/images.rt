@@ -13,9 +13,17 @@ static DIGEST: [u8; 32] = [
     0xda, 0x8d, 0x8e, 0xe0, 0xbf, 0x8c, 0x5a, 0x7f, 0x05, 0x51, 0x14, 0x59, 0x92, 0x02, 0x54, 0x56,
 ];
 
+/// The image of a right file.
+fn image_of(alloc: Global, file: &[u8]) -> Result<Image, Fail> {
+    match read_image(alloc, file) {
+        Ok(image) => Ok(image),
+        Err(_) => Err("image".into()),
+    }
+}
+
 /// The machine of a file before its first step.
 pub fn booted(alloc: Global, file: &[u8]) -> Result<Machine, Fail> {
-    let image = read_image(alloc, file).map_err(|_| "image")?;
+    let image = image_of(alloc, file)?;
     Ok(Machine::boot(alloc, &image.copy()?)?)
 }
 
@@ -29,7 +37,7 @@ fn told(image: &Image) -> ([u8; 32], u8, u16) {
 
 #[test]
 fn an_image(rt: HostRuntime) -> Result<(), Fail> {
-    let image = read_image(rt.alloc(), HALTS).map_err(|_| "image")?;
+    let image = image_of(rt.alloc(), HALTS)?;
     assert_eq!(rt; told(&image), (DIGEST, 1, 1));
     assert_eq!(rt; digest(&image.guest()), (DIGEST, 1));
     let words = [0xf00000b7, 0x02a00113, 0x0020a423, 0x0000aa23];

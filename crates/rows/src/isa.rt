@@ -253,14 +253,43 @@ fn greatest() -> (u8, u16, u8, u8) {
     )
 }
 
+/// The word of an immediate, where it is one.
+fn immediate(word: u32) -> Option<u32> {
+    match Imm12::new(word) {
+        Some(imm) => Some(imm.word()),
+        None => None,
+    }
+}
+
+fn branch_offset(word: u32) -> Option<u32> {
+    match BranchOffset::new(word) {
+        Some(offset) => Some(offset.word()),
+        None => None,
+    }
+}
+
+fn jump_offset(word: u32) -> Option<u32> {
+    match JumpOffset::new(word) {
+        Some(offset) => Some(offset.word()),
+        None => None,
+    }
+}
+
+fn upper_immediate(word: u32) -> Option<u32> {
+    match UpperImm::new(word) {
+        Some(imm) => Some(imm.word()),
+        None => None,
+    }
+}
+
 /// An immediate, the offsets of a branch and of a jump, and an upper immediate, where they are there.
 fn immediates(words: [u32; 4]) -> [Option<u32>; 4] {
     let [imm, branch, jump, upper] = words;
     [
-        Imm12::new(imm).map(|imm| imm.word()),
-        BranchOffset::new(branch).map(|offset| offset.word()),
-        JumpOffset::new(jump).map(|offset| offset.word()),
-        UpperImm::new(upper).map(|imm| imm.word()),
+        immediate(imm),
+        branch_offset(branch),
+        jump_offset(jump),
+        upper_immediate(upper),
     ]
 }
 
@@ -268,7 +297,11 @@ fn immediates(words: [u32; 4]) -> [Option<u32>; 4] {
 fn operands(rt: HostRuntime) {
     assert_eq!(rt; greatest(), (31, 0xf14, 31, 31));
     let there = [0xffff_f800, 0xffff_f000, 0x000f_fffe, 0x8000_0000];
-    assert_eq!(rt; immediates(there), there.map(Some));
+    let [imm, branch, jump, upper] = there;
+    assert_eq!(rt;
+        immediates(there),
+        [Some(imm), Some(branch), Some(jump), Some(upper)]
+    );
     for none in [
         [0xffff_f7ff, 0x0000_1000, 0x0010_0000, 0x8000_0800],
         [0x0000_0800, 0x0000_0001, 0xffff_ffff, 0x8000_0001],

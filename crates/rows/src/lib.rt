@@ -1,5 +1,5 @@
 //! Worked rows of what needs no book: words and instructions, counts and sets, inputs, edges and rights, pages, harts and machines
-//! without a run, the laws of interleavings, and boards and gates. What runs show stands in the cases of the program.
+//! without a run, the laws of interleavings, and boards and gates, also on threads. What runs show stands in the cases of the program.
 #![tactic(auto)]
 
 #[cfg(test)]
@@ -28,6 +28,8 @@ mod names;
 mod notes;
 #[cfg(test)]
 mod queues;
+#[cfg(test)]
+mod races;
 #[cfg(test)]
 mod rights;
 #[cfg(test)]

@@ -26,22 +26,43 @@ fn is_line(line: &Line, text: &[u8]) -> bool {
     line.as_slice().strip_suffix(b"\n") == Some(text)
 }
 
+/// Whether what an acknowledgement says is written so again, where the text is one.
+fn acknowledges(guest: &Guest, text: &[u8]) -> Option<bool> {
+    let acknowledgement = read_acknowledgement(guest, text)?;
+    Some(is_line(&acknowledgement_line(guest, &acknowledgement), text))
+}
+
+/// The same of a keeper that says `again`.
+fn begins_anew(guest: &Guest, text: &[u8]) -> Option<bool> {
+    let keeper = read_again(guest, text)?;
+    Some(is_line(&again_line(guest, keeper), text))
+}
+
+/// The same of a fence.
+fn fences(guest: &Guest, text: &[u8]) -> Option<bool> {
+    let term = read_fence(guest, text)?;
+    Some(is_line(&fence_line(guest, term), text))
+}
+
+/// The same of what begins a log that is handed over.
+fn hands_over(guest: &Guest, text: &[u8]) -> Option<bool> {
+    let handed = read_handed(guest, text)?;
+    Some(is_line(&handed_line(guest, &handed), text))
+}
+
 /// The name of what a text says under a seal, and whether it is written so again.
 fn sealed(guest: &Guest, text: &[u8]) -> (&'static str, bool) {
-    if let Some(acknowledgement) = read_acknowledgement(guest, text) {
-        let line = acknowledgement_line(guest, &acknowledgement);
-        return ("ack", is_line(&line, text));
+    if let Some(same) = acknowledges(guest, text) {
+        ("ack", same)
+    } else if let Some(same) = begins_anew(guest, text) {
+        ("again", same)
+    } else if let Some(same) = fences(guest, text) {
+        ("fence", same)
+    } else if let Some(same) = hands_over(guest, text) {
+        ("handed", same)
+    } else {
+        ("nothing", true)
     }
-    if let Some(keeper) = read_again(guest, text) {
-        return ("again", is_line(&again_line(guest, keeper), text));
-    }
-    if let Some(term) = read_fence(guest, text) {
-        return ("fence", is_line(&fence_line(guest, term), text));
-    }
-    if let Some(handed) = read_handed(guest, text) {
-        return ("handed", is_line(&handed_line(guest, &handed), text));
-    }
-    ("nothing", true)
 }
 
 static SEALED: [(&str, &str); 29] = [

@@ -1,5 +1,7 @@
 //! Rows of counts, sets, devices in memory, and the texts of numbers and words.
 
+ghost use Rattle.std.specs.Prelude.{◌<◌, length};
+
 use ft_types::{
     COUNT_LIMIT, Count, Counts, HART_LIMIT, HART_ROW, Hart, HartSet, Keeper, KeeperSet, LineBuffer,
     MemorySink, MemorySource, Source, first_line, read_number, read_word, write_all,
@@ -50,21 +52,42 @@ fn counts(rt: HostRuntime) {
     }
 }
 
-/// A set of the first hart and the last: which harts are there, and how many.
+fn has_hart(set: HartSet, number: u8) -> bool {
+    set.contains(Hart::new(number % HART_LIMIT))
+}
+
+/// A set of the first hart and the last, which came twice.
+fn first_and_last() -> HartSet {
+    let last = Hart::new(HART_LIMIT - 1);
+    HartSet::new().with(last).with(Hart::new(0)).with(last)
+}
+
+/// Which harts are in it, and how many.
 fn harts() -> ([bool; 4], usize, bool) {
-    let last = HART_LIMIT - 1;
-    let set = HartSet::new().with(Hart::new(last)).with(Hart::new(0));
-    let set = set.with(Hart::new(last));
-    let there = [0, 1, last - 1, last].map(|number: u8| set.contains(Hart::new(
-        number % HART_LIMIT,
-    )));
+    let (set, last) = (first_and_last(), HART_LIMIT - 1);
+    let there = [
+        has_hart(set, 0),
+        has_hart(set, 1),
+        has_hart(set, last - 1),
+        has_hart(set, last),
+    ];
     (there, set.len(), set.is_empty())
 }
 
+fn has_keeper(set: KeeperSet, number: u8) -> bool {
+    set.contains(Keeper::new(number % 5))
+}
+
+/// Which of the first keeper and the last are in a set of them, of which the last came twice, and how many are.
 fn keepers() -> ([bool; 4], usize) {
-    let set = KeeperSet::new().with(Keeper::new(4)).with(Keeper::new(0));
-    let set = set.with(Keeper::new(4));
-    let there = [0, 1, 3, 4].map(|number: u8| set.contains(Keeper::new(number % 5)));
+    let last = Keeper::new(4);
+    let set = KeeperSet::new().with(last).with(Keeper::new(0)).with(last);
+    let there = [
+        has_keeper(set, 0),
+        has_keeper(set, 1),
+        has_keeper(set, 3),
+        has_keeper(set, 4),
+    ];
     (there, set.len())
 }
 
@@ -97,17 +120,22 @@ fn written(alloc: Global, piece: &[u8], room: usize) -> (MemorySink, bool) {
     (sink, done)
 }
 
-fn line(alloc: Global) -> MemorySink {
-    let mut sink = MemorySink::new(alloc, 100);
+fn filled() -> LineBuffer
+    ensures { length result < 96 }
+{
     let mut line = LineBuffer::new();
     line.push(b"count ");
     line.push_number(281_474_976_710_655);
     line.push(b" word ");
     line.push_word(0xdead_beef);
-    if line.write(&mut sink).is_ok() {
-        return sink;
-    }
-    MemorySink::new(alloc, 0)
+    line
+}
+
+/// What of a line is written.
+fn line(alloc: Global) -> MemorySink {
+    let mut sink = MemorySink::new(alloc, 100);
+    let _written = filled().write(&mut sink);
+    sink
 }
 
 #[test]

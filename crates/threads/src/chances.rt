@@ -13,21 +13,23 @@ use std::sync::Wait;
 use std::test::Fail;
 use std::thread::Threads;
 
+/// Adds these parts to a text.
+fn add_parts(text: &mut Vec<u8>, parts: &[&[u8]]) -> Result<(), Memory> {
+    for part in parts {
+        text.extend_from_slice(part)?;
+    }
+    Ok(())
+}
+
 /// A script that offers each hart, by chance, timers from counts of two digits on, and words.
 fn script_of(alloc: Global, harts: u8, dice: &mut Dice) -> Result<Vec<u8>, Memory> {
     let mut text = Vec::new(alloc);
     for offer in 0..harts.saturating_mul(4) {
-        let hart = b'0' + offer / 4 % 8;
+        let hart = [b'0' + offer / 4 % 8];
         let count = [b'1' + dice.roll() % 9, b'0' + dice.roll() % 10];
         let word = [b'0' + dice.roll() % 10, b'a' + dice.roll() % 6];
-        text.push(hart)?;
-        text.push(b' ')?;
-        text.extend_from_slice(&count)?;
-        text.extend_from_slice(b" timer\n")?;
-        text.push(hart)?;
-        text.extend_from_slice(b" 0 word 000000")?;
-        text.extend_from_slice(&word)?;
-        text.push(b'\n')?;
+        add_parts(&mut text, &[&hart, b" ", &count, b" timer\n"])?;
+        add_parts(&mut text, &[&hart, b" 0 word 000000", &word, b"\n"])?;
     }
     Ok(text)
 }

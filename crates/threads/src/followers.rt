@@ -105,16 +105,20 @@ fn number_of(answer: Result<(), ReplayFault>) -> u64 {
     }
 }
 
+/// The count of a machine's one hart.
+fn count_of(machine: &Machine) -> Count {
+    if machine.harts() == 1 {
+        machine.hart(Hart::new(0)).count()
+    } else {
+        0
+    }
+}
+
 /// Where the follower of a guest with one hart stands, as a row says it.
 fn stand_of(follower: &Follower) -> [u64; 4] {
     let position = follower.position();
     let count = position.counts.as_slice().first().copied().unwrap_or(0);
-    let machine = follower.machine();
-    let reached = if machine.harts() == 1 {
-        machine.hart(Hart::new(0)).count()
-    } else {
-        0
-    };
+    let reached = count_of(follower.machine());
     [
         u64::from(position.term),
         count,
@@ -123,23 +127,36 @@ fn stand_of(follower: &Follower) -> [u64; 4] {
     ]
 }
 
+/// A follower and a store to which nothing came.
+fn new_pair(alloc: Global, image: &Image) -> Result<(Follower, Store), Memory> {
+    let follower = Follower::new(alloc, image)?;
+    Ok((follower, Store::new(alloc, image.guest())))
+}
+
+/// What the row brings comes to the store.
+fn bring(alloc: Global, store: &mut Store, row: &Row) -> Result<(), Memory> {
+    match frame_of(alloc, store.guest(), row) {
+        Some(frame) => put(alloc, store, &frame),
+        None => Err(Memory),
+    }
+}
+
+/// Where the follower stands once it went on, and its fault.
+fn gone_on(alloc: Global, follower: &mut Follower, store: &Store) -> ([u64; 4], u64) {
+    let fault = number_of(advance(alloc, follower, store));
+    (stand_of(&*follower), fault)
+}
+
 /// The first of the rows by which the follower does not stand there, with where it stands and its fault.
 fn first_astray(alloc: Global, image: &Image) -> Result<Option<(usize, [u64; 4], u64)>, Memory> {
-    let mut store = Store::new(alloc, image.guest());
-    let mut follower = Follower::new(alloc, image)?;
+    let (mut follower, mut store) = new_pair(alloc, image)?;
     for (number, row) in ROWS.iter().enumerate() {
         if row[0] == 1 {
-            store = Store::new(alloc, image.guest());
-            follower = Follower::new(alloc, image)?;
+            (follower, store) = new_pair(alloc, image)?;
         }
-        put(
-            alloc,
-            &mut store,
-            &frame_of(alloc, image.guest(), row).ok_or(Memory)?,
-        )?;
+        bring(alloc, &mut store, row)?;
         if row[4] == 1 {
-            let fault = number_of(advance(alloc, &mut follower, &store));
-            let stand = stand_of(&follower);
+            let (stand, fault) = gone_on(alloc, &mut follower, &store);
             if stand != [row[5], row[6], row[7], row[8]] || fault != row[9] {
                 return Ok(Some((number, stand, fault)));
             }

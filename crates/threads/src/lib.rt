@@ -1,9 +1,6 @@
-//! The tests of threads: harts of primaries and replays, pairs, and keepers and a gate over one board. And of followers, which keep up
-//! with stores.
+//! The tests of threads: harts of primaries and replays, and pairs. And of followers, which keep up with stores.
 #![tactic(auto)]
 
-#[cfg(test)]
-mod boards;
 #[cfg(test)]
 mod chances;
 #[cfg(test)]

@@ -1,15 +1,15 @@
-//! What the keepers of a pair hold, and what went out; and a pair to which memory is refused.
+//! What the keepers of a pair hold, and what went out.
 
 use crate::runs::leads_in_turn;
 use closed_cut::position;
-use command_line::{Files, PairOrders, Pairs, command};
-use fixtures::{HALTS, image_of};
-use ft_types::{Failed, HART_LIMIT, Hart, Memory, MemorySink, MemorySource};
+use command_line::PairOrders;
+use fixtures::image_of;
+use ft_types::{HART_LIMIT, Hart, Memory};
 use guest_image::{Image, Machine};
 use log_join::Store;
 use output_gate::Output;
 use page_book::{Book, Recording};
-use pair::{OnThreads, PairEnd, run_pair};
+use pair::{PairEnd, run_pair};
 use std::alloc::Global;
 use std::sync::Wait;
 use std::test::Fail;
@@ -211,81 +211,5 @@ fn what_keepers_hold_and_what_goes_out(rt: HostRuntime) -> Result<(), Fail> {
         };
         assert!(rt; is_whole && found == wanted, "{keepers} keepers: {found:?}");
     }
-    Ok(())
-}
-
-/// An image and a script, each of which is opened once. No file can be made.
-#[derive(Drop)]
-struct TwoFiles {
-    image: Option<MemorySource>,
-    script: Option<MemorySource>,
-}
-
-impl Files for TwoFiles {
-    type Reader = MemorySource;
-
-    type Writer = MemorySink;
-
-    fn reader(&mut self, name: &str) -> Result<MemorySource, Failed> {
-        match name {
-            "image" => self.image.take().ok_or(Failed),
-            "script" => self.script.take().ok_or(Failed),
-            _ => Err(Failed),
-        }
-    }
-
-    fn maker(&mut self, _name: &str) -> Result<MemorySink, Failed> {
-        Err(Failed)
-    }
-}
-
-/// What is printed of a guest that puts out one word, on standard output and on standard error.
-fn printed<P: Pairs>(alloc: Global, pairs: &P) -> Result<(u8, MemorySink, MemorySink), Memory>
-    requires { P.may_run pairs.now }
-{
-    let mut words = Vec::new(alloc);
-    for word in ["pair", "image", "script", "100", "3", "2"] {
-        words.push(String::from_str(alloc, word)?)?;
-    }
-    let mut files = TwoFiles {
-        image: Some(MemorySource::new(HALTS.to_vec(alloc)?)),
-        script: Some(MemorySource::new(Vec::new(alloc))),
-    };
-    let mut out = MemorySink::new(alloc, 1000);
-    let mut err = MemorySink::new(alloc, 1000);
-    let status = command(alloc, &words, &mut files, pairs, &mut out, &mut err);
-    Ok((status, out, err))
-}
-
-/// What is printed with ample memory.
-static WHOLE: &[u8] =
-    b"released hart 0 number 0 step 2 word 0000002a\nkept 0\nhart 0 count 4 pc 80000010 halted\n\
-csr 00001800 00000000 00000000 00000000 00000000 00000000 00000000\n\
-dev 00000000 00000000\n\
-x1 f0000000\n\
-x2 0000002a\n\
-out 0 step 2 word 0000002a\n\
-80000000 f00000b7\n\
-80000004 02a00113\n\
-80000008 0020a423\n\
-8000000c 0000aa23\n";
-
-/// With ample memory the pair is whole. Where memory is refused, to the pair or to what is written, a beginning of it is there.
-#[test]
-fn a_pair_is_whole_or_refused_memory(rt: HostRuntime) -> Result<(), Fail> {
-    let pairs = OnThreads::new(&rt);
-    let (status, out, err) = match printed(rt.alloc(), &pairs) {
-        Ok(done) => done,
-        Err(Memory) => printed(rt.alloc(), &pairs)?,
-    };
-    let whole = status == 0 && out.bytes() == WHOLE && err.bytes().is_empty();
-    let refused = status == 1
-        && out.bytes().is_empty()
-        && err.bytes() == b"fault memory\n".as_slice();
-    // A writer in memory fails where its growth is refused, and so does that of the fault's own line.
-    let unwritten = status == 1
-        && WHOLE.starts_with(out.bytes())
-        && b"fault write\n".starts_with(err.bytes());
-    assert!(rt; whole || refused || unwritten);
     Ok(())
 }

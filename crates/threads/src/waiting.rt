@@ -1,7 +1,7 @@
 //! Guests whose harts wait for each other, on threads. What they put out does not depend on how their harts go beside each other.
 
 use crate::runs::{in_turn, leads_in_turn, on_threads};
-use fixtures::image_of;
+use fixtures::{hart, image_of};
 use ft_types::{Hart, HartSet, Memory};
 use guest_image::{Image, Machine};
 use primary_pool::Free;
@@ -95,12 +95,16 @@ static GUESTS: [Row; 7] = [
     (SEEM_TO_WAIT, [12, 12, 0, 0, 0, 0, 0, 0]),
 ];
 
+fn with(harts: HartSet, number: u8) -> HartSet {
+    harts.with(hart(number))
+}
+
 /// Which harts have no threads, as where these cannot be made.
 fn crews() -> [HartSet; 4] {
     let none = HartSet::new();
-    let one = none.with(Hart::new(0));
-    let two = one.with(Hart::new(2));
-    [none, one, two, two.with(Hart::new(1)).with(Hart::new(3))]
+    let one = with(none, 0);
+    let two = with(one, 2);
+    [none, one, two, with(with(two, 1), 3)]
 }
 
 /// What harts put out: all words, in one number, and of each hart that is halted below the budget the last one.

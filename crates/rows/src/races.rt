@@ -1,85 +1,21 @@
 //! Keepers and a gate on threads of their own, over one board.
 
-ghost use Rattle.std.specs.Prelude.{◌≡◌, ◌<◌, ℕ, length, IfOk};
-ghost use Rattle.ft_types.specs.declared.names.TheConstants.{HART_LIMIT};
+ghost use Rattle.std.specs.Prelude.{◌≡◌, ℕ, IfOk};
 ghost use Rattle.ack_core.specs.Seats.{term_of, harts_of, keepers_of, IsKeeperOf, IsGateOf};
 ghost use Rattle.output_gate.specs.Gates.{noted_at};
 ghost use Rattle.output_gate.specs.Looks.{IsSeen};
-ghost use Rattle.threads.specs.Boards.{AreKeepersOf};
+ghost use Rattle.rows.specs.Made.{IsOfTwo};
 
+use crate::boards::{desk, position};
+use crate::gates::offer_all;
 use ack_core::{Board, GateSeat, KeeperSeat};
-use closed_cut::Position;
-use ft_types::{Counts, Hart, Keeper, Memory};
-use output_gate::{Gate, Output};
+use ft_types::{Hart, Keeper, Memory};
+use output_gate::Gate;
 use std::alloc::Global;
 use std::result::Result;
 use std::test::Fail;
 use std::thread;
 use std::thread::Threads;
-
-/// The last of the seats.
-fn last_seat(board: &Board, seats: &mut Vec<KeeperSeat>) -> Result<KeeperSeat, Memory>
-    requires { AreKeepersOf board.now seats.old.items }
-    ensures seat { IfOk result (λ seat. IsKeeperOf board.now seat) }
-    ensures rest { AreKeepersOf board.now seats.new.items }
-{
-    match seats.pop() {
-        Some(seat) => Ok(seat),
-        None => Err(Memory),
-    }
-}
-
-fn new_board(alloc: Global) -> Result<(Board, KeeperSeat, KeeperSeat, GateSeat), Memory>
-    ensures board { IfOk result (λ r. (term_of r.0 ≡ 1) × (harts_of r.0 ≡ 2) × (keepers_of r.0 ≡ 2)) }
-    ensures first { IfOk result (λ r. IsKeeperOf r.0 r.1) }
-    ensures second { IfOk result (λ r. IsKeeperOf r.0 r.2) }
-    ensures gate { IfOk result (λ r. IsGateOf r.0 r.3) }
-{
-    let (board, mut seats, gate) = Board::new(alloc, 1, 2, 2)?;
-    let second = last_seat(&board, &mut seats)?;
-    let first = last_seat(&board, &mut seats)?;
-    Ok((board, first, second, gate))
-}
-
-/// A board of term 1, two harts and two keepers, with the seats; made once more where memory was refused.
-fn board_of_two(alloc: Global) -> Result<(Board, KeeperSeat, KeeperSeat, GateSeat), Memory>
-    ensures board { IfOk result (λ r. (term_of r.0 ≡ 1) × (harts_of r.0 ≡ 2) × (keepers_of r.0 ≡ 2)) }
-    ensures first { IfOk result (λ r. IsKeeperOf r.0 r.1) }
-    ensures second { IfOk result (λ r. IsKeeperOf r.0 r.2) }
-    ensures gate { IfOk result (λ r. IsGateOf r.0 r.3) }
-{
-    match new_board(alloc) {
-        Ok(made) => Ok(made),
-        Err(Memory) => new_board(alloc),
-    }
-}
-
-/// A position of two harts.
-fn position(term: u32, first: u32, second: u32) -> Position
-    ensures { length result.counts ≡ 2 }
-{
-    let mut counts = Counts::zero(2);
-    counts.set(Hart::new(0), u64::from(first));
-    counts.set(Hart::new(1), u64::from(second));
-    Position {
-        term,
-        counts,
-        top: term,
-    }
-}
-
-/// An output of a hart.
-fn output(hart: u8, number: u64, step: u64) -> Output
-    requires { hart < HART_LIMIT }
-    ensures { result ≡ record { hart = hart; number = number; step = step; word = 7 } }
-{
-    Output {
-        hart: Hart::new(hart),
-        number,
-        step,
-        word: 7,
-    }
-}
 
 /// How often each of two keepers publishes.
 const ROUNDS: u32 = 50_000;
@@ -159,26 +95,33 @@ fn race<R: Threads + Sync>(
     (first, second, gate, wrong)
 }
 
+/// What is seen in the end: of the first keeper's first hart and the second one's second, and of the first hart of each with its seat at hand.
+fn seen_last(
+    board: &Board,
+    gate: &mut GateSeat,
+    first: &mut KeeperSeat,
+    second: &mut KeeperSeat,
+) -> [u64; 4]
+    requires board { IsOfTwo board.now }
+    requires seats { IsKeeperOf board.now first.old × IsKeeperOf board.now second.old × IsGateOf board.now gate.old }
+{
+    [
+        board.see(gate, Keeper::new(0), Hart::new(0)),
+        board.see(gate, Keeper::new(1), Hart::new(1)),
+        board.see_beside(gate, first, Hart::new(0)),
+        board.see_beside(gate, second, Hart::new(0)),
+    ]
+}
+
 #[test]
 fn keepers_and_a_gate_share_a_board(rt: HostRuntime) -> Result<(), Fail> {
-    let (board, first, second, gate) = board_of_two(rt.alloc())?;
+    let (board, first, second, gate) = desk(rt.alloc())?;
     let (mut first, mut second, mut gate, wrong) = race(&rt, &board, first, second, gate);
     assert_eq!(rt; wrong, 0);
+    let (twice, thrice) = (u64::from(ROUNDS) * 2, u64::from(ROUNDS) * 3);
     assert_eq!(rt;
-        board.see(&mut gate, Keeper::new(0), Hart::new(0)),
-        u64::from(ROUNDS) * 2
-    );
-    assert_eq!(rt;
-        board.see(&mut gate, Keeper::new(1), Hart::new(1)),
-        u64::from(ROUNDS) * 3
-    );
-    assert_eq!(rt;
-        board.see_beside(&mut gate, &mut first, Hart::new(0)),
-        u64::from(ROUNDS) * 2
-    );
-    assert_eq!(rt;
-        board.see_beside(&mut gate, &mut second, Hart::new(0)),
-        u64::from(ROUNDS) * 2
+        seen_last(&board, &mut gate, &mut first, &mut second),
+        [twice, thrice, twice, twice]
     );
     Ok(())
 }
@@ -238,16 +181,13 @@ fn four_outputs(alloc: Global) -> Result<Gate, Memory>
     ensures noted { IfOk result (λ gate. (keeper hart : ℕ) → noted_at gate keeper hart ≡ 0) }
 {
     let mut gate = Gate::new(alloc, 1, 2, 1);
-    gate.offer(output(0, 0, 1))?;
-    gate.offer(output(0, 1, 50_000))?;
-    gate.offer(output(0, 2, 99_999))?;
-    gate.offer(output(0, 3, 100_000))?;
+    offer_all(&mut gate, &[(0, 1), (0, 50_000), (0, 99_999), (0, 100_000)])?;
     Ok(gate)
 }
 
 #[test]
 fn a_gate_looks_while_a_keeper_publishes(rt: HostRuntime) -> Result<(), Fail> {
-    let (board, _first, keeper, seat) = board_of_two(rt.alloc())?;
+    let (board, _first, keeper, seat) = desk(rt.alloc())?;
     let gate = four_outputs(rt.alloc())?;
     let (gate, released, last) = publish_and_look(&rt, rt.alloc(), &board, keeper, gate, seat)?;
     assert_eq!(rt; released.saturating_add(last), 3);

@@ -1,6 +1,6 @@
 use Rattle.std.proofs.Common.{◌≡◌, length}
 use Rattle.ack_core.specs.Seats.{IsGateOf}
-use Rattle.threads.proofs.boards.watch.Given as goal
+use Rattle.rows.proofs.races.watch.Given as goal
 
 abbrev pub invariant-loop-round : goal.invariant-loop-round
 invariant-loop-round l = IsGateOf l.board l.gate × (length l.last ≡ 2)

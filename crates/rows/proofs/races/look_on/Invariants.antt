@@ -1,7 +1,7 @@
 use Rattle.std.proofs.Common.{◌≡◌}
 use Rattle.ack_core.specs.Seats.{term_of, keepers_of, IsGateOf}
 use Rattle.output_gate.specs.Looks.{IsSeen}
-use Rattle.threads.proofs.boards.look_on.Given as goal
+use Rattle.rows.proofs.races.look_on.Given as goal
 
 abbrev pub invariant-loop : goal.invariant-loop
 invariant-loop l = record {
