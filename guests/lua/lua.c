@@ -16,7 +16,7 @@
 
 enum { QUEUE = 256, LINE = 4096, ANSWERS = 1 << 14, HEAP = 96 * 4096 };
 
-/* Words that came: on_word puts them in, and the loop takes them out. */
+/* Words that came: on_word puts them in, and the loop takes them out. While it is full no further word is let in, so none is lost. */
 static volatile uint32_t queue[QUEUE], came, taken;
 
 /* What was printed and not yet answered. What does not fit is dropped. */
@@ -28,8 +28,9 @@ static uint32_t length;
 
 void on_word(uint32_t word)
 {
-    if (came - taken < QUEUE)
-        queue[came++ % QUEUE] = word;
+    queue[came++ % QUEUE] = word;
+    if (came - taken == QUEUE)
+        csr_clear(mie, WORD_BIT);
 }
 
 /* ---- what the C library asks of a machine */
@@ -195,6 +196,7 @@ void guest(unsigned hart)
         while (taken != came) {
             uint32_t word = queue[taken % QUEUE];
             taken++;
+            csr_set(mie, WORD_BIT);
             for (unsigned at = 0; at < 4; at++)
                 take((char)(word >> 8 * at));
             output(next_answer());

@@ -5,6 +5,7 @@
 set -eu
 top=$(cd "$(dirname "$0")/../.." && pwd)
 live=${1:-$top/crates/live/out/live}
+case $live in /*) ;; *) live=$PWD/$live ;; esac
 guest=${2:-service}
 image=$top/guests/images/$guest.image
 if [ "$guest" = lua ]; then image=$top/guests/out/-O2/lua.image; fi
