@@ -1,6 +1,6 @@
 #!/usr/bin/env python3
 """paused.py: prints the picture of a primary that was only paused as an SVG. Its events, and what goes out, are those of the test
-`fenced_chance::paused`, which has them of the proved world and of a plain one."""
+`chance::paused`, which has them of the proved world and of a plain one."""
 from picture import LEFT, LEGEND, STYLE
 
 NARROW, APART, TOP = 34, 46, 60

@@ -3,16 +3,35 @@
 ghost use Rattle.std.specs.Prelude.{◌<◌, ◌≤◌};
 
 use crate::acts::Act;
+use crate::keeper::Rules;
 use crate::plain::PlainWorld;
 use crate::subject::Subject;
 use crate::tally::Tally;
-use failover_world::{Released, WorldFault};
+use fenced_world::{FencedFault, Released};
 use fragment_codec::Frame;
-use ft_types::Memory;
+use ft_types::{Memory, Term};
+use go_live::LiveFault;
 use guest_image::{Image, Machine};
 use log_join::{Put, Store};
 use output_gate::Output;
 use std::alloc::Global;
+
+/// What comes of an act in both worlds.
+#[derive(Clone, Copy, PartialEq, Eq)]
+pub enum Outcome {
+    /// It is done.
+    Done,
+    /// It is a release that lets nothing out.
+    NothingGoesOut,
+    /// It is refused by a fence.
+    Fenced,
+    /// It is a grant from too few stores.
+    TooFewStores,
+    /// It is refused otherwise.
+    Refused,
+    /// The worlds answer it unlike, or not the same went out.
+    Unlike,
+}
 
 /// A world, a plain one to which the same happens, and what happened.
 #[derive(Drop)]
@@ -20,6 +39,25 @@ pub struct Beside {
     pub subject: Subject,
     pub plain: PlainWorld,
     pub tally: Tally,
+}
+
+/// What happened to a world that answered so: a keeper whose memory is refused as it comes back is lost.
+fn as_seen(act: Act, answer: Result<(), FencedFault>) -> (Act, Result<(), FencedFault>) {
+    match (act, answer) {
+        (Act::Restart(keeper), Err(FencedFault::Memory)) => (Act::Lose(keeper), Ok(())),
+        _ => (act, answer),
+    }
+}
+
+/// What comes of an act that is answered so, by which something went out or not.
+fn outcome_of(act: Act, answer: Result<(), FencedFault>, released: bool) -> Outcome {
+    match (act, answer) {
+        (_, Err(FencedFault::Fenced)) => Outcome::Fenced,
+        (_, Err(FencedFault::Live(LiveFault::TooFewStores))) => Outcome::TooFewStores,
+        (_, Err(_)) => Outcome::Refused,
+        (Act::Release(_), Ok(())) if !released => Outcome::NothingGoesOut,
+        _ => Outcome::Done,
+    }
 }
 
 /// Whether the machine has the output, at its number.
@@ -34,10 +72,10 @@ fn has(machine: &Machine, output: &Output) -> bool {
     there == Some(&(output.step, output.word))
 }
 
-/// Whether the machine has each of these outputs.
-fn has_all(machine: &Machine, released: &[Released]) -> bool {
+/// Whether the term's machine has each of these outputs that went out in this term or an older one.
+fn has_all(machine: &Machine, term: Term, released: &[Released]) -> bool {
     for released in released {
-        if !has(machine, &released.output) {
+        if released.term <= term && !has(machine, &released.output) {
             return false;
         }
     }
@@ -46,53 +84,92 @@ fn has_all(machine: &Machine, released: &[Released]) -> bool {
 
 impl Beside {
     /// Two worlds of the image.
-    pub fn new(alloc: Global, image: &Image, keepers: u8, need: u8) -> Result<Beside, Memory>
+    pub fn new(
+        alloc: Global,
+        image: &Image,
+        rules: Rules,
+        keepers: u8,
+        need: u8,
+    ) -> Result<Beside, Memory>
         requires { (0 < need) × (need ≤ keepers) × (keepers ≤ 5) }
     {
-        let plain = PlainWorld::new(alloc, image, keepers, need)?;
-        let subject = Subject::new(alloc, image, keepers, need)?;
+        let plain = PlainWorld::new(alloc, image, rules, keepers, need)?;
+        let subject = Subject::new(alloc, image, rules, keepers, need)?;
         Ok(Beside {
             subject,
             plain,
-            tally: Tally::default(),
+            tally: Tally::new(),
         })
     }
 
-    /// Whether the worlds have the same machine, or none, and it has all that went out.
-    pub fn have_same_machine(&self) -> bool {
-        let world = &self.subject.world;
-        match (world.machine(), self.plain.machine()) {
+    /// Whether the worlds have the same machine in the term, or none, and it has all that went out by then.
+    pub fn have_same_machine(&self, term: Term) -> bool {
+        match (self.subject.machine(term), self.plain.machine(term)) {
             (Some(machine), Some(other)) => {
-                machine.same(other) && has_all(machine, world.released())
+                machine.same(other) && has_all(machine, term, &self.plain.released)
             }
             (None, None) => true,
             _ => false,
         }
     }
 
-    /// Whether the same went out.
-    fn released_the_same(&self) -> bool {
-        self.subject.world.released() == self.plain.released.as_slice()
+    /// Whether they have granted the same terms, and have the same machine in each whose primary runs.
+    pub fn have_same_machines(&self) -> bool {
+        for number in 0..self.plain.primaries.len() {
+            if !self.have_same_machine(self.plain.term_at(number)) {
+                return false;
+            }
+        }
+        self.plain.primaries.len() == self.subject.granted()
     }
 
-    /// Applies the act to both worlds. Says whether they answer the same, and the same went out.
-    pub fn agree_on(&mut self, alloc: Global, act: Act) -> Result<bool, Memory> {
-        let Some(answer) = self.subject.answer(alloc, act) else {
-            return Ok(false);
+    /// Whether the act was of a term below one that was granted.
+    fn is_late(&self, act: Act) -> bool {
+        let term = match (act, self.plain.acknowledged.last()) {
+            (Act::Step(term, _) | Act::Release(term), _) => term,
+            (Act::Ack(_), Some(last)) => last.term,
+            _ => return false,
         };
+        term < self.plain.greatest_term()
+    }
+
+    /// Whether the same went out.
+    fn released_the_same(&self) -> bool {
+        self.subject.released() == self.plain.released.as_slice()
+    }
+
+    /// Counts what came of the act in both worlds.
+    fn count(&mut self, act: Act, answer: Result<(), FencedFault>, released: bool) {
+        let late = self.is_late(act);
+        self.tally.count(act, answer, late, released);
+    }
+
+    /// Applies the act to both worlds: what comes of it.
+    pub fn answer(&mut self, alloc: Global, act: Act) -> Result<Outcome, Memory> {
+        let term = self.plain.greatest_term();
+        let Some(answer) = self.subject.answer(alloc, act, term) else {
+            return Ok(Outcome::Unlike);
+        };
+        let (act, answer) = as_seen(act, answer);
+        let before = self.plain.released.len();
         let wanted = self.plain.apply(alloc, act);
-        if wanted == Err(WorldFault::Memory) {
+        if wanted == Err(FencedFault::Memory) {
             return Err(Memory);
         }
-        self.tally.count(act, answer);
-        Ok(answer == wanted && self.released_the_same())
+        let released = self.plain.released.len() > before;
+        let same = answer == wanted && self.released_the_same();
+        self.count(act, wanted, released);
+        Ok(if same {
+            outcome_of(act, answer, released)
+        } else {
+            Outcome::Unlike
+        })
     }
 
     /// Whether the worlds sent the same frames.
     pub fn sent_the_same(&self, alloc: Global, image: &Image) -> Result<bool, Memory> {
         let mut store = Store::new(alloc, image.guest());
-        let frames = self.subject.world.frames();
-        are_the_same(alloc, &mut store, &self.plain.sent, frames)
+        are_the_same(alloc, &mut store, &self.plain.sent, self.subject.frames())
     }
 }
 

@@ -1,65 +1,53 @@
 //! Calls of crews that fall by chance.
 
 use fixtures::{Crew, Dice, hart, offer};
-use ft_types::{Count, Hart};
+use ft_types::Hart;
 use input_log::Input;
-use page_book::{Keep, Recording};
+use page_book::{BookFault, Keep, Recording};
 use std::alloc::Global;
 
-/// A call for a hart.
-#[derive(Clone, Copy)]
-pub enum Call {
-    /// Its lease is settled.
-    Settle(Keep),
-    /// Its lease is discarded.
-    Discard,
-    /// An input is offered to it, from a count on.
-    Offer(Count, Input),
-    /// It is lent, where it is not yet, and its lease has so many turns, each a step or a page that it lacks.
-    Go(u32),
+/// The hart is lent, where it is not yet, and its lease has so many turns, each a step or a page that it lacks.
+fn go(crew: &mut Crew<Recording>, alloc: Global, hart: Hart, turns: u8) -> Result<(), BookFault> {
+    let lent = crew.lend(alloc, hart);
+    let _steps = crew.go(hart, u32::from(turns));
+    lent
 }
 
-/// Makes the call.
-pub fn make(crew: &mut Crew<Recording>, alloc: Global, hart: Hart, call: Call) {
-    let _answer = match call {
-        Call::Settle(keep) => crew.settle(hart, keep),
-        Call::Discard => crew.discard(hart),
-        Call::Offer(not_before, input) => {
-            offer(&mut crew.book, hart, not_before, input);
+/// A call by chance: the hart's lease is settled or discarded, or goes on; an input is offered to it, if it is to be, from a count on.
+/// Where none is offered leases are short.
+fn make(crew: &mut Crew<Recording>, alloc: Global, hart: Hart, offers: bool, dice: &mut Dice) {
+    let roll = dice.roll();
+    let kind = if offers { roll % 12 } else { roll % 8 };
+    let _answer = match (kind, offers) {
+        (0, _) => crew.settle(hart, Keep::All),
+        (1, _) => crew.settle(hart, Keep::Readable),
+        (2, _) => crew.settle(hart, Keep::Nothing),
+        (3, _) => crew.discard(hart),
+        (4, true) => {
+            offer(&mut crew.book, hart, u64::from(dice.roll()), Input::Timer);
             Ok(())
         }
-        Call::Go(turns) => {
-            let lent = crew.lend(alloc, hart);
-            let _steps = crew.go(hart, turns);
-            lent
+        (5, true) => {
+            let word = Input::Word(u32::from(dice.roll()));
+            offer(&mut crew.book, hart, 0, word);
+            Ok(())
         }
+        (_, true) => go(crew, alloc, hart, dice.roll() % 32),
+        _ => go(crew, alloc, hart, dice.roll() % 8),
     };
 }
 
-/// A call by chance.
-fn fallen(dice: &mut Dice) -> Call {
-    match dice.roll() % 12 {
-        0 => Call::Settle(Keep::All),
-        1 => Call::Settle(Keep::Readable),
-        2 => Call::Settle(Keep::Nothing),
-        3 => Call::Discard,
-        4 => Call::Offer(u64::from(dice.roll()), Input::Timer),
-        5 => Call::Offer(0, Input::Word(u32::from(dice.roll()))),
-        _ => Call::Go(u32::from(dice.roll() % 32)),
-    }
-}
-
-/// A hart of the crew's guest by chance.
-pub fn fallen_hart(harts: u8, dice: &mut Dice) -> Hart {
-    hart(dice.roll() % harts.max(1))
-}
-
-/// Makes so many calls by chance.
-pub fn make_many(crew: &mut Crew<Recording>, alloc: Global, calls: u32, dice: &mut Dice) {
-    let harts = crew.book.machine().harts();
+/// Makes so many calls by chance, each for a hart by chance. Inputs are among them, if they are to be.
+pub fn make_many(
+    crew: &mut Crew<Recording>,
+    alloc: Global,
+    calls: u32,
+    offers: bool,
+    dice: &mut Dice,
+) {
+    let harts = crew.book.machine().harts().max(1);
     for _call in 0..calls {
-        let hart = fallen_hart(harts, dice);
-        let call = fallen(dice);
-        make(crew, alloc, hart, call);
+        let hart = hart(dice.roll() % harts);
+        make(crew, alloc, hart, offers, dice);
     }
 }

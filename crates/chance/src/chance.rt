@@ -3,8 +3,10 @@
 ghost use Rattle.std.specs.Prelude.{◌<◌, ◌≤◌};
 
 use crate::acts::Act;
+use crate::keeper::Rules;
 use crate::plain::PlainWorld;
 use fixtures::{BOTH_STORE, Dice, HALTS, RING_EACH_OTHER, SAYS_ITS_WORD};
+use ft_types::Term;
 
 /// lui x1, f0000; then again and again sw x2, 8(x1), an output; addi x2, x2, 1; and back: two harts that count aloud.
 static COUNT_ALOUD: &[u8] = b"harts 2\npages 1\nf00000b7\n0020a423\n00110113\nff9ff06f\n";
@@ -13,35 +15,36 @@ static COUNT_ALOUD: &[u8] = b"harts 2\npages 1\nf00000b7\n0020a423\n00110113\nff
 /// say which of them came first.
 static TAKE_TURNS: &[u8] = b"harts 2\npages 2\n800010b7\nf0000237\n0010a12f\n00222423\nff9ff06f\n";
 
+/// lui x1, f0000; then again and again lw x2, 0(x1), the input word; sw x2, 8(x1), an output; and back: it says what it was told, so
+/// that two primaries say two words.
+static ECHO: &[u8] = b"harts 1\npages 1\nf00000b7\n0000a103\n0020a423\nff9ff06f\n";
+
 /// The guest of a list's number.
-pub fn guest(number: u64) -> &'static [u8] {
-    match number % 10 {
-        0 => HALTS,
-        1 => SAYS_ITS_WORD,
-        2 => RING_EACH_OTHER,
-        3 => BOTH_STORE,
-        4..=6 => COUNT_ALOUD,
+pub fn guest(rules: Rules, number: u64) -> &'static [u8] {
+    match (rules, number % 10) {
+        (_, 0) => HALTS,
+        (Rules::Stopping, 1) => SAYS_ITS_WORD,
+        (Rules::Stopping, 2) => RING_EACH_OTHER,
+        (Rules::Stopping, 3) => BOTH_STORE,
+        (_, 1..=3) => ECHO,
+        (_, 4..=6) => COUNT_ALOUD,
         _ => TAKE_TURNS,
     }
 }
 
-/// From whose stores a primary goes live, of one keeper.
-static OF_ONE: &[&[u64]] = &[&[0], &[0, 0]];
-
-/// From whose stores, of two keepers.
-static OF_TWO: &[&[u64]] = &[&[0], &[1], &[0, 1], &[1, 0, 1]];
-
-/// From whose stores, of three keepers.
-static OF_THREE: &[&[u64]] = &[&[0, 2], &[2, 1], &[1, 0], &[0, 1, 2], &[1, 1]];
-
-/// From whose stores, of more.
-static OF_MORE: &[&[u64]] = &[
-    &[2, 3],
-    &[0, 1, 3],
-    &[3, 2, 1],
-    &[0, 1, 2, 3],
-    &[4, 3, 2, 1, 0],
-    &[0, 7],
+/// From whose stores a primary goes live: of one keeper, of two, of three, and of more.
+static GIVE: [&[&[u64]]; 4] = [
+    &[&[0], &[0, 0]],
+    &[&[0], &[1], &[0, 1], &[1, 0, 1]],
+    &[&[0, 2], &[2, 1], &[1, 0], &[0, 1, 2], &[2, 0, 1], &[1, 1]],
+    &[
+        &[2, 3],
+        &[0, 1, 3],
+        &[3, 2, 1],
+        &[0, 1, 2, 3],
+        &[4, 3, 2, 1, 0],
+        &[0, 7],
+    ],
 ];
 
 /// A number below the limit, or seldom the limit.
@@ -54,8 +57,14 @@ fn number_to(dice: &mut Dice, limit: u64) -> u64 {
     }
 }
 
-/// One of these lists of keepers.
-fn some_of(dice: &mut Dice, lists: &'static [&'static [u64]]) -> &'static [u64] {
+/// Some of so many keepers.
+fn some_of(dice: &mut Dice, keepers: u8) -> &'static [u64] {
+    let lists = match keepers {
+        1 => GIVE[0],
+        2 => GIVE[1],
+        3 => GIVE[2],
+        _ => GIVE[3],
+    };
     match lists.get(usize::from(dice.roll()) % lists.len().max(1)) {
         Some(keepers) => keepers,
         None => &[],
@@ -64,22 +73,61 @@ fn some_of(dice: &mut Dice, lists: &'static [&'static [u64]]) -> &'static [u64] 
 
 /// A grant of the next term, or seldom of another.
 fn grant(dice: &mut Dice, world: &PlainWorld) -> Act {
-    let keepers = match world.keepers {
-        1 => some_of(dice, OF_ONE),
-        2 => some_of(dice, OF_TWO),
-        3 => some_of(dice, OF_THREE),
-        _ => some_of(dice, OF_MORE),
+    let keepers = some_of(dice, world.keepers);
+    let term = world.greatest_term();
+    let term = match dice.roll() % 16 {
+        0 => term,
+        1 => 0,
+        2 => term.saturating_add(7),
+        3 => term.saturating_sub(3),
+        _ => term.saturating_add(1),
     };
-    let term = world.term();
-    match dice.roll() % 16 {
-        0 => Act::Grant(term, keepers),
-        1 => Act::Grant(0, keepers),
-        2 => Act::Grant(term.saturating_add(7), keepers),
-        _ => Act::Grant(term.saturating_add(1), keepers),
+    Act::Grant(term, keepers)
+}
+
+/// A term that was granted, or seldom one that was not.
+fn term_of(dice: &mut Dice, world: &PlainWorld) -> Term {
+    let roll = dice.roll();
+    match roll % 64 {
+        0 => world.greatest_term().saturating_add(1),
+        1..=12 => world.greatest_term(),
+        _ => world.term_at(usize::from(dice.roll()) % world.primaries.len().max(1)),
     }
 }
 
-/// What a keeper does: the first frame that it lacks comes, or any frame, or it acknowledges.
+/// An event that is seldom, where nobody stops a primary.
+fn seldom_beside(dice: &mut Dice, world: &PlainWorld) -> Act {
+    let roll = dice.roll() % 16;
+    let keeper = number_to(dice, u64::from(world.keepers));
+    let term = term_of(dice, world);
+    match roll {
+        0 => Act::Lose(keeper),
+        1..=3 => grant(dice, world),
+        4 | 5 => Act::Timer(term, dice.roll()),
+        6 => Act::Word(term, dice.roll(), u32::from(dice.roll())),
+        7 | 8 => Act::Join(keeper, number_to(dice, u64::from(world.keepers))),
+        9 | 10 => Act::Fence(keeper, term),
+        11 => Act::Fence(keeper, world.greatest_term().saturating_add(1)),
+        _ => Act::Restart(keeper),
+    }
+}
+
+/// The same, where primaries stop.
+fn seldom_after(dice: &mut Dice, world: &PlainWorld) -> Act {
+    let roll = dice.roll() % 8;
+    let keeper = number_to(dice, u64::from(world.keepers));
+    let term = world.greatest_term();
+    match roll {
+        0 => Act::Lose(keeper),
+        1 => grant(dice, world),
+        2 => Act::Timer(term, dice.roll()),
+        3 => Act::Word(term, dice.roll(), u32::from(dice.roll())),
+        4 | 5 => Act::Join(keeper, number_to(dice, u64::from(world.keepers))),
+        _ => Act::Stop(term),
+    }
+}
+
+/// What any keeper does, where primaries stop: the first frame that it lacks comes, or any frame, or it acknowledges.
 fn keeping(dice: &mut Dice, world: &PlainWorld) -> Act {
     let keeper = number_to(dice, u64::from(world.keepers));
     match (world.first_missing(keeper), dice.roll() % 16) {
@@ -89,30 +137,42 @@ fn keeping(dice: &mut Dice, world: &PlainWorld) -> Act {
     }
 }
 
-/// An event that is seldom.
-fn seldom(dice: &mut Dice, world: &PlainWorld) -> Act {
-    let keepers = u64::from(world.keepers);
-    match dice.roll() % 8 {
-        0 => Act::Lose(number_to(dice, keepers)),
-        1 => grant(dice, world),
-        2 => Act::Timer(dice.roll()),
-        3 => Act::Word(dice.roll(), u32::from(dice.roll())),
-        4 | 5 => Act::Join(number_to(dice, keepers), number_to(dice, keepers)),
-        _ => Act::Stop,
-    }
-}
-
 /// What a list is about for a while.
-#[derive(Clone, Copy, PartialEq, Eq)]
+#[derive(Clone, Copy)]
 enum Mood {
     /// Harts take steps.
     Steps,
     /// What they did is sealed.
     Seals,
-    /// Keepers take frames and acknowledge.
+    /// Keepers take frames, write them down and acknowledge.
     Keeps,
+    /// A term is granted.
+    Grants,
     /// Outputs go out.
     Releases,
+}
+
+/// The mood after this one, where nobody stops a primary.
+fn after_beside(mood: Mood, roll: u8) -> Mood {
+    match (mood, roll % 16) {
+        (Mood::Steps, 0..=2) => Mood::Seals,
+        (Mood::Seals, _) => Mood::Keeps,
+        (Mood::Grants, 0..=3) => Mood::Keeps,
+        (Mood::Grants, _) => Mood::Releases,
+        (Mood::Releases, _) => Mood::Steps,
+        _ => mood,
+    }
+}
+
+/// The same, where primaries stop.
+fn after_stopping(mood: Mood, roll: u8) -> Mood {
+    match (mood, roll % 8) {
+        (Mood::Steps, 0 | 4) => Mood::Seals,
+        (Mood::Seals, _) => Mood::Keeps,
+        (Mood::Keeps, 0) => Mood::Releases,
+        (Mood::Releases, _) => Mood::Steps,
+        _ => mood,
+    }
 }
 
 /// What happens by chance.
@@ -120,6 +180,10 @@ enum Mood {
 pub struct Chance {
     dice: Dice,
     mood: Mood,
+    /// Whose primary it is about for a while.
+    term: Term,
+    /// The keeper that it is about for a while.
+    keeper: u64,
 }
 
 impl Chance {
@@ -128,6 +192,8 @@ impl Chance {
         Chance {
             dice: Dice::new(seed),
             mood: Mood::Steps,
+            term: 1,
+            keeper: 0,
         }
     }
 
@@ -139,38 +205,99 @@ impl Chance {
         self.dice.roll() % limit + 1
     }
 
-    /// What fits the mood, which may change then.
-    fn fitting(&mut self, world: &PlainWorld) -> Act {
-        let roll = self.dice.roll();
-        let mood = self.mood;
-        self.mood = match mood {
-            Mood::Steps if roll % 4 == 0 => Mood::Seals,
-            Mood::Seals => Mood::Keeps,
-            Mood::Keeps if roll % 8 == 0 => Mood::Releases,
-            Mood::Releases => Mood::Steps,
-            mood => mood,
+    /// The keeper acknowledges. It is about the next one then, or about something else.
+    fn acknowledge(&mut self, world: &PlainWorld) -> Act {
+        let keeper = self.keeper;
+        self.keeper = keeper.wrapping_add(1) % u64::from(world.keepers).max(1);
+        self.mood = match self.dice.roll() % 4 {
+            0 => Mood::Grants,
+            1 => Mood::Releases,
+            _ => Mood::Keeps,
         };
+        Act::Ack(keeper)
+    }
+
+    /// What a keeper does: the first frame that it lacks comes; or it writes down what came, and acknowledges that. Seldom any frame
+    /// comes to any keeper, or any acknowledges.
+    fn keep(&mut self, world: &PlainWorld) -> Act {
+        let any = number_to(&mut self.dice, u64::from(world.keepers));
+        let keeper = self.keeper;
+        match (world.first_missing(keeper), self.dice.roll() % 16) {
+            (_, 0) => Act::Deliver(any, number_to(&mut self.dice, world.sent.len() as u64)),
+            (_, 1 | 2) => Act::Ack(any),
+            (Some(frame), 3..=14) => Act::Deliver(keeper, frame),
+            _ if !world.has_saved(keeper) => Act::Save(keeper),
+            _ => self.acknowledge(world),
+        }
+    }
+
+    /// Outputs of the term go out, and it is about another term then.
+    fn release(&mut self, world: &PlainWorld) -> Act {
+        let term = self.term;
+        self.term = term_of(&mut self.dice, world);
+        Act::Release(term)
+    }
+
+    /// What fits the mood, which may change then, where nobody stops a primary.
+    fn fitting_beside(&mut self, world: &PlainWorld) -> Act {
+        let mood = self.mood;
+        self.mood = after_beside(mood, self.dice.roll());
         match mood {
-            Mood::Steps => Act::Step(self.dice.roll()),
-            Mood::Seals => Act::Seal,
-            Mood::Keeps => keeping(&mut self.dice, world),
-            Mood::Releases => Act::Release,
+            Mood::Steps => Act::Step(self.term, self.dice.roll()),
+            Mood::Seals => Act::Seal(self.term),
+            Mood::Keeps => self.keep(world),
+            Mood::Grants => grant(&mut self.dice, world),
+            Mood::Releases => self.release(world),
+        }
+    }
+
+    /// The same, where primaries stop.
+    fn fitting_after(&mut self, world: &PlainWorld) -> Act {
+        let term = world.greatest_term();
+        let mood = self.mood;
+        self.mood = after_stopping(mood, self.dice.roll());
+        match mood {
+            Mood::Steps => Act::Step(term, self.dice.roll()),
+            Mood::Seals => Act::Seal(term),
+            Mood::Keeps | Mood::Grants => keeping(&mut self.dice, world),
+            Mood::Releases => Act::Release(term),
+        }
+    }
+
+    /// What happens next where nobody stops a primary.
+    fn next_beside(&mut self, world: &PlainWorld) -> Act {
+        match self.dice.roll() % 64 {
+            0 => Act::Step(term_of(&mut self.dice, world), self.dice.roll()),
+            1 => Act::Seal(term_of(&mut self.dice, world)),
+            2..=4 => Act::Release(term_of(&mut self.dice, world)),
+            5 => self.keep(world),
+            6..=11 => seldom_beside(&mut self.dice, world),
+            _ => self.fitting_beside(world),
+        }
+    }
+
+    /// What happens next where primaries stop.
+    fn next_after(&mut self, world: &PlainWorld) -> Act {
+        let term = world.greatest_term();
+        if world.machine(term).is_none() && self.dice.roll() % 4 != 0 {
+            self.mood = Mood::Keeps;
+            return grant(&mut self.dice, world);
+        }
+        match self.dice.roll() % 64 {
+            0 => Act::Step(term, self.dice.roll()),
+            1 => Act::Seal(term),
+            2 => Act::Release(term),
+            3 => keeping(&mut self.dice, world),
+            4..=8 => seldom_after(&mut self.dice, world),
+            _ => self.fitting_after(world),
         }
     }
 
     /// What happens next.
     pub fn next(&mut self, world: &PlainWorld) -> Act {
-        if !world.runs && self.dice.roll() % 4 != 0 {
-            self.mood = Mood::Keeps;
-            return grant(&mut self.dice, world);
-        }
-        match self.dice.roll() % 64 {
-            0 => Act::Step(self.dice.roll()),
-            1 => Act::Seal,
-            2 => Act::Release,
-            3 => keeping(&mut self.dice, world),
-            4..=8 => seldom(&mut self.dice, world),
-            _ => self.fitting(world),
+        match world.rules {
+            Rules::Stopping => self.next_after(world),
+            _ => self.next_beside(world),
         }
     }
 }

@@ -24,41 +24,9 @@ static TALKS: &[u8] = b"800010b7\nf0000237\nf14022f3\nffe2f293\n\
 /// No hart comes so far.
 const FAR: Count = 1_000_000;
 
-/// With what a primary that goes live begins.
-#[derive(Clone, Copy)]
-enum Begins {
-    /// With all that the term before recorded.
-    Whole,
-    /// With a part of it.
-    Part,
-    /// With what an older term recorded, or at boot.
-    Older,
-}
-
-/// How many primaries began so.
-#[derive(Clone, Copy, Default)]
-struct Tally {
-    whole: u32,
-    part: u32,
-    older: u32,
-}
-
-impl Tally {
-    fn add(&mut self, begins: Begins) {
-        let many = match begins {
-            Begins::Whole => &mut self.whole,
-            Begins::Part => &mut self.part,
-            Begins::Older => &mut self.older,
-        };
-        *many = many.saturating_add(1);
-    }
-
-    fn add_all(&mut self, other: Tally) {
-        self.whole = self.whole.saturating_add(other.whole);
-        self.part = self.part.saturating_add(other.part);
-        self.older = self.older.saturating_add(other.older);
-    }
-}
+/// How many primaries that went live began with all that the term before recorded, with a part of it, and with what an older term
+/// recorded or at boot.
+type Tally = [u32; 3];
 
 /// A term: the counts and the machine with which it began, and what it recorded from there.
 #[derive(Drop)]
@@ -138,7 +106,7 @@ impl World {
             third: Store::new(alloc, guest),
             pasts: Vec::new(alloc),
             dice: Dice::new(seed),
-            tally: Tally::default(),
+            tally: [0; 3],
         })
     }
 
@@ -183,7 +151,7 @@ impl World {
     ) -> Result<(), Memory> {
         let mut sealed = Sealed::new(base);
         for _cut in 0..3 {
-            make_many(crew, alloc, 100, &mut self.dice);
+            make_many(crew, alloc, 100, true, &mut self.dice);
             self.send(alloc, &crew.book, &mut sealed)?;
         }
         Ok(())
@@ -253,17 +221,25 @@ impl World {
         Ok(is_unused(live) && machine.same(live.book.machine()))
     }
 
-    /// With what the primary begins.
-    fn begins_with(&self, live: &Live) -> Begins {
+    /// With what the primary begins, by its place in the tally.
+    fn begins_with(&self, live: &Live) -> usize {
         match self.pasts.last() {
             Some(past) if live.opening.parent() as usize == self.pasts.len() => {
                 if live.opening.base() == past.book.counts() {
-                    Begins::Whole
+                    0
                 } else {
-                    Begins::Part
+                    1
                 }
             }
-            _ => Begins::Older,
+            _ => 2,
+        }
+    }
+
+    /// Counts with what the primary begins.
+    fn count(&mut self, live: &Live) {
+        let place = self.begins_with(live);
+        if let Some(many) = self.tally.get_mut(place) {
+            *many = many.saturating_add(1);
         }
     }
 
@@ -285,8 +261,7 @@ impl World {
     fn next_fails(&mut self, alloc: Global) -> Result<bool, Memory> {
         let live = self.grant(alloc)?;
         let right = self.is_right(alloc, &live);
-        let begins = self.begins_with(&live);
-        self.tally.add(begins);
+        self.count(&live);
         let went = self.go_on(alloc, live);
         match (right, went) {
             (Ok(true), Err(Memory)) => Err(Memory),
@@ -320,7 +295,7 @@ fn begun_in(alloc: Global, harts: u8, seed: u64) -> Result<Option<Tally>, Memory
 
 #[test]
 fn each_primary_begins_with_what_was_recorded(rt: HostRuntime) -> Result<(), Fail> {
-    let mut tally = Tally::default();
+    let mut tally = [0u32; 3];
     for harts in [2, 3, 4] {
         for seed in 1..9u64 {
             let seed = seed * 0x9e37_79b9 + u64::from(harts);
@@ -328,9 +303,14 @@ fn each_primary_begins_with_what_was_recorded(rt: HostRuntime) -> Result<(), Fai
                 Ok(seen) => seen,
                 Err(Memory) => begun_in(rt.alloc(), harts, seed)?,
             };
-            tally.add_all(seen.ok_or("another machine")?);
+            let Some(seen) = seen else {
+                return Err("another machine".into());
+            };
+            for kind in 0..3 {
+                tally[kind] = tally[kind].saturating_add(seen[kind]);
+            }
         }
     }
-    assert!(rt; tally.whole > 0 && tally.part > 0 && tally.older > 0);
+    assert!(rt; tally[0] > 0 && tally[1] > 0 && tally[2] > 0);
     Ok(())
 }

@@ -1,39 +1,59 @@
-//! Ten thousand lists of 60 events that fall by chance, beside a plain world.
+//! Ten thousand lists of 60 events that fall by chance, beside a plain world: of primaries that stop, and of primaries that nobody
+//! stops, of which several run at once.
 
-use crate::beside::Beside;
+use crate::beside::{Beside, Outcome};
 use crate::chance::{Chance, guest};
-use crate::tally::Tally;
+use crate::keeper::Rules;
+use crate::tally::{
+    ACKNOWLEDGED, AGAIN, DELIVERIES, FENCED, GRANTS, LATE_ACKNOWLEDGED, LATE_RELEASES, LATE_STEPS,
+    LISTS, REFUSED, RELEASED, RELEASES, RESTARTS, SPREAD, STEPS, Tally,
+};
 use fixtures::image_of;
 use ft_types::Memory;
 use guest_image::Image;
 use std::alloc::Global;
-use std::ops::Range;
 use std::test::Fail;
 
 /// How many events a list has.
 const EVENTS: u64 = 60;
 
-/// How many lists a part has.
-const LISTS: u64 = 2_500;
+/// How many lists there are.
+const MANY: u64 = 10_000;
 
-/// What at least happens in a part.
-static LEAST: Tally = Tally {
-    lists: LISTS,
-    steps: 25_000,
-    deliveries: 25_000,
-    acknowledged: 25_000,
-    grants: 2_000,
-    refused: 25_000,
-    released: 1_700,
-    again: 60,
-    spread: 50,
-};
+/// What at least happens where primaries stop.
+static LEAST: &[(usize, u64)] = &[
+    (LISTS, MANY),
+    (STEPS, 100_000),
+    (DELIVERIES, 100_000),
+    (ACKNOWLEDGED, 100_000),
+    (GRANTS, 8_000),
+    (REFUSED, 100_000),
+    (RELEASED, 6_800),
+    (AGAIN, 240),
+    (SPREAD, 200),
+];
 
-/// Applies a list of events to two worlds. Says whether they agree at each.
+/// What at least happens where nobody stops them.
+static LEAST_FENCED: &[(usize, u64)] = &[
+    (LISTS, MANY),
+    (STEPS, 120_000),
+    (LATE_STEPS, 20_000),
+    (ACKNOWLEDGED, 40_000),
+    (LATE_ACKNOWLEDGED, 300),
+    (RESTARTS, 8_000),
+    (GRANTS, 8_000),
+    (FENCED, 16_000),
+    (REFUSED, 44_000),
+    (RELEASES, 6_000),
+    (LATE_RELEASES, 1_500),
+];
+
+/// Applies a list of events to two worlds. Says whether they agree at each, and have the same machines after each tenth.
 fn agree_on_list(alloc: Global, chance: &mut Chance, worlds: &mut Beside) -> Result<bool, Memory> {
     for event in 1..=EVENTS {
         let act = chance.next(&worlds.plain);
-        if !worlds.agree_on(alloc, act)? || event % 10 == 0 && !worlds.have_same_machine() {
+        let outcome = worlds.answer(alloc, act)?;
+        if outcome == Outcome::Unlike || event % 10 == 0 && !worlds.have_same_machines() {
             return Ok(false);
         }
     }
@@ -51,63 +71,76 @@ fn agree_to_the_end(
 }
 
 /// Two worlds of a few keepers, to which nothing happened.
-fn begin(alloc: Global, image: &Image, chance: &mut Chance) -> Result<Beside, Memory> {
-    let keepers = chance.number(5).min(chance.number(5));
+fn begin(
+    alloc: Global,
+    image: &Image,
+    rules: Rules,
+    chance: &mut Chance,
+) -> Result<Beside, Memory> {
+    let least = if matches!(rules, Rules::Stopping) {
+        1
+    } else {
+        2
+    };
+    let keepers = chance.number(5).min(chance.number(5).max(least));
     let need = chance.number(keepers);
-    Beside::new(alloc, image, keepers, need)
+    Beside::new(alloc, image, rules, keepers, need)
 }
 
-/// Applies the list of a seed to two worlds. Says whether they agree, and adds what happened.
-fn agree_by(alloc: Global, image: &Image, seed: u64, tally: &mut Tally) -> Result<bool, Memory> {
-    let mut chance = Chance::new(seed);
-    let mut worlds = begin(alloc, image, &mut chance)?;
+/// Applies the list of this number to two worlds. Says whether they agree, and adds what happened.
+fn agree_by(
+    alloc: Global,
+    image: &Image,
+    rules: Rules,
+    number: u64,
+    tally: &mut Tally,
+) -> Result<bool, Memory> {
+    let mut chance = Chance::new(number.wrapping_mul(0x9e37_79b9_7f4a_7c15) | 1);
+    let mut worlds = begin(alloc, image, rules, &mut chance)?;
     let agreed = agree_to_the_end(alloc, image, &mut chance, &mut worlds);
     if agreed == Ok(true) {
-        tally.add_list(&worlds.tally, worlds.subject.world.released());
+        tally.add_list(&worlds.tally, worlds.subject.released());
     }
     agreed
 }
 
-/// Applies the list of this number, once more where the plain world was refused memory. Says whether the worlds agree.
-fn agree_in(alloc: Global, number: u64, tally: &mut Tally) -> Result<bool, Fail> {
-    let image = image_of(alloc, guest(number))?;
-    let seed = number.wrapping_mul(0x9e37_79b9_7f4a_7c15) | 1;
-    match agree_by(alloc, &image, seed, tally) {
-        Err(Memory) => Ok(agree_by(alloc, &image, seed, tally)?),
+/// The same, once more where the plain world was refused memory.
+fn agree_in(alloc: Global, rules: Rules, number: u64, tally: &mut Tally) -> Result<bool, Fail> {
+    let image = image_of(alloc, guest(rules, number))?;
+    match agree_by(alloc, &image, rules, number, tally) {
+        Err(Memory) => Ok(agree_by(alloc, &image, rules, number, tally)?),
         agreed => Ok(agreed?),
     }
 }
 
-/// The number of the first of these lists in which the worlds differ.
-fn first_difference(
-    alloc: Global,
-    lists: Range<u64>,
-    tally: &mut Tally,
-) -> Result<Option<u64>, Fail> {
-    for number in lists {
-        if !agree_in(alloc, number, tally)? {
+/// The number of the first list in which the worlds differ. What happened in those before it is added.
+fn first_difference(alloc: Global, rules: Rules, tally: &mut Tally) -> Result<Option<u64>, Fail> {
+    for number in 0..MANY {
+        if !agree_in(alloc, rules, number, tally)? {
             return Ok(Some(number));
         }
     }
     Ok(None)
 }
 
-/// The number of the first list of this part in which the worlds differ. In a part in which they do not much happens.
-fn difference_in(alloc: Global, part: u64) -> Result<Option<u64>, Fail> {
-    let mut tally = Tally::default();
-    let first = part.saturating_mul(LISTS);
-    let lists = first..first.saturating_add(LISTS);
-    let difference = first_difference(alloc, lists, &mut tally)?;
-    if difference.is_none() && !tally.is_at_least(&LEAST) {
-        return Err("too little happened".into());
-    }
-    Ok(difference)
+#[test]
+fn worlds_agree_on_lists_by_chance(rt: HostRuntime) -> Result<(), Fail> {
+    let mut tally = Tally::new();
+    assert_eq!(rt;
+        first_difference(rt.alloc(), Rules::Stopping, &mut tally)?,
+        None
+    );
+    assert!(rt; tally.reaches(LEAST));
+    Ok(())
 }
 
 #[test]
-fn worlds_agree_on_lists_by_chance(rt: HostRuntime) -> Result<(), Fail> {
-    for part in 0..4u64 {
-        assert_eq!(rt; difference_in(rt.alloc(), part)?, None);
-    }
+fn fenced_worlds_agree_on_lists_by_chance(rt: HostRuntime) -> Result<(), Fail> {
+    let mut tally = Tally::new();
+    assert_eq!(rt;
+        first_difference(rt.alloc(), Rules::Fencing, &mut tally)?,
+        None
+    );
+    assert!(rt; tally.reaches(LEAST_FENCED));
     Ok(())
 }

@@ -1,5 +1,6 @@
 //! Audits by the definition: one run of a leg, step by step, and all pairs of its steps.
 
+use crate::plain::count_of;
 use fixtures::{Crew, hart};
 use ft_types::{Count, HART_LIMIT, Hart, Memory, PageNo, Want};
 use guest_image::{Image, Machine};
@@ -44,32 +45,50 @@ fn turn(crew: &mut Crew<Replaying>, hart: Hart) -> Tick {
 }
 
 /// Takes the next step of a hart that is lent. Says which pages it asked for.
-fn uses_of(crew: &mut Crew<Replaying>, alloc: Global, hart: Hart) -> Option<Vec<Use>> {
+fn uses_of(crew: &mut Crew<Replaying>, alloc: Global, hart: Hart) -> Result<Vec<Use>, Memory> {
     let mut uses = Vec::new(alloc);
     for _turn in 0..8 {
         match turn(crew, hart) {
-            Tick::Done => return Some(uses),
+            Tick::Done => return Ok(uses),
             Tick::Miss(page, want) => {
-                uses.push((page, want)).ok()?;
-                crew.ask(hart, page, want).ok()?;
+                uses.push((page, want))?;
+                if crew.ask(hart, page, want).is_err() {
+                    return Err(Memory);
+                }
             }
-            Tick::Halted | Tick::Memory => return None,
+            Tick::Halted | Tick::Memory => return Err(Memory),
         }
     }
-    None
+    Err(Memory)
 }
 
-/// Adds a step, by its hart and count, and all that comes before it.
-fn add_before(before: &mut [bool], steps: &[Taken], hart: Hart, count: Count) {
-    for (place, step) in steps.iter().enumerate() {
-        if step.hart == hart && step.count == count {
-            for (known, its) in before.iter_mut().zip(&step.before) {
-                *known = *known || *its;
-            }
+/// Adds the step of this place, and all that comes before it.
+fn add_known(before: &mut [bool], its: &[bool], step: usize) {
+    for place in 0..before.len() {
+        if place == step || is_before(its, place) {
             if let Some(known) = before.get_mut(place) {
                 *known = true;
             }
         }
+    }
+}
+
+/// Whether the step of this place is one of those that come before.
+fn is_before(before: &[bool], place: usize) -> bool {
+    match before.get(place) {
+        Some(is_before) => *is_before,
+        None => false,
+    }
+}
+
+/// Adds a step, by its hart and count, and all that comes before it.
+fn add_before(before: &mut [bool], steps: &[Taken], hart: Hart, count: Count) {
+    let mut place = 0usize;
+    for step in steps {
+        if step.hart == hart && step.count == count {
+            add_known(before, &step.before, place);
+        }
+        place = place.saturating_add(1);
     }
 }
 
@@ -91,38 +110,36 @@ fn before_of(
     Ok(before)
 }
 
-fn count_of(crew: &Crew<Replaying>, hart: Hart) -> Option<Count> {
-    crew.book.counts().as_slice().get(hart.index()).copied()
-}
-
-/// Takes the hart's next step, where it may go on. Whether memory was there for it.
+/// Takes the hart's next step, where it may go on.
 fn take(
     crew: &mut Crew<Replaying>,
     alloc: Global,
     leg: &PlannedLeg,
     steps: &mut Vec<Taken>,
     hart: Hart,
-) -> Option<()> {
+) -> Result<(), Memory> {
     match crew.lend(alloc, hart) {
         Ok(()) => {}
-        Err(BookFault::Memory) => return None,
-        Err(_) => return Some(()),
+        Err(BookFault::Memory) => return Err(Memory),
+        Err(_) => return Ok(()),
     }
-    let count = count_of(crew, hart)?;
+    let count = count_of(&crew.book.counts(), hart.index());
     let uses = uses_of(crew, alloc, hart)?;
-    crew.settle(hart, Keep::Nothing).ok()?;
-    let before = before_of(alloc, leg, steps, hart, count).ok()?;
+    if crew.settle(hart, Keep::Nothing).is_err() {
+        return Err(Memory);
+    }
+    let before = before_of(alloc, leg, steps, hart, count)?;
     let step = Taken {
         hart,
         count,
         uses,
         before,
     };
-    steps.push(step).ok()
+    Ok(steps.push(step)?)
 }
 
 /// Takes a step of each hart in turn, the greatest first, again and again until none may go on.
-fn run(crew: &mut Crew<Replaying>, alloc: Global, leg: &PlannedLeg) -> Option<Vec<Taken>> {
+fn run(crew: &mut Crew<Replaying>, alloc: Global, leg: &PlannedLeg) -> Result<Vec<Taken>, Memory> {
     let mut steps = Vec::new(alloc);
     for _round in 0..1000 {
         let taken = steps.len();
@@ -131,10 +148,10 @@ fn run(crew: &mut Crew<Replaying>, alloc: Global, leg: &PlannedLeg) -> Option<Ve
             take(crew, alloc, leg, &mut steps, hart(last))?;
         }
         if steps.len() == taken {
-            return Some(steps);
+            return Ok(steps);
         }
     }
-    None
+    Err(Memory)
 }
 
 fn pair_of(page: PageNo, one: &Taken, other: &Taken) -> Pair {
@@ -162,10 +179,13 @@ fn add_conflicts(pairs: &mut Vec<Pair>, one: &Taken, other: &Taken) -> Result<()
 fn pairs_of(alloc: Global, steps: &[Taken]) -> Result<Vec<Pair>, Memory> {
     let mut pairs = Vec::new(alloc);
     for later in steps {
-        for (earlier, is_before) in steps.iter().zip(&later.before) {
-            if earlier.hart != later.hart && !*is_before {
+        let mut place = 0usize;
+        for earlier in steps {
+            let is_earlier = place < later.before.len();
+            if is_earlier && earlier.hart != later.hart && !is_before(&later.before, place) {
                 add_conflicts(&mut pairs, earlier, later)?;
             }
+            place = place.saturating_add(1);
         }
     }
     Ok(pairs)
@@ -190,10 +210,8 @@ fn pairs_run(
     alloc: Global,
     leg: &PlannedLeg,
 ) -> Result<Vec<Pair>, Memory> {
-    match run(crew, alloc, leg) {
-        Some(steps) => pairs_of(alloc, &steps),
-        None => Err(Memory),
-    }
+    let steps = run(crew, alloc, leg)?;
+    pairs_of(alloc, &steps)
 }
 
 /// What the leg comes to from boot.

@@ -2,11 +2,11 @@
 
 use crate::again::{machine_at, one_step};
 use crate::starts::recorder_from;
-use failover_world::WorldFault;
+use fenced_world::FencedFault;
 use fixtures::cut;
 use fragment_codec::{Frame, Opening};
-use ft_types::{COUNT_LIMIT, Counts, HART_ROW, Hart, Memory, Term};
-use guest_image::{Image, Machine};
+use ft_types::{COUNT_LIMIT, Counts, Guest, HART_ROW, Hart, Memory};
+use guest_image::Machine;
 use input_log::Input;
 use log_pieces::Sealed;
 use page_book::{Book, BookFault, Recording};
@@ -17,56 +17,43 @@ pub type Marks = [u64; HART_ROW];
 
 /// A primary.
 #[derive(Drop)]
-pub struct Primary {
-    opening: Opening,
+pub struct PlainPrimary {
+    pub opening: Opening,
     start: Machine,
     marks: Marks,
-    book: Book<Recording>,
+    pub book: Book<Recording>,
     sealed: Sealed,
+    pub stopped: bool,
 }
 
-impl Primary {
+impl PlainPrimary {
     /// A primary that goes on from the machine.
     pub fn begin(
         alloc: Global,
         opening: Opening,
         start: Machine,
         marks: Marks,
-    ) -> Result<Primary, Memory> {
+    ) -> Result<PlainPrimary, Memory> {
         let book = recorder_from(alloc, start.copy()?, COUNT_LIMIT - 1)?;
-        Ok(Primary {
+        Ok(PlainPrimary {
             sealed: Sealed::new(opening.base()),
             opening,
             start,
             marks,
             book,
+            stopped: false,
         })
     }
 
-    /// The opening of its term.
-    pub fn opening(&self) -> &Opening {
-        &self.opening
-    }
-
-    /// Its term.
-    pub fn term(&self) -> Term {
-        self.opening.term()
-    }
-
-    /// Its machine.
-    pub fn machine(&self) -> &Machine {
-        self.book.machine()
-    }
-
     /// One step of the hart.
-    pub fn step(&mut self, alloc: Global, hart: Hart) -> Result<(), WorldFault> {
+    pub fn step(&mut self, alloc: Global, hart: Hart) -> Result<(), FencedFault> {
         Ok(one_step(alloc, &mut self.book, hart)?)
     }
 
     /// The input waits behind the others of the hart.
-    pub fn offer(&mut self, hart: Hart, input: Input) -> Result<(), WorldFault> {
+    pub fn offer(&mut self, hart: Hart, input: Input) -> Result<(), FencedFault> {
         if hart.number() >= self.book.machine().harts() || input.is_bell() {
-            return Err(WorldFault::Step(BookFault::Foreign));
+            return Err(FencedFault::Step(BookFault::Foreign));
         }
         Ok(self.book.offer(hart, 0, input)?)
     }
@@ -86,9 +73,9 @@ impl Primary {
     }
 
     /// The pieces of what its log says behind what is sealed.
-    pub fn seal(&mut self, alloc: Global, image: &Image) -> Result<Vec<Frame>, Memory> {
+    pub fn seal(&mut self, alloc: Global, guest: Guest) -> Result<Vec<Frame>, Memory> {
         let term = self.opening.term();
-        cut(alloc, image.guest(), &self.book, term, &mut self.sealed)
+        cut(alloc, guest, &self.book, term, &mut self.sealed)
     }
 
     /// Its machine when each hart was at this count.

@@ -33,9 +33,9 @@ fn record(
     dice: &mut Dice,
     frames: &mut Vec<Frame>,
 ) -> Result<(), Memory> {
-    make_many(crew, alloc, 300, dice);
+    make_many(crew, alloc, 300, true, dice);
     let cut = cut_more(alloc, image, &crew.book, sealed, frames);
-    make_many(crew, alloc, 300, dice);
+    make_many(crew, alloc, 300, true, dice);
     cut
 }
 
@@ -119,8 +119,8 @@ fn scatter(sinks: &mut [MemorySink], frames: &[Frame], dice: &mut Dice) -> Resul
 
 /// Writes each frame once, the last one first.
 fn scatter_each(sinks: &mut [MemorySink], frames: &[Frame], dice: &mut Dice) -> Result<(), Fail> {
-    for frame in frames.iter().rev() {
-        put(sinks, frame, dice)?;
+    for number in 0..frames.len() {
+        put(sinks, &frames[frames.len() - 1 - number], dice)?;
     }
     Ok(())
 }

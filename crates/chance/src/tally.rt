@@ -1,29 +1,46 @@
 //! How often something happened in lists of events.
 
 use crate::acts::Act;
-use failover_world::{Released, WorldFault};
+use fenced_world::{FencedFault, Released};
 
-/// How often something happened in lists of events.
-#[derive(Clone, Copy, Default)]
+/// Lists that were applied.
+pub const LISTS: usize = 0;
+/// Steps that were taken.
+pub const STEPS: usize = 1;
+/// Those of a term below one that was granted.
+pub const LATE_STEPS: usize = 2;
+/// Frames that came to keepers.
+pub const DELIVERIES: usize = 3;
+/// Positions that were acknowledged.
+pub const ACKNOWLEDGED: usize = 4;
+/// Those of a term below one that was granted.
+pub const LATE_ACKNOWLEDGED: usize = 5;
+/// Keepers that came back.
+pub const RESTARTS: usize = 6;
+/// Primaries that went live.
+pub const GRANTS: usize = 7;
+/// Events that were refused by a fence, or since a primary still runs.
+pub const FENCED: usize = 8;
+/// All events that were refused.
+pub const REFUSED: usize = 9;
+/// Releases of which something went out.
+pub const RELEASES: usize = 10;
+/// Those of a term below one that was granted.
+pub const LATE_RELEASES: usize = 11;
+/// Outputs that went out.
+pub const RELEASED: usize = 12;
+/// Those that had gone out in an older term.
+pub const AGAIN: usize = 13;
+/// Lists in which outputs went out in more than one term.
+pub const SPREAD: usize = 14;
+
+/// Of how many kinds there is a number.
+const KINDS: usize = 15;
+
+/// How often something happened, of each kind.
+#[derive(Clone, Copy)]
 pub struct Tally {
-    /// Lists that were applied.
-    pub lists: u64,
-    /// Steps that were taken.
-    pub steps: u64,
-    /// Frames that came to keepers.
-    pub deliveries: u64,
-    /// Positions that were acknowledged.
-    pub acknowledged: u64,
-    /// Primaries that went live.
-    pub grants: u64,
-    /// Events that were refused.
-    pub refused: u64,
-    /// Outputs that went out.
-    pub released: u64,
-    /// Of these, how many had gone out in an older term.
-    pub again: u64,
-    /// Lists in which outputs went out in more than one term.
-    pub spread: u64,
+    many: [u64; KINDS],
 }
 
 /// Whether the output went out in an older term.
@@ -36,62 +53,78 @@ fn went_out_before(released: &[Released], one: &Released) -> bool {
     false
 }
 
-/// How many of these outputs went out in an older term.
-fn again_in(released: &[Released]) -> u64 {
-    let mut again = 0u64;
-    for one in released {
-        if went_out_before(released, one) {
-            again = again.saturating_add(1);
-        }
-    }
-    again
-}
-
-/// Whether outputs went out in more than one term.
-fn is_spread(released: &[Released]) -> bool {
-    match (released.first(), released.last()) {
-        (Some(first), Some(last)) => first.term != last.term,
-        _ => false,
+/// Of which kinds it is what came of an act, which may be late and may have let something out.
+fn kinds_of(
+    act: Act,
+    answer: Result<(), FencedFault>,
+    released: bool,
+) -> (Option<usize>, Option<usize>) {
+    match (act, answer) {
+        (_, Err(FencedFault::Fenced)) => (Some(FENCED), None),
+        (_, Err(_)) => (None, None),
+        (Act::Step(..), Ok(())) => (Some(STEPS), Some(LATE_STEPS)),
+        (Act::Deliver(..), Ok(())) => (Some(DELIVERIES), None),
+        (Act::Ack(_), Ok(())) => (Some(ACKNOWLEDGED), Some(LATE_ACKNOWLEDGED)),
+        (Act::Restart(_), Ok(())) => (Some(RESTARTS), None),
+        (Act::Grant(..), Ok(())) => (Some(GRANTS), None),
+        (Act::Release(_), Ok(())) if released => (Some(RELEASES), Some(LATE_RELEASES)),
+        _ => (None, None),
     }
 }
 
 impl Tally {
-    /// Counts what came of an act.
-    pub fn count(&mut self, act: Act, answer: Result<(), WorldFault>) {
-        let counter = match (act, answer) {
-            (_, Err(_)) => &mut self.refused,
-            (Act::Step(_), Ok(())) => &mut self.steps,
-            (Act::Deliver(..), Ok(())) => &mut self.deliveries,
-            (Act::Ack(_), Ok(())) => &mut self.acknowledged,
-            (Act::Grant(..), Ok(())) => &mut self.grants,
-            _ => return,
-        };
-        *counter = counter.saturating_add(1);
+    /// Nothing happened.
+    pub fn new() -> Tally {
+        Tally { many: [0; KINDS] }
+    }
+
+    /// So many more of the kind.
+    fn add(&mut self, kind: usize, more: u64) {
+        if let Some(many) = self.many.get_mut(kind) {
+            *many = many.saturating_add(more);
+        }
+    }
+
+    /// Counts what came of an act, which may be late and may have let something out.
+    pub fn count(&mut self, act: Act, answer: Result<(), FencedFault>, late: bool, released: bool) {
+        let (kind, late_kind) = kinds_of(act, answer, released);
+        if let Some(kind) = kind {
+            self.add(kind, 1);
+        }
+        if let (Some(kind), true) = (late_kind, late) {
+            self.add(kind, 1);
+        }
+        self.add(REFUSED, u64::from(answer.is_err()));
+    }
+
+    /// Counts outputs that went out in a list.
+    fn count_released(&mut self, released: &[Released]) {
+        for one in released {
+            self.add(RELEASED, 1);
+            self.add(AGAIN, u64::from(went_out_before(released, one)));
+        }
+        if let (Some(first), Some(last)) = (released.first(), released.last()) {
+            self.add(SPREAD, u64::from(first.term != last.term));
+        }
     }
 
     /// Adds a list in which that happened, and at whose end these outputs had gone out.
     pub fn add_list(&mut self, list: &Tally, released: &[Released]) {
-        self.lists = self.lists.saturating_add(1);
-        self.steps = self.steps.saturating_add(list.steps);
-        self.deliveries = self.deliveries.saturating_add(list.deliveries);
-        self.acknowledged = self.acknowledged.saturating_add(list.acknowledged);
-        self.grants = self.grants.saturating_add(list.grants);
-        self.refused = self.refused.saturating_add(list.refused);
-        self.released = self.released.saturating_add(released.len() as u64);
-        self.again = self.again.saturating_add(again_in(released));
-        self.spread = self.spread.saturating_add(u64::from(is_spread(released)));
+        for kind in 0..KINDS {
+            self.add(kind, list.many[kind]);
+        }
+        self.add(LISTS, 1);
+        self.count_released(released);
     }
 
-    /// Whether each number is at least this one's.
-    pub fn is_at_least(&self, least: &Tally) -> bool {
-        self.lists >= least.lists
-            && self.steps >= least.steps
-            && self.deliveries >= least.deliveries
-            && self.acknowledged >= least.acknowledged
-            && self.grants >= least.grants
-            && self.refused >= least.refused
-            && self.released >= least.released
-            && self.again >= least.again
-            && self.spread >= least.spread
+    /// Whether each of these numbers is reached.
+    pub fn reaches(&self, least: &[(usize, u64)]) -> bool {
+        for (kind, least) in least {
+            match self.many.get(*kind) {
+                Some(many) if many >= least => {}
+                _ => return false,
+            }
+        }
+        true
     }
 }

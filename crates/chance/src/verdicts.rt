@@ -7,20 +7,22 @@ use hart_replay::{Plan, ReplayFault, replay_plain};
 use log_audit::{AuditFault, audit};
 use std::alloc::Global;
 
-/// What both audits say of a plan.
-#[derive(Clone, Copy)]
-pub enum Verdict {
-    /// The one machine, and no pair.
-    Covered,
-    /// A pair that is found.
-    Uncovered,
-    /// The same, of a replay that is stuck.
-    StuckUncovered,
-    /// Why the replay is stuck, and no pair.
-    Stuck,
-    /// Not the same.
-    Unlike,
-}
+/// What both audits say of a plan: the place of its number among those of a tally.
+pub type Verdict = usize;
+
+/// The one machine, and no pair.
+pub const COVERED: Verdict = 0;
+/// A pair that is found.
+pub const UNCOVERED: Verdict = 1;
+/// The same, of a replay that is stuck.
+pub const STUCK_UNCOVERED: Verdict = 2;
+/// Why the replay is stuck, and no pair.
+pub const STUCK: Verdict = 3;
+/// Not the same.
+pub const UNLIKE: Verdict = 4;
+
+/// Of how many cases which verdict is.
+pub type Tally = [u32; 5];
 
 /// Whether the fault is one of the pairs.
 fn is_among(fault: AuditFault, pairs: &[Pair]) -> bool {
@@ -36,25 +38,23 @@ fn is_among(fault: AuditFault, pairs: &[Pair]) -> bool {
 fn verdict_no(fault: AuditFault, replay: Option<ReplayFault>, plain: &Outcome) -> Verdict {
     if is_among(fault, &plain.pairs) {
         return if plain.ended {
-            Verdict::Uncovered
+            UNCOVERED
         } else {
-            Verdict::StuckUncovered
+            STUCK_UNCOVERED
         };
     }
     match replay {
-        Some(stuck) if plain.pairs.is_empty() && fault == AuditFault::Replay(stuck) => {
-            Verdict::Stuck
-        }
-        _ => Verdict::Unlike,
+        Some(stuck) if plain.pairs.is_empty() && fault == AuditFault::Replay(stuck) => STUCK,
+        _ => UNLIKE,
     }
 }
 
 /// What both say where the audit comes to this machine.
 fn verdict_yes(machine: &Machine, plain: &Outcome) -> Verdict {
     if plain.pairs.is_empty() && plain.ended && machine.same(&plain.machine) {
-        Verdict::Covered
+        COVERED
     } else {
-        Verdict::Unlike
+        UNLIKE
     }
 }
 
@@ -92,28 +92,5 @@ pub fn verdict_of(alloc: Global, image: &Image, plan: &Plan) -> Result<Verdict, 
     match plan.legs() {
         [leg] => verdict_beside(alloc, image, plan, &outcome_of(alloc, image, leg)?),
         _ => Err(Memory),
-    }
-}
-
-/// How many cases have which verdict.
-#[derive(Clone, Copy, Default)]
-pub struct Tally {
-    pub covered: u32,
-    pub uncovered: u32,
-    pub stuck_uncovered: u32,
-    pub stuck: u32,
-    pub unlike: u32,
-}
-
-impl Tally {
-    pub fn add(&mut self, verdict: Verdict) {
-        let many = match verdict {
-            Verdict::Covered => &mut self.covered,
-            Verdict::Uncovered => &mut self.uncovered,
-            Verdict::StuckUncovered => &mut self.stuck_uncovered,
-            Verdict::Stuck => &mut self.stuck,
-            Verdict::Unlike => &mut self.unlike,
-        };
-        *many = many.saturating_add(1);
     }
 }

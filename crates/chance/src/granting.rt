@@ -1,6 +1,6 @@
 //! Grants in a plain world.
 
-use crate::keeper::Rule;
+use crate::keeper::Rules;
 use crate::plain::PlainWorld;
 use crate::plain_primary::PlainPrimary;
 use closed_cut::{Position, position};
@@ -21,8 +21,11 @@ fn term_of(frame: &Frame) -> Term {
 }
 
 impl PlainWorld {
-    /// Each of these keepers gives its store to the term.
+    /// Each of these keepers gives its store to the term, where they fence terms off.
     fn give_all(&mut self, term: Term, keepers: &[u64]) -> Result<(), Memory> {
+        if matches!(self.rules, Rules::Stopping) {
+            return Ok(());
+        }
         for keeper in keepers {
             self.give(*keeper, term)?;
         }
@@ -43,7 +46,7 @@ impl PlainWorld {
     /// Whether more keepers gave their stores than may lack an output that went out.
     fn are_enough(&self, keepers: &[u64]) -> bool {
         let most_lacking = usize::from(self.keepers.saturating_sub(self.need));
-        let enough = if matches!(self.without, Some(Rule::Quorum)) {
+        let enough = if matches!(self.rules, Rules::NoQuorum) {
             most_lacking
         } else {
             most_lacking.saturating_add(1)
@@ -52,7 +55,7 @@ impl PlainWorld {
     }
 
     /// What the keeper gives to the term.
-    fn given(&self, keeper: u64, term: Term) -> &[u64] {
+    pub fn given(&self, keeper: u64, term: Term) -> &[u64] {
         match self.keeper(keeper) {
             Ok(keeper) => keeper.given(term),
             Err(_) => &[],
@@ -60,23 +63,15 @@ impl PlainWorld {
     }
 
     /// Whether a frame of this term or a later one is in what the keeper gives to the term.
-    fn knows(&self, keeper: u64, term: Term) -> bool {
+    fn knows_later(&self, keeper: u64, term: Term) -> bool {
         for number in self.given(keeper, term) {
-            if let Some(frame) = self.sent().get(*number as usize) {
+            if let Some(frame) = self.sent.get(*number as usize) {
                 if term_of(frame) >= term {
                     return true;
                 }
             }
         }
         false
-    }
-
-    /// Whether the keeper gave its store to a later term than this one.
-    fn gave_later(&self, keeper: u64, term: Term) -> bool {
-        match self.keeper(keeper) {
-            Ok(keeper) => keeper.gave_later(term),
-            Err(_) => false,
-        }
     }
 
     /// Whether one of these keepers is not there.
@@ -92,25 +87,43 @@ impl PlainWorld {
     /// Whether one of them gave its store to a later term than this one.
     fn one_gave_later(&self, keepers: &[u64], term: Term) -> bool {
         for keeper in keepers {
-            if self.gave_later(*keeper, term) {
-                return true;
+            if let Ok(keeper) = self.keeper(*keeper) {
+                if keeper.gave_later(term) {
+                    return true;
+                }
             }
         }
         false
     }
 
     /// Whether a frame of this term or a later one is in what one of them gives to the term.
-    fn one_knows(&self, keepers: &[u64], term: Term) -> bool {
+    fn one_knows_later(&self, keepers: &[u64], term: Term) -> bool {
         for keeper in keepers {
-            if self.knows(*keeper, term) {
+            if self.knows_later(*keeper, term) {
                 return true;
             }
         }
         false
     }
 
-    /// Why the term is not granted to a primary that begins with what these keepers give, if it is not.
-    fn why_not(&self, term: Term, keepers: &[u64]) -> Option<FencedFault> {
+    /// Why the term is not granted to a primary that begins with what these keepers have, where primaries stop, if it is not.
+    fn why_not_after(&self, term: Term, keepers: &[u64]) -> Option<FencedFault> {
+        let last = self.greatest_term();
+        if self.lacks_one(keepers) {
+            Some(FencedFault::NoKeeper)
+        } else if self.machine(last).is_some() {
+            Some(FencedFault::Fenced)
+        } else if !self.are_enough(keepers) {
+            Some(FencedFault::Live(LiveFault::TooFewStores))
+        } else if term <= last {
+            Some(FencedFault::Live(LiveFault::TermNotNew))
+        } else {
+            None
+        }
+    }
+
+    /// Why it is not granted to one that begins with what they give, where nobody stops a primary, if it is not.
+    fn why_not_beside(&self, term: Term, keepers: &[u64]) -> Option<FencedFault> {
         if self.lacks_one(keepers) {
             Some(FencedFault::NoKeeper)
         } else if self.primary(term).is_some() {
@@ -119,7 +132,7 @@ impl PlainWorld {
             Some(FencedFault::Fenced)
         } else if !self.are_enough(keepers) {
             Some(FencedFault::Live(LiveFault::TooFewStores))
-        } else if self.one_knows(keepers, term) {
+        } else if self.one_knows_later(keepers, term) {
             Some(FencedFault::Live(LiveFault::TermNotNew))
         } else {
             None
@@ -148,22 +161,34 @@ impl PlainWorld {
         }
     }
 
-    /// A primary of the term goes live where what these keepers give leads to, and its opening is sent.
-    fn go_live(&mut self, alloc: Global, term: Term, keepers: &[u64]) -> Result<(), Memory> {
+    /// The primary of the term where what these keepers give leads to.
+    fn next_primary(
+        &self,
+        alloc: Global,
+        term: Term,
+        keepers: &[u64],
+    ) -> Result<PlainPrimary, Memory> {
         let position = self.position_given(alloc, term, keepers)?;
+        let marks = self.marks_at(&position, term, keepers);
         let guest = self.image.guest();
-        let opening = Opening::new(guest, term, position.term, position.counts).ok_or(Memory)?;
         let start = self.machine_at(alloc, &position)?;
-        let primary = PlainPrimary::begin(alloc, opening, start)?;
-        self.begin(primary)
+        match Opening::new(guest, term, position.term, position.counts) {
+            Some(opening) => PlainPrimary::begin(alloc, opening, start, marks),
+            None => Err(Memory),
+        }
     }
 
     /// A primary goes live in the term from what these keepers give.
     pub fn grant(&mut self, alloc: Global, term: Term, keepers: &[u64]) -> Result<(), FencedFault> {
-        if let Some(fault) = self.why_not(term, keepers) {
+        let fault = match self.rules {
+            Rules::Stopping => self.why_not_after(term, keepers),
+            _ => self.why_not_beside(term, keepers),
+        };
+        if let Some(fault) = fault {
             return Err(fault);
         }
         self.give_all(term, keepers)?;
-        Ok(self.go_live(alloc, term, keepers)?)
+        let primary = self.next_primary(alloc, term, keepers)?;
+        Ok(self.begin(primary)?)
     }
 }

@@ -3,7 +3,7 @@
 
 use crate::acts::Act;
 use crate::beside::{Beside, Outcome};
-use crate::keeper::Rule;
+use crate::keeper::Rules;
 use crate::plain::PlainWorld;
 use fenced_world::{FencedFault, Released};
 use fixtures::{SAYS_ITS_WORD, image_of};
@@ -12,9 +12,9 @@ use guest_image::Image;
 use std::alloc::Global;
 use std::test::Fail;
 
-/// A rule in words, and the rule; a list of events, of which the one at the place is against the rule, and what comes of that one where the
+/// A rule in words, and what is kept without it; a list of events, of which the one at the place is against the rule, and what comes of that one where the
 /// rule is kept. The guest says the word that it is offered with its third step. Of two keepers one has to hold what goes out.
-type Row = (&'static str, Rule, &'static [Act], usize, Outcome);
+type Row = (&'static str, Rules, &'static [Act], usize, Outcome);
 
 /// Both keepers gave term 2 nothing. Keeper 0 acknowledges in term 1 all the same.
 const BELOW_THE_FENCE: &[Act] = &[
@@ -167,42 +167,42 @@ const AT_ANOTHER_GATE: &[Act] = &[
 static ROWS: [Row; 6] = [
     (
         "a keeper acknowledges nothing of a term below its fence",
-        Rule::Fence,
+        Rules::NoFence,
         BELOW_THE_FENCE,
         9,
         Outcome::Fenced,
     ),
     (
         "a fence outlives a restart",
-        Rule::FenceLasts,
+        Rules::FenceEnds,
         BACK_WITHOUT_A_FENCE,
         10,
         Outcome::Fenced,
     ),
     (
         "a fence is raised before the store is read",
-        Rule::FenceFirst,
+        Rules::FenceBehind,
         READ_TOO_EARLY,
         9,
         Outcome::Fenced,
     ),
     (
         "a keeper acknowledges only what it has written down",
-        Rule::Saved,
+        Rules::Unsaved,
         NOT_WRITTEN_DOWN,
         7,
         Outcome::Fenced,
     ),
     (
         "one keeper more gives its store than may lack an output",
-        Rule::Quorum,
+        Rules::NoQuorum,
         FROM_ONE_TOO_FEW,
         10,
         Outcome::TooFewStores,
     ),
     (
         "a gate counts what was acknowledged in its own term",
-        Rule::OwnTerm,
+        Rules::AnyTerm,
         AT_ANOTHER_GATE,
         16,
         Outcome::NothingGoesOut,
@@ -251,9 +251,9 @@ fn does_all(alloc: Global, world: &mut PlainWorld, acts: &[Act]) -> Result<bool,
 
 /// Whether one without the rule does so, and lets out two words of one number then.
 fn breaks_without(alloc: Global, image: &Image, row: Row) -> Result<bool, Memory> {
-    let (_, rule, acts, ..) = row;
-    let mut world = PlainWorld::new(alloc, image, 2, 1, Some(rule))?;
-    Ok(does_all(alloc, &mut world, acts)? && are_two_words(world.released()))
+    let (_, rules, acts, ..) = row;
+    let mut world = PlainWorld::new(alloc, image, rules, 2, 1)?;
+    Ok(does_all(alloc, &mut world, acts)? && are_two_words(&world.released))
 }
 
 /// Whether this may come of the event of that number: each one before the place is done, of that at the place this is to come, and those
@@ -271,22 +271,24 @@ fn is_so(number: usize, outcome: Outcome, place: usize, instead: Outcome) -> boo
 /// Whether both worlds do the events before the one against the rule, of which this comes, and agree to the end.
 fn is_kept_in(alloc: Global, worlds: &mut Beside, row: Row) -> Result<bool, Memory> {
     let (_, _, acts, place, instead) = row;
-    for (number, act) in acts.iter().enumerate() {
+    let mut number = 0usize;
+    for act in acts {
         let outcome = worlds.answer(alloc, *act)?;
         if !is_so(number, outcome, place, instead) {
             return Ok(false);
         }
+        number = number.saturating_add(1);
     }
     Ok(true)
 }
 
 /// The same, and no two words of one number went out then.
 fn is_kept(alloc: Global, image: &Image, row: Row) -> Result<bool, Memory> {
-    let mut worlds = Beside::new(alloc, image, 2, 1)?;
+    let mut worlds = Beside::new(alloc, image, Rules::Fencing, 2, 1)?;
     Ok(
         is_kept_in(alloc, &mut worlds, row)?
             && worlds.have_same_machines()
-            && !are_two_words(worlds.released()),
+            && !are_two_words(&worlds.plain.released),
     )
 }
 

@@ -1,30 +1,34 @@
-//! A plain keeper, by whole lists, and the rules that a plain world may do without.
+//! A plain keeper, by whole lists, and what a plain world keeps to.
 
 use ft_types::{Memory, Term};
 use std::alloc::Global;
 
-/// A rule of fencing, which a plain world may do without.
+/// What a plain world keeps to.
 #[derive(Clone, Copy)]
-pub enum Rule {
-    /// A keeper acknowledges nothing of a term below its fence.
-    Fence,
-    /// A fence outlives a restart.
-    FenceLasts,
-    /// A fence is raised before the store is read.
-    FenceFirst,
-    /// A keeper acknowledges only what it has written down.
-    Saved,
-    /// One keeper more gives its store than may lack an output.
-    Quorum,
-    /// A gate counts what was acknowledged in its own term.
-    OwnTerm,
+pub enum Rules {
+    /// A primary has stopped before the next one goes live, and its log notes what went out. Keepers neither write down nor fence off.
+    Stopping,
+    /// Nobody stops a primary. Keepers write down what they took, and fence terms off. So it is in all that follow, but for one rule.
+    Fencing,
+    /// Not that a keeper acknowledges nothing of a term below its fence.
+    NoFence,
+    /// Not that a fence outlives a restart.
+    FenceEnds,
+    /// Not that a fence is raised before the store is read.
+    FenceBehind,
+    /// Not that a keeper acknowledges only what it has written down.
+    Unsaved,
+    /// Not that one keeper more gives its store than may lack an output.
+    NoQuorum,
+    /// Not that a gate counts what was acknowledged in its own term.
+    AnyTerm,
 }
 
 /// What a keeper took, and what of it is written down: the numbers of frames, in the order in which they came. And all terms to which
 /// it gave its store.
 #[derive(Drop)]
 pub struct PlainKeeper {
-    taken: Vec<u64>,
+    pub taken: Vec<u64>,
     written: Vec<u64>,
     gave: Vec<Term>,
     /// What was read for a term, where the fence is not raised first.
@@ -46,11 +50,6 @@ impl PlainKeeper {
         })
     }
 
-    /// What it took.
-    pub fn taken(&self) -> &[u64] {
-        self.taken.as_slice()
-    }
-
     /// It takes frames of these numbers.
     pub fn take(&mut self, frames: &[u64]) -> Result<(), Memory> {
         Ok(self.taken.extend_from_slice(frames)?)
@@ -68,9 +67,9 @@ impl PlainKeeper {
     }
 
     /// It comes back with what it wrote down.
-    pub fn restart(&mut self, alloc: Global, without: Option<Rule>) -> Result<(), Memory> {
+    pub fn restart(&mut self, alloc: Global, rules: Rules) -> Result<(), Memory> {
         self.taken = self.written.to_vec(alloc)?;
-        if matches!(without, Some(Rule::FenceLasts)) {
+        if matches!(rules, Rules::FenceEnds) {
             self.gave.clear();
         }
         Ok(())
@@ -78,7 +77,7 @@ impl PlainKeeper {
 
     /// Whether it gave its store to a later term than this one.
     pub fn gave_later(&self, term: Term) -> bool {
-        for given in self.gave.iter() {
+        for given in &self.gave {
             if *given > term {
                 return true;
             }
@@ -91,10 +90,14 @@ impl PlainKeeper {
         Ok(self.gave.push(term)?)
     }
 
-    /// Its store is read for the term, and is to be given to it later.
-    pub fn read_for(&mut self, alloc: Global, term: Term) -> Result<(), Memory> {
-        self.read = Some((term, self.taken.to_vec(alloc)?));
-        Ok(())
+    /// Its fence is raised to the term: its store is given to it. Where fences come behind, it is read only, and given later.
+    pub fn fence(&mut self, alloc: Global, term: Term, rules: Rules) -> Result<(), Memory> {
+        if matches!(rules, Rules::FenceBehind) {
+            self.read = Some((term, self.taken.to_vec(alloc)?));
+            Ok(())
+        } else {
+            self.give(term)
+        }
     }
 
     /// What the term begins with.
@@ -106,16 +109,10 @@ impl PlainKeeper {
     }
 
     /// What it acknowledges.
-    pub fn acknowledged(&self, without: Option<Rule>) -> &[u64] {
-        if matches!(without, Some(Rule::Saved)) {
-            self.taken.as_slice()
-        } else {
-            self.written.as_slice()
+    pub fn acknowledged(&self, rules: Rules) -> &[u64] {
+        match rules {
+            Rules::Stopping | Rules::Unsaved => self.taken.as_slice(),
+            _ => self.written.as_slice(),
         }
-    }
-
-    /// Whether it may acknowledge a position of the term.
-    pub fn may_acknowledge(&self, term: Term, without: Option<Rule>) -> bool {
-        matches!(without, Some(Rule::Fence)) || !self.gave_later(term)
     }
 }

@@ -2,6 +2,7 @@
 
 use crate::acts::Act;
 use crate::beside::{Beside, Outcome};
+use crate::keeper::Rules;
 use fenced_world::Released;
 use fixtures::image_of;
 use ft_types::Memory;
@@ -68,32 +69,40 @@ const OUT: [(u32, u64, u64, u32); 3] = [(1, 0, 2, 7), (2, 0, 2, 7), (2, 1, 5, 9)
 
 /// The number of the first event of which something else comes, or how many there are.
 fn done(alloc: Global, worlds: &mut Beside) -> Result<usize, Memory> {
-    for (number, (act, outcome)) in EVENTS.iter().enumerate() {
+    let mut number = 0usize;
+    for (act, outcome) in &EVENTS {
         if worlds.answer(alloc, *act)? != *outcome {
             return Ok(number);
         }
+        number = number.saturating_add(1);
     }
-    Ok(EVENTS.len())
+    Ok(number)
 }
 
 /// Whether this went out.
 fn is_out(released: &[Released]) -> bool {
-    for (one, (term, number, step, word)) in released.iter().zip(&OUT) {
+    let mut place = 0usize;
+    for one in released {
+        let Some((term, number, step, word)) = OUT.get(place) else {
+            return false;
+        };
         let output = &one.output;
-        if (one.term, output.number, output.step, output.word) != (*term, *number, *step, *word) {
+        let of_primary = one.term == *term && output.number == *number;
+        if !of_primary || output.step != *step || output.word != *word {
             return false;
         }
+        place = place.saturating_add(1);
     }
-    released.len() == OUT.len()
+    place == OUT.len()
 }
 
 /// How many events went as they should, and whether both worlds let out what they should.
 fn told(alloc: Global, image: &Image) -> Result<(usize, bool), Memory> {
-    let mut worlds = Beside::new(alloc, image, 3, 2)?;
+    let mut worlds = Beside::new(alloc, image, Rules::Fencing, 3, 2)?;
     let done = done(alloc, &mut worlds)?;
     Ok((
         done,
-        worlds.have_same_machines() && is_out(worlds.released()),
+        worlds.have_same_machines() && is_out(&worlds.plain.released),
     ))
 }
 
