@@ -2,8 +2,6 @@
 #![tactic(auto)]
 
 mod talk;
-#[cfg(test)]
-mod tests;
 mod words;
 
 pub use requests::Heard;

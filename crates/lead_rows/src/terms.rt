@@ -2,21 +2,21 @@
 
 use fenced_keeper::Given;
 use fragment_codec::{Frame, write_frame};
-use ft_types::{Guest, Hart, Keeper, MemorySink, Quorum, Term};
+use ft_types::{Count, Guest, Hart, Keeper, Memory, MemorySink, Output, Quorum, Term, read_number};
 use guest_image::{Image, read_image};
 use leading::{HandedLog, Leader, read_handed_log};
 use std::alloc::Global;
-use std::test::Fail;
 use wire::{Acknowledgement, Handed, Request, handed_line};
 
 /// It goes round until INSEQ has changed, clears the word's interrupt, reads the word, and puts it out.
 const SAYS_ALL: &[u8] =
     b"harts 1\npages 1\nf00000b7\n00000293\n00001337\n00135313\n0040a103\nfe510ee3\n0060a623\n0000a183\n00010293\n0030a423\nfe9ff06f\n";
 
-fn image_of(alloc: Global) -> Result<Image, Fail> {
+/// The image: there is none where memory is refused alone.
+fn image_of(alloc: Global) -> Result<Image, Memory> {
     match read_image(alloc, SAYS_ALL) {
         Ok(image) => Ok(image),
-        Err(_) => Err("image".into()),
+        Err(_) => Err(Memory),
     }
 }
 
@@ -27,194 +27,272 @@ fn handed(
     keeper: u8,
     term: Term,
     frames: &[u8],
-) -> Result<Vec<u8>, Fail> {
-    let line = handed_line(
-        guest,
-        &Handed {
-            term,
-            keeper: Keeper::new(keeper % 5),
-            length: frames.len() as u64,
-        },
-    );
-    let mut bytes = line.as_slice().to_vec(alloc)?;
+) -> Result<Vec<u8>, Memory> {
+    let handed = Handed {
+        term,
+        keeper: Keeper::new(keeper % 5),
+        length: frames.len() as u64,
+    };
+    let mut bytes = handed_line(guest, &handed).as_slice().to_vec(alloc)?;
     bytes.extend_from_slice(frames)?;
     Ok(bytes)
 }
 
-fn read(alloc: Global, guest: Guest, bytes: &[u8]) -> Result<HandedLog, Fail> {
+/// A log that was handed over: there is none where the bytes are another, too.
+fn read(alloc: Global, guest: Guest, bytes: &[u8]) -> Result<HandedLog, Memory> {
     match read_handed_log(alloc, guest, bytes) {
         Ok(log) => Ok(log),
-        Err(_) => Err("a log".into()),
+        Err(_) => Err(Memory),
     }
 }
 
 /// Adds the bytes of frames to a log.
-fn add(alloc: Global, log: &mut Vec<u8>, frames: &[Frame]) -> Result<(), Fail> {
+fn add(alloc: Global, log: &mut Vec<u8>, frames: &[Frame]) -> Result<(), Memory> {
     let mut sink = MemorySink::new(alloc, 1 << 20);
     for frame in frames {
         if write_frame(frame, &mut sink).is_err() {
-            return Err("memory".into());
+            return Err(Memory);
         }
     }
     log.extend_from_slice(sink.bytes())?;
     Ok(())
 }
 
-/// The primary that goes live in a term from the logs of two keepers, with its opening added to a log.
-fn live(alloc: Global, image: &Image, term: Term, log: &mut Vec<u8>) -> Result<Leader, Fail> {
+/// The primary that goes live in a term from the logs of two of three keepers, with its opening.
+fn go_live(
+    alloc: Global,
+    image: &Image,
+    first: &HandedLog,
+    second: &HandedLog,
+    term: Term,
+) -> Result<(Leader, Frame), Memory> {
+    let Some(quorum) = Quorum::new(3, 2) else {
+        return Err(Memory);
+    };
+    let given: [Given<'_>; 2] = [first.given(), second.given()];
+    match Leader::go_live(alloc, image, &given, quorum, term) {
+        Ok(live) => Ok(live),
+        Err(_) => Err(Memory),
+    }
+}
+
+/// The same from the log that two keepers have, with its opening added to it.
+fn live(alloc: Global, image: &Image, term: Term, log: &mut Vec<u8>) -> Result<Leader, Memory> {
     let guest = image.guest();
     let first = read(alloc, guest, &handed(alloc, &guest, 0, term, log)?)?;
     let second = read(alloc, guest, &handed(alloc, &guest, 2, term, log)?)?;
-    let quorum = Quorum::new(3, 2).ok_or("quorum")?;
-    let given: [Given<'_>; 2] = [first.given(), second.given()];
-    match Leader::go_live(alloc, image, &given, quorum, term) {
-        Ok((leader, opening)) => {
-            add(alloc, log, &[opening])?;
-            Ok(leader)
-        }
-        Err(_) => Err("going live".into()),
-    }
-}
-
-/// The primary that goes round so often, its frames added to the log.
-fn rounds(alloc: Global, leader: Leader, many: u32, log: &mut Vec<u8>) -> Result<Leader, Fail> {
-    let mut leader = leader;
-    for _ in 0..many {
-        let (next, frames) = leader.round(alloc, 240)?;
-        add(alloc, log, &frames)?;
-        leader = next;
-    }
+    let (leader, opening) = go_live(alloc, image, &first, &second, term)?;
+    add(alloc, log, &[opening])?;
     Ok(leader)
 }
 
-/// The number and the word of an output.
-type Said = (u64, u32);
+/// The primary a round later, its frames added to the log.
+fn round(alloc: Global, leader: Leader, log: &mut Vec<u8>) -> Result<Leader, Memory> {
+    let (next, frames) = leader.round(alloc, 240)?;
+    add(alloc, log, &frames)?;
+    Ok(next)
+}
 
-/// A keeper acknowledges all that the primary has, in a term: what goes out.
-fn acknowledge(
-    alloc: Global,
-    leader: &mut Leader,
-    keeper: u8,
-    term: Term,
-) -> Result<Vec<Said>, Fail> {
+/// The first word of a text, and what stands behind it.
+fn word(text: &str) -> (&str, &str) {
+    match text.split_once(' ') {
+        Some(parts) => parts,
+        None => (text, ""),
+    }
+}
+
+/// A number below a thousand.
+fn small(text: &str) -> u32 {
+    match read_number(text.as_bytes()) {
+        Some(number) => (number % 1000) as u32,
+        None => 999,
+    }
+}
+
+/// What is told behind an output, where it begins with its number and its word.
+fn behind<'a>(output: &Output, told: &'a str) -> Option<&'a str> {
+    let (number, rest) = word(told);
+    let (word, rest) = word(rest);
+    if output.number == u64::from(small(number)) && output.word == small(word) {
+        Some(rest)
+    } else {
+        None
+    }
+}
+
+fn many(leader: &Leader) -> usize {
+    leader.released().len()
+}
+
+/// Whether these outputs were let go behind the first ones.
+fn let_go(leader: &Leader, first: usize, told: &str) -> bool {
+    let mut rest = told;
+    for released in leader.released().get(first..).unwrap_or(&[]) {
+        match behind(&released.output, rest) {
+            Some(left) => rest = left,
+            None => return false,
+        }
+    }
+    rest.is_empty()
+}
+
+/// A keeper acknowledges all that the primary has, in a term.
+fn acknowledge(alloc: Global, leader: &mut Leader, keeper: u8, term: Term) -> Result<(), Memory> {
     let acknowledgement = Acknowledgement {
         term,
         keeper: Keeper::new(keeper % 5),
         counts: leader.counts(),
     };
-    let before = leader.released().len();
-    leader.acknowledge(alloc, &acknowledgement)?;
-    let mut all = Vec::new(alloc);
-    for released in leader.released().get(before..).unwrap_or(&[]) {
-        all.push((released.output.number, released.output.word))?;
-    }
-    Ok(all)
+    leader.acknowledge(alloc, &acknowledgement)
 }
 
-/// What a request is answered.
-fn hear(alloc: Global, leader: &mut Leader, request: &Request) -> Result<Vec<Said>, Fail> {
-    let mut all = Vec::new(alloc);
-    for answer in leader.hear(alloc, request)? {
-        all.push((answer.output.number, answer.output.word))?;
-    }
-    Ok(all)
+/// Whether these outputs go out by that.
+fn lets_go(
+    alloc: Global,
+    leader: &mut Leader,
+    keeper: u8,
+    term: Term,
+    told: &str,
+) -> Result<bool, Memory> {
+    let before = many(&*leader);
+    acknowledge(alloc, leader, keeper, term)?;
+    Ok(let_go(&*leader, before, told))
 }
 
-/// What happens to a primary.
-#[derive(Clone, Copy)]
-enum Deed {
-    /// A word comes for hart 0, by its number.
-    Word(u32, u64),
-    /// The outputs of hart 0 from this number on are asked for.
-    Again(u64),
-    /// A keeper acknowledges all that there is, in a term.
-    Held(u8, Term),
-    /// So many rounds.
-    Rounds(u32),
-}
-
-use Deed::{Again, Held, Rounds, Word};
-
-/// What the primary says to a deed that is no round.
-fn says(alloc: Global, leader: &mut Leader, deed: Deed) -> Result<Vec<Said>, Fail> {
-    let hart = Hart::new(0);
-    match deed {
-        Word(word, number) => {
-            let number = Some(number);
-            hear(alloc, leader, &Request::Word { hart, word, number })
+/// Whether a request is answered so.
+fn hears(
+    alloc: Global,
+    leader: &mut Leader,
+    request: &Request,
+    told: &str,
+) -> Result<bool, Memory> {
+    let mut rest = told;
+    for answer in leader.hear(alloc, request)?.as_slice() {
+        match behind(&answer.output, rest) {
+            Some(left) => rest = left,
+            None => return Ok(false),
         }
-        Again(number) => hear(alloc, leader, &Request::From { hart, number }),
-        Held(keeper, term) => acknowledge(alloc, leader, keeper, term),
-        Rounds(_) => Ok(Vec::new(alloc)),
+    }
+    Ok(rest.is_empty())
+}
+
+/// Whether a word for hart 0, by its number, is answered so.
+fn hears_word(
+    alloc: Global,
+    leader: &mut Leader,
+    word: u32,
+    number: Count,
+    told: &str,
+) -> Result<bool, Memory> {
+    let number = Some(number);
+    let hart = Hart::new(0);
+    hears(alloc, leader, &Request::Word { hart, word, number }, told)
+}
+
+/// Whether these outputs of hart 0 are told again where those from a number on are asked for.
+fn tells_again(
+    alloc: Global,
+    leader: &mut Leader,
+    number: Count,
+    told: &str,
+) -> Result<bool, Memory> {
+    let hart = Hart::new(0);
+    hears(alloc, leader, &Request::From { hart, number }, told)
+}
+
+fn only_waits(alloc: Global, leader: &mut Leader) -> Result<bool, Memory> {
+    leader.only_waits(alloc)
+}
+
+/// Whether a primary of this term keeps so many outputs.
+fn keeps(leader: &Leader, kept: u32, term: Term) -> bool {
+    leader.kept() as u64 == u64::from(kept) && leader.term() == term
+}
+
+/// Whether what happens to a primary has this said: `word WORD NUMBER` comes for hart 0; `again NUMBER` asks for its outputs from that on;
+/// `held KEEPER TERM` is a keeper's acknowledgement; `keeps MANY TERM` and `waits` look.
+fn does(alloc: Global, leader: &mut Leader, deed: &str, told: &str) -> Result<bool, Memory> {
+    let (call, behind) = word(deed);
+    let (first, second) = word(behind);
+    let (first, second) = (small(first), small(second));
+    match call {
+        "word" => hears_word(alloc, leader, first, u64::from(second), told),
+        "again" => tells_again(alloc, leader, u64::from(first), told),
+        "held" => lets_go(alloc, leader, (first % 5) as u8, second, told),
+        "keeps" => Ok(keeps(&*leader, first, second)),
+        _ => only_waits(alloc, leader),
     }
 }
 
-/// A deed, and what goes out or is told again.
-type Row = (Deed, &'static [Said]);
-
-/// The primary behind these rows, and the first that goes otherwise.
+/// The first row in which a primary says otherwise. In a row of a round alone it goes round, its frames added to the log.
 fn first_wrong(
     alloc: Global,
     leader: Leader,
     log: &mut Vec<u8>,
-    rows: &[Row],
-) -> Result<(Leader, Option<usize>), Fail> {
+    rows: &'static str,
+) -> Result<Option<&'static str>, Memory> {
     let mut leader = leader;
-    for (number, (deed, said)) in rows.iter().enumerate() {
-        if says(alloc, &mut leader, *deed)?.as_slice() != *said {
-            return Ok((leader, Some(number)));
-        }
-        if let Rounds(many) = *deed {
-            leader = rounds(alloc, leader, many, log)?;
+    for line in rows.lines() {
+        match line.split_once('|') {
+            None => leader = round(alloc, leader, log)?,
+            Some((deed, told)) => {
+                if !does(alloc, &mut leader, deed, told)? {
+                    return Ok(Some(line));
+                }
+            }
         }
     }
-    Ok((leader, None))
+    Ok(None)
 }
 
-/// Words that come twice or too early are given once and in order; two of three keepers let their outputs out, in the primary's term.
-static FIRST: [Row; 10] = [
-    (Word(70, 0), &[]),
-    (Word(70, 0), &[]),
-    (Word(72, 2), &[]),
-    (Word(71, 1), &[]),
-    (Word(72, 2), &[]),
-    (Rounds(3), &[]),
-    (Held(1, 1), &[]),
-    (Held(0, 2), &[]),
-    (Held(0, 1), &[(0, 70), (1, 71), (2, 72)]),
-    (Held(2, 1), &[]),
-];
-
-/// They are told again, and the next round's frames note that they went out.
-static NOTED: [Row; 2] = [(Again(1), &[(1, 71), (2, 72)]), (Rounds(1), &[])];
+/// Words that come twice or too early are given once and in order; two of three keepers let their outputs out, in the primary's term. They
+/// are told again, and the next round's frames note that they went out.
+static FIRST: &str = "\
+word 70 0|
+word 70 0|
+word 72 2|
+word 71 1|
+word 72 2|
+round
+round
+round
+held 1 1|
+held 0 2|
+held 0 1|0 70 1 71 2 72
+held 2 1|
+waits|
+again 1|1 71 2 72
+round
+";
 
 /// The next primary tells them too, and lets out only what is new.
-static SECOND: [Row; 8] = [
-    (Word(72, 2), &[]),
-    (Word(74, 4), &[]),
-    (Word(73, 3), &[]),
-    (Again(1), &[(1, 71), (2, 72)]),
-    (Rounds(2), &[]),
-    (Held(4, 2), &[]),
-    (Held(1, 2), &[]),
-    (Held(2, 2), &[(3, 73)]),
-];
+static SECOND: &str = "\
+word 72 2|
+word 74 4|
+word 73 3|
+again 1|1 71 2 72
+round
+round
+held 4 2|
+held 1 2|
+held 2 2|3 73
+keeps 3 2|
+";
 
-#[test]
-fn two_terms(rt: HostRuntime) -> Result<(), Fail> {
-    let alloc = rt.alloc();
+/// The first row that goes otherwise in one of two terms.
+fn wrong_in_two_terms(alloc: Global) -> Result<Option<&'static str>, Memory> {
     let image = image_of(alloc)?;
     let mut log = Vec::new(alloc);
-    let leader = live(alloc, &image, 1, &mut log)?;
-    let (mut leader, wrong) = first_wrong(alloc, leader, &mut log, &FIRST)?;
-    assert_eq!(rt; wrong, None);
-    assert!(rt; leader.only_waits(alloc)?);
-    let (_leader, wrong) = first_wrong(alloc, leader, &mut log, &NOTED)?;
-    assert_eq!(rt; wrong, None);
+    let first = live(alloc, &image, 1, &mut log)?;
+    if let Some(line) = first_wrong(alloc, first, &mut log, FIRST)? {
+        return Ok(Some(line));
+    }
+    let second = live(alloc, &image, 2, &mut log)?;
+    first_wrong(alloc, second, &mut log, SECOND)
+}
 
-    let leader = live(alloc, &image, 2, &mut log)?;
-    let (leader, wrong) = first_wrong(alloc, leader, &mut log, &SECOND)?;
-    assert_eq!(rt; wrong, None);
-    assert_eq!(rt; (leader.kept(), leader.term()), (3, 2));
+#[test]
+fn two_terms(rt: HostRuntime) -> Result<(), Memory> {
+    assert_eq!(rt; wrong_in_two_terms(rt.alloc())?, None);
     Ok(())
 }

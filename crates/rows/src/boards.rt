@@ -8,7 +8,6 @@ use ack_core::{AckFault, Board, GateSeat, KeeperSeat};
 use ft_types::{Counts, Hart, Keeper, Memory, Position, Term};
 use std::alloc::Global;
 use std::result::Result;
-use std::test::Fail;
 
 /// A board of term 1, two harts and two keepers, with the seats.
 pub type Desk = (Board, KeeperSeat, KeeperSeat, GateSeat);
@@ -123,14 +122,15 @@ fn tells_apart(board: &Board, seat: &mut KeeperSeat, gate: &mut GateSeat) -> [u6
     [published, right, first, see(board, gate, 1)]
 }
 
-/// What these calls answer, each on a board of its own.
-#[derive(Clone, Copy)]
+/// Calls, each on a board of its own.
+#[derive(Drop)]
 enum Calls {
     Sees,
     Refuses,
     TellsApart,
 }
 
+/// What these calls answer.
 fn made(alloc: Global, calls: Calls) -> Result<[u64; 4], Memory> {
     let (board, mut first, mut second, mut gate) = desk(alloc)?;
     Ok(match calls {
@@ -140,18 +140,21 @@ fn made(alloc: Global, calls: Calls) -> Result<[u64; 4], Memory> {
     })
 }
 
+/// Whether all answer as they do.
+fn all_answer(alloc: Global) -> Result<bool, Memory> {
+    Ok(
+        made(alloc, Calls::Sees)? == [0, 0, 7, 5]
+            && made(alloc, Calls::Refuses)? == [0, 1, 2, 5]
+            && made(alloc, Calls::TellsApart)? == [0, 0, 0, 5],
+    )
+}
+
 #[test]
-fn a_board_shows_what_was_published(rt: HostRuntime) -> Result<(), Fail> {
-    for (calls, answers) in [
-        (Calls::Sees, [0, 0, 7, 5]),
-        (Calls::Refuses, [0, 1, 2, 5]),
-        (Calls::TellsApart, [0, 0, 0, 5]),
-    ] {
-        let told = match made(rt.alloc(), calls) {
-            Ok(told) => told,
-            Err(Memory) => made(rt.alloc(), calls)?,
-        };
-        assert_eq!(rt; told, answers);
-    }
+fn a_board_shows_what_was_published(rt: HostRuntime) -> Result<(), Memory> {
+    let right = match all_answer(rt.alloc()) {
+        Err(Memory) => all_answer(rt.alloc())?,
+        Ok(right) => right,
+    };
+    assert!(rt; right);
     Ok(())
 }

@@ -1,43 +1,29 @@
 //! Desks at which inputs wait. What memory is refused once is asked for once more, of a desk that must be as it was.
 
-use crate::inputs::Given::{self, Bell, Timer, Word};
 use crate::inputs::{are, input};
-use ft_types::{Count, HART_LIMIT, Hart, Memory};
+use crate::tables::{all_right, hart, is_count, number, row, word};
+use ft_types::{Count, Hart, Memory};
 use input_log::{Desk, Input, WaitingBell};
-use std::test::Fail;
+use std::alloc::Global;
 
 /// Whether these bells are those of sources and their counts.
-fn are_bells(bells: &[WaitingBell], rung: &[(u8, Count)]) -> bool {
-    for (bell, (source, after)) in bells.iter().zip(rung) {
-        if bell.source.number() != *source || bell.after != *after {
+fn are_bells(bells: &[WaitingBell], rung: &str) -> bool {
+    let mut rest = rung;
+    for bell in bells {
+        let (source, behind) = word(rest);
+        let (after, behind) = word(behind);
+        if bell.source != hart(source) || bell.after != number(after) {
             return false;
         }
+        rest = behind;
     }
-    bells.len() == rung.len()
+    rest.is_empty()
 }
 
-/// A call of a desk for hart 2, with what it answers.
-#[derive(Clone, Copy)]
-enum Call {
-    /// Puts an input that is no bell.
-    Put(Count, Given),
-    /// Puts a bell of a hart, after so many of its steps.
-    Ring(u8, Count),
-    /// Takes back the bell that came last.
-    Back,
-    /// Takes what is given at a count.
-    Take(Count, &'static [Given]),
-    /// The least count at which something may be given.
-    Next(Option<Count>),
-    /// The bells that are given next.
-    Bells(&'static [(u8, Count)]),
-    /// From now on a copy is called.
-    Copy,
-}
-
-use Call::{Back, Bells, Copy, Next, Put, Ring, Take};
-
-fn put(desk: &mut Desk, not_before: Count, input: Input) -> Result<bool, Memory> {
+fn put(desk: &mut Desk, not_before: Count, input: Option<Input>) -> Result<bool, Memory> {
+    let Some(input) = input else {
+        return Ok(false);
+    };
     if input.is_bell() {
         return Ok(false);
     }
@@ -45,11 +31,7 @@ fn put(desk: &mut Desk, not_before: Count, input: Input) -> Result<bool, Memory>
     Ok(true)
 }
 
-fn ring(desk: &mut Desk, number: u8, source: u8, after: Count) -> Result<bool, Memory> {
-    let (hart, source) = (
-        Hart::new(number % HART_LIMIT),
-        Hart::new(source % HART_LIMIT),
-    );
+fn ring(desk: &mut Desk, hart: Hart, source: Hart, after: Count) -> Result<bool, Memory> {
     desk.put_bell(hart, source, after)?;
     Ok(true)
 }
@@ -59,19 +41,16 @@ fn take_back(desk: &mut Desk) -> bool {
     true
 }
 
-fn gives(desk: &mut Desk, count: Count, given: &[Given]) -> bool {
+fn gives(desk: &mut Desk, count: Count, given: &str) -> bool {
     are(desk.take(Hart::new(2), count).as_slice(), given)
 }
 
-fn next(desk: &Desk, number: u8) -> Option<Count> {
-    desk.next(Hart::new(number % HART_LIMIT))
+fn next(desk: &Desk) -> Option<Count> {
+    desk.next(Hart::new(2))
 }
 
-fn rings(desk: &Desk, number: u8, bells: &[(u8, Count)]) -> bool {
-    are_bells(
-        desk.bells_next(Hart::new(number % HART_LIMIT)).as_slice(),
-        bells,
-    )
+fn rings(desk: &Desk, hart: Hart, bells: &str) -> bool {
+    are_bells(desk.bells_next(hart).as_slice(), bells)
 }
 
 fn become_copy(desk: &mut Desk) -> Result<bool, Memory> {
@@ -79,119 +58,110 @@ fn become_copy(desk: &mut Desk) -> Result<bool, Memory> {
     Ok(true)
 }
 
-/// Whether one call answers as it is said.
-fn does(desk: &mut Desk, call: &Call) -> Result<bool, Memory> {
-    match *call {
-        Put(not_before, given) => put(desk, not_before, input(&given)),
-        Ring(source, after) => ring(desk, 2, source, after),
-        Back => Ok(take_back(desk)),
-        Take(count, given) => Ok(gives(desk, count, given)),
-        Next(count) => Ok(next(desk, 2) == count),
-        Bells(bells) => Ok(rings(desk, 2, bells)),
-        Copy => become_copy(desk),
+/// Whether one call of a desk for hart 2 answers so: `put COUNT INPUT`, `ring HART COUNT`, `back` for the bell that came last, `take COUNT`,
+/// `next`, `bells` for those that are given next, and `copy`, of which the next calls are.
+fn does(desk: &mut Desk, asked: &str, answer: &str) -> Result<bool, Memory> {
+    let (call, behind) = word(asked);
+    let (first, last) = word(behind);
+    match call {
+        "put" => put(desk, number(first), input(last)),
+        "ring" => ring(desk, Hart::new(2), hart(first), number(last)),
+        "back" => Ok(take_back(desk)),
+        "take" => Ok(gives(desk, number(first), answer)),
+        "next" => Ok(is_count(next(desk), answer)),
+        "bells" => Ok(rings(desk, Hart::new(2), answer)),
+        _ => become_copy(desk),
     }
 }
 
-/// The number of the first call that answers otherwise.
-fn first_wrong(desk: &mut Desk, calls: &[Call]) -> Result<Option<usize>, Memory> {
-    for (number, call) in calls.iter().enumerate() {
-        let before = next(desk, 2);
-        let right = match does(desk, call) {
+/// The first call that answers otherwise.
+fn first_wrong(desk: &mut Desk, calls: &'static str) -> Result<Option<&'static str>, Memory> {
+    for line in calls.lines() {
+        let (asked, answer) = row(line);
+        let before = next(desk);
+        let right = match does(desk, asked, answer) {
             Ok(right) => right,
-            Err(Memory) => next(desk, 2) == before && does(desk, call)?,
+            Err(Memory) => next(desk) == before && does(desk, asked, answer)?,
         };
         if !right {
-            return Ok(Some(number));
+            return Ok(Some(line));
         }
     }
     Ok(None)
 }
 
-/// One that waits holds those behind it; then nine timers, of which eight are given at once.
-static OTHERS: [Call; 24] = [
-    Put(1, Word(1)),
-    Put(9, Word(2)),
-    Put(0, Word(3)),
-    Take(5, &[Word(1)]),
-    Next(Some(9)),
-    Take(8, &[]),
-    Take(9, &[Word(2), Word(3)]),
-    Next(None),
-    Put(2, Timer),
-    Put(2, Timer),
-    Put(2, Timer),
-    Put(2, Timer),
-    Put(2, Timer),
-    Put(2, Timer),
-    Put(2, Timer),
-    Put(2, Timer),
-    Put(2, Timer),
-    Next(Some(2)),
-    Take(1, &[]),
-    Take(2, &[Timer; 8]),
-    Next(Some(2)),
-    Take(3, &[Timer]),
-    Next(None),
-    Take(4, &[]),
-];
+/// One that waits holds those behind it; then nine timers, of which eight are given at once. Then bells come before others, and are taken
+/// back from the end. Then ten bells and a timer.
+static CALLS: &str = "\
+put 1 w1|
+put 9 w2|
+put 0 w3|
+take 5|w1
+next|9
+take 8|
+take 9|w2 w3
+next|none
+put 2 t|
+put 2 t|
+put 2 t|
+put 2 t|
+put 2 t|
+put 2 t|
+put 2 t|
+put 2 t|
+put 2 t|
+next|2
+take 1|
+take 2|t t t t t t t t
+next|2
+take 3|t
+next|none
+take 4|
+put 4 w5|
+ring 1 6|
+ring 0 4|
+next|0
+bells|1 6 0 4
+back|
+bells|1 6
+back|
+next|4
+back|
+ring 1 6|
+ring 0 4|
+copy|
+bells|1 6 0 4
+take 4|b1 b0 w5
+bells|
+next|none
+put 0 t|
+ring 1 0|
+ring 1 1|
+ring 1 2|
+ring 1 3|
+ring 1 4|
+ring 1 5|
+ring 1 6|
+ring 1 7|
+ring 1 8|
+ring 1 9|
+bells|1 0 1 1 1 2 1 3 1 4 1 5 1 6 1 7
+take 0|b1 b1 b1 b1 b1 b1 b1 b1
+take 1|b1 b1 t
+next|none
+";
 
-/// Bells come before others, and are taken back from the end.
-static BELLS: [Call; 17] = [
-    Put(4, Word(5)),
-    Ring(1, 6),
-    Ring(0, 4),
-    Next(Some(0)),
-    Bells(&[(1, 6), (0, 4)]),
-    Back,
-    Bells(&[(1, 6)]),
-    Back,
-    Next(Some(4)),
-    Back,
-    Ring(1, 6),
-    Ring(0, 4),
-    Copy,
-    Bells(&[(1, 6), (0, 4)]),
-    Take(4, &[Bell(1), Bell(0), Word(5)]),
-    Bells(&[]),
-    Next(None),
-];
-
-/// Ten bells and a timer.
-static TEN: [Call; 15] = [
-    Put(0, Timer),
-    Ring(1, 0),
-    Ring(1, 1),
-    Ring(1, 2),
-    Ring(1, 3),
-    Ring(1, 4),
-    Ring(1, 5),
-    Ring(1, 6),
-    Ring(1, 7),
-    Ring(1, 8),
-    Ring(1, 9),
-    Bells(&[
-        (1, 0),
-        (1, 1),
-        (1, 2),
-        (1, 3),
-        (1, 4),
-        (1, 5),
-        (1, 6),
-        (1, 7),
-    ]),
-    Take(0, &[Bell(1); 8]),
-    Take(1, &[Bell(1), Bell(1), Timer]),
-    Next(None),
-];
+/// Whether each hart has its own bells.
+fn tells_harts_apart(alloc: Global) -> Result<bool, Memory> {
+    let mut desk = Desk::new(alloc);
+    ring(&mut desk, Hart::new(3), Hart::new(0), 5)?;
+    Ok(rings(&desk, Hart::new(3), "0 5") && rings(&desk, Hart::new(2), ""))
+}
 
 #[test]
-fn inputs_that_wait(rt: HostRuntime) -> Result<(), Fail> {
+fn inputs_that_wait(rt: HostRuntime) -> Result<(), Memory> {
     let mut desk = Desk::new(rt.alloc());
-    assert_eq!(rt; first_wrong(&mut desk, &OTHERS)?, None);
-    assert_eq!(rt; first_wrong(&mut desk, &BELLS)?, None);
-    assert_eq!(rt; first_wrong(&mut desk, &TEN)?, None);
-    // Each hart has its own.
-    assert!(rt; ring(&mut desk, 3, 0, 5).is_ok());
-    assert!(rt; rings(&desk, 3, &[(0, 5)]) && rings(&desk, 2, &[]));
+    all_right(&rt, first_wrong(&mut desk, CALLS)?);
+    assert!(rt; tells_harts_apart(rt.alloc())?);
     Ok(())
 }

@@ -1,117 +1,123 @@
 //! Logs of edges.
 
+use crate::tables::{all_right, hart, is_count, number, row, word};
 use edge_log::{Added, Edge, EdgeLog};
-use ft_types::{Count, Counts, HART_LIMIT, Hart, Memory};
+use ft_types::{Count, Counts, Hart, Memory};
 use std::alloc::Global;
 use std::process::Abort;
-use std::test::Fail;
 
-/// An edge by the hart's number, its count, the other's number and that one's count.
-pub type Told = (u8, Count, u8, Count);
-
-fn edge(told: &Told) -> Edge {
-    let (number, at, other, after) = *told;
-    Edge {
-        hart: Hart::new(number % HART_LIMIT),
-        at,
-        other: Hart::new(other % HART_LIMIT),
-        after,
-    }
+/// The edge that a text begins with, by the hart's number, its count, the other's number and that one's count, and what stands behind it.
+fn edge(text: &str) -> (Edge, &str) {
+    let (number_of_hart, behind) = word(text);
+    let (at, behind) = word(behind);
+    let (other, behind) = word(behind);
+    let (after, behind) = word(behind);
+    let edge = Edge {
+        hart: hart(number_of_hart),
+        at: number(at),
+        other: hart(other),
+        after: number(after),
+    };
+    (edge, behind)
 }
 
 /// Whether these edges are those told.
-pub fn are(edges: &[Edge], told: &[Told]) -> bool {
-    for (one, other) in edges.iter().zip(told) {
-        if *one != edge(other) {
+pub fn are(edges: &[Edge], told: &str) -> bool {
+    let mut rest = told;
+    for one in edges {
+        let (first, behind) = edge(rest);
+        if *one != first {
             return false;
         }
+        rest = behind;
     }
-    edges.len() == told.len()
+    rest.is_empty()
 }
 
 /// What comes of an edge: none where it may not be added.
-fn added(log: &mut EdgeLog, edge: Edge) -> Result<Option<Added>, Memory> {
-    if log.may_add(&edge) {
-        Ok(Some(log.add(edge)?))
-    } else {
-        Ok(None)
+fn added(log: &mut EdgeLog, edge: Edge) -> Result<&'static str, Memory> {
+    if !log.may_add(&edge) {
+        return Ok("none");
     }
+    Ok(match log.add(edge)? {
+        Added::New => "new",
+        Added::Implied => "implied",
+    })
 }
 
-/// The number of the first of these edges that is answered otherwise.
-fn first_wrong(log: &mut EdgeLog, rows: &[(Told, Option<Added>)]) -> Result<Option<usize>, Memory> {
-    for (number, (told, answer)) in rows.iter().enumerate() {
-        if added(log, edge(told))? != *answer {
-            return Ok(Some(number));
+/// The first of these edges that is answered otherwise.
+fn first_wrong(log: &mut EdgeLog, rows: &'static str) -> Result<Option<&'static str>, Memory> {
+    for line in rows.lines() {
+        let (told, answer) = row(line);
+        if added(log, edge(told).0)? != answer {
+            return Ok(Some(line));
         }
     }
     Ok(None)
 }
 
-const NEW: Option<Added> = Some(Added::New);
-
-const IMPLIED: Option<Added> = Some(Added::Implied);
-
-fn has(log: &EdgeLog, told: &[Told]) -> bool {
-    are(log.of_hart(Hart::new(1)), told)
-}
-
-fn has_at(log: &EdgeLog, count: Count, told: &[Told]) -> bool {
+fn has_at(log: &EdgeLog, count: Count, told: &str) -> bool {
     are(log.at(Hart::new(1), count), told)
 }
 
-/// The number of harts, and the next count of an edge of hart 1.
-fn next(log: &EdgeLog, from: Count) -> (u8, Option<Count>) {
-    (log.start().harts(), log.next(Hart::new(1), from))
+/// Whether this is the next count of an edge of hart 1.
+fn is_next(log: &EdgeLog, from: Count, count: &str) -> bool {
+    is_count(log.next(Hart::new(1), from), count)
 }
 
 /// A log of nothing.
-fn started(alloc: Global, start: &[Count]) -> Result<EdgeLog, Fail> {
-    let start = Counts::from_slice(start).ok_or("counts")?;
-    Ok(EdgeLog::new(alloc, start))
+fn started(alloc: Global, start: &[Count]) -> Result<EdgeLog, Memory> {
+    match Counts::from_slice(start) {
+        Some(start) => Ok(EdgeLog::new(alloc, start)),
+        None => Err(Memory),
+    }
 }
 
-static LATER: [(Told, Option<Added>); 4] = [
-    ((1, 3, 0, 5), NEW),
-    ((1, 6, 0, 4), IMPLIED),
-    ((1, 6, 0, 7), NEW),
-    ((1, 6, 0, 9), NEW),
-];
-
-static OF_ONE_COUNT: [(Told, Option<Added>); 6] = [
-    ((1, 3, 3, 5), NEW),
-    ((1, 3, 0, 5), NEW),
-    ((1, 3, 2, 5), NEW),
-    ((1, 8, 2, 6), NEW),
-    ((1, 7, 0, 6), None),
-    ((1, 8, 4, 6), None),
-];
+static LATER: &str = "\
+1 3 0 5|new
+1 6 0 4|implied
+1 6 0 7|new
+1 6 0 9|new
+";
 
 /// Where the log starts at the counts 5 and 2.
-static STARTED: [(Told, Option<Added>); 3] = [
-    ((1, 2, 0, 5), IMPLIED),
-    ((1, 2, 0, 6), NEW),
-    ((1, 1, 0, 9), None),
-];
+static STARTED: &str = "\
+1 2 0 5|implied
+1 2 0 6|new
+1 1 0 9|none
+";
 
-#[test]
-fn edges_one_by_one(rt: HostRuntime) -> Result<(), Fail> {
-    let mut log = started(rt.alloc(), &[0; 2])?;
-    assert_eq!(rt; first_wrong(&mut log, &LATER)?, None);
-    assert!(rt; has_at(&log, 6, &[(1, 6, 0, 9)]));
-    let mut log = started(rt.alloc(), &[5, 2])?;
-    assert_eq!(rt; first_wrong(&mut log, &STARTED)?, None);
-    Ok(())
+static OF_ONE_COUNT: &str = "\
+1 3 3 5|new
+1 3 0 5|new
+1 3 2 5|new
+1 8 2 6|new
+1 7 0 6|none
+1 8 4 6|none
+";
+
+/// Whether a copy of a log of four harts has these edges of one count, and says which comes next.
+fn has_copy(log: &EdgeLog) -> Result<bool, Memory> {
+    let copy = log.copy()?;
+    Ok(
+        has_at(&copy, 3, "1 3 0 5 1 3 2 5 1 3 3 5")
+            && has_at(&copy, 8, "1 8 2 6")
+            && copy.start().harts() == 4
+            && is_next(&copy, 4, "8")
+            && is_next(&copy, 9, "none"),
+    )
 }
 
 #[test]
-fn edges_of_one_count(rt: HostRuntime) -> Result<(), Fail> {
+fn edges_one_by_one(rt: HostRuntime) -> Result<(), Memory> {
+    let mut log = started(rt.alloc(), &[0; 2])?;
+    all_right(&rt, first_wrong(&mut log, LATER)?);
+    assert!(rt; has_at(&log, 6, "1 6 0 9"));
+    let mut log = started(rt.alloc(), &[5, 2])?;
+    all_right(&rt, first_wrong(&mut log, STARTED)?);
     let mut log = started(rt.alloc(), &[0; 4])?;
-    assert_eq!(rt; first_wrong(&mut log, &OF_ONE_COUNT)?, None);
-    let copy = log.copy()?;
-    let three: [Told; 3] = [(1, 3, 0, 5), (1, 3, 2, 5), (1, 3, 3, 5)];
-    assert!(rt; has_at(&copy, 3, &three) && has_at(&copy, 8, &[(1, 8, 2, 6)]));
-    assert_eq!(rt; (next(&copy, 4), next(&copy, 9)), ((4, Some(8)), (4, None)));
+    all_right(&rt, first_wrong(&mut log, OF_ONE_COUNT)?);
+    assert!(rt; has_copy(&log)?);
     Ok(())
 }
 
@@ -127,66 +133,90 @@ fn add_all(rt: &impl Abort, log: &mut EdgeLog, hart: Hart, edges: &[Edge]) -> Re
     log.add_all(hart, edges)
 }
 
-static BEGUN: [(Told, Option<Added>); 2] = [((0, 5, 1, 3), NEW), ((1, 3, 2, 5), NEW)];
+static BEGUN: &str = "\
+0 5 1 3|new
+1 3 2 5|new
+";
 
-static MANY: [(Told, Option<Added>); 8] = [
-    ((1, 3, 3, 4), NEW),
-    ((1, 3, 2, 9), NEW),
-    ((1, 4, 0, 4), IMPLIED),
-    ((1, 6, 0, 7), NEW),
-    ((1, 6, 2, 8), IMPLIED),
-    ((1, 6, 0, 8), NEW),
-    ((1, 6, 3, 5), NEW),
-    ((1, 9, 0, 9), NEW),
-];
+static MANY: &str = "\
+1 3 3 4|new
+1 3 2 9|new
+1 4 0 4|implied
+1 6 0 7|new
+1 6 2 8|implied
+1 6 0 8|new
+1 6 3 5|new
+1 9 0 9|new
+";
 
-static LEFT: [Told; 5] = [
-    (1, 3, 2, 9),
-    (1, 3, 3, 4),
-    (1, 6, 0, 8),
-    (1, 6, 3, 5),
-    (1, 9, 0, 9),
-];
+/// The edges of a table.
+fn edges_of(alloc: Global, rows: &'static str) -> Result<Vec<Edge>, Memory> {
+    let mut edges = Vec::new(alloc);
+    for line in rows.lines() {
+        edges.push(edge(row(line).0).0)?;
+    }
+    Ok(edges)
+}
+
+/// Whether two logs have these edges of hart 1.
+fn have(log: &EdgeLog, other: &EdgeLog, told: &str) -> bool {
+    are(log.of_hart(Hart::new(1)), told) && log.same(other)
+}
 
 /// Edges that are added at once leave what they leave one by one.
 #[test]
-fn edges_at_once(rt: HostRuntime) -> Result<(), Fail> {
+fn edges_at_once(rt: HostRuntime) -> Result<(), Memory> {
     let mut one_by_one = started(rt.alloc(), &[4, 2, 0, 0])?;
-    assert_eq!(rt; first_wrong(&mut one_by_one, &BEGUN)?, None);
+    all_right(&rt, first_wrong(&mut one_by_one, BEGUN)?);
     let mut at_once = one_by_one.copy()?;
-    assert_eq!(rt; first_wrong(&mut one_by_one, &MANY)?, None);
-    let edges = MANY.map(|(told, _)| edge(&told));
-    add_all(&rt, &mut at_once, Hart::new(1), &edges)?;
+    all_right(&rt, first_wrong(&mut one_by_one, MANY)?);
+    let edges = edges_of(rt.alloc(), MANY)?;
+    add_all(&rt, &mut at_once, Hart::new(1), edges.as_slice())?;
     add_all(&rt, &mut at_once, Hart::new(7), &[])?;
-    assert!(rt; has(&at_once, &LEFT) && at_once.same(&one_by_one));
+    let left = "1 3 2 9 1 3 3 4 1 6 0 8 1 6 3 5 1 9 0 9";
+    assert!(rt; have(&at_once, &one_by_one, left));
     Ok(())
 }
 
 /// The edge of hart 1 that is this much behind a count.
 fn behind(from: Count, more: Count) -> Edge {
     let count = from.saturating_add(more);
-    edge(&(1, count, 0, count))
+    Edge {
+        hart: Hart::new(1),
+        at: count,
+        other: Hart::new(0),
+        after: count,
+    }
 }
 
 fn next_three(from: Count) -> [Edge; 3] {
     [behind(from, 1), behind(from, 2), behind(from, 3)]
 }
 
-fn many(log: &EdgeLog) -> usize {
-    log.of_hart(Hart::new(1)).len()
+/// Whether a log of two harts has so many edges of hart 1, none of them behind this count.
+fn ends(log: &EdgeLog, many: u64) -> bool {
+    log.of_hart(Hart::new(1)).len() as u64 == many
+        && log.start().harts() == 2
+        && is_next(log, many.saturating_add(1), "none")
 }
 
-/// Where memory is refused the log is as it was, and takes all edges when they are added again.
-#[test]
-fn refused_memory(rt: HostRuntime) -> Result<(), Fail> {
-    let mut log = started(rt.alloc(), &[0; 2])?;
-    for (from, before) in [(0u64, 0usize), (3, 3), (6, 6), (9, 9), (12, 12), (15, 15)] {
-        let edges = next_three(from);
-        if add_all(&rt, &mut log, Hart::new(1), &edges).is_err() {
-            assert_eq!(rt; (many(&log), next(&log, from + 1)), (before, (2, None)));
-            add_all(&rt, &mut log, Hart::new(1), &edges)?;
+/// Three more edges are added: where memory is refused the log is as it was, and takes all when they are added again.
+fn adds_three(rt: &impl Abort, log: &mut EdgeLog, from: Count) -> Result<bool, Memory> {
+    let edges = next_three(from);
+    if add_all(rt, log, Hart::new(1), &edges).is_err() {
+        if !ends(log, from) {
+            return Ok(false);
         }
-        assert_eq!(rt; many(&log), before + 3);
+        add_all(rt, log, Hart::new(1), &edges)?;
+    }
+    Ok(ends(log, from.saturating_add(3)))
+}
+
+#[test]
+fn refused_memory(rt: HostRuntime) -> Result<(), Memory> {
+    let mut log = started(rt.alloc(), &[0; 2])?;
+    for from in [0, 3, 6, 9, 12, 15] {
+        assert!(rt; adds_three(&rt, &mut log, from)?);
     }
     Ok(())
 }

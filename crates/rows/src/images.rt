@@ -1,9 +1,10 @@
 //! Images, and machines before their first step. The digest is sha256sum's.
 
-use ft_types::{Guest, PageNo};
+use crate::lines::with_line_feeds;
+use crate::tables::{all_right, number, row, word};
+use ft_types::{Guest, Memory, PageNo};
 use guest_image::{Image, ImageFault, Machine, read_image};
 use std::alloc::Global;
-use std::test::Fail;
 
 /// lui x1, f0000; addi x2, x0, 42; sw x2, 8(x1), which is put out; sw x0, 20(x1), which halts.
 static HALTS: &[u8] = b"harts 1\npages 1\nf00000b7\n02a00113\n0020a423\n0000aa23\n";
@@ -13,18 +14,18 @@ static DIGEST: [u8; 32] = [
     0xda, 0x8d, 0x8e, 0xe0, 0xbf, 0x8c, 0x5a, 0x7f, 0x05, 0x51, 0x14, 0x59, 0x92, 0x02, 0x54, 0x56,
 ];
 
-/// The image of a right file.
-fn image_of(alloc: Global, file: &[u8]) -> Result<Image, Fail> {
+/// The image of a right file: of another there is none, as where memory is refused.
+fn image_of(alloc: Global, file: &[u8]) -> Result<Image, Memory> {
     match read_image(alloc, file) {
         Ok(image) => Ok(image),
-        Err(_) => Err("image".into()),
+        Err(_) => Err(Memory),
     }
 }
 
 /// The machine of a file before its first step.
-pub fn booted(alloc: Global, file: &[u8]) -> Result<Machine, Fail> {
+pub fn booted(alloc: Global, file: &[u8]) -> Result<Machine, Memory> {
     let image = image_of(alloc, file)?;
-    Ok(Machine::boot(alloc, &image.copy()?)?)
+    Machine::boot(alloc, &image.copy()?)
 }
 
 fn digest(guest: &Guest) -> ([u8; 32], u8) {
@@ -35,68 +36,60 @@ fn told(image: &Image) -> ([u8; 32], u8, u16) {
     (image.digest(), image.harts(), image.pages())
 }
 
-#[test]
-fn an_image(rt: HostRuntime) -> Result<(), Fail> {
-    let image = image_of(rt.alloc(), HALTS)?;
-    assert_eq!(rt; told(&image), (DIGEST, 1, 1));
-    assert_eq!(rt; digest(&image.guest()), (DIGEST, 1));
+/// Whether the image has its digest, its hart, its page and its words.
+fn is_whole(alloc: Global) -> Result<bool, Memory> {
+    let image = image_of(alloc, HALTS)?;
     let words = [0xf00000b7, 0x02a00113, 0x0020a423, 0x0000aa23];
-    assert_eq!(rt; image.words(), words.as_slice());
-    Ok(())
+    Ok(
+        told(&image) == (DIGEST, 1, 1)
+            && digest(&image.guest()) == (DIGEST, 1)
+            && image.words() == words.as_slice(),
+    )
 }
 
-/// A file of so many pages and words, of which the first is a jump and the last line is given.
-fn long_file(alloc: Global, head: &[u8], words: u32, last: &[u8]) -> Result<Vec<u8>, Fail> {
-    let mut file = head.to_vec(alloc)?;
+/// A file by the number of its words, of which the first is a jump, its last word and its first lines, with semicolons for line feeds.
+fn long_file(alloc: Global, told: &str) -> Result<Vec<u8>, Memory> {
+    let (words, behind) = word(told);
+    let (last, head) = word(behind);
+    let mut file = with_line_feeds(alloc, head)?;
     file.extend_from_slice(b"0000006f\n")?;
-    for _word in 2..words {
+    for _word in 2..number(words) {
         file.extend_from_slice(b"00000000\n")?;
     }
-    file.extend_from_slice(last)?;
+    file.extend_from_slice(with_line_feeds(alloc, last)?.as_slice())?;
     Ok(file)
 }
 
-fn fault_of(alloc: Global, file: &[u8]) -> Option<ImageFault> {
-    read_image(alloc, file).err()
+/// Whether a file is an image, or has a word too many, or is at fault in this line.
+fn is_read(alloc: Global, file: &[u8], answer: &str) -> Result<bool, Memory> {
+    match read_image(alloc, file) {
+        Ok(_) => Ok(answer == "image"),
+        Err(ImageFault::TooLarge) => Ok(answer == "too large"),
+        Err(ImageFault::BadLine(line)) => Ok(number(answer) == line),
+        Err(ImageFault::NoHarts) => Ok(false),
+        Err(ImageFault::Memory) => Err(Memory),
+    }
 }
 
 /// The ends of files whose RAM is full, or too small.
-static ENDS: [(&[u8], u32, &[u8], Option<ImageFault>); 6] = [
-    (b"harts 1\npages 1\n", 1024, b"deadbeef\n", None),
-    (
-        b"harts 1\npages 1\n",
-        1025,
-        b"00000000\n",
-        Some(ImageFault::TooLarge),
-    ),
-    (
-        b"harts 1\npages 1\n",
-        1025,
-        b"0000000\n",
-        Some(ImageFault::BadLine(1027)),
-    ),
-    (
-        b"harts 1\npages 1\n",
-        1025,
-        b"00000000",
-        Some(ImageFault::BadLine(1027)),
-    ),
-    (b"harts 32\npages 256\n", 262_144, b"deadbeef\n", None),
-    (
-        b"harts 32\npages 256\n",
-        262_145,
-        b"deadbeef\n",
-        Some(ImageFault::TooLarge),
-    ),
-];
+static ENDS: &str = "\
+1024 deadbeef; harts 1;pages 1;|image
+1025 00000000; harts 1;pages 1;|too large
+1025 0000000; harts 1;pages 1;|1027
+1025 00000000 harts 1;pages 1;|1027
+262144 deadbeef; harts 32;pages 256;|image
+262145 deadbeef; harts 32;pages 256;|too large
+";
 
-#[test]
-fn a_word_past_the_last_page(rt: HostRuntime) -> Result<(), Fail> {
-    for (head, words, last, fault) in &ENDS {
-        let file = long_file(rt.alloc(), head, *words, last)?;
-        assert_eq!(rt; fault_of(rt.alloc(), &file), *fault, "{words}");
+/// The first file that is read otherwise.
+fn first_wrong(alloc: Global) -> Result<Option<&'static str>, Memory> {
+    for line in ENDS.lines() {
+        let (told, answer) = row(line);
+        if !is_read(alloc, long_file(alloc, told)?.as_slice(), answer)? {
+            return Ok(Some(line));
+        }
     }
-    Ok(())
+    Ok(None)
 }
 
 /// The first word of RAM and the last one, where it has 256 pages.
@@ -109,10 +102,15 @@ fn ends_of(machine: &Machine) -> Option<(u32, u32)> {
     Some((first, machine.page(last).read_word(4092)))
 }
 
+fn has_ends(alloc: Global) -> Result<bool, Memory> {
+    let file = long_file(alloc, "262144 deadbeef; harts 1;pages 256;")?;
+    Ok(ends_of(&booted(alloc, &file)?) == Some((0x0000_006f, 0xdead_beef)))
+}
+
 #[test]
-fn the_first_and_the_last_word_of_ram(rt: HostRuntime) -> Result<(), Fail> {
-    let file = long_file(rt.alloc(), b"harts 1\npages 256\n", 262_144, b"deadbeef\n")?;
-    let machine = booted(rt.alloc(), &file)?;
-    assert_eq!(rt; ends_of(&machine), Some((0x0000_006f, 0xdead_beef)));
+fn images(rt: HostRuntime) -> Result<(), Memory> {
+    assert!(rt; is_whole(rt.alloc())?);
+    all_right(&rt, first_wrong(rt.alloc())?);
+    assert!(rt; has_ends(rt.alloc())?);
     Ok(())
 }

@@ -1,63 +1,57 @@
 //! Logs of inputs. What memory is refused once is asked for once more, of a log that must be as it was.
 
-use ft_types::{Count, HART_LIMIT, Hart, INPUT_LIMIT, Memory};
+use crate::tables::{all_right, hart, is_count, number, row, word};
+use ft_types::{Count, Hart, INPUT_LIMIT, Memory};
 use input_log::{Input, InputLog};
-use std::test::Fail;
+use std::alloc::Global;
 
-/// An input, with the number of a bell's source.
-#[derive(Clone, Copy)]
-pub enum Given {
-    Word(u32),
-    Timer,
-    Bell(u8),
-}
-
-use Given::{Bell, Timer, Word};
-
-pub fn input(given: &Given) -> Input {
-    match *given {
-        Word(word) => Input::Word(word),
-        Timer => Input::Timer,
-        Bell(source) => Input::Bell(Hart::new(source % HART_LIMIT)),
+/// An input: `t` is the timer's, `w7` the word 7, `b1` hart 1's bell.
+pub fn input(text: &str) -> Option<Input> {
+    if let Some(word) = text.strip_prefix("w") {
+        return Some(Input::Word((number(word) % 1000) as u32));
+    }
+    if let Some(source) = text.strip_prefix("b") {
+        return Some(Input::Bell(hart(source)));
+    }
+    if text == "t" {
+        Some(Input::Timer)
+    } else {
+        None
     }
 }
 
 /// Whether these inputs are those given.
-pub fn are(inputs: &[Input], given: &[Given]) -> bool {
-    for (one, other) in inputs.iter().zip(given) {
-        if *one != input(other) {
+pub fn are(inputs: &[Input], given: &str) -> bool {
+    let mut rest = given;
+    for one in inputs {
+        let (first, behind) = word(rest);
+        if input(first) != Some(*one) {
             return false;
         }
+        rest = behind;
     }
-    inputs.len() == given.len()
+    rest.is_empty()
 }
 
-/// A call of a log for hart 1, with what it answers.
-#[derive(Clone, Copy)]
-enum Call {
-    /// Adds an input, which may be added.
-    Add(Count, Given),
-    /// Adds as many inputs as it may, at most `INPUT_LIMIT`.
-    AddAll(Count, &'static [Given]),
-    /// Whether an input may be added.
-    May(Count, bool),
-    /// What the hart is given at a count.
-    At(Count, &'static [Given]),
-    /// The next count at which it is given something.
-    Next(Count, Option<Count>),
-    /// Drops so many of the last inputs.
-    TakeBack(usize),
-    /// From now on a copy is called.
-    Copy,
+/// These inputs, at most as many as a hart is given at a count.
+fn inputs_of(alloc: Global, given: &str) -> Result<Vec<Input>, Memory> {
+    let mut inputs = Vec::new(alloc);
+    let mut rest = given;
+    for _ in 0..INPUT_LIMIT {
+        let (first, behind) = word(rest);
+        if let Some(input) = input(first) {
+            inputs.push(input)?;
+        }
+        rest = behind;
+    }
+    Ok(inputs)
 }
 
-use Call::{Add, AddAll, At, Copy, May, Next, TakeBack};
-
-fn may(log: &InputLog, count: Count) -> bool {
-    log.may_add(Hart::new(1), count)
-}
-
-fn add(log: &mut InputLog, count: Count, input: Input) -> Result<bool, Memory> {
+/// Adds an input, which may be added.
+fn add(log: &mut InputLog, count: Count, input: Option<Input>) -> Result<bool, Memory> {
+    let Some(input) = input else {
+        return Ok(false);
+    };
     let may = log.may_add(Hart::new(1), count);
     if may {
         log.add(Hart::new(1), count, input)?;
@@ -65,6 +59,7 @@ fn add(log: &mut InputLog, count: Count, input: Input) -> Result<bool, Memory> {
     Ok(may)
 }
 
+/// Adds as many inputs as it may.
 fn add_all(log: &mut InputLog, count: Count, inputs: &[Input]) -> Result<bool, Memory> {
     let room = INPUT_LIMIT - log.at(Hart::new(1), count).len();
     if !log.may_add(Hart::new(1), count) || inputs.len() > room {
@@ -74,18 +69,15 @@ fn add_all(log: &mut InputLog, count: Count, inputs: &[Input]) -> Result<bool, M
     Ok(true)
 }
 
-fn add_given(log: &mut InputLog, count: Count, given: &[Given]) -> Result<bool, Memory> {
-    let mut inputs = [Input::Timer; INPUT_LIMIT];
-    for (place, given) in inputs.iter_mut().zip(given) {
-        *place = input(given);
-    }
-    match inputs.get(..given.len()) {
-        Some(inputs) => add_all(log, count, inputs),
-        None => Ok(false),
+fn may(log: &InputLog, count: Count) -> &'static str {
+    if log.may_add(Hart::new(1), count) {
+        "yes"
+    } else {
+        "no"
     }
 }
 
-fn gives(log: &InputLog, count: Count, given: &[Given]) -> bool {
+fn gives(log: &InputLog, count: Count, given: &str) -> bool {
     are(log.at(Hart::new(1), count), given)
 }
 
@@ -93,8 +85,8 @@ fn next(log: &InputLog, from: Count) -> Option<Count> {
     log.next(Hart::new(1), from)
 }
 
-fn take_back(log: &mut InputLog, many: usize) -> bool {
-    log.take_back(Hart::new(1), many);
+fn take_back(log: &mut InputLog, many: u64) -> bool {
+    log.take_back(Hart::new(1), many as usize);
     true
 }
 
@@ -105,105 +97,95 @@ fn become_copy(log: &mut InputLog) -> Result<bool, Memory> {
     Ok(same)
 }
 
-/// Whether one call answers as it is said.
-fn does(log: &mut InputLog, call: &Call) -> Result<bool, Memory> {
-    match *call {
-        Add(count, given) => add(log, count, input(&given)),
-        AddAll(count, given) => add_given(log, count, given),
-        May(count, allowed) => Ok(may(log, count) == allowed),
-        At(count, given) => Ok(gives(log, count, given)),
-        Next(from, count) => Ok(next(log, from) == count),
-        TakeBack(many) => Ok(take_back(log, many)),
-        Copy => become_copy(log),
+/// Whether a log has hart 1's inputs at these counts and none of hart 0.
+fn has(log: &InputLog, counts: &str) -> bool {
+    let (at, inputs) = log.of_hart(Hart::new(1));
+    let mut rest = counts;
+    for count in at {
+        let (first, behind) = word(rest);
+        if *count != number(first) {
+            return false;
+        }
+        rest = behind;
+    }
+    let idle = log.may_add(Hart::new(0), 0) && log.at(Hart::new(0), 3).is_empty();
+    idle && rest.is_empty() && inputs.len() == at.len()
+}
+
+/// Whether one call of a log for hart 1 answers so: `add COUNT INPUT`, `all COUNT INPUT ..`, `may COUNT`, `at COUNT`, `next COUNT`, `back N`
+/// for the last N inputs, `has` for the counts of all, and `copy`, of which the next calls are.
+fn does(alloc: Global, log: &mut InputLog, asked: &str, answer: &str) -> Result<bool, Memory> {
+    let (call, behind) = word(asked);
+    let (first, last) = word(behind);
+    let count = number(first);
+    match call {
+        "add" => add(log, count, input(last)),
+        "all" => add_all(log, count, inputs_of(alloc, last)?.as_slice()),
+        "may" => Ok(may(log, count) == answer),
+        "at" => Ok(gives(log, count, answer)),
+        "next" => Ok(is_count(next(log, count), answer)),
+        "back" => Ok(take_back(log, count)),
+        "has" => Ok(has(log, answer)),
+        _ => become_copy(log),
     }
 }
 
-/// The number of the first call that answers otherwise.
-fn first_wrong(log: &mut InputLog, calls: &[Call]) -> Result<Option<usize>, Memory> {
-    for (number, call) in calls.iter().enumerate() {
-        let right = match does(log, call) {
+/// The first call of a new log that answers otherwise.
+fn first_wrong(alloc: Global, calls: &'static str) -> Result<Option<&'static str>, Memory> {
+    let mut log = InputLog::new(alloc);
+    for line in calls.lines() {
+        let (asked, answer) = row(line);
+        let right = match does(alloc, &mut log, asked, answer) {
             Ok(right) => right,
-            Err(Memory) => does(log, call)?,
+            Err(Memory) => does(alloc, &mut log, asked, answer)?,
         };
         if !right {
-            return Ok(Some(number));
+            return Ok(Some(line));
         }
     }
     Ok(None)
 }
 
-/// Whether a log has hart 1's inputs at these counts and none of hart 0, and how many it has.
-fn told(log: &InputLog, counts: &[Count]) -> (bool, usize) {
-    let (at, inputs) = log.of_hart(Hart::new(1));
-    let idle = log.may_add(Hart::new(0), 0) && log.at(Hart::new(0), 3).is_empty();
-    (idle && at == counts, inputs.len())
-}
-
 /// Inputs stand in their order, each at its count.
-static IN_ORDER: [Call; 10] = [
-    Add(3, Word(7)),
-    Add(3, Timer),
-    Add(3, Bell(0)),
-    Add(9, Word(8)),
-    Copy,
-    At(3, &[Word(7), Timer, Bell(0)]),
-    At(4, &[]),
-    Next(0, Some(3)),
-    Next(4, Some(9)),
-    Next(10, None),
-];
+static IN_ORDER: &str = "\
+add 3 w7|
+add 3 t|
+add 3 b0|
+add 9 w8|
+copy|
+at 3|w7 t b0
+at 4|
+next 0|3
+next 4|9
+next 10|none
+has|3 3 3 9
+";
 
 /// Many at a count, and back; then eight at a count.
-static MANY: [Call; 17] = [
-    Add(3, Timer),
-    AddAll(3, &[Word(7), Timer, Bell(0)]),
-    At(3, &[Timer, Word(7), Timer, Bell(0)]),
-    TakeBack(3),
-    At(3, &[Timer]),
-    AddAll(4, &[Word(7), Timer, Bell(0)]),
-    TakeBack(2),
-    At(4, &[Word(7)]),
-    TakeBack(9),
-    Next(0, None),
-    AddAll(
-        3,
-        &[
-            Word(0),
-            Word(1),
-            Word(2),
-            Word(3),
-            Word(4),
-            Word(5),
-            Word(6),
-        ],
-    ),
-    May(3, true),
-    Add(3, Word(7)),
-    At(
-        3,
-        &[
-            Word(0),
-            Word(1),
-            Word(2),
-            Word(3),
-            Word(4),
-            Word(5),
-            Word(6),
-            Word(7),
-        ],
-    ),
-    May(3, false),
-    May(2, false),
-    May(4, true),
-];
+static MANY: &str = "\
+add 3 t|
+all 3 w7 t b0|
+at 3|t w7 t b0
+back 3|
+at 3|t
+all 4 w7 t b0|
+back 2|
+at 4|w7
+back 9|
+next 0|none
+all 3 w0 w1 w2 w3 w4 w5 w6|
+may 3|yes
+add 3 w7|
+at 3|w0 w1 w2 w3 w4 w5 w6 w7
+may 3|no
+may 2|no
+may 4|yes
+has|3 3 3 3 3 3 3 3
+";
 
 #[test]
-fn inputs_of_a_hart(rt: HostRuntime) -> Result<(), Fail> {
-    let mut log = InputLog::new(rt.alloc());
-    assert_eq!(rt; first_wrong(&mut log, &IN_ORDER)?, None);
-    assert_eq!(rt; told(&log, &[3, 3, 3, 9]), (true, 4));
-    let mut log = InputLog::new(rt.alloc());
-    assert_eq!(rt; first_wrong(&mut log, &MANY)?, None);
-    assert_eq!(rt; told(&log, &[3; 8]), (true, 8));
+fn inputs_of_a_hart(rt: HostRuntime) -> Result<(), Memory> {
+    all_right(&rt, first_wrong(rt.alloc(), IN_ORDER)?);
+    all_right(&rt, first_wrong(rt.alloc(), MANY)?);
     Ok(())
 }

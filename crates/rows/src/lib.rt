@@ -34,3 +34,5 @@ mod races;
 mod rights;
 #[cfg(test)]
 mod schedules;
+#[cfg(test)]
+mod tables;

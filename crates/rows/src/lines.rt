@@ -1,9 +1,9 @@
 //! Lines that the processes of a pair send each other: which texts are read, and that what is read is written so. A seal is the first
 //! eight digits of what sha256sum says of the image's digest and the text.
 
-use ft_types::{COUNT_LIMIT, Counts, Guest, Keeper, Memory, Output};
+use crate::tables::{all_right, number, row};
+use ft_types::{COUNT_LIMIT, Counts, Guest, Hart, Keeper, Memory, Output};
 use std::alloc::Global;
-use std::test::Fail;
 use wire::{
     Acknowledgement, Answer, Handed, Line, LineFeed, Request, acknowledgement_line, again_line,
     answer_line, fence_entry, fence_line, handed_line, last_fence, read_acknowledgement,
@@ -17,13 +17,18 @@ const IMAGE: [u8; 32] = [
 ];
 
 /// A guest of that image's bytes with so many harts, 1 to 32.
-fn guest(harts: u8) -> Result<Guest, Fail> {
-    Ok(Guest::new(IMAGE, harts).ok_or("so many harts")?)
+fn guest(harts: u8) -> Option<Guest> {
+    Guest::new(IMAGE, harts)
+}
+
+/// The text of a line, without its line feed.
+pub fn text_of(line: &Line) -> &[u8] {
+    line.as_slice().strip_suffix(b"\n").unwrap_or(b"no line")
 }
 
 /// Whether the line is this text with a line feed.
-fn is_line(line: &Line, text: &[u8]) -> bool {
-    line.as_slice().strip_suffix(b"\n") == Some(text)
+pub fn is_line(line: &Line, text: &[u8]) -> bool {
+    text_of(line) == text
 }
 
 /// Whether what an acknowledgement says is written so again, where the text is one.
@@ -50,63 +55,108 @@ fn hands_over(guest: &Guest, text: &[u8]) -> Option<bool> {
     Some(is_line(&handed_line(guest, &handed), text))
 }
 
-/// The name of what a text says under a seal, and whether it is written so again.
-fn sealed(guest: &Guest, text: &[u8]) -> (&'static str, bool) {
-    if let Some(same) = acknowledges(guest, text) {
-        ("ack", same)
-    } else if let Some(same) = begins_anew(guest, text) {
-        ("again", same)
-    } else if let Some(same) = fences(guest, text) {
-        ("fence", same)
-    } else if let Some(same) = hands_over(guest, text) {
-        ("handed", same)
-    } else {
-        ("nothing", true)
-    }
+/// The same of a request to harts 0 and 1.
+fn asks(text: &[u8]) -> Option<bool> {
+    let request = read_request(2, text)?;
+    Some(is_line(&request_line(&request), text))
 }
 
-static SEALED: [(&str, &str); 29] = [
-    ("ack 1 0 0 0 94a4c146", "ack"),
-    ("ack 4294967295 4 281474976710655 7 09329406", "ack"),
-    ("again 4 e7f4ef4b", "again"),
-    ("fence 1 0b1e4405", "fence"),
-    ("fence 10 ab65f06a", "fence"),
-    ("handed 3 1 0 eec782f8", "handed"),
-    ("handed 2 4 281474976710655 b6ed3a3e", "handed"),
-    // The seal: without the digest, of another text, in upper case, behind two spaces, torn, not there.
-    ("ack 1 0 0 0 56fb682e", "nothing"),
-    ("ack 1 0 0 1 94a4c146", "nothing"),
-    ("ack 1 0 0 0 94A4C146", "nothing"),
-    ("ack 1 0 0 0  94a4c146", "nothing"),
-    ("ack 1 0 0 0 94a4c14", "nothing"),
-    ("ack 1 0 0 0", "nothing"),
-    ("94a4c146", "nothing"),
-    ("", "nothing"),
-    // Under a right seal: a number out of its bounds.
-    ("ack 0 0 0 0 507715d1", "nothing"),
-    ("ack 4294967296 0 0 0 8fa38dc6", "nothing"),
-    ("ack 1 5 0 0 aa03d616", "nothing"),
-    ("ack 1 0 281474976710656 0 3a78dacd", "nothing"),
-    ("fence 0 bfc526ff", "nothing"),
-    ("handed 1 0 281474976710656 daea29b2", "nothing"),
-    ("again 5 6b8bb7c9", "nothing"),
-    // A count too few or too many, a field that is empty, a leading zero.
-    ("ack 1 0 0 bc8ad4cc", "nothing"),
-    ("ack 1 0 0 0 0 c1d2512a", "nothing"),
-    ("ack 1 0 0 0  5878da4f", "nothing"),
-    ("ack  1 0 0 0 905eeebe", "nothing"),
-    ("ack 01 0 0 0 2356eb74", "nothing"),
-    ("fence 1  b4fc57e1", "nothing"),
-    ("again bf979c1e", "nothing"),
-];
+/// The same of an answer of one of them.
+fn answers(text: &[u8]) -> Option<bool> {
+    let answer = read_answer(2, text)?;
+    Some(is_line(&answer_line(&answer), text))
+}
 
-#[test]
-fn sealed_lines(rt: HostRuntime) -> Result<(), Fail> {
-    let guest = guest(2)?;
-    for (text, name) in &SEALED {
-        assert_eq!(rt; sealed(&guest, text.as_bytes()), (*name, true), "{text}");
+/// Whether a text is what it is called, alone, and is written so again.
+fn is_called(guest: &Guest, text: &[u8], name: &str) -> bool {
+    let said = [
+        acknowledges(guest, text),
+        begins_anew(guest, text),
+        fences(guest, text),
+        hands_over(guest, text),
+        asks(text),
+        answers(text),
+    ];
+    let wanted = match name {
+        "ack" => [Some(true), None, None, None, None, None],
+        "again" => [None, Some(true), None, None, None, None],
+        "fence" => [None, None, Some(true), None, None, None],
+        "handed" => [None, None, None, Some(true), None, None],
+        "request" => [None, None, None, None, Some(true), None],
+        "answer" => [None, None, None, None, None, Some(true)],
+        _ => [None; 6],
+    };
+    said == wanted
+}
+
+/// Under a seal, then requests, then answers. What is nothing has, in turn, a seal without the digest, of another text, in upper case,
+/// behind two spaces, torn, not there; under a right seal a number out of its bounds; a count too few or too many, a field that is empty,
+/// a leading zero.
+static CALLED: &str = "\
+ack 1 0 0 0 94a4c146|ack
+ack 4294967295 4 281474976710655 7 09329406|ack
+again 4 e7f4ef4b|again
+fence 1 0b1e4405|fence
+fence 10 ab65f06a|fence
+handed 3 1 0 eec782f8|handed
+handed 2 4 281474976710655 b6ed3a3e|handed
+ack 1 0 0 0 56fb682e|nothing
+ack 1 0 0 1 94a4c146|nothing
+ack 1 0 0 0 94A4C146|nothing
+ack 1 0 0 0  94a4c146|nothing
+ack 1 0 0 0 94a4c14|nothing
+ack 1 0 0 0|nothing
+94a4c146|nothing
+|nothing
+ack 0 0 0 0 507715d1|nothing
+ack 4294967296 0 0 0 8fa38dc6|nothing
+ack 1 5 0 0 aa03d616|nothing
+ack 1 0 281474976710656 0 3a78dacd|nothing
+fence 0 bfc526ff|nothing
+handed 1 0 281474976710656 daea29b2|nothing
+again 5 6b8bb7c9|nothing
+ack 1 0 0 bc8ad4cc|nothing
+ack 1 0 0 0 0 c1d2512a|nothing
+ack 1 0 0 0  5878da4f|nothing
+ack  1 0 0 0 905eeebe|nothing
+ack 01 0 0 0 2356eb74|nothing
+fence 1  b4fc57e1|nothing
+again bf979c1e|nothing
+0 timer|request
+1 word 0000002a|request
+1 word deadbeef 0|request
+0 from 281474976710655|request
+2 timer|nothing
+01 timer|nothing
+0 timer |nothing
+0 timer 1|nothing
+0  timer|nothing
+0 from|nothing
+0 from 281474976710656|nothing
+0 from 1 2|nothing
+0 word|nothing
+0 word 2a|nothing
+0 word 0000002a |nothing
+0 word 0000002a 1 2|nothing
+0 bell|nothing
+0|nothing
+term 1 hart 1 number 0 step 9 word 0000002a|answer
+term 0 hart 1 number 0 step 9 word 0000002a|nothing
+term 1 hart 2 number 0 step 9 word 0000002a|nothing
+term 1 hart 1 number 0 step 9 word 0000002a |nothing
+term 1 hart 1 step 9 number 0 word 0000002a|nothing
+term 1 hart 1 number 0 step 9 word|nothing
+";
+
+/// The first text that is something else.
+fn first_wrong(guest: &Guest, rows: &'static str) -> Option<&'static str> {
+    for line in rows.lines() {
+        let (text, name) = row(line);
+        if !is_called(guest, text.as_bytes(), name) {
+            return Some(line);
+        }
     }
-    Ok(())
+    None
 }
 
 /// The term, the keeper, and the counts of two harts.
@@ -131,25 +181,45 @@ fn handed(guest: &Guest, text: &[u8]) -> Option<(u32, u8, u64)> {
     Some((term, keeper.number(), length))
 }
 
-/// Whether a guest's acknowledgement is read for another number of harts.
-fn of_fewer(text: &[u8]) -> Result<bool, Fail> {
-    Ok(read_acknowledgement(&guest(1)?, text).is_some())
-}
-
-#[test]
-fn sealed_values(rt: HostRuntime) -> Result<(), Fail> {
-    let guest = guest(2)?;
+/// Whether the values of lines under a seal are read, and not for a guest of fewer harts.
+fn sealed_values(guest: &Guest, fewer: &Guest) -> bool {
     let text = b"ack 4294967295 4 281474976710655 7 09329406".as_slice();
     let counts = [281_474_976_710_655, 7];
-    assert_eq!(rt;
-        acknowledged(&guest, text),
-        Some((4_294_967_295, 4, counts))
-    );
-    assert!(rt; !of_fewer(text)?);
-    let text = b"handed 2 4 281474976710655 b6ed3a3e".as_slice();
-    assert_eq!(rt; handed(&guest, text), Some((2, 4, 281_474_976_710_655)));
-    assert_eq!(rt; read_fence(&guest, b"fence 10 ab65f06a"), Some(10));
-    Ok(())
+    let handed_text = b"handed 2 4 281474976710655 b6ed3a3e".as_slice();
+    acknowledged(guest, text) == Some((4_294_967_295, 4, counts))
+        && acknowledged(fewer, text).is_none()
+        && handed(guest, handed_text) == Some((2, 4, 281_474_976_710_655))
+        && read_fence(guest, b"fence 10 ab65f06a") == Some(10)
+}
+
+fn is_request(text: &[u8], request: Request) -> bool {
+    read_request(2, text) == Some(request)
+}
+
+fn is_word(text: &[u8], word: u32, number: Option<u64>) -> bool {
+    let hart = Hart::new(1);
+    is_request(text, Request::Word { hart, word, number })
+}
+
+fn is_answer(text: &[u8], term: u32, output: Output) -> bool {
+    read_answer(2, text) == Some(Answer { term, output })
+}
+
+/// Whether the values of requests and of an answer are read.
+fn values() -> bool {
+    let hart = Hart::new(0);
+    let number = 281_474_976_710_655;
+    let output = Output {
+        hart: Hart::new(1),
+        number: 0,
+        step: 9,
+        word: 42,
+    };
+    is_request(b"0 timer", Request::Timer(hart))
+        && is_word(b"1 word 0000002a", 42, None)
+        && is_word(b"1 word deadbeef 0", 0xdead_beef, Some(0))
+        && is_request(b"0 from 281474976710655", Request::From { hart, number })
+        && is_answer(b"term 1 hart 1 number 0 step 9 word 0000002a", 1, output)
 }
 
 /// The length of the longest line, an acknowledgement of 32 harts, where it is read again.
@@ -160,177 +230,131 @@ fn longest(guest: &Guest) -> Option<usize> {
         counts: Counts::from_slice(&[COUNT_LIMIT - 1; 32])?,
     };
     let line = acknowledgement_line(guest, &acknowledgement);
-    let text = line.as_slice().strip_suffix(b"\n")?;
-    if read_acknowledgement(guest, text)? == acknowledgement {
+    if read_acknowledgement(guest, text_of(&line))? == acknowledgement {
         Some(line.as_slice().len())
     } else {
         None
     }
 }
 
-#[test]
-fn longest_acknowledgement(rt: HostRuntime) -> Result<(), Fail> {
-    assert_eq!(rt; longest(&guest(32)?), Some(538));
-    Ok(())
+/// Whether the longest line has so many bytes, of a guest of this many harts.
+fn is_longest(harts: u8, length: usize) -> bool {
+    match guest(harts) {
+        Some(guest) => longest(&guest) == Some(length),
+        None => false,
+    }
 }
 
-/// Files of fences, and the last fence of each.
-static FENCES: [(&str, u32); 8] = [
-    ("", 0),
-    ("fence 2 5b2ab55a\n", 2),
-    ("\nfence 2 5b2ab55a\n\nfence 10 ab65f06a\n", 10),
-    ("\nfence 10 ab65f06a\n\nfence 2 5b2ab55a\n", 10),
-    ("\nfence 2 5b2ab55a\n\nfence 10 ab65f0", 2),
-    ("\nfence 2 5b2ab55a\n\nfence 10 ab65f06a", 10),
-    ("\nfence 2 5b2ab55a\n\nfence 10 8eddf10b\n", 2),
-    ("fence 2 5b2ab55afence 10 ab65f06a\n", 0),
-];
+/// Files of fences, each line feed a semicolon, and the last fence of each.
+static FENCES: &str = "\
+|0
+fence 2 5b2ab55a;|2
+;fence 2 5b2ab55a;;fence 10 ab65f06a;|10
+;fence 10 ab65f06a;;fence 2 5b2ab55a;|10
+;fence 2 5b2ab55a;;fence 10 ab65f0|2
+;fence 2 5b2ab55a;;fence 10 ab65f06a|10
+;fence 2 5b2ab55a;;fence 10 8eddf10b;|2
+fence 2 5b2ab55afence 10 ab65f06a;|0
+";
 
-/// The last fence of a file, and that behind another one is added to it.
-fn last_fences(alloc: Global, guest: &Guest, file: &[u8], term: u32) -> Result<(u32, u32), Memory> {
-    let before = last_fence(guest, file);
+/// The bytes of a text with line feeds for semicolons.
+pub fn with_line_feeds(alloc: Global, text: &str) -> Result<Vec<u8>, Memory> {
     let mut bytes = Vec::new(alloc);
-    bytes.extend_from_slice(file)?;
-    bytes.extend_from_slice(fence_entry(guest, term).as_slice())?;
-    Ok((before, last_fence(guest, bytes.as_slice())))
+    for byte in text.as_bytes() {
+        bytes.push(if *byte == b';' { b'\n' } else { *byte })?;
+    }
+    Ok(bytes)
+}
+
+/// Whether this is the last fence of a file, and one behind it is added to it where it is greater.
+fn is_last(guest: &Guest, file: &mut Vec<u8>, last: u64) -> Result<bool, Memory> {
+    let before = last_fence(guest, file);
+    file.extend_from_slice(fence_entry(guest, 7).as_slice())?;
+    let after = last_fence(guest, file);
+    Ok(u64::from(before) == last && u64::from(after) == last.max(7))
+}
+
+/// The first file with another last fence.
+fn first_unfenced(alloc: Global, guest: &Guest) -> Result<Option<&'static str>, Memory> {
+    for line in FENCES.lines() {
+        let (text, last) = row(line);
+        let mut file = with_line_feeds(alloc, text)?;
+        if !is_last(guest, &mut file, number(last))? {
+            return Ok(Some(line));
+        }
+    }
+    Ok(None)
 }
 
 #[test]
-fn files_of_fences(rt: HostRuntime) -> Result<(), Fail> {
-    let guest = guest(2)?;
-    for (file, last) in &FENCES {
-        let file = file.as_bytes();
-        let two = last_fences(rt.alloc(), &guest, file, 7)?;
-        assert_eq!(rt; two, (*last, (*last).max(7)));
+fn lines(rt: HostRuntime) -> Result<(), Memory> {
+    let (Some(guest), Some(fewer)) = (guest(2), guest(1)) else {
+        return Err(Memory);
+    };
+    all_right(&rt, first_wrong(&guest, CALLED));
+    all_right(&rt, first_unfenced(rt.alloc(), &guest)?);
+    assert!(rt; sealed_values(&guest, &fewer));
+    assert!(rt; values());
+    assert!(rt; is_longest(32, 538));
+    Ok(())
+}
+
+/// Adds the texts of the lines that a feed gives for a piece, each with a stroke behind it.
+fn push(
+    alloc: Global,
+    feed: &mut LineFeed,
+    piece: &[u8],
+    texts: &mut Vec<u8>,
+) -> Result<(), Memory> {
+    for line in feed.push(alloc, piece)?.as_slice() {
+        texts.extend_from_slice(line.as_slice())?;
+        texts.push(b'|')?;
     }
     Ok(())
 }
 
-/// What a request asks for, with its hart, its word and its number, and whether it is written so again.
-type Asked = (&'static str, u8, u32, Option<u64>, bool);
-
-fn asked(harts: u8, text: &[u8]) -> Option<Asked> {
-    let request = read_request(harts, text)?;
-    let same = is_line(&request_line(&request), text);
-    Some(match request {
-        Request::Timer(hart) => ("timer", hart.number(), 0, None, same),
-        Request::Word { hart, word, number } => ("word", hart.number(), word, number, same),
-        Request::From { hart, number } => ("from", hart.number(), 0, Some(number), same),
-    })
-}
-
-static REQUESTS: [(&str, Option<Asked>); 18] = [
-    ("0 timer", Some(("timer", 0, 0, None, true))),
-    ("1 word 0000002a", Some(("word", 1, 42, None, true))),
-    (
-        "1 word deadbeef 0",
-        Some(("word", 1, 0xdead_beef, Some(0), true)),
-    ),
-    (
-        "0 from 281474976710655",
-        Some(("from", 0, 0, Some(281_474_976_710_655), true)),
-    ),
-    ("2 timer", None),
-    ("01 timer", None),
-    ("0 timer ", None),
-    ("0 timer 1", None),
-    ("0  timer", None),
-    ("0 from", None),
-    ("0 from 281474976710656", None),
-    ("0 from 1 2", None),
-    ("0 word", None),
-    ("0 word 2a", None),
-    ("0 word 0000002a ", None),
-    ("0 word 0000002a 1 2", None),
-    ("0 bell", None),
-    ("0", None),
-];
-
-#[test]
-fn requests(rt: HostRuntime) {
-    for (text, want) in &REQUESTS {
-        assert_eq!(rt; asked(2, text.as_bytes()), *want, "{text}");
-    }
-}
-
-/// The term, the hart, the number, the step and the word of an answer, and whether it is written so again.
-type Answered = (u32, u8, u64, u64, u32, bool);
-
-fn answered(harts: u8, text: &[u8]) -> Option<Answered> {
-    let answer = read_answer(harts, text)?;
-    let same = is_line(&answer_line(&answer), text);
-    let Answer { term, output } = answer;
-    let Output {
-        hart,
-        number,
-        step,
-        word,
-    } = output;
-    Some((term, hart.number(), number, step, word, same))
-}
-
-static ANSWERS: [(&str, Option<Answered>); 6] = [
-    (
-        "term 1 hart 1 number 0 step 9 word 0000002a",
-        Some((1, 1, 0, 9, 42, true)),
-    ),
-    ("term 0 hart 1 number 0 step 9 word 0000002a", None),
-    ("term 1 hart 2 number 0 step 9 word 0000002a", None),
-    ("term 1 hart 1 number 0 step 9 word 0000002a ", None),
-    ("term 1 hart 1 step 9 number 0 word 0000002a", None),
-    ("term 1 hart 1 number 0 step 9 word", None),
-];
-
-#[test]
-fn answers(rt: HostRuntime) {
-    for (text, want) in &ANSWERS {
-        assert_eq!(rt; answered(2, text.as_bytes()), *want, "{text}");
-    }
-}
-
-/// The texts of the lines that a feed gives for these pieces, each with a stroke behind it.
-fn fed(alloc: Global, pieces: &[&[u8]]) -> Result<Vec<u8>, Memory> {
+/// Whether the lines of these pieces have these texts.
+fn are_fed(alloc: Global, pieces: &[&[u8]], wanted: &[u8]) -> Result<bool, Memory> {
     let mut feed = LineFeed::new();
     let mut texts = Vec::new(alloc);
     for piece in pieces {
-        for line in feed.push(alloc, piece)?.as_slice() {
-            texts.extend_from_slice(line.as_slice())?;
-            texts.push(b'|')?;
-        }
+        push(alloc, &mut feed, piece, &mut texts)?;
     }
-    Ok(texts)
+    Ok(texts.as_slice() == wanted)
 }
 
-/// The lengths of the lines that a feed gives for a line of so many bytes, with its line feed, and a line of two.
-fn beside_long(alloc: Global, length: usize) -> Result<[usize; 2], Memory> {
+/// A line of so many bytes and one of two, with this byte at their ends.
+fn long_line(alloc: Global, length: usize, end: u8) -> Result<Vec<u8>, Memory> {
     let mut bytes = Vec::new(alloc);
     for _ in 1..length {
         bytes.push(b'x')?;
     }
-    bytes.extend_from_slice(b"\ny\n")?;
-    let mut feed = LineFeed::new();
-    let lines = feed.push(alloc, bytes.as_slice())?;
-    let mut lengths = [0; 2];
-    for (place, line) in lengths.iter_mut().zip(lines.as_slice()) {
-        *place = line.as_slice().len();
-    }
-    Ok(lengths)
+    bytes.extend_from_slice(&[end, b'y', end])?;
+    Ok(bytes)
+}
+
+/// Whether such a line is passed over, and not the one behind it.
+fn is_too_long(alloc: Global, length: usize) -> Result<bool, Memory> {
+    let bytes = long_line(alloc, length, b'\n')?;
+    are_fed(alloc, &[bytes.as_slice()], b"y|")
+}
+
+/// Whether a line is given that is as long as one may be.
+fn is_given(alloc: Global) -> Result<bool, Memory> {
+    let bytes = long_line(alloc, 1024, b'\n')?;
+    let wanted = long_line(alloc, 1024, b'|')?;
+    are_fed(alloc, &[bytes.as_slice()], wanted.as_slice())
 }
 
 #[test]
-fn feeds(rt: HostRuntime) -> Result<(), Fail> {
+fn feeds(rt: HostRuntime) -> Result<(), Memory> {
     let alloc = rt.alloc();
-    let rows: [(&[&[u8]], &[u8]); 4] = [
-        (&[b"one\n\ntwo\nthr"], b"one||two|"),
-        (&[b"o", b"ne", b"\n", b"", b"\ntw", b"o\nthr"], b"one||two|"),
-        (&[b"\n"], b"|"),
-        (&[b"one"], b""),
-    ];
-    for (pieces, texts) in rows {
-        assert_eq!(rt; fed(alloc, pieces)?.as_slice(), texts);
-    }
-    assert_eq!(rt; beside_long(alloc, 1024)?, [1023, 1]);
-    assert_eq!(rt; beside_long(alloc, 1025)?, [1, 0]);
-    assert_eq!(rt; beside_long(alloc, 4000)?, [1, 0]);
+    let pieces: [&[u8]; 6] = [b"o", b"ne", b"\n", b"", b"\ntw", b"o\nthr"];
+    assert!(rt; are_fed(alloc, &[b"one\n\ntwo\nthr"], b"one||two|")?);
+    assert!(rt; are_fed(alloc, &pieces, b"one||two|")?);
+    assert!(rt; are_fed(alloc, &[b"\n"], b"|")?);
+    assert!(rt; are_fed(alloc, &[b"one"], b"")?);
+    assert!(rt; is_given(alloc)?);
+    assert!(rt; is_too_long(alloc, 1025)? && is_too_long(alloc, 4000)?);
     Ok(())
 }

@@ -1,11 +1,10 @@
 //! Harts with and without their outputs, machines that keep them, and pages.
 
 use crate::images::booted;
-use ft_types::{Count, Hart};
+use ft_types::{Count, Hart, Memory};
 use guest_image::{Machine, Page};
 use rv32_hart::HartState;
 use std::alloc::Global;
-use std::test::Fail;
 
 static EARLIER: &[(Count, u32)] = &[(2, 7), (5, 8)];
 
@@ -14,7 +13,7 @@ static LATER: &[(Count, u32)] = &[(9, 1)];
 static ALL: &[(Count, u32)] = &[(2, 7), (5, 8), (9, 1)];
 
 /// The first hart of two, or the second, which put out so much.
-fn hart_with(alloc: Global, second: bool, outputs: &[(Count, u32)]) -> Result<HartState, Fail> {
+fn hart_with(alloc: Global, second: bool, outputs: &[(Count, u32)]) -> Result<HartState, Memory> {
     let mut hart = HartState::boot(alloc, Hart::new(u8::from(second)), 2);
     hart.add_outputs(outputs)?;
     Ok(hart)
@@ -34,18 +33,14 @@ fn same(one: &HartState, other: &HartState) -> bool {
     one.same(other)
 }
 
-#[test]
-fn a_hart_without_its_outputs(rt: HostRuntime) -> Result<(), Fail> {
-    let hart = hart_with(rt.alloc(), false, EARLIER)?;
-    let other = hart_with(rt.alloc(), true, &[])?;
-    assert!(rt; knows_bare(&hart));
-    assert!(rt; !is_bare(&hart, &hart));
-    assert!(rt; !is_bare(&hart, &other));
-    Ok(())
+fn is_known_without_outputs(alloc: Global) -> Result<bool, Memory> {
+    let hart = hart_with(alloc, false, EARLIER)?;
+    let other = hart_with(alloc, true, &[])?;
+    Ok(knows_bare(&hart) && !is_bare(&hart, &hart) && !is_bare(&hart, &other))
 }
 
 /// What a hart has put out once more is added and then only so many are left.
-fn cut(alloc: Global, more: &[(Count, u32)], left: usize) -> Result<HartState, Fail> {
+fn cut(alloc: Global, more: &[(Count, u32)], left: usize) -> Result<HartState, Memory> {
     let mut hart = hart_with(alloc, false, EARLIER)?;
     hart.add_outputs(more)?;
     hart.cut_outputs(left);
@@ -58,19 +53,19 @@ fn is_cut(
     more: &[(Count, u32)],
     left: usize,
     there: &[(Count, u32)],
-) -> Result<bool, Fail> {
+) -> Result<bool, Memory> {
     let hart = cut(alloc, more, left)?;
     let wanted = hart_with(alloc, false, there)?.copy()?;
     Ok(same(&hart, &wanted))
 }
 
-#[test]
-fn outputs_are_added_and_cut(rt: HostRuntime) -> Result<(), Fail> {
-    assert!(rt; is_cut(rt.alloc(), LATER, 3, ALL)?);
-    assert!(rt; is_cut(rt.alloc(), LATER, 2, EARLIER)?);
-    assert!(rt; is_cut(rt.alloc(), &[], 3, EARLIER)?);
-    assert!(rt; !is_cut(rt.alloc(), LATER, 3, EARLIER)?);
-    Ok(())
+fn are_added_and_cut(alloc: Global) -> Result<bool, Memory> {
+    Ok(
+        is_cut(alloc, LATER, 3, ALL)?
+            && is_cut(alloc, LATER, 2, EARLIER)?
+            && is_cut(alloc, &[], 3, EARLIER)?
+            && !is_cut(alloc, LATER, 3, EARLIER)?,
+    )
 }
 
 fn swap(one: &mut HartState, other: &mut HartState) -> [u8; 2] {
@@ -78,20 +73,29 @@ fn swap(one: &mut HartState, other: &mut HartState) -> [u8; 2] {
     [one.number().number(), other.number().number()]
 }
 
+fn has(hart: &HartState, outputs: &[(Count, u32)]) -> bool {
+    hart.outputs() == outputs
+}
+
+fn are_swapped(alloc: Global) -> Result<bool, Memory> {
+    let mut hart = hart_with(alloc, false, EARLIER)?;
+    let mut other = hart_with(alloc, true, LATER)?;
+    Ok(swap(&mut hart, &mut other) == [0, 1] && has(&hart, LATER) && has(&other, EARLIER))
+}
+
 #[test]
-fn outputs_are_swapped(rt: HostRuntime) -> Result<(), Fail> {
-    let mut hart = hart_with(rt.alloc(), false, EARLIER)?;
-    let mut other = hart_with(rt.alloc(), true, LATER)?;
-    assert_eq!(rt; swap(&mut hart, &mut other), [0, 1]);
-    assert_eq!(rt; (hart.outputs(), other.outputs()), (LATER, EARLIER));
+fn outputs_of_harts(rt: HostRuntime) -> Result<(), Memory> {
+    assert!(rt; is_known_without_outputs(rt.alloc())?);
+    assert!(rt; are_added_and_cut(rt.alloc())?);
+    assert!(rt; are_swapped(rt.alloc())?);
     Ok(())
 }
 
 /// A machine of two harts, of which the second put this out.
-fn loud(alloc: Global, outputs: &[(Count, u32)]) -> Result<Machine, Fail> {
+fn loud(alloc: Global, outputs: &[(Count, u32)]) -> Result<Machine, Memory> {
     let mut machine = booted(alloc, b"harts 2\npages 1\n")?;
     if machine.harts() != 2 {
-        return Err("harts".into());
+        return Err(Memory);
     }
     machine.add_outputs(Hart::new(1), outputs)?;
     Ok(machine)
@@ -118,16 +122,19 @@ fn leave(machine: &mut Machine, outputs: usize) {
     }
 }
 
+/// Whether a machine is the one whose second hart put this out.
+fn is_loud(alloc: Global, machine: &Machine, outputs: &[(Count, u32)]) -> Result<bool, Memory> {
+    Ok(machine.same(&loud(alloc, outputs)?))
+}
+
 /// A hart that is put back keeps the outputs that are there.
-#[test]
-fn outputs_of_machines(rt: HostRuntime) -> Result<(), Fail> {
-    let mut machine = loud(rt.alloc(), ALL)?;
-    assert!(rt; put_bare(&mut machine));
-    assert!(rt; machine.same(&loud(rt.alloc(), ALL)?));
+fn keep_outputs(alloc: Global) -> Result<bool, Memory> {
+    let mut machine = loud(alloc, ALL)?;
+    if !put_bare(&mut machine) || !is_loud(alloc, &machine, ALL)? {
+        return Ok(false);
+    }
     leave(&mut machine, 2);
-    assert!(rt; machine.copy()?.same(&loud(rt.alloc(), EARLIER)?));
-    assert!(rt; !machine.same(&loud(rt.alloc(), ALL)?));
-    Ok(())
+    Ok(is_loud(alloc, &machine.copy()?, EARLIER)? && !is_loud(alloc, &machine, ALL)?)
 }
 
 fn write(page: &mut Page) {
@@ -144,13 +151,21 @@ fn read(page: &Page) -> (u32, u16, u8) {
     )
 }
 
-#[test]
-fn a_page(rt: HostRuntime) -> Result<(), Fail> {
-    let mut page = Page::zeros(rt.alloc())?;
+/// Whether a page is its copy, and no page of zeros.
+fn is_its_own(alloc: Global, page: &Page) -> Result<bool, Memory> {
+    let (copy, zeros) = (page.copy()?, Page::zeros(alloc)?);
+    Ok(copy.same(page) && !page.same(&zeros) && page.bytes().len() == 4096)
+}
+
+fn is_written(alloc: Global) -> Result<bool, Memory> {
+    let mut page = Page::zeros(alloc)?;
     write(&mut page);
-    assert_eq!(rt; read(&page), (0x5600_1234, 0x89ab, 0xef));
-    assert!(rt; page.copy()?.same(&page));
-    assert!(rt; !page.same(&Page::zeros(rt.alloc())?));
-    assert_eq!(rt; page.bytes().len(), 4096);
+    Ok(read(&page) == (0x5600_1234, 0x89ab, 0xef) && is_its_own(alloc, &page)?)
+}
+
+#[test]
+fn machines_and_pages(rt: HostRuntime) -> Result<(), Memory> {
+    assert!(rt; keep_outputs(rt.alloc())?);
+    assert!(rt; is_written(rt.alloc())?);
     Ok(())
 }

@@ -1,13 +1,12 @@
-//! Rows of counts, sets, devices in memory, and the texts of numbers and words.
+//! Counts, sets and devices in memory.
 
 ghost use Rattle.std.specs.Prelude.{◌<◌, length};
 
 use ft_types::{
     COUNT_LIMIT, Count, Counts, HART_LIMIT, HART_ROW, Hart, HartSet, Keeper, KeeperSet, LineBuffer,
-    MemorySink, MemorySource, Source, first_line, read_number, read_word, write_all,
+    Memory, MemorySink, MemorySource, Source, write_all,
 };
 use std::alloc::Global;
-use std::test::Fail;
 
 /// A row of two counts.
 fn two(first: Count, second: Count) -> Counts {
@@ -37,19 +36,17 @@ fn beside(one: Counts, other: Counts) -> Option<([Count; 2], [Count; 2], bool)> 
 /// One count more than there are harts at the most.
 const TOO_MANY: usize = HART_ROW + 1;
 
-#[test]
-fn counts(rt: HostRuntime) {
+fn fits(row: &[Count]) -> bool {
+    Counts::from_slice(row).is_some()
+}
+
+fn counts_are_right() -> bool {
     let (one, other) = (two(5, 7), two(4, 9));
-    assert_eq!(rt; beside(one, other), Some(([4, 7], [5, 9], false)));
-    assert_eq!(rt; beside(two(4, 7), one), Some(([4, 7], [5, 7], true)));
-    let rows: [(&[Count], bool); 3] = [
-        (&[0; TOO_MANY], false),
-        (&[COUNT_LIMIT], false),
-        (&[COUNT_LIMIT - 1], true),
-    ];
-    for (row, fits) in rows {
-        assert_eq!(rt; Counts::from_slice(row).is_some(), fits);
-    }
+    beside(one, other) == Some(([4, 7], [5, 9], false))
+        && beside(two(4, 7), one) == Some(([4, 7], [5, 7], true))
+        && !fits(&[0; TOO_MANY])
+        && !fits(&[COUNT_LIMIT])
+        && fits(&[COUNT_LIMIT - 1])
 }
 
 fn has_hart(set: HartSet, number: u8) -> bool {
@@ -91,12 +88,9 @@ fn keepers() -> ([bool; 4], usize) {
     (there, set.len())
 }
 
-#[test]
-fn sets(rt: HostRuntime) {
+fn sets_are_right() -> bool {
     let there = [true, false, false, true];
-    assert_eq!(rt; harts(), (there, 2, false));
-    assert!(rt; HartSet::new().is_empty());
-    assert_eq!(rt; keepers(), (there, 2));
+    harts() == (there, 2, false) && HartSet::new().is_empty() && keepers() == (there, 2)
 }
 
 /// What a read of at most four bytes takes: none where it fails.
@@ -138,46 +132,30 @@ fn line(alloc: Global) -> MemorySink {
     sink
 }
 
-#[test]
-fn devices(rt: HostRuntime) -> Result<(), Fail> {
-    let bytes = b"abcdef".to_vec(rt.alloc())?;
-    let failing = three_reads(MemorySource::failing_at(bytes, 5));
-    assert_eq!(rt; failing, ([Some(4), Some(1), None], *b"ebcd"));
-    let ending = three_reads(MemorySource::new(b"ab".to_vec(rt.alloc())?));
-    assert_eq!(rt; ending, ([Some(2), Some(0), Some(0)], *b"ab\0\0"));
-    let (sink, done) = written(rt.alloc(), b"abcd", 3);
-    assert_eq!(rt; (sink.bytes(), done), (b"abc".as_slice(), false));
-    let text = b"count 281474976710655 word deadbeef\n".as_slice();
-    assert_eq!(rt; line(rt.alloc()).bytes(), text);
-    Ok(())
+fn reads_end(alloc: Global) -> Result<bool, Memory> {
+    let failing = three_reads(MemorySource::failing_at(b"abcdef".to_vec(alloc)?, 5));
+    let ending = three_reads(MemorySource::new(b"ab".to_vec(alloc)?));
+    Ok(
+        failing == ([Some(4), Some(1), None], *b"ebcd")
+            && ending == ([Some(2), Some(0), Some(0)], *b"ab\0\0"),
+    )
 }
 
-static NUMBERS: [(&str, Option<u64>); 8] = [
-    ("0", Some(0)),
-    ("999999999999999", Some(999_999_999_999_999)),
-    ("", None),
-    ("00", None),
-    ("01", None),
-    ("1000000000000000", None),
-    ("1 ", None),
-    ("+1", None),
-];
+fn writes_end(alloc: Global) -> bool {
+    let (sink, done) = written(alloc, b"abcd", 3);
+    sink.bytes() == b"abc".as_slice() && !done
+}
 
-static WORDS: [(&str, Option<u32>); 6] = [
-    ("0010a023", Some(0x0010_a023)),
-    ("", None),
-    ("0010A023", None),
-    ("010a023", None),
-    ("00010a023", None),
-    ("0010a02g", None),
-];
+fn is_written(alloc: Global, text: &[u8]) -> bool {
+    line(alloc).bytes() == text
+}
 
 #[test]
-fn texts(rt: HostRuntime) {
-    for (text, number) in &NUMBERS {
-        assert_eq!(rt; read_number(text.as_bytes()), *number, "{text}");
-    }
-    for (text, word) in &WORDS {
-        assert_eq!(rt; read_word(text.as_bytes()), *word, "{text}");
-    }
+fn counts_sets_and_devices(rt: HostRuntime) -> Result<(), Memory> {
+    assert!(rt; counts_are_right());
+    assert!(rt; sets_are_right());
+    assert!(rt; reads_end(rt.alloc())?);
+    assert!(rt; writes_end(rt.alloc()));
+    assert!(rt; is_written(rt.alloc(), b"count 281474976710655 word deadbeef\n"));
+    Ok(())
 }

@@ -2,26 +2,10 @@
 
 ghost use Rattle.std.specs.Prelude.{◌≤◌, All, IsTrue};
 
+use crate::tables::{all_right, is_count, number, row, word};
 use ft_types::{Count, Counts, Hart, Memory};
 use input_log::{Note, NoteLog};
-use std::test::Fail;
-
-/// A call of a log for hart 1, with what it answers.
-#[derive(Clone, Copy)]
-enum Call {
-    /// Adds a note of a count and a number, where that is at no count before the last.
-    Add(Count, u64),
-    /// The number that is noted at a count.
-    At(Count, Option<u64>),
-    /// All notes.
-    Has(&'static [(Count, u64)]),
-    /// Makes room.
-    Room,
-    /// From now on a copy is called.
-    Copy,
-}
-
-use Call::{Add, At, Copy, Has, Room};
+use std::alloc::Global;
 
 fn ends_by(notes: &[(Count, u64)], count: Count) -> bool
     ensures { IsTrue result → All (λ x. x.0 ≤ count) notes.now }
@@ -42,8 +26,18 @@ fn number_at(log: &NoteLog, count: Count) -> Option<u64> {
     log.at(Hart::new(1), count)
 }
 
-fn has(log: &NoteLog, notes: &[(Count, u64)]) -> bool {
-    log.of_hart(Hart::new(1)) == notes && log.of_hart(Hart::new(0)).is_empty()
+/// Whether these are the counts and numbers of all notes, of which hart 0 has none.
+fn has(log: &NoteLog, notes: &str) -> bool {
+    let mut rest = notes;
+    for (at, noted) in log.of_hart(Hart::new(1)) {
+        let (first, behind) = word(rest);
+        let (second, behind) = word(behind);
+        if *at != number(first) || *noted != number(second) {
+            return false;
+        }
+        rest = behind;
+    }
+    rest.is_empty() && log.of_hart(Hart::new(0)).is_empty()
 }
 
 fn make_room(log: &mut NoteLog) -> Result<bool, Memory> {
@@ -60,54 +54,59 @@ fn become_copy(log: &mut NoteLog) -> Result<bool, Memory> {
     Ok(more)
 }
 
-/// Whether one call answers as it is said.
-fn does(log: &mut NoteLog, call: &Call) -> Result<bool, Memory> {
-    match *call {
-        Add(at, number) => add(log, at, number),
-        At(count, number) => Ok(number_at(log, count) == number),
-        Has(notes) => Ok(has(log, notes)),
-        Room => make_room(log),
-        Copy => become_copy(log),
+/// Whether one call of a log for hart 1 answers so: `add COUNT NUMBER`, where that is at no count before the last; `at COUNT`; `has`, for
+/// all notes; `room`, which is made; and `copy`, of which the next calls are.
+fn does(log: &mut NoteLog, asked: &str, answer: &str) -> Result<bool, Memory> {
+    let (call, behind) = word(asked);
+    let (first, last) = word(behind);
+    match call {
+        "add" => add(log, number(first), number(last)),
+        "at" => Ok(is_count(number_at(log, number(first)), answer)),
+        "has" => Ok(has(log, answer)),
+        "room" => make_room(log),
+        _ => become_copy(log),
     }
 }
 
-/// The number of the first call that answers otherwise.
-fn first_wrong(log: &mut NoteLog, calls: &[Call]) -> Result<Option<usize>, Memory> {
-    for (number, call) in calls.iter().enumerate() {
-        let right = match does(log, call) {
+/// The first call of a new log that answers otherwise.
+fn first_wrong(alloc: Global, calls: &'static str) -> Result<Option<&'static str>, Memory> {
+    let mut log = NoteLog::new(alloc);
+    for line in calls.lines() {
+        let (asked, answer) = row(line);
+        let right = match does(&mut log, asked, answer) {
             Ok(right) => right,
-            Err(Memory) => does(log, call)?,
+            Err(Memory) => does(&mut log, asked, answer)?,
         };
         if !right {
-            return Ok(Some(number));
+            return Ok(Some(line));
         }
     }
     Ok(None)
 }
 
 /// A note that is not above the last is dropped, and a greater one at the same count takes its place.
-static NOTED: [Call; 15] = [
-    Has(&[]),
-    At(3, None),
-    Add(3, 1),
-    Add(3, 1),
-    Has(&[(3, 1)]),
-    Add(5, 1),
-    At(5, None),
-    Add(5, 2),
-    Room,
-    Add(5, 4),
-    Copy,
-    Has(&[(3, 1), (5, 4)]),
-    Add(9, 3),
-    Add(9, 9),
-    Has(&[(3, 1), (5, 4), (9, 9)]),
-];
+static NOTED: &str = "\
+has|
+at 3|none
+add 3 1|
+add 3 1|
+has|3 1
+add 5 1|
+at 5|none
+add 5 2|
+room|
+add 5 4|
+copy|
+has|3 1 5 4
+add 9 3|
+add 9 9|
+has|3 1 5 4 9 9
+at 5|4
+at 4|none
+";
 
 #[test]
-fn notes_of_a_hart(rt: HostRuntime) -> Result<(), Fail> {
-    let mut log = NoteLog::new(rt.alloc());
-    assert_eq!(rt; first_wrong(&mut log, &NOTED)?, None);
-    assert_eq!(rt; (number_at(&log, 5), number_at(&log, 4)), (Some(4), None));
+fn notes_of_a_hart(rt: HostRuntime) -> Result<(), Memory> {
+    all_right(&rt, first_wrong(rt.alloc(), NOTED)?);
     Ok(())
 }

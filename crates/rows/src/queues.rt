@@ -1,204 +1,251 @@
-//! Requests by their numbers: what a queue takes of a list of them and in which order it offers that, and what a client hears.
+//! Requests by their numbers: what a queue takes of a list of them and in which order it offers that, and what a client asks for, hears
+//! and tells.
 
-use ft_types::{Hart, Memory, Output};
+use crate::lines::{is_line, text_of};
+use crate::tables::{all_right, number, row, word};
+use asking::{Heard, Talk, WordsFault, read_words, told_line};
+use ft_types::{Count, Hart, Memory, Output, read_number, read_word};
 use input_log::Input;
-use requests::{Asker, Came, Heard, Queue, WORD_LIMIT};
+use requests::{Asker, Came, Queue, WORD_LIMIT};
 use std::alloc::Global;
-use std::test::Fail;
-use wire::{Answer, Request};
+use wire::{Answer, Request, request_line};
 
-/// Words, their numbers, and what becomes of them in a queue that begins behind seven words.
-static ASKED: [(u32, Option<u64>, Came); 9] = [
-    (70, Some(7), Came::Taken),
-    (70, Some(7), Came::Repeat),
-    (90, Some(9), Came::Ahead),
-    (80, Some(8), Came::Taken),
-    (99, None, Came::Taken),
-    (90, Some(9), Came::Repeat),
-    (100, Some(10), Came::Taken),
-    (0, Some(0), Came::Repeat),
-    (1, Some(281_474_976_710_655), Came::Ahead),
-];
-
-/// What a queue offers, a call after the other, where each word is given before the next is asked for.
-fn offered(alloc: Global, queue: &mut Queue, many: u32) -> Result<Vec<Option<Input>>, Memory> {
-    let mut inputs = Vec::new(alloc);
-    for _ in 0..many {
-        let next = queue.next(queue.handed());
-        inputs.push(next)?;
-        queue.hand_on();
-    }
-    Ok(inputs)
+/// The word and the number that are asked for, where there is one.
+fn numbered(asked: &str) -> (u32, Option<Count>) {
+    let (first, behind) = word(asked);
+    let word = read_word(first.as_bytes()).unwrap_or(0);
+    (word, read_number(behind.as_bytes()))
 }
 
-/// How many words came in all, and what the queue offers a hart that was given six of them, or eight.
-fn told(queue: &Queue) -> (u32, Option<Input>, Option<Input>) {
-    (queue.words(), queue.next(6), queue.next(8))
+/// What becomes of a word.
+fn takes(queue: &mut Queue, word: u32, number: Option<Count>) -> Result<&'static str, Memory> {
+    Ok(match queue.put_word(word, number)? {
+        Came::Taken => "taken",
+        Came::Repeat => "repeat",
+        Came::Ahead => "ahead",
+        Came::Full => "full",
+    })
 }
 
-/// The first of the words of which something else becomes.
-fn first_wrong(queue: &mut Queue) -> Result<Option<u32>, Memory> {
-    for (word, number, came) in &ASKED {
-        if queue.put_word(*word, *number)? != *came {
-            return Ok(Some(*word));
+fn timer(queue: &mut Queue) -> Result<bool, Memory> {
+    queue.put_timer()?;
+    Ok(true)
+}
+
+/// Whether the queue offers this, where each word is given before the next is asked for.
+fn gives(queue: &mut Queue, answer: &str) -> bool {
+    let right = match queue.next(queue.handed()) {
+        Some(Input::Word(word)) => read_word(answer.as_bytes()) == Some(word),
+        Some(Input::Timer) => answer == "timer",
+        Some(Input::Bell(_)) => false,
+        None => answer == "nothing",
+    };
+    queue.hand_on();
+    right
+}
+
+/// Whether so many words came in all, and the queue offers nothing to a hart that was given six of them, or eight.
+fn has(queue: &Queue, answer: &str) -> bool {
+    number(answer) == u64::from(queue.words()) && queue.next(6).is_none() && queue.next(8).is_none()
+}
+
+/// Whether a queue answers what is asked so.
+fn does(queue: &mut Queue, asked: &str, answer: &str) -> Result<bool, Memory> {
+    match asked {
+        "timer" => timer(queue),
+        "next" => Ok(gives(queue, answer)),
+        "words" => Ok(has(queue, answer)),
+        _ => {
+            let (word, number) = numbered(asked);
+            Ok(takes(queue, word, number)? == answer)
         }
     }
-    queue.put_timer()?;
+}
+
+/// The first row that a queue behind so many words answers otherwise.
+fn first_wrong(
+    alloc: Global,
+    words: u32,
+    rows: &'static str,
+) -> Result<Option<&'static str>, Memory> {
+    let mut queue = Queue::new(alloc, words);
+    for line in rows.lines() {
+        let (asked, answer) = row(line);
+        if !does(&mut queue, asked, answer)? {
+            return Ok(Some(line));
+        }
+    }
     Ok(None)
 }
 
-/// The words in their order, each once.
-fn in_order() -> [Option<Input>; 7] {
-    [
-        Some(Input::Word(70)),
-        Some(Input::Word(80)),
-        Some(Input::Word(99)),
-        Some(Input::Word(100)),
-        Some(Input::Timer),
-        None,
-        None,
-    ]
-}
+/// Words, their numbers, and what becomes of them in a queue that begins behind seven words; then the words in their order, each once.
+static ASKED: &str = "\
+00000070 7|taken
+00000070 7|repeat
+00000090 9|ahead
+00000080 8|taken
+00000099|taken
+00000090 9|repeat
+00000100 10|taken
+00000000 0|repeat
+00000001 281474976710655|ahead
+timer|
+words|11
+next|00000070
+next|00000080
+next|00000099
+next|00000100
+next|timer
+next|nothing
+next|nothing
+";
+
+/// Behind as many words as there may be.
+static FULL: &str = "\
+00000001|full
+00000001 4294967295|full
+00000001 4294967294|repeat
+00000001 4294967296|ahead
+";
 
 #[test]
-fn words_by_number(rt: HostRuntime) -> Result<(), Fail> {
-    let mut queue = Queue::new(rt.alloc(), 7);
-    assert_eq!(rt; first_wrong(&mut queue)?, None);
-    assert_eq!(rt; told(&queue), (11, None, None));
-    let inputs = offered(rt.alloc(), &mut queue, 7)?;
-    assert!(rt; inputs.as_slice() == in_order().as_slice());
+fn words_by_number(rt: HostRuntime) -> Result<(), Memory> {
+    all_right(&rt, first_wrong(rt.alloc(), 7, ASKED)?);
+    all_right(&rt, first_wrong(rt.alloc(), WORD_LIMIT, FULL)?);
     Ok(())
-}
-
-/// What becomes of a word of this number, or of none, behind as many words as there may be.
-fn at_the_limit(alloc: Global, number: Option<u64>) -> Result<Came, Memory> {
-    Queue::new(alloc, WORD_LIMIT).put_word(1, number)
-}
-
-#[test]
-fn words_at_the_limit(rt: HostRuntime) -> Result<(), Fail> {
-    let limit = u64::from(WORD_LIMIT);
-    assert_eq!(rt; at_the_limit(rt.alloc(), None)?, Came::Full);
-    assert_eq!(rt; at_the_limit(rt.alloc(), Some(limit))?, Came::Full);
-    assert_eq!(rt; at_the_limit(rt.alloc(), Some(limit - 1))?, Came::Repeat);
-    assert_eq!(rt; at_the_limit(rt.alloc(), Some(limit + 1))?, Came::Ahead);
-    Ok(())
-}
-
-/// What happens to a client of hart 1 that has three words, of which two may be open.
-#[derive(Clone, Copy)]
-enum Turn {
-    /// It asks for a word by its number, or for nothing.
-    Asks(Option<(u32, u64)>),
-    /// It hears an answer of a hart, a number and a word, and what that is to it.
-    Hears(u8, u64, u32, Heard),
-    /// It asks again for the outputs from a number on, and for these words.
-    AsksAgain(u64, &'static [(u32, u64)]),
-}
-
-use Turn::{Asks, AsksAgain, Hears};
-
-/// An answer of a hart, 0 or 1, to the word of this number.
-fn answer(hart: u8, number: u64, word: u32) -> Answer {
-    let output = Output {
-        hart: Hart::new(hart % 2),
-        number,
-        step: 100 + number % 100,
-        word,
-    };
-    Answer { term: 1, output }
-}
-
-/// The request for a word of hart 1 by its number.
-fn asked(word: u32, number: u64) -> Request {
-    Request::Word {
-        hart: Hart::new(1),
-        word,
-        number: Some(number),
-    }
-}
-
-/// The request for the outputs of hart 1 from this number on.
-fn from(number: u64) -> Request {
-    Request::From {
-        hart: Hart::new(1),
-        number,
-    }
 }
 
 /// Whether a client asks for this.
-fn asks(asker: &mut Asker, word: Option<(u32, u64)>) -> bool {
-    match (asker.next(), word) {
-        (Some(request), Some((word, number))) => request == asked(word, number),
-        (None, None) => true,
-        _ => false,
+fn asks(talk: &mut Talk, answer: &str) -> bool {
+    match talk.ask() {
+        Some(request) => is_line(&request_line(&request), answer.as_bytes()),
+        None => answer == "nothing",
     }
 }
 
-/// Whether these requests are those for words by their numbers.
-fn are(requests: &[Request], words: &[(u32, u64)]) -> bool {
-    for (request, (word, number)) in requests.iter().zip(words) {
-        if *request != asked(*word, *number) {
-            return false;
-        }
+/// Whether a client asks again for this, each with a semicolon.
+fn asks_again(alloc: Global, talk: &Talk, answer: &str) -> Result<bool, Memory> {
+    let mut texts = Vec::new(alloc);
+    for request in talk.ask_again(alloc)?.as_slice() {
+        texts.extend_from_slice(text_of(&request_line(request)))?;
+        texts.push(b';')?;
     }
-    requests.len() == words.len()
+    Ok(texts.as_slice() == answer.as_bytes())
 }
 
-/// Whether a client asks again for the outputs from this number on, and for these words.
-fn asks_again(
-    alloc: Global,
-    asker: &Asker,
-    number: u64,
-    words: &[(u32, u64)],
-) -> Result<bool, Memory> {
-    let requests = asker.again(alloc)?;
-    match requests.as_slice().split_first() {
-        Some((first, rest)) => Ok(*first == from(number) && are(rest, words)),
-        None => Ok(false),
+/// What a line is to a client.
+fn hears(talk: &mut Talk, text: &str) -> &'static str {
+    match talk.hear(text.as_bytes()) {
+        Heard::New => "new",
+        Heard::Known => "known",
+        Heard::Contradiction => "contradiction",
+        Heard::Foreign => "foreign",
     }
 }
 
-/// The number of the first turn that goes otherwise.
-fn first_astray(alloc: Global, asker: &mut Asker, turns: &[Turn]) -> Result<Option<usize>, Memory> {
-    for (place, turn) in turns.iter().enumerate() {
-        let right = match *turn {
-            Asks(word) => asks(asker, word),
-            Hears(hart, number, word, heard) => asker.hear(&answer(hart, number, word)) == heard,
-            AsksAgain(number, words) => asks_again(alloc, &*asker, number, words)?,
-        };
-        if !right {
-            return Ok(Some(place));
+/// Whether a client tells this.
+fn tells(talk: &mut Talk, answer: &str) -> bool {
+    match talk.tell() {
+        Some(told) => told_line(&told).as_slice().strip_suffix(b"\n") == Some(answer.as_bytes()),
+        None => answer == "nothing",
+    }
+}
+
+/// Whether so many answers were told, and the client is done or not.
+fn has_told(talk: &Talk, is_done: bool, answer: &str) -> bool {
+    number(answer) == talk.told() as u64 && talk.is_done() == is_done
+}
+
+/// Whether a client does this: it hears what is none of these words.
+fn goes(alloc: Global, talk: &mut Talk, turn: &str, answer: &str) -> Result<bool, Memory> {
+    match turn {
+        "ask" => Ok(asks(talk, answer)),
+        "again" => asks_again(alloc, &*talk, answer),
+        "tell" => Ok(tells(talk, answer)),
+        "open" => Ok(has_told(&*talk, false, answer)),
+        "done" => Ok(has_told(&*talk, true, answer)),
+        _ => Ok(hears(talk, turn) == answer),
+    }
+}
+
+/// The first turn that a client of three words, of which two may be open, takes otherwise.
+fn first_astray(alloc: Global, rows: &'static str) -> Result<Option<&'static str>, Memory> {
+    let words = [5, 6, 7].to_vec(alloc)?;
+    let mut talk = Talk::new(alloc, words, 2)?;
+    for line in rows.lines() {
+        let (turn, answer) = row(line);
+        if !goes(alloc, &mut talk, turn, answer)? {
+            return Ok(Some(line));
         }
     }
     Ok(None)
 }
 
-static TURNS: [Turn; 17] = [
-    Asks(Some((5, 0))),
-    Asks(Some((6, 1))),
-    Asks(None),
-    Hears(1, 1, 16, Heard::New),
-    Hears(0, 0, 15, Heard::Foreign),
-    Hears(1, 2, 17, Heard::Foreign),
-    Hears(1, 1, 16, Heard::Known),
-    Hears(1, 1, 17, Heard::Contradiction),
-    Hears(1, 1, 16, Heard::Known),
-    Hears(1, 281_474_976_710_655, 16, Heard::Foreign),
-    AsksAgain(0, &[(5, 0)]),
-    Hears(1, 0, 15, Heard::New),
-    Asks(Some((7, 2))),
-    Asks(None),
-    AsksAgain(2, &[(7, 2)]),
-    Hears(1, 2, 17, Heard::New),
-    AsksAgain(3, &[]),
-];
+/// Answers that come out of their order are told in it, each once.
+static TURNS: &str = "\
+ask|0 word 00000005 0
+ask|0 word 00000006 1
+ask|nothing
+term 1 hart 0 number 1 step 101 word 00000010|new
+number 0 word 0000000f|foreign
+tell|nothing
+term 1 hart 1 number 0 step 100 word 0000000f|foreign
+term 1 hart 0 number 2 step 102 word 00000011|foreign
+term 1 hart 0 number 1 step 101 word 00000010|known
+term 1 hart 0 number 1 step 101 word 00000011|contradiction
+term 1 hart 0 number 1 step 101 word 00000010|known
+term 1 hart 0 number 281474976710655 step 155 word 00000010|foreign
+again|0 from 0;0 word 00000005 0;
+term 2 hart 0 number 0 step 100 word 0000000f|new
+tell|number 0 word 0000000f
+tell|number 1 word 00000010
+tell|nothing
+open|2
+ask|0 word 00000007 2
+ask|nothing
+again|0 from 2;0 word 00000007 2;
+term 1 hart 0 number 2 step 102 word 00000011|new
+again|0 from 3;
+tell|number 2 word 00000011
+done|3
+";
+
+/// A client of hart 1 asks for its word, and hears what hart 1 answers.
+fn asks_hart_1(alloc: Global) -> Result<bool, Memory> {
+    let hart = Hart::new(1);
+    let mut asker = Asker::new(alloc, hart, [5].to_vec(alloc)?, 1)?;
+    let number = Some(0);
+    let word = Request::Word {
+        hart,
+        word: 5,
+        number,
+    };
+    let output = Output {
+        hart,
+        number: 0,
+        step: 9,
+        word: 15,
+    };
+    Ok(asker.next() == Some(word) && asker.hear(&Answer { term: 1, output }) == Heard::New)
+}
+
+/// Whether a file is of these words, or at fault in this line.
+fn is_of_words(alloc: Global, file: &[u8], wanted: &[u32], fault: u64) -> Result<bool, Memory> {
+    match read_words(alloc, file) {
+        Ok(words) => Ok(words.as_slice() == wanted),
+        Err(WordsFault::BadLine(line)) => Ok(line == fault),
+        Err(WordsFault::Memory) => Err(Memory),
+    }
+}
 
 #[test]
-fn a_client(rt: HostRuntime) -> Result<(), Fail> {
-    let words = [5, 6, 7].to_vec(rt.alloc())?;
-    let mut asker = Asker::new(rt.alloc(), Hart::new(1), words, 2)?;
-    assert_eq!(rt; first_astray(rt.alloc(), &mut asker, &TURNS)?, None);
-    assert!(rt; asker.is_done());
+fn clients(rt: HostRuntime) -> Result<(), Memory> {
+    let alloc = rt.alloc();
+    all_right(&rt, first_astray(alloc, TURNS)?);
+    assert!(rt; asks_hart_1(alloc)?);
+    let file = b"0000002a\nfedcba98\n".as_slice();
+    assert!(rt; is_of_words(alloc, file, &[42, 0xfedc_ba98], 0)?);
+    let file = b"0000002a\n2A\n".as_slice();
+    assert!(rt; is_of_words(alloc, file, &[], 2)?);
     Ok(())
 }

@@ -1,27 +1,18 @@
 //! The right to a page, asked for and given up.
 
-use crate::edges::{Told, are};
+use crate::edges::are;
+use crate::tables::{all_right, hart, number, row, word};
 use crew_pages::{Ask, PageRight};
 use ft_types::{Count, Counts, HART_LIMIT, HART_ROW, Hart, HartSet, Want};
 use std::alloc::Global;
 
-/// A call of a right for the hart of a number.
-#[derive(Clone, Copy)]
-enum Call {
-    /// Asks, of a machine whose harts are all at this count, and is given the right with these edges.
-    Given(u8, Want, Count, &'static [Told]),
-    /// Asks, where this hart alone stands against it.
-    HeldBy(u8, Want, u8),
-    /// Gives up at this count what it holds.
-    Leave(u8, Count),
-    /// Owns the page, and lowers its right at this count.
-    Lower(u8, Count),
-}
-
-use Call::{Given, HeldBy, Leave, Lower};
-
-pub fn hart(number: u8) -> Hart {
-    Hart::new(number % HART_LIMIT)
+/// What a hart wants of a page.
+fn want(text: &str) -> Want {
+    if text == "read" {
+        Want::Read
+    } else {
+        Want::Write
+    }
 }
 
 fn ask(alloc: Global, right: &mut PageRight, hart: Hart, want: Want, at: Count) -> Option<Ask> {
@@ -32,7 +23,7 @@ fn ask(alloc: Global, right: &mut PageRight, hart: Hart, want: Want, at: Count) 
     Some(right.ask(alloc, hart, want, &counts))
 }
 
-fn is_given(asked: &Option<Ask>, edges: &[Told]) -> bool {
+fn is_given(asked: &Option<Ask>, edges: &str) -> bool {
     match asked {
         Some(Ask::Given(given)) => are(given.as_slice(), edges),
         _ => false,
@@ -62,67 +53,73 @@ fn lower(right: &mut PageRight, hart: Hart, at: Count) -> bool {
     owns
 }
 
-/// Whether one call goes as it is said.
-fn does(alloc: Global, right: &mut PageRight, call: &Call) -> bool {
-    match *call {
-        Given(number, want, at, edges) => {
-            is_given(&ask(alloc, right, hart(number), want, at), edges)
+/// Whether a hart that asks is held by another alone, and the right stays.
+fn is_refused(alloc: Global, right: &mut PageRight, hart: Hart, want: Want, by: Hart) -> bool {
+    let before = *right;
+    let asked = ask(alloc, right, hart, want, 0);
+    is_held(&asked, by) && *right == before
+}
+
+/// Whether one call goes as it is said: `given HART WANT COUNT`, of a machine whose harts are all at this count, with these edges;
+/// `held HART WANT OTHER`, where that hart alone stands against it; `leave HART COUNT`, of what it holds; `lower HART COUNT`, of a page that
+/// it owns.
+fn does(alloc: Global, right: &mut PageRight, asked: &str, answer: &str) -> bool {
+    let (call, behind) = word(asked);
+    let (first, behind) = word(behind);
+    let (second, last) = word(behind);
+    let hart_of_row = hart(first);
+    match call {
+        "given" => {
+            let asked = ask(alloc, right, hart_of_row, want(second), number(last));
+            is_given(&asked, answer)
         }
-        HeldBy(number, want, by) => {
-            let before = *right;
-            let asked = ask(alloc, right, hart(number), want, 0);
-            is_held(&asked, hart(by)) && *right == before
-        }
-        Leave(number, at) => leave(right, hart(number), at),
-        Lower(number, at) => lower(right, hart(number), at),
+        "held" => is_refused(alloc, right, hart_of_row, want(second), hart(last)),
+        "leave" => leave(right, hart_of_row, number(second)),
+        _ => lower(right, hart_of_row, number(second)),
     }
 }
 
-/// The number of the first call on a new right that goes otherwise.
-fn first_wrong(alloc: Global, calls: &[Call]) -> Option<usize> {
+/// The first call on a new right that goes otherwise.
+fn first_wrong(alloc: Global, calls: &'static str) -> Option<&'static str> {
     let mut right = PageRight::new();
-    for (number, call) in calls.iter().enumerate() {
-        if !does(alloc, &mut right, call) {
-            return Some(number);
+    for line in calls.lines() {
+        let (asked, answer) = row(line);
+        if !does(alloc, &mut right, asked, answer) {
+            return Some(line);
         }
     }
     None
 }
 
 /// Two read, and then two others write.
-static TWO_READ: [Call; 7] = [
-    Given(0, Want::Read, 0, &[]),
-    Given(1, Want::Read, 0, &[]),
-    Leave(0, 3),
-    Leave(1, 5),
-    Given(2, Want::Write, 7, &[(2, 7, 0, 3), (2, 7, 1, 5)]),
-    Leave(2, 7),
-    Given(
-        3,
-        Want::Write,
-        0,
-        &[(3, 0, 0, 3), (3, 0, 1, 5), (3, 0, 2, 7)],
-    ),
-];
+static TWO_READ: &str = "\
+given 0 read 0|
+given 1 read 0|
+leave 0 3|
+leave 1 5|
+given 2 write 7|2 7 0 3 2 7 1 5
+leave 2 7|
+given 3 write 0|3 0 0 3 3 0 1 5 3 0 2 7
+";
 
 /// An owner lowers its right.
-static LOWERS: [Call; 4] = [
-    Given(0, Want::Write, 0, &[]),
-    Lower(0, 4),
-    Given(1, Want::Read, 2, &[(1, 2, 0, 4)]),
-    Given(2, Want::Read, 6, &[(2, 6, 0, 4)]),
-];
+static LOWERS: &str = "\
+given 0 write 0|
+lower 0 4|
+given 1 read 2|1 2 0 4
+given 2 read 6|2 6 0 4
+";
 
 /// Another reads, and stands against one that would write.
-static HELD: [Call; 3] = [
-    Given(0, Want::Read, 0, &[]),
-    Given(5, Want::Read, 0, &[]),
-    HeldBy(5, Want::Write, 0),
-];
+static HELD: &str = "\
+given 0 read 0|
+given 5 read 0|
+held 5 write 0|
+";
 
 #[test]
 fn readers_and_writers(rt: HostRuntime) {
-    assert_eq!(rt; first_wrong(rt.alloc(), &TWO_READ), None);
-    assert_eq!(rt; first_wrong(rt.alloc(), &LOWERS), None);
-    assert_eq!(rt; first_wrong(rt.alloc(), &HELD), None);
+    all_right(&rt, first_wrong(rt.alloc(), TWO_READ));
+    all_right(&rt, first_wrong(rt.alloc(), LOWERS));
+    all_right(&rt, first_wrong(rt.alloc(), HELD));
 }

@@ -1,0 +1,5 @@
+use Rattle.rows.specs.Made.{IsOfThree}
+use Rattle.rows.proofs.gates.first_untold.Given as goal
+
+abbrev pub invariant-loop-line : goal.invariant-loop-line
+invariant-loop-line l = IsOfThree l.gate
