@@ -43,9 +43,13 @@ pub fn replayer(
     edges: &EdgeLog,
     inputs: &InputLog,
 ) -> Result<Book<Replaying>, Fail> {
-    match replayer_once(alloc, image, ends, edges, inputs) {
+    let book = match replayer_once(alloc, image, ends, edges, inputs) {
+        None => replayer_once(alloc, image, ends, edges, inputs),
+        book => book,
+    };
+    match book {
         Some(book) => Ok(book),
-        None => Ok(replayer_once(alloc, image, ends, edges, inputs).ok_or("book")?),
+        None => Err("book".into()),
     }
 }
 

@@ -192,7 +192,7 @@ fn begin_next(crew: &mut Crew<Recording>, alloc: Global) -> bool {
 /// Whether a row of a book that records is done, or holds.
 fn is_done(stage: &mut Stage<Recording>, alloc: Global, row: &Row) -> bool {
     match *row {
-        Row::Offer(number, count, heard) => {
+        Row::Offer(number, count, ref heard) => {
             offer(&mut stage.crew.book, hart(number), count, &heard.input())
         }
         Row::Raise(limits) => raise(&mut stage.crew.book, limits),
@@ -253,34 +253,21 @@ fn is_alike(play: &Play, last: &Option<Machine>, machine: &Machine) -> bool {
     }
 }
 
-/// Plays after the play that came to the last machine. The number of the row that comes otherwise than is said; one behind the
-/// last row where the machine does.
-fn wrong_row(
-    alloc: Global,
-    play: &Play,
-    last: &mut Option<Machine>,
-) -> Result<Option<usize>, Fail> {
+/// Whether a play goes as is said, behind the play that came to the last machine.
+fn goes_so(alloc: Global, play: &Play, last: &mut Option<Machine>) -> Result<bool, Fail> {
     let (rows, machine) = played(alloc, play)?;
     let right = rows == play.rows.len() && is_alike(play, &*last, &machine);
     *last = Some(machine);
-    Ok(if right { None } else { Some(rows) })
+    Ok(right)
 }
 
-fn first_wrong_after(
-    alloc: Global,
-    plays: &[Play],
-    last: &mut Option<Machine>,
-) -> Result<Option<(&'static str, usize)>, Fail> {
+/// Plays them one behind the other. Fails with the name of the first that goes otherwise than is said.
+pub fn play_all(alloc: Global, plays: &[Play]) -> Result<(), Fail> {
+    let mut last = None;
     for play in plays {
-        if let Some(row) = wrong_row(alloc, play, last)? {
-            return Ok(Some((play.name, row)));
+        if !goes_so(alloc, play, &mut last)? {
+            return Err(play.name.into());
         }
     }
-    Ok(None)
-}
-
-/// The first play, and its first row, that comes otherwise than is said.
-pub fn first_wrong(alloc: Global, plays: &[Play]) -> Result<Option<(&'static str, usize)>, Fail> {
-    let mut last = None;
-    first_wrong_after(alloc, plays, &mut last)
+    Ok(())
 }

@@ -66,9 +66,11 @@ fn runs_so(alloc: Global, run: Run) -> Result<bool, Fail> {
 
 #[test]
 fn each_hart_comes_to_its_limit(rt: HostRuntime) -> Result<(), Fail> {
-    for (number, run) in RUNS.iter().enumerate() {
-        assert!(rt; runs_so(rt.alloc(), *run)?, "run {number}");
+    let mut right = true;
+    for run in &RUNS {
+        right = right && runs_so(rt.alloc(), *run)?;
     }
+    assert!(rt; right);
     Ok(())
 }
 
@@ -162,8 +164,10 @@ fn steps_so(alloc: Global, steps: Steps) -> Result<bool, Fail> {
 
 #[test]
 fn one_step_at_a_time(rt: HostRuntime) -> Result<(), Fail> {
-    for (number, steps) in STEPS.iter().enumerate() {
-        assert!(rt; steps_so(rt.alloc(), *steps)?, "steps {number}");
+    let mut right = true;
+    for steps in &STEPS {
+        right = right && steps_so(rt.alloc(), *steps)?;
     }
+    assert!(rt; right);
     Ok(())
 }

@@ -1,7 +1,7 @@
 //! Books that record, and the replays of what they recorded.
 
 use crate::guests::LOOPS;
-use crate::plays::first_wrong;
+use crate::plays::play_all;
 use crate::rows::Row::{Ask, Counts, Discard, Edges, Go, Lend, Run, Settle, Trade, Turn, Waits};
 use crate::rows::{DONE, EDGE_OPEN, FOREIGN, LEASED, Obeyed, Play, READ, WRITE};
 use fixtures::BOTH_STORE;
@@ -121,8 +121,7 @@ static STORED: [Play; 6] = [
 
 #[test]
 fn a_log_leads_to_the_recorded_machine(rt: HostRuntime) -> Result<(), Fail> {
-    assert_eq!(rt; first_wrong(rt.alloc(), &STORED)?, None);
-    Ok(())
+    play_all(rt.alloc(), &STORED)
 }
 
 // The first hart writes the second page in two steps, keeps so much of it, and goes two steps without it. Then an open lease of
@@ -246,8 +245,7 @@ static KEPT: [Play; 6] = [
 
 #[test]
 fn what_a_hart_keeps_decides_the_edge(rt: HostRuntime) -> Result<(), Fail> {
-    assert_eq!(rt; first_wrong(rt.alloc(), &KEPT)?, None);
-    Ok(())
+    play_all(rt.alloc(), &KEPT)
 }
 
 static TAKEN: [Play; 4] = [
@@ -398,6 +396,5 @@ static TAKEN: [Play; 4] = [
 
 #[test]
 fn what_leases_take_is_recorded(rt: HostRuntime) -> Result<(), Fail> {
-    assert_eq!(rt; first_wrong(rt.alloc(), &TAKEN)?, None);
-    Ok(())
+    play_all(rt.alloc(), &TAKEN)
 }

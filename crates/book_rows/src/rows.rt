@@ -25,7 +25,6 @@ pub const WRITE: Want = Want::Write;
 pub type Edge = (Count, u8, Count);
 
 /// An input.
-#[derive(Clone, Copy)]
 pub enum Heard {
     Timer,
     Word(u32),
@@ -33,7 +32,6 @@ pub enum Heard {
 }
 
 /// A call of a crew, or of its book, with the answer last. Harts and pages are numbers.
-#[derive(Clone, Copy)]
 pub enum Row {
     /// Lends a hart.
     Lend(u8, u8),
@@ -72,14 +70,12 @@ pub enum Row {
 }
 
 /// What a book obeys that replays: edges, each behind its hart, and the inputs that harts were given.
-#[derive(Clone, Copy)]
 pub struct Obeyed {
     pub edges: &'static [(u8, Edge)],
     pub inputs: &'static [(u8, Count, Heard)],
 }
 
 /// A play of a book that records up to these limits, or replays up to these ends what it obeys.
-#[derive(Clone, Copy)]
 pub struct Play {
     pub name: &'static str,
     pub file: &'static [u8],
@@ -92,8 +88,8 @@ pub struct Play {
 
 impl Heard {
     /// The input.
-    pub fn input(self) -> Input {
-        match self {
+    pub fn input(&self) -> Input {
+        match *self {
             Heard::Timer => Input::Timer,
             Heard::Word(word) => Input::Word(word),
             Heard::Bell(number) => Input::Bell(fixtures::hart(number)),

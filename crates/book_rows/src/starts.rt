@@ -43,14 +43,14 @@ fn edges_of(alloc: Global, harts: u8, edges: &[(u8, Edge)]) -> Option<EdgeLog> {
     }
 }
 
-fn add_input(log: &mut InputLog, number: u8, count: Count, heard: Heard) -> bool {
+fn add_input(log: &mut InputLog, number: u8, count: Count, heard: &Heard) -> bool {
     let hart = hart(number);
     log.may_add(hart, count) && log.add(hart, count, heard.input()).is_ok()
 }
 
 fn add_inputs(log: &mut InputLog, inputs: &[(u8, Count, Heard)]) -> bool {
     for (number, count, heard) in inputs {
-        if !add_input(log, *number, *count, *heard) {
+        if !add_input(log, *number, *count, heard) {
             return false;
         }
     }
@@ -67,7 +67,9 @@ fn inputs_of(alloc: Global, inputs: &[(u8, Count, Heard)]) -> Option<InputLog> {
 }
 
 fn leg_of(alloc: Global, harts: u8, play: &Play) -> Option<Leg> {
-    let obeyed = play.obeyed?;
+    let Some(obeyed) = &play.obeyed else {
+        return None;
+    };
     let ends = Counts::from_slice(play.limits)?;
     let edges = edges_of(alloc, harts, obeyed.edges)?;
     let inputs = inputs_of(alloc, obeyed.inputs)?;
@@ -89,9 +91,13 @@ fn replayer_once(alloc: Global, image: &Image, play: &Play) -> Option<Book<Repla
 }
 
 fn replayer(alloc: Global, image: &Image, play: &Play) -> Result<Book<Replaying>, Fail> {
-    match replayer_once(alloc, image, play) {
+    let book = match replayer_once(alloc, image, play) {
+        None => replayer_once(alloc, image, play),
+        book => book,
+    };
+    match book {
         Some(book) => Ok(book),
-        None => Ok(replayer_once(alloc, image, play).ok_or("book")?),
+        None => Err("book".into()),
     }
 }
 

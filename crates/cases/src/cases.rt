@@ -2,20 +2,12 @@
 
 use crate::files::{Change, File};
 use crate::frames::{bytes_of_hex, stream_of, turn};
-use crate::reading::{Block, Line, LineNumber, blocks_of};
+use crate::reading::{Block, Line, LineNumber, Words, blocks_of};
 use crate::sweeps::Sweep;
 use std::alloc::Global;
 
 /// Room for what is written, where a case says nothing of it.
 const AMPLE: usize = 1_000_000;
-
-/// What a file that is made must hold in the end.
-#[derive(Drop)]
-enum Holding {
-    Anything,
-    /// These bytes, as far as it has room.
-    Bytes(Vec<u8>),
-}
 
 /// A call of the program over files in memory, and what must come of it.
 #[derive(Drop)]
@@ -27,7 +19,8 @@ pub struct Case<'t> {
     pub files: Vec<File<'t>>,
     /// The file that can be made, if one can: it is empty where none can.
     pub made: &'t str,
-    holding: Holding,
+    /// What it must hold in the end, as far as it has room, if that is known.
+    holding: Option<Vec<u8>>,
     /// How many bytes it has room for.
     pub holds: usize,
     /// How many bytes standard output has room for.
@@ -37,7 +30,7 @@ pub struct Case<'t> {
     out: Vec<u8>,
     pub err: Vec<u8>,
     /// Where it is called in many ways, in which.
-    pub sweep: Option<Sweep>,
+    pub sweep: Option<Sweep<'t>>,
 }
 
 fn text_named<'a>(texts: &'a [File<'_>], name: &str) -> Option<&'a [u8]> {
@@ -93,7 +86,7 @@ impl<'t> Case<'t> {
             on_threads: false,
             files: Vec::new(alloc),
             made: "",
-            holding: Holding::Anything,
+            holding: None,
             holds: AMPLE,
             room: AMPLE,
             status: 0,
@@ -121,17 +114,26 @@ impl<'t> Case<'t> {
     }
 
     /// Changes the last file.
-    fn change(&mut self, how: &str, place: usize) -> Option<()> {
-        let file = self.files.last_mut()?;
-        match how {
-            "front" => file.change = Change::Front(place),
-            "turned" => turn(&mut file.bytes, place)?,
-            _ => file.change = Change::Failing(place),
+    fn change(&mut self, change: Change) -> Option<()> {
+        self.files.last_mut()?.change = change;
+        Some(())
+    }
+
+    /// Sets what the heading of this name sets to a number.
+    pub fn set(&mut self, what: &str, number: usize) -> Option<()> {
+        match what {
+            "front" => return self.change(Change::Front(number)),
+            "failing" => return self.change(Change::Failing(number)),
+            "turned" => return turn(&mut self.files.last_mut()?.bytes, number),
+            "room" => self.room = number,
+            "holds" => self.holds = number,
+            "status" => self.status = number,
+            _ => return None,
         }
         Some(())
     }
 
-    fn make(&mut self, name: &'t str, holding: Holding) {
+    fn make(&mut self, name: &'t str, holding: Option<Vec<u8>>) {
         self.made = name;
         self.holding = holding;
     }
@@ -139,8 +141,8 @@ impl<'t> Case<'t> {
     /// What the file that is made holds in the end, if it may hold this.
     pub fn wanted<'a>(&'a self, made: &'a [u8]) -> &'a [u8] {
         match &self.holding {
-            Holding::Bytes(bytes) => bytes.get(..self.holds).unwrap_or(bytes),
-            Holding::Anything => made,
+            Some(bytes) => bytes.get(..self.holds).unwrap_or(bytes),
+            None => made,
         }
     }
 
@@ -165,7 +167,7 @@ impl<'t> Case<'t> {
         if verb == "frames" {
             self.files.push(File::new(name, stream)).ok().ok_or(number)?;
         } else {
-            self.make(name, Holding::Bytes(stream));
+            self.make(name, Some(stream));
         }
         Ok(())
     }
@@ -182,7 +184,7 @@ impl<'t> Case<'t> {
         let file = given(alloc, texts, rest, content)?;
         match verb {
             "file" => self.files.push(file).ok()?,
-            "makes" => self.make(file.name, Holding::Bytes(file.bytes)),
+            "makes" => self.make(file.name, Some(file.bytes)),
             "out" => self.out.extend_from_slice(&file.bytes).ok()?,
             _ => self.err.extend_from_slice(&file.bytes).ok()?,
         }
@@ -192,19 +194,14 @@ impl<'t> Case<'t> {
     /// Takes what a heading says that has no content.
     fn take_plain(&mut self, alloc: Global, verb: &str, rest: &'t str) -> Option<()> {
         match verb {
-            "words" => self.add_words(alloc, rest)?,
-            "word" => self.add_word(alloc, rest)?,
-            "spelled" => self.add_spelled(alloc, rest)?,
+            "words" => return self.add_words(alloc, rest),
+            "word" => return self.add_word(alloc, rest),
+            "spelled" => return self.add_spelled(alloc, rest),
             "threads" => self.on_threads = true,
-            "front" | "turned" | "failing" => self.change(verb, rest.parse::<usize>().ok()?)?,
-            "absent" => {}
             "unread" => self.files.last_mut()?.is_unread = true,
-            "room" => self.room = rest.parse::<usize>().ok()?,
-            "makes-any" => self.make(rest, Holding::Anything),
-            "holds" => self.holds = rest.parse::<usize>().ok()?,
-            "status" => self.status = rest.parse::<usize>().ok()?,
-            "each" => self.sweep = Some(Sweep::of_words(alloc, rest)?),
-            _ => return None,
+            "makes-any" => self.make(rest, None),
+            "each" => self.sweep = Some(Sweep::of_words(Words::new(rest))?),
+            _ => return self.set(verb, Words::new(rest).size()?),
         }
         Some(())
     }

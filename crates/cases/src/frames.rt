@@ -1,9 +1,9 @@
 //! Streams of frames, by their parts.
 
-use crate::reading::{Block, LineNumber};
+use crate::reading::{Block, LineNumber, Words};
 use edge_log::Edge;
 use fragment_codec::{Fragment, Frame, Key, Opening, Record, write_frame};
-use ft_types::{Counts, Guest, HART_LIMIT, Hart, MemorySink};
+use ft_types::{Counts, Guest, Hart, MemorySink};
 use guest_image::read_image;
 use input_log::Input;
 use std::alloc::Global;
@@ -11,93 +11,68 @@ use std::alloc::Global;
 /// Room for a frame.
 const AMPLE: usize = 10_000;
 
-fn hart(text: &str) -> Option<Hart> {
-    match text.parse::<u8>().ok()? {
-        number if number < HART_LIMIT => Some(Hart::new(number)),
-        _ => None,
-    }
-}
-
-fn edge(piece: Hart, at: &str, other: &str, after: &str) -> Option<Record> {
-    Some(Record::Edge(Edge {
-        hart: piece,
-        at: at.parse::<u64>().ok()?,
-        other: hart(other)?,
-        after: after.parse::<u64>().ok()?,
-    }))
-}
-
-fn given(at: &str, input: Input) -> Option<Record> {
-    Some(Record::Input(at.parse::<u64>().ok()?, input))
-}
-
-/// Adds the first record of a piece of this hart that the words spell, and gives how many words it takes.
-fn add_record(records: &mut Vec<Record>, piece: Hart, words: &[&str]) -> Option<usize> {
-    let (first, taken) = match *words {
-        ["edge", at, other, after, ..] => (edge(piece, at, other, after)?, 4),
-        ["word", at, word, ..] => (
-            given(at, Input::Word(u32::from_str_radix(word, 16).ok()?))?,
-            3,
-        ),
-        ["timer", at, ..] => (given(at, Input::Timer)?, 2),
-        ["bell", at, source, ..] => (given(at, Input::Bell(hart(source)?))?, 3),
-        ["note", at, number, ..] => {
-            let at = at.parse::<u64>().ok()?;
-            (Record::Note(at, number.parse::<u64>().ok()?), 3)
-        }
+/// Adds the record of a piece of this hart that the next words spell.
+fn add_record(records: &mut Vec<Record>, words: &mut Words<'_>, hart: Hart) -> Option<()> {
+    let kind = words.word()?;
+    let at = words.number()?;
+    let next = match kind {
+        "edge" => Record::Edge(Edge {
+            hart,
+            at,
+            other: words.hart()?,
+            after: words.number()?,
+        }),
+        "word" => Record::Input(at, Input::Word(words.spelled()?)),
+        "timer" => Record::Input(at, Input::Timer),
+        "bell" => Record::Input(at, Input::Bell(words.hart()?)),
+        "note" => Record::Note(at, words.number()?),
         _ => return None,
     };
-    records.push(first).ok()?;
-    Some(taken)
+    records.push(next).ok()?;
+    Some(())
 }
 
-fn records(alloc: Global, piece: Hart, words: &[&str]) -> Option<Vec<Record>> {
+/// The records of a piece of this hart.
+fn records(alloc: Global, words: &mut Words<'_>, hart: Hart) -> Option<Vec<Record>> {
     let mut records = Vec::new(alloc);
-    let mut next = 0usize;
-    for _word in words {
-        let rest = words.get(next..)?;
-        if rest.is_empty() {
+    for _record in 0..words.most() {
+        if words.is_done() {
             break;
         }
-        next = next.saturating_add(add_record(&mut records, piece, rest)?);
+        add_record(&mut records, words, hart)?;
     }
     Some(records)
 }
 
-fn counts(alloc: Global, words: &[&str]) -> Option<Counts> {
+fn counts(alloc: Global, words: &mut Words<'_>) -> Option<Counts> {
     let mut counts = Vec::new(alloc);
-    for word in words {
-        counts.push(word.parse::<u64>().ok()?).ok()?;
+    for _count in 0..words.most() {
+        if words.is_done() {
+            break;
+        }
+        counts.push(words.number()?).ok()?;
     }
     Counts::from_slice(&counts)
 }
 
 /// The opening that these words spell: a term, its parent and its base.
-fn opening(alloc: Global, guest: Guest, words: &[&str]) -> Option<Frame> {
-    let base = counts(alloc, words.get(2..)?)?;
-    let opening = Opening::new(
-        guest,
-        words.get(0)?.parse::<u32>().ok()?,
-        words.get(1)?.parse::<u32>().ok()?,
-        base,
-    )?;
-    Some(Frame::Opening(opening))
-}
-
-fn key(words: &[&str]) -> Option<Key> {
-    Some(Key {
-        term: words.get(0)?.parse::<u32>().ok()?,
-        hart: hart(words.get(1)?)?,
-        place: words.get(2)?.parse::<u32>().ok()?,
-    })
+fn opening(alloc: Global, guest: Guest, words: &mut Words<'_>) -> Option<Frame> {
+    let term = words.small()?;
+    let parent = words.small()?;
+    let base = counts(alloc, words)?;
+    Some(Frame::Opening(Opening::new(guest, term, parent, base)?))
 }
 
 /// The piece that these words spell: a term, a hart, a place, from where to where it reaches, and its records.
-fn piece(alloc: Global, guest: Guest, words: &[&str]) -> Option<Frame> {
-    let key = key(words)?;
-    let from = words.get(3)?.parse::<u64>().ok()?;
-    let to = words.get(4)?.parse::<u64>().ok()?;
-    let records = records(alloc, key.hart, words.get(5..)?)?;
+fn piece(alloc: Global, guest: Guest, words: &mut Words<'_>) -> Option<Frame> {
+    let key = Key {
+        term: words.small()?,
+        hart: words.hart()?,
+        place: words.small()?,
+    };
+    let from = words.number()?;
+    let to = words.number()?;
+    let records = records(alloc, words, key.hart)?;
     Some(Frame::Log(Fragment::new(guest, key, from, to, records)?))
 }
 
@@ -121,44 +96,27 @@ impl Stream {
     }
 
     /// Where the byte with this number of the last part is.
-    fn place(&self, text: &str) -> Option<usize> {
-        Some(self.last.saturating_add(text.parse::<usize>().ok()?))
-    }
-
-    /// Adds the frame that these words spell.
-    fn take_frame(
-        &mut self,
-        alloc: Global,
-        guest: Guest,
-        kind: &str,
-        words: &[&str],
-    ) -> Option<()> {
-        let frame = match kind {
-            "opening" => opening(alloc, guest, words)?,
-            "piece" => piece(alloc, guest, words)?,
-            _ => return None,
-        };
-        self.add_frame(alloc, &frame)
+    fn place(&self, words: &mut Words<'_>) -> Option<usize> {
+        Some(self.last.saturating_add(words.size()?))
     }
 
     /// Adds what this line spells, or changes the last part.
     fn take(&mut self, alloc: Global, guest: Guest, line: &str) -> Option<()> {
-        let (kind, rest) = line.split_once(' ')?;
-        match kind {
-            "bytes" => self.add(&bytes_of_hex(alloc, rest)?),
+        let mut words = Words::new(line);
+        match words.word()? {
+            "opening" => self.add_frame(alloc, &opening(alloc, guest, &mut words)?),
+            "piece" => self.add_frame(alloc, &piece(alloc, guest, &mut words)?),
+            "bytes" => self.add(&bytes_of_hex(alloc, words.word()?)?),
             "cut" => {
-                let end = self.place(rest)?;
+                let end = self.place(&mut words)?;
                 self.bytes.truncate(end);
                 Some(())
             }
             "turn" => {
-                let place = self.place(rest)?;
+                let place = self.place(&mut words)?;
                 turn(&mut self.bytes, place)
             }
-            _ => {
-                let words: Vec<&str> = rest.split(' ').collect(alloc).ok()?;
-                self.take_frame(alloc, guest, kind, &words)
-            }
+            _ => None,
         }
     }
 }
@@ -190,7 +148,9 @@ pub fn stream_of(alloc: Global, image: &[u8], block: &Block<'_>) -> Result<Vec<u
         last: 0,
     };
     for part in &block.content {
-        stream.take(alloc, guest, part.text).ok_or(part.number)?;
+        if stream.take(alloc, guest, part.text).is_none() {
+            return Err(part.number);
+        }
     }
     Ok(stream.bytes)
 }

@@ -60,7 +60,9 @@ fn run_files<R: Env + Files + Print + AllocGlobal, P: Pairs>(
     requires { P.may_run threads.now }
 {
     let mut all_right = true;
-    for name in env::args(rt)?.skip(1) {
+    let mut names = env::args(rt)?;
+    let _program = names.next();
+    for name in names {
         all_right &= run_file(rt, name.as_str(), threads)?;
     }
     Ok(all_right)

@@ -1,5 +1,6 @@
-//! The lines of a case file: headings, and the content below each.
+//! The lines of a case file: headings, and the content below each; and the words of a line.
 
+use ft_types::{HART_LIMIT, Hart};
 use std::alloc::Global;
 
 /// A line's number, from 1 on. As an error it says which line is at fault.
@@ -46,7 +47,74 @@ pub fn blocks_of<'t>(alloc: Global, text: &'t str) -> Result<Vec<Block<'t>>, Lin
     let mut number = 0usize;
     for line in text.lines() {
         number = number.wrapping_add(1);
-        add_line(alloc, &mut blocks, number, line).ok_or(number)?;
+        if add_line(alloc, &mut blocks, number, line).is_none() {
+            return Err(number);
+        }
     }
     Ok(blocks)
+}
+
+/// The words of a line, which a space parts, and which are taken one by one.
+#[derive(Drop)]
+pub struct Words<'t> {
+    rest: &'t str,
+}
+
+impl<'t> Words<'t> {
+    pub fn new(text: &'t str) -> Words<'t> {
+        Words { rest: text }
+    }
+
+    /// How many there are, at the most.
+    pub fn most(&self) -> usize {
+        self.rest.len()
+    }
+
+    pub fn is_done(&self) -> bool {
+        self.rest.is_empty()
+    }
+
+    pub fn word(&mut self) -> Option<&'t str> {
+        if self.rest.is_empty() {
+            return None;
+        }
+        let (word, rest) = match self.rest.split_once(' ') {
+            Some(parts) => parts,
+            None => (self.rest, ""),
+        };
+        self.rest = rest;
+        Some(word)
+    }
+
+    pub fn number(&mut self) -> Option<u64> {
+        self.word()?.parse::<u64>().ok()
+    }
+
+    pub fn size(&mut self) -> Option<usize> {
+        Some(self.number()? as usize)
+    }
+
+    pub fn small(&mut self) -> Option<u32> {
+        match u32::try_from(self.number()?) {
+            Ok(number) => Some(number),
+            Err(_) => None,
+        }
+    }
+
+    pub fn hart(&mut self) -> Option<Hart> {
+        match self.number()? {
+            number if number < u64::from(HART_LIMIT) => Some(Hart::new(number as u8)),
+            _ => None,
+        }
+    }
+
+    /// The word that the next one spells in hexadecimal.
+    pub fn spelled(&mut self) -> Option<u32> {
+        u32::from_str_radix(self.word()?, 16).ok()
+    }
+
+    /// The byte that the next one spells in hexadecimal.
+    pub fn byte(&mut self) -> Option<u8> {
+        u8::from_str_radix(self.word()?, 16).ok()
+    }
 }

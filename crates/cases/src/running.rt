@@ -85,6 +85,37 @@ fn tell<R: Print>(rt: &R, case: &str, what: &str, bytes: &[u8], wanted: &[u8]) -
     Ok(right)
 }
 
+/// Tells the status of a case where it must be another one, and whether it need not.
+fn tell_status<R: Print>(rt: &R, label: &str, status: u8, wanted: usize) -> io::Result<bool> {
+    let right = usize::from(status) == wanted;
+    if !right {
+        println!(rt; "{label}: status {status}")?;
+    }
+    Ok(right)
+}
+
+/// Tells a file that was read and may not be, and whether there is none.
+fn tell_read<R: Print>(rt: &R, label: &str, case: &Case<'_>) -> io::Result<bool> {
+    for file in &case.files {
+        if !file.is_right() {
+            println!(rt; "{label}: {} was read", file.name)?;
+            return Ok(false);
+        }
+    }
+    Ok(true)
+}
+
+/// Tells under this label what came out otherwise, and whether nothing did.
+fn tell_all<R: Print>(rt: &R, label: &str, case: &Case<'_>, done: &Done) -> io::Result<bool> {
+    let made = done.made.bytes();
+    let mut right = tell_status(rt, label, done.status, case.status)?;
+    right &= tell(rt, label, "out", done.out.bytes(), case.wanted_out())?;
+    right &= tell(rt, label, "err", done.err.bytes(), &case.err)?;
+    right &= tell(rt, label, "made", made, case.wanted(made))?;
+    right &= tell_read(rt, label, case)?;
+    Ok(right)
+}
+
 /// Runs a case, and tells under this label what comes out otherwise.
 fn run_case<R: Print + AllocGlobal, P: Pairs>(
     rt: &R,
@@ -94,27 +125,12 @@ fn run_case<R: Print + AllocGlobal, P: Pairs>(
 ) -> io::Result<bool>
     requires { P.may_run threads.now }
 {
-    let alloc = rt.alloc();
     let done = if case.on_threads {
-        perform(alloc, case, threads)
+        perform(rt.alloc(), case, threads)
     } else {
-        perform(alloc, case, &InTurn)
+        perform(rt.alloc(), case, &InTurn)
     };
-    let wanted = case.wanted(done.made.bytes());
-    let mut right = usize::from(done.status) == case.status;
-    if !right {
-        println!(rt; "{label}: status {}", done.status)?;
-    }
-    right &= tell(rt, label, "out", done.out.bytes(), case.wanted_out())?;
-    right &= tell(rt, label, "err", done.err.bytes(), &case.err)?;
-    right &= tell(rt, label, "made", done.made.bytes(), wanted)?;
-    for file in &case.files {
-        if !file.is_right() {
-            println!(rt; "{label}: {} was read", file.name)?;
-            right = false;
-        }
-    }
-    Ok(right)
+    tell_all(rt, label, case, &done)
 }
 
 /// Runs a case in each way of a sweep, and adds how many these are.
@@ -122,7 +138,7 @@ fn run_sweep<R: Print + AllocGlobal, P: Pairs>(
     rt: &R,
     label: &str,
     case: &mut Case<'_>,
-    sweep: Sweep,
+    sweep: Sweep<'_>,
     threads: &P,
     calls: &mut usize,
 ) -> io::Result<bool>
@@ -131,7 +147,7 @@ fn run_sweep<R: Print + AllocGlobal, P: Pairs>(
     let mut all_right = true;
     for place in sweep.places.0..=sweep.places.1 {
         for value in sweep.values.0..=sweep.values.1 {
-            if case.set(sweep, place, value) {
+            if case.vary(sweep, place, value) {
                 let label = format!(in rt.alloc(); "{label}, {place}, {value}")?;
                 all_right &= run_case(rt, label.as_str(), case, threads)?;
                 *calls = calls.saturating_add(1);

@@ -120,7 +120,7 @@ enum Deed {
 }
 
 /// What it then says that it acknowledges.
-#[derive(Clone, Copy, Debug, PartialEq, Eq)]
+#[derive(Clone, Copy, PartialEq, Eq)]
 enum Told {
     /// A term and a count of the one hart.
     At(Term, Count),
@@ -143,7 +143,10 @@ fn begin(alloc: Global, drawer: Drawer) -> Result<Kept, PlaceFault> {
 fn says(keeper: &Kept) -> Told {
     match keeper.acknowledged() {
         Ok(position) => {
-            let count = position.counts.as_slice().first().copied().unwrap_or(0);
+            let count = match position.counts.as_slice() {
+                [count] => *count,
+                _ => 0,
+            };
             Told::At(position.term, count)
         }
         Err(KeepFault::Unsaved) => Told::Unsaved,
@@ -173,17 +176,17 @@ fn after(alloc: Global, mut keeper: Kept, deed: Deed) -> Result<(Kept, bool), Fa
     Ok((keeper, done?))
 }
 
-/// The first row that goes otherwise, where the write of this number fails.
-fn first_wrong(alloc: Global, failing: u32, rows: &[Row]) -> Result<Option<usize>, Fail> {
+/// Whether each row goes so, where the write of this number fails.
+fn go_so(alloc: Global, failing: u32, rows: &[Row]) -> Result<bool, Fail> {
     let mut keeper = begin(alloc, Drawer::new(alloc, failing))?;
-    for (number, (deed, done, acknowledged, term)) in rows.iter().enumerate() {
+    for (deed, done, acknowledged, term) in rows {
         let (next, was_done) = after(alloc, keeper, *deed)?;
         keeper = next;
         if was_done != *done || says(&keeper) != *acknowledged || keeper.give().term != *term {
-            return Ok(Some(number));
+            return Ok(false);
         }
     }
-    Ok(None)
+    Ok(true)
 }
 
 const OPENING: Deed = Deed::Takes(Come::Opening(1, 0, &[0]));
@@ -193,7 +196,7 @@ const TO_FOUR: Deed = Deed::Takes(Come::Piece(1, 0, 0, 0, 4, &[]));
 const TO_SIX: Deed = Deed::Takes(Come::Piece(1, 0, 1, 4, 6, &[]));
 
 /// Only what is saved is acknowledged, and it comes back with that; behind a fence nothing of an earlier term is.
-static FENCED: [Row; 12] = [
+const FENCED: &[Row] = &[
     (OPENING, true, Told::Fenced, 1),
     (Deed::Saves, true, Told::At(1, 0), 1),
     (TO_FOUR, true, Told::At(1, 0), 1),
@@ -209,7 +212,7 @@ static FENCED: [Row; 12] = [
 ];
 
 /// What a failed write leaves is not acknowledged until it is written, and a fence that is not written is not raised.
-static FAILING: [Row; 5] = [
+const FAILING: &[Row] = &[
     (OPENING, true, Told::Fenced, 1),
     (TO_FOUR, true, Told::Fenced, 1),
     (Deed::Saves, false, Told::Unsaved, 1),
@@ -217,18 +220,23 @@ static FAILING: [Row; 5] = [
     (Deed::Raises(2), true, Told::Fenced, 2),
 ];
 
-static UNFENCED: [Row; 4] = [
+const UNFENCED: &[Row] = &[
     (OPENING, true, Told::Fenced, 1),
     (Deed::Raises(2), false, Told::Fenced, 1),
     (Deed::Saves, true, Told::At(1, 0), 1),
     (Deed::Raises(1), true, Told::At(1, 0), 1),
 ];
 
+/// The number of the write that fails, or 0, and what happens.
+static KEEPERS: [(u32, &[Row]); 3] = [(0, FENCED), (1, FAILING), (1, UNFENCED)];
+
 #[test]
 fn what_keepers_acknowledge(rt: HostRuntime) -> Result<(), Fail> {
     keepers_follow::<(), ()>();
-    assert_eq!(rt; first_wrong(rt.alloc(), 0, &FENCED)?, None);
-    assert_eq!(rt; first_wrong(rt.alloc(), 1, &FAILING)?, None);
-    assert_eq!(rt; first_wrong(rt.alloc(), 1, &UNFENCED)?, None);
+    let mut right = true;
+    for (failing, rows) in &KEEPERS {
+        right = right && go_so(rt.alloc(), *failing, rows)?;
+    }
+    assert!(rt; right);
     Ok(())
 }

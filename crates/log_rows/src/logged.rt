@@ -72,7 +72,10 @@ fn log(alloc: Global, station: KeeperStation, shelf: &mut Shelf) -> Result<Told,
         return Err("the log takes it".into());
     };
     match position {
-        Some(it) => Ok(Some((it.term, it.counts.as_slice().first().copied().unwrap_or(0)))),
+        Some(it) => match it.counts.as_slice() {
+            [count] => Ok(Some((it.term, *count))),
+            _ => Err("one hart".into()),
+        },
         None => Ok(None),
     }
 }
@@ -133,33 +136,33 @@ static BEHIND: [Row; 2] = [
     (&[Come::Opening(2, 1, &[6])], Some((2, 6))),
 ];
 
-/// The first row of which something else is acknowledged.
-fn first_wrong(alloc: Global, shelf: &mut Shelf, rows: &[Row]) -> Result<Option<usize>, Fail> {
-    for (number, (comes, told)) in rows.iter().enumerate() {
+/// Whether each row is acknowledged so.
+fn are_acknowledged(alloc: Global, shelf: &mut Shelf, rows: &[Row]) -> Result<bool, Fail> {
+    for (comes, told) in rows {
         if keep(alloc, shelf, comes)? != *told {
-            return Ok(Some(number));
+            return Ok(false);
         }
         // A killed keeper left the beginning of a frame.
         shelf.log.extend_from_slice(b"V")?;
     }
-    Ok(None)
+    Ok(true)
+}
+
+/// Whether rows are acknowledged before a log is handed over, once, and behind that.
+fn is_handed_once(alloc: Global, shelf: &mut Shelf) -> Result<bool, Fail> {
+    let before = are_acknowledged(alloc, shelf, &BEFORE)?;
+    let size = shelf.log.len().saturating_sub(1);
+    let once = hand(alloc, shelf, 2)? == Some((size, 3)) && hand(alloc, shelf, 2)?.is_none();
+    Ok(before && once && are_acknowledged(alloc, shelf, &BEHIND)?)
 }
 
 #[test]
 fn what_a_log_keeps_is_handed_over(rt: HostRuntime) -> Result<(), Fail> {
     handshake();
-    let alloc = rt.alloc();
     let mut shelf = Shelf {
-        log: Vec::new(alloc),
+        log: Vec::new(rt.alloc()),
         fence: 0,
     };
-    assert_eq!(rt; first_wrong(alloc, &mut shelf, &BEFORE)?, None);
-    let size = shelf.log.len();
-    assert_eq!(rt;
-        hand(alloc, &mut shelf, 2)?,
-        Some((size.saturating_sub(1), 3))
-    );
-    assert_eq!(rt; hand(alloc, &mut shelf, 2)?, None);
-    assert_eq!(rt; first_wrong(alloc, &mut shelf, &BEHIND)?, None);
+    assert!(rt; is_handed_once(rt.alloc(), &mut shelf)?);
     Ok(())
 }

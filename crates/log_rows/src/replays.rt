@@ -1,12 +1,11 @@
-//! Plans that were worked out by hand, and replays that need a plan of their own. What plans lead to the cases of `replay` show.
+//! Plans that were worked out by hand. What they lead to the cases of `replay` and `replays` show.
 
 use crate::come::{Come, Fact, guest_of, records_of, store_of};
 use closed_cut::position;
-use fixtures::{HALTS, TWO_LOOPS, edge, hart, image_of};
+use fixtures::{edge, hart};
 use fragment_codec::Record;
-use ft_types::{Count, HART_LIMIT, Hart, Memory, Term};
-use guest_image::Machine;
-use hart_replay::{Plan, PlannedLeg, honest_plans, honest_primaries, plan, replay_plain};
+use ft_types::{Count, HART_LIMIT, Memory, Term};
+use hart_replay::{Plan, PlannedLeg, honest_plans, honest_primaries, plan};
 use log_join::Store;
 use std::alloc::Global;
 use std::result::Result;
@@ -195,8 +194,9 @@ fn gives(
         return Ok(false);
     }
     for (input, want) in there.iter().zip(&wanted) {
-        if Record::Input(count, *input) != *want {
-            return Ok(false);
+        match want {
+            Record::Input(_, wanted) if *input == *wanted => {}
+            _ => return Ok(false),
         }
     }
     Ok(true)
@@ -218,13 +218,13 @@ fn is_so(alloc: Global, leg: &PlannedLeg, want: &Leg) -> Result<bool, Memory> {
 }
 
 /// Whether the plan of the row's store has its legs.
-fn is_planned(alloc: Global, (harts, frames, legs): Row) -> Result<bool, Fail> {
-    let plan = plan_of(alloc, &store_of(alloc, guest_of(harts), frames)?)?;
+fn is_planned(alloc: Global, (harts, frames, legs): &Row) -> Result<bool, Fail> {
+    let plan = plan_of(alloc, &store_of(alloc, guest_of(*harts), frames)?)?;
     let there = plan.legs();
-    if there.len() != legs.len() || plan.guest() != guest_of(harts) {
+    if there.len() != legs.len() || plan.guest() != guest_of(*harts) {
         return Ok(false);
     }
-    for (leg, want) in there.iter().zip(legs) {
+    for (leg, want) in there.iter().zip(legs.iter()) {
         if !is_so(alloc, leg, want)? {
             return Ok(false);
         }
@@ -234,9 +234,11 @@ fn is_planned(alloc: Global, (harts, frames, legs): Row) -> Result<bool, Fail> {
 
 #[test]
 fn plans(rt: HostRuntime) -> Result<(), Fail> {
-    for (number, row) in ROWS.iter().enumerate() {
-        assert!(rt; is_planned(rt.alloc(), *row)?, "{number}");
+    let mut right = true;
+    for row in &ROWS {
+        right = right && is_planned(rt.alloc(), row)?;
     }
+    assert!(rt; right);
     Ok(())
 }
 
@@ -272,44 +274,19 @@ static NOTES: [(u8, &[Come], &[Count]); 3] = [
     ),
 ];
 
+/// Whether the plan of a store knows that.
+fn has_marks(alloc: Global, harts: u8, frames: &[Come], marks: &[Count]) -> Result<bool, Fail> {
+    let plan = plan_of(alloc, &store_of(alloc, guest_of(harts), frames)?)?;
+    Ok(plan.marks().as_slice() == marks)
+}
+
 #[test]
 fn marks_of_plans(rt: HostRuntime) -> Result<(), Fail> {
-    for (harts, frames, marks) in NOTES {
-        let plan = plan_of(rt.alloc(), &store_of(rt.alloc(), guest_of(harts), frames)?)?;
-        assert_eq!(rt; plan.marks().as_slice(), marks);
+    let mut right = true;
+    for (harts, frames, marks) in &NOTES {
+        right = right && has_marks(rt.alloc(), *harts, frames, marks)?;
     }
-    Ok(())
-}
-
-/// The count of the first hart, or 0 where there is none.
-fn first_count(machine: &Machine) -> Count {
-    if machine.harts() == 0 {
-        return 0;
-    }
-    machine.hart(Hart::new(0)).count()
-}
-
-/// The count of the first hart, to which an image's replay of another one's log comes: else the number of the fault.
-fn outcome(
-    alloc: Global,
-    file: &[u8],
-    other: &[u8],
-    frames: &[Come],
-) -> Result<Result<Count, u8>, Fail> {
-    let image = image_of(alloc, file)?;
-    let store = store_of(alloc, image_of(alloc, other)?.guest(), frames)?;
-    let plan = plan_of(alloc, &store)?;
-    match replay_plain(alloc, &image, &plan) {
-        Ok(machine) => Ok(Ok(first_count(&machine))),
-        Err(fault) => Ok(Err(fault.number())),
-    }
-}
-
-#[test]
-fn replays(rt: HostRuntime) -> Result<(), Fail> {
-    let frames = [Come::Opening(1, 0, &[0]), Come::Piece(1, 0, 0, 0, 4, &[])];
-    assert_eq!(rt; outcome(rt.alloc(), HALTS, HALTS, &frames)?, Ok(4));
-    assert_eq!(rt; outcome(rt.alloc(), TWO_LOOPS, HALTS, &frames)?, Err(3));
+    assert!(rt; right);
     Ok(())
 }
 

@@ -1,9 +1,9 @@
 //! Followers that keep up with stores.
 
 use crate::runs::{came_to, leads_in_turn};
-use fixtures::{Dice, HALTS, cut, image_of, key};
-use fragment_codec::{Fragment, Frame, Opening, first_opening};
-use ft_types::{Count, Counts, Guest, Hart, Memory};
+use fixtures::{Dice, HALTS, cut, image_of, key, opening_of, piece_of};
+use fragment_codec::{Frame, first_opening};
+use ft_types::{Count, Counts, Guest, Hart, Memory, Term};
 use guest_image::{Image, Machine};
 use hart_replay::ReplayFault;
 use lease_rounds::run_plain;
@@ -51,39 +51,43 @@ fn put(alloc: Global, store: &mut Store, frame: &Frame) -> Result<(), Memory> {
     Ok(())
 }
 
-/// A row says what comes, and where the follower stands once it went on, if it does: the opening of term 1 to a new store (1, 0, 0, 0),
-/// an opening of term 2 at a base (2, base, 0, 0), or a piece of term 1 (3, place, from, to); whether it goes on; the position's term
-/// and count, the machine's count, how many steps it took last; and its fault, or 0.
-type Row = [u64; 10];
+/// Of a piece of term 1 its place, from and to, behind 0; of an opening its term, 0 and its base.
+type Comes = (Term, u32, Count, Count);
 
-/// A second opening of term 2 changes the chain, and a second piece at one key takes the position back. A second piece costs its own
-/// steps alone. A piece past the halt of hart 0 at 4 is refused.
-static ROWS: [Row; 11] = [
-    [1, 0, 0, 0, 0, 0, 0, 0, 0, 0],
-    [2, 3, 0, 0, 0, 0, 0, 0, 0, 0],
-    [3, 0, 0, 4, 1, 2, 3, 3, 3, 0],
-    [2, 4, 0, 0, 1, 1, 4, 4, 4, 0],
-    [3, 0, 0, 2, 1, 1, 0, 0, 0, 0],
-    [1, 0, 0, 0, 0, 0, 0, 0, 0, 0],
-    [3, 0, 0, 3, 1, 1, 3, 3, 3, 0],
-    [3, 1, 3, 4, 1, 1, 4, 4, 1, 0],
-    [1, 0, 0, 0, 0, 0, 0, 0, 0, 0],
-    [3, 0, 0, 4, 1, 1, 4, 4, 4, 0],
-    [3, 1, 4, 5, 1, 1, 4, 4, 4, 204],
+/// Where a follower stands: the position's term and count, the machine's count, and how many steps it took last.
+type Stand = (u64, u64, u64, u64);
+
+/// What comes; and where the follower stands once it went on, if it does, with the number of its fault, or 0.
+type Row = (Comes, Option<(Stand, u64)>);
+
+/// What comes to a store of a guest that halts at 4. A second opening of term 2 changes the chain, and a second piece at one key takes the position
+/// back. A second piece costs its own steps alone. A piece past the halt is refused.
+static STORES: [&[Row]; 3] = [
+    &[
+        ((1, 0, 0, 0), None),
+        ((2, 0, 3, 0), None),
+        ((0, 0, 0, 4), Some(((2, 3, 3, 3), 0))),
+        ((2, 0, 4, 0), Some(((1, 4, 4, 4), 0))),
+        ((0, 0, 0, 2), Some(((1, 0, 0, 0), 0))),
+    ],
+    &[
+        ((1, 0, 0, 0), None),
+        ((0, 0, 0, 3), Some(((1, 3, 3, 3), 0))),
+        ((0, 1, 3, 4), Some(((1, 4, 4, 1), 0))),
+    ],
+    &[
+        ((1, 0, 0, 0), None),
+        ((0, 0, 0, 4), Some(((1, 4, 4, 4), 0))),
+        ((0, 1, 4, 5), Some(((1, 4, 4, 4), 204))),
+    ],
 ];
 
-/// What the row brings.
-fn frame_of(alloc: Global, guest: Guest, row: &Row) -> Option<Frame> {
-    let [kind, first, from, to, _, _, _, _, _, _] = *row;
-    if kind == 3 {
-        let key = key(1, 0, u32::try_from(first).ok()?);
-        let piece = Fragment::new(guest, key, from, to, Vec::new(alloc))?;
-        return Some(Frame::Log(piece));
+/// The frame that comes.
+fn frame_of(alloc: Global, guest: Guest, (term, place, from, to): Comes) -> Result<Frame, Fail> {
+    match term {
+        0 => piece_of(alloc, guest, key(1, 0, place), from, to, &[]),
+        _ => opening_of(guest, term, term.saturating_sub(1), &[from]),
     }
-    let term = u32::try_from(kind).ok()?;
-    let base = Counts::from_slice(&[first])?;
-    let opening = Opening::new(guest, term, term.saturating_sub(1), base)?;
-    Some(Frame::Opening(opening))
 }
 
 /// Where a hart halted inside, as its number and the last digit of its count: 0 where none did.
@@ -94,7 +98,7 @@ fn halted_at(fault: &ReplayFault) -> u64 {
     }
 }
 
-/// The fault as a number: its own, and for a halt the number with the hart and the count behind it.
+/// The fault as a number: its own, and for a halt 200 with the hart and the last digit of the count.
 fn number_of(answer: Result<(), ReplayFault>) -> u64 {
     let Err(fault) = answer else {
         return 0;
@@ -114,92 +118,58 @@ fn count_of(machine: &Machine) -> Count {
     }
 }
 
-/// Where the follower of a guest with one hart stands, as a row says it.
-fn stand_of(follower: &Follower) -> [u64; 4] {
+/// Whether the follower of a guest with one hart stands there.
+fn stands_at(follower: &Follower, (term, count, reached, steps): Stand) -> bool {
     let position = follower.position();
-    let count = position.counts.as_slice().first().copied().unwrap_or(0);
-    let reached = count_of(follower.machine());
-    [
-        u64::from(position.term),
-        count,
-        reached,
-        follower.last_steps(),
-    ]
+    u64::from(position.term) == term
+        && position.counts.as_slice() == [count].as_slice()
+        && count_of(follower.machine()) == reached
+        && follower.last_steps() == steps
 }
 
-/// A follower and a store to which nothing came.
-fn new_pair(alloc: Global, image: &Image) -> Result<(Follower, Store), Memory> {
-    let follower = Follower::new(alloc, image)?;
-    Ok((follower, Store::new(alloc, image.guest())))
-}
-
-/// What the row brings comes to the store.
-fn bring(alloc: Global, store: &mut Store, row: &Row) -> Result<(), Memory> {
-    match frame_of(alloc, store.guest(), row) {
-        Some(frame) => put(alloc, store, &frame),
-        None => Err(Memory),
-    }
-}
-
-/// Where the follower stands once it went on, and its fault.
-fn gone_on(alloc: Global, follower: &mut Follower, store: &Store) -> ([u64; 4], u64) {
-    let fault = number_of(advance(alloc, follower, store));
-    (stand_of(&*follower), fault)
-}
-
-/// The first of the rows by which the follower does not stand there, with where it stands and its fault.
-fn first_astray(alloc: Global, image: &Image) -> Result<Option<(usize, [u64; 4], u64)>, Memory> {
-    let (mut follower, mut store) = new_pair(alloc, image)?;
-    for (number, row) in ROWS.iter().enumerate() {
-        if row[0] == 1 {
-            (follower, store) = new_pair(alloc, image)?;
-        }
-        bring(alloc, &mut store, row)?;
-        if row[4] == 1 {
-            let (stand, fault) = gone_on(alloc, &mut follower, &store);
-            if stand != [row[5], row[6], row[7], row[8]] || fault != row[9] {
-                return Ok(Some((number, stand, fault)));
+/// Whether a follower of a new store goes on as these rows say.
+fn goes_on(alloc: Global, image: &Image, rows: &[Row]) -> Result<bool, Fail> {
+    let mut follower = Follower::new(alloc, image)?;
+    let mut store = Store::new(alloc, image.guest());
+    for (comes, told) in rows {
+        put(alloc, &mut store, &frame_of(alloc, image.guest(), *comes)?)?;
+        if let Some((stand, fault)) = told {
+            let number = number_of(advance(alloc, &mut follower, &store));
+            if number != *fault || !stands_at(&follower, *stand) {
+                return Ok(false);
             }
         }
     }
-    Ok(None)
-}
-
-/// The fault of another guest's store.
-fn of_another_guest(alloc: Global, image: &Image, other: Guest) -> Result<u64, Memory> {
-    let mut follower = Follower::new(alloc, image)?;
-    Ok(number_of(advance(alloc, &mut follower, &Store::new(alloc, other))))
+    Ok(true)
 }
 
 #[test]
 fn where_followers_stand(rt: HostRuntime) -> Result<(), Fail> {
     let image = image_of(rt.alloc(), HALTS)?;
-    let astray = match first_astray(rt.alloc(), &image) {
-        Ok(astray) => astray,
-        Err(Memory) => first_astray(rt.alloc(), &image)?,
-    };
-    assert!(rt; astray.is_none(), "{astray:?}");
+    let mut right = true;
+    for rows in &STORES {
+        right = right && goes_on(rt.alloc(), &image, rows)?;
+    }
+    assert!(rt; right);
     Ok(())
 }
 
-#[test]
-fn another_guest_is_not_followed(rt: HostRuntime) -> Result<(), Fail> {
-    let image = image_of(rt.alloc(), HALTS)?;
-    let other = image_of(rt.alloc(), ADDS)?.guest();
-    let fault = match of_another_guest(rt.alloc(), &image, other) {
-        Ok(fault) => fault,
-        Err(Memory) => of_another_guest(rt.alloc(), &image, other)?,
-    };
-    assert_eq!(rt; fault, u64::from(ReplayFault::OtherGuest.number()));
-    Ok(())
+/// Whether another guest's store is not followed.
+pub fn is_not_followed(alloc: Global, image: &Image, store: &Store) -> Result<bool, Memory> {
+    let mut follower = Follower::new(alloc, image)?;
+    match advance(alloc, &mut follower, store) {
+        Err(ReplayFault::OtherGuest) => Ok(true),
+        _ => Ok(false),
+    }
 }
 
 /// The book after each hart went on to this count, or halted.
 fn gone_to(alloc: Global, book: Book<Recording>, count: Count) -> Result<Book<Recording>, Memory> {
     let mut book = book;
-    let limits = Counts::from_slice(&[count; 4]).ok_or(Memory)?;
-    if book.machine().harts() == limits.harts() {
-        book.limit_to(limits);
+    if let Some(limits) = Counts::from_slice(&[count; 4]) {
+        if book.machine().harts() == limits.harts() {
+            book.limit_to(limits);
+        }
     }
     book.reclaim();
     match run_plain(alloc, book) {
@@ -273,14 +243,14 @@ fn number_at(turn: u32, dice: &mut Dice) -> usize {
     }
 }
 
-/// The first turn at which the follower does not keep up with the store, to which these pieces come by chance and in the end all.
-fn first_left_behind(
+/// Whether the follower keeps up with the store, to which these pieces come by chance and in the end all.
+fn always_keeps_up(
     alloc: Global,
     image: &Image,
     follower: &mut Follower,
     store: &mut Store,
     pieces: &[Frame],
-) -> Result<Option<u32>, Memory> {
+) -> Result<bool, Memory> {
     let mut dice = Dice::new(0x9e37);
     for turn in 0..120u32 {
         let number = number_at(turn, &mut dice);
@@ -288,36 +258,26 @@ fn first_left_behind(
             put(alloc, store, piece)?;
         }
         if !keeps_up(alloc, image, follower, store)? {
-            return Ok(Some(turn));
+            return Ok(false);
         }
     }
-    Ok(None)
+    Ok(true)
 }
 
-/// That of a follower of harts that add, and the steps to where it stands in the end.
-fn followed(alloc: Global, image: &Image) -> Result<(Option<u32>, u64), Memory> {
+/// Whether a follower of harts that add does, and stands at their end at last.
+fn is_followed(alloc: Global, image: &Image) -> Result<bool, Memory> {
     let pieces = many_pieces(alloc, image)?;
     let mut follower = Follower::new(alloc, image)?;
     let mut store = Store::new(alloc, image.guest());
-    put(
-        alloc,
-        &mut store,
-        &Frame::Opening(first_opening(image.guest())),
-    )?;
-    let behind = first_left_behind(alloc, image, &mut follower, &mut store, &pieces)?;
-    Ok((behind, steps_to(&follower)))
+    let opening = Frame::Opening(first_opening(image.guest()));
+    put(alloc, &mut store, &opening)?;
+    let followed = always_keeps_up(alloc, image, &mut follower, &mut store, &pieces)?;
+    Ok(followed && steps_to(&follower) == 4 * 305)
 }
 
 #[test]
 fn piece_by_piece_in_any_order(rt: HostRuntime) -> Result<(), Fail> {
     let image = image_of(rt.alloc(), ADDS)?;
-    let (behind, steps) = match followed(rt.alloc(), &image) {
-        Ok(answer) => answer,
-        Err(Memory) => followed(rt.alloc(), &image)?,
-    };
-    assert!(rt;
-        behind.is_none() && steps == 4 * 305,
-        "turn {behind:?}, {steps} steps"
-    );
+    assert!(rt; is_followed(rt.alloc(), &image)?);
     Ok(())
 }

@@ -1,7 +1,7 @@
-//! What the keepers of a pair hold, and what went out.
+//! What the keepers of a pair hold, and what the primary's book notes. What goes out the cases of `pairs` show, and the clauses of `run_pair` say that
+//! it is all, in order, where none is kept back.
 
 use crate::runs::leads_in_turn;
-use closed_cut::position;
 use command_line::PairOrders;
 use fixtures::image_of;
 use ft_types::{HART_LIMIT, Hart, Memory};
@@ -17,12 +17,12 @@ use std::thread::Threads;
 use tracked_position::Tracked;
 
 /// Four harts, each of which adds 1 to one word 600 times, and halts.
-static ADDS: &[u8] =
+const ADDS: &[u8] =
     b"harts 4\npages 2\n800010b7\n25800113\n00100193\n0030a02f\nfff10113\nfe011ce3\nf0000237\n00022a23\n";
 
 /// Four harts, each of which puts out the numbers from 1,500 down to 1, one every three steps, and halts: 4,503 steps, which are
 /// two rounds.
-static COUNTS_DOWN: &[u8] =
+const COUNTS_DOWN: &[u8] =
     b"harts 4\npages 1\nf00000b7\n5dc00113\n0020a423\nfff10113\nfe011ce3\n0000aa23\n";
 
 /// The end of a pair of this image.
@@ -33,24 +33,25 @@ fn end_of<R: Threads + Wait + Sync>(
     keepers: u64,
     need: u64,
 ) -> Result<PairEnd, Memory> {
-    let orders = PairOrders::new(100_000, keepers, need).ok_or(Memory)?;
+    let Some(orders) = PairOrders::new(100_000, keepers, need) else {
+        return Err(Memory);
+    };
     Ok(run_pair(rt, alloc, image, &[], &orders)?)
 }
 
-/// How many of these keepers' stores each replay to this machine.
-fn faithful(
+/// Whether each of these keepers' stores replays to this machine.
+fn all_lead(
     alloc: Global,
     image: &Image,
     stores: &[Tracked],
     machine: &Machine,
-) -> Result<usize, Memory> {
-    let mut faithful = 0usize;
+) -> Result<bool, Memory> {
     for store in stores {
-        if leads_in_turn(alloc, image, store.store(), machine)? {
-            faithful = faithful.saturating_add(1);
+        if !leads_in_turn(alloc, image, store.store(), machine)? {
+            return Ok(false);
         }
     }
-    Ok(faithful)
+    Ok(true)
 }
 
 /// Whether all that these keepers hold does.
@@ -67,67 +68,6 @@ fn join_leads(
         }
     }
     leads_in_turn(alloc, image, &all, machine)
-}
-
-/// How many of these outputs, from the first on, stand by hart and number as harts that count down put them out.
-fn in_order(released: &[Output]) -> usize {
-    for (place, output) in released.iter().enumerate() {
-        let number = place as u64 % 1500;
-        let wanted = (place / 1500, number, 2 + 3 * number, 1500 - number);
-        let found = (
-            output.hart.index(),
-            output.number,
-            output.step,
-            u64::from(output.word),
-        );
-        if found != wanted {
-            return place;
-        }
-    }
-    released.len()
-}
-
-/// Of each output how many of these keepers hold it, whose positions are found from scratch.
-fn holders(alloc: Global, stores: &[Tracked], released: &[Output]) -> Result<Vec<u8>, Memory> {
-    let mut holders = Vec::new(alloc);
-    for _output in released {
-        holders.push(0u8)?;
-    }
-    for store in stores {
-        let reached = position(alloc, store.store())?;
-        for (held, output) in holders.iter_mut().zip(released) {
-            let count = reached.counts.as_slice().get(output.hart.index());
-            if count.copied().unwrap_or(0) > output.step {
-                *held = held.saturating_add(1);
-            }
-        }
-    }
-    Ok(holders)
-}
-
-/// How many of these outputs are held by so many of these keepers.
-fn held(
-    alloc: Global,
-    stores: &[Tracked],
-    need: u64,
-    released: &[Output],
-) -> Result<usize, Memory> {
-    let mut held = 0usize;
-    for holders in holders(alloc, stores, released)? {
-        if u64::from(holders) >= need {
-            held = held.saturating_add(1);
-        }
-    }
-    Ok(held)
-}
-
-/// The steps of all harts.
-fn steps_of(machine: &Machine) -> usize {
-    let mut steps = 0usize;
-    for number in 0..machine.harts().min(HART_LIMIT) {
-        steps = steps.saturating_add(machine.hart(Hart::new(number)).count() as usize);
-    }
-    steps
 }
 
 /// How many of these outputs are the hart's, with a number below this one.
@@ -154,37 +94,15 @@ fn notes_are_true(book: &Book<Recording>, released: &[Output]) -> bool {
     true
 }
 
-/// Of what a pair left: the steps of its harts, how many keepers it has, how many of their stores replay to its machine, and whether all
-/// joined do; how many outputs went out, and stand in order, and are held by as many keepers as are needed.
-fn counted(
-    alloc: Global,
-    image: &Image,
-    stores: &[Tracked],
-    released: &[Output],
-    machine: &Machine,
-    need: u64,
-) -> Result<([usize; 6], bool), Memory> {
-    let faithful = faithful(alloc, image, stores, machine)?;
-    let held = held(alloc, stores, need, released)?;
-    let numbers = [
-        steps_of(machine),
-        stores.len(),
-        faithful,
-        released.len(),
-        in_order(released),
-        held,
-    ];
-    Ok((numbers, join_leads(alloc, image, stores, machine)?))
-}
-
-/// The same of a pair of this image, where no output is kept back, and what is noted went out.
-fn counted_of<R: Threads + Wait + Sync>(
+/// Whether of a pair of this image no output is kept back, all that is noted went out, and the store of each keeper and all joined replay to
+/// its machine.
+fn is_right<R: Threads + Wait + Sync>(
     rt: &R,
     alloc: Global,
     image: &Image,
     keepers: u64,
     need: u64,
-) -> Result<([usize; 6], bool), Memory> {
+) -> Result<bool, Memory> {
     let PairEnd {
         released,
         early: _,
@@ -192,24 +110,23 @@ fn counted_of<R: Threads + Wait + Sync>(
         book,
         stores,
     } = end_of(rt, alloc, image, keepers, need)?;
-    let is_true = notes_are_true(&book, &released);
+    let is_true = kept == 0 && notes_are_true(&book, &released);
     let machine = book.into_machine();
-    let (numbers, is_whole) = counted(alloc, image, &stores, &released, &machine, need)?;
-    Ok((numbers, is_whole && is_true && kept == 0))
+    let lead = all_lead(alloc, image, &stores, &machine)?;
+    let has_all = stores.len() as u64 == keepers;
+    Ok(is_true && lead && has_all && join_leads(alloc, image, &stores, &machine)?)
 }
 
+/// A guest, how many keepers it has, and how many must hold what goes out.
+static PAIRS: [(&[u8], u64, u64); 2] = [(ADDS, 3, 2), (COUNTS_DOWN, 5, 3)];
+
 #[test]
-fn what_keepers_hold_and_what_goes_out(rt: HostRuntime) -> Result<(), Fail> {
-    for (file, keepers, need, wanted) in [
-        (ADDS, 3, 2, [4 * 1805, 3, 3, 0, 0, 0]),
-        (COUNTS_DOWN, 5, 3, [4 * 4503, 5, 5, 6000, 6000, 6000]),
-    ] {
-        let image = image_of(rt.alloc(), file)?;
-        let (found, is_whole) = match counted_of(&rt, rt.alloc(), &image, keepers, need) {
-            Ok(found) => found,
-            Err(Memory) => counted_of(&rt, rt.alloc(), &image, keepers, need)?,
-        };
-        assert!(rt; is_whole && found == wanted, "{keepers} keepers: {found:?}");
+fn what_keepers_hold(rt: HostRuntime) -> Result<(), Fail> {
+    let mut right = true;
+    for (file, keepers, need) in &PAIRS {
+        let image = image_of(rt.alloc(), *file)?;
+        right = right && is_right(&rt, rt.alloc(), &image, *keepers, *need)?;
     }
+    assert!(rt; right);
     Ok(())
 }

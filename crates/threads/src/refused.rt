@@ -1,11 +1,12 @@
 //! A replay that refuses another guest's plan; and primaries and replays to which memory is refused once. What is seen by hand, where
 //! each allocation is refused in turn, is that who is asked again comes to the machine that ran.
 
+use crate::followers::is_not_followed;
 use crate::runs::{in_turn, leads, on_threads, planned};
 use fixtures::{BOTH_STORE, TWO_LOOPS, image_of};
 use ft_types::{Guest, Hart, HartSet, Memory};
 use guest_image::{Image, Machine};
-use hart_replay::ReplayFault;
+use hart_replay::{ReplayFault, replay_plain};
 use log_join::Store;
 use primary_pool::Free;
 use replay_pool::replay;
@@ -50,28 +51,36 @@ fn is_replayed<R: Threads + Wait + Sync>(
 #[test]
 fn refused_memory(rt: HostRuntime) -> Result<(), Fail> {
     let image = image_of(rt.alloc(), ADDS_FEW)?;
+    let mut right = true;
     for have_threads in [false, true] {
         let replayed = match is_replayed(&rt, rt.alloc(), &image, have_threads) {
-            Ok(replayed) => replayed,
-            Err(Memory) => is_replayed(&rt, rt.alloc(), &image, have_threads)?,
+            Err(Memory) => is_replayed(&rt, rt.alloc(), &image, have_threads),
+            replayed => replayed,
         };
-        assert!(rt; replayed, "threads: {have_threads}");
+        right = right && replayed?;
     }
+    assert!(rt; right);
     Ok(())
 }
 
-/// The number of the fault with which a replay on threads refuses a plan of this guest, or 0.
-fn fault_of<R: Threads + Wait + Sync>(
+/// Whether a replay of another guest's plan is refused so, on threads and in turn, and following its store.
+fn is_refused<R: Threads + Wait + Sync>(
     rt: &R,
     alloc: Global,
     image: &Image,
     other: Guest,
-) -> Result<u8, Memory> {
-    let plan = planned(alloc, &Store::new(alloc, other))?;
-    match replay(rt, alloc, image, &plan, &Free) {
-        Ok(_) => Ok(0),
-        Err(ReplayFault::Memory) => Err(Memory),
-        Err(fault) => Ok(fault.number()),
+) -> Result<bool, Memory> {
+    let store = Store::new(alloc, other);
+    let plan = planned(alloc, &store)?;
+    let on_threads = is_foreign(replay(rt, alloc, image, &plan, &Free));
+    let in_turn = is_foreign(replay_plain(alloc, image, &plan));
+    Ok(on_threads && in_turn && is_not_followed(alloc, image, &store)?)
+}
+
+fn is_foreign(replayed: Result<Machine, ReplayFault>) -> bool {
+    match replayed {
+        Err(ReplayFault::OtherGuest) => true,
+        _ => false,
     }
 }
 
@@ -79,10 +88,6 @@ fn fault_of<R: Threads + Wait + Sync>(
 fn another_guest_is_not_replayed(rt: HostRuntime) -> Result<(), Fail> {
     let image = image_of(rt.alloc(), TWO_LOOPS)?;
     let other = image_of(rt.alloc(), BOTH_STORE)?.guest();
-    let fault = match fault_of(&rt, rt.alloc(), &image, other) {
-        Ok(fault) => fault,
-        Err(Memory) => fault_of(&rt, rt.alloc(), &image, other)?,
-    };
-    assert_eq!(rt; fault, ReplayFault::OtherGuest.number());
+    assert!(rt; is_refused(&rt, rt.alloc(), &image, other)?);
     Ok(())
 }

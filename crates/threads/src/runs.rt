@@ -1,4 +1,4 @@
-//! What primaries do, and what their logs lead to. Each call gives up where memory is refused, and is made once more by its test.
+//! What primaries do, and what their logs lead to. Each call gives up where memory is refused.
 
 use closed_cut::position;
 use ft_types::{HartSet, Memory};
@@ -22,10 +22,12 @@ fn store_of(alloc: Global, image: &Image, book: &Book<Recording>) -> Result<Stor
     if book.machine().harts() != image.harts() {
         return Err(Memory);
     }
-    let frames = frames_of(alloc, image, book)?;
+    let mut frames = frames_of(alloc, image, book)?;
     let mut store = Store::new(alloc, image.guest());
-    for frame in frames.iter().rev() {
-        let _put = store.put(frame.copy(alloc)?)?;
+    for _frame in 0..frames.len() {
+        if let Some(frame) = frames.pop() {
+            let _put = store.put(frame)?;
+        }
     }
     Ok(store)
 }

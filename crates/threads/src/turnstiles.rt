@@ -3,9 +3,8 @@
 
 use crate::followers::follows_to;
 use crate::runs::{in_turn, leads, leads_on_threads, on_threads};
-use fixtures::{image_of, key};
-use fragment_codec::{Fragment, Frame, Opening};
-use ft_types::{Count, Counts, Guest, Hart, HartSet, Memory, Term};
+use fixtures::{image_of, key, opening_of, piece_of};
+use ft_types::{Count, Hart, HartSet, Memory, Term};
 use guest_image::Image;
 use log_join::Store;
 use primary_pool::Turnstile;
@@ -167,28 +166,6 @@ fn run_leads<R: Threads + Wait + Sync>(
     leads(rt, alloc, image, &left)
 }
 
-/// A hart's piece of a term, without records.
-fn piece(
-    alloc: Global,
-    guest: Guest,
-    (term, hart): (Term, u8),
-    from: Count,
-    to: Count,
-) -> Result<Frame, Memory> {
-    let records = Vec::new(alloc);
-    let piece = Fragment::new(guest, key(term, hart, 0), from, to, records).ok_or(Memory)?;
-    Ok(Frame::Log(piece))
-}
-
-/// The opening of a term in which each hart goes on from a count.
-fn opens(guest: Guest, term: Term, from: Count) -> Result<Frame, Memory> {
-    let base = [from; 4];
-    let harts = usize::from(guest.harts()).min(4);
-    let base = Counts::from_slice(base.get(..harts).unwrap_or(&[])).ok_or(Memory)?;
-    let opening = Opening::new(guest, term, term.saturating_sub(1), base).ok_or(Memory)?;
-    Ok(Frame::Opening(opening))
-}
-
 /// Puts the frames of a term in which each hart goes on from one count to another.
 fn put_term(
     alloc: Global,
@@ -196,33 +173,27 @@ fn put_term(
     term: Term,
     from: Count,
     to: Count,
-) -> Result<(), Memory> {
+) -> Result<(), Fail> {
     let guest = store.guest();
-    let _put = store.put(opens(guest, term, from)?)?;
+    let base = [from; 4];
+    let base = base.get(..usize::from(guest.harts())).unwrap_or(&[]);
+    let _put = store.put(opening_of(guest, term, term.saturating_sub(1), base)?)?;
     for hart in 0..guest.harts() {
-        let _put = store.put(piece(alloc, guest, (term, hart), from, to)?)?;
+        let _put = store.put(piece_of(alloc, guest, key(term, hart, 0), from, to, &[])?)?;
     }
     Ok(())
 }
 
 /// A store of harts that wait for none, in a term to one count, and in another from there to the end.
-fn in_two_terms(alloc: Global, image: &Image, middle: Count, end: Count) -> Result<Store, Memory> {
+fn in_two_terms(alloc: Global, image: &Image, middle: Count, end: Count) -> Result<Store, Fail> {
     let mut store = Store::new(alloc, image.guest());
     put_term(alloc, &mut store, 1, 0, middle)?;
     put_term(alloc, &mut store, 2, middle, end)?;
     Ok(store)
 }
 
-/// What is seen.
-#[derive(Clone, Copy)]
-enum Way {
-    /// A run.
-    Run,
-    /// A replay of what harts did in turn.
-    Replay,
-    /// The same, as if a primary had failed when each hart was at the first count: its log ends at the second one.
-    InTwoTerms(Count, Count),
-}
+/// Of a replay of what harts did in turn, as if a primary had failed when each hart was at the first count: its log ends at the second one.
+type Terms = Option<(Count, Count)>;
 
 /// Whether a replay of what harts did in turn comes to their machine.
 fn replay_leads<R: Threads + Wait + Sync>(
@@ -230,70 +201,63 @@ fn replay_leads<R: Threads + Wait + Sync>(
     alloc: Global,
     image: &Image,
     budget: u32,
-    terms: Option<(Count, Count)>,
+    terms: Terms,
     watch: &Watch,
-) -> Result<bool, Memory> {
+) -> Result<bool, Fail> {
     let (machine, mut store) = in_turn(alloc, image, budget)?;
     if let Some((middle, end)) = terms {
         store = in_two_terms(alloc, image, middle, end)?;
     }
-    leads_on_threads(rt, alloc, image, &store, &machine, watch)
+    Ok(leads_on_threads(rt, alloc, image, &store, &machine, watch)?)
 }
 
-/// What is seen of such a run or replay, and whether its log leads where it is to.
-fn seen_of<R: Threads + Wait + Sync>(
-    rt: &R,
-    alloc: Global,
-    image: &Image,
-    budget: u32,
-    way: Way,
-) -> Result<(Seen, bool), Memory> {
+/// A guest and its budget; whether it runs, else it is a replay; and what is seen. Where harts come to their end by leases that the turnstile saw,
+/// nothing was left to be done in turn.
+type Row = (&'static [u8], u32, bool, Terms, Seen);
+
+/// Whether that is seen of such a run or replay, and its log leads where it is to.
+fn is_seen<R: Threads + Wait + Sync>(rt: &R, alloc: Global, row: &Row) -> Result<bool, Fail> {
+    let (file, budget, runs, terms, seen) = *row;
+    let image = image_of(alloc, file)?;
     let watch = Watch::new(image.harts());
-    let leads = match way {
-        Way::Run => run_leads(rt, alloc, image, budget, &watch),
-        Way::Replay => replay_leads(rt, alloc, image, budget, None, &watch),
-        Way::InTwoTerms(middle, end) => {
-            replay_leads(rt, alloc, image, budget, Some((middle, end)), &watch)
-        }
+    let leads = if runs {
+        run_leads(rt, alloc, &image, budget, &watch)?
+    } else {
+        replay_leads(rt, alloc, &image, budget, terms, &watch)?
     };
-    Ok((watch.saw(), leads?))
+    Ok(leads && watch.saw() == seen)
 }
-
-/// A guest and its budget, what is seen, and what that is. Where harts come to their end by leases that the turnstile saw, nothing was left to be
-/// done in turn.
-type Row = (&'static [u8], u32, Way, Seen);
 
 static ROWS: [Row; 9] = [
-    (ALONE, 5000, Way::Run, [2, 1, 0, 1805, 1805, 1]),
-    (ALONE, 1000, Way::Run, [1, 0, 0, 1000, 1000, 1]),
-    (ALONE, 0, Way::Run, [0; 6]),
-    (ALONE, 5000, Way::Replay, [2, 1, 0, 1805, 1805, 1]),
-    (ALONE, 1000, Way::Replay, [1, 0, 0, 1000, 1000, 1]),
+    (ALONE, 5000, true, None, [2, 1, 0, 1805, 1805, 1]),
+    (ALONE, 1000, true, None, [1, 0, 0, 1000, 1000, 1]),
+    (ALONE, 0, true, None, [0; 6]),
+    (ALONE, 5000, false, None, [2, 1, 0, 1805, 1805, 1]),
+    (ALONE, 1000, false, None, [1, 0, 0, 1000, 1000, 1]),
     (
         ALONE,
         5000,
-        Way::InTwoTerms(500, 1805),
+        false,
+        Some((500, 1805)),
         [2, 1, 0, 1805, 1805, 2],
     ),
-    (FOUR, 100_000, Way::Run, [0, 4, 0, 30006, 30006, 4]),
-    (FOUR, 100_000, Way::Replay, [0, 4, 0, 30006, 30006, 4]),
+    (FOUR, 100_000, true, None, [0, 4, 0, 30006, 30006, 4]),
+    (FOUR, 100_000, false, None, [0, 4, 0, 30006, 30006, 4]),
     (
         APART,
         5000,
-        Way::InTwoTerms(2100, 4503),
+        false,
+        Some((2100, 4503)),
         [0, 8, 0, 4503, 4503, 8],
     ),
 ];
 
 #[test]
 fn each_hart_goes_through_its_turnstile(rt: HostRuntime) -> Result<(), Fail> {
-    for (number, (file, budget, way, seen)) in ROWS.iter().enumerate() {
-        let image = image_of(rt.alloc(), *file)?;
-        let (saw, leads) = match seen_of(&rt, rt.alloc(), &image, *budget, *way) {
-            Ok(answer) => answer,
-            Err(Memory) => seen_of(&rt, rt.alloc(), &image, *budget, *way)?,
-        };
-        assert!(rt; leads && saw == *seen, "row {number}: {saw:?}");
+    let mut right = true;
+    for row in &ROWS {
+        right = right && is_seen(&rt, rt.alloc(), row)?;
     }
+    assert!(rt; right);
     Ok(())
 }
