@@ -103,8 +103,8 @@ fn open_logs<F: Files>(
     files: &mut F,
 ) -> Result<Vec<F::Reader>, CommandFault> {
     let mut readers = Vec::new(alloc);
-    for (number, name) in names.iter().enumerate() {
-        let Ok(reader) = files.reader(name) else {
+    for number in 0..names.len() {
+        let Ok(reader) = files.reader(names[number]) else {
             return Err(CommandFault::File(NamedFile::Log(number)));
         };
         if readers.push(reader).is_err() {

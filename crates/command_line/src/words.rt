@@ -80,10 +80,8 @@ impl<'a> Request<'a> {
 impl<'a> Task<'a> {
     fn log(&self, number: usize) -> &'a str {
         match self {
-            Task::Replay(logs) => name_at(logs, number),
-            Task::Join { logs, .. } => name_at(logs, number),
-            Task::Cut(logs) => name_at(logs, number),
-            Task::Audit(logs) => name_at(logs, number),
+            Task::Replay(logs) | Task::Join { logs, .. } => name_at(logs, number),
+            Task::Cut(logs) | Task::Audit(logs) => name_at(logs, number),
             _ => "",
         }
     }
@@ -120,7 +118,7 @@ fn name_at<'a>(names: &Vec<&'a str>, number: usize) -> &'a str {
 }
 
 /// Why words ask for nothing.
-#[derive(Clone, Copy, Debug, PartialEq, Eq)]
+#[derive(Clone, Copy)]
 pub enum WordsFault {
     Usage,
     Memory,
@@ -143,9 +141,13 @@ fn word<'a>(alloc: Global, name: &'a str) -> Arg<'a> {
     Arg::new(alloc, name).required(true).action(ArgAction::Set)
 }
 
+fn one_to_eight(arg: Arg<'_>) -> Arg<'_> {
+    arg.num_args(1..=8)
+}
+
 /// One to eight logs.
 fn logs<'a>(alloc: Global) -> Arg<'a> {
-    word(alloc, "logs").num_args(1..=8)
+    one_to_eight(word(alloc, "logs"))
 }
 
 fn with_arg<'a>(command: Command<'a>, arg: Arg<'a>) -> Result<Command<'a>, AllocError> {
@@ -234,7 +236,25 @@ fn program<'a>(alloc: Global) -> Result<Command<'a>, AllocError> {
     Ok(program)
 }
 
-/// The names of the logs.
+/// The words of these names.
+fn words_of<'a>(
+    alloc: Global,
+    matches: &ArgMatches<'a>,
+    names: &[&str],
+) -> Result<Vec<&'a str>, WordsFault> {
+    let mut words = Vec::new(alloc);
+    for name in names {
+        let Some(word) = matches.get_str(name) else {
+            return Err(WordsFault::Usage);
+        };
+        if words.push(word).is_err() {
+            return Err(WordsFault::Memory);
+        }
+    }
+    Ok(words)
+}
+
+/// The names of the logs, of which a form may have none.
 fn logs_of<'a>(alloc: Global, matches: &ArgMatches<'a>) -> Result<Vec<&'a str>, WordsFault> {
     match matches.get_strs("logs") {
         Some(names) => Ok(names.to_vec(alloc)?),
@@ -242,84 +262,106 @@ fn logs_of<'a>(alloc: Global, matches: &ArgMatches<'a>) -> Result<Vec<&'a str>, 
     }
 }
 
-/// The word of this name.
-fn word_of<'a>(matches: &ArgMatches<'a>, name: &str) -> Result<&'a str, WordsFault> {
-    matches.get_str(name).ok_or(WordsFault::Usage)
+fn number(word: &str) -> Result<u64, WordsFault> {
+    match read_number(word.as_bytes()) {
+        Some(number) => Ok(number),
+        None => Err(WordsFault::Usage),
+    }
 }
 
 /// The budget that the word is.
-fn read_budget(word: &str) -> Result<u32, WordsFault> {
-    let number = read_number(word.as_bytes()).ok_or(WordsFault::Usage)?;
-    match u32::try_from(number) {
-        Ok(budget) if (1..=BUDGET_LIMIT).contains(&budget) => Ok(budget),
+fn budget(word: &str) -> Result<u32, WordsFault> {
+    match read_number(word.as_bytes()) {
+        Some(steps) if steps > 0 && steps <= u64::from(BUDGET_LIMIT) => Ok(steps as u32),
         _ => Err(WordsFault::Usage),
     }
 }
 
-fn join_of<'a>(alloc: Global, matches: &ArgMatches<'a>) -> Result<Task<'a>, WordsFault> {
-    let made = word_of(matches, "made")?;
-    let logs = logs_of(alloc, matches)?;
+fn join<'a>(words: &[&'a str], logs: Vec<&'a str>) -> Result<Task<'a>, WordsFault> {
+    let [made] = *words else {
+        return Err(WordsFault::Usage);
+    };
     Ok(Task::Join { made, logs })
 }
 
-fn run_of<'a>(matches: &ArgMatches<'a>) -> Result<Task<'a>, WordsFault> {
-    let script = word_of(matches, "script")?;
-    let budget = read_budget(word_of(matches, "budget")?)?;
-    let made = word_of(matches, "made")?;
+fn run<'a>(words: &[&'a str]) -> Result<Task<'a>, WordsFault> {
+    let [script, steps, made] = *words else {
+        return Err(WordsFault::Usage);
+    };
     Ok(Task::Run {
         script,
-        budget,
+        budget: budget(steps)?,
         made,
     })
 }
 
-/// The number that the word of this name is.
-fn number_of(matches: &ArgMatches<'_>, name: &str) -> Result<u64, WordsFault> {
-    read_number(word_of(matches, name)?.as_bytes()).ok_or(WordsFault::Usage)
+fn pair<'a>(words: &[&'a str]) -> Result<Task<'a>, WordsFault> {
+    let [script, steps, keepers, need] = *words else {
+        return Err(WordsFault::Usage);
+    };
+    match PairOrders::new(budget(steps)?, number(keepers)?, number(need)?) {
+        Some(orders) => Ok(Task::Pair { script, orders }),
+        None => Err(WordsFault::Usage),
+    }
 }
 
-fn pair_of<'a>(matches: &ArgMatches<'a>) -> Result<Task<'a>, WordsFault> {
-    let script = word_of(matches, "script")?;
-    let budget = read_budget(word_of(matches, "budget")?)?;
-    let keepers = number_of(matches, "keepers")?;
-    let need = number_of(matches, "need")?;
-    let orders = PairOrders::new(budget, keepers, need).ok_or(WordsFault::Usage)?;
-    Ok(Task::Pair { script, orders })
+fn fail_over<'a>(words: &[&'a str]) -> Result<Task<'a>, WordsFault> {
+    let [events, keepers, need] = *words else {
+        return Err(WordsFault::Usage);
+    };
+    match Quorum::new(number(keepers)?, number(need)?) {
+        Some(quorum) => Ok(Task::FailOver { events, quorum }),
+        None => Err(WordsFault::Usage),
+    }
 }
 
-fn fail_over_of<'a>(matches: &ArgMatches<'a>) -> Result<Task<'a>, WordsFault> {
-    let events = word_of(matches, "events")?;
-    let keepers = number_of(matches, "keepers")?;
-    let need = number_of(matches, "need")?;
-    let quorum = Quorum::new(keepers, need).ok_or(WordsFault::Usage)?;
-    Ok(Task::FailOver { events, quorum })
-}
-
+/// What the words behind the image ask for, with these logs.
 fn task_of<'a>(
-    alloc: Global,
     command: &str,
-    matches: &ArgMatches<'a>,
+    words: &[&'a str],
+    logs: Vec<&'a str>,
 ) -> Result<Task<'a>, WordsFault> {
     match command {
-        "replay" => Ok(Task::Replay(logs_of(alloc, matches)?)),
-        "join" => join_of(alloc, matches),
-        "cut" => Ok(Task::Cut(logs_of(alloc, matches)?)),
-        "audit" => Ok(Task::Audit(logs_of(alloc, matches)?)),
-        "run" => run_of(matches),
-        "pair" => pair_of(matches),
-        "failover" => fail_over_of(matches),
+        "replay" => Ok(Task::Replay(logs)),
+        "join" => join(words, logs),
+        "cut" => Ok(Task::Cut(logs)),
+        "audit" => Ok(Task::Audit(logs)),
+        "run" => run(words),
+        "pair" => pair(words),
+        "failover" => fail_over(words),
         _ => Err(WordsFault::Usage),
     }
 }
 
+/// What the words of a form ask for, with these logs.
 fn request_of<'a>(
+    command: &str,
+    words: &[&'a str],
+    logs: Vec<&'a str>,
+) -> Result<Request<'a>, WordsFault> {
+    let Some((image, rest)) = words.split_first() else {
+        return Err(WordsFault::Usage);
+    };
+    let task = task_of(command, rest, logs)?;
+    Ok(Request {
+        image: *image,
+        task,
+    })
+}
+
+/// The request that clap found, by the names of its form's words.
+fn found_request<'a>(
     alloc: Global,
     command: &str,
     matches: &ArgMatches<'a>,
 ) -> Result<Request<'a>, WordsFault> {
-    let image = word_of(matches, "image")?;
-    let task = task_of(alloc, command, matches)?;
-    Ok(Request { image, task })
+    for form in &FORMS {
+        if form.name == command {
+            let words = words_of(alloc, matches, form.words)?;
+            return request_of(command, &words, logs_of(alloc, matches)?);
+        }
+    }
+    Err(WordsFault::Usage)
 }
 
 /// What clap finds in the words.
@@ -330,13 +372,23 @@ fn matches_of<'a>(alloc: Global, words: &'a [String]) -> Result<ArgMatches<'a>, 
     }
 }
 
+/// Whether a word begins with `-`.
+fn has_option(words: &[String]) -> bool {
+    for word in words {
+        if let [b'-', ..] = word.as_bytes() {
+            return true;
+        }
+    }
+    false
+}
+
 /// The request that the words are. A word that begins with `-` is refused before they are parsed.
 pub fn read_words<'a>(alloc: Global, words: &'a [String]) -> Result<Request<'a>, WordsFault> {
-    if words.iter().any(|word| word.as_str().starts_with('-')) {
+    if has_option(words) {
         return Err(WordsFault::Usage);
     }
     match matches_of(alloc, words)?.subcommand() {
-        Some((command, inner)) => request_of(alloc, command, inner),
+        Some((command, inner)) => found_request(alloc, command, inner),
         None => Err(WordsFault::Usage),
     }
 }

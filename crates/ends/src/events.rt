@@ -31,7 +31,7 @@ pub fn row(alloc: Global) -> Result<(Sender, Receiver), AllocError> {
 }
 
 /// Whoever takes the events is gone.
-#[derive(Clone, Copy, Debug, PartialEq, Eq)]
+#[derive(Clone, Copy)]
 pub(crate) struct Gone;
 
 /// Sends an event.

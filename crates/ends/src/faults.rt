@@ -2,7 +2,7 @@
 
 ghost use Rattle.std.specs.Prelude.{◌≡◌, ◌≢◌};
 
-use crate::files::FileName;
+use crate::files::write_in_line;
 use ft_types::{Memory, Term};
 use std::alloc::{AllocError, AllocFailed};
 use std::fmt::{Display, Formatter};
@@ -207,7 +207,7 @@ pub fn name_at<'a>(names: &[&'a str], number: usize) -> &'a str {
 }
 
 /// A fault, with the name of the file that it names.
-#[derive(Clone, Copy)]
+#[derive(Drop)]
 struct Told<'a> {
     fault: &'a Fault,
     name: &'a str,
@@ -221,7 +221,8 @@ fn write_number<W: fmt::Write>(number: Option<u64>, f: &mut Formatter<W>) -> fmt
 }
 
 fn write_name<W: fmt::Write>(file: NamedFile, name: &str, f: &mut Formatter<W>) -> fmt::Result {
-    write!(f, " {}", FileName(name))?;
+    f.write_str(" ")?;
+    write_in_line(name, f)?;
     match file {
         NamedFile::Fences => f.write_str(".fences"),
         _ => Ok(()),

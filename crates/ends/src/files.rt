@@ -1,7 +1,7 @@
 //! Files that are read whole, and their names.
 
 use crate::host::Paths;
-use std::fmt::{Display, Formatter};
+use std::fmt::Formatter;
 use std::fs::File;
 use std::io::Read;
 use std::os::unix::fs::FileTypeExt;
@@ -38,18 +38,13 @@ pub fn is_fifo(file: &File) -> bool {
     }
 }
 
-/// The name of a file, which is told so that it stays in its line: a line feed is written as `\n`.
-#[derive(Clone, Copy)]
-pub(crate) struct FileName<'a>(pub(crate) &'a str);
-
-impl Display for FileName<'_> {
-    fn fmt<W: fmt::Write>(&self, f: &mut Formatter<W>) -> fmt::Result {
-        for c in self.0.chars() {
-            match c {
-                '\n' => f.write_str("\\n")?,
-                c => f.write_char(c)?,
-            }
+/// Writes the name of a file so that it stays in its line: a line feed as `\n`.
+pub(crate) fn write_in_line<W: fmt::Write>(name: &str, f: &mut Formatter<W>) -> fmt::Result {
+    for c in name.chars() {
+        match c {
+            '\n' => f.write_str("\\n")?,
+            c => f.write_char(c)?,
         }
-        Ok(())
     }
+    Ok(())
 }

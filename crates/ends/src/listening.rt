@@ -102,8 +102,10 @@ pub fn listen_all<H: Host>(
     paths: &[&str],
     to: &Sender,
 ) -> Result<(), Memory> {
-    for (number, path) in paths.iter().enumerate() {
-        listen(rt, first.saturating_add(number), path, to)?;
+    let mut number = first;
+    for path in paths {
+        listen(rt, number, path, to)?;
+        number = number.saturating_add(1);
     }
     Ok(())
 }

@@ -23,7 +23,7 @@ const GAP: u64 = 100;
 const ROOM: usize = 512;
 
 /// With what of the pieces before a new connection begins.
-#[derive(Clone, Copy, Debug, PartialEq, Eq)]
+#[derive(Clone, Copy)]
 pub enum Keeps {
     /// With all: whoever reads gets each piece in one connection. Pieces wait for a reader that is slow.
     All,
@@ -54,12 +54,6 @@ enum End {
     Memory,
 }
 
-impl From<AllocError> for End {
-    fn from(_e: AllocError) -> End {
-        End::Memory
-    }
-}
-
 /// An output.
 #[derive(Drop)]
 struct Output {
@@ -88,7 +82,9 @@ fn write_kept(file: &mut File, kept: &[Piece]) -> Result<(), End> {
 impl Output {
     /// Keeps a piece, and writes it.
     fn take(&self, file: &mut File, kept: &mut Vec<Piece>, piece: Piece) -> Result<(), End> {
-        let same = Arc::try_clone(&piece)?;
+        let Ok(same) = Arc::try_clone(&piece) else {
+            return Err(End::Memory);
+        };
         if let Keeps::Last = self.keeps {
             kept.clear();
         }
@@ -224,8 +220,10 @@ pub fn begin_posts<H: Host>(
     to: &EventSender,
 ) -> Result<Vec<Post>, Memory> {
     let mut posts = Vec::new(rt.alloc());
-    for (number, path) in paths.iter().enumerate() {
-        posts.push(begin_post(rt, first.saturating_add(number), path, keeps, to)?)?;
+    let mut number = first;
+    for path in paths {
+        posts.push(begin_post(rt, number, path, keeps, to)?)?;
+        number = number.saturating_add(1);
     }
     Ok(posts)
 }

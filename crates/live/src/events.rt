@@ -23,7 +23,7 @@ pub type Sender = crossbeam_channel::Sender<Event, Global>;
 pub type Receiver = crossbeam_channel::Receiver<Event, Global>;
 
 /// Whoever takes the events is gone.
-#[derive(Clone, Copy, Debug, PartialEq, Eq)]
+#[derive(Clone, Copy)]
 pub struct Gone;
 
 /// Sends an event.

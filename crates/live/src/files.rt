@@ -5,23 +5,25 @@ ghost use Rattle.std.specs.Prelude.{None};
 use ends::{Fault, NamedFile, Paths, file_fault, read_file, sync_folder};
 use ft_types::{Guest, Term};
 use stations::{FilesFault, KeeperFiles};
-use std::alloc::Global;
+use std::alloc::{AllocError, Global};
 use std::fs::{File, TryLockError};
 use std::io;
 use std::io::Write;
 use wire::{fence_entry, last_fence};
 
-fn log_fault(error: &io::Error) -> FilesFault {
+/// The fault of a file with which this went wrong.
+fn fault_of(error: &io::Error, file: FilesFault) -> FilesFault {
     match error.kind() {
         io::ErrorKind::OutOfMemory => FilesFault::Memory,
-        _ => FilesFault::Log,
+        _ => file,
     }
 }
 
-fn fences_fault(error: &io::Error) -> FilesFault {
-    match error.kind() {
-        io::ErrorKind::OutOfMemory => FilesFault::Memory,
-        _ => FilesFault::Fences,
+/// What came of a change of a file.
+fn changed(done: io::Result<()>, file: FilesFault) -> Result<(), FilesFault> {
+    match done {
+        Ok(()) => Ok(()),
+        Err(error) => Err(fault_of(&error, file)),
     }
 }
 
@@ -49,6 +51,39 @@ fn lock(log: &File) -> Result<(), Fault> {
     }
 }
 
+/// The log of a keeper that runs.
+fn open_log<R: Paths + AllocGlobal>(rt: &R, name: &str) -> Result<File, Fault> {
+    match open_to_add(rt, name) {
+        Ok(file) => {
+            lock(&file)?;
+            Ok(file)
+        }
+        Err(error) => Err(file_fault(&error, NamedFile::Log)),
+    }
+}
+
+/// A file to which is added, of which no other process has the lock.
+fn open_locked<R: Paths + AllocGlobal>(rt: &R, name: &str) -> io::Result<File> {
+    let file = open_to_add(rt, name)?;
+    file.lock()?;
+    Ok(file)
+}
+
+/// The fences where a log is handed over.
+fn open_fences<R: Paths + AllocGlobal>(rt: &R, name: &str) -> Result<File, Fault> {
+    match open_locked(rt, name) {
+        Ok(file) => Ok(file),
+        Err(error) => Err(file_fault(&error, NamedFile::Fences)),
+    }
+}
+
+/// The name of the fences beside a log.
+fn fences_of(alloc: Global, log: &str) -> Result<String, AllocError> {
+    let mut fences = String::from_str(alloc, log)?;
+    fences.push_str(".fences")?;
+    Ok(fences)
+}
+
 /// The files of one keeper: the log, which is open to add where the keeper runs, and the fences, which are where its log is handed over.
 #[derive(Drop)]
 pub struct HostFiles<'a, R: Paths + AllocGlobal> {
@@ -61,48 +96,33 @@ pub struct HostFiles<'a, R: Paths + AllocGlobal> {
 }
 
 impl<'a, R: Paths + AllocGlobal> HostFiles<'a, R> {
-    fn new(rt: &'a R, guest: Guest, log: &'a str) -> Result<HostFiles<'a, R>, Fault> {
+    /// The files of a keeper that runs. No other keeper has its log.
+    pub fn of_keeper(rt: &'a R, guest: Guest, log: &'a str) -> Result<HostFiles<'a, R>, Fault> {
+        let fences = fences_of(rt.alloc(), log)?;
+        let file = open_log(rt, log)?;
         Ok(HostFiles {
             rt,
             guest,
             log,
-            fences: format!(in rt.alloc(); "{log}.fences")?,
-            open_log: None,
+            fences,
+            open_log: Some(file),
             open_fences: None,
         })
     }
 
-    /// The files of a keeper that runs. No other keeper has its log.
-    pub fn of_keeper(rt: &'a R, guest: Guest, log: &'a str) -> Result<HostFiles<'a, R>, Fault> {
-        let mut files = HostFiles::new(rt, guest, log)?;
-        match open_to_add(rt, log) {
-            Ok(file) => {
-                lock(&file)?;
-                files.open_log = Some(file);
-                Ok(files)
-            }
-            Err(error) => Err(file_fault(&error, NamedFile::Log)),
-        }
-    }
-
     /// The files of a keeper whose log is handed over. Whoever else hands it over waits meanwhile.
     pub fn of_hand(rt: &'a R, guest: Guest, log: &'a str) -> Result<HostFiles<'a, R>, Fault> {
-        let mut files = HostFiles::new(rt, guest, log)?;
-        match open_locked(rt, files.fences.as_str()) {
-            Ok(file) => {
-                files.open_fences = Some(file);
-                Ok(files)
-            }
-            Err(error) => Err(file_fault(&error, NamedFile::Fences)),
-        }
+        let fences = fences_of(rt.alloc(), log)?;
+        let file = open_fences(rt, fences.as_str())?;
+        Ok(HostFiles {
+            rt,
+            guest,
+            log,
+            fences,
+            open_log: None,
+            open_fences: Some(file),
+        })
     }
-}
-
-/// A file to which is added, of which no other process has the lock.
-fn open_locked<R: Paths + AllocGlobal>(rt: &R, name: &str) -> io::Result<File> {
-    let file = open_to_add(rt, name)?;
-    file.lock()?;
-    Ok(file)
 }
 
 /// Writes a piece to an open file, and brings it to disk.
@@ -117,36 +137,27 @@ impl<R: Paths + AllocGlobal> KeeperFiles for HostFiles<'_, R> {
     fn read_log(&mut self, _alloc: Global) -> Result<Vec<u8>, FilesFault> {
         match read_if_there(self.rt, self.log) {
             Ok(bytes) => Ok(bytes),
-            Err(error) => Err(log_fault(&error)),
+            Err(error) => Err(fault_of(&error, FilesFault::Log)),
         }
     }
 
     fn cut(&mut self, size: usize) -> Result<(), FilesFault> {
         match &self.open_log {
-            Some(file) => match file.set_len(size as u64) {
-                Ok(()) => Ok(()),
-                Err(error) => Err(log_fault(&error)),
-            },
+            Some(file) => changed(file.set_len(size as u64), FilesFault::Log),
             None => Err(FilesFault::Log),
         }
     }
 
     fn add(&mut self, bytes: &[u8]) -> Result<(), FilesFault> {
         match &mut self.open_log {
-            Some(file) => match file.write_all(bytes) {
-                Ok(()) => Ok(()),
-                Err(error) => Err(log_fault(&error)),
-            },
+            Some(file) => changed(file.write_all(bytes), FilesFault::Log),
             None => Err(FilesFault::Log),
         }
     }
 
     fn sync(&mut self) -> Result<(), FilesFault> {
         match &self.open_log {
-            Some(file) => match file.sync_data() {
-                Ok(()) => Ok(()),
-                Err(error) => Err(log_fault(&error)),
-            },
+            Some(file) => changed(file.sync_data(), FilesFault::Log),
             None => Err(FilesFault::Log),
         }
     }
@@ -154,17 +165,14 @@ impl<R: Paths + AllocGlobal> KeeperFiles for HostFiles<'_, R> {
     fn last_fence(&mut self, _alloc: Global) -> Result<Term, FilesFault> {
         match read_if_there(self.rt, self.fences.as_str()) {
             Ok(bytes) => Ok(last_fence(&self.guest, &bytes)),
-            Err(error) => Err(fences_fault(&error)),
+            Err(error) => Err(fault_of(&error, FilesFault::Fences)),
         }
     }
 
     fn add_fence(&mut self, term: Term) -> Result<(), FilesFault> {
         let entry = fence_entry(&self.guest, term);
         match &mut self.open_fences {
-            Some(file) => match add_synced(file, entry.as_slice()) {
-                Ok(()) => Ok(()),
-                Err(error) => Err(fences_fault(&error)),
-            },
+            Some(file) => changed(add_synced(file, entry.as_slice()), FilesFault::Fences),
             None => Err(FilesFault::Fences),
         }
     }

@@ -33,8 +33,8 @@ struct Keeping {
 }
 
 fn listen_all<H: Host>(rt: &H, guest: Guest, paths: &[&str], to: &Sender) -> Result<(), Fault> {
-    for (number, path) in paths.iter().enumerate() {
-        listening::start(rt, guest, number, path, to)?;
+    for number in 0..paths.len() {
+        listening::start(rt, guest, number, paths[number], to)?;
     }
     Ok(())
 }
@@ -47,7 +47,8 @@ fn post_all<H: Host>(
     to: &Sender,
 ) -> Result<Vec<Post>, Fault> {
     let mut posts = Vec::new(rt.alloc());
-    for (number, path) in paths.iter().enumerate() {
+    for number in 0..paths.len() {
+        let path = paths[number];
         posts.push(posting::start(rt, guest, keeper, number, path, to)?)?;
     }
     Ok(posts)

@@ -23,84 +23,47 @@ struct Input {
     to: Sender,
 }
 
-/// Why frames are taken no further.
-#[derive(Clone, Copy)]
-enum Stop {
-    /// They have this fault.
-    Fault(Fault),
-    /// Nobody takes them.
-    Gone,
-}
-
-impl From<Gone> for Stop {
-    fn from(_e: Gone) -> Stop {
-        Stop::Gone
-    }
-}
-
 impl Input {
-    fn at_fault(&self, fault: FramesFault) -> Stop {
-        Stop::Fault(Fault::Frames(Frames::Input(self.number), fault))
+    /// Tells that the input is at fault: what stands behind that is passed over.
+    fn pass<R: Wait>(&self, rt: &R, fault: FramesFault) -> Result<bool, Gone> {
+        let fault = Fault::Frames(Frames::Input(self.number), fault);
+        send(rt, &self.to, Event::Passed(fault))?;
+        Ok(false)
     }
 
-    /// Sends frames, up to the first of another guest.
-    fn send_all<R: Paths + AllocGlobal + Wait>(
-        &self,
-        rt: &R,
-        frames: Vec<Frame>,
-    ) -> Result<(), Stop> {
+    /// Sends frames, up to the first of another guest. Whether there is none.
+    fn send_all<R: Wait>(&self, rt: &R, frames: Vec<Frame>) -> Result<bool, Gone> {
         for frame in frames {
             if !is_of(&frame, &self.guest) {
-                return Err(self.at_fault(FramesFault::Guest));
+                return self.pass(rt, FramesFault::Guest);
             }
             send(rt, &self.to, Event::Frame(self.number, frame))?;
         }
-        Ok(())
+        Ok(true)
     }
 
-    /// Takes the next piece of a connection.
-    fn take<R: Paths + AllocGlobal + Wait>(
-        &self,
-        rt: &R,
-        feed: &mut Feed,
-        piece: &[u8],
-    ) -> Result<(), Stop> {
-        match feed.push(rt.alloc(), piece) {
-            Ok(frames) => self.send_all(rt, frames),
-            Err(FrameFault::Memory) => Err(Stop::Fault(Fault::Memory)),
-            Err(fault) => Err(self.at_fault(FramesFault::Frame(fault.number()))),
-        }
-    }
-
-    /// What a read brought: a fault is told, and what stands behind it is passed over.
-    fn hear<R: Paths + AllocGlobal + Wait>(
+    /// Takes the next piece of a connection. Whether nothing is at fault.
+    fn take<R: AllocGlobal + Wait>(
         &self,
         rt: &R,
         feed: &mut Feed,
         piece: &[u8],
     ) -> Result<bool, Gone> {
-        match self.take(rt, feed, piece) {
-            Ok(()) => Ok(true),
-            Err(Stop::Gone) => Err(Gone),
-            Err(Stop::Fault(Fault::Memory)) => {
-                send(rt, &self.to, Event::Failed(Fault::Memory))?;
-                Err(Gone)
-            }
-            Err(Stop::Fault(fault)) => {
-                send(rt, &self.to, Event::Passed(fault))?;
-                Ok(false)
-            }
+        match feed.push(rt.alloc(), piece) {
+            Ok(frames) => self.send_all(rt, frames),
+            Err(FrameFault::Memory) => Err(self.fail(rt, Fault::Memory)),
+            Err(fault) => self.pass(rt, FramesFault::Frame(fault.number())),
         }
     }
 
     /// Tells that the keeper can't go on.
-    fn fail<R: Paths + AllocGlobal + Wait>(&self, rt: &R, fault: Fault) -> Gone {
+    fn fail<R: Wait>(&self, rt: &R, fault: Fault) -> Gone {
         let _told = send(rt, &self.to, Event::Failed(fault));
         Gone
     }
 
     /// One connection, to its end.
-    fn read<R: Paths + AllocGlobal + Wait>(&self, rt: &R, file: &mut File) -> Result<(), Gone> {
+    fn read<R: AllocGlobal + Wait>(&self, rt: &R, file: &mut File) -> Result<(), Gone> {
         let Ok(mut feed) = Feed::new(rt.alloc()) else {
             return Err(self.fail(rt, Fault::Memory));
         };
@@ -112,7 +75,7 @@ impl Input {
             };
             // The empty piece at the end brings out a fault behind the last frame.
             if is_sound {
-                is_sound = self.hear(rt, &mut feed, &piece[..count])?;
+                is_sound = self.take(rt, &mut feed, &piece[..count])?;
             }
             if count == 0 {
                 return Ok(());

@@ -16,7 +16,7 @@ ghost use Rattle.std.specs.Prelude.{◌≤◌};
 use crate::handing::hand;
 use crate::keeping::keep;
 use crate::names::{name_in_hand, name_in_keeper};
-use ends::{Fault, Host, refuse};
+use ends::{Fault, Host, refuse, tell};
 use live_client::ask;
 use live_primary::lead;
 use live_words::{HandWords, KeeperWords, NoTask, Task, read_task};
@@ -26,27 +26,35 @@ use std::{env, io};
 /// The arguments, but the program's name.
 fn arguments(rt: &HostRuntime) -> io::Result<Vec<String>> {
     let mut words = Vec::new(rt.alloc());
-    for word in env::args(rt)?.skip(1) {
+    let mut arguments = env::args(rt)?;
+    let _program = arguments.next();
+    for word in arguments {
         words.push(word)?;
     }
     Ok(words)
 }
 
 fn keep_and_tell<H: Host>(rt: &H, words: &KeeperWords<'_>) -> u8
-    ensures { result ≤ 2 }
+    ensures { result ≤ 1 }
 {
     match keep(rt, words) {
         Ok(status) => status,
-        Err(fault) => refuse(rt, &fault, name_in_keeper(words, &fault)),
+        Err(fault) => {
+            tell(rt, &fault, name_in_keeper(words, &fault));
+            1
+        }
     }
 }
 
 fn hand_and_tell<H: Host>(rt: &H, words: &HandWords<'_>) -> u8
-    ensures { result ≤ 2 }
+    ensures { result ≤ 1 }
 {
     match hand(rt, words) {
         Ok(status) => status,
-        Err(fault) => refuse(rt, &fault, name_in_hand(words, &fault)),
+        Err(fault) => {
+            tell(rt, &fault, name_in_hand(words, &fault));
+            1
+        }
     }
 }
 

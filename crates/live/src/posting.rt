@@ -67,13 +67,11 @@ impl Tray {
     }
 }
 
-/// How a connection ended.
+/// Why a connection ended before all was written.
 #[derive(Clone, Copy)]
 enum End {
     /// Nobody reads any more.
     Left,
-    /// All is written.
-    Done,
     /// Writing failed.
     Failed,
 }
@@ -99,28 +97,18 @@ fn write(file: &mut File, line: &Line) -> Result<(), End> {
 
 impl Output {
     /// One connection, which begins with the last line that there was.
-    fn serve<R: Paths + AllocGlobal + Wait>(
-        &self,
-        rt: &R,
-        file: &mut File,
-        last: &mut Line,
-    ) -> End {
-        if let Err(end) = write(file, last) {
-            return end;
-        }
+    fn serve<R: Wait>(&self, rt: &R, file: &mut File, last: &mut Line) -> Result<(), End> {
         for _ in rt.forever() {
+            write(file, last)?;
             let Some(acknowledgement) = self.from.take(rt) else {
-                return End::Done;
+                return Ok(());
             };
             *last = acknowledgement_line(&self.guest, &acknowledgement);
-            if let Err(end) = write(file, last) {
-                return end;
-            }
         }
-        End::Done
+        Ok(())
     }
 
-    fn fail<R: Paths + AllocGlobal + Wait>(&self, rt: &R) {
+    fn fail<R: Wait>(&self, rt: &R) {
         let fault = Fault::File(NamedFile::Output(self.number));
         let _told = send(rt, &self.to, Event::Failed(fault));
     }
@@ -133,9 +121,9 @@ impl Output {
                 return self.fail(rt);
             };
             match self.serve(rt, &mut file, &mut last) {
-                End::Left => {}
-                End::Done => return,
-                End::Failed => return self.fail(rt),
+                Ok(()) => return,
+                Err(End::Left) => {}
+                Err(End::Failed) => return self.fail(rt),
             }
         }
     }

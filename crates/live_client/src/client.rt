@@ -7,7 +7,7 @@ use asking::{Heard, Talk, WordsFault, read_words, told_line};
 use crossbeam_channel::RecvTimeoutError;
 use ends::{
     Event, Fault, Host, Keeps, NamedFile, Post, Receiver, begin_posts, file_fault, leave_all,
-    listen_all, read_file, refuse, row,
+    listen_all, read_file, row, tell,
 };
 use ft_types::Memory;
 use live_words::ClientWords;
@@ -173,10 +173,13 @@ fn ask_all<H: Host>(rt: &H, words: &ClientWords<'_>) -> Result<(), Fault> {
 /// Asks for the words of a file, and prints each answer once, in the order of the words. The status that the program ends with; a fault
 /// is told on standard error.
 pub fn ask<H: Host>(rt: &H, words: &ClientWords<'_>) -> u8
-    ensures { result ≤ 2 }
+    ensures { result ≤ 1 }
 {
     match ask_all(rt, words) {
         Ok(()) => 0,
-        Err(fault) => refuse(rt, &fault, name_in(words, &fault)),
+        Err(fault) => {
+            tell(rt, &fault, name_in(words, &fault));
+            1
+        }
     }
 }

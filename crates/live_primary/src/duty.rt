@@ -7,20 +7,20 @@ use crate::office::Office;
 use crate::outset::{Outset, frame_bytes, set_out};
 use crate::pace::{FIRST_ROUND, next_blind, next_round};
 use ends::{Event, Fault, Host, refuse};
-use ft_types::{Count, Guest};
+use ft_types::{Count, Guest, Memory};
 use leading::Leader;
 use live_words::PrimaryWords;
 use primary::Released;
+use std::alloc::Global;
 use wire::{Answer, Line, read_acknowledgement, read_again, read_request};
 
 /// How many events are taken between two rounds, at the most.
 const BATCH: usize = 512;
 
-/// A primary that leads.
+/// What a primary that leads knows beside its term.
 #[derive(Drop)]
 struct Duty {
     guest: Guest,
-    leader: Leader,
     /// How many of the outputs that went out were told.
     told: usize,
     /// How many inputs are not at their end.
@@ -43,27 +43,34 @@ fn behind(released: &[Released], told: usize) -> &[Released] {
 }
 
 /// Tells the outputs that went out and were not told yet.
-fn tell_new<H: Host>(rt: &H, duty: &mut Duty, office: &Office) -> Result<(), Fault> {
-    let term = duty.leader.term();
-    for released in behind(duty.leader.released(), duty.told) {
-        let output = released.output;
+fn tell_new<H: Host>(
+    rt: &H,
+    leader: &Leader,
+    duty: &mut Duty,
+    office: &Office,
+) -> Result<(), Memory> {
+    let term = leader.term();
+    let released = leader.released();
+    for one in behind(released, duty.told) {
+        let output = one.output;
         office.tell(rt, &Answer { term, output })?;
     }
-    duty.told = duty.leader.released().len();
+    duty.told = released.len();
     Ok(())
 }
 
 /// Takes the line of a client.
 fn take_request<H: Host>(
     rt: &H,
+    leader: &mut Leader,
     duty: &mut Duty,
     office: &Office,
     line: &Line,
-) -> Result<(), Fault> {
+) -> Result<(), Memory> {
     let Some(request) = read_request(duty.guest.harts(), line.as_slice()) else {
         return Ok(());
     };
-    for answer in &duty.leader.hear(rt.alloc(), &request)? {
+    for answer in &leader.hear(rt.alloc(), &request)? {
         office.tell(rt, answer)?;
     }
     duty.steps = FIRST_ROUND;
@@ -73,10 +80,16 @@ fn take_request<H: Host>(
 }
 
 /// Takes the line of a keeper.
-fn take_said<H: Host>(rt: &H, duty: &mut Duty, office: &Office, line: &Line) -> Result<(), Fault> {
+fn take_said<H: Host>(
+    rt: &H,
+    leader: &mut Leader,
+    duty: &mut Duty,
+    office: &Office,
+    line: &Line,
+) -> Result<(), Memory> {
     if let Some(acknowledgement) = read_acknowledgement(&duty.guest, line.as_slice()) {
-        duty.leader.acknowledge(rt.alloc(), &acknowledgement)?;
-        tell_new(rt, duty, office)
+        leader.acknowledge(rt.alloc(), &acknowledgement)?;
+        tell_new(rt, leader, duty, office)
     } else {
         if let Some(keeper) = read_again(&duty.guest, line.as_slice()) {
             office.begin_anew(rt, keeper);
@@ -86,12 +99,22 @@ fn take_said<H: Host>(rt: &H, duty: &mut Duty, office: &Office, line: &Line) -> 
 }
 
 /// Takes an event.
-fn take<H: Host>(rt: &H, duty: &mut Duty, office: &Office, event: Event) -> Result<(), Fault> {
+fn take<H: Host>(
+    rt: &H,
+    leader: &mut Leader,
+    duty: &mut Duty,
+    office: &Office,
+    event: Event,
+) -> Result<(), Fault> {
     match event {
-        Event::Line(input, line) if input < office.requests => {
-            take_request(rt, duty, office, &line)
+        Event::Line(input, line) => {
+            if input < office.requests {
+                take_request(rt, leader, duty, office, &line)?;
+            } else {
+                take_said(rt, leader, duty, office, &line)?;
+            }
+            Ok(())
         }
-        Event::Line(_, line) => take_said(rt, duty, office, &line),
         Event::Ended => {
             duty.open = duty.open.saturating_sub(1);
             Ok(())
@@ -101,57 +124,62 @@ fn take<H: Host>(rt: &H, duty: &mut Duty, office: &Office, event: Event) -> Resu
 }
 
 /// Takes the events that are there. Where rounds would change nothing, it waits for one.
-fn take_all<H: Host>(rt: &H, duty: &mut Duty, office: &Office) -> Result<(), Fault> {
+fn take_all<H: Host>(
+    rt: &H,
+    leader: &mut Leader,
+    duty: &mut Duty,
+    office: &Office,
+) -> Result<(), Fault> {
     if duty.waits {
         let Ok(event) = office.events.recv(rt) else {
             return Err(Fault::Memory);
         };
-        take(rt, duty, office, event)?;
+        take(rt, leader, duty, office, event)?;
     }
     for _more in 0..office.events.len().min(BATCH) {
         let Ok(event) = office.events.try_recv(rt) else {
             break;
         };
-        take(rt, duty, office, event)?;
+        take(rt, leader, duty, office, event)?;
     }
     Ok(())
 }
 
+/// Leads a round of so many steps, and gives the bytes of its frames.
+fn round(alloc: Global, leader: Leader, steps: Count) -> Result<(Leader, Vec<u8>), Memory> {
+    let (leader, frames) = leader.round(alloc, steps)?;
+    Ok((leader, frame_bytes(alloc, &frames)?))
+}
+
 /// Leads a round, sends its frames, and looks, unless that is put off, whether more rounds would change anything.
-fn go_on<H: Host>(rt: &H, duty: Duty, office: &Office) -> Result<Duty, Fault> {
-    let Duty {
-        guest,
-        leader,
-        told,
-        open,
-        steps,
-        blind,
-        waits: _,
-    } = duty;
-    let (mut leader, frames) = leader.round(rt.alloc(), steps)?;
-    office.send(rt, frame_bytes(rt.alloc(), &frames)?)?;
-    let waits = blind == 0 && leader.only_waits(rt.alloc())?;
-    let may_hand = leader.may_hand();
-    Ok(Duty {
-        guest,
-        leader,
-        told,
-        open,
-        steps: next_round(steps, may_hand),
-        blind: next_blind(blind, steps),
-        waits,
-    })
+fn go_on<H: Host>(
+    rt: &H,
+    leader: Leader,
+    duty: &mut Duty,
+    office: &Office,
+) -> Result<Leader, Memory> {
+    let (mut leader, frames) = round(rt.alloc(), leader, duty.steps)?;
+    office.send(rt, frames)?;
+    duty.waits = duty.blind == 0 && leader.only_waits(rt.alloc())?;
+    duty.blind = next_blind(duty.blind, duty.steps);
+    duty.steps = next_round(duty.steps, leader.may_hand());
+    Ok(leader)
 }
 
 /// Leads until all inputs are at their end, and only waiting is left.
-fn lead_on<H: Host>(rt: &H, mut duty: Duty, office: &Office) -> Result<(), Fault> {
+fn lead_on<H: Host>(
+    rt: &H,
+    mut leader: Leader,
+    mut duty: Duty,
+    office: &Office,
+) -> Result<(), Fault> {
     for _ in rt.forever() {
         if duty.waits && duty.open == 0 {
             return Ok(());
         }
-        take_all(rt, &mut duty, office)?;
+        take_all(rt, &mut leader, &mut duty, office)?;
         if !duty.waits {
-            duty = go_on(rt, duty, office)?;
+            leader = go_on(rt, leader, &mut duty, office)?;
         }
     }
     Ok(())
@@ -174,14 +202,13 @@ fn lead_all<H: Host>(rt: &H, words: &PrimaryWords<'_>) -> Result<(), Fault> {
     let office = Office::open(rt, words, frames)?;
     let duty = Duty {
         guest,
-        leader,
         told: 0,
         open: words.requests.len() + words.acknowledgements.len(),
         steps: FIRST_ROUND,
         blind: 0,
         waits: false,
     };
-    lead_on(rt, duty, &office)?;
+    lead_on(rt, leader, duty, &office)?;
     office.close(rt);
     Ok(())
 }

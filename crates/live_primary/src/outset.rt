@@ -68,16 +68,16 @@ fn handed_log<H: Host>(
 
 fn handed_logs<H: Host>(rt: &H, guest: Guest, names: &[&str]) -> Result<Vec<HandedLog>, Fault> {
     let mut logs = Vec::new(rt.alloc());
-    for (number, name) in names.iter().enumerate() {
-        logs.push(handed_log(rt, guest, number, name)?)?;
+    for number in 0..names.len() {
+        logs.push(handed_log(rt, guest, number, names[number])?)?;
     }
     Ok(logs)
 }
 
 /// What was handed over makes one primary: whoever is started once more by the same words finds it no more, also where the machine stopped.
 fn remove_all<H: Host>(rt: &H, names: &[&str]) -> Result<(), Fault> {
-    for (number, name) in names.iter().enumerate() {
-        if let Err(error) = remove_file(rt, name) {
+    for number in 0..names.len() {
+        if let Err(error) = remove_file(rt, names[number]) {
             return Err(file_fault(&error, NamedFile::Handed(number)));
         }
     }
@@ -127,6 +127,17 @@ fn sent_first(alloc: Global, store: &Store, opening: Frame) -> Result<Vec<u8>, M
     }
 }
 
+/// What keepers are sent first: the bytes of all frames of these logs, each once, and then of the opening.
+fn first_frames(
+    alloc: Global,
+    guest: Guest,
+    logs: &[HandedLog],
+    opening: Frame,
+) -> Result<Vec<u8>, Fault> {
+    let store = joined(alloc, guest, logs)?;
+    Ok(sent_first(alloc, &store, opening)?)
+}
+
 /// The stores of these logs, as they were given.
 fn given_of<'k>(alloc: Global, logs: &'k [HandedLog]) -> Result<Vec<Given<'k>>, Memory>
     ensures keepers { IfOk result (λ given. map (λ g. g.keeper) given.items ≡ map (λ l. l.keeper) logs.now) }
@@ -162,7 +173,7 @@ pub(crate) fn set_out<H: Host>(rt: &H, words: &PrimaryWords<'_>) -> Result<Outse
     let guest = image.guest();
     let logs = handed_logs(rt, guest, &words.handed)?;
     let (leader, opening) = go_live(alloc, &image, words, &logs)?;
-    let frames = sent_first(alloc, &joined(alloc, guest, &logs)?, opening)?;
+    let frames = first_frames(alloc, guest, &logs, opening)?;
     remove_all(rt, &words.handed)?;
     Ok(Outset {
         guest,

@@ -4,21 +4,21 @@ use clap::{Arg, ArgAction, Command};
 use std::alloc::{AllocError, Global};
 
 /// A command, by the names of its words.
-struct Form {
-    name: &'static str,
-    words: &'static [&'static str],
-    /// The commands behind the words, one behind the other, each with paths.
-    behind: &'static [&'static str],
+pub(crate) struct Form {
+    pub(crate) name: &'static str,
+    pub(crate) words: &'static [&'static str],
+    /// The commands behind the words, each with paths, from the last one on.
+    pub(crate) behind: &'static [&'static str],
 }
 
 /// `keeper IMAGE K LOG from FRAMES.. to ACKS..`, `hand IMAGE K LOG T`,
 /// `primary IMAGE T KEEPERS NEED in REQUESTS.. out ANSWERS.. to FRAMES.. from ACKS.. with HANDED..`,
 /// `client FILE WINDOW MILLIS to REQUESTS.. from ANSWERS..`
-static FORMS: [Form; 4] = [
+pub(crate) static FORMS: [Form; 4] = [
     Form {
         name: "keeper",
         words: &["image", "keeper", "log"],
-        behind: &["from", "to"],
+        behind: &["to", "from"],
     },
     Form {
         name: "hand",
@@ -28,12 +28,12 @@ static FORMS: [Form; 4] = [
     Form {
         name: "primary",
         words: &["image", "term", "keepers", "need"],
-        behind: &["in", "out", "to", "from", "with"],
+        behind: &["with", "from", "to", "out", "in"],
     },
     Form {
         name: "client",
         words: &["file", "window", "millis"],
-        behind: &["to", "from"],
+        behind: &["from", "to"],
     },
 ];
 
@@ -48,9 +48,13 @@ fn word<'a>(alloc: Global, name: &'a str) -> Arg<'a> {
     Arg::new(alloc, name).required(true).action(ArgAction::Set)
 }
 
+fn one_to_eight(arg: Arg<'_>) -> Arg<'_> {
+    arg.num_args(1..=8)
+}
+
 /// One to eight paths.
 fn paths<'a>(alloc: Global) -> Arg<'a> {
-    word(alloc, "paths").num_args(1..=8)
+    one_to_eight(word(alloc, "paths"))
 }
 
 fn with_arg<'a>(command: Command<'a>, arg: Arg<'a>) -> Result<Command<'a>, AllocError> {
@@ -67,17 +71,17 @@ fn over_paths<'a>(alloc: Global, name: &'a str) -> Result<Command<'a>, AllocErro
     with_arg(command, paths(alloc))
 }
 
-/// The command with these commands of paths behind it, one behind the other.
+/// The command with these commands of paths behind it, one behind the other, of which the first is the last.
 fn with_behind<'a>(
     alloc: Global,
     command: Command<'a>,
     names: &[&'static str],
 ) -> Result<Command<'a>, AllocError> {
-    let Some((last, before)) = names.split_last() else {
+    let Some((last, before)) = names.split_first() else {
         return Ok(command);
     };
     let mut behind = over_paths(alloc, last)?;
-    for name in before.iter().rev() {
+    for name in before {
         behind = with_command(over_paths(alloc, name)?, behind)?;
     }
     with_command(command, behind)

@@ -3,7 +3,7 @@
 ghost use Rattle.std.specs.Prelude.{◌<◌, IfOk};
 ghost use Rattle.live_words.specs.Usable.{IsUsable};
 
-use crate::forms::program;
+use crate::forms::{FORMS, program};
 use crate::tasks::{ClientWords, HandWords, KeeperWords, PrimaryWords, Task};
 use clap::error::ErrorKind;
 use clap::{ArgMatches, Error};
@@ -12,7 +12,7 @@ use std::alloc::{AllocError, AllocFailed, Global};
 use std::result::Result;
 
 /// Why there is no task.
-#[derive(Clone, Copy, Debug, PartialEq, Eq)]
+#[derive(Clone, Copy)]
 pub enum NoTask {
     /// The words have no form that there is.
     Usage,
@@ -39,47 +39,20 @@ fn fault_of(error: Error) -> NoTask {
     }
 }
 
-/// The word of this name.
-fn word_of<'a>(matches: &ArgMatches<'a>, name: &str) -> Result<&'a str, NoTask> {
-    matches.get_str(name).ok_or(NoTask::Usage)
-}
-
-/// The number that the word of this name is.
-fn number_of(matches: &ArgMatches<'_>, name: &str) -> Result<u64, NoTask> {
-    read_number(word_of(matches, name)?.as_bytes()).ok_or(NoTask::Usage)
-}
-
-/// The number that the word of this name is, 1 at least.
-fn some_of(matches: &ArgMatches<'_>, name: &str) -> Result<u64, NoTask>
-    ensures { IfOk result (λ n. 0 < n) }
-{
-    match number_of(matches, name)? {
-        0 => Err(NoTask::Usage),
-        number => Ok(number),
+/// The words of these names.
+fn words_of<'a>(
+    alloc: Global,
+    matches: &ArgMatches<'a>,
+    names: &[&str],
+) -> Result<Vec<&'a str>, NoTask> {
+    let mut words = Vec::new(alloc);
+    for name in names {
+        match matches.get_str(name) {
+            Some(word) => words.push(word)?,
+            None => return Err(NoTask::Usage),
+        }
     }
-}
-
-fn keeper_of(matches: &ArgMatches<'_>) -> Result<Keeper, NoTask> {
-    match u8::try_from(number_of(matches, "keeper")?) {
-        Ok(number) if number < KEEPER_LIMIT => Ok(Keeper::new(number)),
-        _ => Err(NoTask::Usage),
-    }
-}
-
-/// The term, which is granted: 1 at least.
-fn term_of(matches: &ArgMatches<'_>) -> Result<Term, NoTask>
-    ensures { IfOk result (λ t. 0 < t) }
-{
-    match u32::try_from(some_of(matches, "term")?) {
-        Ok(term) => Ok(term),
-        Err(_) => Err(NoTask::Usage),
-    }
-}
-
-fn quorum_of(matches: &ArgMatches<'_>) -> Result<Quorum, NoTask> {
-    let keepers = number_of(matches, "keepers")?;
-    let need = number_of(matches, "need")?;
-    Quorum::new(keepers, need).ok_or(NoTask::Usage)
+    Ok(words)
 }
 
 fn paths_of<'a>(alloc: Global, matches: &ArgMatches<'a>) -> Result<Vec<&'a str>, NoTask> {
@@ -97,52 +70,144 @@ fn behind<'m, 'a>(matches: &'m ArgMatches<'a>) -> Result<&'m ArgMatches<'a>, NoT
     }
 }
 
-/// The paths of the command behind, and its matches.
+/// The matches of the command behind, whose paths are added.
 fn next<'m, 'a>(
     alloc: Global,
     matches: &'m ArgMatches<'a>,
-) -> Result<(Vec<&'a str>, &'m ArgMatches<'a>), NoTask> {
+    rows: &mut Vec<Vec<&'a str>>,
+) -> Result<&'m ArgMatches<'a>, NoTask> {
     let inner = behind(matches)?;
-    Ok((paths_of(alloc, inner)?, inner))
+    rows.push(paths_of(alloc, inner)?)?;
+    Ok(inner)
 }
 
-fn keeping_of<'a>(alloc: Global, matches: &ArgMatches<'a>) -> Result<Task<'a>, NoTask>
+/// The matches of the second command behind, whose paths are added behind those of the first.
+fn second<'m, 'a>(
+    alloc: Global,
+    matches: &'m ArgMatches<'a>,
+    rows: &mut Vec<Vec<&'a str>>,
+) -> Result<&'m ArgMatches<'a>, NoTask> {
+    let first = next(alloc, matches, rows)?;
+    next(alloc, first, rows)
+}
+
+/// Adds the paths of so many commands, none, two or five, one behind the other.
+fn add_rows<'a>(
+    alloc: Global,
+    matches: &ArgMatches<'a>,
+    many: usize,
+    rows: &mut Vec<Vec<&'a str>>,
+) -> Result<(), NoTask> {
+    if many == 0 {
+        return Ok(());
+    }
+    let second_one = second(alloc, matches, rows)?;
+    if many == 2 {
+        return Ok(());
+    }
+    let fourth = second(alloc, second_one, rows)?;
+    let _fifth = next(alloc, fourth, rows)?;
+    Ok(())
+}
+
+/// The last of these rows, which is taken away.
+fn last_of<'a>(rows: &mut Vec<Vec<&'a str>>) -> Result<Vec<&'a str>, NoTask> {
+    match rows.pop() {
+        Some(row) => Ok(row),
+        None => Err(NoTask::Usage),
+    }
+}
+
+fn number(word: &str) -> Result<u64, NoTask> {
+    match read_number(word.as_bytes()) {
+        Some(number) => Ok(number),
+        None => Err(NoTask::Usage),
+    }
+}
+
+/// The number that the word is, 1 at least.
+fn some_number(word: &str) -> Result<u64, NoTask>
+    ensures { IfOk result (λ n. 0 < n) }
+{
+    match read_number(word.as_bytes()) {
+        Some(number) if number > 0 => Ok(number),
+        _ => Err(NoTask::Usage),
+    }
+}
+
+fn keeper(word: &str) -> Result<Keeper, NoTask> {
+    match read_number(word.as_bytes()) {
+        Some(number) if number < u64::from(KEEPER_LIMIT) => Ok(Keeper::new(number as u8)),
+        _ => Err(NoTask::Usage),
+    }
+}
+
+/// The term, which is granted: 1 at least.
+fn term(word: &str) -> Result<Term, NoTask>
+    ensures { IfOk result (λ t. 0 < t) }
+{
+    match u32::try_from(some_number(word)?) {
+        Ok(term) => Ok(term),
+        Err(_) => Err(NoTask::Usage),
+    }
+}
+
+fn quorum(keepers: &str, need: &str) -> Result<Quorum, NoTask> {
+    match Quorum::new(number(keepers)?, number(need)?) {
+        Some(quorum) => Ok(quorum),
+        None => Err(NoTask::Usage),
+    }
+}
+
+fn keeping_of<'a>(words: &[&'a str], mut rows: Vec<Vec<&'a str>>) -> Result<Task<'a>, NoTask>
     ensures { IfOk result IsUsable }
 {
-    let (inputs, from) = next(alloc, matches)?;
-    let (outputs, _) = next(alloc, from)?;
+    let [image, number, log] = *words else {
+        return Err(NoTask::Usage);
+    };
+    let keeper = keeper(number)?;
+    let outputs = last_of(&mut rows)?;
+    let inputs = last_of(&mut rows)?;
     Ok(Task::Keeper(KeeperWords {
-        image: word_of(matches, "image")?,
-        keeper: keeper_of(matches)?,
-        log: word_of(matches, "log")?,
+        image,
+        keeper,
+        log,
         inputs,
         outputs,
     }))
 }
 
-fn handing_of<'a>(matches: &ArgMatches<'a>) -> Result<Task<'a>, NoTask>
+fn handing_of<'a>(words: &[&'a str]) -> Result<Task<'a>, NoTask>
     ensures { IfOk result IsUsable }
 {
+    let [image, number, log, granted] = *words else {
+        return Err(NoTask::Usage);
+    };
     Ok(Task::Hand(HandWords {
-        image: word_of(matches, "image")?,
-        keeper: keeper_of(matches)?,
-        log: word_of(matches, "log")?,
-        term: term_of(matches)?,
+        image,
+        keeper: keeper(number)?,
+        log,
+        term: term(granted)?,
     }))
 }
 
-fn leading_of<'a>(alloc: Global, matches: &ArgMatches<'a>) -> Result<Task<'a>, NoTask>
+fn leading_of<'a>(words: &[&'a str], mut rows: Vec<Vec<&'a str>>) -> Result<Task<'a>, NoTask>
     ensures { IfOk result IsUsable }
 {
-    let (requests, at) = next(alloc, matches)?;
-    let (answers, at) = next(alloc, at)?;
-    let (frames, at) = next(alloc, at)?;
-    let (acknowledgements, at) = next(alloc, at)?;
-    let (handed, _) = next(alloc, at)?;
+    let [image, granted, keepers, need] = *words else {
+        return Err(NoTask::Usage);
+    };
+    let term = term(granted)?;
+    let quorum = quorum(keepers, need)?;
+    let handed = last_of(&mut rows)?;
+    let acknowledgements = last_of(&mut rows)?;
+    let frames = last_of(&mut rows)?;
+    let answers = last_of(&mut rows)?;
+    let requests = last_of(&mut rows)?;
     Ok(Task::Primary(PrimaryWords {
-        image: word_of(matches, "image")?,
-        term: term_of(matches)?,
-        quorum: quorum_of(matches)?,
+        image,
+        term,
+        quorum,
         requests,
         answers,
         frames,
@@ -151,30 +216,51 @@ fn leading_of<'a>(alloc: Global, matches: &ArgMatches<'a>) -> Result<Task<'a>, N
     }))
 }
 
-fn asking_of<'a>(alloc: Global, matches: &ArgMatches<'a>) -> Result<Task<'a>, NoTask>
+fn asking_of<'a>(words: &[&'a str], mut rows: Vec<Vec<&'a str>>) -> Result<Task<'a>, NoTask>
     ensures { IfOk result IsUsable }
 {
-    let (requests, to) = next(alloc, matches)?;
-    let (answers, _) = next(alloc, to)?;
+    let [file, asked, waited] = *words else {
+        return Err(NoTask::Usage);
+    };
+    let window = some_number(asked)?;
+    let millis = some_number(waited)?;
+    let answers = last_of(&mut rows)?;
+    let requests = last_of(&mut rows)?;
     Ok(Task::Client(ClientWords {
-        file: word_of(matches, "file")?,
-        window: some_of(matches, "window")? as usize,
-        millis: some_of(matches, "millis")?,
+        file,
+        window: window as usize,
+        millis,
         requests,
         answers,
     }))
 }
 
-fn task_of<'a>(alloc: Global, name: &str, matches: &ArgMatches<'a>) -> Result<Task<'a>, NoTask>
+/// The task of a form with these words, and with these paths behind them.
+fn task_of<'a>(name: &str, words: &[&'a str], rows: Vec<Vec<&'a str>>) -> Result<Task<'a>, NoTask>
     ensures { IfOk result IsUsable }
 {
     match name {
-        "keeper" => keeping_of(alloc, matches),
-        "hand" => handing_of(matches),
-        "primary" => leading_of(alloc, matches),
-        "client" => asking_of(alloc, matches),
+        "keeper" => keeping_of(words, rows),
+        "hand" => handing_of(words),
+        "primary" => leading_of(words, rows),
+        "client" => asking_of(words, rows),
         _ => Err(NoTask::Usage),
     }
+}
+
+/// The task that clap found, by the names of its form's words.
+fn found_task<'a>(alloc: Global, name: &str, matches: &ArgMatches<'a>) -> Result<Task<'a>, NoTask>
+    ensures { IfOk result IsUsable }
+{
+    for form in &FORMS {
+        if form.name == name {
+            let words = words_of(alloc, matches, form.words)?;
+            let mut rows = Vec::new(alloc);
+            add_rows(alloc, matches, form.behind.len(), &mut rows)?;
+            return task_of(name, &words, rows);
+        }
+    }
+    Err(NoTask::Usage)
 }
 
 /// What clap finds in the words.
@@ -185,16 +271,26 @@ fn matches_of<'a>(alloc: Global, words: &'a [String]) -> Result<ArgMatches<'a>, 
     }
 }
 
+/// Whether a word begins with `-`.
+fn has_option(words: &[String]) -> bool {
+    for word in words {
+        if let [b'-', ..] = word.as_bytes() {
+            return true;
+        }
+    }
+    false
+}
+
 /// The task that the words are. A word that begins with `-` is refused before they are parsed. A term is 1 at least, and so are window and
 /// milliseconds.
 pub fn read_task<'a>(alloc: Global, words: &'a [String]) -> Result<Task<'a>, NoTask>
     ensures { IfOk result IsUsable }
 {
-    if words.iter().any(|word| word.as_str().starts_with('-')) {
+    if has_option(words) {
         return Err(NoTask::Usage);
     }
     match matches_of(alloc, words)?.subcommand() {
-        Some((name, inner)) => task_of(alloc, name, inner),
+        Some((name, inner)) => found_task(alloc, name, inner),
         None => Err(NoTask::Usage),
     }
 }

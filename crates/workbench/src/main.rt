@@ -12,7 +12,9 @@ use std::{env, io};
 /// The arguments, but the program's name.
 fn arguments(rt: &HostRuntime) -> io::Result<Vec<String>> {
     let mut words = Vec::new(rt.alloc());
-    for word in env::args(rt)?.skip(1) {
+    let mut arguments = env::args(rt)?;
+    let _program = arguments.next();
+    for word in arguments {
         words.push(word)?;
     }
     Ok(words)
