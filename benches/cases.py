@@ -34,6 +34,8 @@ def records(version, start, words):
             found.append(b"\2" + at + struct.pack("<BI", 1, int(words[2], 16)))
         elif kind == "bell":
             found.append(b"\2" + at + struct.pack("<BI", 2, int(words[2])))
+        elif kind == "note":
+            found.append(b"\3" + at + struct.pack("<Q", int(words[2])))
         else:
             found.append(b"\2" + at + struct.pack("<BI", 0, 0))
             taken = 2
