@@ -23,7 +23,7 @@ sys.dont_write_bytecode = True
 from calls import call, contents
 
 SECONDS, TOLD, WHOLE, PART = 120, ".told", 1000, 100
-GIVEN_UP = rb"error: (AllocError|AllocFailed \{ \.\. \}|Memory)\nthe test failed: its result gives status 1\n"
+GIVEN_UP = rb"[eE]rror: (AllocError|AllocFailed \{ \.\. \}|Memory)\nthe test failed: its result gives status 1\n"
 
 
 def program_of(folder, crate):

@@ -5,7 +5,7 @@ use closed_cut::position;
 use fixtures::{edge, hart};
 use fragment_codec::Record;
 use ft_types::{Count, HART_LIMIT, Memory, Term};
-use hart_replay::{Plan, PlannedLeg, honest_plans, honest_primaries, plan};
+use hart_replay::{Plan, PlannedLeg, ReplayFault, honest_plans, honest_primaries, plan};
 use log_join::Store;
 use std::alloc::Global;
 use std::result::Result;
@@ -16,6 +16,7 @@ fn plan_of(alloc: Global, store: &Store) -> Result<Plan, Fail> {
     let position = position(alloc, store)?;
     match plan(alloc, store, &position) {
         Ok(plan) => Ok(plan),
+        Err(ReplayFault::Memory) => Err(Memory.into()),
         Err(_) => Err("a plan".into()),
     }
 }
