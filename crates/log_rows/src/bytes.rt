@@ -1,7 +1,9 @@
 //! What a feed gives for each push. Digests are those of `sha256sum`. Whole frames, and what is made where there is no room, the cases of
 //! `frames`, `notes` and `refused` show.
 
-use fragment_codec::{Feed, FrameFault};
+use fixtures::{edge, guest_with, key, piece_of};
+use fragment_codec::{Feed, Frame, FrameFault, Record, write_frame};
+use ft_types::{Failed, MemorySink};
 use std::alloc::Global;
 use std::test::Fail;
 
@@ -139,5 +141,41 @@ fn faults_stay(rt: HostRuntime) -> Result<(), Fail> {
         right = right && are_answered(rt.alloc(), &mut feed, pushes);
     }
     assert!(rt; right);
+    Ok(())
+}
+
+/// A frame in a writer with ample room, which fails where memory is refused.
+fn write_whole(alloc: Global, frame: &Frame) -> Result<MemorySink, Failed> {
+    let mut sink = MemorySink::new(alloc, 10_000);
+    write_frame(frame, &mut sink)?;
+    Ok(sink)
+}
+
+/// The bytes of the frame of 256 edges.
+fn largest(alloc: Global) -> Result<MemorySink, Fail> {
+    let mut records = Vec::new(alloc);
+    for at in 0..256u64 {
+        records.push(Record::Edge(edge(0, at, 1, 9)))?;
+    }
+    let frame = piece_of(
+        alloc,
+        guest_with([7; 32], 2),
+        key(1, 0, 0),
+        0,
+        256,
+        &records,
+    )?;
+    match write_whole(alloc, &frame) {
+        Ok(sink) => Ok(sink),
+        Err(Failed) => Ok(write_whole(alloc, &frame)?),
+    }
+}
+
+#[test]
+fn the_largest_is_read(rt: HostRuntime) -> Result<(), Fail> {
+    let sink = largest(rt.alloc())?;
+    let bytes = sink.bytes();
+    let mut feed = Feed::new(rt.alloc())?;
+    assert!(rt; bytes.len() == 3684 && comes_last(rt.alloc(), &mut feed, bytes, Ok(1)));
     Ok(())
 }

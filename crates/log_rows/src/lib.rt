@@ -1,5 +1,5 @@
 //! The tests of logs that no command of the program shows: what a feed tells byte by byte, what stores and tracked positions answer, positions
-//! of logs that fall by chance beside those from scratch, plans, pieces of many counts, and what stays where memory is refused.
+//! of logs that fall by chance beside those from scratch, plans, pieces of a book, and what stays where memory is refused.
 #![tactic(auto)]
 
 #[cfg(test)]
