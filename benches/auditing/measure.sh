@@ -6,7 +6,7 @@ set -eu
 here=$(cd "$(dirname "$0")" && pwd)
 . "$here/../workspace.sh"
 
-workspace auditing_bench "ft_types input_script guest_image page_book log_join closed_cut hart_replay log_streams log_audit anyhow" audit "$top/samples/four_harts.image" "$top/samples/four_harts.script" 100000 1
+workspace auditing_bench "ft_types scripts guest_image page_book log_join closed_cut hart_replay log_streams log_audit anyhow" audit "$top/samples/four_harts.image" "$top/samples/four_harts.script" 100000 1
 
 # What two more rounds cost, each.
 per_round() {

@@ -2,7 +2,7 @@
 
 ghost use Rattle.std.specs.Prelude.{◌<◌, ◌≤◌, IfOk};
 ghost use Rattle.ft_types.specs.declared.names.TheConstants.{HART_LIMIT};
-ghost use Rattle.failover_events.specs.Events.{MayCome};
+ghost use Rattle.scripts.specs.Coming.{MayCome};
 ghost use Rattle.fenced_world.specs.Happenings.{MayCome as MayHappen};
 
 use failover_world::Event;

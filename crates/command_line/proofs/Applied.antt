@@ -3,7 +3,7 @@ use Rattle.std.proofs.Common.{◌≡◌, ℕ, ◌+◌, List, [], ◌∷◌, ◌+
 use Rattle.ft_types.specs.Devices.{Writes}
 use Rattle.ft_types.specs.declared.errors.Failed.{Failed}
 use Rattle.guest_image.specs.Image.{ImageContents}
-use Rattle.failover_events.specs.declared.event.Event.{Event}
+use Rattle.scripts.specs.declared.event.Event.{Event}
 use Rattle.failover_world.specs.declared.fault.WorldFault.{WorldFault}
 use Rattle.failover_world.specs.declared.fault.WorldFault.TheVariants.{NoPrimary, NoKeeper, NoFrame, NotStopped, Step, Live, Ack, Memory as NoMemory}
 use Rattle.failover_world.specs.Worlds.{WorldView}

@@ -5,11 +5,11 @@ use Rattle.std.specs.Prelude.{false}
 use Rattle.input_log.specs.declared.Input.{Input}
 use Rattle.input_log.specs.declared.Input.TheVariants as input
 use Rattle.input_log.specs.Inputs.{is_bell}
-use Rattle.input_script.specs.Script.{IsWaited}
-use Rattle.failover_events.specs.declared.event.Event.{Event}
-use Rattle.failover_events.specs.declared.event.Event.TheVariants.{Step, Offer, Seal, Deliver, Join, Acknowledge, Release, Stop, Lose, Grant}
-use Rattle.failover_events.specs.Events.{MayCome}
-use Rattle.event_script.specs.Events.{MayHappen, MayAllHappen}
+use Rattle.scripts.specs.Script.{IsWaited}
+use Rattle.scripts.specs.declared.event.Event.{Event}
+use Rattle.scripts.specs.declared.event.Event.TheVariants.{Step, Offer, Seal, Deliver, Join, Acknowledge, Release, Stop, Lose, Grant}
+use Rattle.scripts.specs.Coming.{MayCome}
+use Rattle.scripts.specs.Events.{MayHappen, MayAllHappen}
 
 no_bell : (i : Input) → IsWaited i → is_bell i ≡ false
 no_bell input.Timer p = refl

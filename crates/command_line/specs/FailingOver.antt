@@ -7,7 +7,7 @@ use Rattle.guest_image.specs.Image.{ImageContents, guest_of}
 use Rattle.guest_image.specs.Text.{machine_text}
 use Rattle.fragment_codec.specs.declared.frame.Frame.TheVariants.{Opening}
 use Rattle.log_join.specs.Stores.{nothing}
-use Rattle.failover_events.specs.declared.event.Event.{Event}
+use Rattle.scripts.specs.declared.event.Event.{Event}
 use Rattle.failover_world.specs.declared.fault.WorldFault.{WorldFault}
 use Rattle.failover_world.specs.declared.fault.WorldFault.TheVariants.{Memory as NoMemory}
 use Rattle.primary.specs.declared.released.Released.{Released}

@@ -1,23 +1,22 @@
 //! The commands of the program.
 
 ghost use Rattle.std.specs.Prelude.{◌≡◌, length, IfOk};
-ghost use Rattle.input_script.specs.Script.{AreOffered};
+ghost use Rattle.scripts.specs.Script.{AreOffered};
 
 use crate::audits::audit_streams;
 use crate::failing_over::fail_over;
 use crate::faults::{CommandFault, named_in, status_of, write_fault, write_words_fault, written};
 use crate::files::Files;
 use crate::words::{NamedFile, Request, Task, WordsFault, read_words};
-use event_script::read_events;
 use ft_types::{Sink, Source};
 use guest_image::{Image, read_image};
-use input_script::{Offered, read_script};
 use log_join::Store;
 use log_streams::{
     PairOrders, Pairs, Quorum, Replays, Runs, cut_streams, frames_of, read_store, replay_streams,
     run_primary, write_frames, write_size, write_store,
 };
 use page_book::{Book, Recording};
+use scripts::{Offered, read_events, read_script};
 use std::alloc::Global;
 
 /// How many bytes of a file are read at once.

@@ -3,16 +3,16 @@
 ghost use Rattle.std.specs.Prelude.{◌≡◌};
 ghost use Rattle.std.specs.List.{AllByRecursion, flat_map};
 ghost use Rattle.ft_types.specs.Devices.{Writes};
-ghost use Rattle.failover_events.specs.Events.{MayCome};
-ghost use Rattle.event_script.specs.Events.{MayAllHappen};
+ghost use Rattle.scripts.specs.Coming.{MayCome};
+ghost use Rattle.scripts.specs.Events.{MayAllHappen};
 ghost use Rattle.command_line.specs.FailingOver.{fault_at, Applies, FailsOver, KeepsPromises, released_line, primary_text, world_text};
 
 use crate::faults::{CommandFault, written};
-use failover_events::Event;
 use failover_world::{Released, World, WorldFault};
 use ft_types::{Failed, LineBuffer, Sink, write_all};
 use guest_image::Image;
 use log_streams::{Quorum, write_long_line};
+use scripts::Event;
 use std::alloc::Global;
 
 /// The fault of an event in this line.

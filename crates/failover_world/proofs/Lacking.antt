@@ -7,7 +7,7 @@ use Rattle.page_book.specs.declared.answers.BookFault.{BookFault}
 use Rattle.page_book.specs.declared.answers.BookFault.TheVariants.{Leased, Halted, EdgeOpen, AtLimit, Foreign, Memory}
 use Rattle.term_gate.proofs.Seats.{some_at}
 use Rattle.lease_rounds.specs.Steps.{IsRefused, RefusesStep}
-use Rattle.failover_events.specs.declared.event.Event.TheVariants as on
+use Rattle.scripts.specs.declared.event.Event.TheVariants as on
 use Rattle.failover_world.specs.Faults.{fault_of_book}
 use Rattle.failover_world.specs.Worlds.{WorldView, store_at}
 use Rattle.failover_world.specs.Refusals.{Refuses}

@@ -13,7 +13,7 @@ use Rattle.primary.specs.declared.released.Released.{Released}
 use Rattle.primary.specs.Gating.{AreOffered, AreRising, LetGo, IsAsItWas, released_in}
 use Rattle.primary.specs.Noting.{NotesAll}
 use Rattle.primary.proofs.Waiting.{all_stay}
-use Rattle.failover_events.specs.declared.event.Event.TheVariants as on
+use Rattle.scripts.specs.declared.event.Event.TheVariants as on
 use Rattle.failover_world.specs.Worlds.{WorldView, term_of}
 use Rattle.failover_world.specs.Happenings.{Releases}
 use Rattle.failover_world.specs.Refusals.{IsLeft}

@@ -17,8 +17,8 @@ use Rattle.term_gate.specs.TermGates.{TermGateView, AreAcked}
 use Rattle.go_live.specs.Quorums.{AreEnough, IsNew}
 use Rattle.go_live.specs.Lives.{IsAtPosition}
 use Rattle.primary.specs.Primaries.{BeginsFrom, no_limits, IsUncut}
-use Rattle.failover_events.specs.declared.event.Event.{Event}
-use Rattle.failover_events.specs.declared.event.Event.TheVariants as on
+use Rattle.scripts.specs.declared.event.Event.{Event}
+use Rattle.scripts.specs.declared.event.Event.TheVariants as on
 use Rattle.primary.specs.declared.granted.Primary.{Primary}
 use Rattle.lease_rounds.specs.Steps.{HasStepped, HoldsNothing}
 use Rattle.failover_world.specs.Worlds.{WorldView, store_at, term_of}

@@ -11,8 +11,8 @@ use Rattle.ack_core.specs.declared.board.AckFault.TheVariants.{OtherTerm}
 use Rattle.go_live.specs.declared.fault.LiveFault.{LiveFault}
 use Rattle.go_live.specs.declared.fault.LiveFault.TheVariants.{TooFewStores, TermNotNew, Replay, Memory as NoLiveMemory}
 use Rattle.go_live.specs.Quorums.{AreEnough, IsOld}
-use Rattle.failover_events.specs.declared.event.Event.{Event}
-use Rattle.failover_events.specs.declared.event.Event.TheVariants as on
+use Rattle.scripts.specs.declared.event.Event.{Event}
+use Rattle.scripts.specs.declared.event.Event.TheVariants as on
 use Rattle.failover_world.specs.declared.fault.WorldFault.{WorldFault}
 use Rattle.failover_world.specs.declared.fault.WorldFault.TheVariants.{NoPrimary, NoKeeper, NoFrame, NotStopped, Step, Live, Ack, Memory}
 use Rattle.book_modes.specs.Recordings.{HasRoomed}

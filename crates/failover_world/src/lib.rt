@@ -5,7 +5,7 @@ mod fault;
 mod keepers;
 mod world;
 
-pub use failover_events::Event;
 pub use fault::WorldFault;
 pub use primary::{Primary, Released};
+pub use scripts::Event;
 pub use world::World;

@@ -5,10 +5,10 @@ ghost use Rattle.ft_types.specs.declared.names.TheConstants.{KEEPER_LIMIT};
 ghost use Rattle.log_join.specs.Stores.{nothing};
 ghost use Rattle.guest_image.specs.Image.{guest_of};
 ghost use Rattle.fragment_codec.specs.declared.frame.Frame.TheVariants.{Opening as opens};
-ghost use Rattle.failover_events.specs.declared.event.Event.TheVariants as on;
+ghost use Rattle.scripts.specs.declared.event.Event.TheVariants as on;
 ghost use Rattle.failover_world.specs.declared.fault.WorldFault.TheVariants.{NoPrimary};
 ghost use Rattle.primary.specs.Primaries.{IsBooted};
-ghost use Rattle.failover_events.specs.Events.{MayCome};
+ghost use Rattle.scripts.specs.Coming.{MayCome};
 ghost use Rattle.failover_world.specs.Worlds.{term_of};
 ghost use Rattle.failover_world.specs.Happenings.{GoesLive, IsFresh, Grants, Happens};
 ghost use Rattle.failover_world.specs.Refusals.{Refuses, RefusesGrant, CannotGoLive, IsLeft};
@@ -22,13 +22,13 @@ use crate::fault::WorldFault;
 use crate::keepers::{
     are_there, count_named, empty_stores, held_by, join, keeper_at, put, stores_named,
 };
-use failover_events::Event;
 use fragment_codec::{FIRST_TERM, Frame};
 use ft_types::{Counts, Hart, Memory, Term};
 use go_live::{LiveFault, go_live};
 use guest_image::{Image, Machine};
 use input_log::Input;
 use primary::{Primary, Released, offer_all};
+use scripts::Event;
 use std::alloc::Global;
 use std::marker::Model;
 use std::mem;

@@ -12,7 +12,7 @@ use Rattle.edge_log.specs.EdgeLog.{edges_of}
 use Rattle.rv32_hart.specs.Hardware.{hardware}
 use Rattle.hart_lease.specs.declared.stretch.Stretch.{Stretch}
 use Rattle.hart_lease.specs.Runs.{LeadsTo, counts_of}
-use Rattle.input_script.specs.declared.script.Offered.{Offered}
+use Rattle.scripts.specs.declared.script.Offered.{Offered}
 use Rattle.log_join.specs.Coming.{Gathers}
 use Rattle.log_join.proofs.Gathered.{come_gathers}
 use Rattle.interleaving.specs.Lists.{put}

@@ -3,7 +3,7 @@ use Rattle.std.proofs.Common.{◌≡◌, ◌∙◌, ◌≤◌, ◌++◌, ℕ, Li
 use Rattle.std.specs.List.{range_with_len}
 use Rattle.ft_types.specs.Counts.{count_at}
 use Rattle.input_log.specs.Inputs.{inputs_of}
-use Rattle.input_script.specs.declared.script.Offered.{Offered}
+use Rattle.scripts.specs.declared.script.Offered.{Offered}
 use Rattle.edge_log.specs.EdgeLog.{edges_of}
 use Rattle.guest_image.specs.Image.{ImageContents}
 use Rattle.guest_image.specs.Machine.{MachineState, boot_machine}

@@ -5,7 +5,7 @@ use Rattle.std.proofs.lemmas.List.Elements.{filter-append}
 use Rattle.interleaving.proofs.Put.{same_or_not}
 use Rattle.input_log.specs.declared.WaitingInput.{WaitingInput}
 use Rattle.input_log.specs.Waiting.{bells_of, others_of}
-use Rattle.input_script.specs.declared.script.Offered.{Offered}
+use Rattle.scripts.specs.declared.script.Offered.{Offered}
 use Rattle.book_modes.specs.Recordings.{RecordingView, IsOffered}
 use Rattle.log_streams.specs.Primary.{AreOfferedTo, offered_to}
 

@@ -9,7 +9,7 @@ use Rattle.log_join.specs.Families.{no_terms}
 use Rattle.ft_types.specs.declared.position.Position.{Position}
 use Rattle.closed_cut.specs.Position.{IsPosition}
 use Rattle.rv32_hart.specs.Hardware.{hardware}
-use Rattle.input_script.specs.declared.script.Offered.{Offered}
+use Rattle.scripts.specs.declared.script.Offered.{Offered}
 use Rattle.guest_image.specs.Image.{ImageContents, guest_of}
 use Rattle.page_book.specs.Books.{BookView}
 use Rattle.book_modes.specs.Recordings.{RecordingView}

@@ -5,7 +5,7 @@ use Rattle.ft_types.specs.Guests.{GuestParts}
 use Rattle.input_log.specs.declared.WaitingInput.{WaitingInput}
 use Rattle.input_log.specs.Inputs.{inputs_of}
 use Rattle.input_log.specs.Waiting.{bells_of, others_of}
-use Rattle.input_script.specs.declared.script.Offered.{Offered}
+use Rattle.scripts.specs.declared.script.Offered.{Offered}
 use Rattle.edge_log.specs.EdgeLog.{edges_of}
 use Rattle.guest_image.specs.Image.{ImageContents}
 use Rattle.guest_image.specs.Machine.{boot_machine}

@@ -3,7 +3,7 @@
 ghost use Rattle.std.specs.Prelude.{◌≡◌, ◌<◌, ◌≤◌, ◌^◌, ℕ, length, replicate, slice_index, IfOk, OnOk};
 ghost use Rattle.ft_types.specs.declared.names.TheConstants.{HART_LIMIT};
 ghost use Rattle.guest_image.specs.Image.{guest_of};
-ghost use Rattle.input_script.specs.Script.{AreOffered};
+ghost use Rattle.scripts.specs.Script.{AreOffered};
 ghost use Rattle.log_streams.specs.Primary.{AreOfferedTo, IsFirst, IsReady, IsRunBy, AreFramesOf};
 ghost use Rattle.log_streams.specs.Ends.{ReachItsEnd};
 
@@ -11,10 +11,10 @@ use crate::runs::Runs;
 use fragment_codec::{FIRST_TERM, Frame, first_opening};
 use ft_types::{Count, Counts, Hart, Memory};
 use guest_image::Image;
-use input_script::Offered;
 use log_pieces::{Sealed, cut_pieces};
 use page_book::{Book, Recording};
 use primary::Primary;
+use scripts::Offered;
 use std::alloc::Global;
 
 /// One limit for all harts.

@@ -2,13 +2,13 @@
 
 ghost use Rattle.std.specs.Prelude.{◌≡◌, ◌<◌, ◌≤◌, ◌↔◌, IsSome, IfSome};
 ghost use Rattle.ft_types.specs.declared.names.TheConstants.{KEEPER_LIMIT};
-ghost use Rattle.input_script.specs.Script.{AreOffered};
+ghost use Rattle.scripts.specs.Script.{AreOffered};
 
 use crate::faults::StreamsFault;
 use crate::runs::Runs;
 use ft_types::{Quorum, Sink};
 use guest_image::Image;
-use input_script::Offered;
+use scripts::Offered;
 use std::alloc::Global;
 
 /// How far a pair goes, and how many keepers it has.

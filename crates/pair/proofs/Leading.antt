@@ -14,7 +14,7 @@ use Rattle.guest_image.specs.Image.{ImageContents}
 use Rattle.guest_image.specs.Machine.{MachineState}
 use Rattle.hart_lease.specs.declared.stretch.Stretch.{Stretch}
 use Rattle.hart_replay.proofs.walking.Outcomes.{booted_length, booted_none}
-use Rattle.input_script.specs.declared.script.Offered.{Offered}
+use Rattle.scripts.specs.declared.script.Offered.{Offered}
 use Rattle.log_streams.specs.Primary.{IsFirst, IsReady, IsRunOf}
 use Rattle.pair.specs.Leading.{HasLed}
 use Rattle.pair.specs.Posts.{MayLead}

@@ -2,8 +2,8 @@ use Rattle.std.proofs.Common.{◌≡◌, ℕ, ◌+◌, [], ◌∷◌, ◌++◌, 
 use Rattle.std.specs.List.{AllByRecursion}
 use Rattle.std.specs.Vec.Iter.{into_iter_items}
 use Rattle.guest_image.specs.Image.{ImageContents}
-use Rattle.failover_events.specs.declared.event.Event.{Event}
-use Rattle.failover_events.specs.Events.{MayCome}
+use Rattle.scripts.specs.declared.event.Event.{Event}
+use Rattle.scripts.specs.Coming.{MayCome}
 use Rattle.command_line.proofs.Applied.{happens_more, refused_applies}
 use Rattle.command_line.proofs.failing_over.apply_all.Goals as goal
 

@@ -1,7 +1,7 @@
 use Rattle.std.proofs.Common.{◌≡◌, ◌+◌, ◌^◌, ◌≤◌, ◌++◌, length}
 use Rattle.std.specs.List.{AllByRecursion}
 use Rattle.std.specs.Vec.Iter.{into_iter_items}
-use Rattle.failover_events.specs.Events.{MayCome}
+use Rattle.scripts.specs.Coming.{MayCome}
 use Rattle.command_line.specs.FailingOver.{HappenAll}
 use Rattle.command_line.proofs.failing_over.apply_all.Given as goal
 

@@ -1,6 +1,6 @@
 use Rattle.std.proofs.Common.{◌∙◌, ℕ, length, replicate, ap, subst, sym}
 use Rattle.std.proofs.lemmas.List.{length-replicate}
-use Rattle.input_script.specs.Script.{AreOffered}
+use Rattle.scripts.specs.Script.{AreOffered}
 use Rattle.book_modes.specs.Recordings.{RecordingView}
 use Rattle.page_book.specs.Books.{BookView}
 use Rattle.fragment_codec.specs.Rules.{OpeningParts}

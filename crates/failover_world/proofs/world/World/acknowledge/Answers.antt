@@ -21,7 +21,7 @@ use Rattle.guest_image.specs.Image.{guest_of}
 use Rattle.interleaving.proofs.Put.{same_or_not}
 use Rattle.log_join.specs.Stores.{nothing}
 use Rattle.failover_theory.proofs.Events.{never_lower}
-use Rattle.failover_events.specs.declared.event.Event.TheVariants as on
+use Rattle.scripts.specs.declared.event.Event.TheVariants as on
 use Rattle.failover_world.specs.Refusals.{Refuses}
 use Rattle.failover_world.specs.Tied.{quorum_of, theory_world}
 use Rattle.failover_world.proofs.Places.{there_too}

@@ -1,6 +1,6 @@
 use Rattle.std.proofs.Common.{subst}
 use Rattle.primary.proofs.Gates.{left_if}
-use Rattle.failover_events.specs.declared.event.Event.TheVariants as on
+use Rattle.scripts.specs.declared.event.Event.TheVariants as on
 use Rattle.failover_world.specs.Worlds.{WorldView}
 use Rattle.failover_world.specs.Happenings.{Releases}
 use Rattle.failover_world.specs.Refusals.{IsLeft}

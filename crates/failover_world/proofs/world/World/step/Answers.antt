@@ -1,6 +1,6 @@
 use Rattle.std.proofs.Common.{◌<◌, sym, subst}
 use Rattle.std.proofs.lemmas.Result.{err_from_is_err_and}
-use Rattle.failover_events.specs.declared.event.Event.TheVariants as on
+use Rattle.scripts.specs.declared.event.Event.TheVariants as on
 use Rattle.failover_world.specs.Refusals.{Refuses}
 use Rattle.failover_world.specs.Worlds.{WorldView}
 use Rattle.failover_world.proofs.Lacking.{step_refused}

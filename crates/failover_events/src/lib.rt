@@ -1,6 +1,0 @@
-//! What may happen to a primary and its keepers.
-#![tactic(auto)]
-
-mod event;
-
-pub use event::Event;

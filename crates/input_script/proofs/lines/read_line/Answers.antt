@@ -1,6 +1,0 @@
-use Rattle.input_script.proofs.Fields.{if_none, lacks_by_text}
-use Rattle.input_script.proofs.lines.read_line.Goals as goal
-
-pub returns-in_err-offered-clause-none : goal.returns-in_err-offered-clause-none
-returns-in_err-offered-clause-none c = if_none c.from_residual-in_err-offered.result _ (lacks_by_text c.args.harts c.args.bytes.now c.in_ok-text.text.now
-    c.in_ok-text.behind.now c.in_ok-text.ensures.one c.in_ok-text.ensures.found c.in_err-offered.ensures.none)

@@ -1,0 +1,10 @@
+use Rattle.scripts.proofs.Offers.{only_script, only_fault}
+use Rattle.scripts.proofs.script.read_script.Goals as goal
+
+pub returns-clause-only : goal.returns-clause-only
+returns-clause-only c = only_script (λ v. v.items) c.args.harts c.args.bytes.now c.read_lines.result
+    c.read_lines.ensures.found c.read_lines.ensures.fault
+
+pub returns-clause-exact : goal.returns-clause-exact
+returns-clause-exact c = only_fault (λ v. v.items) c.args.harts c.args.bytes.now c.read_lines.result
+    c.read_lines.ensures.found c.read_lines.ensures.fault
