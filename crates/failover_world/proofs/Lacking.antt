@@ -5,7 +5,7 @@ use Rattle.page_book.specs.Books.{BookView}
 use Rattle.book_modes.specs.Recordings.{RecordingView}
 use Rattle.page_book.specs.declared.answers.BookFault.{BookFault}
 use Rattle.page_book.specs.declared.answers.BookFault.TheVariants.{Leased, Halted, EdgeOpen, AtLimit, Foreign, Memory}
-use Rattle.term_gate.proofs.Seats.{some_at}
+use Rattle.failover_world.proofs.Rows.{some_at}
 use Rattle.lease_rounds.specs.Steps.{IsRefused, RefusesStep}
 use Rattle.scripts.specs.declared.event.Event.TheVariants as on
 use Rattle.failover_world.specs.Faults.{fault_of_book}

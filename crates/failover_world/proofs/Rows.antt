@@ -1,5 +1,5 @@
 -- Lists that are written place by place.
-use Rattle.std.proofs.Common.{◌≡◌, ◌≢◌, ℕ, zero, suc, ◌+◌, ◌<◌, ◌≤◌, List, [], ◌∷◌, ◌++◌, length, replicate, take, slice_set, get_or, Option, None, append_assoc, append-nil, refl, sym, ap, ◌∙◌, arith}
+use Rattle.std.proofs.Common.{◌≡◌, ◌≢◌, ℕ, zero, suc, ◌+◌, ◌<◌, ◌≤◌, List, [], ◌∷◌, ◌++◌, length, replicate, take, slice_get, slice_set, get_or, Option, None, Some, append_assoc, append-nil, refl, sym, ap, ◌∙◌, arith}
 use Rattle.std.specs.List.{enumerate_from, flat_map}
 
 pub set_next : {A : Type 0} (xs : List A) (n : ℕ) (x : A) → n < length xs → take n xs ≡ replicate n x → take (suc n) (slice_set xs n x) ≡ replicate (suc n) x
@@ -9,6 +9,18 @@ set_next (y ∷ xs) (suc n) x lt is =
     let head : y ≡ x = cc in
     let tail : take n xs ≡ replicate n x = cc in
     ap (λ z. z ∷ take (suc n) (slice_set xs n x)) head ∙ ap (λ zs. x ∷ zs) (set_next xs n x (omega (arith, lt)) tail)
+
+-- whoever is below the end of a list is there
+pub some_at : {A : Type 0} (xs : List A) (i : ℕ) → i < length xs → (x : A) × (slice_get xs i ≡ Some x)
+some_at [] i lt = absurd (omega (arith, lt))
+some_at (x ∷ xs) zero lt = (x, refl)
+some_at (x ∷ xs) (suc i) lt = some_at xs i (omega (arith, lt))
+
+-- a row that is put back whole is as it is
+pub put_back_whole : {A : Type 0} (xs ys : List A) (n : ℕ) → length xs ≡ n → take n (xs ++ ys) ≡ xs
+put_back_whole [] ys n is = ap (λ k. take k ys) (sym is)
+put_back_whole (x ∷ xs) ys zero is = absurd (omega (arith, is))
+put_back_whole (x ∷ xs) ys (suc n) is = ap (λ zs. x ∷ zs) (put_back_whole xs ys n (omega (arith, is)))
 
 pub take_length : {A : Type 0} (xs : List A) (n : ℕ) → n ≤ length xs → length (take n xs) ≡ n
 take_length [] zero le = refl

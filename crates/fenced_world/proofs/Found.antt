@@ -1,10 +1,10 @@
 -- What is found of a world, why a step of it is refused, and what a refused one leaves.
-use Rattle.std.proofs.Common.{◌≡◌, ◌≢◌, inl, inr, ℕ, ◌<◌, ◌≤◌, List, [], ◌∷◌, slice_get, slice_set, get_or, Option, Some, None, Result, Err, refl, sym, ap, subst, ◌∙◌}
+use Rattle.std.proofs.Common.{◌≡◌, ◌≢◌, inl, inr, ℕ, ◌<◌, ◌≤◌, List, [], ◌∷◌, length, slice_get, slice_set, get_or, Option, Some, None, Result, Err, refl, sym, ap, subst, ◌∙◌}
 use Rattle.std.proofs.lemmas.List.Elements.{All-nil, All-cons}
+use Rattle.std.proofs.lemmas.Option.{slice_get_read}
 use Rattle.page_book.specs.declared.answers.BookFault.{BookFault}
 use Rattle.page_book.specs.declared.answers.BookFault.TheVariants.{Leased, Halted, EdgeOpen, AtLimit, Foreign, Memory as NoBookMemory}
 use Rattle.lease_rounds.specs.Steps.{RefusesStep}
-use Rattle.term_gate.proofs.Seats.{found_at}
 use Rattle.failover_world.proofs.Rows.{set_set, set_own}
 use Rattle.fenced_keeper.specs.declared.faults.RaiseFault.{RaiseFault}
 use Rattle.fenced_keeper.specs.declared.faults.RaiseFault.TheVariants.{Fenced as NotRaised, Place as NotWritten}
@@ -29,7 +29,7 @@ pub at_found : (running slice : List RunningView) (term n : ℕ) (x : RunningVie
     (slice_get running n ≡ Some x) × (x.primary.opening.term ≡ term)
 at_found running slice term n x same at is =
     let there : slice_get running n ≡ Some at.primary = ap (λ xs. slice_get xs n) (sym same) ∙ at.there in
-    let found = found_at running n x (is_below running n at.primary there) is in
+    let found = slice_get_read running (length running) n x refl (is_below running n at.primary there) is in
     (found, ap (λ (r : RunningView). r.primary.opening.term) (some_same found there) ∙ at.of_term)
 
 pub is_granted : (v : WorldView) (term n : ℕ) (r : RunningView) → slice_get v.running n ≡ Some r → r.primary.opening.term ≡ term → IsGranted v term

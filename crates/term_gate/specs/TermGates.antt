@@ -1,13 +1,8 @@
--- The gate of one term with its board, and what it gives.
-use Rattle.std.specs.Prelude.{◌≡◌, ◌<◌, ◌≤◌, ℕ, List, [], length, slice_get, slice_index_or, Some}
-use Rattle.ft_types.specs.declared.names.TheConstants.{HART_LIMIT}
+-- The gate of one term, what its keepers acknowledged, and what it gives.
+use Rattle.std.specs.Prelude.{◌≡◌, ◌<◌, ◌≤◌, ℕ, List, [], length, slice_index_or}
+use Rattle.ft_types.specs.declared.names.TheConstants.{KEEPER_LIMIT}
 use Rattle.ft_types.specs.Counts.{count_at}
-use Rattle.ack_core.specs.declared.board.Board.{Board}
-use Rattle.ack_core.specs.declared.seats.KeeperSeat.{KeeperSeat}
-use Rattle.ack_core.specs.declared.seats.GateSeat.{GateSeat}
-use Rattle.ack_core.specs.Seats.{term_of, harts_of, keepers_of, keeper_of, IsKeeperOf, IsGateOf}
-use Rattle.output_gate.specs.Gates.{GateView}
-use Rattle.output_gate.specs.Looks.{IsSeen}
+use Rattle.output_gate.specs.Gates.{GateView, noted_at}
 
 pub record TermGateView : Type 0 where
   pub harts : ℕ
@@ -18,21 +13,13 @@ pub record TermGateView : Type 0 where
 abbrev pub acked_at : TermGateView → ℕ → ℕ → ℕ
 acked_at g keeper hart = count_at (slice_index_or g.acked keeper []) hart
 
--- the seats of a board's keepers, in order
-pub record AreSeats (board : Board) (seats : List KeeperSeat) : Type 0 where
-  pub many : length seats ≡ keepers_of board
-  pub fits : (keeper : ℕ) (seat : KeeperSeat) → slice_get seats keeper ≡ Some seat → IsKeeperOf board seat
-  pub own : (keeper : ℕ) (seat : KeeperSeat) → slice_get seats keeper ≡ Some seat → keeper_of seat ≡ keeper
-
--- the gate and the board are of one term and of the same keepers, and all seats are at hand
-pub record IsTermGate (board : Board) (seats : List KeeperSeat) (gate_seat : GateSeat) (gate : GateView) : Type 0 where
-  pub term : term_of board ≡ gate.term
-  pub keepers : keepers_of board ≡ gate.keepers
-  pub some : 0 < harts_of board
-  pub few : harts_of board ≤ HART_LIMIT
-  pub at_board : AreSeats board seats
-  pub at_gate : IsGateOf board gate_seat
-  pub seen : IsSeen board gate gate_seat
+-- the gate is of this term, each of its keepers has a row of so many counts, and no count is noted above those
+pub record IsTermGate (of_term harts : ℕ) (acked : List (List ℕ)) (gate : GateView) : Type 0 where
+  pub term : of_term ≡ gate.term
+  pub keepers : length acked ≡ gate.keepers
+  pub few : length acked ≤ KEEPER_LIMIT
+  pub wide : (keeper : ℕ) → keeper < length acked → length (slice_index_or acked keeper []) ≡ harts
+  pub below : (keeper hart : ℕ) → noted_at gate keeper hart ≤ count_at (slice_index_or acked keeper []) hart
 
 -- a table of what the keepers acknowledged
 pub record AreAcked (g : TermGateView) (noted : List (List ℕ)) : Type 0 where

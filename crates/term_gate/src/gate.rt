@@ -7,49 +7,47 @@ ghost use Rattle.output_gate.specs.Orders.{RiseByHart, AreAbove, ArePassedBelow}
 ghost use Rattle.ft_types.specs.Counts.{count_at};
 ghost use Rattle.term_gate.specs.TermGates.{acked_at, AreAcked};
 
-use crate::seeing::{know_all, see_all};
-use ack_core::{AckFault, Board, GateSeat, KeeperSeat};
+use crate::acked::{no_rows, note_all};
+use ack_core::AckFault;
 use ft_types::{Counts, Hart, Keeper, Memory, Position, Term};
 use output_gate::{Gate, Output};
 use std::alloc::Global;
 use std::marker::Model;
 use std::result::Result;
 
-/// The gate of a term, the board on which its keepers acknowledge, and their seats.
+/// The gate of a term, and what each of its keepers acknowledged last: a count for each hart.
 ///
 /// Contracts see the gate, and by keeper and hart the count that was acknowledged last.
 pub struct TermGate {
-    board: Board,
-    seats: Vec<KeeperSeat>,
-    gate_seat: GateSeat,
+    term: Term,
+    harts: u8,
+    acked: Vec<Counts>,
     gate: Gate,
 }
 
 impl Drop for TermGate {
     fn drop(self) {
         let TermGate {
-            board: _,
-            seats: _,
-            gate_seat: _,
+            term: _,
+            harts: _,
+            acked: _,
             gate: _,
         } = self;
     }
 }
 
 impl Model for TermGate {
-    ghost use Rattle.std.specs.Prelude.{map};
-    ghost use Rattle.ack_core.specs.Seats.{harts_of, last_counts};
     ghost use Rattle.term_gate.specs.TermGates.{TermGateView, IsTermGate};
 
     ghost Value = { TermGateView };
 
-    ghost view = { λ g. record { harts = harts_of g.board; acked = map last_counts g.seats.items; gate = g.gate } };
+    ghost view = { λ g. record { harts = g.harts; acked = g.acked.items; gate = g.gate } };
 
-    ghost invariant = { λ g. IsTermGate g.board g.seats.items g.gate_seat g.gate };
+    ghost invariant = { λ g. IsTermGate g.term g.harts g.acked.items g.gate };
 }
 
 impl TermGate {
-    /// A gate to which nothing was offered and at which nothing is noted, and a board on which nothing was published. Outputs with
+    /// A gate to which nothing was offered and at which nothing is noted, and whose keepers acknowledged nothing. Outputs with
     /// numbers below their hart's mark are never released.
     pub fn new(
         alloc: Global,
@@ -67,11 +65,11 @@ impl TermGate {
         ensures noted { IfOk result (λ g. (keeper hart : ℕ) → noted_at g.gate keeper hart ≡ 0) }
         ensures lines { IfOk result (λ g. (hart : ℕ) → line_of g.gate hart ≡ fresh_line (count_at marks.now hart)) }
     {
-        let (board, seats, gate_seat) = Board::new(alloc, term, harts, keepers)?;
+        let acked = no_rows(alloc, keepers, harts)?;
         Ok(TermGate {
-            board,
-            seats,
-            gate_seat,
+            term,
+            harts,
+            acked,
             gate: Gate::new_after(alloc, term, keepers, need, marks),
         })
     }
@@ -88,9 +86,15 @@ impl TermGate {
             (hart : ℕ) × (hart < self.old.harts) × (slice_index position.now.counts hart < acked_at self.old keeper hart)) }
         ensures kept { OnErr result (self.new ≡ self.old) }
     {
-        let seat = &mut self.seats[keeper.index()];
-        let _last = seat.last();
-        self.board.publish(seat, position)
+        if position.term != self.term {
+            return Err(AckFault::OtherTerm);
+        }
+        let row = keeper.index();
+        if !self.acked[row].within(position.counts) {
+            return Err(AckFault::Lower);
+        }
+        self.acked[row] = position.counts;
+        Ok(())
     }
 
     /// How many outputs of the hart were offered.
@@ -134,9 +138,7 @@ impl TermGate {
         } }
         ensures err { OnErr result (self.new.gate.lines ≡ self.old.gate.lines) }
     {
-        see_all(&self.board, &mut self.gate_seat, &mut self.seats);
-        let given = self.gate.look(alloc, &self.board, &mut self.gate_seat);
-        know_all(&self.board, &mut self.gate_seat, &mut self.seats);
-        given
+        note_all(&mut self.gate, &self.acked);
+        self.gate.release(alloc)
     }
 }

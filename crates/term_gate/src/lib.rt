@@ -1,7 +1,7 @@
-//! The gate of one term with its board and all seats at hand: by what was acknowledged, outputs go out.
+//! The gate of one term: by what its keepers acknowledged last, outputs go out.
 #![tactic(auto)]
 
+mod acked;
 mod gate;
-mod seeing;
 
 pub use gate::TermGate;

@@ -5,7 +5,7 @@ use Rattle.failover_world.proofs.Parts.{with_store}
 use Rattle.failover_world.proofs.Keeping.{joined}
 use Rattle.failover_world.proofs.Guests.{store_guest}
 use Rattle.std.proofs.Common.{length-set, take, drop, ◌++◌}
-use Rattle.term_gate.proofs.Seats.{put_back_whole}
+use Rattle.failover_world.proofs.Rows.{put_back_whole}
 use Rattle.failover_world.specs.Happenings.{Joins}
 use Rattle.failover_world.specs.Tied.{IsWorld}
 use Rattle.failover_world.proofs.world.World.join.Goals as goal
