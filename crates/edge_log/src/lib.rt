@@ -33,7 +33,7 @@ impl Default for Edge {
 }
 
 /// What became of an edge that was added.
-#[derive(Clone, Copy, Debug, PartialEq, Eq)]
+#[derive(Clone, Copy, PartialEq, Eq)]
 pub enum Added {
     /// The log has it.
     New,

@@ -16,7 +16,7 @@ use input_log::Input;
 use std::alloc::{AllocError, AllocFailed, Global};
 
 /// Why a body was not read.
-#[derive(Debug, Drop)]
+#[derive(Drop)]
 pub enum BodyError {
     Memory,
     Broken,

@@ -38,7 +38,7 @@ pub const OPENING_LIMIT: usize = 41 + 8 * HART_ROW;
 pub const FRAME_LIMIT: usize = 8 + FIRST_BODY_LIMIT + 32;
 
 /// Which fragment it is.
-#[derive(Clone, Copy, Debug, PartialEq, Eq)]
+#[derive(Clone, Copy, PartialEq, Eq)]
 pub struct Key {
     /// The term in which it was logged.
     pub term: Term,
@@ -49,7 +49,7 @@ pub struct Key {
 }
 
 /// One fact of a hart's log.
-#[derive(Clone, Copy, Debug, PartialEq, Eq)]
+#[derive(Clone, Copy, PartialEq, Eq)]
 pub enum Record {
     /// A step of the hart comes after steps of another.
     Edge(Edge),

@@ -6,6 +6,7 @@ ghost use Rattle.guest_image.specs.Image.{Sets, LacksSetting, StartsWithWord, La
 
 use crate::fault::ImageFault;
 use ft_types::{PAGE_LIMIT, first_line, read_number, read_word};
+use rv32_hart::PAGE_WORDS;
 use std::alloc::Global;
 use std::option::Option;
 use std::vec::Vec;
@@ -54,7 +55,7 @@ pub(super) fn read_words(alloc: Global, pages: u16, bytes: &[u8]) -> Result<Vec<
     ensures found { IfOk result (λ v. WordsThen pages bytes.now v.items []) }
     ensures fault { IfErr result (λ e. IsWordFault pages bytes.now e) }
 {
-    let room = pages as usize * 1024;
+    let room = pages as usize * PAGE_WORDS as usize;
     let mut words = Vec::new(alloc);
     let mut rest = bytes;
     while rest.len() > 0 {

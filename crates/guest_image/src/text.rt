@@ -9,7 +9,7 @@ ghost use Rattle.guest_image.specs.Machine.{words_of};
 use ft_types::{
     Failed, LineBuffer, PAGE_LIMIT, Sink, put_before, put_number_before, put_word_before, write_all,
 };
-use rv32_hart::HartState;
+use rv32_hart::{HartState, PAGE_WORDS, RAM_BASE};
 
 /// How many bytes are written at once.
 const BLOCK: usize = 4096;
@@ -153,7 +153,7 @@ fn write_ram_word<W: Sink>(number: u32, contents: u32, out: &mut W) -> Result<()
         return Ok(());
     }
     let mut text = LineBuffer::new();
-    text.push_word(0x8000_0000 + number * 4);
+    text.push_word(RAM_BASE + number * 4);
     text.push(b" ");
     text.push_word(contents);
     text.write(out)
@@ -265,7 +265,7 @@ pub(crate) fn write_page<W: Sink>(number: u32, bytes: &[u8], out: &mut W) -> Res
         (words_of bytes.now)) }
 {
     let mut rest = bytes;
-    let mut place = number * 1024;
+    let mut place = number * PAGE_WORDS;
     while rest.len() >= 4 {
         let value = u32::from_le_bytes([rest[0], rest[1], rest[2], rest[3]]);
         write_ram_word(place, value, out)?;

@@ -48,7 +48,7 @@ impl Default for Input {
 }
 
 /// A bell that waits.
-#[derive(Clone, Copy, Debug, PartialEq, Eq)]
+#[derive(Clone, Copy)]
 pub struct WaitingBell {
     /// The hart that rang.
     pub source: Hart,
@@ -66,7 +66,7 @@ impl Default for WaitingBell {
 }
 
 /// An input that waits, and is no bell.
-#[derive(Clone, Copy, Debug, PartialEq, Eq)]
+#[derive(Clone, Copy)]
 pub struct WaitingInput {
     /// The least count at which it may be given.
     pub not_before: Count,
@@ -75,7 +75,7 @@ pub struct WaitingInput {
 }
 
 /// At this count of a hart, all its outputs with numbers below `number` were released.
-#[derive(Clone, Copy, Debug, PartialEq, Eq)]
+#[derive(Clone, Copy)]
 pub struct Note {
     /// The hart.
     pub hart: Hart,

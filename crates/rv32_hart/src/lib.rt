@@ -5,6 +5,7 @@ mod arithmetic;
 mod code;
 mod decoder;
 mod hart_core;
+mod memory_map;
 mod memory_steps;
 mod outcome;
 mod pages;
@@ -19,6 +20,7 @@ mod steps;
 
 pub use code::{Code, CodedPages};
 pub use decoder::{Anew, Decode, Decoder};
+pub use memory_map::{PAGE_WORDS, RAM_BASE};
 pub use outcome::Tick;
 pub use pages::Pages;
 pub use quiet_run::run_quietly;

@@ -6,6 +6,7 @@ ghost use Rattle.rv32_hart.specs.Access.{device_step, amo_access};
 ghost use Rattle.rv32_hart.specs.Granted.{granted, Goes, GoesAlone};
 
 use super::hart_core::HartCore;
+use super::memory_map::{ACK, BELL, HALT, INSEQ, INWORD, OUT, RAM_BASE};
 use super::outcome::Tick;
 use super::pages::Pages;
 use super::steps::{go_on, set_register_step};
@@ -49,7 +50,7 @@ pub(crate) fn is_in_ram<P: Pages>(address: u32, pages: &P) -> bool
     ensures value { result ≡ in_ram (length (P.ram pages.now).contents) address }
     ensures limit { result ≡ true → page_at address < PAGE_LIMIT }
 {
-    address.wrapping_sub(0x8000_0000) >> 12 < pages.count()
+    address.wrapping_sub(RAM_BASE) >> 12 < pages.count()
 }
 
 /// The page of an address in RAM.
@@ -59,7 +60,7 @@ pub(crate) fn page_number(address: u32) -> PageNo
     requires limit { page_at address < PAGE_LIMIT }
     ensures { result ≡ page_at address }
 {
-    PageNo::new(((address - 0x8000_0000) >> 12) as u16)
+    PageNo::new(((address - RAM_BASE) >> 12) as u16)
 }
 
 #[inline(always)]
@@ -90,10 +91,10 @@ fn load_from_device(core: &mut HartCore, kind: LoadKind, rd: Reg, address: u32)
     requires { core.old.count < COUNT_LIMIT - 1 }
     ensures { core.new ≡ load_device kind rd address core.old }
 {
-    if kind == LoadKind::Word && address == 0xf000_0000 {
+    if kind == LoadKind::Word && address == INWORD {
         let value = core.received().input_word;
         set_register_step(core, rd, value);
-    } else if kind == LoadKind::Word && address == 0xf000_0004 {
+    } else if kind == LoadKind::Word && address == INSEQ {
         let value = core.received().input_sequence;
         set_register_step(core, rd, value);
     } else {
@@ -196,24 +197,24 @@ fn store_to_device(core: &mut HartCore, address: u32, value: u32) -> Tick
     ensures { GoesAlone result core.old core.new (device_step address value core.old) }
 {
     match address {
-        0xf000_0008 => {
+        OUT => {
             if core.push_output(value).is_err() {
                 return Tick::Memory;
             }
             go_on(core);
         }
-        0xf000_000c => {
+        ACK => {
             core.acknowledge(value);
             go_on(core);
         }
-        0xf000_0010 => {
+        BELL => {
             if value < u32::from(core.harts()) {
                 core.ring(Hart::new(value as u8));
             } else {
                 core.enter(7);
             }
         }
-        0xf000_0014 => {
+        HALT => {
             core.halt();
             go_on(core);
         }
