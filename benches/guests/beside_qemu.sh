@@ -11,7 +11,7 @@ if [ $# -gt 0 ]; then
     program=$1
 else
     here=$here/../threads
-    workspace threads_bench "interleaving zaamo ft_types rv32_isa input_log rv32_hart edge_log guest_image crew_pages lease_ledger hart_lease book_modes page_book lease_rounds primary_pool" "ft_types guest_image page_book primary_pool anyhow" plain "$here/images/nothing.image" 1000 1
+    workspace threads_bench "ft_types guest_image page_book lease_rounds hart_threads anyhow" plain "$here/images/nothing.image" 1000 1
     here=$here/../guests
 fi
 make -s -C "$here" virt > "$work/make.txt" 2>&1 || {

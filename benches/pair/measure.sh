@@ -6,7 +6,7 @@ set -eu
 here=$(cd "$(dirname "$0")" && pwd)
 . "$here/../workspace.sh"
 
-workspace pair_bench "ft_types input_log edge_log guest_image page_book fragment_codec log_join closed_cut tracked_position primary_pool output_gate log_streams pair anyhow" positions once 1
+workspace pair_bench "ft_types input_log edge_log guest_image page_book fragment_codec log_join closed_cut tracked_position hart_threads output_gate log_streams pair anyhow" positions once 1
 
 # Five runs of each.
 for _run in 1 2 3 4 5; do

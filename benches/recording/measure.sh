@@ -6,7 +6,7 @@ set -eu
 here=$(cd "$(dirname "$0")" && pwd)
 . "$here/../workspace.sh"
 
-workspace recording_bench "ft_types rv32_hart guest_image page_book primary_pool anyhow" record loop 3000
+workspace recording_bench "ft_types rv32_hart guest_image page_book lease_rounds anyhow" record loop 3000
 
 # All leave the same hart.
 for guest in loop outputs; do

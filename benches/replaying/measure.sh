@@ -8,7 +8,7 @@ set -eu
 here=$(cd "$(dirname "$0")" && pwd)
 . "$here/../workspace.sh"
 
-workspace replaying_bench "ft_types input_log guest_image page_book primary_pool fragment_codec log_join closed_cut hart_replay replay_pool go_live anyhow" run 1
+workspace replaying_bench "ft_types input_log guest_image page_book lease_rounds fragment_codec log_pieces log_join closed_cut hart_replay hart_threads go_live anyhow" run 1
 
 "$program" run 1
 "$program" replay 1

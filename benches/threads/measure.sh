@@ -10,7 +10,7 @@ here=$(cd "$(dirname "$0")" && pwd)
 BUDGET=1000000
 LONG_BUDGET=20000000
 
-workspace threads_bench "ft_types guest_image page_book lease_rounds primary_pool anyhow" plain "$here/images/nothing.image" "$BUDGET" 1
+workspace threads_bench "ft_types guest_image page_book lease_rounds hart_threads anyhow" plain "$here/images/nothing.image" "$BUDGET" 1
 
 # middle: the median of the numbers, one a line.
 middle() {

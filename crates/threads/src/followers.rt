@@ -6,12 +6,12 @@ use fragment_codec::{Frame, first_opening};
 use ft_types::{Count, Counts, Guest, Hart, Memory, Term};
 use guest_image::{Image, Machine};
 use hart_replay::ReplayFault;
+use hart_threads::Follower;
 use lease_rounds::run_plain;
 use log_join::Store;
 use log_pieces::Sealed;
 use log_streams::begin_run;
 use page_book::{Book, Recording};
-use replay_pool::Follower;
 use std::alloc::Global;
 use std::test::Fail;
 

@@ -1,8 +1,10 @@
-//! The tests of threads: harts of primaries and replays, and pairs. And of followers, which keep up with stores.
+//! The tests of threads: harts of primaries and replays, and pairs. Of what steers harts, and of followers, which keep up with stores.
 #![tactic(auto)]
 
 #[cfg(test)]
 mod chances;
+#[cfg(test)]
+mod decisions;
 #[cfg(test)]
 mod followers;
 #[cfg(test)]

@@ -4,7 +4,7 @@ use crate::runs::{in_turn, leads_in_turn, on_threads};
 use fixtures::{hart, image_of};
 use ft_types::{Hart, HartSet, Memory};
 use guest_image::{Image, Machine};
-use primary_pool::Free;
+use hart_threads::Free;
 use rv32_hart::HartState;
 use std::alloc::Global;
 use std::sync::Wait;

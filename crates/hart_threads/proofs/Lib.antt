@@ -1,0 +1,5 @@
+mod Aside
+mod Picking
+mod Finishing
+mod GoingOn
+mod Along

@@ -1,0 +1,217 @@
+//! What lies under the lock.
+
+ghost use Rattle.std.specs.Prelude.{◌≡◌, ◌<◌, length};
+ghost use Rattle.page_book.specs.Books.{IsOurs};
+
+use crate::turns::{Answer, Brought, Stop, Turn};
+use ft_types::{Count, Counts, HART_ROW, Hart, HartSet, LEASE_STEPS, PageNo, Want};
+use lease_rounds::PageMask;
+use page_book::{Book, BookFault, Keep, Lease, Mode, Need};
+use std::alloc::Global;
+use steering::{Pace, Returned, Steering, trace_of};
+
+/// A book, beside what steers its harts: no promise leans on that.
+#[derive(Drop)]
+pub(crate) struct Desk<M: Mode> {
+    book: Book<M>,
+    steering: Steering,
+}
+
+impl<M: Mode> Desk<M> {
+    /// A book whose harts all go on.
+    pub(crate) fn new(book: Book<M>, pace: Pace, ends: Counts, is_free: bool) -> Desk<M> {
+        let steering = Steering::new(book.machine().harts(), pace, ends, is_free);
+        Desk { book, steering }
+    }
+
+    /// The book.
+    pub(crate) fn into_book(self) -> Book<M> {
+        self.book
+    }
+
+    /// Whether the hart is to go on.
+    pub(crate) fn may_go(&self, hart: Hart, end: Count) -> bool {
+        if hart.number() >= self.book.machine().harts() {
+            return false;
+        }
+        let state = self.book.machine().hart(hart);
+        !state.is_halted() && state.count() < end
+    }
+
+    /// A lease of the hart, with the pages that it takes at once.
+    pub(crate) fn lend(&mut self, alloc: Global, hart: Hart, end: Count) -> Turn {
+        if hart.number() >= self.book.machine().harts() || !self.may_go(hart, end) {
+            return Turn::Ends;
+        }
+        if !self.steering.may_ask(hart) {
+            return Turn::Waits;
+        }
+        match self.book.lease(alloc, hart) {
+            Ok(lease) => {
+                self.steering.go_out(hart);
+                let mut lease = self.with_pages(lease);
+                let reach = self.steering.reach(hart);
+                if reach < LEASE_STEPS {
+                    lease.allow(reach);
+                }
+                Turn::Goes(lease, reach)
+            }
+            Err(BookFault::EdgeOpen) => {
+                if self.steering.wait_for_steps(hart) {
+                    Turn::Waits
+                } else {
+                    Turn::Ends
+                }
+            }
+            Err(_) => Turn::Ends,
+        }
+    }
+
+    /// The lease with the pages that its hart takes at once, where nobody is in the way.
+    fn with_pages(&mut self, lease: Lease) -> Lease
+        requires ours { IsOurs self.old.book lease }
+    {
+        let mut lease = lease;
+        let hart = lease.hart();
+        let woken = !lease.inputs().is_empty();
+        let pages = self.steering.pages_at_once(hart, woken);
+        let in_the_way = self.steering.in_the_way(hart);
+        for number in 0..self.book.machine().pages() {
+            let page = PageNo::new(number);
+            if let Some(want) = pages.want(page) {
+                if !in_the_way.is_against(PageMask::of(page, want)) {
+                    self.give(&mut lease, page, want);
+                }
+            }
+        }
+        lease
+    }
+
+    /// Gives the book's own lease a page, where it may have it.
+    fn give(&mut self, lease: &mut Lease, page: PageNo, want: Want)
+        requires ours { IsOurs self.old.book lease.old }
+        requires page { page < length self.old.book.machine.pages }
+        ensures ours { IsOurs self.new.book lease.new }
+        ensures pages { self.new.book.machine ≡ self.old.book.machine }
+    {
+        if let Ok(Need::Given) = self.book.need_own(lease, page, want) {
+            self.steering.take(lease.hart(), PageMask::of(page, want));
+        }
+    }
+
+    /// Takes in a lease which stops here: it is given the page that it lacked, or else its steps are settled.
+    pub(crate) fn bring(&mut self, lease: Lease, stop: Stop) -> Brought {
+        let mut lease = lease;
+        let answer = match stop {
+            Stop::Full => Answer::Held,
+            Stop::Lacks(page, want) => self.ask(&mut lease, page, want),
+            Stop::Memory => Answer::Refused,
+        };
+        match answer {
+            Answer::Given => Brought::Goes(lease),
+            Answer::Held => match self.take_back(lease) {
+                Some((steps, count)) => Brought::Settled(steps, count),
+                None => Brought::Ends,
+            },
+            Answer::Refused => {
+                let _settled = self.take_back(lease);
+                Brought::Ends
+            }
+        }
+    }
+
+    /// The same, and lends the hart its next lease, where one is settled.
+    pub(crate) fn exchange(&mut self, alloc: Global, lease: Lease, stop: Stop, end: Count) -> Turn {
+        let hart = lease.hart();
+        let lacked = stop.lacked();
+        match self.bring(lease, stop) {
+            Brought::Goes(lease) => Turn::Goes(lease, self.steering.reach(hart)),
+            Brought::Settled(_, _) => {
+                self.steering.queue_up(hart, lacked);
+                self.lend(alloc, hart, end)
+            }
+            Brought::Ends => Turn::Ends,
+        }
+    }
+
+    /// Asks for a page.
+    fn ask(&mut self, lease: &mut Lease, page: PageNo, want: Want) -> Answer {
+        if page.index() >= self.book.machine().pages() as usize {
+            return Answer::Refused;
+        }
+        let hart = lease.hart();
+        let pages = PageMask::of(page, want);
+        if self.steering.is_barred(hart, pages) {
+            return self.refuse(lease, pages);
+        }
+        match self.book.need(lease, page, want) {
+            Ok(Need::Given) => {
+                self.steering.take(hart, pages);
+                Answer::Given
+            }
+            Ok(Need::HeldBy(_)) => self.refuse(lease, pages),
+            Err(_) => Answer::Refused,
+        }
+    }
+
+    /// The lease is refused these pages.
+    fn refuse(&mut self, lease: &Lease, pages: PageMask) -> Answer {
+        self.steering.refuse(lease.hart(), lease.steps(), pages);
+        Answer::Held
+    }
+
+    /// Takes the lease back, with its steps: how many, and up to which count. None where they were not added.
+    fn take_back(&mut self, lease: Lease) -> Option<(u64, Count)> {
+        let (hart, steps, count) = (lease.hart(), lease.steps(), lease.count());
+        let woken = !lease.inputs().is_empty();
+        let before = self.rung_by(hart);
+        let keep = if self.steering.keeps_rights(hart) {
+            Keep::All
+        } else {
+            Keep::Nothing
+        };
+        let returned = self.steering.come_back(hart, steps, lease.stop(), woken);
+        match self.book.settle(lease, keep) {
+            Ok(()) => {
+                self.tell_settled(hart, returned, before);
+                Some((steps, count))
+            }
+            Err((lease, _)) => {
+                let _ended = self.book.discard(lease);
+                None
+            }
+        }
+    }
+
+    /// Tells of the hart's settled lease, before which it had rung each hart so often.
+    fn tell_settled(&mut self, hart: Hart, returned: Returned, before: [u64; HART_ROW]) {
+        if self.steering.has_rests() && hart.number() < self.book.machine().harts() {
+            let trace = trace_of(self.book.machine().hart(hart).registers());
+            let after = self.rung_by(hart);
+            self.steering.settle(returned, trace, before, after);
+        }
+    }
+
+    /// How often the hart has rung each hart, by its settled steps.
+    fn rung_by(&self, hart: Hart) -> [u64; HART_ROW] {
+        if hart.number() >= self.book.machine().harts() {
+            return [0; HART_ROW];
+        }
+        *self.book.machine().hart(hart).rung()
+    }
+
+    /// The hart does not go on. Whose threads are to look again.
+    pub(crate) fn leave(&mut self, hart: Hart) -> HartSet {
+        self.steering.leave(hart)
+    }
+
+    /// For whose leases others wait since this visit.
+    pub(crate) fn wanted(&mut self) -> HartSet {
+        self.steering.wanted()
+    }
+
+    /// Whose threads are to look again. They sleep no longer.
+    pub(crate) fn called(&mut self) -> HartSet {
+        self.steering.called()
+    }
+}

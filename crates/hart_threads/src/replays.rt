@@ -1,0 +1,67 @@
+//! Replay of a whole plan on threads.
+
+ghost use Rattle.std.specs.Prelude.{◌≡◌, ◌≢◌, ◌↔◌, Err, IfOk, IfErr};
+ghost use Rattle.frame_content.specs.Tests.{same_guest};
+ghost use Rattle.guest_image.specs.Image.{guest_of};
+ghost use Rattle.hart_replay.specs.Plans.{IsPlan};
+ghost use Rattle.hart_replay.specs.Replays.{IsOutcome, IsAtLeg, IsCyclicAt, HaltsInsideAt, IfCyclic, IfHaltedInside, ReplaysHistory};
+ghost use Rattle.hart_replay.specs.Leading.{IsLegsFault};
+
+use crate::legs::replay_leg;
+use crate::turnstile::Turnstile;
+use ft_types::Guest;
+use guest_image::{Image, Machine};
+use hart_replay::{Plan, PlannedLeg, ReplayFault};
+use std::alloc::Global;
+use std::result::Result;
+use std::sync::Wait;
+use std::thread::Threads;
+
+pub(crate) fn is_same_guest(guest: &Guest, other: &Guest) -> bool
+    ensures { result ≡ same_guest guest.now other.now }
+{
+    guest == other
+}
+
+/// The machine to which the legs lead from boot, one after the other.
+fn replay_legs<R: Threads + Wait + Sync, T: Turnstile + Sync>(
+    rt: &R,
+    alloc: Global,
+    image: &Image,
+    legs: &[PlannedLeg],
+    turnstile: &T,
+) -> Result<Machine, ReplayFault>
+    requires { IsPlan (guest_of image.now) legs.now }
+    ensures ok { IfOk result (λ m. IsOutcome image.now legs.now m) }
+    ensures fault { IfErr result (λ fault. IsLegsFault image.now legs.now fault) }
+{
+    let mut machine = Machine::boot(alloc, image)?;
+    for leg in legs {
+        machine = replay_leg(rt, alloc, machine, leg, turnstile)?;
+    }
+    Ok(machine)
+}
+
+/// The machine to which the plan leads from the image's boot, leg after leg. In each leg each hart goes on on a thread of its own,
+/// which waits by counts; a hart that is alone goes on on the calling thread. What is left undone is done without the turnstile,
+/// harts in turn.
+pub fn replay<R: Threads + Wait + Sync, T: Turnstile + Sync>(
+    rt: &R,
+    alloc: Global,
+    image: &Image,
+    plan: &Plan,
+    turnstile: &T,
+) -> Result<Machine, ReplayFault>
+    ensures other_guest { (result ≡ Err ReplayFault.OtherGuest) ↔ (plan.now.guest ≢ guest_of image.now) }
+    ensures outcome { IfOk result (λ m. IsOutcome image.now plan.now.legs m) }
+    ensures cyclic { IfErr result (λ fault. IfCyclic fault (λ counts. IsAtLeg image.now plan.now.legs (λ leg m. IsCyclicAt leg m counts))) }
+    ensures halted_inside { IfErr result (λ fault. IfHaltedInside fault (λ hart count. IsAtLeg image.now plan.now.legs
+        (λ leg m. HaltsInsideAt leg m hart count))) }
+    // Of honest frames nothing is cyclic or halted inside, and the machine is the one that they tell of.
+    ensures history { ReplaysHistory image.now plan.now.legs result }
+{
+    if !is_same_guest(&plan.guest(), &image.guest()) {
+        return Err(ReplayFault::OtherGuest);
+    }
+    replay_legs(rt, alloc, image, plan.legs(), turnstile)
+}

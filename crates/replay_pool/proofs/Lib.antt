@@ -1,3 +1,0 @@
-mod Finishing
-mod GoingOn
-mod Along

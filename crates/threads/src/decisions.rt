@@ -1,0 +1,184 @@
+//! What the steering of harts answers, call by call.
+
+use fixtures::hart;
+use ft_types::{Counts, HART_ROW, Hart, HartSet, PAGE_LIMIT, PageNo, Want};
+use lease_rounds::PageMask;
+use std::test::Fail;
+use steering::{Pace, Steering};
+
+/// A call of a hart, with a page, a number of steps or another hart, and what it answers: a number, 1 for yes, or a bit a hart.
+type Row = (&'static str, u8, u16, u64);
+
+/// What the registers of a hart come to that is as it was.
+const AS_IT_WAS: u64 = 7777;
+
+static ROWS: [Row; 64] = [
+    // Whoever was refused first is given first, and a page in dispute is kept by nobody.
+    ("even", 3, 0, 0),
+    ("asks", 0, 0, 1),
+    ("asks", 1, 0, 1),
+    ("asks", 2, 0, 1),
+    ("writes", 0, 5, 1),
+    ("writes", 1, 5, 0),
+    ("brings", 1, 0, 0),
+    ("asks", 1, 0, 0),
+    ("wanted", 0, 0, 1),
+    ("reads", 2, 5, 0),
+    ("brings", 2, 0, 0),
+    ("asks", 2, 0, 0),
+    ("keeps", 0, 0, 0),
+    ("brings", 0, 1024, 2),
+    ("asks", 1, 0, 1),
+    ("takes", 1, 5, 1),
+    ("writes", 1, 5, 1),
+    ("brings", 1, 1024, 4),
+    ("asks", 2, 0, 1),
+    ("reads", 2, 5, 1),
+    ("reads", 0, 5, 1),
+    ("takes", 0, 5, 0),
+    // No hart runs far ahead, but the further the longer they have had nothing to do with each other.
+    ("even", 2, 0, 0),
+    ("asks", 0, 0, 1),
+    ("brings", 0, 1024, 0),
+    ("asks", 0, 0, 1),
+    ("brings", 0, 1024, 0),
+    ("asks", 0, 0, 0),
+    ("wanted", 0, 0, 0),
+    ("asks", 1, 0, 1),
+    ("brings", 1, 1024, 1),
+    ("asks", 1, 0, 1),
+    ("brings", 1, 1024, 0),
+    ("reaches", 1, 0, 2048),
+    // A hart that is behind its lease as it was rests, until what it read is written or its bell is rung.
+    ("even", 2, 0, 0),
+    ("asks", 0, 0, 1),
+    ("stays", 0, 1024, 0),
+    ("asks", 0, 0, 1),
+    ("reads", 0, 5, 1),
+    ("stays", 0, 1024, 0),
+    ("asks", 0, 0, 0),
+    ("wanted", 0, 0, 2),
+    ("asks", 1, 0, 1),
+    ("writes", 1, 5, 1),
+    ("brings", 1, 7, 1),
+    ("reaches", 0, 0, 128),
+    ("asks", 1, 0, 1),
+    ("brings", 1, 1024, 0),
+    ("asks", 0, 0, 1),
+    ("stays", 0, 128, 0),
+    ("asks", 0, 0, 0),
+    ("asks", 1, 0, 1),
+    ("rings", 1, 0, 1),
+    ("wanted", 0, 0, 3),
+    // Where each waits for the others' steps none may come.
+    ("own", 2, 0, 0),
+    ("reaches", 0, 0, 65536),
+    ("waits", 0, 0, 1),
+    ("wanted", 0, 0, 2),
+    ("waits", 1, 0, 0),
+    ("brings", 1, 5, 3),
+    ("waits", 1, 0, 1),
+    ("leaves", 0, 0, 2),
+    ("waits", 1, 0, 0),
+    ("asks", 1, 0, 1),
+];
+
+fn begun(harts: u8, pace: Pace) -> Steering {
+    Steering::new(harts, pace, Counts::zero(4), true)
+}
+
+/// A bit for each of the harts.
+fn bits(harts: HartSet) -> u64 {
+    let mut bits = 0u64;
+    for number in 0..4u8 {
+        if harts.contains(hart(number)) {
+            bits |= 1u64 << number;
+        }
+    }
+    bits
+}
+
+fn pages(number: u16, want: Want) -> PageMask {
+    if number >= PAGE_LIMIT {
+        return PageMask::none();
+    }
+    PageMask::of(PageNo::new(number), want)
+}
+
+fn asks(steering: &mut Steering, hart: Hart) -> bool {
+    let may = steering.may_ask(hart);
+    if may {
+        steering.go_out(hart);
+    }
+    may
+}
+
+/// Whether the hart's open lease, which has no step yet, is given the pages.
+fn gives(steering: &mut Steering, hart: Hart, pages: PageMask) -> bool {
+    if steering.is_barred(hart, pages) {
+        steering.refuse(hart, 0, pages);
+        return false;
+    }
+    steering.take(hart, pages);
+    true
+}
+
+/// Settles a lease of so many steps, of a hart whose registers come to this, and which rings another hart. Who is called.
+fn settles(steering: &mut Steering, hart: Hart, steps: u16, trace: u64, rung: Option<Hart>) -> u64 {
+    let returned = steering.come_back(hart, u64::from(steps), 0, false);
+    let mut after = [0u64; HART_ROW];
+    if let Some(rung) = rung {
+        after[rung.index()] = 1;
+    }
+    if steering.has_rests() {
+        steering.settle(returned, trace, [0u64; HART_ROW], after);
+    }
+    bits(steering.called())
+}
+
+/// What a call answers that a hart makes at this place of the rows.
+fn answer(steering: &mut Steering, call: &str, hart: Hart, number: u16, place: u64) -> u64 {
+    match call {
+        "asks" => u64::from(asks(steering, hart)),
+        "reads" => u64::from(gives(steering, hart, pages(number, Want::Read))),
+        "writes" => u64::from(gives(steering, hart, pages(number, Want::Write))),
+        "takes" => {
+            let at_once = steering.pages_at_once(hart, false);
+            u64::from(at_once.is_near(pages(number, Want::Read)))
+        }
+        "keeps" => u64::from(steering.keeps_rights(hart)),
+        "reaches" => steering.reach(hart),
+        "waits" => u64::from(steering.wait_for_steps(hart)),
+        "wanted" => bits(steering.wanted()),
+        "brings" => settles(steering, hart, number, place, None),
+        "stays" => settles(steering, hart, number, AS_IT_WAS, None),
+        "rings" => settles(steering, hart, 1, place, Some(Hart::new(0))),
+        "leaves" => bits(steering.leave(hart)),
+        _ => u64::MAX,
+    }
+}
+
+/// Whether each call answers what its row says.
+fn all_answer_so() -> bool {
+    let mut steering = begun(0, Pace::Own);
+    let mut place = 0u64;
+    for (call, number, with, answered) in &ROWS {
+        place += 1;
+        match *call {
+            "even" => steering = begun(*number, Pace::Even),
+            "own" => steering = begun(*number, Pace::Own),
+            _ => {
+                if answer(&mut steering, *call, hart(*number), *with, place) != *answered {
+                    return false;
+                }
+            }
+        }
+    }
+    true
+}
+
+#[test]
+fn the_steering_answers_so(rt: HostRuntime) -> Result<(), Fail> {
+    assert!(rt; all_answer_so());
+    Ok(())
+}
