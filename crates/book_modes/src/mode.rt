@@ -15,10 +15,11 @@ ghost use Rattle.book_modes.specs.Obeying.{GoesOut, EachHears};
 ghost use Rattle.book_modes.specs.Modes.{Fact, IsAsking, IsGiven, IsSettling, IsEnding, KeepsLending, KeepsGiving, KeepsSettling, SettlesHeard, KeepsEnding};
 
 use crate::keep::Keep;
-use crate::settled::{count_of, steps_taken};
+use crate::settled::steps_taken;
 use edge_log::{Edge, EdgeLog};
 use ft_types::{
     COUNT_LIMIT, Count, Counts, HART_LIMIT, HART_ROW, Hart, HartSet, Memory, PageNo, Want,
+    same_counts,
 };
 use guest_image::Machine;
 use hart_lease::{Asked, Lease, Lent, OpenLease, Taken};
@@ -86,17 +87,11 @@ impl Leg {
         ensures value { IsStop (edges_of self.now.edges) (heard_in self.now.inputs) (count_at self.now.ends hart) hart count result }
         ensures limit { result < COUNT_LIMIT }
     {
-        let end = count_of(&self.ends, hart);
+        let end = self.ends.count_of(hart);
         let next_edge = self.edges.next(hart, count + 1);
         let next_input = self.inputs.next(hart, count + 1);
         lesser(lesser(end, next_edge), next_input)
     }
-}
-
-fn same_counts(counts: &[Count], others: &[Count]) -> bool
-    ensures { IsTrue result ↔ (counts.now ≡ others.now) }
-{
-    counts == others
 }
 
 /// A book's mode, with what only that mode has.
@@ -316,7 +311,7 @@ impl Mode for Replaying {
     }
 
     fn limit(&self, hart: Hart) -> Count {
-        count_of(&self.leg.ends, hart)
+        self.leg.ends.count_of(hart)
     }
 
     fn is_open(&self, hart: Hart, machine: &Machine) -> bool {

@@ -21,7 +21,7 @@ ghost use Rattle.ft_types.specs.declared.names.TheConstants.{HART_ROW};
 use crate::due::Due;
 use crate::keep::Keep;
 use crate::mode::Mode;
-use crate::settled::{count_of, settled_counts};
+use crate::settled::settled_counts;
 use crate::unheard::desk_of;
 use crate::yielding::{is_at_hand, yield_right};
 use crew_pages::PageRight;
@@ -472,8 +472,8 @@ impl Mode for Recording {
         before.has_rows();
         for number in 0..HART_LIMIT {
             let hart = Hart::new(number);
-            let later = count_of(now, hart);
-            if !self.keeps_inputs(later, hart, count_of(settled, hart), before) {
+            let later = now.count_of(hart);
+            if !self.keeps_inputs(later, hart, settled.count_of(hart), before) {
                 return false;
             }
         }
@@ -481,7 +481,7 @@ impl Mode for Recording {
     }
 
     fn limit(&self, hart: Hart) -> Count {
-        count_of(&self.limits, hart)
+        self.limits.count_of(hart)
     }
 
     fn is_open(&self, _hart: Hart, _machine: &Machine) -> bool {
@@ -490,7 +490,7 @@ impl Mode for Recording {
 
     fn lend(&mut self, alloc: Global, hart: Hart, count: Count) -> Lent {
         self.fill_due(alloc, hart, count);
-        let limit = count_of(&self.limits, hart);
+        let limit = self.limits.count_of(hart);
         let stop = stop_before(limit, count, self.desk.next(hart));
         self.due[hart.index()].lent(alloc, stop)
     }

@@ -1,9 +1,9 @@
 //! How many steps the harts of a machine have taken.
 
-ghost use Rattle.std.specs.Prelude.{◌≡◌, ◌<◌, ◌≤◌, ◌^◌, ℕ, length, slice_index};
+ghost use Rattle.std.specs.Prelude.{◌≡◌, ◌<◌, ◌≤◌, ℕ, length, slice_index};
 ghost use Rattle.book_modes.specs.Words.{count_at, counts_of};
 
-use ft_types::{COUNT_LIMIT, Count, Counts, HART_LIMIT, Hart};
+use ft_types::{Count, Counts, HART_LIMIT, Hart};
 use guest_image::Machine;
 
 /// How many steps the hart has taken: none where the machine has no such hart.
@@ -30,16 +30,4 @@ pub fn settled_counts(machine: &Machine) -> Counts
         counts.set(hart, machine.hart(hart).count());
     }
     counts
-}
-
-/// The count of a hart in a row: 0 where the row has no such hart.
-pub(crate) fn count_of(counts: &Counts, hart: Hart) -> Count
-    ensures value { result ≡ count_at counts.now hart }
-    ensures limit { result < COUNT_LIMIT }
-{
-    if hart.number() < counts.harts() {
-        counts.get(hart)
-    } else {
-        0
-    }
 }

@@ -6,7 +6,6 @@ ghost use Rattle.crew_pages.specs.Rights.{has_it, right_of};
 ghost use Rattle.ft_types.specs.declared.names.TheConstants.{HART_LIMIT};
 ghost use Rattle.book_modes.specs.Yielding.{yielded};
 
-use crate::settled::count_of;
 use crew_pages::PageRight;
 use ft_types::{Counts, HART_LIMIT, Hart};
 use hart_lease::Asked;
@@ -30,7 +29,7 @@ pub(crate) fn yield_right(right: &mut PageRight, settled: &Counts, asked: &Asked
     for number in 0..HART_LIMIT {
         let other = Hart::new(number);
         if right.stands(asked.hart, asked.want, other) {
-            right.give_up(other, count_of(settled, other));
+            right.give_up(other, settled.count_of(other));
         }
     }
 }

@@ -8,7 +8,7 @@ use ack_core::AckFault;
 use closed_cut::{Position, position};
 use fenced_world::{FencedFault, Released};
 use fragment_codec::{Frame, Opening};
-use ft_types::{Count, Counts, HART_ROW, Hart, Memory, Term};
+use ft_types::{Count, Counts, HART_LIMIT, HART_ROW, Hart, Memory, Term};
 use guest_image::{Image, Machine};
 use input_log::Input;
 use log_join::Store;
@@ -59,18 +59,11 @@ fn first_primary(alloc: Global, image: &Image) -> Result<PlainPrimary, Memory> {
     }
 }
 
-/// A hart's count, 0 where there is none.
-pub fn count_of(counts: &Counts, hart: usize) -> Count {
-    match counts.as_slice().get(hart) {
-        Some(count) => *count,
-        None => 0,
-    }
-}
-
 /// Whether some hart's count is less than before.
 fn are_lower(counts: &Counts, before: &Counts) -> bool {
-    for hart in 0..HART_ROW {
-        if count_of(counts, hart) < count_of(before, hart) {
+    for number in 0..HART_LIMIT {
+        let hart = Hart::new(number);
+        if counts.count_of(hart) < before.count_of(hart) {
             return true;
         }
     }
@@ -312,10 +305,7 @@ impl PlainWorld {
     /// Whether the keeper acknowledged counts with the hart's step inside, in the term.
     fn holds(&self, keeper: u64, term: Term, hart: Hart, step: Count) -> bool {
         for one in &self.acknowledged {
-            if one.by == keeper
-                && self.counts(one, term)
-                && count_of(&one.counts, hart.index()) > step
-            {
+            if one.by == keeper && self.counts(one, term) && one.counts.count_of(hart) > step {
                 return true;
             }
         }

@@ -1,6 +1,5 @@
 //! Audits by the definition: one run of a leg, step by step, and all pairs of its steps.
 
-use crate::plain::count_of;
 use fixtures::{Crew, hart};
 use ft_types::{Count, HART_LIMIT, Hart, Memory, PageNo, Want};
 use guest_image::{Image, Machine};
@@ -123,7 +122,7 @@ fn take(
         Err(BookFault::Memory) => return Err(Memory),
         Err(_) => return Ok(()),
     }
-    let count = count_of(&crew.book.counts(), hart.index());
+    let count = crew.book.counts().count_of(hart);
     let uses = uses_of(crew, alloc, hart)?;
     if crew.settle(hart, Keep::Nothing).is_err() {
         return Err(Memory);

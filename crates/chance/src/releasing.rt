@@ -1,7 +1,7 @@
 //! What goes out in a plain world, and what is noted of that.
 
 use crate::keeper::Rules;
-use crate::plain::{PlainWorld, count_of};
+use crate::plain::PlainWorld;
 use crate::plain_primary::Marks;
 use closed_cut::Position;
 use fenced_world::{FencedFault, Released};
@@ -14,7 +14,7 @@ use std::alloc::Global;
 fn note_piece(marks: &mut Marks, piece: &Fragment, term: Term, ends: &Counts) {
     let key = piece.key();
     let hart = key.hart.index();
-    let end = count_of(ends, hart);
+    let end = ends.count_of(key.hart);
     for record in piece.records() {
         if let Record::Note(at, number) = record {
             if key.term == term && *at < end {

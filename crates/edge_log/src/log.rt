@@ -10,7 +10,7 @@ ghost use Rattle.edge_log.specs.EdgeLog.{row_of, edge_as, edges_of, start_of, Ma
 
 use crate::row::Row;
 use crate::{Added, Edge};
-use ft_types::{Count, Counts, HART_LIMIT, HART_ROW, Hart, Memory};
+use ft_types::{Count, Counts, HART_LIMIT, HART_ROW, Hart, Memory, same_counts};
 use std::alloc::Global;
 use std::array;
 use std::marker::Model;
@@ -42,12 +42,6 @@ impl Model for EdgeLog {
     ghost invariant = { λ l. IsLog l.start (map (λ r. r.edges) l.rows) };
 }
 
-fn same_counts(counts: &[Count], others: &[Count]) -> bool
-    ensures { IsTrue result ↔ (counts.now ≡ others.now) }
-{
-    counts == others
-}
-
 fn same_rows(rows: &[Row; HART_ROW], others: &[Row; HART_ROW]) -> bool
     ensures { IsTrue result ↔ (map (λ r. r.edges) rows.now ≡ map (λ r. r.edges) others.now) }
 {
@@ -59,23 +53,13 @@ fn same_rows(rows: &[Row; HART_ROW], others: &[Row; HART_ROW]) -> bool
     true
 }
 
-/// The count of a hart in a row: 0 where the row has no such hart.
-fn count_of(counts: &Counts, hart: u8) -> Count
-    ensures { result ≡ count_at counts.now hart }
-{
-    if hart < counts.harts() {
-        counts.get(Hart::new(hart))
-    } else {
-        0
-    }
-}
-
 fn rows_say_on(rows: &[Row; HART_ROW], settled: &Counts, before: &[Row; HART_ROW]) -> bool
     ensures { IsTrue result ↔ ((hart : ℕ) → SayOn (slice_index_or (map (λ r. r.edges) before.now) hart []) (count_at settled.now hart) (slice_index_or
         (map (λ r. r.edges) rows.now) hart [])) }
 {
     for hart in 0..HART_LIMIT {
-        if !rows[hart as usize].says_on(count_of(settled, hart), &before[hart as usize]) {
+        let count = settled.count_of(Hart::new(hart));
+        if !rows[hart as usize].says_on(count, &before[hart as usize]) {
             return false;
         }
     }

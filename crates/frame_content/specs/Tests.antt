@@ -1,16 +1,13 @@
 -- When the contents of two frames are equal.
 use Rattle.std.specs.Prelude.{Bool, false, ◌&&◌, ◌==◌, nat_eq}
 use Rattle.std.specs.Cmp.Lexicographic.{pointwise}
-use Rattle.ft_types.specs.Guests.{GuestParts}
+pub use Rattle.ft_types.specs.Guests.{same_guest}
 use Rattle.input_log.specs.Alike.{same_input}
 use Rattle.edge_log.specs.declared.Edge.{Edge as OwnedEdge}
 use Rattle.fragment_codec.specs.declared.types.Key.{Key}
 use Rattle.fragment_codec.specs.declared.types.Record.{Record}
 use Rattle.fragment_codec.specs.declared.types.Record.TheVariants.{Edge as EdgeRecord, Input as InputRecord, Note as NoteRecord}
 use Rattle.fragment_codec.specs.Rules.{FragmentParts, OpeningParts}
-
-abbrev pub same_guest : GuestParts → GuestParts → Bool
-same_guest a b = pointwise nat_eq a.digest b.digest && (a.harts == b.harts)
 
 abbrev pub same_key : Key → Key → Bool
 same_key a b = (a.term == b.term) && (a.hart == b.hart) && (a.place == b.place)

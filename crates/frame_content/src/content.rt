@@ -1,11 +1,11 @@
 //! What there is at a key at which something came.
 
 ghost use Rattle.std.specs.Prelude.{◌≡◌, IfOk};
-ghost use Rattle.frame_content.specs.Tests.{same_guest, same_opening, same_fragment};
+ghost use Rattle.frame_content.specs.Tests.{same_opening, same_fragment};
 ghost use Rattle.frame_content.specs.Contents.{same_frame, holds, clashes, joined};
 
 use fragment_codec::{Fragment, Frame, Opening};
-use ft_types::{Guest, Memory};
+use ft_types::{Memory, is_same_guest};
 use std::alloc::Global;
 
 /// One frame, or unequal ones.
@@ -15,13 +15,8 @@ pub enum Content {
     Clash,
 }
 
-pub fn is_same_guest(guest: &Guest, other: &Guest) -> bool
-    ensures { result ≡ same_guest guest.now other.now }
-{
-    guest == other
-}
-
-fn is_same_opening(opening: &Opening, other: &Opening) -> bool
+/// Whether the openings are equal.
+pub fn is_same_opening(opening: &Opening, other: &Opening) -> bool
     ensures { result ≡ same_opening opening.now other.now }
 {
     is_same_guest(&opening.guest(), &other.guest())
@@ -30,7 +25,8 @@ fn is_same_opening(opening: &Opening, other: &Opening) -> bool
         && opening.base().as_slice() == other.base().as_slice()
 }
 
-fn is_same_fragment(fragment: &Fragment, other: &Fragment) -> bool
+/// Whether the fragments are equal.
+pub fn is_same_fragment(fragment: &Fragment, other: &Fragment) -> bool
     ensures { result ≡ same_fragment fragment.now other.now }
 {
     is_same_guest(&fragment.guest(), &other.guest())

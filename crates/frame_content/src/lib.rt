@@ -3,4 +3,4 @@
 
 mod content;
 
-pub use content::{Content, is_same_guest};
+pub use content::{Content, is_same_fragment, is_same_opening};

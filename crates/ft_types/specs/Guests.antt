@@ -1,5 +1,6 @@
--- What contracts see of a guest, and what each keeps to.
-use Rattle.std.specs.Prelude.{◌≡◌, ◌<◌, ◌≤◌, ℕ, List, length, slice_index}
+-- What contracts see of a guest, what each keeps to, and when two are equal.
+use Rattle.std.specs.Prelude.{◌≡◌, ◌<◌, ◌≤◌, ℕ, ◌&&◌, ◌==◌, Bool, List, length, nat_eq, slice_index}
+use Rattle.std.specs.Cmp.Lexicographic.{pointwise}
 use Rattle.ft_types.specs.declared.names.TheConstants.{HART_LIMIT}
 
 -- the bytes of its image file's SHA-256, and its number of harts
@@ -17,3 +18,7 @@ pub record IsGuest (guest : GuestParts) : Type 0 where
   pub digest : IsDigest guest.digest
   pub some : 1 ≤ guest.harts
   pub limit : guest.harts ≤ HART_LIMIT
+
+-- the two have the same parts
+abbrev pub same_guest : GuestParts → GuestParts → Bool
+same_guest a b = pointwise nat_eq a.digest b.digest && (a.harts == b.harts)

@@ -2,7 +2,7 @@
 
 ghost use Rattle.std.specs.Prelude.{◌≡◌, ◌<◌, ◌≤◌, ◌^◌, ◌↔◌, ◌++◌, ℕ, List, length, take, drop, replicate, slice_index, slice_set, IsTrue, IfSome, IsSome, Some};
 ghost use Rattle.std.specs.List.{AllByRecursion};
-ghost use Rattle.ft_types.specs.Counts.{IsCount, lesser, greater, zipped, IsWithin};
+ghost use Rattle.ft_types.specs.Counts.{IsCount, count_at, lesser, greater, zipped, IsWithin};
 
 use crate::names::{COUNT_LIMIT, Count, HART_LIMIT, HART_ROW, Hart};
 use std::marker::Model;
@@ -59,6 +59,13 @@ fn greatest(row: &[u64; HART_ROW], other: &[u64; HART_ROW], harts: u8) -> [u64; 
         greatest[i] = row[i].max(other[i]);
     }
     greatest
+}
+
+/// Whether the counts are equal.
+pub fn same_counts(counts: &[Count], others: &[Count]) -> bool
+    ensures { IsTrue result ↔ (counts.now ≡ others.now) }
+{
+    counts == others
 }
 
 impl Counts {
@@ -118,6 +125,18 @@ impl Counts {
         ensures limit { result < COUNT_LIMIT }
     {
         self.row[hart.index()]
+    }
+
+    /// A hart's count, 0 where the row has none.
+    pub fn count_of(&self, hart: Hart) -> Count
+        ensures value { result ≡ count_at self.now hart }
+        ensures limit { result < COUNT_LIMIT }
+    {
+        if hart.number() < self.harts() {
+            self.get(hart)
+        } else {
+            0
+        }
     }
 
     /// Changes a hart's count.

@@ -1,7 +1,7 @@
 //! Guests.
 
 ghost use Rattle.std.specs.Prelude.{◌≡◌, ◌<◌, ◌≤◌, ◌↔◌, ℕ, IfSome, IsSome, slice_index};
-ghost use Rattle.ft_types.specs.Guests.{IsGuest};
+ghost use Rattle.ft_types.specs.Guests.{IsGuest, same_guest};
 
 use crate::names::HART_LIMIT;
 use std::marker::Model;
@@ -29,6 +29,13 @@ impl Model for Guest {
 fn bytes_fit(_bytes: &[u8])
     ensures { (i : ℕ) → slice_index _bytes.now i < 256 }
 {}
+
+/// Whether the guests are equal.
+pub fn is_same_guest(guest: &Guest, other: &Guest) -> bool
+    ensures { result ≡ same_guest guest.now other.now }
+{
+    guest == other
+}
 
 impl Guest {
     /// The guest with this digest and so many harts, or `None` exactly where no guest has so many.

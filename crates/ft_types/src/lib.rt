@@ -16,10 +16,10 @@ mod sets;
 mod text;
 mod text_before;
 
-pub use counts::Counts;
+pub use counts::{Counts, same_counts};
 pub use device::{Sink, Source, write_all};
 pub use errors::{Failed, Memory};
-pub use guest::Guest;
+pub use guest::{Guest, is_same_guest};
 pub use line_buffer::LineBuffer;
 pub use memory_device::{MemorySink, MemorySource};
 pub use names::{

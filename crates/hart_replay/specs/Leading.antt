@@ -1,4 +1,4 @@
--- A leg that is replayed round by round: private words.
+-- A leg that is replayed round by round.
 use Rattle.std.specs.Prelude.{◌≡◌, ◌<◌, ◌≤◌, ◌⊎◌, ℕ, List, length, take, drop, true, false}
 use Rattle.ft_types.specs.Counts.{count_at}
 use Rattle.interleaving.specs.Log.{HasUnmet}

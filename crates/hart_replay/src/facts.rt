@@ -69,17 +69,6 @@ fn add_notes(marks: &mut Counts, piece: &Fragment, end: Count)
     }
 }
 
-/// A hart's count, 0 where the row has none.
-pub(crate) fn count_of(counts: Counts, hart: Hart) -> Count
-    ensures { result ≡ count_at counts hart }
-{
-    if hart.number() < counts.harts() {
-        counts.get(hart)
-    } else {
-        0
-    }
-}
-
 /// Adds a hart's facts to a leg, which has none of it.
 pub(crate) fn add_hart(store: &Store, leg: &mut PlannedLeg, hart: Hart) -> Result<(), Memory>
     requires rules { IsStore store.now }
@@ -94,7 +83,7 @@ pub(crate) fn add_hart(store: &Store, leg: &mut PlannedLeg, hart: Hart) -> Resul
     ensures ends { leg.new.ends ≡ leg.old.ends }
     ensures taken { OnOk result (TakesHart store.now hart leg.old leg.new) }
 {
-    let end = count_of(leg.ends, hart);
+    let end = leg.ends.count_of(hart);
     let mut at = leg.base.get(hart);
     for place in 0..=u32::MAX {
         let key = Key {

@@ -7,7 +7,6 @@ ghost use Rattle.hart_replay.specs.Plans.{IsLeg};
 ghost use Rattle.hart_replay.specs.Replays.{LegLeads};
 ghost use Rattle.hart_replay.specs.Leading.{HasStopped, ComesTo, ComesShort, IsLegFault};
 
-use crate::facts::count_of;
 use crate::fault::ReplayFault;
 use crate::plans::PlannedLeg;
 use ft_types::{Counts, Hart, Memory};
@@ -45,7 +44,7 @@ pub fn come_to(machine: &Machine, counts: Counts, ends: Counts) -> Result<Machin
     for number in 0..counts.harts() {
         let hart = Hart::new(number);
         let count = counts.get(hart);
-        if count < count_of(ends, hart) {
+        if count < ends.count_of(hart) {
             if machine.hart(hart).is_halted() {
                 return Err(ReplayFault::HaltedInside(hart, count));
             }

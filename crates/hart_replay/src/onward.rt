@@ -5,15 +5,8 @@ ghost use Rattle.ft_types.specs.Counts.{count_at};
 ghost use Rattle.input_log.specs.Inputs.{HearsMore, inputs_of};
 ghost use Rattle.hart_replay.specs.GoingOn.{BeginsLeg, GoOnFrom, IsFront};
 
-use crate::facts::count_of;
 use crate::plans::PlannedLeg;
-use ft_types::{Count, HART_LIMIT, Hart};
-
-fn same_counts(counts: &[Count], others: &[Count]) -> bool
-    ensures { IsTrue result ↔ (counts.now ≡ others.now) }
-{
-    counts == others
-}
+use ft_types::{HART_LIMIT, Hart, same_counts};
 
 /// Whether the legs are equal.
 fn same_leg(leg: &PlannedLeg, other: &PlannedLeg) -> bool
@@ -48,7 +41,7 @@ fn ends_within(leg: &PlannedLeg, later: &PlannedLeg) -> bool
 {
     for number in 0..HART_LIMIT {
         let hart = Hart::new(number);
-        if count_of(leg.ends, hart) > count_of(later.ends, hart) {
+        if leg.ends.count_of(hart) > later.ends.count_of(hart) {
             return false;
         }
     }
@@ -64,7 +57,7 @@ fn hear_more(leg: &PlannedLeg, later: &PlannedLeg) -> bool
         let hart = Hart::new(number);
         if !later
             .inputs
-            .hears_more(hart, count_of(leg.ends, hart), &leg.inputs)
+            .hears_more(hart, leg.ends.count_of(hart), &leg.inputs)
         {
             return false;
         }

@@ -1,7 +1,6 @@
 //! Replay of a whole plan.
 
 ghost use Rattle.std.specs.Prelude.{◌≡◌, ◌≢◌, ◌↔◌, Err, IfOk, IfErr};
-ghost use Rattle.frame_content.specs.Tests.{same_guest};
 ghost use Rattle.guest_image.specs.Image.{guest_of};
 ghost use Rattle.hart_replay.specs.Plans.{IsPlan};
 ghost use Rattle.hart_replay.specs.Replays.{IsOutcome, IsAtLeg, IsCyclicAt, HaltsInsideAt, IfCyclic, IfHaltedInside, ReplaysHistory};
@@ -10,16 +9,10 @@ ghost use Rattle.hart_replay.specs.Leading.{IsLegsFault};
 use crate::fault::ReplayFault;
 use crate::leading::replay_leg;
 use crate::plans::{Plan, PlannedLeg};
-use ft_types::Guest;
+use ft_types::is_same_guest;
 use guest_image::{Image, Machine};
 use std::alloc::Global;
 use std::result::Result;
-
-fn is_same_guest(guest: &Guest, other: &Guest) -> bool
-    ensures { result ≡ same_guest guest.now other.now }
-{
-    guest == other
-}
 
 /// The machine to which the legs lead from boot, one after the other.
 fn replay_legs(alloc: Global, image: &Image, legs: &[PlannedLeg]) -> Result<Machine, ReplayFault>

@@ -5,21 +5,10 @@ ghost use Rattle.ft_types.specs.Counts.{count_at};
 ghost use Rattle.hart_lease.specs.Runs.{counts_of};
 ghost use Rattle.hart_replay.specs.Leading.{ComesTo, ComesShort};
 
-use ft_types::{Count, Counts, Hart};
+use ft_types::{Counts, Hart};
 use guest_image::Machine;
 use hart_replay::ReplayFault;
 use std::result::Result;
-
-/// A hart's count, 0 where the row has none.
-pub(crate) fn count_of(counts: Counts, hart: Hart) -> Count
-    ensures { result ≡ count_at counts hart }
-{
-    if hart.number() < counts.harts() {
-        counts.get(hart)
-    } else {
-        0
-    }
-}
 
 /// The machine, where each of its harts has come to its end; else why not.
 pub(crate) fn come_to(
@@ -36,7 +25,7 @@ pub(crate) fn come_to(
     for number in 0..counts.harts() {
         let hart = Hart::new(number);
         let count = counts.get(hart);
-        if count < count_of(ends, hart) {
+        if count < ends.count_of(hart) {
             if machine.hart(hart).is_halted() {
                 return Err(ReplayFault::HaltedInside(hart, count));
             }

@@ -15,9 +15,8 @@ ghost use Rattle.hart_replay.specs.Leading.{IsLegsFault};
 ghost use Rattle.hart_threads.specs.Following.{KeepsUp, IsFaultOfStore, FollowsHistory};
 
 use crate::going::lead_all;
-use crate::replays::is_same_guest;
 use closed_cut::{Position, position};
-use ft_types::{Counts, Hart, Memory};
+use ft_types::{Counts, Hart, Memory, is_same_guest};
 use guest_image::{Image, Machine};
 use hart_replay::{Plan, PlannedLeg, ReplayFault, go_on_from, plan};
 use log_join::Store;

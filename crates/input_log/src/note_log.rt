@@ -31,17 +31,6 @@ impl Model for NoteLog {
     ghost view = { λ l. l.rows.items };
 }
 
-/// The count of a hart in a row: 0 where the row has no such hart.
-fn count_of(counts: &Counts, hart: usize) -> Count
-    ensures { result ≡ count_at counts.now hart }
-{
-    if hart < usize::from(counts.harts()) {
-        counts.get(Hart::new(hart as u8))
-    } else {
-        0
-    }
-}
-
 /// The notes of a hart: none where there is no row of it.
 fn notes_in(rows: &[NoteRow], hart: usize) -> &[(Count, u64)]
     ensures value { result.now ≡ notes_of rows.now hart }
@@ -71,7 +60,7 @@ fn rows_note_more(rows: &[NoteRow], settled: &Counts, before: &[NoteRow]) -> boo
     for hart in 0..rows.len().max(before.len()) {
         if !notes_more(
             notes_in(before, hart),
-            count_of(settled, hart),
+            settled.as_slice().get(hart).copied().unwrap_or(0),
             notes_in(rows, hart),
         ) {
             return false;

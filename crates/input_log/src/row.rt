@@ -9,7 +9,7 @@ ghost use Rattle.input_log.specs.Alike.{same_input};
 ghost use Rattle.input_log.specs.Inputs.{inputs_at, HearsMore, MayFollow};
 
 use crate::Input;
-use ft_types::{Count, INPUT_LIMIT, Memory};
+use ft_types::{Count, INPUT_LIMIT, Memory, same_counts};
 use std::alloc::Global;
 use std::marker::Model;
 use std::option::Option;
@@ -110,12 +110,6 @@ fn inputs_copied(inputs: &Vec<Input>) -> Result<Vec<Input>, Memory>
     ensures { IfOk result (λ copied. copied.items ≡ inputs.now.items) }
 {
     Ok(inputs.clone()?)
-}
-
-fn same_counts(counts: &[Count], others: &[Count]) -> bool
-    ensures { IsTrue result ↔ (counts.now ≡ others.now) }
-{
-    counts == others
 }
 
 fn same_inputs(inputs: &[Input], others: &[Input]) -> bool

@@ -2,7 +2,6 @@
 
 ghost use Rattle.std.specs.Prelude.{◌≡◌, ◌≢◌, ◌↔◌, ℕ, Err, length, IfOk, IfErr};
 ghost use Rattle.ft_types.specs.Counts.{count_at};
-ghost use Rattle.frame_content.specs.Tests.{same_guest};
 ghost use Rattle.guest_image.specs.Image.{guest_of};
 ghost use Rattle.guest_image.specs.Machine.{MachineState, boot_machine};
 ghost use Rattle.hart_lease.specs.Runs.{counts_of};
@@ -18,17 +17,11 @@ use crate::fault::AuditFault;
 use crate::harts::Clash;
 use crate::legs::{Ended, run_leg};
 use book_modes::settled_counts;
-use ft_types::{Guest, Hart, Memory};
+use ft_types::{Hart, Memory, is_same_guest};
 use guest_image::{Image, Machine};
 use hart_replay::{Plan, PlannedLeg, ReplayFault, come_to};
 use std::alloc::Global;
 use std::result::Result;
-
-fn is_same_guest(guest: &Guest, other: &Guest) -> bool
-    ensures { result ≡ same_guest guest.now other.now }
-{
-    guest == other
-}
 
 /// The clash as a fault, the lesser hart first.
 fn uncovered(clash: Clash) -> AuditFault

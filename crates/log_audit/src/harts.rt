@@ -2,7 +2,6 @@
 
 ghost use Rattle.std.specs.Prelude.{◌≡◌, ◌≢◌, ◌<◌, ◌≤◌, ◌+◌, ◌-◌, ◌↔◌, ℕ, [], All, false, length, slice_get, Some, IfOk, OnOk, IfSome, IfNone, IsTrue};
 ghost use Rattle.ft_types.specs.declared.names.TheConstants.{INPUT_LIMIT};
-ghost use Rattle.ft_types.specs.Counts.{count_at};
 ghost use Rattle.interleaving.specs.Log.{HasUnmet};
 ghost use Rattle.edge_log.specs.EdgeLog.{edges_of};
 ghost use Rattle.rv32_hart.specs.Hart.{Hart as HartRecord};
@@ -18,7 +17,7 @@ use crate::befores::Befores;
 use crate::marks::Marks;
 use crate::trimmed::Row;
 use edge_log::Edge;
-use ft_types::{COUNT_LIMIT, Count, Counts, Hart, Memory, PageNo};
+use ft_types::{COUNT_LIMIT, Count, Hart, Memory, PageNo};
 use guest_image::Machine;
 use hart_replay::PlannedLeg;
 use input_log::Input;
@@ -79,23 +78,12 @@ fn harts_of(alloc: Global, machine: &Machine) -> Result<Vec<HartState>, Memory>
     Ok(harts)
 }
 
-fn count_of(counts: Counts, hart: Hart) -> Count
-    ensures value { result ≡ count_at counts hart }
-    ensures limit { result < COUNT_LIMIT }
-{
-    if hart.number() < counts.harts() {
-        counts.get(hart)
-    } else {
-        0
-    }
-}
-
 /// The first count above this one at which the hart has an edge or inputs, or its end, where that comes first.
 fn stop_of(leg: &PlannedLeg, hart: Hart, count: Count) -> Count
     requires { count < COUNT_LIMIT }
     ensures { IsQuietTo leg.now hart (count + 1) result }
 {
-    let end = count_of(leg.ends, hart);
+    let end = leg.ends.count_of(hart);
     let edge = leg.edges.next(hart, count + 1).unwrap_or(end);
     let input = leg.inputs.next(hart, count + 1).unwrap_or(end);
     end.min(edge).min(input)
@@ -209,7 +197,7 @@ impl Harts {
     {
         let state = &self.harts[hart.index()];
         let count = state.count();
-        if state.is_halted() || count_of(leg.ends, hart) <= count {
+        if state.is_halted() || leg.ends.count_of(hart) <= count {
             return Ok(Turn::Held);
         }
         let edges = leg.edges.at(hart, count);

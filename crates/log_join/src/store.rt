@@ -12,8 +12,8 @@ use crate::place::Place;
 use crate::shelf::{count_clashes, put_at};
 use crate::shelves::Shelves;
 use fragment_codec::{Fragment, Frame, Key, Opening};
-use frame_content::{Content, is_same_guest};
-use ft_types::{Guest, Memory, Term};
+use frame_content::Content;
+use ft_types::{Guest, Memory, Term, is_same_guest};
 use std::alloc::Global;
 use std::marker::Model;
 

@@ -8,8 +8,8 @@ ghost use Rattle.stations.specs.Admitting.{TellsKey, answer_at};
 ghost use Rattle.stations.specs.Logs.{IsOf};
 
 use fragment_codec::Frame;
-use frame_content::{Content, is_same_guest};
-use ft_types::{Guest, Memory};
+use frame_content::Content;
+use ft_types::{Guest, Memory, is_same_guest};
 use log_join::{Found, Put, Store};
 use std::alloc::Global;
 use std::result::Result;

@@ -1,39 +1,14 @@
 //! What a store will answer to a frame, told before it comes.
 
 ghost use Rattle.std.specs.Prelude.{◌≡◌, ◌↔◌, IsTrue};
-ghost use Rattle.frame_content.specs.Tests.{same_guest, same_opening, same_fragment};
 ghost use Rattle.log_join.specs.Answers.{answer_to};
 ghost use Rattle.fragment_codec.specs.declared.frame.Frame.{Frame as frame_of_specs};
 ghost use Rattle.tracked_position.specs.Keeping.{IsClashAt};
 
 use fragment_codec::{Fragment, Frame, Opening};
-use ft_types::Guest;
+use frame_content::{is_same_fragment, is_same_opening};
+use ft_types::is_same_guest;
 use log_join::{Found, Put, Store};
-
-pub(crate) fn is_same_guest(guest: &Guest, other: &Guest) -> bool
-    ensures { result ≡ same_guest guest.now other.now }
-{
-    guest == other
-}
-
-fn is_same_opening(opening: &Opening, other: &Opening) -> bool
-    ensures { result ≡ same_opening opening.now other.now }
-{
-    is_same_guest(&opening.guest(), &other.guest())
-        && opening.term() == other.term()
-        && opening.parent() == other.parent()
-        && opening.base().as_slice() == other.base().as_slice()
-}
-
-fn is_same_fragment(fragment: &Fragment, other: &Fragment) -> bool
-    ensures { result ≡ same_fragment fragment.now other.now }
-{
-    is_same_guest(&fragment.guest(), &other.guest())
-        && fragment.key() == other.key()
-        && fragment.from() == other.from()
-        && fragment.to() == other.to()
-        && fragment.records() == other.records()
-}
 
 fn answer_to_opening(store: &Store, opening: &Opening) -> Put
     ensures { result ≡ answer_to store.now (frame_of_specs.Opening opening.now) }

@@ -7,13 +7,13 @@ ghost use Rattle.log_join.specs.Answers.{answer_to};
 ghost use Rattle.closed_cut.specs.Position.{IsPosition};
 ghost use Rattle.tracked_position.specs.Keeping.{Takes, IsOneAt, MayGrow};
 
-use crate::answering::{answer_of, is_clash_at, is_same_guest};
+use crate::answering::{answer_of, is_clash_at};
 use crate::starting::{start, unseen};
 use crate::taking::{take_elsewhere, take_here};
 use crate::walk::Cursor;
 use closed_cut::{Position, opening_of, position};
 use fragment_codec::{Fragment, Frame};
-use ft_types::{Counts, Guest, HART_ROW, Memory};
+use ft_types::{Counts, Guest, HART_ROW, Memory, is_same_guest};
 use log_join::{Put, Store, StoreFault};
 use std::alloc::Global;
 use std::marker::Model;

@@ -73,13 +73,6 @@ impl Stop {
     }
 }
 
-/// A hart's count, 0 where the row has none.
-fn count_of(counts: &Counts, hart: Hart) -> Count
-    ensures { result ≡ count_at counts.now hart }
-{
-    counts.as_slice().get(hart.index()).copied().unwrap_or(0)
-}
-
 /// The edge with the least count among those below the ceiling that ask for more of a hart's steps than the counts have.
 fn least_unmet(records: &[Record], ceiling: Count, cut: &Counts) -> Option<Edge>
     ensures least { IfSome result (λ e. IsLeastUnmet (filter_map edge_in records.now) (count_at cut.now) ceiling e) }
@@ -89,7 +82,7 @@ fn least_unmet(records: &[Record], ceiling: Count, cut: &Counts) -> Option<Edge>
     let mut below = ceiling;
     for record in records {
         if let Record::Edge(edge) = record {
-            if edge.at < below && count_of(cut, edge.other) < edge.after {
+            if edge.at < below && cut.count_of(edge.other) < edge.after {
                 least = Some(*edge);
                 below = edge.at;
             }
@@ -105,7 +98,7 @@ impl Ahead {
         ensures unmet { IfSome result (λ e. count_at cut.now e.other < e.after) }
     {
         match self {
-            Ahead::Waits(edge) if count_of(cut, edge.other) < edge.after => Some(*edge),
+            Ahead::Waits(edge) if cut.count_of(edge.other) < edge.after => Some(*edge),
             _ => None,
         }
     }

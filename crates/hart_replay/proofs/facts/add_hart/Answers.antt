@@ -106,17 +106,17 @@ returns-in_ok-add_inputs-clause-taken c =
           let less : place + 1 < 2 ^ 32 = no_place store was.term hart (place + 1) next c.requires.rules at in
           absurd (omega arith);
       edges =
-          rw (← c.count_of-end.ensures)
+          rw (← c.count_of-end.ensures.value)
           (edges_on pieces place piece one end hart was.edges c.loop-place.leg.edges c.add_edges.new.edges c.loop-place.invariant.edges
           (subst (λ h. TakesEdges h c.loop-place.leg.edges (edges_among (below end piece.records)) c.add_edges.new.edges) same
           c.in_ok-add_edges.ensures.taken));
       inputs =
-          rw (← c.count_of-end.ensures)
+          rw (← c.count_of-end.ensures.value)
           (inputs_on pieces place piece one end hart was.inputs c.loop-place.leg.inputs c.add_inputs.new.inputs c.loop-place.invariant.inputs
           (subst (λ h. TakesInputs h c.loop-place.leg.inputs (inputs_among (below end piece.records)) c.add_inputs.new.inputs) same
           c.in_ok-add_inputs.ensures.taken));
       notes =
-          rw (← c.count_of-end.ensures)
+          rw (← c.count_of-end.ensures.value)
           (notes_on pieces place piece one end hart was.marks c.loop-place.leg.marks c.add_notes.new.marks c.loop-place.invariant.notes
           (subst (λ h. TakesNotes h c.loop-place.leg.marks (notes_among (below end piece.records)) c.add_notes.new.marks) same c.add_notes.ensures));
     }

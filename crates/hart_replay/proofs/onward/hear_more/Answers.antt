@@ -13,7 +13,7 @@ loop-number-preserved c =
           (let leg = c.args.leg.now in
           let later = c.args.later.now in
           let heard =
-          subst (λ (n : ℕ). HearsMore (inputs_of leg.inputs c.new-hart.result) n (inputs_of later.inputs c.new-hart.result)) c.count_of.ensures
+          subst (λ (n : ℕ). HearsMore (inputs_of leg.inputs c.new-hart.result) n (inputs_of later.inputs c.new-hart.result)) c.count_of.ensures.value
           (c.hears_more.ensures.0 c.if-not-hears_more.false) in
           let same : c.new-hart.result ≡ hart = omega (arith, lt, not, c.new-hart.ensures) in
           subst (λ (h : ℕ). HearsMore (inputs_of leg.inputs h) (count_at leg.ends h) (inputs_of later.inputs h)) same heard)
@@ -27,7 +27,7 @@ returns-then-not-hears_more c = (
       let lt : hart < HART_LIMIT = omega (arith, c.new-hart.ensures, c.loop-number-test.true) in
       let heard =
       c.hears_more.ensures.1
-      (subst (λ (n : ℕ). HearsMore (inputs_of c.args.leg.now.inputs hart) n (inputs_of c.args.later.now.inputs hart)) (sym c.count_of.ensures)
+      (subst (λ (n : ℕ). HearsMore (inputs_of c.args.leg.now.inputs hart) n (inputs_of c.args.later.now.inputs hart)) (sym c.count_of.ensures.value)
       (all hart lt)) in
       cc,
 )
