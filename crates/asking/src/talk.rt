@@ -19,7 +19,7 @@ use std::result::Result;
 use wire::{Request, read_answer};
 
 /// An answer, to the word of its number.
-#[derive(Clone, Copy, Debug, PartialEq, Eq)]
+#[derive(Clone, Copy, PartialEq, Eq)]
 pub struct Told {
     /// The number.
     pub number: Count,

@@ -10,7 +10,7 @@ use std::option::Option;
 use std::result::Result;
 
 /// Why a file is none of words.
-#[derive(Clone, Copy, Debug, PartialEq, Eq)]
+#[derive(Clone, Copy, PartialEq, Eq)]
 pub enum WordsFault {
     /// The line of this number, from 1, is no word, or has no end.
     BadLine(u64),

@@ -7,7 +7,7 @@ use std::marker::Model;
 use std::option::Option;
 
 /// For each hart that left, its count on leaving.
-#[derive(Clone, Copy, Debug, PartialEq, Eq)]
+#[derive(Clone, Copy, PartialEq, Eq)]
 pub struct LeftAt {
     /// The harts that left.
     harts: HartSet,

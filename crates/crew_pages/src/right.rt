@@ -18,7 +18,7 @@ use std::alloc::Global;
 use std::option::Option;
 
 /// The last writer of a page.
-#[derive(Clone, Copy, Debug, PartialEq, Eq)]
+#[derive(Clone, Copy, PartialEq, Eq)]
 pub struct LastWriter {
     /// The hart that wrote.
     pub hart: Hart,
@@ -27,7 +27,7 @@ pub struct LastWriter {
 }
 
 /// Who may read and write a page, and who did.
-#[derive(Clone, Copy, Debug, PartialEq, Eq)]
+#[derive(Clone, Copy, PartialEq, Eq)]
 pub enum PageRight {
     /// Any number of harts may read.
     Shared {
@@ -52,7 +52,7 @@ pub enum PageRight {
 }
 
 /// What a hart is answered that asks for a right.
-#[derive(Drop, Debug)]
+#[derive(Drop)]
 pub enum Ask {
     /// These harts hold a right that stands against it.
     HeldBy(HartSet),

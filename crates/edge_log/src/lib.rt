@@ -8,7 +8,7 @@ use ft_types::{Count, Hart};
 pub use log::EdgeLog;
 
 /// Step `at` of `hart`, and each later one of it, comes after the first `after` steps of `other`.
-#[derive(Clone, Copy, Debug, PartialEq, Eq)]
+#[derive(Clone, Copy, PartialEq, Eq)]
 pub struct Edge {
     /// The hart that waits.
     pub hart: Hart,

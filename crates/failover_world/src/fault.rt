@@ -9,7 +9,7 @@ use go_live::LiveFault;
 use page_book::BookFault;
 
 /// Why an event was refused. Where several of these hold, the first is the answer.
-#[derive(Clone, Copy, Debug, PartialEq, Eq)]
+#[derive(Clone, Copy, PartialEq, Eq)]
 pub enum WorldFault {
     /// No primary runs.
     NoPrimary,

@@ -30,7 +30,7 @@ pub struct NotBegun<P: Place> {
 }
 
 /// Why a fence isn't raised.
-#[derive(Clone, Copy, Debug, PartialEq, Eq, Drop)]
+#[derive(Clone, Copy, PartialEq, Eq, Drop)]
 pub enum RaiseFault {
     /// It is above the term.
     Fenced,
@@ -39,7 +39,7 @@ pub enum RaiseFault {
 }
 
 /// Why nothing is acknowledged.
-#[derive(Clone, Copy, Debug, PartialEq, Eq, Drop)]
+#[derive(Clone, Copy, PartialEq, Eq, Drop)]
 pub enum KeepFault {
     /// What is written down is not known, since the store was being written when the place failed.
     Unsaved,

@@ -3,7 +3,7 @@
 use go_live::LiveFault;
 
 /// Why no primary goes live from given stores. The first of these that holds is the answer.
-#[derive(Clone, Copy, Debug, PartialEq, Eq)]
+#[derive(Clone, Copy, PartialEq, Eq)]
 pub enum GivenFault {
     /// A store was given to another term.
     OtherTerm,

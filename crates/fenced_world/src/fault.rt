@@ -8,7 +8,7 @@ use go_live::LiveFault;
 use page_book::BookFault;
 
 /// Why an event was refused.
-#[derive(Clone, Copy, Debug, PartialEq, Eq)]
+#[derive(Clone, Copy, PartialEq, Eq)]
 pub enum FencedFault {
     /// The term was never granted.
     NoPrimary,

@@ -7,7 +7,7 @@ use crate::names::HART_LIMIT;
 use std::marker::Model;
 
 /// The guest that a log is of: SHA-256 of its image file, and its number of harts, 1 to `HART_LIMIT`.
-#[derive(Clone, Copy, Debug, PartialEq, Eq)]
+#[derive(Clone, Copy, PartialEq, Eq)]
 pub struct Guest {
     digest: [u8; 32],
     harts: u8,

@@ -87,7 +87,7 @@ impl Hart {
 }
 
 /// A keeper, by its number.
-#[derive(Clone, Copy, Debug, PartialEq, Eq)]
+#[derive(Clone, Copy, PartialEq, Eq)]
 pub struct Keeper {
     number: u8,
 }
@@ -129,7 +129,7 @@ impl Keeper {
 }
 
 /// A page of RAM, by its number: page `p` begins `p * PAGE_BYTES` bytes after the first address of RAM.
-#[derive(Clone, Copy, Debug, PartialEq, Eq)]
+#[derive(Clone, Copy, PartialEq, Eq)]
 pub struct PageNo {
     number: u8,
 }
@@ -176,7 +176,7 @@ impl PageNo {
 }
 
 /// What a hart wants to do with a page.
-#[derive(Clone, Copy, Debug, PartialEq, Eq)]
+#[derive(Clone, Copy, PartialEq, Eq)]
 pub enum Want {
     Read,
     Write,

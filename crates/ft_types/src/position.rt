@@ -4,7 +4,7 @@ use crate::counts::Counts;
 use crate::names::Term;
 
 /// Where the walk along a store's chain stops.
-#[derive(Clone, Copy, Debug, PartialEq, Eq)]
+#[derive(Clone, Copy, PartialEq, Eq)]
 pub struct Position {
     /// The term in which it stops, 0 without a chain.
     pub term: Term,

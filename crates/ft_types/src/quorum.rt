@@ -6,7 +6,7 @@ ghost use Rattle.std.specs.Prelude.{◌≡◌, ◌<◌, ◌≤◌, ◌↔◌, Is
 use crate::names::KEEPER_LIMIT;
 
 /// Keepers, and how many of them must hold an output before it goes out.
-#[derive(Clone, Copy, Debug, PartialEq, Eq)]
+#[derive(Clone, Copy, PartialEq, Eq)]
 pub struct Quorum {
     keepers: u8,
     need: u8,

@@ -9,7 +9,7 @@ use crate::names::{HART_LIMIT, HART_ROW, Hart, KEEPER_LIMIT, KEEPER_ROW, Keeper}
 use std::marker::Model;
 
 /// A set of harts, each a bit of a word. Contracts see, for each number below `HART_LIMIT`, whether that hart is a member.
-#[derive(Clone, Copy, Debug, PartialEq, Eq)]
+#[derive(Clone, Copy, PartialEq, Eq)]
 pub struct HartSet {
     members: u32,
 }
@@ -31,7 +31,7 @@ impl Model for HartSet {
 }
 
 /// A set of keepers. Contracts see, for each number below `KEEPER_LIMIT`, whether that keeper is a member.
-#[derive(Clone, Copy, Debug, PartialEq, Eq)]
+#[derive(Clone, Copy, PartialEq, Eq)]
 pub struct KeeperSet {
     members: [bool; KEEPER_ROW],
 }

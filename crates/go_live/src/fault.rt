@@ -8,7 +8,7 @@ use hart_replay::ReplayFault;
 
 /// Why no primary goes live. The first of these that holds is the answer, but that memory may be refused once the first two
 /// are looked at.
-#[derive(Clone, Copy, Debug, PartialEq, Eq)]
+#[derive(Clone, Copy, PartialEq, Eq)]
 pub enum LiveFault {
     /// The stores are of too few keepers.
     TooFewStores,

@@ -1,7 +1,7 @@
 //! What can be wrong with an image file.
 
 /// Why an image file isn't read.
-#[derive(Clone, Copy, Debug, PartialEq, Eq)]
+#[derive(Clone, Copy, PartialEq, Eq)]
 pub enum ImageFault {
     /// The line of this number, from 1, has another form.
     BadLine(u64),

@@ -3,7 +3,7 @@
 use ft_types::Memory;
 
 /// Why a primary was not run.
-#[derive(Clone, Copy, Debug, PartialEq, Eq)]
+#[derive(Clone, Copy, PartialEq, Eq)]
 pub enum PoolFault {
     /// A growth was refused.
     Memory,

@@ -5,7 +5,7 @@ use lease_rounds::PageMask;
 use page_book::Lease;
 
 /// Why a hart takes no further step of its lease.
-#[derive(Clone, Copy, Debug, PartialEq, Eq)]
+#[derive(Clone, Copy, PartialEq, Eq)]
 pub(crate) enum Stop {
     /// The lease is full.
     Full,
@@ -26,7 +26,7 @@ impl Stop {
 }
 
 /// What became of a page that was asked for.
-#[derive(Clone, Copy, Debug, PartialEq, Eq)]
+#[derive(Clone, Copy, PartialEq, Eq)]
 pub(crate) enum Answer {
     Given,
     Held,

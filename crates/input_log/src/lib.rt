@@ -19,7 +19,7 @@ pub use note_log::NoteLog;
 pub use offered::{Offer, Offered};
 
 /// What a hart is given at a step, before it takes it.
-#[derive(Clone, Copy, Debug, PartialEq, Eq)]
+#[derive(Clone, Copy, PartialEq, Eq)]
 pub enum Input {
     /// The machine timer's interrupt becomes pending.
     Timer,

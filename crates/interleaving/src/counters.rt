@@ -6,28 +6,28 @@ ghost use Rattle.interleaving.specs.Stored.{run_from};
 ghost use Rattle.interleaving.specs.Counters.{counters, store_of, turn_of, turns_as, Went};
 
 /// A hart: how many steps it has taken, and what it loaded last.
-#[derive(Clone, Copy, PartialEq, Eq, Debug)]
+#[derive(Clone, Copy, PartialEq, Eq)]
 pub struct Counter {
     pub count: u64,
     pub value: u64,
 }
 
 /// What a hart does in a step: it loads what the page holds, or stores its new count there.
-#[derive(Clone, Copy, PartialEq, Eq, Debug)]
+#[derive(Clone, Copy, PartialEq, Eq)]
 pub enum Act {
     Load(usize),
     Store(usize),
 }
 
 /// The hart that goes, and what it does.
-#[derive(Clone, Copy, PartialEq, Eq, Debug)]
+#[derive(Clone, Copy, PartialEq, Eq)]
 pub struct Turn {
     pub hart: usize,
     pub act: Act,
 }
 
 /// The harts and the pages.
-#[derive(Drop, PartialEq, Debug)]
+#[derive(Drop, PartialEq)]
 pub struct Counters {
     pub harts: Vec<Counter>,
     pub pages: Vec<u64>,

@@ -17,7 +17,7 @@ use std::result::Result;
 use wire::read_handed;
 
 /// Why what came is no log that was handed over.
-#[derive(Clone, Copy, Debug, PartialEq, Eq)]
+#[derive(Clone, Copy, PartialEq, Eq)]
 pub enum HandedFault {
     /// It doesn't begin with a line that says so, under the seal of this guest.
     Line,

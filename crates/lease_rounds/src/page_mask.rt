@@ -11,7 +11,7 @@ use std::marker::Model;
 
 /// Pages, by number: those to be read, and those to be written. Contracts see, for each page, whether it is to be read and
 /// whether it is to be written.
-#[derive(Clone, Copy, Debug)]
+#[derive(Clone, Copy)]
 pub struct PageMask {
     reads: [u64; WORDS],
     writes: [u64; WORDS],

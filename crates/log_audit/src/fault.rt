@@ -7,7 +7,7 @@ use ft_types::{Count, Hart, PageNo};
 use hart_replay::ReplayFault;
 
 /// Why an audit says no.
-#[derive(Clone, Copy, Debug, PartialEq, Eq)]
+#[derive(Clone, Copy, PartialEq, Eq)]
 pub enum AuditFault {
     /// In one leg both of these harts' steps, each by its hart and count, touch the page and one of them writes it, and neither
     /// comes before the other. The lesser hart stands first.

@@ -7,7 +7,7 @@ use fragment_codec::Frame;
 use ft_types::Memory;
 
 /// What became of a frame that was put into a store.
-#[derive(Clone, Copy, Debug, PartialEq, Eq)]
+#[derive(Clone, Copy, PartialEq, Eq)]
 pub enum Put {
     /// Nothing had come at its key, and it is there now.
     New,
@@ -31,7 +31,7 @@ pub enum Found<'a> {
 }
 
 /// Why a store was not joined.
-#[derive(Clone, Copy, Debug, PartialEq, Eq)]
+#[derive(Clone, Copy, PartialEq, Eq)]
 pub enum StoreFault {
     /// The other store is of another guest.
     OtherGuest,

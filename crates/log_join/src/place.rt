@@ -7,7 +7,7 @@ use fragment_codec::Key;
 use ft_types::Term;
 
 /// A fragment's key: by term, then by hart, then by place.
-#[derive(Clone, Copy, Debug, PartialEq, Eq, PartialOrd, Ord)]
+#[derive(Clone, Copy, PartialEq, Eq, PartialOrd, Ord)]
 pub(crate) struct Place {
     pub(crate) term: Term,
     pub(crate) hart: u8,

@@ -9,7 +9,7 @@ use ft_types::{COUNT_LIMIT, Count, Counts, HART_ROW, Hart};
 use std::marker::Model;
 
 /// For each hart of a guest, the place of its next piece and the count that its pieces reach.
-#[derive(Clone, Copy, Debug, PartialEq, Eq)]
+#[derive(Clone, Copy, PartialEq, Eq)]
 pub struct Sealed {
     places: [u64; HART_ROW],
     reached: Counts,

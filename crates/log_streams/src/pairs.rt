@@ -12,7 +12,7 @@ use scripts::Offered;
 use std::alloc::Global;
 
 /// How far a pair goes, and how many keepers it has.
-#[derive(Clone, Copy, Debug, PartialEq, Eq)]
+#[derive(Clone, Copy, PartialEq, Eq)]
 pub struct PairOrders {
     budget: u32,
     quorum: Quorum,

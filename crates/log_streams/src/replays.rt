@@ -27,7 +27,7 @@ pub trait Replays {
 }
 
 /// Replays on the thread that asks, harts in turn.
-#[derive(Clone, Copy, Debug)]
+#[derive(Clone, Copy)]
 pub struct Plainly;
 
 impl Replays for Plainly {

@@ -22,7 +22,7 @@ use log_join::{Found, Store};
 use std::alloc::Global;
 
 /// How many keys a store has, by what stands at them.
-#[derive(Clone, Copy, Debug, PartialEq, Eq)]
+#[derive(Clone, Copy, PartialEq, Eq)]
 pub struct StoreSize {
     /// Openings with one content.
     pub openings: usize,

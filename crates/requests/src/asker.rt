@@ -13,7 +13,7 @@ use std::result::Result;
 use wire::{Answer, Request};
 
 /// What an answer is to a client.
-#[derive(Clone, Copy, Debug, PartialEq, Eq)]
+#[derive(Clone, Copy, PartialEq, Eq)]
 pub enum Heard {
     /// The first answer to the word of its number.
     New,

@@ -19,7 +19,7 @@ use std::result::Result;
 pub const WORD_LIMIT: u32 = u32::MAX;
 
 /// What became of a word that was asked for.
-#[derive(Clone, Copy, Debug, PartialEq, Eq)]
+#[derive(Clone, Copy, PartialEq, Eq)]
 pub enum Came {
     /// It waits now, behind all that came before it.
     Taken,

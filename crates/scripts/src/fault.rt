@@ -3,7 +3,7 @@
 use ft_types::Memory;
 
 /// Why a script isn't read.
-#[derive(Clone, Copy, Debug, PartialEq, Eq)]
+#[derive(Clone, Copy, PartialEq, Eq)]
 pub enum ScriptFault {
     /// The line of this number, from 1, has another form.
     BadLine(u64),
@@ -12,7 +12,7 @@ pub enum ScriptFault {
 }
 
 /// Why a list of events isn't read.
-#[derive(Clone, Copy, Debug, PartialEq, Eq)]
+#[derive(Clone, Copy, PartialEq, Eq)]
 pub enum EventsFault {
     /// The line of this number, from 1, has another form.
     BadLine(u64),

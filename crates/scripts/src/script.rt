@@ -13,7 +13,7 @@ use std::alloc::Global;
 use std::vec::Vec;
 
 /// An input that is offered to a hart.
-#[derive(Clone, Copy, Debug, PartialEq, Eq)]
+#[derive(Clone, Copy, PartialEq, Eq)]
 pub struct Offered {
     /// Whom it is offered to.
     pub hart: Hart,

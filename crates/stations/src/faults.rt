@@ -9,7 +9,7 @@ use fragment_codec::FrameFault;
 use ft_types::{Memory, Term};
 
 /// Why a keeper's files gave or took nothing.
-#[derive(Clone, Copy, Debug, PartialEq, Eq)]
+#[derive(Clone, Copy, PartialEq, Eq)]
 pub enum FilesFault {
     /// The log could not be read, written, cut or brought to disk.
     Log,
@@ -28,7 +28,7 @@ impl From<Memory> for FilesFault {
 }
 
 /// Why a log is no keeper's.
-#[derive(Clone, Copy, Debug, PartialEq, Eq)]
+#[derive(Clone, Copy, PartialEq, Eq)]
 pub enum LogFault {
     /// The files failed.
     Files(FilesFault),
@@ -57,7 +57,7 @@ impl From<Memory> for LogFault {
 }
 
 /// Why a log is not fenced off for a term.
-#[derive(Clone, Copy, Debug, PartialEq, Eq)]
+#[derive(Clone, Copy, PartialEq, Eq)]
 pub enum FenceFault {
     /// The files failed.
     Files(FilesFault),

@@ -11,7 +11,7 @@ use crate::seals::{read_sealed, seal_line};
 use ft_types::{Counts, Guest, HART_LIMIT, Keeper, Term};
 
 /// A keeper's position: what it keeps leads the guest to these counts of a term.
-#[derive(Clone, Copy, Debug, PartialEq, Eq)]
+#[derive(Clone, Copy, PartialEq, Eq)]
 pub struct Acknowledgement {
     /// The term.
     pub term: Term,

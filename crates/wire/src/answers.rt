@@ -10,7 +10,7 @@ use crate::line::Line;
 use ft_types::{Output, Term};
 
 /// An output that went out.
-#[derive(Clone, Copy, Debug, PartialEq, Eq)]
+#[derive(Clone, Copy, PartialEq, Eq)]
 pub struct Answer {
     /// The term in which it did.
     pub term: Term,

@@ -11,7 +11,7 @@ use crate::seals::{read_sealed, seal_line};
 use ft_types::{Guest, Keeper, Term};
 
 /// What is handed out.
-#[derive(Clone, Copy, Debug, PartialEq, Eq)]
+#[derive(Clone, Copy, PartialEq, Eq)]
 pub struct Handed {
     /// The term that may go live from it.
     pub term: Term,

@@ -13,7 +13,7 @@ use crate::line::Line;
 use ft_types::{Count, Hart};
 
 /// What a client asks of a primary.
-#[derive(Clone, Copy, Debug, PartialEq, Eq)]
+#[derive(Clone, Copy, PartialEq, Eq)]
 pub enum Request {
     /// The timer's interrupt.
     Timer(Hart),
