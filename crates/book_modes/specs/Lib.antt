@@ -4,5 +4,4 @@ pub mod Silences
 pub mod Hearings
 pub mod Recordings
 pub mod Obeying
-pub mod Yielding
-pub mod Words
+pub mod machinery

@@ -1,7 +1,7 @@
 //! What a hart's next step is given.
 
 ghost use Rattle.std.specs.Prelude.{◌≡◌, ◌≤◌, ◌<◌, ℕ, length, true};
-ghost use Rattle.book_modes.specs.Words.{HasRoomFor, lent_with, small_vec_len};
+ghost use Rattle.book_modes.specs.machinery.Words.{HasRoomFor, lent_with, small_vec_len};
 ghost use Rattle.book_modes.specs.Dues.{DueView, nothing_due, bell_edges, is_silent};
 
 use edge_log::Edge;

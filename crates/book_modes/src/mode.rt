@@ -2,8 +2,8 @@
 
 ghost use Rattle.std.specs.Prelude.{◌≡◌, ◌<◌, ◌≤◌, ◌^◌, ◌↔◌, ℕ, All, Any, AllPairs, List, [], length, filter, slice_index, slice_get, Option, Some, ◌⊎◌};
 ghost use Rattle.std.specs.Prelude.{IsTrue, OnOk, OnErr, IfOk, IfSome};
-ghost use Rattle.book_modes.specs.Words.{count_at, counts_of, edges_of, Heard, heard_in, IsHolder, IsMember, IsStop, LeaseView, LentView, MachineState};
-ghost use Rattle.book_modes.specs.Words.{MayGoTo, open_at, OpenView, stands_against, whole};
+ghost use Rattle.book_modes.specs.machinery.Words.{count_at, counts_of, edges_of, Heard, heard_in, IsHolder, IsMember, IsStop, LeaseView, LentView, MachineState};
+ghost use Rattle.book_modes.specs.machinery.Words.{MayGoTo, open_at, OpenView, stands_against, whole};
 ghost use Rattle.hart_lease.specs.OpenLeases.{right_of};
 ghost use Rattle.interleaving.specs.Log.{Edge as edge_of_theory, HasUnmet};
 ghost use Rattle.smallvec.specs.SmallVec.{SmallVec as small_vec};

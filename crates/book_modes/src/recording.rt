@@ -2,8 +2,8 @@
 
 ghost use Rattle.std.specs.Prelude.{◌≡◌, ◌<◌, ◌≤◌, ◌^◌, ◌↔◌, ◌+◌, ℕ, All, AllPairs, Contains, List, [], map, length, slice_index, slice_get, Some, IsTrue};
 ghost use Rattle.std.specs.Prelude.{IfOk, OnOk, OnErr, true, false, replicate, None, IsOk};
-ghost use Rattle.book_modes.specs.Words.{count_at, counts_of, edge_as, but_bells, give_up, given, greater, has_taken, holds, inputs_of, is_bell, IsFree, IsInputOf};
-ghost use Rattle.book_modes.specs.Words.{IsMember, IsOwed, kept, owns, Queues, unused, whole};
+ghost use Rattle.book_modes.specs.machinery.Words.{count_at, counts_of, edge_as, but_bells, give_up, given, greater, has_taken, holds, inputs_of, is_bell, IsFree, IsInputOf};
+ghost use Rattle.book_modes.specs.machinery.Words.{IsMember, IsOwed, kept, owns, Queues, unused, whole};
 ghost use Rattle.crew_pages.specs.Rights.{right_of};
 ghost use Rattle.edge_log.specs.declared.Edge.{Edge as edge_found};
 ghost use Rattle.input_log.specs.declared.Input.{Input as input_of_specs};

@@ -1,7 +1,7 @@
 //! How many steps the harts of a machine have taken.
 
 ghost use Rattle.std.specs.Prelude.{◌≡◌, ◌<◌, ◌≤◌, ℕ, length, slice_index};
-ghost use Rattle.book_modes.specs.Words.{count_at, counts_of};
+ghost use Rattle.book_modes.specs.machinery.Words.{count_at, counts_of};
 
 use ft_types::{Count, Counts, HART_LIMIT, Hart};
 use guest_image::Machine;

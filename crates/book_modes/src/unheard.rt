@@ -3,7 +3,7 @@
 ghost use Rattle.std.specs.Prelude.{◌≡◌, ◌≢◌, ◌<◌, ◌++◌, ℕ, [], length, replicate, slice_get, Some, OnOk, IfOk};
 ghost use Rattle.rv32_hart.specs.Hart.{Hart as HartRecord};
 ghost use Rattle.input_log.specs.declared.WaitingBell.{WaitingBell as bell_of_specs};
-ghost use Rattle.book_modes.specs.Words.{bells_of, counts_of, others_of};
+ghost use Rattle.book_modes.specs.machinery.Words.{bells_of, counts_of, others_of};
 ghost use Rattle.book_modes.specs.Silences.{many_unheard, bell_from, unheard_from, unheard_bells};
 
 use ft_types::{Count, HART_ROW, Hart, Memory};

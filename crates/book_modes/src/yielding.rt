@@ -1,10 +1,10 @@
 //! Rights that harts give up, so that another is given its own.
 
 ghost use Rattle.std.specs.Prelude.{◌≡◌, ◌<◌, ◌≤◌, ◌+◌, ℕ, false, true};
-ghost use Rattle.book_modes.specs.Words.{count_at};
+ghost use Rattle.book_modes.specs.machinery.Words.{count_at};
 ghost use Rattle.crew_pages.specs.Rights.{has_it, right_of};
 ghost use Rattle.ft_types.specs.declared.names.TheConstants.{HART_LIMIT};
-ghost use Rattle.book_modes.specs.Yielding.{yielded};
+ghost use Rattle.book_modes.specs.machinery.Yielding.{yielded};
 
 use crew_pages::PageRight;
 use ft_types::{Counts, HART_LIMIT, Hart};

@@ -15,7 +15,7 @@ use Rattle.rv32_hart.specs.Hart.{Hart, register_of, with_register}
 use Rattle.input_log.specs.declared.Input.{Input}
 use Rattle.input_log.specs.declared.Input.TheVariants.{Timer, Word, Bell}
 use Rattle.rv32_hart.specs.Csrs.{read_csr, write_csr, is_read_only, interrupt_of, receive, received_all}
-use Rattle.rv32_hart.specs.CountedSteps.{Leads, StepLeads, count_all, effect_leads}
+use Rattle.rv32_hart.specs.machinery.CountedSteps.{Leads, StepLeads, count_all, effect_leads}
 use Rattle.rv32_hart.specs.Step.{Contents, effect}
 use Rattle.rv32_hart.specs.Access.{Access, Step, following, set_step, jump_step, link_step, branch_step, offset_at}
 use Rattle.rv32_hart.specs.Access.{in_ram, load_width, loaded, load_device, load_access, store_width, device_step, store_device, store_access, amo_access}

@@ -17,7 +17,7 @@ use Rattle.log_join.specs.Cells.{One}
 use Rattle.log_join.specs.Stores.{StoreView, opening_at, IsStore, AreTerms}
 use Rattle.closed_cut.specs.Chain.{Sound, Root, Child, IsTop, IsParent, LeadsTo, IsChain, NoTerm, To}
 use Rattle.closed_cut.specs.Position.{InChain, Self, Up}
-use Rattle.closed_cut.specs.Walks.{AreSound, ComesAfter}
+use Rattle.closed_cut.specs.machinery.Walks.{AreSound, ComesAfter}
 use Rattle.closed_cut.proofs.Walking.{one_same}
 
 -- an opening stands at its own term, above its parent

@@ -26,7 +26,7 @@ use Rattle.log_join.specs.Stores.{StoreView, opening_at}
 use Rattle.closed_cut.specs.Chain.{Sound, Root, Child}
 use Rattle.closed_cut.specs.Position.{pieces_of, edges_of, Goes, Avail, IsReached, base_of, InChain, Self, Stops, Last, Short, On, IsPosition, NoTop, Top}
 use Rattle.ft_types.specs.declared.position.Position.{Position}
-use Rattle.closed_cut.specs.Walks.{all_edges}
+use Rattle.closed_cut.specs.machinery.Walks.{all_edges}
 use Rattle.closed_cut.specs.Unique.{HasPosition}
 use Rattle.closed_cut.proofs.Lowerings.{found, contains_map}
 use Rattle.closed_cut.proofs.Walking.{one_same}

@@ -15,7 +15,7 @@ use Rattle.interleaving.proofs.Put.{put_same, put_other}
 use Rattle.interleaving.proofs.Cuts.{lowering}
 use Rattle.edge_log.specs.declared.Edge.{Edge}
 use Rattle.edge_log.specs.EdgeLog.{edge_as}
-use Rattle.closed_cut.specs.Lowering.{IsOf, AreOf, IsLoweredTo}
+use Rattle.closed_cut.specs.machinery.Lowering.{IsOf, AreOf, IsLoweredTo}
 
 pub lowered_none : (edges : List Edge) (cut : List ℕ) → IsLoweredTo edges cut cut
 lowered_none edges cut = record { harts = refl; below = λ h. le_refl (count_at cut h); keeps = λ other closed below. below }

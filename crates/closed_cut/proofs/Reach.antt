@@ -21,8 +21,8 @@ use Rattle.log_join.specs.Cells.{Cell, Absent, One, Clash}
 use Rattle.log_join.specs.Stores.{StoreView, opening_at, IsStore}
 use Rattle.fragment_codec.specs.Facts.{edge_in}
 use Rattle.closed_cut.specs.Position.{edges_of, pieces_of, Goes, Avail, IsReached}
-use Rattle.closed_cut.specs.Lowering.{AreOf}
-use Rattle.closed_cut.specs.Walks.{cell_edges, hart_edges, all_edges, IsGathered, IsLimited}
+use Rattle.closed_cut.specs.machinery.Lowering.{AreOf}
+use Rattle.closed_cut.specs.machinery.Walks.{cell_edges, hart_edges, all_edges, IsGathered, IsLimited}
 use Rattle.closed_cut.proofs.Lowerings.{found, contains_map}
 use Rattle.closed_cut.proofs.Walking.{one_same}
 

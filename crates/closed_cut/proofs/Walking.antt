@@ -7,7 +7,7 @@ use Rattle.log_join.specs.Cells.{Cell, One}
 use Rattle.log_join.specs.Stores.{StoreView, IsStore}
 use Rattle.fragment_codec.specs.Facts.{edge_in}
 use Rattle.closed_cut.specs.Position.{pieces_of, Goes}
-use Rattle.closed_cut.specs.Walks.{cell_edges, hart_edges}
+use Rattle.closed_cut.specs.machinery.Walks.{cell_edges, hart_edges}
 
 pub one_same : {X : Type 0} {x y : X} {cell : Cell X} → cell ≡ One x → cell ≡ One y → x ≡ y
 one_same a b = cc

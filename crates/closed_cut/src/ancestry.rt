@@ -6,7 +6,7 @@ ghost use Rattle.fragment_codec.specs.Rules.{OpeningParts};
 ghost use Rattle.log_join.specs.Cells.{One};
 ghost use Rattle.log_join.specs.Stores.{opening_at, IsStore};
 ghost use Rattle.closed_cut.specs.Chain.{Sound, LeadsTo, IsChain};
-ghost use Rattle.closed_cut.specs.Walks.{AreSound, ComesAfter};
+ghost use Rattle.closed_cut.specs.machinery.Walks.{AreSound, ComesAfter};
 
 use fragment_codec::{Frame, Opening};
 use ft_types::{Memory, Term};

@@ -7,7 +7,7 @@ ghost use Rattle.log_join.specs.Cells.{One};
 ghost use Rattle.log_join.specs.Stores.{fragment_at, IsStore};
 ghost use Rattle.fragment_codec.specs.Facts.{edge_in};
 ghost use Rattle.closed_cut.specs.Position.{pieces_of};
-ghost use Rattle.closed_cut.specs.Walks.{IsGathered};
+ghost use Rattle.closed_cut.specs.machinery.Walks.{IsGathered};
 
 use edge_log::Edge;
 use fragment_codec::{Fragment, Frame, Key, Record};

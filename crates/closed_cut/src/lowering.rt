@@ -7,7 +7,7 @@ ghost use Rattle.ft_types.specs.declared.names.TheConstants.{HART_LIMIT};
 ghost use Rattle.ft_types.specs.Counts.{count_at};
 ghost use Rattle.interleaving.specs.Cuts.{IsGreatest};
 ghost use Rattle.edge_log.specs.EdgeLog.{edge_as};
-ghost use Rattle.closed_cut.specs.Lowering.{AreOf, IsLoweredTo};
+ghost use Rattle.closed_cut.specs.machinery.Lowering.{AreOf, IsLoweredTo};
 
 use edge_log::Edge;
 use ft_types::{Counts, HART_ROW, Hart};

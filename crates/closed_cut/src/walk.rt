@@ -6,7 +6,7 @@ ghost use Rattle.ft_types.specs.Counts.{count_at, IsWithin};
 ghost use Rattle.log_join.specs.Cells.{One};
 ghost use Rattle.log_join.specs.Stores.{opening_at, IsStore};
 ghost use Rattle.closed_cut.specs.Chain.{Sound, LeadsTo};
-ghost use Rattle.closed_cut.specs.Walks.{IsLimited};
+ghost use Rattle.closed_cut.specs.machinery.Walks.{IsLimited};
 ghost use Rattle.closed_cut.specs.Position.{base_of, IsReached, Stops, IsPosition};
 
 use crate::ancestry::{chain, last_of, opening_of};

@@ -1,7 +1,7 @@
 -- What flags beside counts say.
 use Rattle.std.proofs.Common.{◌≡◌, ℕ, zero, suc, ◌<◌, List, [], ◌∷◌, Bool, true, false, length, Option, Some, None, replicate, slice_index, slice_index_or, slice_set, refl, sym, ap, ◌∙◌, arith, true≢false, ◌&&◌}
 use Rattle.ft_types.specs.Sets.{IsMember}
-use Rattle.crew_pages.specs.Leaving.{left_of, AreBlank}
+use Rattle.crew_pages.specs.machinery.Leaving.{left_of, AreBlank}
 
 -- where no flag is set none left
 pub none_left : (flags : List Bool) (n : ℕ) → ((i : ℕ) → IsMember flags i → ⊥) → left_of flags (replicate n 0) ≡ replicate n None

@@ -1,6 +1,6 @@
 -- Behind the last hart that left none did.
 use Rattle.std.proofs.Common.{◌≡◌, ℕ, zero, suc, ◌+◌, ◌<◌, ◌≤◌, max, List, [], ◌∷◌, length, Option, Some, None, replicate, get_or, set, refl, ap, ◌∙◌, arith}
-use Rattle.crew_pages.specs.Reach.{reach_behind, reach_of}
+use Rattle.crew_pages.specs.machinery.Reach.{reach_behind, reach_of}
 
 behind_some : (first : Option ℕ) (n : ℕ) → 0 < n → reach_behind first n ≡ n + 1
 unfolding reach_behind

@@ -2,5 +2,4 @@ pub mod Rights
 pub mod Answers
 pub mod Page
 pub mod Histories
-pub mod Reach
-pub mod Leaving
+pub mod machinery

@@ -19,8 +19,8 @@ pub struct LeftAt {
 
 impl Model for LeftAt {
     ghost use Rattle.std.specs.Prelude.{ℕ, List, Option};
-    ghost use Rattle.crew_pages.specs.Leaving.{left_of, harts_of, counts_of, AreLeft, harts_back, counts_back};
-    ghost use Rattle.crew_pages.specs.Reach.{reach_of};
+    ghost use Rattle.crew_pages.specs.machinery.Leaving.{left_of, harts_of, counts_of, AreLeft, harts_back, counts_back};
+    ghost use Rattle.crew_pages.specs.machinery.Reach.{reach_of};
 
     ghost Value = { List (Option ℕ) };
 

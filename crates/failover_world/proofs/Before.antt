@@ -6,7 +6,7 @@ use Rattle.interleaving.proofs.Put.{same_or_not, put_other}
 use Rattle.hart_replay.specs.Primaries.{term_of as history_of, IsTermOfBook}
 use Rattle.log_join.specs.Families.{Past, Family}
 use Rattle.primary.specs.declared.granted.Primary.{Primary}
-use Rattle.failover_world.specs.Tied.{TermBook, retold, IsBefore}
+use Rattle.failover_world.specs.machinery.Tied.{TermBook, retold, IsBefore}
 
 only_one : {A : Type 0} (x y : A) → Contains (x ∷ []) y → x ≡ y
 only_one x y (zero, below, same) = same

@@ -40,7 +40,7 @@ use Rattle.primary.specs.declared.released.Released.{Released}
 use Rattle.primary.specs.declared.granted.Primary.{Primary}
 use Rattle.primary.specs.Primaries.{IsBooted}
 use Rattle.failover_world.specs.Worlds.{WorldView, term_of}
-use Rattle.failover_world.specs.Tied.{TermBook, Books, retold_in, history, told_as, theory_world, quorum_of, live_book, AreParts, IsTied, IsWorld}
+use Rattle.failover_world.specs.machinery.Tied.{TermBook, Books, retold_in, history, told_as, theory_world, quorum_of, live_book, AreParts, IsTied, IsWorld}
 use Rattle.failover_world.proofs.Places.{retold_put}
 use Rattle.primary.proofs.Put.{put_put}
 

@@ -20,7 +20,7 @@ use Rattle.go_live.specs.Joined.{AreJoinedTo, AreJoined}
 use Rattle.go_live.specs.Histories.{AreOfHistory}
 use Rattle.failover_world.specs.Worlds.{WorldView, store_at, term_of}
 use Rattle.failover_world.specs.Happenings.{if_named, stores_of}
-use Rattle.failover_world.specs.Tied.{TermBook, retold_in, history, told_as, quorum_of, live_term, IsTied}
+use Rattle.failover_world.specs.machinery.Tied.{TermBook, retold_in, history, told_as, quorum_of, live_term, IsTied}
 use Rattle.failover_world.proofs.Places.{retold_put, there_too}
 use Rattle.primary.proofs.Put.{put_put}
 use Rattle.failover_world.proofs.Guests.{either_side, store_guest}

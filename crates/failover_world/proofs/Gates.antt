@@ -11,7 +11,7 @@ use Rattle.scripts.specs.declared.event.Event.TheVariants as on
 use Rattle.primary.specs.Gating.{AreOffered, OffersMore, IsAsItWas}
 use Rattle.failover_world.specs.Worlds.{WorldView}
 use Rattle.failover_world.specs.Refusals.{IsLeft}
-use Rattle.failover_world.specs.Tied.{AreParts, IsTied, IsWorld, theory_world, quorum_of}
+use Rattle.failover_world.specs.machinery.Tied.{AreParts, IsTied, IsWorld, theory_world, quorum_of}
 use Rattle.failover_world.proofs.Keeping.{changed}
 use Rattle.failover_world.proofs.Parts.{with_gate}
 use Rattle.failover_world.proofs.Going.{IsGoing, going}

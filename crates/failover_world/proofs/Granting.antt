@@ -47,7 +47,7 @@ use Rattle.failover_world.specs.Worlds.{WorldView, term_of}
 use Rattle.primary.specs.Outputs.{said_by, said_at}
 use Rattle.primary.specs.Gating.{AreRising}
 use Rattle.failover_world.specs.Happenings.{GoesLive, stores_of}
-use Rattle.failover_world.specs.Tied.{TermBook, retold, retold_in, history, told_as, theory_world, quorum_of, live_book, AreParts, IsTied, BeginsTerm}
+use Rattle.failover_world.specs.machinery.Tied.{TermBook, retold, retold_in, history, told_as, theory_world, quorum_of, live_book, AreParts, IsTied, BeginsTerm}
 use Rattle.failover_world.proofs.Places.{retold_put}
 use Rattle.primary.proofs.Put.{put_put}
 use Rattle.failover_world.proofs.Before.{stopped_or_now, before_now, no_other_with}

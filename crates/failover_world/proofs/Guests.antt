@@ -17,7 +17,7 @@ use Rattle.fenced_theory.proofs.Granting.{a_join}
 use Rattle.failover_theory.proofs.Events.{Invariant, always}
 use Rattle.failover_theory.proofs.Ruled.{IsOfRules, ruled, stores_are_right}
 use Rattle.failover_world.specs.Worlds.{WorldView, store_at, term_of}
-use Rattle.failover_world.specs.Tied.{theory_world, quorum_of, live_book, IsTied}
+use Rattle.failover_world.specs.machinery.Tied.{theory_world, quorum_of, live_book, IsTied}
 use Rattle.failover_world.proofs.Places.{there_too}
 
 -- a store joined with itself is that store

@@ -10,7 +10,7 @@ use Rattle.failover_theory.proofs.Events.{always}
 use Rattle.primary.specs.declared.granted.Primary.{Primary}
 use Rattle.failover_world.specs.Worlds.{WorldView, term_of}
 use Rattle.failover_world.specs.Promises.{IsItsTerm, AreHonest}
-use Rattle.failover_world.specs.Tied.{TermBook, retold, retold_in, history, told_as, live_term, IsBefore, IsTied, quorum_of}
+use Rattle.failover_world.specs.machinery.Tied.{TermBook, retold, retold_in, history, told_as, live_term, IsBefore, IsTied, quorum_of}
 use Rattle.failover_world.proofs.Places.{there_too}
 use Rattle.failover_world.proofs.Chosen.{opening_retold, piece_retold, honest_retold, is_history}
 use Rattle.failover_world.proofs.Promises.{laws, untold}

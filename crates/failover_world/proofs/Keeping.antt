@@ -11,7 +11,7 @@ use Rattle.term_gate.specs.TermGates.{TermGateView}
 use Rattle.failover_theory.specs.Worlds as theory
 use Rattle.primary.specs.declared.released.Released.{Released}
 use Rattle.failover_world.specs.Worlds.{WorldView, store_at, term_of}
-use Rattle.failover_world.specs.Tied.{theory_released, theory_world, quorum_of, IsTied}
+use Rattle.failover_world.specs.machinery.Tied.{theory_released, theory_world, quorum_of, IsTied}
 use Rattle.interleaving.specs.Lists.{put}
 use Rattle.failover_world.proofs.Places.{row_put, acked_put, there_too, is_below}
 

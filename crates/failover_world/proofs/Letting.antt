@@ -17,7 +17,7 @@ use Rattle.scripts.specs.declared.event.Event.TheVariants as on
 use Rattle.failover_world.specs.Worlds.{WorldView, term_of}
 use Rattle.failover_world.specs.Happenings.{Releases}
 use Rattle.failover_world.specs.Refusals.{IsLeft}
-use Rattle.failover_world.specs.Tied.{IsWorld}
+use Rattle.failover_world.specs.machinery.Tied.{IsWorld}
 use Rattle.failover_world.proofs.Ties.{with_book}
 use Rattle.failover_world.proofs.Releasing.{rising}
 use Rattle.failover_world.proofs.Renoted.{roomed_world}

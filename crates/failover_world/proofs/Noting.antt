@@ -22,7 +22,7 @@ use Rattle.fenced_theory.proofs.Stores.{see}
 use Rattle.book_recorder.specs.TermBooks.{ComesOf}
 use Rattle.failover_world.specs.Worlds.{WorldView, term_of}
 use Rattle.primary.specs.Noting.{last_of, noted_to, NotesAll}
-use Rattle.failover_world.specs.Tied.{retold, retold_in, told_as, theory_world, quorum_of, live_book, IsTied}
+use Rattle.failover_world.specs.machinery.Tied.{retold, retold_in, told_as, theory_world, quorum_of, live_book, IsTied}
 use Rattle.primary.proofs.Put.{put_own, put_put}
 use Rattle.failover_world.proofs.Ties.{with_book, new_book, terms, comes_on, goes_with}
 

@@ -15,7 +15,7 @@ use Rattle.book_recorder.specs.TermBooks.{ComesOf, outputs_of}
 use Rattle.hart_replay.specs.Primaries.{IsPrimary}
 use Rattle.failover_world.specs.Worlds.{WorldView}
 use Rattle.primary.specs.Gating.{AreOffered}
-use Rattle.failover_world.specs.Tied.{IsTied}
+use Rattle.failover_world.specs.machinery.Tied.{IsTied}
 use Rattle.primary.proofs.Offers.{numbered_many}
 use Rattle.failover_world.proofs.Ties.{new_book}
 use Rattle.failover_world.proofs.Releasing.{in_theory, book_outputs}

@@ -15,7 +15,7 @@ use Rattle.failover_world.specs.Worlds.{WorldView, term_of}
 use Rattle.primary.specs.Gating.{AreOffered, AreAllOffered, OffersMore, released_in}
 use Rattle.primary.specs.Noting.{last_of, NotesAll}
 use Rattle.primary.proofs.Waiting.{still_offered, released_offered}
-use Rattle.failover_world.specs.Tied.{IsWorld}
+use Rattle.failover_world.specs.machinery.Tied.{IsWorld}
 use Rattle.failover_world.proofs.Parts.{with_rows}
 use Rattle.failover_world.proofs.Ties.{with_book}
 use Rattle.failover_world.proofs.Releasing.{rising, released}

@@ -12,7 +12,7 @@ use Rattle.primary.specs.declared.released.Released.{Released}
 use Rattle.primary.specs.declared.granted.Primary.{Primary}
 use Rattle.failover_world.specs.Worlds.{WorldView}
 use Rattle.primary.specs.Gating.{AreOffered}
-use Rattle.failover_world.specs.Tied.{AreParts}
+use Rattle.failover_world.specs.machinery.Tied.{AreParts}
 use Rattle.failover_world.proofs.Ties.{with_book}
 
 module _ (v : WorldView) (is : AreParts v) where

@@ -5,7 +5,7 @@ use Rattle.ft_types.specs.Counts.{count_at}
 use Rattle.interleaving.specs.Lists.{put}
 use Rattle.interleaving.proofs.Put.{same_or_not}
 use Rattle.log_join.specs.Families.{Past, Family}
-use Rattle.failover_world.specs.Tied.{retold_in}
+use Rattle.failover_world.specs.machinery.Tied.{retold_in}
 
 of_if : {A B : Type 0} (f : A → B) (b : Bool) (x y : A) → f (if b then x else y) ≡ (if b then f x else f y)
 of_if f true x y = refl

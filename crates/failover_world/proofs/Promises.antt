@@ -25,7 +25,7 @@ use Rattle.failover_theory.proofs.Ruled.{ruled}
 use Rattle.failover_world.specs.Worlds.{WorldView}
 use Rattle.primary.specs.Outputs.{said_by}
 use Rattle.failover_world.specs.Promises.{IsInChain, Here, Above, IsInside as IsInsideHere, IsOne, IsOfMachine, IsKept, AreHeld, AreAckedInside, IsPrimaryOf, AreNotesReleased, NoneIsNoted}
-use Rattle.failover_world.specs.Tied.{Books, retold, retold_in, told_as, theory_released, theory_world, quorum_of, live_book, IsTied}
+use Rattle.failover_world.specs.machinery.Tied.{Books, retold, retold_in, told_as, theory_released, theory_world, quorum_of, live_book, IsTied}
 use Rattle.failover_world.proofs.Places.{there_too}
 use Rattle.failover_world.proofs.Releasing.{outputs_are}
 

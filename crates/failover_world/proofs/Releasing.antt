@@ -25,7 +25,7 @@ use Rattle.primary.specs.declared.released.Released.{Released}
 use Rattle.failover_world.specs.Worlds.{WorldView, term_of}
 use Rattle.primary.specs.Outputs.{said_by, said_at}
 use Rattle.primary.specs.Gating.{AreRising, released_in}
-use Rattle.failover_world.specs.Tied.{retold, retold_in, told_as, theory_released, theory_world, quorum_of, live_book, IsTied}
+use Rattle.failover_world.specs.machinery.Tied.{retold, retold_in, told_as, theory_released, theory_world, quorum_of, live_book, IsTied}
 use Rattle.failover_world.proofs.Keeping.{changed}
 use Rattle.failover_world.proofs.Going.{IsGoing}
 

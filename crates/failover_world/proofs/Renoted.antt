@@ -19,7 +19,7 @@ use Rattle.book_recorder.specs.TermBooks.{ComesOf}
 use Rattle.failover_world.specs.Worlds.{WorldView}
 use Rattle.primary.specs.Gating.{AreOffered}
 use Rattle.primary.specs.Noting.{last_of, noted_to, NotesAll}
-use Rattle.failover_world.specs.Tied.{AreParts, IsWorld}
+use Rattle.failover_world.specs.machinery.Tied.{AreParts, IsWorld}
 use Rattle.failover_world.proofs.Parts.{with_new_book}
 use Rattle.failover_world.proofs.Ties.{with_book, goes_on}
 use Rattle.failover_world.proofs.Noting.{notes_out}

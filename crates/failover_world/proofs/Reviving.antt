@@ -34,7 +34,7 @@ use Rattle.primary.proofs.Waiting.{all_stay}
 use Rattle.primary.specs.Gating.{AreOffered, OffersMore}
 use Rattle.failover_world.specs.Happenings.{stores_of, IsFresh, GoesLive}
 use Rattle.failover_world.specs.Refusals.{CannotGoLive}
-use Rattle.failover_world.specs.Tied.{history, AreParts, IsTied, IsWorld, BeginsTerm}
+use Rattle.failover_world.specs.machinery.Tied.{history, AreParts, IsTied, IsWorld, BeginsTerm}
 use Rattle.go_live.proofs.Places.{has_harts}
 use Rattle.failover_world.proofs.Guests.{store_guest}
 use Rattle.failover_world.proofs.Chosen.{each_named, honest}

@@ -22,7 +22,7 @@ use Rattle.primary.proofs.Put.{put_own, put_put}
 use Rattle.primary.proofs.Pieces.{is_fragment_at, cut_of_book, cut_sealed}
 use Rattle.primary.proofs.Sending.{cut_holds}
 use Rattle.failover_world.specs.Worlds.{WorldView, term_of}
-use Rattle.failover_world.specs.Tied.{TermBook, Books, retold, retold_in, history, told_as, theory_world, quorum_of, live_book, live_term, AreParts, IsTied, IsWorld}
+use Rattle.failover_world.specs.machinery.Tied.{TermBook, Books, retold, retold_in, history, told_as, theory_world, quorum_of, live_book, live_term, AreParts, IsTied, IsWorld}
 use Rattle.failover_world.proofs.Before.{still_before, no_other_still}
 use Rattle.failover_world.proofs.Guests.{own_guest}
 use Rattle.failover_world.proofs.Places.{retold_put}

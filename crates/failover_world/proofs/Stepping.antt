@@ -10,7 +10,7 @@ use Rattle.lease_rounds.specs.Steps.{AreWithin}
 use Rattle.primary.specs.declared.granted.Primary.{Primary}
 use Rattle.primary.specs.Primaries.{GoesOn}
 use Rattle.failover_world.specs.Worlds.{WorldView}
-use Rattle.failover_world.specs.Tied.{IsWorld}
+use Rattle.failover_world.specs.machinery.Tied.{IsWorld}
 use Rattle.failover_world.proofs.Recorded.{comes_of}
 use Rattle.failover_world.proofs.Parts.{with_new_book}
 use Rattle.failover_world.proofs.Ties.{goes_on}

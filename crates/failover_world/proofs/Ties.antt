@@ -17,7 +17,7 @@ use Rattle.book_recorder.specs.TermBooks.{IsTermBook, ComesOf}
 use Rattle.book_recorder.proofs.Books.{later_are_term_books}
 use Rattle.go_live.specs.Histories.{MakesLonger}
 use Rattle.failover_world.specs.Worlds.{WorldView, term_of}
-use Rattle.failover_world.specs.Tied.{TermBook, retold, retold_in, history, told_as, theory_world, quorum_of, live_book, live_term, IsTied}
+use Rattle.failover_world.specs.machinery.Tied.{TermBook, retold, retold_in, history, told_as, theory_world, quorum_of, live_book, live_term, IsTied}
 use Rattle.failover_world.proofs.Places.{retold_put}
 use Rattle.primary.proofs.Put.{put_put}
 use Rattle.failover_world.proofs.Before.{still_before, no_other_still}

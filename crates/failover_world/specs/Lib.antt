@@ -3,4 +3,4 @@ pub mod Worlds
 pub mod Happenings
 pub mod Refusals
 pub mod Promises
-pub mod Tied
+pub mod machinery

@@ -12,7 +12,7 @@ ghost use Rattle.scripts.specs.Coming.{MayCome};
 ghost use Rattle.failover_world.specs.Worlds.{term_of};
 ghost use Rattle.failover_world.specs.Happenings.{GoesLive, IsFresh, Grants, Happens};
 ghost use Rattle.failover_world.specs.Refusals.{Refuses, RefusesGrant, CannotGoLive, IsLeft};
-ghost use Rattle.failover_world.specs.Tied.{BeginsTerm};
+ghost use Rattle.failover_world.specs.machinery.Tied.{BeginsTerm};
 ghost use Rattle.go_live.specs.declared.fault.LiveFault.{LiveFault as live_fault};
 ghost use Rattle.go_live.specs.declared.fault.LiveFault.TheVariants.{Memory as NoLive};
 ghost use Rattle.input_log.specs.Inputs.{is_bell};
@@ -79,7 +79,7 @@ impl Model for World {
 
     ghost coded = { Prim.hlevel (codes, coded_store) };
 
-    ghost use Rattle.failover_world.specs.Tied.{IsWorld};
+    ghost use Rattle.failover_world.specs.machinery.Tied.{IsWorld};
 
     ghost view = { λ w. record {
       image = w.image;

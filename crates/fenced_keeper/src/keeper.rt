@@ -5,7 +5,7 @@ ghost use Rattle.std.specs.Prelude.{length};
 ghost use Rattle.ft_types.specs.Devices.{IsOneMore};
 ghost use Rattle.log_join.specs.Stores.{IsJoin, alone};
 ghost use Rattle.log_join.specs.Answers.{answer_to};
-ghost use Rattle.tracked_position.specs.Keeping.{MayGrow};
+ghost use Rattle.tracked_position.specs.machinery.Keeping.{MayGrow};
 ghost use Rattle.fenced_keeper.specs.Keepers.{Acknowledges, IsRefused};
 
 use crate::faults::{KeepFault, NotBegun, PlaceFault, RaiseFault};

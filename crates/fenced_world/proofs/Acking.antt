@@ -8,11 +8,11 @@ use Rattle.fenced_theory.specs.Worlds as theory
 use Rattle.fenced_theory.proofs.Acking.{raised, raised_keeps, raised_reaches}
 use Rattle.fenced_keeper.specs.Keepers.{Acknowledges}
 use Rattle.term_gate.specs.TermGates.{TermGateView, acked_at}
-use Rattle.failover_world.specs.Tied.{TermBook}
+use Rattle.failover_world.specs.machinery.Tied.{TermBook}
 use Rattle.fenced_world.specs.Keepers.{KeptView, kept_at}
 use Rattle.fenced_world.specs.Running.{RunningView}
 use Rattle.fenced_world.specs.Worlds.{WorldView}
-use Rattle.fenced_world.specs.Tied.{IsIn, AreTerms, IsAmong, IsTied}
+use Rattle.fenced_world.specs.machinery.Tied.{IsIn, AreTerms, IsAmong, IsTied}
 use Rattle.fenced_world.proofs.Lists.{some_same, set_same, set_other, set_cases}
 
 -- a row of the table, where one is another

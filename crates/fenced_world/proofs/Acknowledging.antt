@@ -14,7 +14,7 @@ use Rattle.fenced_world.specs.Running.{RunningView}
 use Rattle.fenced_world.specs.Worlds.{WorldView}
 use Rattle.fenced_world.specs.Faults.{fault_of_keep}
 use Rattle.fenced_world.specs.Refusals.{Refuses}
-use Rattle.fenced_world.specs.Tied.{IsWorld}
+use Rattle.fenced_world.specs.machinery.Tied.{IsWorld}
 use Rattle.fenced_world.proofs.Lists.{set_own}
 use Rattle.fenced_world.proofs.Events.{acked}
 

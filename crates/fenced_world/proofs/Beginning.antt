@@ -32,12 +32,12 @@ use Rattle.primary.specs.declared.released.Released.{Released}
 use Rattle.primary.specs.Primaries.{IsBooted}
 use Rattle.failover_world.specs.Happenings.{IsFresh}
 use Rattle.primary.specs.Gating.{AreOffered}
-use Rattle.failover_world.specs.Tied.{TermBook, Books, retold_in, told_as}
+use Rattle.failover_world.specs.machinery.Tied.{TermBook, Books, retold_in, told_as}
 use Rattle.failover_world.proofs.Places.{retold_put}
 use Rattle.fenced_world.specs.Keepers.{KeptView, kept_at, IsNewKeeper}
 use Rattle.fenced_world.specs.Running.{RunningView}
 use Rattle.fenced_world.specs.Worlds.{WorldView}
-use Rattle.fenced_world.specs.Tied.{IsIn, AreParts, IsTied, IsWorld, past_of, told_of, quorum_of}
+use Rattle.fenced_world.specs.machinery.Tied.{IsIn, AreParts, IsTied, IsWorld, past_of, told_of, quorum_of}
 use Rattle.fenced_world.proofs.Lists.{some_same, none_some}
 use Rattle.fenced_world.proofs.Granting.{fresh_acked}
 use Rattle.fenced_world.proofs.Parts.{IsLed, begun_led}

@@ -17,7 +17,7 @@ use Rattle.fenced_world.specs.Granting.{GoesLiveFrom}
 use Rattle.fenced_world.specs.Worlds.{WorldView}
 use Rattle.fenced_world.specs.Happenings.{IsNotGranted, Seals, Takes, JoinsTo, Saves, ComesBack, Raises}
 use Rattle.fenced_world.specs.Refusals.{MayHaveSaved, MayHaveRaised}
-use Rattle.fenced_world.specs.Tied.{IsWorld, IsTied}
+use Rattle.fenced_world.specs.machinery.Tied.{IsWorld, IsTied}
 use Rattle.fenced_world.proofs.Lists.{some_same, none_some}
 use Rattle.fenced_world.proofs.Parts.{begun_led, with_running, with_kept, with_one_more}
 use Rattle.fenced_world.proofs.Standing as keeping

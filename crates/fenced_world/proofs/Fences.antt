@@ -16,7 +16,7 @@ use Rattle.fenced_keeper.specs.Keepers.{Acknowledges}
 use Rattle.fenced_world.specs.Keepers.{KeptView, kept_at}
 use Rattle.fenced_world.specs.Worlds.{WorldView}
 use Rattle.fenced_world.specs.Refusals.{IsGranted}
-use Rattle.fenced_world.specs.Tied.{IsTied, quorum_of}
+use Rattle.fenced_world.specs.machinery.Tied.{IsTied, quorum_of}
 use Rattle.fenced_world.proofs.Guests.{kept}
 use Rattle.fenced_world.proofs.Promises.{its_primary}
 

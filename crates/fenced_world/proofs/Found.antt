@@ -15,7 +15,7 @@ use Rattle.fenced_world.specs.Running.{RunningView, IsAt}
 use Rattle.fenced_world.specs.Worlds.{WorldView}
 use Rattle.fenced_world.specs.Faults.{fault_of_book, fault_of_raise}
 use Rattle.fenced_world.specs.Refusals.{Refuses, IsGranted, AreThere, IsLeft, MayHaveRaised}
-use Rattle.fenced_world.specs.Tied.{IsWorld}
+use Rattle.fenced_world.specs.machinery.Tied.{IsWorld}
 use Rattle.fenced_world.proofs.Lists as lists
 use Rattle.fenced_world.proofs.Lists.{some_same, none_some, is_below}
 use Rattle.fenced_world.proofs.Events.{may_have_raised}

@@ -18,8 +18,8 @@ use Rattle.go_live.specs.Joined.{AreJoinedTo, AreJoined}
 use Rattle.fenced_world.specs.Keepers.{KeptView, kept_at, Gift, given_by, gifts_from, gifts_of}
 use Rattle.fenced_world.specs.Reviving.{stores_in, givers_in}
 use Rattle.fenced_world.specs.Worlds.{WorldView}
-use Rattle.failover_world.specs.Tied.{Books}
-use Rattle.fenced_world.specs.Tied.{IsTied, AreStanding, quorum_of}
+use Rattle.failover_world.specs.machinery.Tied.{Books}
+use Rattle.fenced_world.specs.machinery.Tied.{IsTied, AreStanding, quorum_of}
 use Rattle.fenced_world.proofs.Lists.{some_same, none_some}
 use Rattle.fenced_world.proofs.Guests.{store_of}
 

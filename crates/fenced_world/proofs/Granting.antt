@@ -34,14 +34,14 @@ use Rattle.book_recorder.proofs.Books.{revived_are_term_books}
 use Rattle.term_gate.specs.TermGates.{TermGateView, acked_at}
 use Rattle.go_live.specs.Histories.{AreOfHistory}
 use Rattle.go_live.proofs.Joins.{joined_below}
-use Rattle.failover_world.specs.Tied.{TermBook, Books, retold, retold_in, history, told_as, theory_released}
+use Rattle.failover_world.specs.machinery.Tied.{TermBook, Books, retold, retold_in, history, told_as, theory_released}
 use Rattle.failover_world.proofs.Places.{retold_put}
 use Rattle.fenced_world.specs.Keepers.{gifts_of}
 use Rattle.fenced_world.specs.Running.{RunningView}
 use Rattle.fenced_world.specs.Reviving.{GoesLive, BeginsTerm, stores_in}
 use Rattle.fenced_world.specs.Worlds.{WorldView}
 use Rattle.fenced_world.specs.Happenings.{IsNotGranted}
-use Rattle.fenced_world.specs.Tied.{IsIn, AreTerms, IsTied, AreParts, past_of, quorum_of}
+use Rattle.fenced_world.specs.machinery.Tied.{IsIn, AreTerms, IsTied, AreParts, past_of, quorum_of}
 use Rattle.fenced_world.proofs.Lists.{some_same, none_some, push_old, push_last, push_cases}
 use Rattle.fenced_world.proofs.Terms.{in_other, tell}
 use Rattle.fenced_world.proofs.Guests.{kept}

@@ -19,7 +19,7 @@ use Rattle.fenced_theory.proofs.Granting.{stores_are_right}
 use Rattle.fenced_world.specs.Keepers.{KeptView, kept_at}
 use Rattle.fenced_world.specs.Running.{RunningView}
 use Rattle.fenced_world.specs.Worlds.{WorldView}
-use Rattle.fenced_world.specs.Tied.{IsTied, quorum_of}
+use Rattle.fenced_world.specs.machinery.Tied.{IsTied, quorum_of}
 use Rattle.fenced_world.proofs.Terms.{past_now, there_now}
 
 same_or_clash : (b : Bool) → (if b then Same else Clashes) ≢ OtherGuest

@@ -4,12 +4,12 @@ use Rattle.fragment_codec.specs.declared.frame.Frame.{Frame}
 use Rattle.fragment_codec.specs.declared.frame.Frame.TheVariants.{Log, Opening}
 use Rattle.log_join.specs.Families.{Past, OfFamily, HonestStore}
 use Rattle.log_join.specs.Stores.{StoreView}
-use Rattle.failover_world.specs.Tied.{retold_in, history, told_as}
+use Rattle.failover_world.specs.machinery.Tied.{retold_in, history, told_as}
 use Rattle.failover_world.proofs.Promises.{untold}
 use Rattle.failover_world.proofs.Chosen.{opening_retold, piece_retold, honest_retold}
 use Rattle.fenced_world.specs.Worlds.{WorldView}
 use Rattle.fenced_world.specs.Promises.{AreHonest}
-use Rattle.fenced_world.specs.Tied.{IsTied, told_of}
+use Rattle.fenced_world.specs.machinery.Tied.{IsTied, told_of}
 use Rattle.fenced_world.proofs.Terms.{own, tell, there_told}
 use Rattle.fenced_world.proofs.Guests.{kept}
 

@@ -6,7 +6,7 @@ use Rattle.failover_world.proofs.Guests.{with_itself}
 use Rattle.fenced_world.specs.Keepers.{KeptView, kept_at}
 use Rattle.fenced_world.specs.Worlds.{WorldView}
 use Rattle.fenced_world.specs.Happenings.{JoinsTo}
-use Rattle.fenced_world.specs.Tied.{IsWorld}
+use Rattle.fenced_world.specs.machinery.Tied.{IsWorld}
 use Rattle.fenced_world.proofs.Lists.{some_same, none_some, row_cases}
 use Rattle.fenced_world.proofs.Guests.{same_guests}
 

@@ -16,7 +16,7 @@ use Rattle.go_live.specs.declared.fault.LiveFault.{LiveFault}
 use Rattle.go_live.specs.declared.fault.LiveFault.TheVariants.{TooFewStores, TermNotNew, Replay, Memory as NoLive}
 use Rattle.fenced_live.specs.declared.fault.GivenFault.{GivenFault}
 use Rattle.fenced_live.specs.declared.fault.GivenFault.TheVariants.{OtherTerm, Live as NotLive}
-use Rattle.failover_world.specs.Tied.{history}
+use Rattle.failover_world.specs.machinery.Tied.{history}
 use Rattle.fenced_world.specs.declared.event.FencedEvent.TheVariants as on
 use Rattle.fenced_world.specs.declared.fault.FencedFault.{FencedFault}
 use Rattle.fenced_world.specs.declared.fault.FencedFault.TheVariants.{NoPrimary, NoKeeper, NoFrame, Fenced, Unsaved, Step, Live, Ack, Memory}
@@ -28,7 +28,7 @@ use Rattle.fenced_world.specs.Running.{RunningView}
 use Rattle.fenced_world.specs.Worlds.{WorldView}
 use Rattle.fenced_world.specs.Happenings.{DoesKeeper, Raises, HasRaised, IsNotGranted}
 use Rattle.fenced_world.specs.Refusals.{Refuses, RefusesLive, RefusesGrant, IsOpenTo, IsNotLive, CannotGoLive, IsAtTerm, MayHaveRaised}
-use Rattle.fenced_world.specs.Tied.{IsWorld}
+use Rattle.fenced_world.specs.machinery.Tied.{IsWorld}
 use Rattle.fenced_world.proofs.Lists.{some_same}
 use Rattle.fenced_world.proofs.Guests.{kept, store_of}
 use Rattle.fenced_world.proofs.Honest.{store_honest}

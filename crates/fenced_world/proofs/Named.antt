@@ -17,7 +17,7 @@ use Rattle.fenced_world.specs.Keepers.{KeptView, kept_at, Gift, given_by, gift_i
 use Rattle.fenced_world.specs.Reviving.{stores_in, givers_in}
 use Rattle.fenced_world.specs.Worlds.{WorldView}
 use Rattle.fenced_world.specs.Refusals.{CannotGoLive}
-use Rattle.fenced_world.specs.Tied.{AreParts}
+use Rattle.fenced_world.specs.machinery.Tied.{AreParts}
 
 -- one keeper more
 pub one_more : (held : List (Option KeptView)) (named : List ℕ) (n : ℕ) → n < length held →

@@ -17,7 +17,7 @@ use Rattle.failover_world.proofs.Onward.{from_theory, offered_on}
 use Rattle.fenced_world.specs.Running.{RunningView}
 use Rattle.primary.specs.Primaries.{GoesOn}
 use Rattle.fenced_world.specs.Worlds.{WorldView}
-use Rattle.fenced_world.specs.Tied.{IsTied}
+use Rattle.fenced_world.specs.machinery.Tied.{IsTied}
 use Rattle.fenced_world.proofs.Terms.{own, new_book}
 use Rattle.fenced_world.proofs.Releasing.{in_theory}
 

@@ -10,7 +10,7 @@ use Rattle.primary.specs.Gating.{AreOffered}
 use Rattle.fenced_world.specs.Keepers.{KeptView}
 use Rattle.fenced_world.specs.Running.{RunningView}
 use Rattle.fenced_world.specs.Worlds.{WorldView}
-use Rattle.fenced_world.specs.Tied.{AreParts}
+use Rattle.fenced_world.specs.machinery.Tied.{AreParts}
 use Rattle.fenced_world.proofs.Lists.{set_cases, row_cases, push_cases}
 
 -- its journal leads to its machine

@@ -8,14 +8,14 @@ use Rattle.log_join.specs.Families.{Past}
 use Rattle.ft_types.specs.declared.position.Position.{Position}
 use Rattle.fenced_theory.specs.Families.{Keeps, Here as IsHere, Above as IsAbove, IsInside}
 use Rattle.primary.specs.declared.released.Released.{Released}
-use Rattle.failover_world.specs.Tied.{TermBook, Books, told_as, theory_released}
+use Rattle.failover_world.specs.machinery.Tied.{TermBook, Books, told_as, theory_released}
 use Rattle.failover_world.proofs.Promises.{untold}
 use Rattle.failover_world.proofs.Releasing.{book_outputs}
 use Rattle.failover_world.proofs.Onward.{from_theory}
 use Rattle.fenced_world.specs.Running.{RunningView}
 use Rattle.fenced_world.specs.Worlds.{WorldView}
 use Rattle.fenced_world.specs.Promises.{IsInChain, Here, Above, IsInside as IsInsideHere, IsOne, IsOfMachines, IsKept, IsWithin, AreHeld}
-use Rattle.fenced_world.specs.Tied.{IsTied}
+use Rattle.fenced_world.specs.machinery.Tied.{IsTied}
 use Rattle.fenced_world.proofs.Lists.{some_same}
 use Rattle.fenced_world.proofs.Terms.{there_now, past_now, own}
 use Rattle.fenced_world.proofs.Guests.{laws}

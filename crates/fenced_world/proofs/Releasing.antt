@@ -17,12 +17,12 @@ use Rattle.fenced_theory.specs.Worlds as theory
 use Rattle.primary.specs.declared.released.Released.{Released}
 use Rattle.primary.proofs.Waiting.{all_stay}
 use Rattle.primary.specs.Gating.{released_in}
-use Rattle.failover_world.specs.Tied.{Books, theory_released}
+use Rattle.failover_world.specs.machinery.Tied.{Books, theory_released}
 use Rattle.failover_world.proofs.Going.{IsGoing, going}
 use Rattle.failover_world.proofs.Releasing.{book_outputs}
 use Rattle.fenced_world.specs.Running.{RunningView, LetsGo}
 use Rattle.fenced_world.specs.Worlds.{WorldView}
-use Rattle.fenced_world.specs.Tied.{IsTied, quorum_of}
+use Rattle.fenced_world.specs.machinery.Tied.{IsTied, quorum_of}
 use Rattle.fenced_world.proofs.Lists.{set_cases}
 use Rattle.fenced_world.proofs.Terms.{own, past_now, there_now}
 use Rattle.fenced_world.proofs.Acking.{gate_changed}

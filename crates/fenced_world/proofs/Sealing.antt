@@ -20,12 +20,12 @@ use Rattle.primary.specs.declared.granted.Primary.{Primary}
 use Rattle.primary.proofs.Put.{put_own, put_put}
 use Rattle.primary.proofs.Pieces.{is_fragment_at, cut_of_book, cut_sealed}
 use Rattle.primary.proofs.Sending.{cut_holds}
-use Rattle.failover_world.specs.Tied.{Books, retold, history, told_as}
+use Rattle.failover_world.specs.machinery.Tied.{Books, retold, history, told_as}
 use Rattle.failover_world.proofs.Recorded as recorded
 use Rattle.failover_world.proofs.Recorded.{is_log}
 use Rattle.fenced_world.specs.Running.{RunningView}
 use Rattle.fenced_world.specs.Worlds.{WorldView}
-use Rattle.fenced_world.specs.Tied.{IsIn, IsTied, past_of, told_of, quorum_of}
+use Rattle.fenced_world.specs.machinery.Tied.{IsIn, IsTied, past_of, told_of, quorum_of}
 use Rattle.fenced_world.proofs.Lists.{push_old}
 use Rattle.fenced_world.proofs.Terms.{own, there_now, there_told, retermed}
 

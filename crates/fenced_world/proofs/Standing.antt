@@ -7,13 +7,13 @@ use Rattle.interleaving.proofs.Put.{put_same, put_other}
 use Rattle.fenced_theory.specs.Worlds as theory
 use Rattle.fenced_keeper.specs.Following.{Stands}
 use Rattle.term_gate.specs.TermGates.{acked_at}
-use Rattle.failover_world.specs.Tied.{Books, theory_released}
+use Rattle.failover_world.specs.machinery.Tied.{Books, theory_released}
 use Rattle.failover_world.proofs.Keeping.{contained}
 use Rattle.fenced_world.specs.Keepers.{KeptView, kept_at}
 use Rattle.fenced_world.specs.Worlds.{WorldView}
 use Rattle.fenced_world.specs.Happenings.{Takes, JoinsTo, Saves, ComesBack, Raises}
 use Rattle.fenced_world.specs.Refusals.{MayHaveSaved, MayHaveRaised}
-use Rattle.fenced_world.specs.Tied.{IsTied, quorum_of}
+use Rattle.fenced_world.specs.machinery.Tied.{IsTied, quorum_of}
 use Rattle.fenced_world.proofs.Lists.{row_cases, some_same, none_some}
 
 -- only a keeper's part of the world is another

@@ -20,13 +20,13 @@ use Rattle.book_recorder.specs.TermBooks.{IsTermBook}
 use Rattle.book_recorder.proofs.Books.{later_are_term_books}
 use Rattle.term_gate.specs.TermGates.{acked_at}
 use Rattle.primary.specs.declared.granted.Primary.{Primary}
-use Rattle.failover_world.specs.Tied.{TermBook, Books, retold, retold_in, history, told_as, theory_released}
+use Rattle.failover_world.specs.machinery.Tied.{TermBook, Books, retold, retold_in, history, told_as, theory_released}
 use Rattle.failover_world.proofs.Places.{retold_put}
 use Rattle.failover_world.proofs.Recorded.{comes_of}
 use Rattle.fenced_world.specs.Running.{RunningView, with_book}
 use Rattle.primary.specs.Primaries.{GoesOn}
 use Rattle.fenced_world.specs.Worlds.{WorldView}
-use Rattle.fenced_world.specs.Tied.{IsIn, IsAmong, AreTerms, IsTied, past_of, told_of, quorum_of}
+use Rattle.fenced_world.specs.machinery.Tied.{IsIn, IsAmong, AreTerms, IsTied, past_of, told_of, quorum_of}
 use Rattle.fenced_world.proofs.Lists.{some_same, set_same, set_other, set_cases}
 
 -- a term that is not touched

@@ -7,4 +7,4 @@ pub mod Granting
 pub mod Happenings
 pub mod Refusals
 pub mod Promises
-pub mod Tied
+pub mod machinery

@@ -68,7 +68,7 @@ impl Model for FencedWorld {
 
     ghost coded = { Prim.hlevel (codes, coded_store) };
 
-    ghost use Rattle.fenced_world.specs.Tied.{IsWorld};
+    ghost use Rattle.fenced_world.specs.machinery.Tied.{IsWorld};
 
     ghost view = { λ w. record {
       image = w.image;

@@ -1,9 +1,7 @@
 pub mod Faults
 pub mod Rules
-pub mod Slots
 pub mod Spelling
-pub mod Reading
 pub mod Streams
 pub mod AtFault
-pub mod Fronts
 pub mod Facts
+pub mod machinery

@@ -2,10 +2,10 @@
 
 ghost use Rattle.std.specs.Prelude.{◌≡◌, ◌≢◌, ◌↔◌, ◌⊎◌, ◌+◌, ◌-◌, ◌<◌, ◌≤◌, ◌++◌, ℕ, List, [], length, take, drop, slice_index, Option, Some, None, Ok, Err};
 ghost use Rattle.std.specs.Prelude.{IfOk, IfErr, OnOk, OnErr, IsTrue, IsOk, vec_capacity, min};
-ghost use Rattle.fragment_codec.specs.Reading.{Makes, frame_of};
+ghost use Rattle.fragment_codec.specs.machinery.Reading.{Makes, frame_of};
 ghost use Rattle.fragment_codec.specs.Streams.{IsFrame, is_other, is_body_len, longest_body, head_of, IsWhole, HasDigest, IsPartial, HasFault, Splits, Unread};
 ghost use Rattle.fragment_codec.specs.Streams.{Keeps, Follows};
-ghost use Rattle.fragment_codec.specs.Fronts.{IsFront, Advances};
+ghost use Rattle.fragment_codec.specs.machinery.Fronts.{IsFront, Advances};
 
 use crate::fault::FrameFault;
 use crate::frame::Frame;
@@ -81,7 +81,7 @@ fn is_sealed(bytes: &[u8]) -> bool
     seal == digest.as_slice()
 }
 
-#[tactic(auto, unfolding(crate::specs::Reading::frame_of))]
+#[tactic(auto, unfolding(crate::specs::machinery::Reading::frame_of))]
 fn read_body(alloc: Global, version: u8, kind: u8, body: &[u8]) -> Result<Frame, BodyError>
     ensures { Makes IsFrame result (frame_of version kind body.now) }
 {

@@ -3,7 +3,7 @@
 ghost use Rattle.std.specs.Prelude.{◌+◌, ◌-◌, nat_lt, ◌≡◌, ◌↔◌, ℕ, suc, ◌<◌, ◌≤◌, Option, Some, None, length, List, All, IsTrue, IsSome, IfSome, IfOk};
 ghost use Rattle.ft_types.specs.declared.names.TheConstants.{HART_LIMIT};
 ghost use Rattle.fragment_codec.specs.Rules.{IsKey, AreRecords, FragmentParts, OpeningParts, IsFragment, IsOpening, has_note};
-ghost use Rattle.fragment_codec.specs.Slots.{is_source, note_slot, said_after, slot_after};
+ghost use Rattle.fragment_codec.specs.machinery.Slots.{is_source, note_slot, said_after, slot_after};
 
 use crate::types::{FIRST_HARTS, Key, RECORD_LIMIT, Record, SPAN_LIMIT};
 use ft_types::{COUNT_LIMIT, Count, Counts, Guest, HART_LIMIT, Hart, INPUT_LIMIT, Memory, Term};
@@ -101,7 +101,7 @@ fn keeps_source(harts: u8, input: Input) -> bool
 const NOTE_SLOT: u8 = HART_LIMIT + INPUT_LIMIT as u8;
 
 /// The slot behind a record, where it keeps the rules, and the number that was noted last is this one.
-#[tactic(auto, unfolding(crate::specs::Slots::slot_after))]
+#[tactic(auto, unfolding(crate::specs::machinery::Slots::slot_after))]
 fn next_slot(
     harts: u8,
     hart: Hart,
@@ -178,7 +178,7 @@ fn has_note(records: &[Record]) -> bool
     false
 }
 
-#[tactic(auto, unfolding(crate::specs::Slots::are_right))]
+#[tactic(auto, unfolding(crate::specs::machinery::Slots::are_right))]
 fn are_records(records: &[Record], harts: u8, hart: Hart, from: Count, to: Count) -> bool
     requires { harts ≤ HART_LIMIT }
     ensures { IsTrue result ↔ AreRecords harts hart from to records.now }

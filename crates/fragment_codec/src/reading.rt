@@ -3,8 +3,8 @@
 ghost use Rattle.std.specs.Prelude.{◌≡◌, ◌≤◌, List, length, Option, Some, None};
 ghost use Rattle.fragment_codec.specs.Rules.{OpeningParts, IsFragment, IsOpening};
 ghost use Rattle.std.specs.Int.{w16, w32, w64};
-ghost use Rattle.fragment_codec.specs.Reading.{Gives, Makes, number_at, byte_at, digest_at, guest_at, input_of, edge_at, heard_at, note_at, record_at, many, place_at, rest_of};
-ghost use Rattle.fragment_codec.specs.Reading.{log_of, opening_of, stand_at, is_span, harts_limit};
+ghost use Rattle.fragment_codec.specs.machinery.Reading.{Gives, Makes, number_at, byte_at, digest_at, guest_at, input_of, edge_at, heard_at, note_at, record_at, many, place_at, rest_of};
+ghost use Rattle.fragment_codec.specs.machinery.Reading.{log_of, opening_of, stand_at, is_span, harts_limit};
 
 use crate::frame::{Fragment, Opening, is_short};
 use crate::types::{FIRST_HARTS, FIRST_VERSION, Key, Record};
@@ -44,7 +44,7 @@ impl<T: Drop> From<AllocFailed<T>> for BodyError {
     }
 }
 
-#[tactic(auto, unfolding(crate::specs::Reading::byte_at))]
+#[tactic(auto, unfolding(crate::specs::machinery::Reading::byte_at))]
 fn u8_at(bytes: &[u8]) -> Result<(u8, &[u8]), BodyError>
     ensures { Gives (λ x. (x.0, x.1.now)) result (byte_at bytes.now) }
 {
@@ -54,7 +54,7 @@ fn u8_at(bytes: &[u8]) -> Result<(u8, &[u8]), BodyError>
     }
 }
 
-#[tactic(auto, using(crate::proofs::bytes::Numbers::little_16), unfolding(crate::specs::Reading::number_at))]
+#[tactic(auto, using(crate::proofs::bytes::Numbers::little_16), unfolding(crate::specs::machinery::Reading::number_at))]
 fn u16_at(bytes: &[u8]) -> Result<(u16, &[u8]), BodyError>
     ensures { Gives (λ x. (x.0, x.1.now)) result (number_at w16 bytes.now) }
 {
@@ -65,7 +65,7 @@ fn u16_at(bytes: &[u8]) -> Result<(u16, &[u8]), BodyError>
     Ok((LittleEndian::read_u16(front), rest))
 }
 
-#[tactic(auto, using(crate::proofs::bytes::Numbers::little_32), unfolding(crate::specs::Reading::number_at))]
+#[tactic(auto, using(crate::proofs::bytes::Numbers::little_32), unfolding(crate::specs::machinery::Reading::number_at))]
 fn u32_at(bytes: &[u8]) -> Result<(u32, &[u8]), BodyError>
     ensures { Gives (λ x. (x.0, x.1.now)) result (number_at w32 bytes.now) }
 {
@@ -76,7 +76,7 @@ fn u32_at(bytes: &[u8]) -> Result<(u32, &[u8]), BodyError>
     Ok((LittleEndian::read_u32(front), rest))
 }
 
-#[tactic(auto, using(crate::proofs::bytes::Numbers::little_64), unfolding(crate::specs::Reading::number_at))]
+#[tactic(auto, using(crate::proofs::bytes::Numbers::little_64), unfolding(crate::specs::machinery::Reading::number_at))]
 fn u64_at(bytes: &[u8]) -> Result<(u64, &[u8]), BodyError>
     ensures { Gives (λ x. (x.0, x.1.now)) result (number_at w64 bytes.now) }
 {
@@ -87,7 +87,7 @@ fn u64_at(bytes: &[u8]) -> Result<(u64, &[u8]), BodyError>
     Ok((LittleEndian::read_u64(front), rest))
 }
 
-#[tactic(auto, unfolding(crate::specs::Reading::digest_at))]
+#[tactic(auto, unfolding(crate::specs::machinery::Reading::digest_at))]
 fn digest_of(bytes: &[u8]) -> Result<([u8; 32], &[u8]), BodyError>
     ensures { Gives (λ x. (x.0, x.1.now)) result (digest_at bytes.now) }
 {
@@ -100,7 +100,7 @@ fn digest_of(bytes: &[u8]) -> Result<([u8; 32], &[u8]), BodyError>
     Ok((digest, rest))
 }
 
-#[tactic(auto, unfolding(crate::specs::Reading::input_of))]
+#[tactic(auto, unfolding(crate::specs::machinery::Reading::input_of))]
 fn make_input(kind: u8, value: u32) -> Result<Input, BodyError>
     ensures { Gives (λ x. x) result (input_of kind value) }
 {
@@ -113,7 +113,7 @@ fn make_input(kind: u8, value: u32) -> Result<Input, BodyError>
 }
 
 /// The count at which a record stands.
-#[tactic(auto, unfolding(crate::specs::Reading::stand_at))]
+#[tactic(auto, unfolding(crate::specs::machinery::Reading::stand_at))]
 fn read_stand(version: u8, from: Count, bytes: &[u8]) -> Result<(Count, &[u8]), BodyError>
     ensures { Gives (λ x. (x.0, x.1.now)) result (stand_at version from bytes.now) }
 {
@@ -127,7 +127,7 @@ fn read_stand(version: u8, from: Count, bytes: &[u8]) -> Result<(Count, &[u8]), 
     }
 }
 
-#[tactic(auto, unfolding(crate::specs::Reading::edge_at))]
+#[tactic(auto, unfolding(crate::specs::machinery::Reading::edge_at))]
 fn read_edge(
     version: u8,
     from: Count,
@@ -152,7 +152,7 @@ fn read_edge(
     }
 }
 
-#[tactic(auto, unfolding(crate::specs::Reading::heard_at))]
+#[tactic(auto, unfolding(crate::specs::machinery::Reading::heard_at))]
 fn read_heard(version: u8, from: Count, bytes: &[u8]) -> Result<(Record, &[u8]), BodyError>
     ensures { Gives (λ x. (x.0, x.1.now)) result (heard_at version from bytes.now) }
 {
@@ -163,7 +163,7 @@ fn read_heard(version: u8, from: Count, bytes: &[u8]) -> Result<(Record, &[u8]),
     Ok((Record::Input(at, input), rest))
 }
 
-#[tactic(auto, unfolding(crate::specs::Reading::note_at))]
+#[tactic(auto, unfolding(crate::specs::machinery::Reading::note_at))]
 fn read_note(version: u8, from: Count, bytes: &[u8]) -> Result<(Record, &[u8]), BodyError>
     ensures { Gives (λ x. (x.0, x.1.now)) result (note_at version from bytes.now) }
 {
@@ -172,7 +172,7 @@ fn read_note(version: u8, from: Count, bytes: &[u8]) -> Result<(Record, &[u8]), 
     Ok((Record::Note(at, number), rest))
 }
 
-#[tactic(auto, unfolding(crate::specs::Reading::record_at))]
+#[tactic(auto, unfolding(crate::specs::machinery::Reading::record_at))]
 fn read_record(
     version: u8,
     from: Count,
@@ -239,7 +239,7 @@ fn most_harts(version: u8) -> u8
     }
 }
 
-#[tactic(auto, unfolding(crate::specs::Reading::guest_at))]
+#[tactic(auto, unfolding(crate::specs::machinery::Reading::guest_at))]
 fn read_guest(version: u8, bytes: &[u8]) -> Result<(Guest, &[u8]), BodyError>
     ensures { Gives (λ x. (x.0, x.1.now)) result (guest_at version bytes.now) }
 {
@@ -254,7 +254,7 @@ fn read_guest(version: u8, bytes: &[u8]) -> Result<(Guest, &[u8]), BodyError>
     }
 }
 
-#[tactic(auto, unfolding(crate::specs::Reading::place_at))]
+#[tactic(auto, unfolding(crate::specs::machinery::Reading::place_at))]
 fn read_place(version: u8, bytes: &[u8]) -> Result<(Guest, Key, &[u8]), BodyError>
     ensures { Gives (λ x. (x.0, x.1, x.2.now)) result (place_at version bytes.now) }
 {
@@ -280,7 +280,7 @@ fn tells_span(version: u8, from: Count, to: Count) -> bool
     version == FIRST_VERSION || is_short(from, to)
 }
 
-#[tactic(auto, unfolding(crate::specs::Reading::rest_of))]
+#[tactic(auto, unfolding(crate::specs::machinery::Reading::rest_of))]
 fn read_rest(
     alloc: Global,
     version: u8,
@@ -307,7 +307,7 @@ fn read_rest(
     }
 }
 
-#[tactic(auto, unfolding(crate::specs::Reading::log_of))]
+#[tactic(auto, unfolding(crate::specs::machinery::Reading::log_of))]
 pub fn read_log(alloc: Global, version: u8, body: &[u8]) -> Result<Fragment, BodyError>
     ensures { Makes IsFragment result (log_of version body.now) }
 {
@@ -330,7 +330,7 @@ fn make_opening(guest: Guest, term: Term, parent: Term, base: &[u64]) -> Result<
     }
 }
 
-#[tactic(auto, unfolding(crate::specs::Reading::opening_of))]
+#[tactic(auto, unfolding(crate::specs::machinery::Reading::opening_of))]
 pub fn read_opening(version: u8, body: &[u8]) -> Result<Opening, BodyError>
     ensures { Makes IsOpening result (opening_of version body.now) }
 {

@@ -2,7 +2,7 @@
 
 ghost use Rattle.std.specs.Prelude.{◌≡◌, IfOk};
 ghost use Rattle.frame_content.specs.Tests.{same_opening, same_fragment};
-ghost use Rattle.frame_content.specs.Contents.{same_frame, holds, clashes, joined};
+ghost use Rattle.frame_content.specs.machinery.Contents.{same_frame, holds, clashes, joined};
 
 use fragment_codec::{Fragment, Frame, Opening};
 use ft_types::{Memory, is_same_guest};

@@ -10,7 +10,7 @@ use Rattle.std.proofs.lemmas.Nat.{one_shl}
 use Rattle.std.proofs.Math.Pow.{pow-lt}
 use Rattle.std.proofs.lemmas.Nat.Bits.{bit_at_lowest, bit_at-suc, bit_at-zero, bit_at_and, bit_at_or, bit_at-lt, bit_at-pow_same, bit_at-pow_other, and_pow, bit_at_not, bit_at-trailing_zeros}
 use Rattle.ft_types.specs.Sets.{IsMember}
-use Rattle.ft_types.specs.Flags.{flags_of, length-flags_of, IsBitAt}
+use Rattle.ft_types.specs.machinery.Flags.{flags_of, length-flags_of, IsBitAt}
 use Rattle.ft_types.proofs.Zips.{all_equal}
 use Rattle.ft_types.proofs.Flags.{none_counted, counted_none}
 

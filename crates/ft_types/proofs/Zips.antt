@@ -4,7 +4,7 @@ use Rattle.std.proofs.Common.{get_or, slice_set, length-set, slice_index_or, sub
 use Rattle.std.specs.List.{AllByRecursion, AllZip}
 use Rattle.std.proofs.lemmas.List.{take_more, take_more_set, take-append-drop, take-replicate, drop-set-lt, drop-drop, drop-replicate, length-replicate, get_or-replicate}
 use Rattle.std.proofs.lemmas.Grind.{common_steps}
-use Rattle.ft_types.specs.Rows.{IsRow, length_of_view}
+use Rattle.ft_types.specs.machinery.Rows.{IsRow, length_of_view}
 use Rattle.ft_types.specs.Counts.{zipped, IsCount}
 use Rattle.ft_types.specs.declared.names.TheConstants.{HART_LIMIT, HART_ROW}
 

@@ -17,7 +17,7 @@ pub struct Counts {
 impl Model for Counts {
     ghost use Rattle.std.specs.Prelude.{ℕ, List, take, length, ◌-◌, ◌++◌, replicate, refl};
     ghost use Rattle.ft_types.specs.declared.names.TheConstants.{HART_ROW};
-    ghost use Rattle.ft_types.specs.Rows.{IsRow, words_of_view, length_of_view};
+    ghost use Rattle.ft_types.specs.machinery.Rows.{IsRow, words_of_view, length_of_view};
 
     ghost Value = { List ℕ };
 

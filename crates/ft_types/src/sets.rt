@@ -1,7 +1,7 @@
 //! Sets of harts, and sets of keepers.
 
 ghost use Rattle.std.specs.Prelude.{◌≡◌, ◌≢◌, ◌<◌, ◌≤◌, ℕ, length, true, slice_index_or, slice_set, IsTrue, ◌↔◌, count_by};
-ghost use Rattle.ft_types.specs.Flags.{IsBitAt};
+ghost use Rattle.ft_types.specs.machinery.Flags.{IsBitAt};
 ghost use Rattle.ft_types.specs.Sets.{IsMember};
 ghost use Rattle.ft_types.specs.declared.names.TheConstants.{HART_ROW};
 
@@ -17,7 +17,7 @@ pub struct HartSet {
 impl Model for HartSet {
     ghost use Rattle.std.specs.Prelude.{◌<◌, ◌^◌, Bool, List};
     ghost use Rattle.ft_types.specs.declared.names.TheConstants.{HART_ROW};
-    ghost use Rattle.ft_types.specs.Flags.{flags_of, number_of, number_of-flags_of};
+    ghost use Rattle.ft_types.specs.machinery.Flags.{flags_of, number_of, number_of-flags_of};
 
     ghost Value = { List Bool };
 

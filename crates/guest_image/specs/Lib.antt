@@ -1,4 +1,4 @@
-pub mod Decoded
 pub mod Image
 pub mod Machine
 pub mod Text
+pub mod machinery

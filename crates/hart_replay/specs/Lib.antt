@@ -1,7 +1,6 @@
 pub mod Faults
 pub mod Plans
 pub mod Facts
-pub mod Taking
 pub mod Histories
 pub mod Images
 pub mod Laws
@@ -10,3 +9,4 @@ pub mod Leading
 pub mod GoingOn
 pub mod Primaries
 pub mod Failovers
+pub mod machinery

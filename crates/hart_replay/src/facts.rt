@@ -6,7 +6,7 @@ ghost use Rattle.edge_log.specs.EdgeLog.{row_of};
 ghost use Rattle.input_log.specs.Inputs.{inputs_of};
 ghost use Rattle.log_join.specs.Stores.{IsStore};
 ghost use Rattle.hart_replay.specs.Facts.{below, edges_among, inputs_among, notes_among};
-ghost use Rattle.hart_replay.specs.Taking.{TakesEdges, EdgesEndBy, TakesInputs, InputsEndBelow, TakesNotes, TakesHart};
+ghost use Rattle.hart_replay.specs.machinery.Taking.{TakesEdges, EdgesEndBy, TakesInputs, InputsEndBelow, TakesNotes, TakesHart};
 
 use crate::plans::PlannedLeg;
 use closed_cut::piece_from;

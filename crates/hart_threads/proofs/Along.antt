@@ -15,7 +15,7 @@ use Rattle.hart_replay.specs.Plans.{IsPlan}
 use Rattle.hart_replay.specs.Replays.{LegLeads, LegsLead, IsOutcome}
 use Rattle.hart_replay.specs.Leading.{IsLegFault, IsLegsFault, IsSoFar}
 use Rattle.hart_replay.proofs.walking.Outcomes.{boot_so_far, goes_far, leg_is, leg_base, leg_at_fault}
-use Rattle.hart_threads.specs.Going.{HasCome, HasComeIn, IsAt, LeadsOn, FailsOn}
+use Rattle.hart_threads.specs.machinery.Going.{HasCome, HasComeIn, IsAt, LeadsOn, FailsOn}
 use Rattle.hart_replay.specs.GoingOn.{GoOnFrom}
 use Rattle.hart_replay.proofs.Fronts.{at_place, there, past_all, at_seam, seam_within, next_is}
 use Rattle.hart_threads.specs.Following.{KeepsUp}

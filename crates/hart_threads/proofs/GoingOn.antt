@@ -31,7 +31,7 @@ use Rattle.hart_replay.specs.Leading.{HasStopped, ComesTo, ComesShort, IsLegFaul
 use Rattle.hart_replay.proofs.honesty.Primaries.{passed, passing}
 use Rattle.hart_replay.proofs.honesty.Schedules.{begins_too, same_turns}
 use Rattle.hart_replay.proofs.rounds.Ends.{at_ends, falls_short}
-use Rattle.hart_threads.specs.Going.{HasCome, LeadsOn, FailsOn}
+use Rattle.hart_threads.specs.machinery.Going.{HasCome, LeadsOn, FailsOn}
 use Rattle.hart_replay.specs.GoingOn.{BeginsLeg}
 
 -- ---- one order after another

@@ -18,7 +18,7 @@ use Rattle.page_book.specs.Tellings.{HearsMore, AddsLater}
 use Rattle.page_book.proofs.Later.{adds_nothing}
 use Rattle.page_book.proofs.Tellings.{hears_nothing, notes_kept}
 use Rattle.lease_rounds.specs.Running.{Continues, KeepsOffered, offers}
-use Rattle.lease_rounds.specs.SoFar.{HasRun, IsRestOf}
+use Rattle.lease_rounds.specs.machinery.SoFar.{HasRun, IsRestOf}
 use Rattle.lease_rounds.proofs.Offers.{kept_same}
 use Rattle.lease_rounds.proofs.Offered.{offered_itself}
 

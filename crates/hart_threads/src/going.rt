@@ -5,7 +5,7 @@ ghost use Rattle.guest_image.specs.Image.{guest_of};
 ghost use Rattle.hart_replay.specs.Plans.{IsPlan};
 ghost use Rattle.hart_replay.specs.Replays.{IsOutcome};
 ghost use Rattle.hart_replay.specs.Leading.{IsLegsFault};
-ghost use Rattle.hart_threads.specs.Going.{LeadsOn, FailsOn, IsAt};
+ghost use Rattle.hart_threads.specs.machinery.Going.{LeadsOn, FailsOn, IsAt};
 
 use crate::ends::come_to;
 use crate::legs::{begin, finish};

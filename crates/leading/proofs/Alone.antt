@@ -7,7 +7,7 @@ use Rattle.page_book.specs.Books.{BookView}
 use Rattle.log_pieces.specs.Pieces.{SealedView}
 use Rattle.hart_replay.specs.Primaries.{IsPrimary}
 use Rattle.lease_rounds.specs.Running.{IsIdle, KeepsOffered, offers}
-use Rattle.lease_rounds.specs.SoFar.{HasRun}
+use Rattle.lease_rounds.specs.machinery.SoFar.{HasRun}
 use Rattle.lease_rounds.specs.Steps.{AreWithin, HasStepped, IsUnmoved}
 use Rattle.lease_rounds.proofs.Offers.{kept_itself, kept_on}
 use Rattle.term_gate.specs.TermGates.{TermGateView}

@@ -7,7 +7,7 @@ use Rattle.hart_lease.specs.Runs.{counts_of, harts_of}
 use Rattle.hart_lease.proofs.journals.GoingOn.{harts_of-append}
 use Rattle.book_modes.specs.Recordings.{RecordingView}
 use Rattle.page_book.specs.Books.{BookView}
-use Rattle.lease_rounds.specs.SoFar.{HasRun}
+use Rattle.lease_rounds.specs.machinery.SoFar.{HasRun}
 use Rattle.lease_rounds.specs.Steps.{HasStepped, IsUnmoved}
 use Rattle.lease_rounds.proofs.Counts.{has_run}
 use Rattle.primary.specs.Primaries.{GoesOn}

@@ -8,7 +8,7 @@ use Rattle.page_book.specs.Books.{BookView}
 use Rattle.page_book.proofs.Tellings.{notes_kept, tells_the_same, tells_further}
 use Rattle.hart_replay.specs.Primaries.{IsPrimary}
 use Rattle.lease_rounds.specs.Running.{Continues}
-use Rattle.lease_rounds.specs.SoFar.{HasRun}
+use Rattle.lease_rounds.specs.machinery.SoFar.{HasRun}
 use Rattle.lease_rounds.proofs.Onward.{runs_on}
 use Rattle.primary.specs.Primaries.{GoesOn}
 use Rattle.leading.specs.Rounds.{LeadsOn}

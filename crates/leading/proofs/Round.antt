@@ -10,7 +10,7 @@ use Rattle.fragment_codec.specs.Rules.{OpeningParts}
 use Rattle.log_pieces.specs.Pieces.{SealedView, IsCut, book_log}
 use Rattle.lease_rounds.specs.Running.{IsIdle}
 use Rattle.lease_rounds.specs.Steps.{AreWithin}
-use Rattle.lease_rounds.specs.SoFar.{HasRun}
+use Rattle.lease_rounds.specs.machinery.SoFar.{HasRun}
 use Rattle.term_gate.specs.TermGates.{TermGateView}
 use Rattle.primary.specs.declared.granted.Primary.{Primary}
 use Rattle.primary.specs.Primaries.{GoesOn}

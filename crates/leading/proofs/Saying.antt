@@ -10,7 +10,7 @@ use Rattle.input_log.specs.declared.Input.{Input}
 use Rattle.rv32_hart.specs.Hart.{Hart}
 use Rattle.rv32_hart.specs.Hardware.{hardware}
 use Rattle.rv32_hart.specs.Step.{effect}
-use Rattle.rv32_hart.specs.Local.{step_counted}
+use Rattle.rv32_hart.specs.machinery.Local.{step_counted}
 use Rattle.guest_image.specs.Machine.{MachineState}
 use Rattle.hart_lease.specs.Runs.{counts_of, steps_taken}
 use Rattle.primary.specs.Outputs.{said_by, said_at}

@@ -4,7 +4,7 @@ use Rattle.hart_lease.specs.Runs.{LeadsTo, harts_of}
 use Rattle.hart_lease.proofs.journals.Sizes.{as_large, counts_ran}
 use Rattle.page_book.specs.Books.{BookView}
 use Rattle.book_modes.specs.Recordings.{RecordingView, heard_by}
-use Rattle.lease_rounds.specs.SoFar.{HasRun}
+use Rattle.lease_rounds.specs.machinery.SoFar.{HasRun}
 
 pub has_run : (b : BookView RecordingView) → LeadsTo (heard_by b.mode) b.start b.journal b.machine → HasRun b
 has_run b run =

@@ -17,7 +17,7 @@ use Rattle.ft_types.specs.Counts.{zipped}
 use Rattle.ft_types.proofs.Zips.{length-zipped}
 use Rattle.ft_types.specs.declared.names.Want.{Want}
 use Rattle.ft_types.specs.declared.names.Want.TheVariants.{Read, Write}
-use Rattle.lease_rounds.specs.Flags.{flags_of, length-flags_of, flags_in, AreWords, left_of, IsBitOf}
+use Rattle.lease_rounds.specs.machinery.Flags.{flags_of, length-flags_of, flags_in, AreWords, left_of, IsBitOf}
 use Rattle.lease_rounds.specs.Pages.{Pages, HasFor, Has, IsAgainst}
 
 -- ---- flags of one number

@@ -17,7 +17,7 @@ use Rattle.lease_rounds.proofs.GoingOn.{HasGoneOn, AsFar, has_gone_on, has_fewer
 use Rattle.page_book.proofs.Later.{adds_nothing, adds_on}
 use Rattle.page_book.proofs.Tellings.{hears_nothing, hears_more, notes_kept}
 use Rattle.lease_rounds.specs.Running.{IsIdle, AreThrough, IsThrough, Continues, GoWithin, recording, NoRound, OneMore, KeepsOffered, KeepHeld}
-use Rattle.lease_rounds.specs.SoFar.{HasRun, IsSoFar}
+use Rattle.lease_rounds.specs.machinery.SoFar.{HasRun, IsSoFar}
 use Rattle.lease_rounds.proofs.Leasing.{ahead, limits, continues, offered, keep_held}
 use Rattle.lease_rounds.proofs.Offered.{offered_itself, offered_on}
 

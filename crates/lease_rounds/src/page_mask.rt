@@ -19,7 +19,7 @@ pub struct PageMask {
 
 impl Model for PageMask {
     ghost use Rattle.lease_rounds.specs.Pages.{Pages};
-    ghost use Rattle.lease_rounds.specs.Flags.{flags_in, words_of, words_back, AreWords};
+    ghost use Rattle.lease_rounds.specs.machinery.Flags.{flags_in, words_of, words_back, AreWords};
 
     ghost Value = { Pages };
 

@@ -3,7 +3,7 @@
 ghost use Rattle.std.specs.Prelude.{◌≡◌, ◌%◌, ◌⊎◌, ◌↔◌, ℕ, IsTrue, bit_or};
 ghost use Rattle.ft_types.specs.Sets.{IsMember};
 ghost use Rattle.ft_types.specs.Counts.{zipped};
-ghost use Rattle.lease_rounds.specs.Flags.{flags_in, AreWords, IsBitOf, left_of};
+ghost use Rattle.lease_rounds.specs.machinery.Flags.{flags_in, AreWords, IsBitOf, left_of};
 
 use ft_types::PageNo;
 

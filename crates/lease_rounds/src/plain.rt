@@ -3,7 +3,7 @@
 ghost use Rattle.std.specs.Prelude.{◌≡◌, IfOk};
 ghost use Rattle.page_book.specs.Tellings.{TellsOn};
 ghost use Rattle.lease_rounds.specs.Running.{IsIdle, AreThrough, Continues, RunsOn, GoWithin, GoesRound, KeepsOffered, KeepHeld};
-ghost use Rattle.lease_rounds.specs.SoFar.{HasRun};
+ghost use Rattle.lease_rounds.specs.machinery.SoFar.{HasRun};
 
 use crate::rounds::go_round;
 use ft_types::Memory;

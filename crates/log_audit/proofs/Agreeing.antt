@@ -22,7 +22,7 @@ use Rattle.hart_replay.specs.declared.plans.PlannedLeg.{PlannedLeg}
 use Rattle.hart_replay.specs.Plans.{IsLeg, log_of}
 use Rattle.hart_replay.specs.Replays.{leg_turns, LegLeads, GetsStuck}
 use Rattle.log_audit.specs.Coverage.{LegAgrees}
-use Rattle.log_audit.specs.Covered.{HartsView, machine_of, IsCovered, IsOn}
+use Rattle.log_audit.specs.machinery.Covered.{HartsView, machine_of, IsCovered, IsOn}
 use Rattle.log_audit.proofs.Appending.{begins_within, steps_given, steps_met}
 use Rattle.log_audit.proofs.Covering.{ran, counts_are}
 

@@ -9,8 +9,8 @@ use Rattle.rv32_hart.specs.Hart.{Hart}
 use Rattle.rv32_hart.specs.Ram.{Ram, may_read, may_write}
 use Rattle.rv32_hart.specs.Step.{effect}
 use Rattle.log_audit.specs.declared.marks.Uses.{Uses}
-use Rattle.log_audit.specs.Marks.{uses_at, IsClear}
-use Rattle.log_audit.specs.Asking.{no_rights}
+use Rattle.log_audit.specs.machinery.Marks.{uses_at, IsClear}
+use Rattle.log_audit.specs.machinery.Asking.{no_rights}
 
 -- how many of these rights are lacking
 abbrev pub lacking : List Bool → ℕ

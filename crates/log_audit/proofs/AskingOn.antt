@@ -10,8 +10,8 @@ use Rattle.input_log.specs.declared.Input.{Input}
 use Rattle.rv32_hart.specs.Hart.{Hart}
 use Rattle.rv32_hart.specs.Ram.{Ram, may_read, may_write}
 use Rattle.log_audit.specs.declared.marks.Uses.{Uses}
-use Rattle.log_audit.specs.Marks.{uses_at, unused, noted, noted_at, IsClear}
-use Rattle.log_audit.specs.Asking.{granted}
+use Rattle.log_audit.specs.machinery.Marks.{uses_at, unused, noted, noted_at, IsClear}
+use Rattle.log_audit.specs.machinery.Asking.{granted}
 use Rattle.log_audit.proofs.Asking.{IsAsking, step_on}
 
 module _ (hart : ℕ) (h : Hart) (inputs : List Input) (before : List ℕ) (contents : List (List ℕ)) (uses : List Uses) (r : Ram) (now : List Uses)

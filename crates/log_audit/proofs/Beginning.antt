@@ -12,9 +12,9 @@ use Rattle.hart_replay.specs.declared.plans.PlannedLeg.{PlannedLeg}
 use Rattle.hart_replay.specs.Plans.{IsLeg, log_of}
 use Rattle.log_audit.specs.declared.marks.Uses.{Uses}
 use Rattle.log_audit.specs.declared.befores.Before.{Before as Entry}
-use Rattle.log_audit.specs.Befores.{row_of as row_of_entries}
-use Rattle.log_audit.specs.Marks.{unmarked, unused, read_mark, written_mark}
-use Rattle.log_audit.specs.Covered.{IsCovered, IsOn, begun}
+use Rattle.log_audit.specs.machinery.Befores.{row_of as row_of_entries}
+use Rattle.log_audit.specs.machinery.Marks.{unmarked, unused, read_mark, written_mark}
+use Rattle.log_audit.specs.machinery.Covered.{IsCovered, IsOn, begun}
 use Rattle.log_audit.proofs.Agreeing.{from_start}
 use Rattle.log_audit.proofs.Knowing.{known_none}
 

@@ -12,8 +12,8 @@ use Rattle.hart_lease.specs.Runs.{counts_of}
 use Rattle.hart_replay.specs.declared.plans.PlannedLeg.{PlannedLeg}
 use Rattle.hart_replay.specs.Plans.{log_of}
 use Rattle.log_audit.specs.declared.befores.Before.{Before as Entry}
-use Rattle.log_audit.specs.Befores.{Brings}
-use Rattle.log_audit.specs.Covered.{HartsView, machine_of, IsCovered, InForce}
+use Rattle.log_audit.specs.machinery.Befores.{Brings}
+use Rattle.log_audit.specs.machinery.Covered.{HartsView, machine_of, IsCovered, InForce}
 use Rattle.log_audit.proofs.Knowing.{known_brought}
 use Rattle.log_audit.proofs.Widths.{brought_many}
 

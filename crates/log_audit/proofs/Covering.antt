@@ -14,9 +14,9 @@ use Rattle.hart_lease.proofs.journals.Sizes.{IsRun, is_run}
 use Rattle.hart_replay.specs.declared.plans.PlannedLeg.{PlannedLeg}
 use Rattle.hart_replay.specs.Plans.{IsLeg, log_of}
 use Rattle.hart_replay.specs.Replays.{leg_turns}
-use Rattle.log_audit.specs.Marks.{read_mark, written_mark, IsMarkedBelow}
+use Rattle.log_audit.specs.machinery.Marks.{read_mark, written_mark, IsMarkedBelow}
 use Rattle.log_audit.specs.Coverage.{TakenStep, steps_in, place_in}
-use Rattle.log_audit.specs.Covered.{HartsView, machine_of, IsCovered, IsMarkOf}
+use Rattle.log_audit.specs.machinery.Covered.{HartsView, machine_of, IsCovered, IsMarkOf}
 use Rattle.log_audit.proofs.Appending.{steps_below, steps_touch, steps_of_crew}
 
 module _ (leg : PlannedLeg) (order : List ℕ) (reach : ℕ → ℕ) (v : HartsView) (covered : IsCovered leg order reach v) where

@@ -19,7 +19,7 @@ use Rattle.hart_replay.specs.Replays.{is_halted, GetsStuck}
 use Rattle.hart_replay.specs.Leading.{IsBelow, ComesTo, ComesShort}
 use Rattle.log_audit.specs.declared.fault.AuditFault.TheVariants.{Replay}
 use Rattle.log_audit.specs.Coverage.{LegAgrees}
-use Rattle.log_audit.specs.Covered.{HartsView, machine_of, IsCovered, IsHeld, IsOn}
+use Rattle.log_audit.specs.machinery.Covered.{HartsView, machine_of, IsCovered, IsHeld, IsOn}
 use Rattle.log_audit.specs.Faults.{IsLegFault}
 use Rattle.log_audit.proofs.Agreeing.{leg_agrees, leg_start_closed}
 

@@ -10,8 +10,8 @@ use Rattle.ft_types.specs.declared.names.TheConstants.{HART_LIMIT, HART_ROW}
 use Rattle.edge_log.specs.declared.Edge.{Edge as LogEdge}
 use Rattle.edge_log.specs.EdgeLog.{edge_as}
 use Rattle.log_audit.specs.declared.befores.Before.{Before as Entry}
-use Rattle.log_audit.specs.Befores.{row_of, no_steps, IsLatest, IsBrought, Nothing, More, AreBrought, NoneYet, Next}
-use Rattle.log_audit.specs.Covered.{IsKnown}
+use Rattle.log_audit.specs.machinery.Befores.{row_of, no_steps, IsLatest, IsBrought, Nothing, More, AreBrought, NoneYet, Next}
+use Rattle.log_audit.specs.machinery.Covered.{IsKnown}
 use Rattle.log_audit.proofs.Latest.{none_at, none_in, in_one, latest_covers, latest_is, IsGreatest, greatest, many_all}
 
 abbrev pub place_at : ℕ → ℕ → Place

@@ -4,7 +4,7 @@ use Rattle.std.proofs.lemmas.Bool.{cases_lt}
 use Rattle.std.proofs.lemmas.Option.{slice_get_within}
 use Rattle.interleaving.proofs.Lists.{get_set_same}
 use Rattle.ft_types.specs.declared.names.TheConstants.{HART_LIMIT}
-use Rattle.rv32_hart.specs.Local.{step_counted}
+use Rattle.rv32_hart.specs.machinery.Local.{step_counted}
 use Rattle.ft_types.specs.Counts.{count_at}
 use Rattle.interleaving.specs.Machine.{Writes}
 use Rattle.interleaving.specs.Log.{Before, IsMet, bump}
@@ -16,9 +16,9 @@ use Rattle.hart_lease.specs.Runs.{counts_of, steps_taken}
 use Rattle.hart_replay.specs.declared.plans.PlannedLeg.{PlannedLeg}
 use Rattle.hart_replay.specs.Plans.{IsLeg, log_of}
 use Rattle.log_audit.specs.declared.befores.Before.{Before as Entry}
-use Rattle.log_audit.specs.Marks.{read_mark, written_mark}
+use Rattle.log_audit.specs.machinery.Marks.{read_mark, written_mark}
 use Rattle.log_audit.specs.Coverage.{TakenStep, AreUncovered}
-use Rattle.log_audit.specs.Covered.{HartsView, machine_of, steps_left, effect_in, IsOn, IsCovered, IsKnown, InForce, IsQuietTo, TakesStep, Clashes}
+use Rattle.log_audit.specs.machinery.Covered.{HartsView, machine_of, steps_left, effect_in, IsOn, IsCovered, IsKnown, InForce, IsQuietTo, TakesStep, Clashes}
 use Rattle.log_audit.proofs.Covering.{mark_below}
 use Rattle.log_audit.proofs.NextMarks.{counts_next}
 use Rattle.log_audit.proofs.Knowing.{known_later, known_further}

@@ -11,8 +11,8 @@ use Rattle.ft_types.specs.declared.names.TheConstants.{HART_LIMIT, HART_ROW}
 use Rattle.edge_log.specs.declared.Edge.{Edge as LogEdge}
 use Rattle.edge_log.specs.EdgeLog.{edge_as}
 use Rattle.log_audit.specs.declared.befores.Before.{Before as Entry}
-use Rattle.log_audit.specs.Befores.{row_of, IsLatest, AreBrought, NoneYet, Next, Brings}
-use Rattle.log_audit.specs.Covered.{IsKnown, InForce}
+use Rattle.log_audit.specs.machinery.Befores.{row_of, IsLatest, AreBrought, NoneYet, Next, Brings}
+use Rattle.log_audit.specs.machinery.Covered.{IsKnown, InForce}
 use Rattle.log_audit.proofs.Latest.{none_at, none_in, in_one, latest_covers, latest_is, row_at, some_or_none}
 use Rattle.log_audit.proofs.Gathering.{place_at, before_later, IsGathered, gather}
 

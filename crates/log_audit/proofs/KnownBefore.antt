@@ -2,8 +2,8 @@
 use Rattle.std.proofs.Common.{◌≡◌, ◌≢◌, ◌⊎◌, inl, inr, ℕ, ◌<◌, ◌≤◌, List, slice_index, sym, ap, subst, ◌∙◌, arith, le_trans, Contains}
 use Rattle.interleaving.specs.Log.{Edge, Place, Before, Own, Across, Through}
 use Rattle.log_audit.specs.declared.befores.Before.{Before as Entry}
-use Rattle.log_audit.specs.Befores.{row_of}
-use Rattle.log_audit.specs.Covered.{IsKnown, InForce}
+use Rattle.log_audit.specs.machinery.Befores.{row_of}
+use Rattle.log_audit.specs.machinery.Covered.{IsKnown, InForce}
 use Rattle.log_audit.proofs.Gathering.{place_at, before_later}
 
 -- what is in force comes before each step that none of the hart's entries comes after

@@ -9,7 +9,7 @@ use Rattle.ft_types.specs.declared.names.TheConstants.{HART_LIMIT, HART_ROW}
 use Rattle.ft_types.proofs.Zips.{length-zipped}
 use Rattle.interleaving.proofs.Put.{same_or_not}
 use Rattle.log_audit.specs.declared.befores.Before.{Before as Entry}
-use Rattle.log_audit.specs.Befores.{row_of, no_steps, steps_in_front, IsLatest}
+use Rattle.log_audit.specs.machinery.Befores.{row_of, no_steps, steps_in_front, IsLatest}
 
 -- ---- rows
 

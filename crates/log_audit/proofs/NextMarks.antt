@@ -9,13 +9,13 @@ use Rattle.interleaving.proofs.Lists.{get_set_same, get_set_other}
 use Rattle.interleaving.proofs.Put.{same_or_not, put_same, bump_other}
 use Rattle.input_log.specs.declared.Input.{Input}
 use Rattle.rv32_hart.specs.Hart.{Hart}
-use Rattle.rv32_hart.specs.Local.{step_counted}
+use Rattle.rv32_hart.specs.machinery.Local.{step_counted}
 use Rattle.guest_image.specs.Machine.{MachineState}
 use Rattle.hart_lease.specs.Runs.{counts_of, steps_taken}
 use Rattle.hart_replay.specs.declared.plans.PlannedLeg.{PlannedLeg}
-use Rattle.log_audit.specs.Marks.{read_mark, written_mark}
+use Rattle.log_audit.specs.machinery.Marks.{read_mark, written_mark}
 use Rattle.log_audit.specs.Coverage.{TakenStep, steps_in}
-use Rattle.log_audit.specs.Covered.{HartsView, machine_of, IsNoted, IsMarkOf, IsCovered, effect_in, TakesStep}
+use Rattle.log_audit.specs.machinery.Covered.{HartsView, machine_of, IsNoted, IsMarkOf, IsCovered, effect_in, TakesStep}
 use Rattle.log_audit.proofs.Covering.{marks_below}
 use Rattle.log_audit.proofs.NextStep.{lifted_from, lifted_to, step_next}
 

@@ -18,7 +18,7 @@ use Rattle.hart_replay.specs.declared.plans.PlannedLeg.{PlannedLeg}
 use Rattle.hart_replay.specs.Plans.{log_of}
 use Rattle.hart_replay.specs.Replays.{leg_turns}
 use Rattle.log_audit.specs.Coverage.{TakenStep, steps_in}
-use Rattle.log_audit.specs.Covered.{HartsView, machine_of, IsCovered, effect_in}
+use Rattle.log_audit.specs.machinery.Covered.{HartsView, machine_of, IsCovered, effect_in}
 use Rattle.log_audit.proofs.Appending.{begins_more, turns_more}
 
 -- ---- the writes of a step, lifted or not

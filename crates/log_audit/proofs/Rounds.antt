@@ -8,8 +8,8 @@ use Rattle.log_audit.specs.declared.harts.Clash.{Clash}
 use Rattle.log_audit.specs.declared.harts.Turn.{Turn}
 use Rattle.log_audit.specs.declared.harts.Turn.TheVariants.{Held, Went, Clashed}
 use Rattle.log_audit.specs.declared.legs.Ended.TheVariants.{Stopped}
-use Rattle.log_audit.specs.Covered.{HartsView, machine_of, begun, GoesOn, IsHeld, IsOn}
-use Rattle.log_audit.specs.Turns.{IsClash, Turns, TurnsOf, HasStopped, Ends}
+use Rattle.log_audit.specs.machinery.Covered.{HartsView, machine_of, begun, GoesOn, IsHeld, IsOn}
+use Rattle.log_audit.specs.machinery.Turns.{IsClash, Turns, TurnsOf, HasStopped, Ends}
 
 -- the first harts had their turns, and none clashed
 abbrev pub HadTurns : PlannedLeg → ℕ → HartsView → Turn → HartsView → Type 0

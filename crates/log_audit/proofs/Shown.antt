@@ -2,7 +2,7 @@
 use Rattle.std.proofs.Common.{◌≡◌, ℕ, suc, ◌<◌, List, [], ◌∷◌, length, map, replicate, slice_index_or, slice_set, refl, ap, sym, ◌∙◌, arith, Vec, Global}
 use Rattle.hart_lease.proofs.pages.Slots.{index-map, map-set}
 use Rattle.log_audit.specs.declared.befores.Before.{Before}
-use Rattle.log_audit.specs.Befores.{row_of}
+use Rattle.log_audit.specs.machinery.Befores.{row_of}
 
 abbrev pub items_of : Vec Before Global → List Before
 items_of row = row.items

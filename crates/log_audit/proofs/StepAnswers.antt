@@ -15,9 +15,9 @@ use Rattle.rv32_hart.specs.Ram.{Ram}
 use Rattle.rv32_hart.specs.Step.{IsTaken, IsMissing, effect_on}
 use Rattle.rv32_hart.proofs.Wanted.{missing_there}
 use Rattle.log_audit.specs.declared.marks.Uses.{Uses}
-use Rattle.log_audit.specs.Marks.{uses_at, noted_at, IsMarkedBelow, IsClear, StandsAgainst}
-use Rattle.log_audit.specs.Asking.{granted}
-use Rattle.log_audit.specs.Covered.{HartsView, AreHarts, TakesStep, Clashes}
+use Rattle.log_audit.specs.machinery.Marks.{uses_at, noted_at, IsMarkedBelow, IsClear, StandsAgainst}
+use Rattle.log_audit.specs.machinery.Asking.{granted}
+use Rattle.log_audit.specs.machinery.Covered.{HartsView, AreHarts, TakesStep, Clashes}
 use Rattle.log_audit.proofs.Asking.{IsAsking, lacking}
 use Rattle.log_audit.proofs.AskingOn.{asked_to_read, asked_to_write}
 use Rattle.log_audit.proofs.Stepped.{step_taken, step_clashes, lacked_touches, lacked_writes}

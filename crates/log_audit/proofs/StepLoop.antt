@@ -9,9 +9,9 @@ use Rattle.rv32_hart.specs.Step.{IsTaken, IsMissing}
 use Rattle.rv32_hart.proofs.Wanted.{missing_there}
 use Rattle.hart_lease.proofs.steps.After.{taken_counted}
 use Rattle.log_audit.specs.declared.marks.Uses.{Uses}
-use Rattle.log_audit.specs.Marks.{uses_at, noted_at, IsMarkedBelow, IsClear, StandsAgainst}
-use Rattle.log_audit.specs.Asking.{no_rights, granted}
-use Rattle.log_audit.specs.Covered.{HartsView, AreHarts, TakesStep, Clashes}
+use Rattle.log_audit.specs.machinery.Marks.{uses_at, noted_at, IsMarkedBelow, IsClear, StandsAgainst}
+use Rattle.log_audit.specs.machinery.Asking.{no_rights, granted}
+use Rattle.log_audit.specs.machinery.Covered.{HartsView, AreHarts, TakesStep, Clashes}
 use Rattle.log_audit.proofs.Asking.{IsAsking, lacking}
 use Rattle.log_audit.proofs.StepAnswers.{there_below, read_state, done_answer, clash_answer, asked_answer, fewer_lacking, taken_pages, harts_still, set_found, asking_as}
 

@@ -13,8 +13,8 @@ use Rattle.rv32_hart.specs.Ram.{Ram}
 use Rattle.rv32_hart.specs.Step.{IsMissing, effect_on, missing_on}
 use Rattle.rv32_hart.proofs.Rights.{touched_right, written_right}
 use Rattle.log_audit.specs.declared.marks.Uses.{Uses}
-use Rattle.log_audit.specs.Marks.{uses_at, used_by, read_mark, written_mark, IsMarkedBelow, IsClear, StandsAgainst}
-use Rattle.log_audit.specs.Covered.{HartsView, TakesStep, Clashes}
+use Rattle.log_audit.specs.machinery.Marks.{uses_at, used_by, read_mark, written_mark, IsMarkedBelow, IsClear, StandsAgainst}
+use Rattle.log_audit.specs.machinery.Covered.{HartsView, TakesStep, Clashes}
 use Rattle.log_audit.proofs.Asking.{IsAsking, step_on}
 use Rattle.log_audit.proofs.Wanting.{missing_used}
 

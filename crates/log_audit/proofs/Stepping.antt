@@ -21,10 +21,10 @@ use Rattle.hart_replay.specs.declared.plans.PlannedLeg.{PlannedLeg}
 use Rattle.hart_replay.specs.Plans.{IsLeg, log_of}
 use Rattle.hart_replay.specs.Replays.{leg_turns}
 use Rattle.log_audit.specs.declared.befores.Before.{Before as Entry}
-use Rattle.log_audit.specs.Befores.{row_of}
-use Rattle.log_audit.specs.Marks.{read_mark, written_mark}
+use Rattle.log_audit.specs.machinery.Befores.{row_of}
+use Rattle.log_audit.specs.machinery.Marks.{read_mark, written_mark}
 use Rattle.log_audit.specs.Coverage.{TakenStep, steps_in, place_in, AreUncovered}
-use Rattle.log_audit.specs.Covered.{HartsView, machine_of, IsKnown, IsNoted, IsMarkOf, IsCovered, effect_in, TakesStep, Clashes}
+use Rattle.log_audit.specs.machinery.Covered.{HartsView, machine_of, IsKnown, IsNoted, IsMarkOf, IsCovered, effect_in, TakesStep, Clashes}
 use Rattle.log_audit.proofs.Appending.{counts_after_more}
 use Rattle.log_audit.proofs.Covering.{taken_touch, taken_of_crew}
 use Rattle.log_audit.proofs.NextMarks.{counts_next, noted_still, noted_next, read_marks_next, written_marks_next}

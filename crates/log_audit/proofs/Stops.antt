@@ -11,7 +11,7 @@ use Rattle.edge_log.proofs.Logs.{in_row}
 use Rattle.input_log.specs.declared.Input.{Input}
 use Rattle.input_log.specs.Inputs.{inputs_of, inputs_at}
 use Rattle.hart_replay.specs.declared.plans.PlannedLeg.{PlannedLeg}
-use Rattle.log_audit.specs.Covered.{IsQuietTo}
+use Rattle.log_audit.specs.machinery.Covered.{IsQuietTo}
 
 -- the first count from this one on that the list has, or the end, is no later than each that it has
 pub or_end : {A : Type 0} (at : A → ℕ) (xs : List A) (count end : ℕ) (found : Option ℕ) → IfSome found (λ n. All (λ x. count ≤ at x → n ≤ at x) xs) →

@@ -4,7 +4,7 @@ use Rattle.std.proofs.Common.{refl, sym, ap, ◌∙◌, arith, append_assoc, len
 use Rattle.std.proofs.lemmas.Bool.{cases_lt}
 use Rattle.std.proofs.lemmas.List.{get_or-append_right, get_or_append_left, get_or-replicate, get_or_past, length-replicate, replicate-append-replicate, set-append_left, drop-replicate}
 use Rattle.ft_types.specs.declared.names.TheConstants.{HART_ROW}
-use Rattle.log_audit.specs.Widened.{widened}
+use Rattle.log_audit.specs.machinery.Widened.{widened}
 
 none_at : (n hart : ℕ) → slice_index (replicate n 0) hart ≡ 0
 none_at n hart = elim (cases_lt hart n) [

@@ -14,9 +14,9 @@ use Rattle.hart_replay.specs.declared.plans.PlannedLeg.{PlannedLeg}
 use Rattle.hart_replay.specs.Plans.{log_of, IsLeg}
 use Rattle.log_audit.specs.declared.befores.Before.{Before as Entry}
 use Rattle.log_audit.specs.declared.harts.Clash.{Clash}
-use Rattle.log_audit.specs.Befores.{Brings}
+use Rattle.log_audit.specs.machinery.Befores.{Brings}
 use Rattle.log_audit.specs.Coverage.{AreUncovered}
-use Rattle.log_audit.specs.Covered.{HartsView, machine_of, steps_left, IsOn, IsCovered, InForce, IsQuietTo, TakesStep, Clashes, GoesOn}
+use Rattle.log_audit.specs.machinery.Covered.{HartsView, machine_of, steps_left, IsOn, IsCovered, InForce, IsQuietTo, TakesStep, Clashes, GoesOn}
 use Rattle.log_audit.proofs.StepAnswers.{there_below, read_state}
 use Rattle.log_audit.proofs.Going.{HasGone, has_gone, clashed, took_counted, quiet_covered, quiet_met, quiet_later}
 use Rattle.log_audit.proofs.Bringing.{brought_covered, is_met, has_unmet}

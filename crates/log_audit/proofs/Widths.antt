@@ -8,7 +8,7 @@ use Rattle.ft_types.specs.declared.names.TheConstants.{HART_ROW}
 use Rattle.ft_types.proofs.Zips.{length-zipped}
 use Rattle.edge_log.specs.declared.Edge.{Edge}
 use Rattle.log_audit.specs.declared.befores.Before.{Before as Entry}
-use Rattle.log_audit.specs.Befores.{row_of, IsLatest, IsBrought, Nothing, More, AreBrought, NoneYet, Next, Brings}
+use Rattle.log_audit.specs.machinery.Befores.{row_of, IsLatest, IsBrought, Nothing, More, AreBrought, NoneYet, Next, Brings}
 use Rattle.log_audit.proofs.Latest.{in_one, latest_is, row_at, some_or_none}
 
 -- each entry is of HART_ROW counts

@@ -3,7 +3,7 @@
 ghost use Rattle.std.specs.Prelude.{◌≡◌, ◌<◌, ◌≤◌, ◌^◌, ℕ, List, length, replicate, slice_set, false, true, IfOk, OnOk};
 ghost use Rattle.ft_types.specs.declared.names.TheConstants.{PAGE_LIMIT};
 ghost use Rattle.rv32_hart.specs.Ram.{may_read, may_write};
-ghost use Rattle.log_audit.specs.Asking.{granted, no_rights};
+ghost use Rattle.log_audit.specs.machinery.Asking.{granted, no_rights};
 
 use ft_types::{Memory, PAGE_ROW, PageNo, Want};
 use guest_image::{Machine, Page};
@@ -21,7 +21,7 @@ pub(crate) struct AskedPages {
 
 impl Model for AskedPages {
     ghost use Rattle.rv32_hart.specs.Ram.{Ram};
-    ghost use Rattle.log_audit.specs.Asking.{AreAsked};
+    ghost use Rattle.log_audit.specs.machinery.Asking.{AreAsked};
 
     ghost Value = { Ram };
 

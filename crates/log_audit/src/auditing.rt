@@ -11,7 +11,7 @@ ghost use Rattle.hart_replay.specs.Replays.{IsAtLeg, IsCyclicAt, HaltsInsideAt};
 ghost use Rattle.hart_replay.specs.declared.fault.ReplayFault.TheVariants as replay;
 ghost use Rattle.log_audit.specs.Coverage.{LegAgrees, LegsAgree, IsUncoveredAt};
 ghost use Rattle.log_audit.specs.Faults.{IfUncovered, IfCyclic, IfHaltedInside, IsLegFault, IsLegsFault};
-ghost use Rattle.log_audit.specs.Turns.{IsClash};
+ghost use Rattle.log_audit.specs.machinery.Turns.{IsClash};
 
 use crate::fault::AuditFault;
 use crate::harts::Clash;

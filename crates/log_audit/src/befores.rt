@@ -2,7 +2,7 @@
 
 ghost use Rattle.std.specs.Prelude.{◌≡◌, ◌<◌, ◌≤◌, ◌^◌, ℕ, [], All, AllPairs, length, replicate, IfOk};
 ghost use Rattle.ft_types.specs.Counts.{greater};
-ghost use Rattle.log_audit.specs.Befores.{row_of, AreRising, IsLatest, IsBrought, Brings};
+ghost use Rattle.log_audit.specs.machinery.Befores.{row_of, AreRising, IsLatest, IsBrought, Brings};
 
 use crate::trimmed::{Row, TrimmedRow, no_steps};
 use edge_log::Edge;

@@ -7,10 +7,10 @@ ghost use Rattle.edge_log.specs.EdgeLog.{edges_of};
 ghost use Rattle.rv32_hart.specs.Hart.{Hart as HartRecord};
 ghost use Rattle.hart_lease.specs.Runs.{counts_of};
 ghost use Rattle.hart_replay.specs.Plans.{IsLeg, log_of};
-ghost use Rattle.log_audit.specs.Marks.{IsMarkedBelow};
+ghost use Rattle.log_audit.specs.machinery.Marks.{IsMarkedBelow};
 ghost use Rattle.log_audit.specs.Coverage.{AreUncovered};
-ghost use Rattle.log_audit.specs.Covered.{machine_of, begun, steps_left, InForce, IsOn, IsQuietTo, TakesStep, Clashes};
-ghost use Rattle.log_audit.specs.Turns.{Turns};
+ghost use Rattle.log_audit.specs.machinery.Covered.{machine_of, begun, steps_left, InForce, IsOn, IsQuietTo, TakesStep, Clashes};
+ghost use Rattle.log_audit.specs.machinery.Turns.{Turns};
 
 use crate::asked_pages::AskedPages;
 use crate::befores::Befores;
@@ -59,7 +59,7 @@ pub(crate) struct Harts {
 }
 
 impl Model for Harts {
-    ghost use Rattle.log_audit.specs.Covered.{HartsView, AreHarts};
+    ghost use Rattle.log_audit.specs.machinery.Covered.{HartsView, AreHarts};
 
     ghost Value = { HartsView };
 

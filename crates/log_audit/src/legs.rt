@@ -3,8 +3,8 @@
 ghost use Rattle.std.specs.Prelude.{◌≡◌, ◌<◌, ◌≤◌, ℕ, length, IfOk, IfSome, IfNone};
 ghost use Rattle.ft_types.specs.declared.names.TheConstants.{HART_LIMIT};
 ghost use Rattle.hart_replay.specs.Plans.{IsLeg};
-ghost use Rattle.log_audit.specs.Covered.{IsOn};
-ghost use Rattle.log_audit.specs.Turns.{TurnsOf, HasStopped, IsClash, Ends};
+ghost use Rattle.log_audit.specs.machinery.Covered.{IsOn};
+ghost use Rattle.log_audit.specs.machinery.Turns.{TurnsOf, HasStopped, IsClash, Ends};
 ghost use Rattle.hart_lease.specs.Runs.{counts_of};
 ghost use Rattle.ft_types.specs.Counts.{count_at};
 

@@ -2,7 +2,7 @@
 
 ghost use Rattle.std.specs.Prelude.{◌≡◌, ◌≢◌, ◌<◌, ◌≤◌, ℕ, length, replicate, IfOk, OnOk, OnErr, IfSome, IfNone};
 ghost use Rattle.ft_types.specs.declared.names.TheConstants.{HART_LIMIT, HART_ROW};
-ghost use Rattle.log_audit.specs.Marks.{unused, uses_at, used_by, noted_at, StandsAgainst, IsClear};
+ghost use Rattle.log_audit.specs.machinery.Marks.{unused, uses_at, used_by, noted_at, StandsAgainst, IsClear};
 
 use crate::trimmed::{Row, TrimmedRow};
 use ft_types::{Count, Hart, Memory, PageNo, Want};

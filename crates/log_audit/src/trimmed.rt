@@ -2,7 +2,7 @@
 
 ghost use Rattle.std.specs.Prelude.{◌≡◌, ◌<◌, ◌≤◌, ℕ, length, replicate, slice_index, slice_set, IfOk, OnOk, OnErr};
 ghost use Rattle.ft_types.specs.declared.names.TheConstants.{HART_LIMIT};
-ghost use Rattle.log_audit.specs.Widened.{widened};
+ghost use Rattle.log_audit.specs.machinery.Widened.{widened};
 
 use ft_types::{Count, HART_ROW, Hart, Memory};
 use std::alloc::Global;
@@ -27,7 +27,7 @@ pub(crate) struct TrimmedRow {
 impl Model for TrimmedRow {
     ghost use Rattle.std.specs.Prelude.{List, ℕ, length, ◌≤◌};
     ghost use Rattle.ft_types.specs.declared.names.TheConstants.{HART_ROW};
-    ghost use Rattle.log_audit.specs.Widened.{widened};
+    ghost use Rattle.log_audit.specs.machinery.Widened.{widened};
 
     ghost Value = { List ℕ };
 

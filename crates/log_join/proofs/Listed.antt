@@ -20,8 +20,8 @@ use Rattle.frame_content.specs.declared.content.Content.{Content}
 use Rattle.frame_content.specs.declared.content.Content.TheVariants.{One as OneFrame, Clash as Clashed}
 use Rattle.log_join.specs.Cells.{One, cell_of}
 use Rattle.log_join.specs.Stores.{is_clash}
-use Rattle.log_join.specs.Contents.{content_of, shown, is_one, listed, FitsAt}
-use Rattle.frame_content.specs.Contents.{clashes}
+use Rattle.log_join.specs.machinery.Contents.{content_of, shown, is_one, listed, FitsAt}
+use Rattle.frame_content.specs.machinery.Contents.{clashes}
 use Rattle.log_join.proofs.Shown.{cell, cell_shown}
 
 -- ---- rising

@@ -14,7 +14,7 @@ use Rattle.std.proofs.lemmas.Map.Keys.{IsDistinct-from_sorted}
 use Rattle.std.proofs.lemmas.List.{take-append-drop}
 use Rattle.std.proofs.lemmas.List.Folds.{list_any-append, list_any_more}
 use Rattle.frame_content.specs.declared.content.Content.{Content}
-use Rattle.log_join.specs.Contents.{marked, copied, is_among}
+use Rattle.log_join.specs.machinery.Contents.{marked, copied, is_among}
 
 -- ---- truth values
 

@@ -4,7 +4,7 @@ use Rattle.std.specs.Prelude.{◌≢◌, Option, Some, None, IsSome}
 use Rattle.fragment_codec.specs.declared.frame.Frame.{Frame}
 use Rattle.frame_content.specs.declared.content.Content.{Content}
 use Rattle.log_join.specs.Cells.{Absent, cell_of}
-use Rattle.log_join.specs.Contents.{content_of}
+use Rattle.log_join.specs.machinery.Contents.{content_of}
 use Rattle.log_join.proofs.Shown.{cell}
 
 module _ {X : Type 0} (part : Frame → Option X) where

@@ -17,8 +17,8 @@ use Rattle.frame_content.specs.declared.content.Content.{Content}
 use Rattle.frame_content.specs.declared.content.Content.TheVariants.{One as OneFrame, Clash as Clashed}
 use Rattle.log_join.specs.Cells.{Cell, One, Clash, join_cell, cell_of}
 use Rattle.log_join.specs.Answers.{answer}
-use Rattle.log_join.specs.Contents.{met, taken, put_answer, content_of, shown, FitsAt}
-use Rattle.frame_content.specs.Contents.{same_frame, joined}
+use Rattle.log_join.specs.machinery.Contents.{met, taken, put_answer, content_of, shown, FitsAt}
+use Rattle.frame_content.specs.machinery.Contents.{same_frame, joined}
 use Rattle.log_join.proofs.Maps.{tied_get}
 use Rattle.log_join.proofs.Joins.{join_absent}
 

@@ -29,9 +29,9 @@ use Rattle.log_join.specs.Cells.{Absent, join_cell, cell_of}
 use Rattle.frame_content.specs.Tests.{same_guest, same_opening, same_fragment}
 use Rattle.log_join.specs.Stores.{StoreView, key_cmp, opening_at, fragment_at, IsOpeningOf, IsFragmentOf, IsStore, IsJoin, IsLastTerm, nothing}
 use Rattle.log_join.specs.Answers.{answer, Puts, TellsOpening, TellsFragment}
-use Rattle.log_join.specs.Contents.{taken, put_answer, shown, opening_part, fragment_part, key_of, place_of, place_cmp, TellsContent, FitsAt}
-use Rattle.frame_content.specs.Contents.{same_frame}
-use Rattle.log_join.specs.Contents.{Fits, view_of, IsKept, IsMet}
+use Rattle.log_join.specs.machinery.Contents.{taken, put_answer, shown, opening_part, fragment_part, key_of, place_of, place_cmp, TellsContent, FitsAt}
+use Rattle.frame_content.specs.machinery.Contents.{same_frame}
+use Rattle.log_join.specs.machinery.Contents.{Fits, view_of, IsKept, IsMet}
 use Rattle.log_join.proofs.Told.{guests_told, openings_told, fragments_told}
 use Rattle.log_join.proofs.Maps.{tied_get}
 use Rattle.log_join.proofs.Joins.{keys_total, keys_exact, one_store, join_absent}

@@ -1,9 +1,8 @@
 pub mod Cells
-pub mod Codes
 pub mod Stores
 pub mod Coming
-pub mod Contents
 pub mod Answers
 pub mod Laws
 pub mod Families
 pub mod FamilyLaws
+pub mod machinery

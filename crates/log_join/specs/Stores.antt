@@ -12,7 +12,7 @@ use Rattle.fragment_codec.specs.declared.frame.Frame.TheVariants.{Log, Opening}
 use Rattle.fragment_codec.specs.Rules.{FragmentParts, OpeningParts, IsFragment, IsOpening}
 use Rattle.log_join.specs.Cells.{Cell, Absent, One, join_cell, cell_of}
 use Rattle.frame_content.specs.Tests.{same_opening, same_fragment}
-use Rattle.log_join.specs.Codes.{coded_guest, coded_key, coded_opening, coded_fragment}
+use Rattle.log_join.specs.machinery.Codes.{coded_guest, coded_key, coded_opening, coded_fragment}
 
 -- by term, then by hart, then by place
 abbrev pub key_cmp : Key → Key → Ordering

@@ -1,7 +1,7 @@
 //! Keys of fragments, in order.
 
 ghost use Rattle.std.specs.Prelude.{◌≡◌};
-ghost use Rattle.log_join.specs.Contents.{place_of};
+ghost use Rattle.log_join.specs.machinery.Contents.{place_of};
 
 use fragment_codec::Key;
 use ft_types::Term;
@@ -16,7 +16,7 @@ pub(crate) struct Place {
 
 impl From<Key> for Place {
     ghost use Rattle.std.specs.Prelude.{◌≡◌};
-    ghost use Rattle.log_join.specs.Contents.{place_of};
+    ghost use Rattle.log_join.specs.machinery.Contents.{place_of};
 
     ghost from_gives = { λ key place. place ≡ place_of key };
 

@@ -3,8 +3,8 @@
 ghost use Rattle.std.specs.Prelude.{◌≡◌, ◌&&◌, ◌<◌, ◌^◌, false, if◌then◌else◌, not, is_some, None, Some, IfOk, OnOk, OnErr, count_by};
 ghost use Rattle.std.specs.Ordering.{eq_by_cmp};
 ghost use Rattle.std.specs.BTreeMap.{get, values, IsOrdered};
-ghost use Rattle.log_join.specs.Contents.{marked, copied, taken, put_answer, is_among};
-ghost use Rattle.frame_content.specs.Contents.{clashes};
+ghost use Rattle.log_join.specs.machinery.Contents.{marked, copied, taken, put_answer, is_among};
+ghost use Rattle.frame_content.specs.machinery.Contents.{clashes};
 
 use crate::answers::Put;
 use fragment_codec::Frame;

@@ -4,7 +4,7 @@ ghost use Rattle.std.specs.Prelude.{◌≡◌, ◌≤◌, ◌⊎◌, ℕ, false,
 ghost use Rattle.std.specs.Ordering.{nat_cmp};
 ghost use Rattle.std.specs.BTreeMap.{get, IsOrdered};
 ghost use Rattle.log_join.specs.declared.place.Place.{Place as place_of_specs};
-ghost use Rattle.log_join.specs.Contents.{is_among, listed, key_of, fragment_part, FitsAt, place_cmp, AreFree, AreCopied, IsKept, IsMet};
+ghost use Rattle.log_join.specs.machinery.Contents.{is_among, listed, key_of, fragment_part, FitsAt, place_cmp, AreFree, AreCopied, IsKept, IsMet};
 
 use crate::place::Place;
 use crate::shelf::{copy_at, mark_clashes, missing_keys, remove_at};

@@ -4,7 +4,7 @@ ghost use Rattle.std.specs.Prelude.{◌≡◌, ◌≢◌, ◌↔◌, Ok, Err, If
 ghost use Rattle.fragment_codec.specs.declared.frame.Frame.{Frame as frame_of_specs};
 ghost use Rattle.log_join.specs.Stores.{StoreView, opening_at, fragment_at, IsStore, IsJoin, nothing, alone, AreTerms, AreKeys, clashes_of, IsLastTerm};
 ghost use Rattle.std.specs.Option.{option_copied};
-ghost use Rattle.log_join.specs.Contents.{TellsContent};
+ghost use Rattle.log_join.specs.machinery.Contents.{TellsContent};
 ghost use Rattle.log_join.specs.Answers.{answer_to, Puts, TellsOpening, TellsFragment};
 
 use crate::answers::{Found, Put, StoreFault};
@@ -41,7 +41,7 @@ impl Model for Store {
 
     ghost coded = { coded_store };
 
-    ghost use Rattle.log_join.specs.Contents.{view_of, Fits};
+    ghost use Rattle.log_join.specs.machinery.Contents.{view_of, Fits};
 
     ghost view = { λ s. view_of s.guest s.shelves };
 

@@ -8,7 +8,7 @@ use Rattle.input_log.specs.declared.Input.{Input as HartInput}
 use Rattle.input_log.specs.Inputs.{inputs_of}
 use Rattle.input_log.specs.Notes.{NotesOfOne, notes_of}
 use Rattle.page_book.specs.Books.{BookView}
-use Rattle.page_book.specs.Words.{counts_of, RecordingView}
+use Rattle.page_book.specs.machinery.Words.{counts_of, RecordingView}
 use Rattle.fragment_codec.specs.declared.types.TheConstants.{RECORD_LIMIT, SPAN_LIMIT}
 use Rattle.fragment_codec.specs.declared.types.Record.TheVariants.{Edge as EdgeRecord, Input as InputRecord}
 use Rattle.fragment_codec.specs.declared.frame.Frame.{Frame}

@@ -4,8 +4,8 @@ ghost use Rattle.std.specs.Prelude.{◌≡◌, ℕ, ◌≤◌, ◌<◌, length, 
 ghost use Rattle.ft_types.specs.Counts.{IsWithin, count_at};
 ghost use Rattle.fragment_codec.specs.Rules.{count_of, AreInOrder, IsFragment};
 ghost use Rattle.log_pieces.specs.Pieces.{AreEdgesOf, AreInputsOf, IsCut, hart_log, book_log, mark_of};
-ghost use Rattle.page_book.specs.Words.{counts_of};
-ghost use Rattle.log_pieces.specs.Cutting.{MayCut, CutsHart, end_of, log_of_records};
+ghost use Rattle.page_book.specs.machinery.Words.{counts_of};
+ghost use Rattle.log_pieces.specs.machinery.Cutting.{MayCut, CutsHart, end_of, log_of_records};
 
 use crate::merging::records_between;
 use crate::sealed::Sealed;

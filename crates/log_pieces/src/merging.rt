@@ -12,7 +12,7 @@ ghost use Rattle.fragment_codec.specs.declared.types.Record.TheVariants.{Note as
 ghost use Rattle.fragment_codec.specs.Rules.{AreInOrder, count_of};
 ghost use Rattle.fragment_codec.specs.Facts.{note_in, told_by, is_between, facts_between};
 ghost use Rattle.log_pieces.specs.Pieces.{AreEdgesOf, AreInputsOf};
-ghost use Rattle.log_pieces.specs.Cutting.{AreLogged, StandBetween, IsFirst};
+ghost use Rattle.log_pieces.specs.machinery.Cutting.{AreLogged, StandBetween, IsFirst};
 
 use edge_log::{Edge, EdgeLog};
 use fragment_codec::Record;

@@ -3,7 +3,7 @@
 ghost use Rattle.std.specs.Prelude.{◌≡◌, ℕ, ◌+◌, ◌<◌, ◌≤◌, ◌^◌, ◌↔◌, length, slice_index, slice_set, IsTrue, IsSome, IfSome};
 ghost use Rattle.ft_types.specs.Counts.{count_at, IsWithin};
 ghost use Rattle.log_pieces.specs.Pieces.{mark_of};
-ghost use Rattle.log_pieces.specs.Cutting.{ArePlaces};
+ghost use Rattle.log_pieces.specs.machinery.Cutting.{ArePlaces};
 
 use ft_types::{COUNT_LIMIT, Count, Counts, HART_ROW, Hart};
 use std::marker::Model;
@@ -17,7 +17,7 @@ pub struct Sealed {
 
 impl Model for Sealed {
     ghost use Rattle.log_pieces.specs.Pieces.{SealedView};
-    ghost use Rattle.log_pieces.specs.Cutting.{ArePlaces};
+    ghost use Rattle.log_pieces.specs.machinery.Cutting.{ArePlaces};
 
     ghost Value = { SealedView };
 

@@ -17,7 +17,7 @@ use Rattle.log_streams.specs.declared.faults.StreamsFault.{StreamsFault}
 use Rattle.log_streams.specs.declared.faults.StreamsFault.TheVariants.{Read, Frame, Guest, Replay, Write, Memory}
 use Rattle.log_streams.specs.Streams.{Says, SayAll, Breaks, GoesOnWith, OfStream, OfStreams, AreJoined}
 use Rattle.log_streams.specs.Faults.{IsFaultOfStream, IsFirstFault, IsBehind, Fails, GaveRight}
-use Rattle.log_streams.specs.Reading.{Takes, Told, Refused}
+use Rattle.log_streams.specs.machinery.Reading.{Takes, Told, Refused}
 use Rattle.log_streams.proofs.StreamLemmas.{come_more, same_guest_comes}
 
 -- a fault lasts, however the bytes go on

@@ -21,7 +21,7 @@ use Rattle.log_join.specs.Coming.{Come}
 use Rattle.log_streams.specs.Faults.{IsFaultOfStream, Fails}
 use Rattle.log_streams.specs.Faults.{GaveRight}
 use Rattle.fragment_codec.proofs.bytes.Heads.{partial_nothing}
-use Rattle.log_streams.specs.Reading.{Takes, IsFaultOf, IsFaultAmong, fault_at, fault_in, IsPushFault, Told, Refused}
+use Rattle.log_streams.specs.machinery.Reading.{Takes, IsFaultOf, IsFaultAmong, fault_at, fault_in, IsPushFault, Told, Refused}
 use Rattle.log_streams.proofs.Lists.{all_append, all_back}
 
 pub on_ok : {A E P Q : Type 0} (r : Result A E) → (P → Q) → OnOk r P → OnOk r Q

@@ -1,9 +1,9 @@
 pub mod Streams
 pub mod Faults
-pub mod Reading
 pub mod Outcome
 pub mod Primary
 pub mod Ends
 pub mod Honest
 pub mod Writing
 pub mod Stores
+pub mod machinery

@@ -6,7 +6,7 @@ ghost use Rattle.fragment_codec.specs.Streams.{Follows};
 ghost use Rattle.log_join.specs.Stores.{StoreView, IsJoin, alone};
 ghost use Rattle.log_streams.specs.Streams.{IsOf, OfStreams, AreJoined};
 ghost use Rattle.log_streams.specs.Faults.{IsFirstFault, Fails, IsBehind, GaveRight};
-ghost use Rattle.log_streams.specs.Reading.{Takes, IsFaultOf, IsFaultAmong, fault_at, fault_in, IsPushFault, Told, Refused};
+ghost use Rattle.log_streams.specs.machinery.Reading.{Takes, IsFaultOf, IsFaultAmong, fault_at, fault_in, IsPushFault, Told, Refused};
 
 use crate::faults::StreamsFault;
 use fragment_codec::{Feed, Frame, FrameFault};

@@ -10,7 +10,7 @@ use Rattle.ft_types.specs.Counts.{count_at}
 use Rattle.ft_types.specs.declared.output.Output.{Output}
 use Rattle.output_gate.specs.Gates.{holder_count, is_held, is_not_held}
 use Rattle.output_gate.specs.Orders.{ComesAfter, AreInLine}
-use Rattle.output_gate.specs.Lines.{IsFront}
+use Rattle.output_gate.specs.machinery.Lines.{IsFront}
 use Rattle.output_gate.proofs.Alls.{all_so}
 
 above_earlier : (n early late : ℕ) → early ≤ late → cond (nat_lt late n) 1 0 ≤ cond (nat_lt early n) 1 0

@@ -14,7 +14,7 @@ use Rattle.ft_types.specs.declared.output.Output.{Output}
 use Rattle.ft_types.specs.declared.names.TheConstants.{HART_LIMIT, HART_ROW, KEEPER_LIMIT, KEEPER_ROW}
 use Rattle.output_gate.specs.Gates.{LineView, fresh_line, offered_in, with_offer, is_held, is_not_held, after_release}
 use Rattle.output_gate.specs.Orders.{ComesAfter, AreInLine, NoneIsBefore, StepsRise, IsBefore, AreBehind, IsNext, AreUpTo, IsLineOf}
-use Rattle.output_gate.specs.Lines.{IsGate}
+use Rattle.output_gate.specs.machinery.Lines.{IsGate}
 use Rattle.output_gate.proofs.Alls.{all_so, all_both, all_join, all_front, all_back}
 use Rattle.output_gate.proofs.Fronts.{held_first}
 use Rattle.output_gate.proofs.Orders.{rise-filter, rise_join}

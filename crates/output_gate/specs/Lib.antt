@@ -1,4 +1,4 @@
 pub mod Gates
-pub mod Lines
 pub mod Looks
 pub mod Orders
+pub mod machinery

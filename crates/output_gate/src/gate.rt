@@ -47,7 +47,7 @@ impl Drop for Gate {
 
 impl Model for Gate {
     ghost use Rattle.output_gate.specs.Gates.{GateView};
-    ghost use Rattle.output_gate.specs.Lines.{IsGate};
+    ghost use Rattle.output_gate.specs.machinery.Lines.{IsGate};
 
     ghost Value = { GateView };
 

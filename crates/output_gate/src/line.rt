@@ -5,7 +5,7 @@ ghost use Rattle.ft_types.specs.declared.names.TheConstants.{COUNT_LIMIT};
 ghost use Rattle.ft_types.specs.declared.output.Output.{Output as output_of_specs};
 ghost use Rattle.output_gate.specs.Gates.{fresh_line, offered_in, with_offer, is_held, is_not_held, after_release};
 ghost use Rattle.output_gate.specs.Orders.{AreInLine, IsNext, AreUpTo};
-ghost use Rattle.output_gate.specs.Lines.{IsFront};
+ghost use Rattle.output_gate.specs.machinery.Lines.{IsFront};
 
 use crate::notes::keepers_above;
 use ft_types::{Count, HART_ROW, KEEPER_ROW, Memory, Output};

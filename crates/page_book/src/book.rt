@@ -3,10 +3,10 @@
 ghost use Rattle.std.specs.Prelude.{All, ◌≡◌, ◌≢◌, ◌<◌, ◌≤◌, ◌⊎◌, ◌+◌, ◌↔◌, ◌++◌, ◌∷◌, ℕ, List, [], length, replicate, map, slice_set, slice_get};
 ghost use Rattle.std.specs.Prelude.{slice_index, slice_index_or, Some, None, Ok, Err, true, false, IfOk, IfErr, IfSome, OnOk, OnErr, IsTrue, IsOk, min};
 ghost use Rattle.std.specs.Vec.{vec_len, vec_capacity};
-ghost use Rattle.page_book.specs.Words.{added, asked_by, base_at, BeginsSchedule, count_at, counts_of, edges_after, fresh, given_more, greater, HasHonestLog, HasUnmet};
-ghost use Rattle.page_book.specs.Words.{heard_by, inputs_of, is_bell, IsAsking, IsBareLease, IsBetween, IsFull, IsInputOf, IsLentBy};
-ghost use Rattle.page_book.specs.Words.{IsMember, IsMet, IsOffered, IsUnused, laid, laid_pages, LeadsTo, LeaseView, lent_with, nothing_taken, open_at};
-ghost use Rattle.page_book.specs.Words.{OpenView, RecordingView, row_of, slot_at, want_of, whole_in, with_page, with_slot};
+ghost use Rattle.page_book.specs.machinery.Words.{added, asked_by, base_at, BeginsSchedule, count_at, counts_of, edges_after, fresh, given_more, greater, HasHonestLog, HasUnmet};
+ghost use Rattle.page_book.specs.machinery.Words.{heard_by, inputs_of, is_bell, IsAsking, IsBareLease, IsBetween, IsFull, IsInputOf, IsLentBy};
+ghost use Rattle.page_book.specs.machinery.Words.{IsMember, IsMet, IsOffered, IsUnused, laid, laid_pages, LeadsTo, LeaseView, lent_with, nothing_taken, open_at};
+ghost use Rattle.page_book.specs.machinery.Words.{OpenView, RecordingView, row_of, slot_at, want_of, whole_in, with_page, with_slot};
 ghost use Rattle.page_book.specs.Books.{BookView, IsOurs, HasTaken, refusal};
 ghost use Rattle.page_book.specs.Reclaims.{EndsOne, EndsFirst, IsBeginning, GoesOnFrom};
 ghost use Rattle.page_book.specs.Answers.{IfHeldBy, OnHeldBy, OnGiven};

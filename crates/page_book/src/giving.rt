@@ -1,7 +1,7 @@
 //! What a lease that is given a page gets.
 
 ghost use Rattle.std.specs.Prelude.{◌≡◌, ◌<◌, ◌≤◌, ◌++◌, ℕ, List, length, replicate, None, Some, IfOk, IfSome, OnOk, OnErr};
-ghost use Rattle.page_book.specs.Words.{base_at, edges_after, fresh, given_more, idle, OpenView, with_page};
+ghost use Rattle.page_book.specs.machinery.Words.{base_at, edges_after, fresh, given_more, idle, OpenView, with_page};
 ghost use Rattle.rv32_hart.specs.Hart.{without_outputs};
 
 use edge_log::Edge;

@@ -2,7 +2,7 @@
 
 ghost use Rattle.std.specs.Prelude.{◌≡◌, ◌≤◌, ◌<◌, ℕ, List, length, map, slice_get, Some};
 ghost use Rattle.std.specs.Vec.{vec_len, vec_capacity};
-ghost use Rattle.page_book.specs.Words.{added, IsBareLease, laid, laid_pages, part_of, slot_at, with_slot};
+ghost use Rattle.page_book.specs.machinery.Words.{added, IsBareLease, laid, laid_pages, part_of, slot_at, with_slot};
 ghost use Rattle.rv32_hart.specs.Hart.{Hart as HartRecord, with_outputs_of, without_outputs};
 
 use ft_types::{Hart, PAGE_LIMIT, PageNo};

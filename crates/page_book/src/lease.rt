@@ -2,7 +2,7 @@
 
 ghost use Rattle.std.specs.Prelude.{◌≡◌, ◌<◌, ◌≤◌, ◌↔◌, ℕ, List, Option, Some, None, length, IfSome, IfNone, IsTrue};
 ghost use Rattle.std.specs.Arc.{arc_value};
-ghost use Rattle.page_book.specs.Words.{base_at, IsBareLease, IsFull, IsLent, LeaseView, MachineState, Runs, slot_at, Taken, Ticks, want_of, whole};
+ghost use Rattle.page_book.specs.machinery.Words.{base_at, IsBareLease, IsFull, IsLent, LeaseView, MachineState, Runs, slot_at, Taken, Ticks, want_of, whole};
 
 use edge_log::Edge;
 use ft_types::{COUNT_LIMIT, Count, Hart, INPUT_LIMIT, PageNo, Want};

@@ -2,7 +2,7 @@
 
 ghost use Rattle.std.specs.Prelude.{◌≡◌, ◌<◌, length, IfOk};
 ghost use Rattle.ack_core.specs.Seats.{IsKeeperOf, IsGateOf};
-ghost use Rattle.rows.specs.Made.{AreKeepersOf, IsOfTwo};
+ghost use Rattle.rows.specs.machinery.Made.{AreKeepersOf, IsOfTwo};
 
 use ack_core::{AckFault, Board, GateSeat, KeeperSeat};
 use ft_types::{Counts, Hart, Keeper, Memory, Position, Term};

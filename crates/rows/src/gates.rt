@@ -3,7 +3,7 @@
 ghost use Rattle.std.specs.Prelude.{◌≡◌, ◌<◌, ℕ, length};
 ghost use Rattle.ack_core.specs.Seats.{IsGateOf};
 ghost use Rattle.output_gate.specs.Gates.{noted_at};
-ghost use Rattle.rows.specs.Made.{IsOfTwo, IsOfThree};
+ghost use Rattle.rows.specs.machinery.Made.{IsOfTwo, IsOfThree};
 
 use crate::boards::{desk, position, publish, told};
 use crate::tables::{all_right, number, row, word};

@@ -4,7 +4,7 @@ ghost use Rattle.std.specs.Prelude.{◌≡◌, ℕ, IfOk};
 ghost use Rattle.ack_core.specs.Seats.{term_of, harts_of, keepers_of, IsKeeperOf, IsGateOf};
 ghost use Rattle.output_gate.specs.Gates.{noted_at};
 ghost use Rattle.output_gate.specs.Looks.{IsSeen};
-ghost use Rattle.rows.specs.Made.{IsOfTwo};
+ghost use Rattle.rows.specs.machinery.Made.{IsOfTwo};
 
 use crate::boards::{desk, position};
 use crate::gates::offer_all;

@@ -5,7 +5,7 @@ use Rattle.std.proofs.lemmas.List.{length-replicate}
 use Rattle.std.proofs.lemmas.List.Folds.{sum_by-replicate}
 use Rattle.ft_types.specs.declared.names.TheConstants.{HART_LIMIT, HART_ROW}
 use Rattle.rv32_hart.specs.declared.registers.Csrs.{Csrs}
-use Rattle.rv32_hart.specs.Kept.{IsKept, IsCounted}
+use Rattle.rv32_hart.specs.machinery.Kept.{IsKept, IsCounted}
 
 none_at : (n hart : ℕ) → slice_index (replicate n 0) hart ≡ 0
 none_at zero hart = refl

@@ -2,15 +2,10 @@ pub mod Arithmetic
 pub mod Ram
 pub mod Hart
 pub mod Csrs
-pub mod Kept
 pub mod Access
 pub mod Step
-pub mod Granted
 pub mod Bells
 pub mod Outputs
-pub mod CountedSteps
-pub mod Local
 pub mod Hardware
-pub mod QuickForms
-pub mod QuickSteps
 pub mod QuietSteps
+pub mod machinery

@@ -3,7 +3,7 @@ ghost use Rattle.std.specs.Prelude.{◌≡◌, ℕ, ◌+◌, ◌-◌, ◌*◌, �
 ghost use Rattle.rv32_hart.specs.Ram.{page_of, may_read, may_write, put, with_page};
 ghost use Rattle.rv32_hart.specs.Access.{load_access, load_device, loaded, load_width, in_ram, page_at, offset_at, store_access, stored, store_width};
 ghost use Rattle.rv32_hart.specs.Access.{device_step, amo_access};
-ghost use Rattle.rv32_hart.specs.Granted.{granted, Goes, GoesAlone};
+ghost use Rattle.rv32_hart.specs.machinery.Granted.{granted, Goes, GoesAlone};
 
 use super::hart_core::HartCore;
 use super::memory_map::{ACK, BELL, HALT, INSEQ, INWORD, OUT, RAM_BASE};

@@ -12,7 +12,7 @@ use Rattle.scripts.proofs.Lines as lines
 use Rattle.scripts.specs.declared.event.Event.{Event}
 use Rattle.scripts.specs.declared.event.Event.TheVariants.{Step, Offer, Seal, Deliver, Join, Acknowledge, Release, Stop, Lose, Grant}
 use Rattle.scripts.specs.Events.{name_of, numbers_of, words_of, spaced_numbers, spaced_words, event_text, AreNumbers, MayHappen, LacksLine}
-use Rattle.scripts.specs.Reading.{SaysNothing}
+use Rattle.scripts.specs.machinery.Reading.{SaysNothing}
 
 -- ---- names
 

@@ -1,4 +1,4 @@
 pub mod Coming
 pub mod Events
-pub mod Reading
 pub mod Script
+pub mod machinery

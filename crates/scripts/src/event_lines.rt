@@ -4,7 +4,7 @@ ghost use Rattle.std.specs.Prelude.{◌≡◌, ◌↔◌, ◌++◌, ◌∷◌, [
 ghost use Rattle.std.specs.Bool.{IsTrue};
 ghost use Rattle.scripts.specs.declared.event.Event.{Event as event_of_specs};
 ghost use Rattle.scripts.specs.Events.{AreNumbers, BeginsWith, LacksLine, MayHappen, event_text};
-ghost use Rattle.scripts.specs.Reading.{Says, SaysNothing};
+ghost use Rattle.scripts.specs.machinery.Reading.{Says, SaysNothing};
 
 use crate::event::Event;
 use crate::fields::{cut, first_field, hart_of, read_hart};

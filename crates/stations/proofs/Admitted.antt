@@ -8,7 +8,7 @@ use Rattle.log_join.specs.Stores.{StoreView, guest_of}
 use Rattle.log_join.specs.declared.answers.Found.{Found}
 use Rattle.log_join.specs.declared.answers.Found.TheVariants.{Absent as FindsNone, One as FindsOne, Clash as FindsClash}
 use Rattle.log_join.specs.declared.answers.Put.TheVariants.{OtherGuest}
-use Rattle.stations.specs.Admitting.{TellsKey, answer_at}
+use Rattle.stations.specs.machinery.Admitting.{TellsKey, answer_at}
 
 pub found_answer : (found : Found) (store : StoreView) (frame : Frame) → TellsKey found store frame → same_guest (guest_of frame) store.guest ≡ true →
     answer_at found frame ≡ answer_to store frame

@@ -1,6 +1,6 @@
-pub mod Admitting
 pub mod Logs
 pub mod Acts
 pub mod Stations
 pub mod Handing
 pub mod Handshake
+pub mod machinery

@@ -1,10 +1,10 @@
 //! What a store will answer to a frame, told before it comes; and the store of a log's frames.
 
 ghost use Rattle.std.specs.Prelude.{◌≡◌, ◌↔◌, IfOk, IsTrue};
-ghost use Rattle.frame_content.specs.Contents.{same_frame};
+ghost use Rattle.frame_content.specs.machinery.Contents.{same_frame};
 ghost use Rattle.log_join.specs.Answers.{answer_to};
 ghost use Rattle.log_join.specs.Stores.{guest_of as guest_in};
-ghost use Rattle.stations.specs.Admitting.{TellsKey, answer_at};
+ghost use Rattle.stations.specs.machinery.Admitting.{TellsKey, answer_at};
 ghost use Rattle.stations.specs.Logs.{IsOf};
 
 use fragment_codec::Frame;

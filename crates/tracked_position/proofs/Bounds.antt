@@ -11,14 +11,14 @@ use Rattle.fragment_codec.specs.Rules.{FragmentParts, OpeningParts}
 use Rattle.log_join.specs.Cells.{One}
 use Rattle.log_join.specs.Stores.{StoreView, IsStore, opening_at}
 use Rattle.closed_cut.specs.Position.{pieces_of, Goes}
-use Rattle.tracked_position.specs.Cuts.{edges_in, Meets, GoesOver, ComeTo, IsLimited, IsCutOf, IsHigh, IsGreatestCut}
-use Rattle.tracked_position.specs.Walks.{cursor_at, IsMetFrom, IsOver, AreOver}
+use Rattle.tracked_position.specs.machinery.Cuts.{edges_in, Meets, GoesOver, ComeTo, IsLimited, IsCutOf, IsHigh, IsGreatestCut}
+use Rattle.tracked_position.specs.machinery.Walks.{cursor_at, IsMetFrom, IsOver, AreOver}
 use Rattle.tracked_position.specs.declared.walk.Cursor.{Cursor}
 use Rattle.tracked_position.specs.declared.walk.Ahead.TheVariants.{Unseen}
 use Rattle.interleaving.specs.Lists as theory
 use Rattle.ft_types.specs.Guests.{GuestParts}
 use Rattle.tracked_position.proofs.Stops.{over_more}
-use Rattle.tracked_position.specs.Waits.{IsHeld, Free, Behind, IsWaiting, room, limited_to}
+use Rattle.tracked_position.specs.machinery.Waits.{IsHeld, Free, Behind, IsWaiting, room, limited_to}
 use Rattle.std.specs.Option.{option_map}
 use Rattle.tracked_position.proofs.Cuts.{own, rises, no_pieces, set_limited, limited_is, limited_le, limited_bound}
 

@@ -19,7 +19,7 @@ use Rattle.log_join.specs.Answers.{answer, answer_to}
 use Rattle.log_join.proofs.Joins.{keys_total, keys_exact, join_absent, one_store}
 use Rattle.ft_types.specs.declared.position.Position.{Position}
 use Rattle.tracked_position.specs.declared.walk.Cursor.{Cursor}
-use Rattle.tracked_position.specs.Keeping.{IsTracked, IsClashAt, IsOneAt}
+use Rattle.tracked_position.specs.machinery.Keeping.{IsTracked, IsClashAt, IsOneAt}
 
 -- ---- where unequal contents came already
 

@@ -16,8 +16,8 @@ use Rattle.log_join.specs.Stores.{StoreView, IsStore, opening_at}
 use Rattle.closed_cut.specs.Position.{pieces_of, Goes, base_of}
 use Rattle.closed_cut.proofs.Walking.{one_same}
 use Rattle.closed_cut.proofs.Reach.{cut_short, goes_above}
-use Rattle.tracked_position.specs.Cuts.{edges_in, Meets, GoesOver, ComesTo, IsLimited, IsCutOf, IsHigh}
-use Rattle.tracked_position.specs.Waits.{limited_to}
+use Rattle.tracked_position.specs.machinery.Cuts.{edges_in, Meets, GoesOver, ComesTo, IsLimited, IsCutOf, IsHigh}
+use Rattle.tracked_position.specs.machinery.Waits.{limited_to}
 use Rattle.std.specs.Option.{option_map}
 
 -- a row with a greater count

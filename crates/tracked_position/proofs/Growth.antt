@@ -26,8 +26,8 @@ use Rattle.closed_cut.proofs.Walking.{one_same, no_place}
 use Rattle.tracked_position.specs.declared.walk.Cursor.{Cursor}
 use Rattle.tracked_position.specs.declared.walk.Ahead.{Ahead}
 use Rattle.tracked_position.specs.declared.walk.Ahead.TheVariants.{Unseen, End, Waits}
-use Rattle.tracked_position.specs.Cuts.{GoesOver, IsCutOf, IsGreatestCut}
-use Rattle.tracked_position.specs.Walks.{EndsAt, IsAhead, IsOver}
+use Rattle.tracked_position.specs.machinery.Cuts.{GoesOver, IsCutOf, IsGreatestCut}
+use Rattle.tracked_position.specs.machinery.Walks.{EndsAt, IsAhead, IsOver}
 use Rattle.tracked_position.proofs.Cuts.{before_end, over_of, goes_rise, rises, own}
 use Rattle.tracked_position.proofs.Stops.{last_end_of}
 

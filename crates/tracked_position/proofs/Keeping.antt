@@ -23,11 +23,11 @@ use Rattle.ft_types.specs.declared.position.Position.{Position}
 use Rattle.closed_cut.proofs.Chains.{sound_opens, zero_row}
 use Rattle.tracked_position.specs.declared.walk.Cursor.{Cursor}
 use Rattle.tracked_position.specs.declared.walk.Ahead.TheVariants.{End}
-use Rattle.tracked_position.specs.Cuts.{IsCutOf}
+use Rattle.tracked_position.specs.machinery.Cuts.{IsCutOf}
 use Rattle.std.specs.Option.{option_map}
-use Rattle.tracked_position.specs.Legs.{IsNext}
-use Rattle.tracked_position.specs.Walks.{cursor_at, EndsAt, IsAhead, IsOver, AreOver, IsApart}
-use Rattle.tracked_position.specs.Keeping.{IsTracked}
+use Rattle.tracked_position.specs.machinery.Legs.{IsNext}
+use Rattle.tracked_position.specs.machinery.Walks.{cursor_at, EndsAt, IsAhead, IsOver, AreOver, IsApart}
+use Rattle.tracked_position.specs.machinery.Keeping.{IsTracked}
 use Rattle.tracked_position.proofs.Cuts.{over_of, goes_same}
 use Rattle.tracked_position.proofs.Growth.{HasOneMore, one_more, GrowsAt, goes_grown, cut_grown, over_grown, to_greatest}
 use Rattle.tracked_position.proofs.Positions.{here_reached, here_chain, here_sound, next_over, chain_grown, sound_grown, no_more, position_same}

@@ -10,8 +10,8 @@ use Rattle.closed_cut.specs.Position.{base_of, IsReached, InChain, Self, Up, Sto
 use Rattle.closed_cut.proofs.Walking.{one_same}
 use Rattle.closed_cut.proofs.Reach.{base_many}
 use Rattle.closed_cut.proofs.Chains.{term_above, sound_parent, chain_up}
-use Rattle.tracked_position.specs.Cuts.{IsCutOf, IsGreatestCut}
-use Rattle.tracked_position.specs.Legs.{IsChild, IsNext}
+use Rattle.tracked_position.specs.machinery.Cuts.{IsCutOf, IsGreatestCut}
+use Rattle.tracked_position.specs.machinery.Legs.{IsChild, IsNext}
 use Rattle.tracked_position.proofs.Cuts.{base_cut}
 use Rattle.tracked_position.proofs.Growth.{from_greatest}
 

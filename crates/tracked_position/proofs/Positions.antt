@@ -11,8 +11,8 @@ use Rattle.ft_types.specs.declared.position.Position.{Position}
 use Rattle.closed_cut.proofs.Walking.{one_same}
 use Rattle.closed_cut.proofs.Chains.{term_above, chain_up}
 use Rattle.std.specs.Option.{option_map}
-use Rattle.tracked_position.specs.Cuts.{IsCutOf}
-use Rattle.tracked_position.specs.Legs.{IsChild, IsNext}
+use Rattle.tracked_position.specs.machinery.Cuts.{IsCutOf}
+use Rattle.tracked_position.specs.machinery.Legs.{IsChild, IsNext}
 use Rattle.tracked_position.proofs.Growth.{GrowsAt, cut_grown, to_greatest, from_greatest}
 
 -- ---- chains

@@ -10,8 +10,8 @@ use Rattle.fragment_codec.specs.Facts.{edge_in}
 use Rattle.std.proofs.lemmas.List.Elements.{Contains-append_cases, Contains-append_left, Contains-append_right, filter_map-append}
 use Rattle.interleaving.proofs.Cuts.{here, here_or_later}
 use Rattle.edge_log.specs.declared.Edge.{Edge}
-use Rattle.tracked_position.specs.Cuts.{Meets}
-use Rattle.tracked_position.specs.Walks.{IsLeastUnmet}
+use Rattle.tracked_position.specs.machinery.Cuts.{Meets}
+use Rattle.tracked_position.specs.machinery.Walks.{IsLeastUnmet}
 
 -- an edge of these that is not met, at the count below which all are
 pub record IsLeastYet (edges : List Edge) (cut : ℕ → ℕ) (ceiling below : ℕ) (e : Edge) : Type 0 where

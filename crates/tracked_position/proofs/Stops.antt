@@ -12,9 +12,9 @@ use Rattle.closed_cut.proofs.Walking.{one_same}
 use Rattle.tracked_position.specs.declared.walk.Cursor.{Cursor}
 use Rattle.tracked_position.specs.declared.walk.Ahead.{Ahead}
 use Rattle.tracked_position.specs.declared.walk.Ahead.TheVariants.{Unseen, End, Waits}
-use Rattle.tracked_position.specs.Cuts.{edges_in, Meets, GoesOver, ComesTo}
-use Rattle.tracked_position.specs.Walks.{GoesTo, StopsBefore, EndsAt, IsAhead, IsOver, stop_count, other_of}
-use Rattle.tracked_position.specs.Waits.{IsWaiting, limited_to}
+use Rattle.tracked_position.specs.machinery.Cuts.{edges_in, Meets, GoesOver, ComesTo}
+use Rattle.tracked_position.specs.machinery.Walks.{GoesTo, StopsBefore, EndsAt, IsAhead, IsOver, stop_count, other_of}
+use Rattle.tracked_position.specs.machinery.Waits.{IsWaiting, limited_to}
 use Rattle.std.specs.Option.{option_map}
 use Rattle.ft_types.specs.Counts.{count_at}
 use Rattle.tracked_position.proofs.Cuts.{before_end, over_of, goes_rise, rises, own, end_count}

@@ -8,8 +8,8 @@ use Rattle.closed_cut.proofs.Walking.{one_same, goes_on}
 use Rattle.tracked_position.specs.declared.walk.Cursor.{Cursor}
 use Rattle.tracked_position.specs.declared.walk.Ahead.{Ahead}
 use Rattle.tracked_position.specs.declared.walk.Ahead.TheVariants.{Unseen, Waits}
-use Rattle.tracked_position.specs.Cuts.{edges_in, Meets}
-use Rattle.tracked_position.specs.Walks.{GoesTo, StopsBefore, EndsAt, IsFacing, IsAhead, ahead_of}
+use Rattle.tracked_position.specs.machinery.Cuts.{edges_in, Meets}
+use Rattle.tracked_position.specs.machinery.Walks.{GoesTo, StopsBefore, EndsAt, IsFacing, IsAhead, ahead_of}
 
 pub goes_nowhere : (pieces : ℕ → Cell FragmentParts) (cut : ℕ → ℕ) (ceiling : ℕ) (at : Cursor) → GoesTo pieces cut ceiling at at
 goes_nowhere pieces cut ceiling at =

@@ -1,5 +1,1 @@
-pub mod Cuts
-pub mod Walks
-pub mod Waits
-pub mod Legs
-pub mod Keeping
+pub mod machinery

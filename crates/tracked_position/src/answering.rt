@@ -3,7 +3,7 @@
 ghost use Rattle.std.specs.Prelude.{◌≡◌, ◌↔◌, IsTrue};
 ghost use Rattle.log_join.specs.Answers.{answer_to};
 ghost use Rattle.fragment_codec.specs.declared.frame.Frame.{Frame as frame_of_specs};
-ghost use Rattle.tracked_position.specs.Keeping.{IsClashAt};
+ghost use Rattle.tracked_position.specs.machinery.Keeping.{IsClashAt};
 
 use fragment_codec::{Fragment, Frame, Opening};
 use frame_content::{is_same_fragment, is_same_opening};

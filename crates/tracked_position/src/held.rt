@@ -1,7 +1,7 @@
 //! Whether each hart that waits, waits at last for one that goes no further anyhow.
 
 ghost use Rattle.std.specs.Prelude.{◌≡◌, ◌↔◌, ℕ, true, false, All, IsTrue, slice_index_or};
-ghost use Rattle.tracked_position.specs.Waits.{IsHeld};
+ghost use Rattle.tracked_position.specs.machinery.Waits.{IsHeld};
 
 use ft_types::{HART_ROW, Hart};
 use std::option::Option;

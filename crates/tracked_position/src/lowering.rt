@@ -6,9 +6,9 @@ ghost use Rattle.ft_types.specs.Counts.{count_at};
 ghost use Rattle.log_join.specs.Cells.{One};
 ghost use Rattle.log_join.specs.Stores.{opening_at, IsStore};
 ghost use Rattle.closed_cut.specs.Position.{base_of, pieces_of, Goes};
-ghost use Rattle.tracked_position.specs.Cuts.{IsCutOf, IsHigh, IsGreatestCut};
-ghost use Rattle.tracked_position.specs.Walks.{cursor_at, AreOver, IsMetFrom};
-ghost use Rattle.tracked_position.specs.Waits.{total};
+ghost use Rattle.tracked_position.specs.machinery.Cuts.{IsCutOf, IsHigh, IsGreatestCut};
+ghost use Rattle.tracked_position.specs.machinery.Walks.{cursor_at, AreOver, IsMetFrom};
+ghost use Rattle.tracked_position.specs.machinery.Waits.{total};
 
 use crate::raising::limited;
 use crate::walk::{Cursor, walk_on};

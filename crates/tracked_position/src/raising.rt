@@ -7,9 +7,9 @@ ghost use Rattle.interleaving.specs.Lists as theory;
 ghost use Rattle.log_join.specs.Cells.{One};
 ghost use Rattle.log_join.specs.Stores.{opening_at, IsStore};
 ghost use Rattle.closed_cut.specs.Position.{base_of, pieces_of};
-ghost use Rattle.tracked_position.specs.Cuts.{IsCutOf, IsGreatestCut};
-ghost use Rattle.tracked_position.specs.Walks.{IsOver, AreOver};
-ghost use Rattle.tracked_position.specs.Waits.{IsWaiting, room, limited_to};
+ghost use Rattle.tracked_position.specs.machinery.Cuts.{IsCutOf, IsGreatestCut};
+ghost use Rattle.tracked_position.specs.machinery.Walks.{IsOver, AreOver};
+ghost use Rattle.tracked_position.specs.machinery.Waits.{IsWaiting, room, limited_to};
 
 use crate::held::all_held;
 use crate::lowering::lower;

@@ -6,7 +6,7 @@ ghost use Rattle.log_join.specs.Cells.{One};
 ghost use Rattle.log_join.specs.Stores.{opening_at, IsStore};
 ghost use Rattle.closed_cut.specs.Position.{base_of};
 ghost use Rattle.tracked_position.specs.declared.walk.Ahead.TheVariants.{Unseen};
-ghost use Rattle.tracked_position.specs.Walks.{AreOver, cursor_at};
+ghost use Rattle.tracked_position.specs.machinery.Walks.{AreOver, cursor_at};
 
 use crate::walk::{Ahead, Cursor};
 use closed_cut::opening_of;

@@ -11,10 +11,10 @@ ghost use Rattle.log_join.specs.Stores.{StoreView, opening_at, IsStore};
 ghost use Rattle.log_join.specs.Answers.{answer_to};
 ghost use Rattle.closed_cut.specs.Chain.{Sound};
 ghost use Rattle.closed_cut.specs.Position.{base_of, InChain, Stops};
-ghost use Rattle.tracked_position.specs.Cuts.{IsCutOf};
-ghost use Rattle.tracked_position.specs.Walks.{cursor_at, AreOver, IsApart};
-ghost use Rattle.tracked_position.specs.Legs.{IsChild, IsNext};
-ghost use Rattle.tracked_position.specs.Keeping.{Takes, IsTracked};
+ghost use Rattle.tracked_position.specs.machinery.Cuts.{IsCutOf};
+ghost use Rattle.tracked_position.specs.machinery.Walks.{cursor_at, AreOver, IsApart};
+ghost use Rattle.tracked_position.specs.machinery.Legs.{IsChild, IsNext};
+ghost use Rattle.tracked_position.specs.machinery.Keeping.{Takes, IsTracked};
 
 use crate::raising::reach;
 use crate::starting::start;

@@ -5,7 +5,7 @@ ghost use Rattle.fragment_codec.specs.declared.frame.Frame.{Frame as frame_of_sp
 ghost use Rattle.log_join.specs.Stores.{IsJoin, nothing, alone};
 ghost use Rattle.log_join.specs.Answers.{answer_to};
 ghost use Rattle.closed_cut.specs.Position.{IsPosition};
-ghost use Rattle.tracked_position.specs.Keeping.{Takes, IsOneAt, MayGrow};
+ghost use Rattle.tracked_position.specs.machinery.Keeping.{Takes, IsOneAt, MayGrow};
 
 use crate::answering::{answer_of, is_clash_at};
 use crate::starting::{start, unseen};
@@ -44,7 +44,7 @@ impl Model for Tracked {
 
     ghost coded = { coded_store };
 
-    ghost use Rattle.tracked_position.specs.Keeping.{IsTracked};
+    ghost use Rattle.tracked_position.specs.machinery.Keeping.{IsTracked};
 
     ghost view = { λ t. t.store };
 

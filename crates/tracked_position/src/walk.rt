@@ -7,8 +7,8 @@ ghost use Rattle.fragment_codec.specs.Facts.{edge_in};
 ghost use Rattle.ft_types.specs.Counts.{count_at};
 ghost use Rattle.log_join.specs.Stores.{IsStore};
 ghost use Rattle.closed_cut.specs.Position.{pieces_of};
-ghost use Rattle.tracked_position.specs.Cuts.{Meets};
-ghost use Rattle.tracked_position.specs.Walks.{IsLeastUnmet, GoesTo, StopsBefore, EndsAt, IsAhead, stop_count, other_of, ahead_of};
+ghost use Rattle.tracked_position.specs.machinery.Cuts.{Meets};
+ghost use Rattle.tracked_position.specs.machinery.Walks.{IsLeastUnmet, GoesTo, StopsBefore, EndsAt, IsAhead, stop_count, other_of, ahead_of};
 
 use closed_cut::piece_from;
 use edge_log::Edge;

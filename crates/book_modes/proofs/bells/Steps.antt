@@ -20,7 +20,7 @@ use Rattle.rv32_hart.specs.Access.{in_ram, page_at, unless_interrupted}
 use Rattle.rv32_hart.specs.Step.{IsTaken, first_missing, step_wants, effect, effect_on, ram_after}
 use Rattle.rv32_hart.specs.Bells.{IsRungOnce, is_bell_from}
 use Rattle.rv32_hart.specs.Hardware.{hardware}
-use Rattle.rv32_hart.specs.CountedSteps.{effect_counted}
+use Rattle.rv32_hart.specs.machinery.CountedSteps.{effect_counted}
 use Rattle.rv32_hart.proofs.Inputs.{received_apart}
 use Rattle.rv32_hart.proofs.Ringing.{hears_bells, effect_rows}
 use Rattle.hart_lease.specs.Recorded.{system}

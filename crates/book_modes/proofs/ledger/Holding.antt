@@ -10,7 +10,7 @@ use Rattle.interleaving.specs.Lists.{put}
 use Rattle.interleaving.proofs.Put.{same_or_not, put_same, put_other}
 use Rattle.crew_pages.specs.Rights.{Right, Shared, Exclusive, nobody, given, give_up, has_it, stands, IsOwed}
 use Rattle.hart_lease.specs.declared.asked.Asked.{Asked}
-use Rattle.book_modes.specs.Yielding.{yields, yielded}
+use Rattle.book_modes.specs.machinery.Yielding.{yields, yielded}
 
 -- what a hart has and asks for again is as it was
 pub had_given : (r : Right) (hart : ℕ) (want : Want) (n : ℕ) → has_it r hart want ≡ true → given r hart want n ≡ r

@@ -43,7 +43,7 @@ use Rattle.book_modes.proofs.ledger.Dues.{filled_kept}
 use Rattle.hart_lease.proofs.pages.Counts.{stub_fresh, stub_taking}
 use Rattle.hart_lease.proofs.steps.Present.{played_with, present_played}
 use Rattle.hart_lease.proofs.journals.Ledger.{lent_ours}
-use Rattle.book_modes.specs.Yielding.{yielded}
+use Rattle.book_modes.specs.machinery.Yielding.{yielded}
 use Rattle.book_modes.proofs.ledger.Yielding.{still, nobody_stands}
 use Rattle.book_modes.proofs.ledger.MetRights.{met_is}
 

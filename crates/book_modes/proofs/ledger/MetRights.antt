@@ -12,7 +12,7 @@ use Rattle.crew_pages.specs.declared.right.LastWriter.{LastWriter}
 use Rattle.crew_pages.specs.Rights.{Right, Shared, Exclusive, holds, stands, give_up, nobody}
 use Rattle.lease_ledger.proofs.Stays.{stands_holds}
 use Rattle.hart_lease.specs.declared.asked.Asked.{Asked}
-use Rattle.book_modes.specs.Yielding.{yields, yielded}
+use Rattle.book_modes.specs.machinery.Yielding.{yields, yielded}
 use Rattle.book_modes.specs.Recordings.{RecordingView, right_at, right_yielded, right_met}
 
 and_false : (b : Bool) → (b && false) ≡ false

@@ -11,7 +11,7 @@ use Rattle.lease_ledger.proofs.Stays.{stands_holds}
 use Rattle.hart_lease.specs.declared.asked.Asked.{Asked}
 use Rattle.crew_pages.specs.declared.right.PageRight.{PageRight}
 use Rattle.crew_pages.specs.Rights.{right_of}
-use Rattle.book_modes.specs.Yielding.{yielded}
+use Rattle.book_modes.specs.machinery.Yielding.{yielded}
 use Rattle.book_modes.specs.Recordings.{RecordingView, IsGiven, right_at, right_met}
 use Rattle.book_modes.proofs.ledger.MetRights.{met_is}
 

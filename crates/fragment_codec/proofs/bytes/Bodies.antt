@@ -14,8 +14,8 @@ use Rattle.fragment_codec.specs.declared.types.Record.{Record}
 use Rattle.fragment_codec.specs.declared.types.Record.TheVariants.{Edge as EdgeRecord, Input as InputRecord, Note as NoteRecord}
 use Rattle.fragment_codec.specs.Rules.{FragmentParts, OpeningParts, IsFragment, IsOpening, has_note}
 use Rattle.fragment_codec.specs.Spelling.{log_body, opening_body, number, input_bytes, stand_bytes, record_bytes}
-use Rattle.fragment_codec.specs.Reading.{number_at, byte_at, stand_at, harts_limit, is_span, guest_at, input_of, edge_at, heard_at, note_at, record_at, many, place_at}
-use Rattle.fragment_codec.specs.Reading.{rest_of, log_of, opening_of}
+use Rattle.fragment_codec.specs.machinery.Reading.{number_at, byte_at, stand_at, harts_limit, is_span, guest_at, input_of, edge_at, heard_at, note_at, record_at, many, place_at}
+use Rattle.fragment_codec.specs.machinery.Reading.{rest_of, log_of, opening_of}
 use Rattle.fragment_codec.proofs.records.Rules.{FitsInput, FitsStand, FitsRecord, noted_later, records_fit, counts_fit}
 use Rattle.fragment_codec.proofs.bytes.Fields.{IsBytes, bind_some, chosen_some, chosen, guard_then, some_is, Reads, reads_byte, reads_guest, reads16, reads32, reads64}
 use Rattle.fragment_codec.proofs.bytes.Fields.{many_all, many_again, FitsGuest}

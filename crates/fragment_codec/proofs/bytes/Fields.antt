@@ -9,7 +9,7 @@ use Rattle.std.proofs.lemmas.Nat.{le_bytes_2, le_bytes_4, le_bytes_8, from_le_by
 use Rattle.ft_types.specs.Guests.{GuestParts, IsDigest, IsGuest}
 use Rattle.ft_types.specs.declared.names.TheConstants.{HART_LIMIT}
 use Rattle.fragment_codec.specs.Spelling.{number}
-use Rattle.fragment_codec.specs.Reading.{◌>>=◌, number_at, byte_at, digest_at, harts_limit, guest_at, many}
+use Rattle.fragment_codec.specs.machinery.Reading.{◌>>=◌, number_at, byte_at, digest_at, harts_limit, guest_at, many}
 
 abbrev pub IsBytes : List ℕ → Type 0
 IsBytes bytes = (i : ℕ) → slice_index bytes i < 256

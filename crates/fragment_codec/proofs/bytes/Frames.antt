@@ -12,7 +12,7 @@ use Rattle.fragment_codec.specs.declared.frame.Frame.{Frame}
 use Rattle.fragment_codec.specs.declared.frame.Frame.TheVariants.{Log, Opening}
 use Rattle.fragment_codec.specs.Spelling.{number, headed, sealed, log_body, opening_body}
 use Rattle.fragment_codec.specs.Rules.{FragmentParts, OpeningParts, has_note}
-use Rattle.fragment_codec.specs.Reading.{harts_limit, is_span, log_of, opening_of, frame_of}
+use Rattle.fragment_codec.specs.machinery.Reading.{harts_limit, is_span, log_of, opening_of, frame_of}
 use Rattle.fragment_codec.specs.Streams.{Spelled, text_of, spelled, harts_of, HasSpelling, IsSpelled, IsFrame, head_of, HasDigest}
 use Rattle.fragment_codec.proofs.bytes.Heads.{IsHead, head_is, head_bounds}
 use Rattle.fragment_codec.proofs.bytes.Fields.{IsBytes, bind_some, chosen, some_is, IsBytes-drop, IsBytes-take}

@@ -3,7 +3,7 @@ use Rattle.std.proofs.Common.{◌≡◌, ℕ, suc, ◌-◌, ◌+◌, ◌≤◌, 
 use Rattle.std.proofs.lemmas.List.{append-nil}
 use Rattle.fragment_codec.specs.declared.reading.BodyError.{BodyError}
 use Rattle.fragment_codec.specs.declared.reading.BodyError.TheVariants.{Memory, Broken}
-use Rattle.fragment_codec.specs.Reading.{◌>>=◌, Fails, many}
+use Rattle.fragment_codec.specs.machinery.Reading.{◌>>=◌, Fails, many}
 
 module _ {X : Type 0} where
   -- what was read before, and what is still read

@@ -11,7 +11,7 @@ use Rattle.input_log.specs.declared.Input.TheVariants.{Timer, Word, Bell}
 use Rattle.fragment_codec.specs.declared.types.Record.{Record}
 use Rattle.fragment_codec.specs.declared.types.Record.TheVariants.{Edge as EdgeRecord, Input as InputRecord, Note as NoteRecord}
 use Rattle.fragment_codec.specs.Rules.{FragmentParts, OpeningParts, IsFragment, IsOpening, IsRecordOf, count_of, has_note}
-use Rattle.fragment_codec.specs.Slots.{said_after, slot_after, are_right}
+use Rattle.fragment_codec.specs.machinery.Slots.{said_after, slot_after, are_right}
 use Rattle.fragment_codec.proofs.records.Slots.{all_map}
 
 pub are_right-step : (harts hart to at slot said : ℕ) (rs : List Record) (i : ℕ) (r : Record) (n : ℕ) (total : Bool) → i < length rs

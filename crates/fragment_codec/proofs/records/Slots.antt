@@ -15,7 +15,7 @@ use Rattle.fragment_codec.specs.declared.types.Record.{Record}
 use Rattle.fragment_codec.specs.declared.types.Record.TheVariants.{Edge as EdgeRecord, Input as InputRecord, Note as NoteRecord}
 use Rattle.fragment_codec.specs.Rules.{count_of, IsFactOf, IsRecordOf, MayPrecede, AreInOrder, is_input_at, AreRecords}
 use Rattle.fragment_codec.proofs.bytes.Fields.{chosen_some}
-use Rattle.fragment_codec.specs.Slots.{free_slot, is_source, note_slot, said_after, slot_after, if_some, are_right}
+use Rattle.fragment_codec.specs.machinery.Slots.{free_slot, is_source, note_slot, said_after, slot_after, if_some, are_right}
 
 pub all_map : {X : Type 0} (P Q : X → Type 0) → ((x : X) → P x → Q x) → (xs : List X) → AllByRecursion P xs → AllByRecursion Q xs
 all_map P Q f [] h = tt

@@ -5,7 +5,7 @@ use Rattle.fragment_codec.specs.declared.fault.FrameFault.{FrameFault}
 use Rattle.fragment_codec.specs.declared.frame.Frame.{Frame}
 use Rattle.fragment_codec.specs.declared.front.Front.TheVariants.{Whole}
 use Rattle.fragment_codec.specs.Streams.{HasFault, Splits, Keeps, head_of}
-use Rattle.fragment_codec.specs.Fronts.{IsFront, Advances}
+use Rattle.fragment_codec.specs.machinery.Fronts.{IsFront, Advances}
 use Rattle.fragment_codec.proofs.bytes.Heads.{partial_len}
 use Rattle.fragment_codec.proofs.streams.Faults.{fault_more}
 use Rattle.fragment_codec.proofs.streams.Splits.{splits_none, splits_more, splits_front}

@@ -13,7 +13,7 @@ use Rattle.fragment_codec.specs.declared.frame.Frame.TheVariants.{Log, Opening}
 use Rattle.fragment_codec.specs.declared.types.Key.{Key}
 use Rattle.fragment_codec.specs.declared.types.Record.{Record}
 use Rattle.fragment_codec.specs.Rules.{IsKey, AreRecords, FragmentParts, IsFragment, OpeningParts, IsOpening, has_note}
-use Rattle.fragment_codec.specs.Slots.{are_right}
+use Rattle.fragment_codec.specs.machinery.Slots.{are_right}
 use Rattle.fragment_codec.specs.Streams.{Spelled, harts_of, is_noted, is_short, HasSpelling, IsSpelled, IsFrame}
 use Rattle.fragment_codec.proofs.records.Slots.{right_records, records_right}
 

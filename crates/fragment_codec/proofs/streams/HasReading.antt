@@ -7,8 +7,8 @@ use Rattle.fragment_codec.specs.declared.fault.FrameFault.{FrameFault}
 use Rattle.fragment_codec.specs.declared.fault.FrameFault.TheVariants.{Digest, Body}
 use Rattle.fragment_codec.specs.declared.frame.Frame.{Frame}
 use Rattle.fragment_codec.specs.declared.front.Front.TheVariants.{Whole}
-use Rattle.fragment_codec.specs.Fronts.{IsFront, spelled_in}
-use Rattle.fragment_codec.specs.Reading.{frame_of}
+use Rattle.fragment_codec.specs.machinery.Fronts.{IsFront, spelled_in}
+use Rattle.fragment_codec.specs.machinery.Reading.{frame_of}
 use Rattle.fragment_codec.specs.Spelling.{sealed}
 use Rattle.fragment_codec.specs.Streams.{Spelled, text_of, IsSpelled, head_of, IsWhole, HasDigest, IsStuck, HasReading}
 use Rattle.fragment_codec.proofs.bytes.Heads.{head_bounds, head_fault, not_memory}

@@ -12,7 +12,7 @@ use Rattle.fragment_codec.specs.declared.frame.Frame.TheVariants.{Log, Opening}
 use Rattle.fragment_codec.specs.declared.types.Record.{Record}
 use Rattle.fragment_codec.specs.Rules.{FragmentParts, OpeningParts, IsFragment, IsOpening}
 use Rattle.fragment_codec.specs.Spelling.{number, record_bytes, headed, sealed, log_body, opening_body}
-use Rattle.fragment_codec.specs.Reading.{frame_of}
+use Rattle.fragment_codec.specs.machinery.Reading.{frame_of}
 use Rattle.fragment_codec.specs.Streams.{Spelled, text_of, spelled, HasSpelling, IsSpelled, IsFrame, longest_body, is_body_len, head_of}
 use Rattle.fragment_codec.proofs.bytes.Fields.{some_is}
 use Rattle.fragment_codec.proofs.bytes.Heads.{IsHead, head_from, one_size, right_len, most_body}

@@ -4,7 +4,7 @@ use Rattle.std.proofs.lemmas.List.{append-nil}
 use Rattle.fragment_codec.specs.declared.fault.FrameFault.{FrameFault}
 use Rattle.fragment_codec.specs.declared.frame.Frame.{Frame}
 use Rattle.fragment_codec.specs.Streams.{IsPartial, Splits, Unread, Keeps, Follows, HasFault}
-use Rattle.fragment_codec.specs.Fronts.{Advances}
+use Rattle.fragment_codec.specs.machinery.Fronts.{Advances}
 use Rattle.fragment_codec.proofs.streams.Faults.{fault_more}
 use Rattle.fragment_codec.proofs.streams.Splits.{splits_none, splits_more, splits_on}
 

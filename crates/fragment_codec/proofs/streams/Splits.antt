@@ -9,7 +9,7 @@ use Rattle.fragment_codec.specs.declared.frame.Frame.TheVariants.{Log, Opening}
 use Rattle.fragment_codec.specs.declared.front.Front.TheVariants.{Whole}
 use Rattle.fragment_codec.specs.Rules.{has_note}
 use Rattle.fragment_codec.specs.Streams.{Spelled, text_of, is_short, HasSpelling, IsSpelled, version_of, spelling, IsFrame, Splits}
-use Rattle.fragment_codec.specs.Fronts.{IsFront, spelled_in}
+use Rattle.fragment_codec.specs.machinery.Fronts.{IsFront, spelled_in}
 use Rattle.fragment_codec.specs.declared.types.TheConstants.{FIRST_HARTS}
 use Rattle.fragment_codec.proofs.streams.Pieces.{one_reading}
 

@@ -10,7 +10,7 @@ use Rattle.rv32_hart.specs.Ram.{Ram}
 use Rattle.rv32_hart.specs.Hart.{Hart, with_earlier}
 use Rattle.rv32_hart.specs.Step.{IsTaken, IsMissing, IsOutput, OnDone, OnMiss, OnHalted, OnMemory, UnlessDone}
 use Rattle.rv32_hart.specs.Csrs.{receive, received_all}
-use Rattle.rv32_hart.specs.CountedSteps.{effect_counted}
+use Rattle.rv32_hart.specs.machinery.CountedSteps.{effect_counted}
 use Rattle.rv32_hart.specs.Bells.{IsRungOnce}
 use Rattle.rv32_hart.proofs.Earlier.{leaves_earlier}
 use Rattle.rv32_hart.proofs.Ringing.{rings_one}

@@ -8,7 +8,7 @@ use Rattle.rv32_hart.specs.Hart.{Hart}
 use Rattle.rv32_hart.specs.Step.{Contents, IsTaken, effect, ram_after}
 use Rattle.rv32_hart.specs.Csrs.{received_all}
 use Rattle.rv32_hart.specs.Access.{next_step}
-use Rattle.rv32_hart.specs.Local.{step_local}
+use Rattle.rv32_hart.specs.machinery.Local.{step_local}
 use Rattle.rv32_hart.specs.Hardware.{hardware}
 use Rattle.hart_lease.specs.declared.taken.Taken.{Taken}
 use Rattle.guest_image.specs.Machine.{MachineState}

@@ -15,7 +15,7 @@ use Rattle.rv32_hart.specs.Hart.{Hart}
 use Rattle.rv32_hart.specs.Csrs.{received_all}
 use Rattle.rv32_hart.specs.Access.{next_step}
 use Rattle.rv32_hart.specs.Step.{Contents, IsTaken, effect}
-use Rattle.rv32_hart.specs.Local.{step_local}
+use Rattle.rv32_hart.specs.machinery.Local.{step_local}
 use Rattle.rv32_hart.specs.Hardware.{hardware}
 use Rattle.lease_ledger.specs.Ledger as ledger
 use Rattle.lease_ledger.specs.Ledger.{Uses, IsOurs, begin, lent, stepped, present}

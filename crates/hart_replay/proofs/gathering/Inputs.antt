@@ -13,7 +13,7 @@ use Rattle.fragment_codec.specs.declared.types.Record.{Record}
 use Rattle.fragment_codec.specs.declared.types.Record.TheVariants.{Edge as EdgeRecord, Input as InputRecord, Note as NoteRecord}
 use Rattle.fragment_codec.specs.Rules.{FragmentParts, IsFragment, is_input_at}
 use Rattle.hart_replay.specs.Facts.{below, inputs_among}
-use Rattle.hart_replay.specs.Taking.{TakesInputs, InputsEndBelow}
+use Rattle.hart_replay.specs.machinery.Taking.{TakesInputs, InputsEndBelow}
 use Rattle.hart_replay.proofs.gathering.Records.{inputs_more, below_one}
 
 -- a hart's inputs are at no later count

@@ -8,7 +8,7 @@ use Rattle.input_log.proofs.Notings.{greatest_append}
 use Rattle.fragment_codec.specs.declared.types.Record.{Record}
 use Rattle.fragment_codec.specs.declared.types.Record.TheVariants.{Note as NoteRecord}
 use Rattle.hart_replay.specs.Facts.{below, notes_among}
-use Rattle.hart_replay.specs.Taking.{TakesNotes}
+use Rattle.hart_replay.specs.machinery.Taking.{TakesNotes}
 use Rattle.hart_replay.proofs.gathering.Records.{notes_more, below_one}
 
 pub takes_nothing : (hart : ℕ) (old : List ℕ) → TakesNotes hart old [] old

@@ -8,7 +8,7 @@ use Rattle.log_join.specs.Stores.{StoreView, IsStore}
 use Rattle.closed_cut.specs.Position.{pieces_of, Goes}
 use Rattle.closed_cut.proofs.Reach.{goes_above}
 use Rattle.hart_replay.specs.Facts.{records_in, records_of, below, edges_among, inputs_among, notes_among}
-use Rattle.hart_replay.specs.Taking.{TakesEdges, TakesInputs, TakesNotes}
+use Rattle.hart_replay.specs.machinery.Taking.{TakesEdges, TakesInputs, TakesNotes}
 use Rattle.hart_replay.proofs.gathering.Records.{below-append, edges_among-append, inputs_among-append, notes_among-append, takes_both}
 use Rattle.hart_replay.proofs.gathering.Inputs.{takes_both as takes_both_inputs}
 use Rattle.hart_replay.proofs.gathering.Notes.{takes_both as takes_both_notes}

@@ -16,7 +16,7 @@ use Rattle.fragment_codec.specs.declared.types.Record.TheVariants.{Edge as EdgeR
 use Rattle.fragment_codec.specs.Rules.{FragmentParts, IsFragment, IsRecordOf, MayPrecede, AreInOrder, count_of}
 use Rattle.fragment_codec.specs.Facts.{edge_in, input_in, note_in}
 use Rattle.hart_replay.specs.Facts.{below, edges_among, inputs_among, notes_among}
-use Rattle.hart_replay.specs.Taking.{TakesEdges, EdgesEndBy}
+use Rattle.hart_replay.specs.machinery.Taking.{TakesEdges, EdgesEndBy}
 
 -- ---- order
 

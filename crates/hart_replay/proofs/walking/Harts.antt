@@ -19,7 +19,7 @@ use Rattle.log_join.specs.Stores.{StoreView, IsStore}
 use Rattle.closed_cut.specs.Position.{pieces_of, Goes, Avail}
 use Rattle.hart_replay.specs.declared.plans.PlannedLeg.{PlannedLeg}
 use Rattle.hart_replay.specs.Facts.{records_of, below, edges_among, inputs_among, notes_among, HasEdges, HasInputs, HasMarks}
-use Rattle.hart_replay.specs.Taking.{TakesHart}
+use Rattle.hart_replay.specs.machinery.Taking.{TakesHart}
 use Rattle.hart_replay.proofs.gathering.Pieces.{hart_is, harts_are, rules_of}
 
 -- a hart's facts over so many places

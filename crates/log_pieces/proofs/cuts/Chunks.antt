@@ -16,7 +16,7 @@ use Rattle.log_pieces.specs.declared.cutting.Origin.{Origin}
 use Rattle.fragment_codec.specs.Rules.{count_of, FragmentParts, IsFragment, IsFactOf, IsRecordOf, AreRecords}
 use Rattle.fragment_codec.specs.Facts.{told_by, facts_between, is_between, number_of}
 use Rattle.log_pieces.specs.Pieces.{HartLog, Mark, SealedView, mark_of, IsPiece, ArePieces, mark_behind}
-use Rattle.log_pieces.specs.Cutting.{AreLogged, StandBetween, end_of, end_at, log_of_records, MayCut, CutsHart}
+use Rattle.log_pieces.specs.machinery.Cutting.{AreLogged, StandBetween, end_of, end_at, log_of_records, MayCut, CutsHart}
 use Rattle.log_pieces.proofs.cuts.Filters.{filter_all, filter-filter, filter-le-length, length-filter_front, length-filter-le, all_both}
 use Rattle.log_pieces.proofs.cuts.Records.{rising, logged_filter, told_between, number_told, few_at}
 

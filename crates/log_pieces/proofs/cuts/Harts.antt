@@ -20,7 +20,7 @@ use Rattle.fragment_codec.specs.Facts.{Facts, facts_between, is_between, number_
 use Rattle.log_pieces.specs.Pieces.{HartLog, Mark, SealedView, mark_of, IsPiece, ArePieces, mark_behind}
 use Rattle.fragment_codec.specs.Facts.{told_by}
 use Rattle.log_pieces.specs.Pieces.{IsHartCut, IsCut, hart_log}
-use Rattle.log_pieces.specs.Cutting.{CutsHart, log_of_records}
+use Rattle.log_pieces.specs.machinery.Cutting.{CutsHart, log_of_records}
 use Rattle.log_pieces.proofs.cuts.Between.{between_is}
 use Rattle.log_pieces.proofs.cuts.Filters.{filter-filter}
 

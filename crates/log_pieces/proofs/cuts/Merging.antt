@@ -12,7 +12,7 @@ use Rattle.fragment_codec.specs.declared.types.Record.{Record}
 use Rattle.fragment_codec.specs.declared.types.Record.TheVariants.{Edge as EdgeRecord, Input as InputRecord}
 use Rattle.fragment_codec.specs.Rules.{MayPrecede, AreInOrder}
 use Rattle.fragment_codec.specs.Facts.{edge_in, input_in, note_in, told_by}
-use Rattle.log_pieces.specs.Cutting.{IsFirst}
+use Rattle.log_pieces.specs.machinery.Cutting.{IsFirst}
 use Rattle.log_pieces.proofs.cuts.Filters.{all_both}
 
 -- the record may stand before each edge and input that waits

@@ -14,7 +14,7 @@ use Rattle.fragment_codec.specs.declared.types.Record.{Record}
 use Rattle.fragment_codec.specs.declared.types.Record.TheVariants.{Edge as EdgeRecord, Input as InputRecord, Note as NoteRecord}
 use Rattle.fragment_codec.specs.Rules.{count_of, IsFactOf, MayPrecede, AreInOrder, is_input_at}
 use Rattle.fragment_codec.specs.Facts.{edge_in, input_in, note_in, told_by, facts_between, is_between, number_of}
-use Rattle.log_pieces.specs.Cutting.{AreLogged}
+use Rattle.log_pieces.specs.machinery.Cutting.{AreLogged}
 use Rattle.log_pieces.proofs.cuts.Filters.{count_by-filter-le, all_both}
 
 -- ---- order

@@ -1,7 +1,7 @@
 use Rattle.std.proofs.Common.{◌≡◌}
 use Rattle.ft_types.specs.Counts.{count_at}
 use Rattle.crew_pages.specs.Rights.{right_of}
-use Rattle.book_modes.specs.Yielding.{yielded}
+use Rattle.book_modes.specs.machinery.Yielding.{yielded}
 use Rattle.book_modes.proofs.yielding.yield_right.Given as goal
 
 abbrev pub invariant-loop-number : goal.invariant-loop-number

@@ -1,6 +1,6 @@
 use Rattle.std.proofs.Common.{◌≡◌, ◌<◌, ◌^◌, ◌++◌}
 use Rattle.closed_cut.specs.Position.{Goes, pieces_of}
-use Rattle.closed_cut.specs.Walks.{hart_edges}
+use Rattle.closed_cut.specs.machinery.Walks.{hart_edges}
 use Rattle.closed_cut.proofs.gathering.gather.Given as goal
 
 abbrev pub invariant-loop-place : goal.invariant-loop-place

@@ -1,5 +1,5 @@
 use Rattle.std.proofs.Common.{◌≡◌, ◌≤◌}
-use Rattle.closed_cut.specs.Lowering.{IsLoweredTo}
+use Rattle.closed_cut.specs.machinery.Lowering.{IsLoweredTo}
 use Rattle.closed_cut.proofs.Lowerings.{AreStopped}
 use Rattle.closed_cut.proofs.lowering.fall.Given as goal
 

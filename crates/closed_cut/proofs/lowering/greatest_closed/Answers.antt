@@ -1,7 +1,7 @@
 use Rattle.std.proofs.Common.{rules}
 use Rattle.std.proofs.lemmas.List.Sorted.{IsNonDecreasingBy-from_sort_by_key, All-permutation}
 use Rattle.ft_types.specs.Counts.{count_at}
-use Rattle.closed_cut.specs.Lowering.{IsOf}
+use Rattle.closed_cut.specs.machinery.Lowering.{IsOf}
 use Rattle.closed_cut.proofs.Lowerings.{greatest_of_sorted}
 use Rattle.closed_cut.proofs.lowering.greatest_closed.Goals as goal
 

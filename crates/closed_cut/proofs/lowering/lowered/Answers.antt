@@ -3,7 +3,7 @@ use Rattle.std.proofs.lemmas.List.Sums.{sum_by-set}
 use Rattle.std.specs.List.{HoldsAt}
 use Rattle.ft_types.specs.Counts.{count_at}
 use Rattle.ft_types.specs.declared.names.TheConstants.{HART_ROW}
-use Rattle.closed_cut.specs.Lowering.{AreOf}
+use Rattle.closed_cut.specs.machinery.Lowering.{AreOf}
 use Rattle.closed_cut.proofs.Lowerings.{AreStopped, lowered_on, ends_after, stopped_after, closed_after}
 use Rattle.closed_cut.proofs.lowering.lowered.Goals as goal
 

@@ -1,6 +1,6 @@
 use Rattle.std.proofs.Common.{◌≡◌, ◌<◌, ◌≤◌, ℕ, length, get_or, sum_by}
 use Rattle.ft_types.specs.declared.names.TheConstants.{HART_LIMIT, HART_ROW}
-use Rattle.closed_cut.specs.Lowering.{IsLoweredTo}
+use Rattle.closed_cut.specs.machinery.Lowering.{IsLoweredTo}
 use Rattle.closed_cut.proofs.Lowerings.{AreStopped}
 use Rattle.closed_cut.proofs.lowering.lowered.Given as goal
 

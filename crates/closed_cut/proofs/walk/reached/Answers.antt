@@ -1,5 +1,5 @@
 use Rattle.std.proofs.Common.{◌≡◌, ◌<◌, length, sym, ap, subst, arith, ◌∙◌}
-use Rattle.closed_cut.specs.Lowering.{AreOf}
+use Rattle.closed_cut.specs.machinery.Lowering.{AreOf}
 use Rattle.closed_cut.proofs.Reach.{all_gathered, base_many, gathered_none, gathered_more, above_base, are_of, is_reached}
 use Rattle.closed_cut.proofs.walk.reached.Goals as goal
 

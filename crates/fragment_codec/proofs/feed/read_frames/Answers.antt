@@ -1,7 +1,7 @@
 use Rattle.std.proofs.Common.{List, [], ◌∷◌, sym, subst}
 use Rattle.fragment_codec.specs.declared.frame.Frame.{Frame}
 use Rattle.fragment_codec.specs.Streams.{Splits}
-use Rattle.fragment_codec.specs.Fronts.{IsFront}
+use Rattle.fragment_codec.specs.machinery.Fronts.{IsFront}
 use Rattle.fragment_codec.proofs.streams.Splits.{splits_on, splits_front}
 use Rattle.fragment_codec.proofs.feed.read_frames.Goals as goal
 

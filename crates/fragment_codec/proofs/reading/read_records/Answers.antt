@@ -1,4 +1,4 @@
-use Rattle.fragment_codec.specs.Reading.{record_at}
+use Rattle.fragment_codec.specs.machinery.Reading.{record_at}
 use Rattle.fragment_codec.proofs.bytes.Loops.{goes_on, ends, is_done}
 use Rattle.fragment_codec.proofs.reading.read_records.Goals as goal
 

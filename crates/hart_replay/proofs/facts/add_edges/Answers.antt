@@ -4,7 +4,7 @@ use Rattle.fragment_codec.specs.declared.types.Record.{Record}
 use Rattle.fragment_codec.specs.declared.types.Record.TheVariants.{Edge as EdgeRecord, Input as InputRecord}
 use Rattle.fragment_codec.specs.Rules.{count_of, IsRecordOf}
 use Rattle.hart_replay.specs.Facts.{edges_among}
-use Rattle.hart_replay.specs.Taking.{EdgesEndBy}
+use Rattle.hart_replay.specs.machinery.Taking.{EdgesEndBy}
 use Rattle.hart_replay.proofs.gathering.Records.{later, ahead_at, below_none, no_edge, record_at, skips_edge, takes_edge, ends_by, read_at}
 use Rattle.hart_replay.proofs.facts.add_edges.Goals as goal
 use Rattle.hart_replay.proofs.facts.add_edges.Goals.{in-Edge+then-edge-end+in_ok-add, in-Edge+else-edge-end, in_default}

@@ -1,7 +1,7 @@
 use Rattle.std.proofs.Common.{All, take, drop}
 use Rattle.fragment_codec.specs.Rules.{count_of}
 use Rattle.hart_replay.specs.Facts.{below, edges_among}
-use Rattle.hart_replay.specs.Taking.{TakesEdges, EdgesEndBy}
+use Rattle.hart_replay.specs.machinery.Taking.{TakesEdges, EdgesEndBy}
 use Rattle.hart_replay.proofs.facts.add_edges.Given as goal
 
 abbrev pub invariant-loop-record : goal.invariant-loop-record

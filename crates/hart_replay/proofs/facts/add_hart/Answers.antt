@@ -4,7 +4,7 @@ use Rattle.log_join.specs.Cells.{One}
 use Rattle.closed_cut.specs.Position.{pieces_of}
 use Rattle.closed_cut.proofs.Walking.{goes_on, no_place}
 use Rattle.hart_replay.specs.Facts.{below, edges_among, inputs_among, notes_among}
-use Rattle.hart_replay.specs.Taking.{TakesEdges, TakesInputs, TakesNotes}
+use Rattle.hart_replay.specs.machinery.Taking.{TakesEdges, TakesInputs, TakesNotes}
 use Rattle.hart_replay.proofs.gathering.Pieces.{hart_is, harts_are, no_lower, edges_on, inputs_on, notes_on}
 use Rattle.hart_replay.proofs.facts.add_hart.Goals as goal
 

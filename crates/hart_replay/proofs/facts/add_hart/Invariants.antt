@@ -2,7 +2,7 @@ use Rattle.std.proofs.Common.{◌≡◌}
 use Rattle.ft_types.specs.Counts.{count_at}
 use Rattle.closed_cut.specs.Position.{pieces_of, Goes}
 use Rattle.hart_replay.specs.Facts.{below, records_of, edges_among, inputs_among, notes_among}
-use Rattle.hart_replay.specs.Taking.{TakesEdges, EdgesEndBy, TakesInputs, InputsEndBelow, TakesNotes}
+use Rattle.hart_replay.specs.machinery.Taking.{TakesEdges, EdgesEndBy, TakesInputs, InputsEndBelow, TakesNotes}
 use Rattle.hart_replay.proofs.facts.add_hart.Given as goal
 
 abbrev pub invariant-loop-place : goal.invariant-loop-place

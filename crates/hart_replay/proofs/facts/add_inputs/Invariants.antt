@@ -1,7 +1,7 @@
 use Rattle.std.proofs.Common.{All, take, drop}
 use Rattle.fragment_codec.specs.Rules.{count_of}
 use Rattle.hart_replay.specs.Facts.{below, inputs_among}
-use Rattle.hart_replay.specs.Taking.{TakesInputs, InputsEndBelow}
+use Rattle.hart_replay.specs.machinery.Taking.{TakesInputs, InputsEndBelow}
 use Rattle.hart_replay.proofs.gathering.Inputs.{InputsEndBy}
 use Rattle.hart_replay.proofs.facts.add_inputs.Given as goal
 

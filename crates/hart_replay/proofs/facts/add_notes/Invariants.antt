@@ -1,6 +1,6 @@
 use Rattle.std.proofs.Common.{take}
 use Rattle.hart_replay.specs.Facts.{below, notes_among}
-use Rattle.hart_replay.specs.Taking.{TakesNotes}
+use Rattle.hart_replay.specs.machinery.Taking.{TakesNotes}
 use Rattle.hart_replay.proofs.facts.add_notes.Given as goal
 
 abbrev pub invariant-loop-record : goal.invariant-loop-record

@@ -2,7 +2,7 @@ use Rattle.std.proofs.Common.{◌≡◌, ℕ, zero, suc, List, length, replicate
 use Rattle.std.proofs.lemmas.List.{length-replicate}
 use Rattle.ft_types.specs.Counts.{count_at}
 use Rattle.closed_cut.proofs.Reach.{base_many}
-use Rattle.hart_replay.specs.Taking.{TakesHart}
+use Rattle.hart_replay.specs.machinery.Taking.{TakesHart}
 use Rattle.hart_replay.proofs.walking.Harts.{taken_none, taken_more, has_edges, has_inputs, has_marks}
 use Rattle.hart_replay.proofs.planning.leg_to.Goals as goal
 

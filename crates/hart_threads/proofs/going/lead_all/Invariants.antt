@@ -1,4 +1,4 @@
-use Rattle.hart_threads.specs.Going.{IsAt}
+use Rattle.hart_threads.specs.machinery.Going.{IsAt}
 use Rattle.hart_threads.proofs.going.lead_all.Given as goal
 
 abbrev pub invariant-loop-number : goal.invariant-loop-number

@@ -5,7 +5,7 @@ use Rattle.guest_image.specs.Machine.{MachineState}
 use Rattle.hart_lease.specs.Runs.{counts_of}
 use Rattle.book_modes.specs.Recordings.{RecordingView}
 use Rattle.page_book.specs.Books.{BookView}
-use Rattle.lease_rounds.specs.SoFar.{IsRestOf}
+use Rattle.lease_rounds.specs.machinery.SoFar.{IsRestOf}
 use Rattle.lease_rounds.proofs.Offered.{offered_on}
 use Rattle.hart_threads.proofs.Picking.{ended_rest, limited_rest, machine_stays, offered_stays, rest_goes_on}
 use Rattle.hart_threads.proofs.runs.finish.Goals as goal

@@ -5,7 +5,7 @@ use Rattle.book_modes.specs.Recordings.{RecordingView, GoesOn}
 use Rattle.page_book.specs.Books.{BookView}
 use Rattle.page_book.specs.Reclaims.{GoesOnFrom}
 use Rattle.lease_rounds.specs.Running.{Continues, GoToBudget, KeepsOffered}
-use Rattle.lease_rounds.specs.SoFar.{HasRun, IsRestOf}
+use Rattle.lease_rounds.specs.machinery.SoFar.{HasRun, IsRestOf}
 use Rattle.lease_rounds.proofs.Leasing.{free_alone}
 use Rattle.lease_rounds.proofs.Onward.{runs_on}
 use Rattle.lease_rounds.proofs.RoundByRound.{continues_on}

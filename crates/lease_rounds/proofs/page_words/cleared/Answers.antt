@@ -1,6 +1,6 @@
 use Rattle.std.proofs.Common.{rules}
 use Rattle.ft_types.proofs.Zips.{zips_more}
-use Rattle.lease_rounds.specs.Flags.{left_of}
+use Rattle.lease_rounds.specs.machinery.Flags.{left_of}
 use Rattle.lease_rounds.proofs.page_words.cleared.Goals as goal
 
 pub loop-place-preserved : goal.loop-place-preserved

@@ -1,6 +1,6 @@
 use Rattle.std.proofs.Common.{◌≡◌, ◌<◌, ◌↔◌, ◌/◌, ℕ, List, replicate, slice_set, sym, subst, arith}
 use Rattle.lease_rounds.proofs.Masks.{Member, one_has, one_words}
-use Rattle.lease_rounds.specs.Flags.{AreWords}
+use Rattle.lease_rounds.specs.machinery.Flags.{AreWords}
 use Rattle.lease_rounds.proofs.page_words.one_page.Goals as goal
 
 pub returns-clause-one : goal.returns-clause-one

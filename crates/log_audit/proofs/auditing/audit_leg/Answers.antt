@@ -1,6 +1,6 @@
 use Rattle.std.proofs.Common.{subst}
 use Rattle.log_audit.specs.declared.legs.Ended.{Ended}
-use Rattle.log_audit.specs.Turns.{Ends}
+use Rattle.log_audit.specs.machinery.Turns.{Ends}
 use Rattle.log_audit.proofs.Ending.{ends_agree, ends_short}
 use Rattle.log_audit.proofs.auditing.audit_leg.Goals as goal
 

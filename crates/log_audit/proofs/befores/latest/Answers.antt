@@ -3,7 +3,7 @@ use Rattle.std.proofs.lemmas.Bool.{leb-true, leb-false}
 use Rattle.std.proofs.lemmas.List.Sorted.{IsPartitionPoint-from_clause, IsPartitionedBy-leb}
 use Rattle.std.proofs.lemmas.List.{get_or_default}
 use Rattle.log_audit.specs.declared.befores.Before.{Before}
-use Rattle.log_audit.specs.Befores.{steps_in_front, no_steps}
+use Rattle.log_audit.specs.machinery.Befores.{steps_in_front, no_steps}
 use Rattle.log_audit.proofs.Rising.{rising_by}
 use Rattle.log_audit.proofs.befores.latest.Goals as goal
 

@@ -1,5 +1,5 @@
 use Rattle.std.proofs.Common.{◌≡◌}
-use Rattle.log_audit.specs.Covered.{IsOn, steps_left}
+use Rattle.log_audit.specs.machinery.Covered.{IsOn, steps_left}
 use Rattle.log_audit.proofs.legs.go_on.Given as goal
 
 abbrev pub invariant-loop-clash : goal.invariant-loop-clash

@@ -1,7 +1,7 @@
 use Rattle.std.proofs.Common.{Option, IfNone, subst, sym}
 use Rattle.log_audit.specs.declared.harts.Clash.{Clash}
-use Rattle.log_audit.specs.Covered.{HartsView, IsOn}
-use Rattle.log_audit.specs.Turns.{HasStopped}
+use Rattle.log_audit.specs.machinery.Covered.{HartsView, IsOn}
+use Rattle.log_audit.specs.machinery.Turns.{HasStopped}
 use Rattle.log_audit.proofs.Beginning.{begun_on}
 use Rattle.log_audit.proofs.Rounds.{stops}
 use Rattle.log_audit.proofs.legs.run_leg.Goals as goal

@@ -1,5 +1,5 @@
 use Rattle.std.proofs.Common.{◌≡◌, replicate}
-use Rattle.log_audit.specs.Marks.{unused}
+use Rattle.log_audit.specs.machinery.Marks.{unused}
 use Rattle.log_audit.proofs.marks.no_uses.Given as goal
 
 abbrev pub invariant-loop-page : goal.invariant-loop-page

@@ -1,7 +1,7 @@
 use Rattle.std.proofs.Common.{◌≡◌, ◌∙◌, ap, sym, take, ◌+◌}
 use Rattle.std.specs.Prelude.{◌||◌}
 use Rattle.std.specs.BTreeMap.{get}
-use Rattle.log_join.specs.Contents.{copied, is_among}
+use Rattle.log_join.specs.machinery.Contents.{copied, is_among}
 use Rattle.log_join.proofs.Maps.{none_of_part, among_more, copied_again}
 use Rattle.std.specs.Ordering.{eq_by_cmp}
 use Rattle.log_join.proofs.shelf.copy_at.Goals as goal

@@ -1,6 +1,6 @@
 use Rattle.std.proofs.Common.{◌≡◌, take}
 use Rattle.std.specs.BTreeMap.{get}
-use Rattle.log_join.specs.Contents.{is_among, copied}
+use Rattle.log_join.specs.machinery.Contents.{is_among, copied}
 use Rattle.log_join.proofs.shelf.copy_at.Given as goal
 
 abbrev pub invariant-loop-key : goal.invariant-loop-key

@@ -4,7 +4,7 @@ use Rattle.std.specs.Map.{lookup, keys_of}
 use Rattle.std.specs.List.Sorted.{IsStrictlySortedBy}
 use Rattle.std.proofs.lemmas.Map.Keys.{sorted_tail}
 use Rattle.frame_content.specs.declared.content.Content.{Content}
-use Rattle.log_join.specs.Contents.{marked}
+use Rattle.log_join.specs.machinery.Contents.{marked}
 use Rattle.log_join.proofs.Maps.{marked_front, marked_none}
 use Rattle.log_join.proofs.shelf.mark_clashes.Goals as goal
 

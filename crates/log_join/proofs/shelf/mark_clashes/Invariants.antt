@@ -2,7 +2,7 @@ use Rattle.std.proofs.Common.{◌≡◌}
 use Rattle.std.specs.List.Sorted.{IsStrictlySortedBy}
 use Rattle.std.specs.Map.{keys_of, lookup}
 use Rattle.std.specs.BTreeMap.{get, is_at}
-use Rattle.log_join.specs.Contents.{marked}
+use Rattle.log_join.specs.machinery.Contents.{marked}
 use Rattle.log_join.proofs.shelf.mark_clashes.Given as goal
 
 -- what is left, joined to what is here, is what is there, joined to what was here

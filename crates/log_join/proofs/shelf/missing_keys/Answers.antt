@@ -3,7 +3,7 @@ use Rattle.std.specs.Prelude.{◌||◌, is_some}
 use Rattle.std.specs.BTreeMap.{get, keys}
 use Rattle.std.specs.Ordering.{eq_by_cmp}
 use Rattle.std.proofs.lemmas.List.Folds.{list_any-append}
-use Rattle.log_join.specs.Contents.{is_among}
+use Rattle.log_join.specs.machinery.Contents.{is_among}
 use Rattle.log_join.proofs.Maps.{or_false, passed, picked, tied_get, among_keys}
 use Rattle.log_join.proofs.shelf.missing_keys.Goals as goal
 

@@ -1,7 +1,7 @@
 use Rattle.std.proofs.Common.{◌≡◌, ◌&&◌, not, is_some}
 use Rattle.std.specs.Prelude.{◌||◌}
 use Rattle.std.specs.BTreeMap.{get, keys}
-use Rattle.log_join.specs.Contents.{is_among}
+use Rattle.log_join.specs.machinery.Contents.{is_among}
 use Rattle.log_join.proofs.shelf.missing_keys.Given as goal
 
 -- the keys so far, and those that are left and missing, are those that are missing

@@ -1,7 +1,7 @@
 use Rattle.std.proofs.Common.{◌≡◌, take, cond}
 use Rattle.std.specs.Prelude.{None}
 use Rattle.std.specs.BTreeMap.{get}
-use Rattle.log_join.specs.Contents.{is_among}
+use Rattle.log_join.specs.machinery.Contents.{is_among}
 use Rattle.log_join.proofs.shelf.remove_at.Given as goal
 
 abbrev pub invariant-loop-key : goal.invariant-loop-key

@@ -3,7 +3,7 @@ use Rattle.std.proofs.lemmas.List.{get_or_past}
 use Rattle.log_pieces.specs.declared.cutting.Origin.{Origin}
 use Rattle.fragment_codec.specs.Facts.{told_by}
 use Rattle.log_pieces.specs.Pieces.{hart_log}
-use Rattle.log_pieces.specs.Cutting.{log_of_records, StandBetween}
+use Rattle.log_pieces.specs.machinery.Cutting.{log_of_records, StandBetween}
 use Rattle.log_pieces.proofs.cuts.Harts.{HartsCut, hart_cut, log_is, all_cut}
 use Rattle.log_pieces.proofs.cutting.cut_logs.Goals as goal
 

@@ -1,5 +1,5 @@
 use Rattle.std.proofs.Common.{arith, length, ap, subst, ◌∙◌}
-use Rattle.log_pieces.specs.Cutting.{IsFirst}
+use Rattle.log_pieces.specs.machinery.Cutting.{IsFirst}
 use Rattle.log_pieces.proofs.cuts.Merging.{merges_nothing, turn_at_edge, turn_at_input, less_edges, less_inputs, merging_ends}
 use Rattle.log_pieces.proofs.merging.merged.Goals as goal
 use Rattle.log_pieces.proofs.merging.merged.Goals.{in-Edge, in-Input}

@@ -2,7 +2,7 @@ use Rattle.std.proofs.Common.{◌≡◌, [], ◌∷◌, ◌++◌, List, sym, ap,
 use Rattle.std.specs.Vec.Iter.{into_iter_items}
 use Rattle.std.proofs.lemmas.Result.{err_from_is_err_and}
 use Rattle.fragment_codec.specs.declared.frame.Frame.{Frame}
-use Rattle.log_streams.specs.Reading.{Takes}
+use Rattle.log_streams.specs.machinery.Reading.{Takes}
 use Rattle.log_streams.proofs.StreamLemmas.{takes_one, taken_among}
 use Rattle.log_streams.proofs.reading.put_all.Goals as goal
 

@@ -2,7 +2,7 @@ use Rattle.std.proofs.Common.{◌≡◌, List, ◌++◌}
 use Rattle.std.specs.Vec.Iter.{into_iter_items}
 use Rattle.fragment_codec.specs.declared.frame.Frame.{Frame}
 use Rattle.log_join.specs.Stores.{StoreView}
-use Rattle.log_streams.specs.Reading.{Takes}
+use Rattle.log_streams.specs.machinery.Reading.{Takes}
 use Rattle.log_streams.proofs.reading.put_all.Given as goal
 
 abbrev pub invariant-loop-frame : goal.invariant-loop-frame

@@ -1,6 +1,6 @@
 use Rattle.std.proofs.Common.{◌≡◌, true, false, None, get_or, sym, subst, ◌∙◌, arith}
 use Rattle.std.proofs.lemmas.List.{get_or_default}
-use Rattle.tracked_position.specs.Waits.{Free, Behind}
+use Rattle.tracked_position.specs.machinery.Waits.{Free, Behind}
 use Rattle.tracked_position.proofs.Bounds.{set_held}
 use Rattle.tracked_position.proofs.held.hold_more.Goals as goal
 use Rattle.tracked_position.proofs.held.hold_more.Goals.{in-None, in-Some}

@@ -1,5 +1,5 @@
 use Rattle.std.proofs.Common.{◌≡◌, ℕ, true, false, get_or}
-use Rattle.tracked_position.specs.Waits.{IsHeld}
+use Rattle.tracked_position.specs.machinery.Waits.{IsHeld}
 use Rattle.tracked_position.proofs.held.hold_more.Given as goal
 
 abbrev pub invariant-loop-index : goal.invariant-loop-index

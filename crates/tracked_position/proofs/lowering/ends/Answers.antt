@@ -5,9 +5,9 @@ use Rattle.tracked_position.specs.declared.walk.Ahead.TheVariants.{Unseen}
 use Rattle.ft_types.specs.Counts.{count_at}
 use Rattle.closed_cut.specs.Position.{base_of, pieces_of, Goes}
 use Rattle.closed_cut.proofs.Reach.{base_many}
-use Rattle.tracked_position.specs.Walks.{cursor_at, IsOver, GoesTo, StopsBefore, EndsAt}
+use Rattle.tracked_position.specs.machinery.Walks.{cursor_at, IsOver, GoesTo, StopsBefore, EndsAt}
 use Rattle.std.specs.Option.{option_map}
-use Rattle.tracked_position.specs.Waits.{limited_to}
+use Rattle.tracked_position.specs.machinery.Waits.{limited_to}
 use Rattle.tracked_position.proofs.Cuts.{end_count, limited_le}
 use Rattle.tracked_position.proofs.Stops.{run_last}
 use Rattle.tracked_position.proofs.Bounds.{next_end, ends_high, few_harts}

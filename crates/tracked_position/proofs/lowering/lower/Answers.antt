@@ -4,7 +4,7 @@ use Rattle.ft_types.specs.Counts.{count_at}
 use Rattle.ft_types.specs.declared.names.TheConstants.{HART_LIMIT}
 use Rattle.closed_cut.specs.Position.{base_of}
 use Rattle.closed_cut.proofs.Reach.{base_many}
-use Rattle.tracked_position.specs.Walks.{cursor_at}
+use Rattle.tracked_position.specs.machinery.Walks.{cursor_at}
 use Rattle.tracked_position.proofs.Bounds.{lowest, few_harts}
 use Rattle.tracked_position.proofs.lowering.lower.Goals as goal
 

@@ -2,8 +2,8 @@ use Rattle.std.proofs.Common.{◌≡◌, length}
 use Rattle.std.specs.Option.{option_map}
 use Rattle.ft_types.specs.Counts.{count_at}
 use Rattle.closed_cut.specs.Position.{base_of}
-use Rattle.tracked_position.specs.Cuts.{IsHigh}
-use Rattle.tracked_position.specs.Waits.{total}
+use Rattle.tracked_position.specs.machinery.Cuts.{IsHigh}
+use Rattle.tracked_position.specs.machinery.Waits.{total}
 use Rattle.tracked_position.proofs.lowering.lower.Given as goal
 
 abbrev pub invariant-loop : goal.invariant-loop

@@ -1,9 +1,9 @@
 use Rattle.std.proofs.Common.{◌≡◌, ◌<◌, ℕ, true, false, Option, length}
 use Rattle.ft_types.specs.Counts.{count_at}
 use Rattle.closed_cut.specs.Position.{base_of}
-use Rattle.tracked_position.specs.Cuts.{IsHigh}
-use Rattle.tracked_position.specs.Walks.{cursor_at, IsMetFrom}
-use Rattle.tracked_position.specs.Waits.{total}
+use Rattle.tracked_position.specs.machinery.Cuts.{IsHigh}
+use Rattle.tracked_position.specs.machinery.Walks.{cursor_at, IsMetFrom}
+use Rattle.tracked_position.specs.machinery.Waits.{total}
 use Rattle.tracked_position.proofs.lowering.lower_each.Given as goal
 
 abbrev pub invariant-loop-number : goal.invariant-loop-number

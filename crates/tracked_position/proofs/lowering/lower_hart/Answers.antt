@@ -1,7 +1,7 @@
 use Rattle.std.proofs.Common.{◌<◌, sym, subst, arith}
 use Rattle.ft_types.specs.Counts.{count_at}
 use Rattle.closed_cut.specs.Position.{base_of, pieces_of, Goes}
-use Rattle.tracked_position.specs.Walks.{GoesTo, StopsBefore, EndsAt}
+use Rattle.tracked_position.specs.machinery.Walks.{GoesTo, StopsBefore, EndsAt}
 use Rattle.tracked_position.proofs.Cuts.{before_end, stopped}
 use Rattle.tracked_position.proofs.lowering.lower_hart.Goals as goal
 

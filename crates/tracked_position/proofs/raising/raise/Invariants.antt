@@ -2,9 +2,9 @@ use Rattle.std.proofs.Common.{◌≡◌, length}
 use Rattle.ft_types.specs.Counts.{count_at}
 use Rattle.closed_cut.specs.Position.{base_of}
 use Rattle.std.specs.Option.{option_map}
-use Rattle.tracked_position.specs.Cuts.{IsCutOf}
-use Rattle.tracked_position.specs.Walks.{AreOver}
-use Rattle.tracked_position.specs.Waits.{room}
+use Rattle.tracked_position.specs.machinery.Cuts.{IsCutOf}
+use Rattle.tracked_position.specs.machinery.Walks.{AreOver}
+use Rattle.tracked_position.specs.machinery.Waits.{room}
 use Rattle.tracked_position.proofs.raising.raise.Given as goal
 
 abbrev pub invariant-loop-swept : goal.invariant-loop-swept

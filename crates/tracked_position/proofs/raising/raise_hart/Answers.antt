@@ -2,8 +2,8 @@ use Rattle.std.proofs.Common.{◌≡◌, ◌<◌, ◌≤◌, ◌^◌, IfSome, If
 use Rattle.std.proofs.lemmas.Bool.{ltb-false}
 use Rattle.ft_types.specs.Counts.{count_at}
 use Rattle.closed_cut.specs.Position.{base_of, pieces_of}
-use Rattle.tracked_position.specs.Walks.{IsOver, IsAhead, StopsBefore, EndsAt, stop_count}
-use Rattle.tracked_position.specs.Waits.{limited_to}
+use Rattle.tracked_position.specs.machinery.Walks.{IsOver, IsAhead, StopsBefore, EndsAt, stop_count}
+use Rattle.tracked_position.specs.machinery.Waits.{limited_to}
 use Rattle.tracked_position.proofs.Cuts.{own, raised, set_rises, limited_is, limited_le, limited_holds}
 use Rattle.tracked_position.proofs.Stops.{over_on, over_more, stop_comes, stop_below, stop_met, stop_waits, comes_less}
 use Rattle.std.specs.Option.{option_map}

@@ -5,7 +5,7 @@ use Rattle.ft_types.specs.Counts.{count_at}
 use Rattle.ft_types.specs.declared.names.TheConstants.{HART_LIMIT, HART_ROW}
 use Rattle.closed_cut.specs.Position.{base_of}
 use Rattle.closed_cut.proofs.Reach.{base_many}
-use Rattle.tracked_position.specs.Waits.{room}
+use Rattle.tracked_position.specs.machinery.Waits.{room}
 use Rattle.tracked_position.proofs.Bounds.{none_waiting, set_over, room_le}
 use Rattle.tracked_position.proofs.raising.sweep.Goals as goal
 use Rattle.tracked_position.proofs.raising.sweep.Goals.{then-rose, else-rose}

@@ -3,9 +3,9 @@ use Rattle.std.specs.Option.{option_map}
 use Rattle.ft_types.specs.Counts.{count_at}
 use Rattle.ft_types.specs.declared.names.TheConstants.{HART_ROW}
 use Rattle.closed_cut.specs.Position.{base_of}
-use Rattle.tracked_position.specs.Cuts.{IsCutOf}
-use Rattle.tracked_position.specs.Walks.{AreOver}
-use Rattle.tracked_position.specs.Waits.{IsWaiting, room}
+use Rattle.tracked_position.specs.machinery.Cuts.{IsCutOf}
+use Rattle.tracked_position.specs.machinery.Walks.{AreOver}
+use Rattle.tracked_position.specs.machinery.Waits.{IsWaiting, room}
 use Rattle.tracked_position.proofs.raising.sweep.Given as goal
 
 abbrev pub invariant-loop-number : goal.invariant-loop-number

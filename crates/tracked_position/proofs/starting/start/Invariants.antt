@@ -2,7 +2,7 @@ use Rattle.std.proofs.Common.{◌≡◌, ◌<◌, ◌≤◌, ℕ, length}
 use Rattle.ft_types.specs.Counts.{count_at}
 use Rattle.ft_types.specs.declared.names.TheConstants.{HART_ROW}
 use Rattle.tracked_position.specs.declared.walk.Ahead.TheVariants.{Unseen}
-use Rattle.tracked_position.specs.Walks.{cursor_at}
+use Rattle.tracked_position.specs.machinery.Walks.{cursor_at}
 use Rattle.tracked_position.proofs.starting.start.Given as goal
 
 abbrev pub invariant-loop-number : goal.invariant-loop-number

@@ -3,8 +3,8 @@ use Rattle.ft_types.specs.Counts.{count_at}
 use Rattle.closed_cut.specs.Position.{base_of}
 use Rattle.closed_cut.proofs.Chains.{term_above}
 use Rattle.closed_cut.proofs.Reach.{base_many}
-use Rattle.tracked_position.specs.Cuts.{IsGreatestCut}
-use Rattle.tracked_position.specs.Legs.{IsChild, IsNext}
+use Rattle.tracked_position.specs.machinery.Cuts.{IsGreatestCut}
+use Rattle.tracked_position.specs.machinery.Legs.{IsChild, IsNext}
 use Rattle.tracked_position.proofs.Legs.{next_is, next_many, chain_bound, leg_start, leg_last, leg_short, leg_on}
 use Rattle.tracked_position.proofs.taking.go_on.Goals as goal
 

@@ -1,6 +1,6 @@
 use Rattle.std.proofs.Common.{inl, inr, sym, subst}
 use Rattle.log_join.specs.Stores.{StoreView}
-use Rattle.tracked_position.specs.Keeping.{IsTracked}
+use Rattle.tracked_position.specs.machinery.Keeping.{IsTracked}
 use Rattle.tracked_position.proofs.Keeping.{taken, tracked_elsewhere}
 use Rattle.tracked_position.proofs.taking.take_elsewhere.Goals as goal
 

@@ -5,9 +5,9 @@ use Rattle.ft_types.specs.Counts.{count_at}
 use Rattle.log_join.specs.Cells.{One}
 use Rattle.log_join.specs.Stores.{opening_at}
 use Rattle.closed_cut.specs.Position.{base_of, InChain, Stops}
-use Rattle.tracked_position.specs.Cuts.{IsCutOf}
-use Rattle.tracked_position.specs.Walks.{AreOver}
-use Rattle.tracked_position.specs.Legs.{IsNext}
+use Rattle.tracked_position.specs.machinery.Cuts.{IsCutOf}
+use Rattle.tracked_position.specs.machinery.Walks.{AreOver}
+use Rattle.tracked_position.specs.machinery.Legs.{IsNext}
 use Rattle.tracked_position.proofs.Growth.{HasOneMore}
 use Rattle.tracked_position.proofs.Keeping.{put_more, over_more, cut_here, chain_here, sound_here, tracked_here, tracked_moved, tracked_apart}
 use Rattle.tracked_position.proofs.taking.take_here.Goals as goal

@@ -1,7 +1,7 @@
 use Rattle.std.proofs.Common.{◌-◌, ◌^◌}
 use Rattle.ft_types.specs.Counts.{count_at}
 use Rattle.closed_cut.specs.Position.{pieces_of}
-use Rattle.tracked_position.specs.Walks.{GoesTo}
+use Rattle.tracked_position.specs.machinery.Walks.{GoesTo}
 use Rattle.tracked_position.proofs.walk.walk_on.Given as goal
 
 abbrev pub invariant-loop-now : goal.invariant-loop-now

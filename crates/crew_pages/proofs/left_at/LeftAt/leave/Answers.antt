@@ -1,6 +1,6 @@
 use Rattle.std.proofs.Common.{◌≡◌, ◌∙◌, ◌+◌, ◌<◌, length, length-set, true, ap, arith}
-use Rattle.crew_pages.specs.Leaving.{left_of}
-use Rattle.crew_pages.specs.Reach.{reach_of}
+use Rattle.crew_pages.specs.machinery.Leaving.{left_of}
+use Rattle.crew_pages.specs.machinery.Reach.{reach_of}
 use Rattle.crew_pages.proofs.Reaches.{reach_set}
 use Rattle.crew_pages.proofs.Left.{left_many, left_more, blank_more}
 use Rattle.crew_pages.proofs.left_at.LeftAt.leave.Goals as goal

@@ -1,7 +1,7 @@
 use Rattle.std.proofs.Common.{ℕ, ap, sym, ◌∙◌}
 use Rattle.std.proofs.lemmas.List.{length-replicate}
 use Rattle.ft_types.specs.declared.names.TheConstants.{HART_ROW}
-use Rattle.crew_pages.specs.Reach.{reach_of}
+use Rattle.crew_pages.specs.machinery.Reach.{reach_of}
 use Rattle.crew_pages.proofs.Reaches.{none_at, reach_none}
 use Rattle.crew_pages.proofs.Left.{none_left, none_blank}
 use Rattle.crew_pages.proofs.left_at.LeftAt.none.Goals as goal

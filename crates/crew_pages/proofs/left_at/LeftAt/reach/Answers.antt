@@ -1,5 +1,5 @@
 use Rattle.std.proofs.Common.{arith}
-use Rattle.crew_pages.specs.Leaving.{left_of}
+use Rattle.crew_pages.specs.machinery.Leaving.{left_of}
 use Rattle.crew_pages.proofs.Reaches.{none_beyond, reach_fits}
 use Rattle.crew_pages.proofs.Left.{left_many}
 use Rattle.crew_pages.proofs.left_at.LeftAt.reach.Goals as goal

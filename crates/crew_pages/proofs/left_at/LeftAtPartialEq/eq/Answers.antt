@@ -1,4 +1,4 @@
-use Rattle.crew_pages.specs.Leaving.{harts_back, counts_back}
+use Rattle.crew_pages.specs.machinery.Leaving.{harts_back, counts_back}
 use Rattle.crew_pages.proofs.Left.{compared}
 use Rattle.crew_pages.proofs.left_at.LeftAtPartialEq.eq.Goals as goal
 

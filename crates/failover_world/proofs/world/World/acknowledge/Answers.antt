@@ -14,7 +14,7 @@ use Rattle.ack_core.specs.declared.board.AckFault.TheVariants.{OtherTerm, Lower}
 use Rattle.term_gate.specs.TermGates.{TermGateView, acked_at}
 use Rattle.failover_world.specs.Happenings.{Acknowledges}
 use Rattle.failover_world.specs.Refusals.{CannotAcknowledge}
-use Rattle.failover_world.specs.Tied.{IsWorld}
+use Rattle.failover_world.specs.machinery.Tied.{IsWorld}
 use Rattle.failover_world.proofs.Places.{is_below}
 use Rattle.std.proofs.Common.{◌↔◌, inl, inr}
 use Rattle.guest_image.specs.Image.{guest_of}
@@ -23,7 +23,7 @@ use Rattle.log_join.specs.Stores.{nothing}
 use Rattle.failover_theory.proofs.Events.{never_lower}
 use Rattle.scripts.specs.declared.event.Event.TheVariants as on
 use Rattle.failover_world.specs.Refusals.{Refuses}
-use Rattle.failover_world.specs.Tied.{quorum_of, theory_world}
+use Rattle.failover_world.specs.machinery.Tied.{quorum_of, theory_world}
 use Rattle.failover_world.proofs.Places.{there_too}
 use Rattle.failover_world.proofs.world.World.acknowledge.Goals.{in-Ok, in-Err}
 use Rattle.failover_world.proofs.world.World.acknowledge.Goals as goal

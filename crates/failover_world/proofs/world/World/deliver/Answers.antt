@@ -8,7 +8,7 @@ use Rattle.failover_world.proofs.Guests.{not_foreign}
 use Rattle.std.proofs.Common.{length-set, take, drop, ◌++◌}
 use Rattle.failover_world.proofs.Rows.{put_back_whole}
 use Rattle.failover_world.specs.Happenings.{Delivers}
-use Rattle.failover_world.specs.Tied.{IsWorld}
+use Rattle.failover_world.specs.machinery.Tied.{IsWorld}
 use Rattle.failover_world.proofs.world.World.deliver.Goals as goal
 
 -- the keeper's store

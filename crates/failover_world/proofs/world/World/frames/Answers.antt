@@ -1,6 +1,6 @@
 use Rattle.std.proofs.Common.{subst}
 use Rattle.failover_world.specs.Worlds.{WorldView}
-use Rattle.failover_world.specs.Tied.{IsWorld}
+use Rattle.failover_world.specs.machinery.Tied.{IsWorld}
 use Rattle.failover_world.proofs.Honest.{are_honest}
 use Rattle.failover_world.proofs.world.World.frames.Goals as goal
 

@@ -7,7 +7,7 @@ use Rattle.primary.specs.declared.granted.Primary.{Primary}
 use Rattle.log_join.specs.Stores.{StoreView}
 use Rattle.failover_world.specs.Worlds.{WorldView, store_at}
 use Rattle.failover_world.specs.Happenings.{GoesLive, Grants}
-use Rattle.failover_world.specs.Tied.{IsWorld, BeginsTerm}
+use Rattle.failover_world.specs.machinery.Tied.{IsWorld, BeginsTerm}
 use Rattle.failover_world.proofs.Granting.{granted_world}
 use Rattle.failover_world.proofs.Reviving.{world_with, is_granted, new_world}
 use Rattle.failover_world.proofs.world.World.grant.Goals as goal

@@ -7,7 +7,7 @@ use Rattle.failover_world.proofs.Guests.{store_guest}
 use Rattle.std.proofs.Common.{length-set, take, drop, ◌++◌}
 use Rattle.failover_world.proofs.Rows.{put_back_whole}
 use Rattle.failover_world.specs.Happenings.{Joins}
-use Rattle.failover_world.specs.Tied.{IsWorld}
+use Rattle.failover_world.specs.machinery.Tied.{IsWorld}
 use Rattle.failover_world.proofs.world.World.join.Goals as goal
 
 pub returns-in_default-keeper_at-clause-refused : goal.returns-in_default-keeper_at-clause-refused

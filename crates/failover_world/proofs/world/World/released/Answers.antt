@@ -1,7 +1,7 @@
 use Rattle.std.proofs.Common.{subst}
 use Rattle.failover_world.specs.Promises.{IsOfMachine}
 use Rattle.failover_world.specs.Worlds.{WorldView}
-use Rattle.failover_world.specs.Tied.{IsWorld}
+use Rattle.failover_world.specs.machinery.Tied.{IsWorld}
 use Rattle.failover_world.proofs.Promises.{is_one, is_of_machine, is_kept, are_held, are_acked_inside, are_notes_released, none_is_noted}
 use Rattle.failover_world.proofs.world.World.released.Goals as goal
 

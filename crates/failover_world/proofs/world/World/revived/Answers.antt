@@ -8,7 +8,7 @@ use Rattle.failover_world.specs.Worlds.{WorldView, term_of}
 use Rattle.primary.specs.Gating.{AreAllOffered}
 use Rattle.failover_world.specs.Happenings.{stores_of, GoesLive}
 use Rattle.failover_world.specs.Refusals.{CannotGoLive}
-use Rattle.failover_world.specs.Tied.{BeginsTerm}
+use Rattle.failover_world.specs.machinery.Tied.{BeginsTerm}
 use Rattle.failover_world.proofs.Reviving.{at_harts, at_counts, at_too, unused_so, uncut_so, IsAsked, IsGiven, given, begins_term, cannot, fresh}
 use Rattle.failover_world.proofs.world.World.revived.Goals.{then-term, else-term}
 use Rattle.failover_world.proofs.world.World.revived.Goals as goal

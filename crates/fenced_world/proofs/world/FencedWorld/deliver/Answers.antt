@@ -7,7 +7,7 @@ use Rattle.fenced_world.specs.Keepers.{KeptView}
 use Rattle.fenced_world.specs.Worlds.{WorldView}
 use Rattle.fenced_world.specs.Happenings.{Delivers}
 use Rattle.fenced_world.specs.Refusals.{Refuses}
-use Rattle.fenced_world.specs.Tied.{IsWorld}
+use Rattle.fenced_world.specs.machinery.Tied.{IsWorld}
 use Rattle.fenced_world.proofs.Guests.{not_foreign}
 use Rattle.fenced_world.proofs.Events.{taken}
 use Rattle.fenced_world.proofs.Found.{put_back, back_again, is_there}

@@ -5,7 +5,7 @@ use Rattle.fenced_world.specs.Keepers.{KeptView}
 use Rattle.fenced_world.specs.Worlds.{WorldView}
 use Rattle.fenced_world.specs.Happenings.{DoesKeeper, Raises}
 use Rattle.fenced_world.specs.Refusals.{Refuses, IsLeft}
-use Rattle.fenced_world.specs.Tied.{IsWorld}
+use Rattle.fenced_world.specs.machinery.Tied.{IsWorld}
 use Rattle.fenced_world.proofs.Events.{raised}
 use Rattle.fenced_world.proofs.Found.{put_back, raise_refused, raise_left, raise_failed, same_err}
 use Rattle.fenced_world.proofs.world.FencedWorld.fence.Goals as goal

@@ -9,7 +9,7 @@ use Rattle.fenced_world.specs.Granting.{GoesLiveFrom}
 use Rattle.fenced_world.specs.Worlds.{WorldView}
 use Rattle.fenced_world.specs.Happenings.{HasRaised}
 use Rattle.fenced_world.specs.Refusals.{RefusesGrant}
-use Rattle.fenced_world.specs.Tied.{IsWorld}
+use Rattle.fenced_world.specs.machinery.Tied.{IsWorld}
 use Rattle.fenced_world.proofs.Events.{went_live}
 use Rattle.fenced_world.proofs.Live.{grant_lacks, begun, still_new}
 use Rattle.fenced_world.proofs.world.FencedWorld.grant.Goals as goal

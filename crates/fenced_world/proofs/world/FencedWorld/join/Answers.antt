@@ -5,7 +5,7 @@ use Rattle.fenced_world.specs.Keepers.{KeptView, kept_at}
 use Rattle.fenced_world.specs.Worlds.{WorldView}
 use Rattle.fenced_world.specs.Happenings.{Joins, JoinsTo}
 use Rattle.fenced_world.specs.Refusals.{Refuses}
-use Rattle.fenced_world.specs.Tied.{IsWorld}
+use Rattle.fenced_world.specs.machinery.Tied.{IsWorld}
 use Rattle.fenced_world.proofs.Events.{joined}
 use Rattle.fenced_world.proofs.Found.{put_back, back_again, both_there}
 use Rattle.fenced_world.proofs.Joining.{own_guests, joins_on}

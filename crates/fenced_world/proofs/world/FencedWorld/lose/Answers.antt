@@ -1,6 +1,6 @@
 use Rattle.std.proofs.Common.{sym, subst}
 use Rattle.fenced_world.specs.Worlds.{WorldView}
-use Rattle.fenced_world.specs.Tied.{IsWorld}
+use Rattle.fenced_world.specs.machinery.Tied.{IsWorld}
 use Rattle.fenced_world.proofs.Events.{lost}
 use Rattle.fenced_world.proofs.world.FencedWorld.lose.Goals.{in-Some, in-None}
 use Rattle.fenced_world.proofs.world.FencedWorld.lose.Goals as goal

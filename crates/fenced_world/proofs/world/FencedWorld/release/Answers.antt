@@ -6,7 +6,7 @@ use Rattle.fenced_world.specs.Running.{RunningView}
 use Rattle.fenced_world.specs.Worlds.{WorldView}
 use Rattle.fenced_world.specs.Happenings.{HasReleased}
 use Rattle.fenced_world.specs.Refusals.{Refuses, IsLeft}
-use Rattle.fenced_world.specs.Tied.{IsWorld}
+use Rattle.fenced_world.specs.machinery.Tied.{IsWorld}
 use Rattle.fenced_world.proofs.Events.{released, told}
 use Rattle.fenced_world.proofs.Found.{at_found, is_granted}
 use Rattle.fenced_world.proofs.world.FencedWorld.release.Goals as goal

@@ -1,6 +1,6 @@
 use Rattle.std.proofs.Common.{subst}
 use Rattle.fenced_world.specs.Worlds.{WorldView}
-use Rattle.fenced_world.specs.Tied.{IsWorld}
+use Rattle.fenced_world.specs.machinery.Tied.{IsWorld}
 use Rattle.fenced_world.proofs.Promises.{is_one, are_of_machines, is_kept, is_within, are_held}
 use Rattle.fenced_world.proofs.world.FencedWorld.released.Goals as goal
 

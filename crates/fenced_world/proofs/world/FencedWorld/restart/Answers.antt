@@ -5,7 +5,7 @@ use Rattle.fenced_world.specs.Keepers.{KeptView}
 use Rattle.fenced_world.specs.Worlds.{WorldView}
 use Rattle.fenced_world.specs.Happenings.{DoesKeeper, ComesBack}
 use Rattle.fenced_world.specs.Refusals.{Refuses, IsLeft}
-use Rattle.fenced_world.specs.Tied.{IsWorld}
+use Rattle.fenced_world.specs.machinery.Tied.{IsWorld}
 use Rattle.fenced_world.proofs.Events.{came_back, lost}
 use Rattle.fenced_world.proofs.Found.{put_back, is_there}
 use Rattle.fenced_world.proofs.world.FencedWorld.restart.Goals as goal

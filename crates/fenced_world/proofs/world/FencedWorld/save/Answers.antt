@@ -5,7 +5,7 @@ use Rattle.fenced_world.specs.Keepers.{KeptView}
 use Rattle.fenced_world.specs.Worlds.{WorldView}
 use Rattle.fenced_world.specs.Happenings.{DoesKeeper, Saves}
 use Rattle.fenced_world.specs.Refusals.{Refuses, IsLeft}
-use Rattle.fenced_world.specs.Tied.{IsWorld}
+use Rattle.fenced_world.specs.machinery.Tied.{IsWorld}
 use Rattle.fenced_world.proofs.Events.{saved, may_have_saved}
 use Rattle.fenced_world.proofs.Found.{put_back, is_there}
 use Rattle.fenced_world.proofs.world.FencedWorld.save.Goals as goal

@@ -6,7 +6,7 @@ use Rattle.fenced_world.specs.Running.{RunningView}
 use Rattle.fenced_world.specs.Worlds.{WorldView}
 use Rattle.fenced_world.specs.Happenings.{Seals, HasSealed}
 use Rattle.fenced_world.specs.Refusals.{Refuses}
-use Rattle.fenced_world.specs.Tied.{IsWorld}
+use Rattle.fenced_world.specs.machinery.Tied.{IsWorld}
 use Rattle.fenced_world.proofs.Lists.{set_own}
 use Rattle.fenced_world.proofs.Sealing.{within}
 use Rattle.fenced_world.proofs.Events.{own_guest, sealed_on}

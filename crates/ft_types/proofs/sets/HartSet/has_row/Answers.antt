@@ -1,4 +1,4 @@
-use Rattle.ft_types.specs.Flags.{length-flags_of}
+use Rattle.ft_types.specs.machinery.Flags.{length-flags_of}
 use Rattle.ft_types.proofs.sets.HartSet.has_row.Goals as goal
 
 pub returns : goal.returns

@@ -1,6 +1,6 @@
 use Rattle.std.proofs.Common.{◌↔◌, ◌≡◌, ◌<◌, ◌^◌, ℕ, subst, sym, w32}
 use Rattle.std.proofs.Math.Pow.{pow-lt}
-use Rattle.ft_types.specs.Flags.{flags_of}
+use Rattle.ft_types.specs.machinery.Flags.{flags_of}
 use Rattle.ft_types.specs.Sets.{IsMember}
 use Rattle.ft_types.proofs.FlagBits.{flag_of_one}
 use Rattle.ft_types.proofs.sets.HartSet.of.Goals as goal

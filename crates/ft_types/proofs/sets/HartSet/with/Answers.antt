@@ -1,7 +1,7 @@
 use Rattle.std.proofs.lemmas.Nat.{or_lt}
 use Rattle.std.proofs.Math.Pow.{pow-lt}
 use Rattle.std.proofs.Common.{◌<◌, ◌^◌, arith}
-use Rattle.ft_types.specs.Flags.{length-flags_of}
+use Rattle.ft_types.specs.machinery.Flags.{length-flags_of}
 use Rattle.ft_types.proofs.FlagBits.{flag_added}
 use Rattle.ft_types.proofs.sets.HartSet.with.Goals as goal
 

@@ -1,4 +1,4 @@
-use Rattle.ft_types.specs.Flags.{number_of-flags_of}
+use Rattle.ft_types.specs.machinery.Flags.{number_of-flags_of}
 use Rattle.ft_types.proofs.sets.HartSetPartialEq.eq.Goals as goal
 
 pub returns : goal.returns

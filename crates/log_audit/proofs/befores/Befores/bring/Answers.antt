@@ -1,7 +1,7 @@
 use Rattle.std.proofs.Common.{◌≡◌, ◌≤◌, ◌++◌, ◌∷◌, [], refl, ap, sym, subst, ◌∙◌, arith, AllPairs, ℕ, List, length, slice_set, slice_index_or, true≢false, ◌==◌, rules}
 use Rattle.edge_log.specs.declared.Edge.{Edge}
 use Rattle.log_audit.specs.declared.befores.Before.{Before}
-use Rattle.log_audit.specs.Befores.{row_of, IsLatest, AreBrought, NoneYet, Next}
+use Rattle.log_audit.specs.machinery.Befores.{row_of, IsLatest, AreBrought, NoneYet, Next}
 use Rattle.log_audit.proofs.Shown.{row_read, row_set}
 use Rattle.log_audit.proofs.Lists.{take_more, get_at, take_whole}
 use Rattle.log_audit.proofs.befores.Befores.bring.Goals as goal

@@ -1,5 +1,5 @@
 use Rattle.std.proofs.Common.{take}
-use Rattle.log_audit.specs.Befores.{AreBrought}
+use Rattle.log_audit.specs.machinery.Befores.{AreBrought}
 use Rattle.log_audit.proofs.befores.Befores.bring.Given as goal
 
 abbrev pub invariant-loop-edge : goal.invariant-loop-edge

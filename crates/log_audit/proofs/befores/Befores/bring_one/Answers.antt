@@ -1,6 +1,6 @@
 use Rattle.std.proofs.Common.{◌≡◌, ◌≤◌, ◌-◌, refl, sym, subst, arith, AllPairs, List}
 use Rattle.log_audit.specs.declared.befores.Before.{Before}
-use Rattle.log_audit.specs.Befores.{row_of, IsLatest, More}
+use Rattle.log_audit.specs.machinery.Befores.{row_of, IsLatest, More}
 use Rattle.log_audit.proofs.Shown.{row_read}
 use Rattle.log_audit.proofs.befores.Befores.bring_one.Goals as goal
 

@@ -7,8 +7,8 @@ use Rattle.rv32_hart.specs.Hart.{Hart}
 use Rattle.guest_image.specs.Machine.{MachineState}
 use Rattle.hart_lease.specs.Runs.{counts_of}
 use Rattle.log_audit.specs.Coverage.{AreUncovered}
-use Rattle.log_audit.specs.Marks.{IsMarkedBelow}
-use Rattle.log_audit.specs.Covered.{HartsView, machine_of}
+use Rattle.log_audit.specs.machinery.Marks.{IsMarkedBelow}
+use Rattle.log_audit.specs.machinery.Covered.{HartsView, machine_of}
 use Rattle.log_audit.proofs.Covering.{marks_below}
 use Rattle.log_audit.proofs.Bringing.{of_filter}
 use Rattle.log_audit.proofs.Turning.{held_unmet, may_step, stop_within, turn_clashed, turn_gone, quiet_on, went_along}

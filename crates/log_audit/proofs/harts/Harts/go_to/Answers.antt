@@ -1,5 +1,5 @@
 use Rattle.hart_lease.specs.Runs.{counts_of}
-use Rattle.log_audit.specs.Covered.{machine_of}
+use Rattle.log_audit.specs.machinery.Covered.{machine_of}
 use Rattle.log_audit.proofs.Covering.{marks_below}
 use Rattle.log_audit.proofs.Turning.{quiet_clashed, quiet_nearer, quiet_gone}
 use Rattle.log_audit.proofs.harts.Harts.go_to.Goals as goal

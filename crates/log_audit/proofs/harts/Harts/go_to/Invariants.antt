@@ -1,6 +1,6 @@
 use Rattle.std.proofs.Common.{◌≡◌, ◌≤◌, ◌-◌}
 use Rattle.hart_lease.specs.Runs.{counts_of}
-use Rattle.log_audit.specs.Covered.{machine_of, steps_left, InForce, IsOn, IsQuietTo}
+use Rattle.log_audit.specs.machinery.Covered.{machine_of, steps_left, InForce, IsOn, IsQuietTo}
 use Rattle.log_audit.proofs.harts.Harts.go_to.Given as goal
 
 abbrev pub invariant-loop-state : goal.invariant-loop-state

@@ -2,7 +2,7 @@ use Rattle.std.proofs.Common.{◌≡◌, ◌≤◌, inl, inr, List, slice_index,
 use Rattle.std.proofs.lemmas.Bool.{cases_lt}
 use Rattle.std.proofs.lemmas.List.{get_or_default}
 use Rattle.log_audit.specs.declared.marks.Uses.{Uses}
-use Rattle.log_audit.specs.Marks.{unused, uses_at, used_by}
+use Rattle.log_audit.specs.machinery.Marks.{unused, uses_at, used_by}
 use Rattle.log_audit.proofs.marks.Marks.against.Goals as goal
 
 -- no hart behind the rows has a step on the page

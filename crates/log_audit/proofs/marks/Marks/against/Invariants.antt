@@ -1,5 +1,5 @@
 use Rattle.std.proofs.Common.{ℕ, ◌<◌, ◌≤◌, ◌≢◌, slice_index}
-use Rattle.log_audit.specs.Marks.{used_by, uses_at}
+use Rattle.log_audit.specs.machinery.Marks.{used_by, uses_at}
 use Rattle.log_audit.proofs.marks.Marks.against.Given as goal
 
 abbrev pub invariant-loop-number : goal.invariant-loop-number

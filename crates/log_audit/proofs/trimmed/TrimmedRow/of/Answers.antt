@@ -1,7 +1,7 @@
 use Rattle.std.proofs.Common.{rules, sym, ap, arith, length-take-le, ◌∙◌, ◌++◌, ◌∷◌, [], ◌≡◌, ◌<◌, length, take, slice_get, slice_index, Some}
 use Rattle.std.proofs.lemmas.List.{get_or_default}
 use Rattle.ft_types.specs.declared.names.TheConstants.{HART_ROW}
-use Rattle.log_audit.specs.Widened.{widened}
+use Rattle.log_audit.specs.machinery.Widened.{widened}
 use Rattle.log_audit.proofs.Lists.{take_more, get_at}
 use Rattle.log_audit.proofs.Trimming.{widened_trimmed}
 use Rattle.log_audit.proofs.trimmed.TrimmedRow.of.Goals as goal

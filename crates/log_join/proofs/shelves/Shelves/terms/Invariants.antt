@@ -1,5 +1,5 @@
 use Rattle.std.proofs.Common.{◌≡◌, ◌++◌}
-use Rattle.log_join.specs.Contents.{listed}
+use Rattle.log_join.specs.machinery.Contents.{listed}
 use Rattle.std.proofs.Common.{ℕ}
 use Rattle.log_join.proofs.shelves.Shelves.terms.Given as goal
 

@@ -1,7 +1,7 @@
 use Rattle.std.proofs.Common.{◌≡◌, ◌∙◌, sym, subst}
 use Rattle.log_join.specs.Stores.{StoreView, IsJoin}
 use Rattle.ft_types.specs.Guests.{GuestParts}
-use Rattle.log_join.specs.Contents.{Fits, view_of}
+use Rattle.log_join.specs.machinery.Contents.{Fits, view_of}
 use Rattle.log_join.proofs.Told.{guests_told}
 use Rattle.log_join.proofs.Stores.{same_view, met_view, though_err}
 use Rattle.log_join.proofs.store.Store.join.Goals as goal

@@ -1,6 +1,6 @@
 use Rattle.std.proofs.Common.{sym, subst, ℕ}
 use Rattle.log_join.specs.Stores.{StoreView, IsLastTerm}
-use Rattle.log_join.specs.Contents.{view_of}
+use Rattle.log_join.specs.machinery.Contents.{view_of}
 use Rattle.log_join.proofs.Stores.{last_is}
 use Rattle.log_join.proofs.store.Store.last_term.Goals as goal
 

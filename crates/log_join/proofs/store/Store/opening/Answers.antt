@@ -8,7 +8,7 @@ use Rattle.frame_content.specs.declared.content.Content.{Content}
 use Rattle.log_join.specs.Cells.{Cell}
 use Rattle.log_join.specs.Stores.{IsStore, IsOpeningOf, opening_at}
 use Rattle.log_join.specs.Answers.{TellsOpening}
-use Rattle.log_join.specs.Contents.{TellsContent, opening_part}
+use Rattle.log_join.specs.machinery.Contents.{TellsContent, opening_part}
 use Rattle.log_join.proofs.Shown.{cell_shown}
 use Rattle.log_join.proofs.Stores.{is_store, tells_opening}
 use Rattle.log_join.proofs.store.Store.opening.Goals as goal

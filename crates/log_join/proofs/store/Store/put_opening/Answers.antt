@@ -3,7 +3,7 @@ use Rattle.std.specs.Ordering.{nat_cmp}
 use Rattle.fragment_codec.specs.declared.frame.Frame.TheVariants.{Opening}
 use Rattle.log_join.specs.Stores.{StoreView}
 use Rattle.log_join.specs.Answers.{Puts}
-use Rattle.log_join.specs.Contents.{view_of}
+use Rattle.log_join.specs.machinery.Contents.{view_of}
 use Rattle.log_join.proofs.Told.{guests_told}
 use Rattle.log_join.proofs.Stores.{IsTaken, puts_opening}
 use Rattle.log_join.proofs.store.Store.put_opening.Goals as goal

@@ -4,7 +4,7 @@ use Rattle.std.specs.Cmp.{nat_cmp_total}
 use Rattle.std.proofs.lemmas.Map.Lookups.{exact_unsigned}
 use Rattle.std.proofs.lemmas.Result.{IfOk-weaker}
 use Rattle.log_join.specs.Stores.{StoreView, AreTerms, IsOpeningOf}
-use Rattle.log_join.specs.Contents.{opening_part, listed, view_of}
+use Rattle.log_join.specs.machinery.Contents.{opening_part, listed, view_of}
 use Rattle.log_join.proofs.Listed.{listed_rising, listed_exact}
 use Rattle.log_join.proofs.store.Store.terms.Goals as goal
 

@@ -4,7 +4,7 @@ use Rattle.guest_image.specs.Machine.{MachineState}
 use Rattle.hart_lease.specs.OpenLeases.{OpenView}
 use Rattle.hart_lease.specs.Runs.{Heard}
 use Rattle.hart_lease.proofs.pages.Slots.{none-replicate}
-use Rattle.book_modes.specs.Words.{edges_of, heard_in}
+use Rattle.book_modes.specs.machinery.Words.{edges_of, heard_in}
 use Rattle.book_modes.specs.Obeying.{EachHears}
 use Rattle.page_book.proofs.Kept.{begun_book}
 use Rattle.page_book.proofs.book.Book+Replaying.begin.Goals as goal

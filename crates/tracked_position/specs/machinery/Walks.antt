@@ -10,7 +10,7 @@ use Rattle.closed_cut.specs.Position.{pieces_of, Goes}
 use Rattle.tracked_position.specs.declared.walk.Cursor.{Cursor}
 use Rattle.tracked_position.specs.declared.walk.Ahead.{Ahead}
 use Rattle.tracked_position.specs.declared.walk.Ahead.TheVariants.{Unseen, End, Waits}
-use Rattle.tracked_position.specs.Cuts.{edges_in, Meets, GoesOver}
+use Rattle.tracked_position.specs.machinery.Cuts.{edges_in, Meets, GoesOver}
 
 -- among the edges below the ceiling that the counts do not meet, one with the least count
 pub record IsLeastUnmet (edges : List Edge) (cut : ℕ → ℕ) (ceiling : ℕ) (e : Edge) : Type 0 where

@@ -8,7 +8,7 @@ use Rattle.log_audit.specs.declared.harts.Turn.TheVariants.{Held, Went, Clashed}
 use Rattle.log_audit.specs.declared.legs.Ended.{Ended}
 use Rattle.log_audit.specs.declared.legs.Ended.TheVariants.{Stopped, Clashed as Over}
 use Rattle.log_audit.specs.Coverage.{AreUncovered}
-use Rattle.log_audit.specs.Covered.{HartsView, machine_of, GoesOn, IsHeld, IsOn}
+use Rattle.log_audit.specs.machinery.Covered.{HartsView, machine_of, GoesOn, IsHeld, IsOn}
 
 abbrev pub IsClash : PlannedLeg → MachineState → Clash → Type 0
 IsClash leg m c = AreUncovered leg m c.page c.one c.other

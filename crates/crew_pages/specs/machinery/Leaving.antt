@@ -2,7 +2,7 @@
 use Rattle.std.specs.Prelude.{◌≡◌, ℕ, List, [], ◌∷◌, Bool, true, false, Option, Some, None, length, refl}
 use Rattle.std.proofs.Common.{ap, sym, ◌∙◌, arith}
 use Rattle.ft_types.specs.declared.names.TheConstants.{HART_ROW}
-use Rattle.crew_pages.specs.Reach.{reach_of}
+use Rattle.crew_pages.specs.machinery.Reach.{reach_of}
 
 -- of each hart that has a flag its count
 abbrev pub left_of : List Bool → List ℕ → List (Option ℕ)

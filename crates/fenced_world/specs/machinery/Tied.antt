@@ -20,7 +20,7 @@ use Rattle.term_gate.specs.TermGates.{acked_at}
 use Rattle.primary.specs.declared.granted.Primary.{Primary}
 use Rattle.primary.specs.declared.released.Released.{Released}
 use Rattle.primary.specs.Gating.{AreOffered}
-use Rattle.failover_world.specs.Tied.{TermBook, Books, retold_in, history, told_as, theory_released}
+use Rattle.failover_world.specs.machinery.Tied.{TermBook, Books, retold_in, history, told_as, theory_released}
 use Rattle.fenced_world.specs.Keepers.{KeptView, kept_at}
 use Rattle.fenced_world.specs.Running.{RunningView}
 use Rattle.fenced_world.specs.Worlds.{WorldView}

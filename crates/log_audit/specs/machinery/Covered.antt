@@ -16,8 +16,8 @@ use Rattle.hart_replay.specs.declared.plans.PlannedLeg.{PlannedLeg}
 use Rattle.hart_replay.specs.Plans.{log_of}
 use Rattle.hart_replay.specs.Replays.{leg_turns}
 use Rattle.log_audit.specs.declared.befores.Before.{Before as BeforeEntry}
-use Rattle.log_audit.specs.Marks.{MarkedView, read_mark, written_mark, unmarked}
-use Rattle.log_audit.specs.Befores.{row_of, AreRising}
+use Rattle.log_audit.specs.machinery.Marks.{MarkedView, read_mark, written_mark, unmarked}
+use Rattle.log_audit.specs.machinery.Befores.{row_of, AreRising}
 use Rattle.log_audit.specs.Coverage.{TakenStep, steps_in, place_in}
 
 -- the machine from which the harts went; the harts, the pages with the steps that used them last, and what the edges put before steps

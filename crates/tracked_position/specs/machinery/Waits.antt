@@ -4,7 +4,7 @@ use Rattle.edge_log.specs.declared.Edge.{Edge}
 use Rattle.fragment_codec.specs.Rules.{FragmentParts}
 use Rattle.log_join.specs.Stores.{StoreView}
 use Rattle.closed_cut.specs.Position.{pieces_of}
-use Rattle.tracked_position.specs.Cuts.{edges_in, GoesOver, IsCutOf}
+use Rattle.tracked_position.specs.machinery.Cuts.{edges_in, GoesOver, IsCutOf}
 use Rattle.ft_types.specs.Counts.{count_at}
 use Rattle.ft_types.specs.declared.names.TheConstants.{COUNT_LIMIT}
 

@@ -13,7 +13,7 @@ use Rattle.log_join.specs.Answers.{answer_to}
 use Rattle.closed_cut.specs.Position.{base_of, IsPosition}
 use Rattle.ft_types.specs.declared.position.Position.{Position}
 use Rattle.tracked_position.specs.declared.walk.Cursor.{Cursor}
-use Rattle.tracked_position.specs.Walks.{AreOver}
+use Rattle.tracked_position.specs.machinery.Walks.{AreOver}
 
 -- the position is the store's, and the cursors stand on the walks of its term
 pub record IsTracked (store : StoreView) (p : Position) (cursors : List Cursor) : Type 0 where

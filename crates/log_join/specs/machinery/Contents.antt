@@ -19,7 +19,7 @@ use Rattle.frame_content.specs.declared.content.Content.{Content}
 use Rattle.frame_content.specs.declared.content.Content.TheVariants.{One, Clash}
 use Rattle.log_join.specs.declared.place.Place.{Place}
 use Rattle.log_join.specs.declared.shelves.Shelves.{Shelves}
-use Rattle.frame_content.specs.Contents.{holds, joined}
+use Rattle.frame_content.specs.machinery.Contents.{holds, joined}
 use Rattle.log_join.specs.Stores.{StoreView, key_cmp, IsOpeningOf, IsFragmentOf}
 
 -- ---- joins

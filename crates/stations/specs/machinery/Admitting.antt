@@ -2,7 +2,7 @@
 use Rattle.std.specs.Prelude.{if◌then◌else◌}
 use Rattle.fragment_codec.specs.declared.frame.Frame.{Frame}
 use Rattle.fragment_codec.specs.declared.frame.Frame.TheVariants.{Log, Opening}
-use Rattle.frame_content.specs.Contents.{same_frame}
+use Rattle.frame_content.specs.machinery.Contents.{same_frame}
 use Rattle.log_join.specs.Answers.{TellsOpening, TellsFragment}
 use Rattle.log_join.specs.Stores.{StoreView, opening_at, fragment_at}
 use Rattle.log_join.specs.declared.answers.Found.{Found}

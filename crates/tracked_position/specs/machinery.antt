@@ -1,0 +1,6 @@
+-- Files that need no belief: contracts of private functions and the views of types name them, and only proofs use what they say.
+pub mod Cuts
+pub mod Walks
+pub mod Waits
+pub mod Legs
+pub mod Keeping
