@@ -1,8 +1,8 @@
-use Rattle.std.proofs.Common.{◌≡◌, ℕ, ◌≤◌, List, [], slice_index_or, length, IfOk, sym, ap, subst, ◌∙◌, arith}
+use Rattle.std.proofs.Common.{◌≡◌, ℕ, ◌≤◌, List, [], slice_index_or, IfOk, sym, ap, subst, ◌∙◌, arith}
 use Rattle.ft_types.specs.Counts.{count_at}
 use Rattle.output_gate.specs.Gates.{GateView, noted_at}
 use Rattle.output_gate.specs.Orders.{AreAbove}
-use Rattle.term_gate.specs.TermGates.{TermGateView, AreAcked, acked_at}
+use Rattle.term_gate.specs.TermGates.{TermGateView, AreAcked}
 use Rattle.term_gate.proofs.Tables.{no_row, no_count}
 use Rattle.term_gate.proofs.gate.TermGate.release.Goals as goal
 
