@@ -3,25 +3,40 @@
 ghost use Rattle.std.specs.Prelude.{◌≡◌, ◌<◌, length};
 ghost use Rattle.page_book.specs.Books.{IsOurs};
 
+use crate::overseer::Overseer;
+use crate::standing::Bounds;
 use crate::turns::{Answer, Brought, Stop, Turn};
 use ft_types::{Count, Counts, HART_ROW, Hart, HartSet, LEASE_STEPS, PageNo, Want};
 use lease_rounds::PageMask;
 use page_book::{Book, BookFault, Keep, Lease, Mode, Need};
 use std::alloc::Global;
+use std::sync::Wait;
 use steering::{Pace, Returned, Steering, trace_of};
 
-/// A book, beside what steers its harts: no promise leans on that.
+/// A book, beside what steers its harts and how far an overseer lets them go: no promise leans on that.
 #[derive(Drop)]
 pub(crate) struct Desk<M: Mode> {
     book: Book<M>,
     steering: Steering,
+    bounds: Bounds,
 }
 
 impl<M: Mode> Desk<M> {
-    /// A book whose harts all go on.
-    pub(crate) fn new(book: Book<M>, pace: Pace, ends: Counts, is_free: bool) -> Desk<M> {
+    /// A book whose harts all go on, each of them once an overseer has looked, where there is one.
+    pub(crate) fn new(
+        book: Book<M>,
+        pace: Pace,
+        ends: Counts,
+        is_free: bool,
+        is_seen: bool,
+    ) -> Desk<M> {
         let steering = Steering::new(book.machine().harts(), pace, ends, is_free);
-        Desk { book, steering }
+        let bounds = Bounds::new(is_seen);
+        Desk {
+            book,
+            steering,
+            bounds,
+        }
     }
 
     /// The book.
@@ -43,14 +58,18 @@ impl<M: Mode> Desk<M> {
         if hart.number() >= self.book.machine().harts() || !self.may_go(hart, end) {
             return Turn::Ends;
         }
+        if self.bounds.left(hart, self.count_of(hart)) == 0 {
+            return self.stand(hart);
+        }
         if !self.steering.may_ask(hart) {
             return Turn::Waits;
         }
         match self.book.lease(alloc, hart) {
             Ok(lease) => {
                 self.steering.go_out(hart);
+                self.bounds.go_out(hart);
                 let mut lease = self.with_pages(lease);
-                let reach = self.steering.reach(hart);
+                let reach = self.reach(hart);
                 if reach < LEASE_STEPS {
                     lease.allow(reach);
                 }
@@ -125,9 +144,12 @@ impl<M: Mode> Desk<M> {
         let hart = lease.hart();
         let lacked = stop.lacked();
         match self.bring(lease, stop) {
-            Brought::Goes(lease) => Turn::Goes(lease, self.steering.reach(hart)),
-            Brought::Settled(_, _) => {
+            Brought::Goes(lease) => Turn::Goes(lease, self.reach(hart)),
+            Brought::Settled(_, count) => {
                 self.steering.queue_up(hart, lacked);
+                if self.bounds.is_due(hart, count) && self.may_go(hart, end) {
+                    return Turn::Looks;
+                }
                 self.lend(alloc, hart, end)
             }
             Brought::Ends => Turn::Ends,
@@ -170,7 +192,10 @@ impl<M: Mode> Desk<M> {
         } else {
             Keep::Nothing
         };
-        let returned = self.steering.come_back(hart, steps, lease.stop(), woken);
+        let is_short = steps < LEASE_STEPS.min(self.stride(hart));
+        let returned = self
+            .steering
+            .come_back(hart, steps, is_short, lease.stop(), woken);
         match self.book.settle(lease, keep) {
             Ok(()) => {
                 self.tell_settled(hart, returned, before);
@@ -198,6 +223,54 @@ impl<M: Mode> Desk<M> {
             return [0; HART_ROW];
         }
         *self.book.machine().hart(hart).rung()
+    }
+
+    /// The hart's settled count.
+    fn count_of(&self, hart: Hart) -> Count {
+        if hart.number() >= self.book.machine().harts() {
+            return 0;
+        }
+        self.book.machine().hart(hart).count()
+    }
+
+    /// How many steps a lease of the hart may take for all that an overseer has said.
+    fn stride(&self, hart: Hart) -> u64 {
+        self.bounds.stride(hart, self.count_of(hart))
+    }
+
+    /// How many it may take while nobody waits for it.
+    fn reach(&self, hart: Hart) -> u64 {
+        self.steering.reach(hart).min(self.stride(hart))
+    }
+
+    /// The hart waits until the overseer has looked, or ends where he looks no more.
+    fn stand(&mut self, hart: Hart) -> Turn {
+        if self.bounds.stand(hart) {
+            Turn::Stands
+        } else {
+            Turn::Ends
+        }
+    }
+
+    /// Whether a hart waits until the overseer has looked.
+    pub(crate) fn has_standing(&self) -> bool {
+        self.bounds.has_standing()
+    }
+
+    /// The overseer looks, where a hart waits for that, or this one is due still. Whose threads are to go on then, or to end.
+    pub(crate) fn see<R: Wait, O: Overseer<M>>(
+        &mut self,
+        rt: &R,
+        alloc: Global,
+        hart: Hart,
+        overseer: &mut O,
+    ) -> Option<HartSet> {
+        if !self.has_standing() && !self.bounds.is_due(hart, self.count_of(hart)) {
+            return None;
+        }
+        let grant = overseer.look(rt, alloc, &mut self.book);
+        let counts = self.book.counts();
+        Some(self.bounds.grant(grant, &counts))
     }
 
     /// The hart does not go on. Whose threads are to look again.

@@ -49,6 +49,10 @@ pub(crate) enum Turn {
     Goes(Lease, u64),
     /// It has to wait.
     Waits,
+    /// It goes on, and has the overseer look before it does.
+    Looks,
+    /// It has to wait until the overseer has looked.
+    Stands,
     /// It is to end.
     Ends,
 }

@@ -7,6 +7,5 @@ pub mod Served
 pub mod Among
 pub mod Leading
 pub mod NotesAlone
-pub mod Sealed
 pub mod Taken
 pub mod Limits

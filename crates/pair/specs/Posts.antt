@@ -1,14 +1,12 @@
 -- What the threads of a pair begin with.
 use Rattle.std.specs.Prelude.{◌≡◌, ℕ, ◌<◌, ◌≤◌, List, [], length, slice_index_or, replicate}
 use Rattle.ft_types.specs.declared.names.TheConstants.{HART_LIMIT}
-use Rattle.ft_types.specs.Counts.{count_at}
 use Rattle.ack_core.specs.declared.board.Board.{Board}
 use Rattle.ack_core.specs.declared.seats.KeeperSeat.{KeeperSeat}
 use Rattle.ack_core.specs.Seats.{harts_of, keepers_of, keeper_of, published, IsKeeperOf, IsDealt}
 use Rattle.hart_lease.specs.Runs.{counts_of}
 use Rattle.output_gate.specs.Gates.{offered_of}
 use Rattle.lease_rounds.specs.Running.{IsIdle}
-use Rattle.primary.specs.declared.granted.Primary.{Primary}
 use Rattle.log_streams.specs.Primary.{IsFirst}
 use Rattle.pair.specs.declared.posts.Post.{Post}
 use Rattle.pair.specs.declared.posts.Watch.{Watch}
@@ -35,11 +33,6 @@ ArePostsOf board posts =
 pub record IsWatchOf (board : Board) (watch : Watch) : Type 0 where
   pub place : IsAtBoard board watch.gate watch.seat
   pub empty : (hart : ℕ) → hart < HART_LIMIT → offered_of watch.gate hart ≡ []
-
--- of the logs of the primary's harts nothing is cut that is not settled
-pub record IsCutWithin (primary : Primary) : Type 0 where
-  pub harts : length primary.sealed.reached ≡ primary.opening.guest.harts
-  pub within : (hart : ℕ) → count_at primary.sealed.reached hart ≤ counts_of primary.book.machine hart
 
 -- a primary of term 1 that no lease holds up, and whose harts may each go to the budget, which none is past
 pub record MayLead (post : PrimaryPost) : Type 0 where

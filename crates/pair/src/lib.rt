@@ -4,9 +4,11 @@
 
 mod exits;
 mod gate_thread;
+mod herald;
 mod keeper_thread;
 mod keeping;
 mod messages;
+mod news;
 mod noting;
 mod posts;
 mod primary_thread;

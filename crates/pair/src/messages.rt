@@ -7,8 +7,8 @@ use output_gate::Output;
 use std::alloc::Global;
 use std::sync::Wait;
 
-/// What a keeper is sent: a frame, or that there are no more.
-pub(crate) type ToKeeper = Option<Frame>;
+/// What a keeper is sent: frames, or that there are no more.
+pub(crate) type ToKeeper = Option<Vec<Frame>>;
 
 /// What the gate is sent.
 #[derive(Drop)]

@@ -1,11 +1,10 @@
 //! How far a primary goes, round by round.
 
-ghost use Rattle.std.specs.Prelude.{◌≡◌, ◌↔◌, length, IsTrue};
+ghost use Rattle.std.specs.Prelude.{◌≡◌, length};
 ghost use Rattle.ft_types.specs.Counts.{IsWithin};
-ghost use Rattle.pair.specs.Rounds.{IsAtEnd, IsRoundFrom};
+ghost use Rattle.pair.specs.Rounds.{IsRoundFrom};
 
 use ft_types::{Count, Counts, Hart};
-use guest_image::Machine;
 
 /// How many steps a round gives each hart, at the most.
 pub(crate) const ROUND: u64 = 4096;
@@ -24,17 +23,4 @@ pub(crate) fn round_end(counts: Counts, budget: u32) -> Counts
         end.set(hart, count.max(goal));
     }
     end
-}
-
-/// Whether each hart is halted or has come to the budget.
-pub(crate) fn are_at_end(machine: &Machine, budget: u32) -> bool
-    ensures { IsTrue result ↔ IsAtEnd machine.now budget }
-{
-    for number in 0..machine.harts() {
-        let hart = machine.hart(Hart::new(number));
-        if !hart.is_halted() && hart.count() < Count::from(budget) {
-            return false;
-        }
-    }
-    true
 }

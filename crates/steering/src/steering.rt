@@ -197,14 +197,22 @@ impl Steering {
         !self.habits.is_disputed(pages) && !self.queue.wished(hart).is_against(pages)
     }
 
-    /// The hart's lease comes back, with so many steps of those up to this count; it began with inputs or without.
-    pub fn come_back(&mut self, hart: Hart, steps: u64, stop: Count, woken: bool) -> Returned {
+    /// The hart's lease comes back, with so many steps of those up to this count, fewer than it might have had or not; it began with inputs
+    /// or without.
+    pub fn come_back(
+        &mut self,
+        hart: Hart,
+        steps: u64,
+        is_short: bool,
+        stop: Count,
+        woken: bool,
+    ) -> Returned {
         let pages = self.queue.held(hart);
         self.progress.add(hart, steps);
         self.habits
             .note(hart, pages.without(self.queue.wished(hart)));
         self.queue.release(hart);
-        if steps < LEASE_STEPS {
+        if is_short {
             self.meet();
         }
         if steps > 0 {

@@ -1,7 +1,7 @@
 //! What the steering of harts answers, call by call.
 
 use fixtures::hart;
-use ft_types::{Counts, HART_ROW, Hart, HartSet, PAGE_LIMIT, PageNo, Want};
+use ft_types::{Counts, HART_ROW, Hart, HartSet, LEASE_STEPS, PAGE_LIMIT, PageNo, Want};
 use lease_rounds::PageMask;
 use std::test::Fail;
 use steering::{Pace, Steering};
@@ -125,7 +125,13 @@ fn gives(steering: &mut Steering, hart: Hart, pages: PageMask) -> bool {
 
 /// Settles a lease of so many steps, of a hart whose registers come to this, and which rings another hart. Who is called.
 fn settles(steering: &mut Steering, hart: Hart, steps: u16, trace: u64, rung: Option<Hart>) -> u64 {
-    let returned = steering.come_back(hart, u64::from(steps), 0, false);
+    let returned = steering.come_back(
+        hart,
+        u64::from(steps),
+        u64::from(steps) < LEASE_STEPS,
+        0,
+        false,
+    );
     let mut after = [0u64; HART_ROW];
     if let Some(rung) = rung {
         after[rung.index()] = 1;

@@ -8,6 +8,8 @@ mod decisions;
 #[cfg(test)]
 mod followers;
 #[cfg(test)]
+mod overseers;
+#[cfg(test)]
 mod pairs;
 #[cfg(test)]
 mod refused;

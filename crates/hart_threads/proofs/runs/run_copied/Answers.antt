@@ -4,7 +4,7 @@ use Rattle.hart_lease.specs.Runs.{counts_of}
 use Rattle.book_modes.specs.Recordings.{RecordingView, GoesOn}
 use Rattle.page_book.specs.Books.{BookView}
 use Rattle.page_book.specs.Reclaims.{GoesOnFrom}
-use Rattle.lease_rounds.specs.Running.{Continues, GoToBudget, KeepsOffered}
+use Rattle.lease_rounds.specs.Running.{AreAtBudget, Continues, GoToBudget, KeepsOffered}
 use Rattle.lease_rounds.specs.machinery.SoFar.{HasRun, IsRestOf}
 use Rattle.lease_rounds.proofs.Leasing.{free_alone}
 use Rattle.lease_rounds.proofs.Onward.{runs_on}
@@ -42,25 +42,29 @@ module _ (a l p b f : BookView RecordingView) (budget limits : List ℕ) (limite
 
 continues_is : (g : Over) (c : goal.After-has_run-4 g) → Continues c.args.book c.limit_to.new.self
 continues_is g c =
-    continues c.args.book c.limit_at.new.self c.pick-book.result c.in_ok-book.book c.limit_to.new.self c.args.budget _ c.limit_at.ensures c.has_run-2.ensures
-    (subst (λ (x : BookView RecordingView). GoesOnFrom (λ r settled new now. GoesOn r settled new now) x c.pick-book.result) c.in_ok-copy.ensures
+    continues c.args.book c.limit_at.new.self c.pick-book.result.0 c.in_ok-book.book c.limit_to.new.self c.args.budget _ c.limit_at.ensures c.has_run-2.ensures
+    (subst (λ (x : BookView RecordingView). GoesOnFrom (λ r settled new now. GoesOn r settled new now) x c.pick-book.result.0) c.in_ok-copy.ensures
     c.pick-book.ensures.goes_on) c.has_run-3.ensures c.in_ok-book.ensures.continues c.in_ok-book.ensures.counts c.limit_to.ensures
 
 counts_are : (g : Over) (c : goal.After-has_run-4 g) → GoToBudget c.args.budget c.args.book c.limit_to.new.self
 counts_are g c =
-    to_budget c.args.book c.limit_at.new.self c.pick-book.result c.in_ok-book.book c.limit_to.new.self c.args.budget _ c.limit_at.ensures c.has_run-2.ensures
-    (subst (λ (x : BookView RecordingView). GoesOnFrom (λ r settled new now. GoesOn r settled new now) x c.pick-book.result) c.in_ok-copy.ensures
+    to_budget c.args.book c.limit_at.new.self c.pick-book.result.0 c.in_ok-book.book c.limit_to.new.self c.args.budget _ c.limit_at.ensures c.has_run-2.ensures
+    (subst (λ (x : BookView RecordingView). GoesOnFrom (λ r settled new now. GoesOn r settled new now) x c.pick-book.result.0) c.in_ok-copy.ensures
     c.pick-book.ensures.goes_on) c.has_run-3.ensures c.in_ok-book.ensures.continues c.in_ok-book.ensures.counts c.limit_to.ensures
+
+pub returns-clause-done : goal.returns-clause-done
+returns-clause-done g c =
+    subst (λ (x : BookView RecordingView). AreAtBudget c.args.budget x) (sym c.limit_to.ensures) c.in_ok-book.ensures.done
 
 pub returns-clause-offered : goal.returns-clause-offered
 returns-clause-offered g c =
-    keeps_offered c.args.book c.limit_at.new.self c.pick-book.result c.in_ok-book.book c.limit_to.new.self c.args.budget _ c.limit_at.ensures c.has_run-2.ensures
-    (subst (λ (x : BookView RecordingView). GoesOnFrom (λ r settled new now. GoesOn r settled new now) x c.pick-book.result) c.in_ok-copy.ensures
+    keeps_offered c.args.book c.limit_at.new.self c.pick-book.result.0 c.in_ok-book.book c.limit_to.new.self c.args.budget _ c.limit_at.ensures c.has_run-2.ensures
+    (subst (λ (x : BookView RecordingView). GoesOnFrom (λ r settled new now. GoesOn r settled new now) x c.pick-book.result.0) c.in_ok-copy.ensures
     c.pick-book.ensures.goes_on) c.has_run-3.ensures c.in_ok-book.ensures.continues c.in_ok-book.ensures.counts c.limit_to.ensures
     c.in_ok-book.ensures.offered
 
-pub run_crew-held-requires-clause-free : goal.run_crew-held-requires-clause-free
-run_crew-held-requires-clause-free g c lifetimes order = free_alone
+pub run_overseen-held-requires-clause-free : goal.run_overseen-held-requires-clause-free
+run_overseen-held-requires-clause-free g c lifetimes order = free_alone
 
 pub returns-clause-continues : goal.returns-clause-continues
 returns-clause-continues g c = continues_is g c

@@ -1,0 +1,118 @@
+//! Who looks at the primary's book while its harts go on, and sends what is new in it.
+
+use crate::messages::{ToGate, ToKeeper, Went, send};
+use crate::news::News;
+use crate::noting::note_out;
+use crate::rounds::round_end;
+use crossbeam_channel::{Receiver, Sender};
+use fragment_codec::Frame;
+use ft_types::Memory;
+use hart_threads::{Grant, Overseer};
+use page_book::{Book, Recording};
+use std::alloc::Global;
+use std::mem;
+use std::result::Result;
+use std::sync::Wait;
+
+/// What is new in the primary's book, and whom it is sent to.
+#[derive(Drop)]
+pub(crate) struct Herald {
+    pub(crate) news: News,
+    /// The limit of each hart.
+    pub(crate) budget: u32,
+    pub(crate) keepers: Vec<Sender<ToKeeper, Global>>,
+    pub(crate) gate: Sender<ToGate, Global>,
+    /// What went out.
+    pub(crate) went: Receiver<Went, Global>,
+    /// Whether a growth was refused, or somebody is gone to whom something was sent.
+    pub(crate) is_lost: bool,
+}
+
+/// Adds a copy of a frame.
+fn add_copy(alloc: Global, copies: &mut Vec<Frame>, frame: &Frame) -> Result<(), Memory> {
+    let copy = frame.copy(alloc)?;
+    copies.push(copy)?;
+    Ok(())
+}
+
+/// Sends a keeper these frames.
+fn send_copies<R: Wait>(
+    rt: &R,
+    alloc: Global,
+    keeper: &Sender<ToKeeper, Global>,
+    frames: &[Frame],
+) -> Result<(), Memory> {
+    let mut copies = Vec::new(alloc);
+    for frame in frames {
+        add_copy(alloc, &mut copies, frame)?;
+    }
+    send(rt, keeper, Some(copies))
+}
+
+impl Herald {
+    /// Takes what is new in the book, and says how far its harts may go: two rounds, the first of which calls for the next look.
+    fn see(&mut self, alloc: Global, book: &Book<Recording>) -> Option<Grant> {
+        if self.is_lost || self.news.take(alloc, book).is_err() {
+            self.is_lost = true;
+            return None;
+        }
+        let calls = round_end(book.counts(), self.budget);
+        let ends = round_end(calls, self.budget);
+        Some(Grant { calls, ends })
+    }
+
+    /// Sends the gate what was put out, and each keeper the pieces.
+    fn send_news<R: Wait>(&mut self, rt: &R, alloc: Global) -> Result<(), Memory> {
+        let outputs = mem::replace(&mut self.news.outputs, Vec::new(alloc));
+        for output in outputs {
+            send(rt, &self.gate, ToGate::Offer(output))?;
+        }
+        let pieces = mem::replace(&mut self.news.pieces, Vec::new(alloc));
+        if pieces.is_empty() {
+            return Ok(());
+        }
+        for keeper in &self.keepers {
+            send_copies(rt, alloc, keeper, &pieces)?;
+        }
+        Ok(())
+    }
+
+    /// Sends what the book has more than was sent, and that there is no more.
+    pub(crate) fn close<R: Wait>(
+        self,
+        rt: &R,
+        alloc: Global,
+        book: &Book<Recording>,
+    ) -> Result<(), Memory> {
+        let mut herald = self;
+        herald.news.take(alloc, book)?;
+        herald.send_news(rt, alloc)?;
+        send(rt, &herald.gate, ToGate::End)?;
+        for keeper in &herald.keepers {
+            send(rt, keeper, None)?;
+        }
+        Ok(())
+    }
+}
+
+impl Overseer<Recording> for Herald {
+    fn look<R: Wait>(
+        &mut self,
+        rt: &R,
+        alloc: Global,
+        book: &mut Book<Recording>,
+    ) -> Option<Grant> {
+        note_out(rt, &self.went, book);
+        self.see(alloc, book)
+    }
+
+    fn hand_on<R: Wait>(&mut self, rt: &R, alloc: Global) {
+        if !self.is_lost && self.send_news(rt, alloc).is_err() {
+            self.is_lost = true;
+        }
+    }
+
+    fn is_lost(&self) -> bool {
+        self.is_lost
+    }
+}
