@@ -1,6 +1,6 @@
 use Rattle.std.proofs.Common.{◌∙◌, subst}
 use Rattle.log_join.specs.Stores.{IsJoin, nothing}
-use Rattle.log_rows.proofs.keepers.tracked.Goals as goal
+use Rattle.book_rows.proofs.keepers.tracked.Goals as goal
 
 -- a join with a store to which nothing came, from the left
 pub returns-in-Ok : goal.returns-in-Ok
