@@ -169,7 +169,7 @@ fn all_answer_so() -> bool {
     let mut steering = begun(0, Pace::Own);
     let mut place = 0u64;
     for (call, number, with, answered) in &ROWS {
-        place += 1;
+        place = place.wrapping_add(1);
         match *call {
             "even" => steering = begun(*number, Pace::Even),
             "own" => steering = begun(*number, Pace::Own),
