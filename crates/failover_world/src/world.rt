@@ -1,6 +1,7 @@
 //! The world: a primary, the terms before it, what was sent, what keepers hold, and what went out.
 
 ghost use Rattle.std.specs.Prelude.{◌≡◌, ◌≢◌, ◌<◌, ◌≤◌, ◌∷◌, [], true, false, replicate, None, Some, IfOk, IfErr, OnOk, OnErr, IfSome, IfNone};
+ghost use Rattle.std.specs.Vec.{vec_len, vec_capacity};
 ghost use Rattle.ft_types.specs.declared.names.TheConstants.{KEEPER_LIMIT};
 ghost use Rattle.log_join.specs.Stores.{nothing};
 ghost use Rattle.guest_image.specs.Image.{guest_of};
@@ -106,6 +107,18 @@ impl Model for World {
       gate = w.gate;
       released = w.released.items;
     }) };
+}
+
+/// Makes room for one more primary that stopped, and for one more frame that was sent.
+fn make_room(stopped: &mut Vec<Primary>, sent: &mut Vec<Frame>) -> Result<(), Memory>
+    ensures stopped { stopped.new.items ≡ stopped.old.items }
+    ensures sent { sent.new.items ≡ sent.old.items }
+    ensures room { OnOk result (vec_len stopped.new < vec_capacity stopped.new) }
+    ensures frames { OnOk result (vec_len sent.new < vec_capacity sent.new) }
+{
+    stopped.reserve(1)?;
+    sent.reserve(1)?;
+    Ok(())
 }
 
 impl World {
@@ -396,9 +409,7 @@ impl World {
             return Err(WorldFault::Live(fault));
         }
         let (primary, gate) = self.revived(alloc, term, keepers)?;
-        if self.stopped.reserve(1).is_err() || self.sent.reserve(1).is_err() {
-            return Err(WorldFault::Memory);
-        }
+        make_room(&mut self.stopped, &mut self.sent)?;
         self.sent
             .push_reserved(Frame::Opening(primary.opening.copy()));
         let before = mem::replace(&mut self.primary, primary);

@@ -34,10 +34,10 @@ invariant_of-self-2 c =
     subst (λ (w : WorldView). BeginsTerm w c.args.term c.args.keepers.now p) (sym c.self.view_is) c.in_ok-primary.ensures.begins in
     let now : world_with v g c.replace-before.new.dest c.push_reserved-2.new.self.items c.push_reserved.new.self.items ≡ granted_world v p g =
     is_granted v g p c.replace-before.new.dest c.push_reserved-2.new.self.items c.push_reserved.new.self.items c.replace-before.ensures.after
-    (c.push_reserved-2.ensures.items ∙ ap (λ before. c.reserve.new.self.items ++ before ∷ []) c.replace-before.ensures.value
-    ∙ ap (λ (before : List Primary). before ++ c.self.inside.primary ∷ []) c.reserve.ensures.items)
-    (c.push_reserved.ensures.items ∙ ap (λ (o : OpeningParts). c.reserve-else-is_err.new.self.items ++ Opening o ∷ []) c.copy.ensures
-    ∙ ap (λ (before : List Frame). before ++ Opening p.opening ∷ []) c.reserve-else-is_err.ensures.items) in
+    (c.push_reserved-2.ensures.items ∙ ap (λ before. c.make_room.new.stopped.items ++ before ∷ []) c.replace-before.ensures.value
+    ∙ ap (λ (before : List Primary). before ++ c.self.inside.primary ∷ []) c.make_room.ensures.stopped)
+    (c.push_reserved.ensures.items ∙ ap (λ (o : OpeningParts). c.make_room.new.sent.items ++ Opening o ∷ []) c.copy.ensures
+    ∙ ap (λ (before : List Frame). before ++ Opening p.opening ∷ []) c.make_room.ensures.sent) in
     subst IsWorld (sym now) (new_world v c.args.term c.args.keepers.now p g c.self.invariant c.if-self.false live begins)
 
 pub returns-clause-happens : goal.returns-clause-happens
@@ -62,10 +62,10 @@ returns-clause-happens c =
     subst (λ (w : WorldView). BeginsTerm w c.args.term c.args.keepers.now p) (sym c.self.view_is) c.in_ok-primary.ensures.begins in
     let now : world_with v g c.replace-before.new.dest c.push_reserved-2.new.self.items c.push_reserved.new.self.items ≡ granted_world v p g =
     is_granted v g p c.replace-before.new.dest c.push_reserved-2.new.self.items c.push_reserved.new.self.items c.replace-before.ensures.after
-    (c.push_reserved-2.ensures.items ∙ ap (λ before. c.reserve.new.self.items ++ before ∷ []) c.replace-before.ensures.value
-    ∙ ap (λ (before : List Primary). before ++ c.self.inside.primary ∷ []) c.reserve.ensures.items)
-    (c.push_reserved.ensures.items ∙ ap (λ (o : OpeningParts). c.reserve-else-is_err.new.self.items ++ Opening o ∷ []) c.copy.ensures
-    ∙ ap (λ (before : List Frame). before ++ Opening p.opening ∷ []) c.reserve-else-is_err.ensures.items) in
+    (c.push_reserved-2.ensures.items ∙ ap (λ before. c.make_room.new.stopped.items ++ before ∷ []) c.replace-before.ensures.value
+    ∙ ap (λ (before : List Primary). before ++ c.self.inside.primary ∷ []) c.make_room.ensures.stopped)
+    (c.push_reserved.ensures.items ∙ ap (λ (o : OpeningParts). c.make_room.new.sent.items ++ Opening o ∷ []) c.copy.ensures
+    ∙ ap (λ (before : List Frame). before ++ Opening p.opening ∷ []) c.make_room.ensures.sent) in
     let there : All (λ keeper. store_at v.stores keeper ≢ None) c.args.keepers.now =
     subst (λ (stores : List (Option StoreView)). All (λ keeper. store_at stores keeper ≢ None) c.args.keepers.now) c.deref.ensures.value
     (c.if-not-are_there.ensures.all refl) in
