@@ -1,6 +1,6 @@
 -- What a gate was offered, with one output more.
 use Rattle.std.proofs.Common.{◌≡◌, ◌↔◌, IsTrue, nat_le, ◌<◌, ◌≤◌, ℕ, List, [], ◌∷◌, ◌++◌}
-use Rattle.std.proofs.Common.{length, slice_index, slice_set, inl, inr, ap, arith, sym, subst, ◌∙◌}
+use Rattle.std.proofs.Common.{length, slice_index, slice_set, inl, inr, ap, arith, refl, sym, subst, ◌∙◌}
 use Rattle.std.proofs.lemmas.Bool.{cases_eq}
 use Rattle.std.proofs.lemmas.Bool.Decides.{nat_tests}
 use Rattle.std.proofs.lemmas.List.{get_or-set_same, get_or-set_other}
@@ -12,7 +12,7 @@ use Rattle.ft_types.specs.declared.output.Output.{Output}
 use Rattle.ft_types.specs.declared.names.TheConstants.{HART_LIMIT}
 use Rattle.output_gate.specs.Gates.{GateView, offered_in, offered_of}
 use Rattle.output_gate.proofs.Alls.{all_so, all_join, all_back}
-use Rattle.pair.specs.Exits.{AreLast, IsNext, IsOffered}
+use Rattle.pair.specs.Exits.{AreLast, AreTakenIn, IsNext, IsOffered, IsTakenIn}
 
 -- no output of the list is behind the step
 abbrev NoneBehind : ℕ → List Output → Type 0
@@ -70,6 +70,12 @@ last_offered old new steps o place at there last next is hart below = elim (case
   | inr ne ↦ last_same old new steps (slice_set steps place o.step) hart
       (ap offered_in (is.others hart (λ e. ne (e ∙ sym at)))) (get_or-set_other steps place hart o.step 0 ne) (last hart below)
 ]
+
+-- one output more is taken in
+pub taken_in_more : (old between new : GateView) (outputs : List Output) (o : Output) → AreTakenIn old outputs between → IsTakenIn between o new →
+    AreTakenIn old (outputs ++ o ∷ []) new
+taken_in_more old between new [] o t last = (new, subst (λ (g : GateView). IsTakenIn g o new) t last, refl)
+taken_in_more old between new (x ∷ xs) o t last = (t.0, t.1, taken_in_more t.0 between new xs o t.2 last)
 
 moved_all : (P : Output → Type 0) (xs ys : List Output) → IsPermutation xs ys → AllByRecursion P xs → AllByRecursion P ys
 moved_all P xs ys moves all = recursion_from_All P ys (All-permutation P xs ys moves (All-from_recursion P xs all))

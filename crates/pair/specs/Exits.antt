@@ -10,7 +10,7 @@ use Rattle.output_gate.specs.Gates.{GateView, with_offer, line_of, offered_of}
 use Rattle.output_gate.specs.Looks.{IsSeen}
 use Rattle.ft_types.specs.declared.output.Output.{Output}
 use Rattle.pair.specs.declared.messages.ToGate.{ToGate}
-use Rattle.pair.specs.declared.messages.ToGate.TheVariants.{Offer, Published, End}
+use Rattle.pair.specs.declared.messages.ToGate.TheVariants.{Offers, Published, End}
 
 -- of each hart, the least step that none of its offered outputs is behind
 abbrev pub AreLast : GateView → List ℕ → Type 0
@@ -36,8 +36,17 @@ pub record IsOffered (old : GateView) (o : Output) (new : GateView) : Type 0 whe
   pub offered : offered_of new o.hart ≡ offered_of old o.hart ++ o ∷ []
   pub others : (hart : ℕ) → hart ≢ o.hart → line_of new hart ≡ line_of old hart
 
--- what a gate takes in of a message: an output that is its hart's next is offered, and nothing else changes it
+-- an output that is its hart's next is offered, and any other is left out
+abbrev pub IsTakenIn : GateView → Output → GateView → Type 0
+IsTakenIn old o new = (IsNext old o → IsOffered old o new) × ((IsNext old o → ⊥) → new ≡ old)
+
+-- the gate took these outputs in, one after the other
+abbrev pub AreTakenIn : GateView → List Output → GateView → Type 0
+AreTakenIn old [] new = new ≡ old
+AreTakenIn old (o ∷ outputs) new = (between : GateView) × IsTakenIn old o between × AreTakenIn between outputs new
+
+-- what a gate takes in of a message: outputs, one after the other, and nothing else changes it
 abbrev pub TakesIn : GateView → ToGate → GateView → Type 0
-TakesIn old (Offer o) new = (IsNext old o → IsOffered old o new) × ((IsNext old o → ⊥) → new ≡ old)
+TakesIn old (Offers outputs) new = AreTakenIn old outputs.items new
 TakesIn old Published new = new ≡ old
 TakesIn old End new = new ≡ old

@@ -6,8 +6,8 @@ ghost use Rattle.ft_types.specs.declared.names.TheConstants.{HART_LIMIT};
 ghost use Rattle.ack_core.specs.Seats.{harts_of, keepers_of, seen};
 ghost use Rattle.output_gate.specs.Gates.{noted_at, held_outputs};
 ghost use Rattle.output_gate.specs.Looks.{IsInside};
-ghost use Rattle.pair.specs.Exits.{AreLast, AreLonger, IsAtBoard, IsNext, TakesIn};
-ghost use Rattle.pair.specs.declared.messages.ToGate.TheVariants.{Offer, End};
+ghost use Rattle.pair.specs.Exits.{AreLast, AreLonger, AreTakenIn, IsAtBoard, IsNext, IsTakenIn, TakesIn};
+ghost use Rattle.pair.specs.declared.messages.ToGate.TheVariants.{End};
 
 use crate::messages::ToGate;
 use ack_core::{Board, GateSeat};
@@ -37,13 +37,26 @@ fn is_next(gate: &Gate, last: &LastSteps, output: &Output) -> bool
 /// Offers an output to the gate, where it is its hart's next.
 fn offer(gate: &mut Gate, last: &mut LastSteps, output: Output) -> Result<(), Memory>
     requires { AreLast gate.old last.old }
-    ensures offered { OnOk result (TakesIn gate.old (Offer output) gate.new) }
+    ensures offered { OnOk result (IsTakenIn gate.old output gate.new) }
     ensures last { OnOk result (AreLast gate.new last.new) }
     ensures rest { gate.new ≡ record gate.old { lines = gate.new.lines } }
 {
     if is_next(gate, last, &output) {
         gate.offer(output)?;
         last[output.hart.index()] = output.step;
+    }
+    Ok(())
+}
+
+/// Offers outputs to the gate, one after the other.
+fn offer_all(gate: &mut Gate, last: &mut LastSteps, outputs: Vec<Output>) -> Result<(), Memory>
+    requires { AreLast gate.old last.old }
+    ensures offered { OnOk result (AreTakenIn gate.old outputs.items gate.new) }
+    ensures last { OnOk result (AreLast gate.new last.new) }
+    ensures rest { gate.new ≡ record gate.old { lines = gate.new.lines } }
+{
+    for output in outputs {
+        offer(gate, last, output)?;
     }
     Ok(())
 }
@@ -61,8 +74,8 @@ pub(crate) fn take_in(
     ensures rest { gate.new ≡ record gate.old { lines = gate.new.lines } }
 {
     match message {
-        ToGate::Offer(output) => {
-            offer(gate, last, output)?;
+        ToGate::Offers(outputs) => {
+            offer_all(gate, last, outputs)?;
             Ok(false)
         }
         ToGate::Published => Ok(false),

@@ -64,8 +64,8 @@ impl Herald {
     /// Sends the gate what was put out, and each keeper the pieces.
     fn send_news<R: Wait>(&mut self, rt: &R, alloc: Global) -> Result<(), Memory> {
         let outputs = mem::replace(&mut self.news.outputs, Vec::new(alloc));
-        for output in outputs {
-            send(rt, &self.gate, ToGate::Offer(output))?;
+        if !outputs.is_empty() {
+            send(rt, &self.gate, ToGate::Offers(outputs))?;
         }
         let pieces = mem::replace(&mut self.news.pieces, Vec::new(alloc));
         if pieces.is_empty() {

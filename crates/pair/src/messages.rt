@@ -13,8 +13,8 @@ pub(crate) type ToKeeper = Option<Vec<Frame>>;
 /// What the gate is sent.
 #[derive(Drop)]
 pub(crate) enum ToGate {
-    /// A hart has put this out.
-    Offer(Output),
+    /// Harts have put these out since the last look.
+    Offers(Vec<Output>),
     /// A keeper has published.
     Published,
     /// The primary is at its end.
