@@ -12,8 +12,8 @@ use ft_types::{Sink, Source};
 use guest_image::{Image, read_image};
 use log_join::Store;
 use log_streams::{
-    PairOrders, Pairs, Quorum, Replays, Runs, cut_streams, frames_of, read_store, replay_streams,
-    run_primary, write_frames, write_size, write_store,
+    PairOrders, Pairs, Quorum, Replays, Runs, StreamsFault, cut_streams, frames_of, read_store,
+    replay_streams, run_primary, write_frames, write_size, write_store,
 };
 use page_book::{Book, Recording};
 use scripts::{Offered, read_events, read_script};
@@ -347,6 +347,13 @@ pub fn no_request<E: Sink>(fault: WordsFault, err: &mut E) -> u8 {
         WordsFault::Usage => 2,
         WordsFault::Memory => 1,
     }
+}
+
+/// Says that what was held back could not be written, and gives the status that the program ends with.
+pub fn no_output<E: Sink>(err: &mut E) -> u8 {
+    let fault = CommandFault::Streams(StreamsFault::Write);
+    let _told = write_fault(&fault, "", err);
+    status_of(&fault)
 }
 
 /// Does what the words ask for, and gives the status that the program ends with.

@@ -9,7 +9,7 @@ mod faults;
 mod files;
 mod words;
 
-pub use commands::{command, no_request};
+pub use commands::{command, no_output, no_request};
 pub use files::Files;
 pub use log_streams::{PairOrders, Pairs};
 pub use words::WordsFault;

@@ -88,6 +88,11 @@ impl<W: Write + Drop> HostWriter<W> {
             failures: 0,
         }
     }
+
+    /// Writes what the writer has held back. Whether it could.
+    pub fn flush(&mut self) -> bool {
+        self.writer.flush().is_ok()
+    }
 }
 
 impl<W: Write + Drop> Sink for HostWriter<W> {

@@ -4,8 +4,9 @@
 mod host;
 
 use crate::host::{HostFiles, HostWriter};
-use command_line::{Pairs, WordsFault, command, no_request};
+use command_line::{Pairs, WordsFault, command, no_output, no_request};
 use pair::OnThreads;
+use std::io::BufWriter;
 use std::process::ExitCode;
 use std::{env, io};
 
@@ -31,12 +32,21 @@ fn status<P: Pairs>(rt: &HostRuntime, pairs: &P) -> u8
     requires { P.may_run pairs.now }
 {
     let mut files = HostFiles::new(rt);
-    let mut out = HostWriter::new(rt.stdout());
     let mut err = HostWriter::new(rt.stderr());
-    match arguments(rt) {
-        Ok(words) => command(rt.alloc(), &words, &mut files, pairs, &mut out, &mut err),
-        Err(error) => no_request(fault_of(&error), &mut err),
+    let words = match arguments(rt) {
+        Ok(words) => words,
+        Err(error) => return no_request(fault_of(&error), &mut err),
+    };
+    // A pair prints a line of each output: written one by one they would take as long as its steps.
+    let Ok(stdout) = BufWriter::new(rt.alloc(), rt.stdout()) else {
+        return no_request(WordsFault::Memory, &mut err);
+    };
+    let mut out = HostWriter::new(stdout);
+    let status = command(rt.alloc(), &words, &mut files, pairs, &mut out, &mut err);
+    if status == 0 && !out.flush() {
+        return no_output(&mut err);
     }
+    status
 }
 
 fn main(rt: HostRuntime) -> ExitCode {
