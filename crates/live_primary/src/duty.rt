@@ -5,7 +5,7 @@ ghost use Rattle.std.specs.Prelude.{◌≤◌};
 use crate::names::name_in;
 use crate::office::Office;
 use crate::outset::{Outset, frame_bytes, set_out};
-use crate::pace::{FIRST_ROUND, next_blind, next_round};
+use crate::pace::{FIRST_ROUND, SHORT_ROUNDS, next_blind, next_round};
 use ends::{Event, Fault, Host, refuse};
 use ft_types::{Count, Guest, Memory};
 use leading::Leader;
@@ -123,6 +123,22 @@ fn take<H: Host>(
     }
 }
 
+/// Takes the events that are there.
+fn take_there<H: Host>(
+    rt: &H,
+    leader: &mut Leader,
+    duty: &mut Duty,
+    office: &Office,
+) -> Result<(), Fault> {
+    for _more in 0..office.events.len().min(BATCH) {
+        let Ok(event) = office.events.try_recv(rt) else {
+            break;
+        };
+        take(rt, leader, duty, office, event)?;
+    }
+    Ok(())
+}
+
 /// Takes the events that are there. Where rounds would change nothing, it waits for one.
 fn take_all<H: Host>(
     rt: &H,
@@ -136,13 +152,7 @@ fn take_all<H: Host>(
         };
         take(rt, leader, duty, office, event)?;
     }
-    for _more in 0..office.events.len().min(BATCH) {
-        let Ok(event) = office.events.try_recv(rt) else {
-            break;
-        };
-        take(rt, leader, duty, office, event)?;
-    }
-    Ok(())
+    take_there(rt, leader, duty, office)
 }
 
 /// Leads a round of so many steps, and gives the bytes of its frames.
@@ -151,15 +161,32 @@ fn round(alloc: Global, leader: Leader, steps: Count) -> Result<(Leader, Vec<u8>
     Ok((leader, frame_bytes(alloc, &frames)?))
 }
 
-/// Leads a round, sends its frames, and looks, unless that is put off, whether more rounds would change anything.
+/// Leads a round of so many steps, and where it is a short one some more, until something comes to the gate: harts that ring each other for an answer
+/// hear it in the next round, before keepers are sent anything, and before it is looked whether they wait. Gives the bytes of all frames.
+fn rounds(alloc: Global, leader: Leader, steps: Count) -> Result<(Leader, Vec<u8>), Memory> {
+    let (mut leader, mut frames) = round(alloc, leader, steps)?;
+    for _more in 1..SHORT_ROUNDS {
+        if steps > FIRST_ROUND || leader.kept() > 0 {
+            break;
+        }
+        let (next, mut more) = round(alloc, leader, steps)?;
+        leader = next;
+        frames.append(&mut more)?;
+    }
+    Ok((leader, frames))
+}
+
+/// Leads rounds, sends their frames, and looks, unless that is put off, whether more rounds would change anything. What came meanwhile is taken
+/// before it looks, which may take longer than a keeper needs to acknowledge.
 fn go_on<H: Host>(
     rt: &H,
     leader: Leader,
     duty: &mut Duty,
     office: &Office,
-) -> Result<Leader, Memory> {
-    let (mut leader, frames) = round(rt.alloc(), leader, duty.steps)?;
+) -> Result<Leader, Fault> {
+    let (mut leader, frames) = rounds(rt.alloc(), leader, duty.steps)?;
     office.send(rt, frames)?;
+    take_there(rt, &mut leader, duty, office)?;
     duty.waits = duty.blind == 0 && leader.only_waits(rt.alloc())?;
     duty.blind = next_blind(duty.blind, duty.steps);
     duty.steps = next_round(duty.steps, leader.may_hand());

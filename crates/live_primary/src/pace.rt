@@ -5,7 +5,10 @@ ghost use Rattle.std.specs.Prelude.{◌≡◌, ◌+◌, ◌<◌, ◌≤◌, ◌*
 use ft_types::Count;
 
 /// How many steps the first round behind a request has.
-pub(crate) const FIRST_ROUND: Count = 240;
+pub(crate) const FIRST_ROUND: Count = 160;
+
+/// How many of these short rounds go by at the most before keepers are sent what they brought.
+pub(crate) const SHORT_ROUNDS: u8 = 4;
 
 /// How many steps a round has at the most.
 const LONGEST_ROUND: Count = 61_440;
