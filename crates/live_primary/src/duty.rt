@@ -123,22 +123,6 @@ fn take<H: Host>(
     }
 }
 
-/// Takes the events that are there.
-fn take_there<H: Host>(
-    rt: &H,
-    leader: &mut Leader,
-    duty: &mut Duty,
-    office: &Office,
-) -> Result<(), Fault> {
-    for _more in 0..office.events.len().min(BATCH) {
-        let Ok(event) = office.events.try_recv(rt) else {
-            break;
-        };
-        take(rt, leader, duty, office, event)?;
-    }
-    Ok(())
-}
-
 /// Takes the events that are there. Where rounds would change nothing, it waits for one.
 fn take_all<H: Host>(
     rt: &H,
@@ -152,7 +136,13 @@ fn take_all<H: Host>(
         };
         take(rt, leader, duty, office, event)?;
     }
-    take_there(rt, leader, duty, office)
+    for _more in 0..office.events.len().min(BATCH) {
+        let Ok(event) = office.events.try_recv(rt) else {
+            break;
+        };
+        take(rt, leader, duty, office, event)?;
+    }
+    Ok(())
 }
 
 /// Leads a round of so many steps, and gives the bytes of its frames.
@@ -186,7 +176,7 @@ fn go_on<H: Host>(
 ) -> Result<Leader, Fault> {
     let (mut leader, frames) = rounds(rt.alloc(), leader, duty.steps)?;
     office.send(rt, frames)?;
-    take_there(rt, &mut leader, duty, office)?;
+    take_all(rt, &mut leader, duty, office)?;
     duty.waits = duty.blind == 0 && leader.only_waits(rt.alloc())?;
     duty.blind = next_blind(duty.blind, duty.steps);
     duty.steps = next_round(duty.steps, leader.may_hand());
