@@ -5,7 +5,7 @@ ghost use Rattle.std.specs.Prelude.{◌≤◌};
 use crate::names::name_in;
 use crate::office::Office;
 use crate::outset::{Outset, frame_bytes, set_out};
-use crate::pace::{FIRST_ROUND, SHORT_ROUNDS, next_blind, next_round};
+use crate::pace::{FIRST_ROUND, LONE_ROUND, SHORT_ROUNDS, next_blind, next_round};
 use ends::{Event, Fault, Host, refuse};
 use ft_types::{Count, Guest, Memory};
 use leading::Leader;
@@ -73,7 +73,11 @@ fn take_request<H: Host>(
     for answer in &leader.hear(rt.alloc(), &request)? {
         office.tell(rt, answer)?;
     }
-    duty.steps = FIRST_ROUND;
+    duty.steps = if leader.kept() > 0 {
+        FIRST_ROUND
+    } else {
+        LONE_ROUND
+    };
     duty.blind = 0;
     duty.waits = false;
     Ok(())
