@@ -1,86 +1,95 @@
 //! What the steering of harts answers, call by call.
 
 use fixtures::hart;
-use ft_types::{Counts, HART_ROW, Hart, HartSet, LEASE_STEPS, PAGE_LIMIT, PageNo, Want};
+use ft_types::{
+    Counts, HART_ROW, Hart, HartSet, LEASE_STEPS, PAGE_LIMIT, PageNo, Want, read_number,
+};
 use lease_rounds::PageMask;
 use std::test::Fail;
 use steering::{Pace, Steering};
 
-/// A call of a hart, with a page, a number of steps or another hart, and what it answers: a number, 1 for yes, or a bit a hart.
-type Row = (&'static str, u8, u16, u64);
-
 /// What the registers of a hart come to that is as it was.
 const AS_IT_WAS: u64 = 7777;
 
-static ROWS: [Row; 64] = [
+/// Calls of harts, each with its hart and, where there is one, a page, a number of steps or another hart; and what it answers: a number, 1 for yes, or
+/// a bit a hart. The first of each text begins, with so many harts.
+static ROWS: [&str; 4] = [
     // Whoever was refused first is given first, and a page in dispute is kept by nobody.
-    ("even", 3, 0, 0),
-    ("asks", 0, 0, 1),
-    ("asks", 1, 0, 1),
-    ("asks", 2, 0, 1),
-    ("writes", 0, 5, 1),
-    ("writes", 1, 5, 0),
-    ("brings", 1, 0, 0),
-    ("asks", 1, 0, 0),
-    ("wanted", 0, 0, 1),
-    ("reads", 2, 5, 0),
-    ("brings", 2, 0, 0),
-    ("asks", 2, 0, 0),
-    ("keeps", 0, 0, 0),
-    ("brings", 0, 1024, 2),
-    ("asks", 1, 0, 1),
-    ("takes", 1, 5, 1),
-    ("writes", 1, 5, 1),
-    ("brings", 1, 1024, 4),
-    ("asks", 2, 0, 1),
-    ("reads", 2, 5, 1),
-    ("reads", 0, 5, 1),
-    ("takes", 0, 5, 0),
+    "\
+even 3|
+asks 0|1
+asks 1|1
+asks 2|1
+writes 0 5|1
+writes 1 5|0
+brings 1|0
+asks 1|0
+wanted 0|1
+reads 2 5|0
+brings 2|0
+asks 2|0
+keeps 0|0
+brings 0 1024|2
+asks 1|1
+takes 1 5|1
+writes 1 5|1
+brings 1 1024|4
+asks 2|1
+reads 2 5|1
+reads 0 5|1
+takes 0 5|0
+",
     // No hart runs far ahead, but the further the longer they have had nothing to do with each other.
-    ("even", 2, 0, 0),
-    ("asks", 0, 0, 1),
-    ("brings", 0, 1024, 0),
-    ("asks", 0, 0, 1),
-    ("brings", 0, 1024, 0),
-    ("asks", 0, 0, 0),
-    ("wanted", 0, 0, 0),
-    ("asks", 1, 0, 1),
-    ("brings", 1, 1024, 1),
-    ("asks", 1, 0, 1),
-    ("brings", 1, 1024, 0),
-    ("reaches", 1, 0, 2048),
+    "\
+even 2|
+asks 0|1
+brings 0 1024|0
+asks 0|1
+brings 0 1024|0
+asks 0|0
+wanted 0|0
+asks 1|1
+brings 1 1024|1
+asks 1|1
+brings 1 1024|0
+reaches 1|2048
+",
     // A hart that is behind its lease as it was rests, until what it read is written or its bell is rung.
-    ("even", 2, 0, 0),
-    ("asks", 0, 0, 1),
-    ("stays", 0, 1024, 0),
-    ("asks", 0, 0, 1),
-    ("reads", 0, 5, 1),
-    ("stays", 0, 1024, 0),
-    ("asks", 0, 0, 0),
-    ("wanted", 0, 0, 2),
-    ("asks", 1, 0, 1),
-    ("writes", 1, 5, 1),
-    ("brings", 1, 7, 1),
-    ("reaches", 0, 0, 128),
-    ("asks", 1, 0, 1),
-    ("brings", 1, 1024, 0),
-    ("asks", 0, 0, 1),
-    ("stays", 0, 128, 0),
-    ("asks", 0, 0, 0),
-    ("asks", 1, 0, 1),
-    ("rings", 1, 0, 1),
-    ("wanted", 0, 0, 3),
+    "\
+even 2|
+asks 0|1
+stays 0 1024|0
+asks 0|1
+reads 0 5|1
+stays 0 1024|0
+asks 0|0
+wanted 0|2
+asks 1|1
+writes 1 5|1
+brings 1 7|1
+reaches 0|128
+asks 1|1
+brings 1 1024|0
+asks 0|1
+stays 0 128|0
+asks 0|0
+asks 1|1
+rings 1|1
+wanted 0|3
+",
     // Where each waits for the others' steps none may come.
-    ("own", 2, 0, 0),
-    ("reaches", 0, 0, 65536),
-    ("waits", 0, 0, 1),
-    ("wanted", 0, 0, 2),
-    ("waits", 1, 0, 0),
-    ("brings", 1, 5, 3),
-    ("waits", 1, 0, 1),
-    ("leaves", 0, 0, 2),
-    ("waits", 1, 0, 0),
-    ("asks", 1, 0, 1),
+    "\
+own 2|
+reaches 0|65536
+waits 0|1
+wanted 0|2
+waits 1|0
+brings 1 5|3
+waits 1|1
+leaves 0|2
+waits 1|0
+asks 1|1
+",
 ];
 
 fn begun(harts: u8, pace: Pace) -> Steering {
@@ -164,27 +173,58 @@ fn answer(steering: &mut Steering, call: &str, hart: Hart, number: u16, place: u
     }
 }
 
-/// Whether each call answers what its row says.
-fn all_answer_so() -> bool {
+/// The first word of a text, and what stands behind it.
+fn word(text: &str) -> (&str, &str) {
+    match text.split_once(' ') {
+        Some(parts) => parts,
+        None => (text, ""),
+    }
+}
+
+/// A number below 65,536, or 0 where there is none.
+fn small(text: &str) -> u16 {
+    match read_number(text.as_bytes()) {
+        Some(number) => (number % 65_536) as u16,
+        None => 0,
+    }
+}
+
+/// Whether a call is answered so that a hart makes at this place of its text. A call that begins makes the steering anew.
+fn is_answered(steering: &mut Steering, asked: &str, answered: &str, place: u64) -> bool {
+    let (call, behind) = word(asked);
+    let (number, with) = word(behind);
+    let number = (small(number) % 32) as u8;
+    match call {
+        "even" => *steering = begun(number, Pace::Even),
+        "own" => *steering = begun(number, Pace::Own),
+        _ => {
+            let answer = answer(steering, call, hart(number), small(with), place);
+            return read_number(answered.as_bytes()) == Some(answer);
+        }
+    }
+    true
+}
+
+/// Whether each call of a text answers what its row says.
+fn all_answer_so(rows: &str) -> bool {
     let mut steering = begun(0, Pace::Own);
     let mut place = 0u64;
-    for (call, number, with, answered) in &ROWS {
-        place = place.wrapping_add(1);
-        match *call {
-            "even" => steering = begun(*number, Pace::Even),
-            "own" => steering = begun(*number, Pace::Own),
-            _ => {
-                if answer(&mut steering, *call, hart(*number), *with, place) != *answered {
-                    return false;
-                }
-            }
+    for line in rows.lines() {
+        let (asked, answered) = line.split_once('|').unwrap_or((line, ""));
+        if !is_answered(&mut steering, asked, answered, place) {
+            return false;
         }
+        place = place.wrapping_add(1);
     }
     true
 }
 
 #[test]
 fn the_steering_answers_so(rt: HostRuntime) -> Result<(), Fail> {
-    assert!(rt; all_answer_so());
+    let mut right = true;
+    for rows in &ROWS {
+        right = right && all_answer_so(rows);
+    }
+    assert!(rt; right);
     Ok(())
 }

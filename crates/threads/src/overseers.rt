@@ -112,6 +112,17 @@ fn run_under<R: Threads + Wait + Sync>(
     }
 }
 
+/// Whether each hart of a book has taken so many steps.
+fn have_taken(book: &Book<Recording>, steps: u64) -> bool {
+    let counts = book.counts();
+    for count in counts.as_slice() {
+        if *count != steps {
+            return false;
+        }
+    }
+    true
+}
+
 /// Whether each hart takes so many steps under such an overseer, stays where he lets it go, and their log leads to their machine; whether what he
 /// took was handed on each time; and how often he looked.
 fn looks<R: Threads + Wait + Sync>(
@@ -122,8 +133,7 @@ fn looks<R: Threads + Wait + Sync>(
     last: u64,
 ) -> Result<(bool, u64), Memory> {
     let (book, seen) = run_under(rt, alloc, image, last)?;
-    let counts = book.counts();
-    let are_all = counts.as_slice().iter().all(|count| *count == steps);
+    let are_all = have_taken(&book, steps);
     let left = left_by(alloc, image, book)?;
     let is_right = are_all && seen.is_obeyed && seen.handed == seen.looks;
     Ok((is_right && leads(rt, alloc, image, &left)?, seen.looks))

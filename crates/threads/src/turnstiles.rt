@@ -70,9 +70,13 @@ impl Watch {
     fn saw(&self) -> Seen {
         let mut least = u64::MAX;
         let mut greatest = 0u64;
-        for count in self.counts.iter().take(self.harts) {
-            least = least.min(count.load(Ordering::SeqCst));
-            greatest = greatest.max(count.load(Ordering::SeqCst));
+        let mut place = 0usize;
+        for count in &self.counts {
+            if place < self.harts {
+                least = least.min(count.load(Ordering::SeqCst));
+                greatest = greatest.max(count.load(Ordering::SeqCst));
+            }
+            place = place.saturating_add(1);
         }
         let leases = if self.harts == 1 {
             self.begun[0].load(Ordering::SeqCst)
@@ -105,10 +109,12 @@ impl Watch {
     }
 
     fn all_came(&self) -> bool {
-        for begun in self.begun.iter().take(self.harts) {
-            if begun.load(Ordering::SeqCst) < 2 {
+        let mut place = 0usize;
+        for begun in &self.begun {
+            if place < self.harts && begun.load(Ordering::SeqCst) < 2 {
                 return false;
             }
+            place = place.saturating_add(1);
         }
         true
     }
