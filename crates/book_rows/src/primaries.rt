@@ -7,7 +7,7 @@ ghost use Rattle.lease_rounds.specs.Running.{IsIdle};
 use crate::guests::ADDS;
 use crate::starts::harts_of;
 use fixtures::{HALTS, RING_EACH_OTHER, TWO_LOOPS, image_of};
-use ft_types::{Count, Counts, Hart};
+use ft_types::{Count, Counts, Hart, LEASE_STEPS};
 use guest_image::{Image, Machine};
 use lease_rounds::{run_plain, take_step};
 use page_book::{Book, BookFault, Recording};
@@ -27,7 +27,7 @@ fn begin(alloc: Global, image: &Image, limits: &[Count]) -> Option<Book<Recordin
 }
 
 fn ran(alloc: Global, image: &Image, limits: &[Count]) -> Option<Book<Recording>> {
-    run_plain(alloc, begin(alloc, image, limits)?).ok()
+    run_plain(alloc, begin(alloc, image, limits)?, LEASE_STEPS).ok()
 }
 
 /// Whether a book has these counts after so many leases.

@@ -9,7 +9,7 @@ ghost use Rattle.hart_replay.specs.Leading.{HasStopped, ComesTo, ComesShort, IsL
 
 use crate::fault::ReplayFault;
 use crate::plans::PlannedLeg;
-use ft_types::{Counts, Hart, Memory};
+use ft_types::{Counts, Hart, LEASE_STEPS, Memory};
 use guest_image::Machine;
 use lease_rounds::go_round;
 use page_book::{Book, Keep, Leg, Replaying};
@@ -27,7 +27,7 @@ fn lead(alloc: Global, start: Machine, leg: &PlannedLeg) -> Result<Book<Replayin
     };
     let mut book = Book::<Replaying>::begin(alloc, start, obeyed)?;
     loop {
-        if !go_round(alloc, &mut book, Keep::Nothing)? {
+        if !go_round(alloc, &mut book, Keep::Nothing, LEASE_STEPS)? {
             return Ok(book);
         }
     }

@@ -12,7 +12,7 @@ ghost use Rattle.hart_replay.specs.Leading.{IsHeld, IsLeading, IsLegFault, leg_o
 use crate::crew::run_crew;
 use crate::ends::come_to;
 use crate::turnstile::Turnstile;
-use ft_types::{HART_ROW, HartSet, Memory};
+use ft_types::{HART_ROW, HartSet, LEASE_STEPS, Memory};
 use guest_image::Machine;
 use hart_replay::{PlannedLeg, ReplayFault};
 use lease_rounds::go_round;
@@ -59,7 +59,7 @@ pub(crate) fn finish(alloc: Global, book: Book<Replaying>) -> Result<Book<Replay
     // proof: the journal leads to the machine.
     let _machine = book.machine();
     loop {
-        if !go_round(alloc, &mut book, Keep::Nothing)? {
+        if !go_round(alloc, &mut book, Keep::Nothing, LEASE_STEPS)? {
             return Ok(book);
         }
     }

@@ -12,7 +12,7 @@ use crate::crew::run_overseen;
 use crate::fault::PoolFault;
 use crate::overseer::{Nobody, Overseer};
 use crate::turnstile::{Free, Turnstile};
-use ft_types::{Counts, HART_ROW, HartSet};
+use ft_types::{Counts, HART_ROW, HartSet, LEASE_STEPS};
 use input_log::NoteLog;
 use lease_rounds::{has_run, run_plain};
 use page_book::{Book, Recording};
@@ -60,7 +60,7 @@ fn finish(
     let mut book = book;
     book.reclaim();
     book.limit_at(budget);
-    Ok(run_plain(alloc, book)?)
+    Ok(run_plain(alloc, book, LEASE_STEPS)?)
 }
 
 /// Runs a primary's harts, each on a thread of its own, one hart alone on the calling thread, until each hart is halted or at its

@@ -11,9 +11,9 @@ use Rattle.book_modes.specs.Recordings.{RecordingView, heard_by}
 use Rattle.page_book.specs.Books.{BookView}
 use Rattle.page_book.specs.Tellings.{TellsOn}
 use Rattle.hart_replay.specs.Primaries.{IsPrimary}
-use Rattle.lease_rounds.specs.Running.{IsIdle, AreThrough, Continues, GoWithin, GoesRound, KeepsOffered}
+use Rattle.lease_rounds.specs.Running.{IsIdle, AreThrough, Continues, GoWithin, GoesRoundFor, KeepsOffered}
 use Rattle.primary.specs.Primaries.{no_limits}
-use Rattle.leading.specs.Rounds.{HasGoneOn, limited}
+use Rattle.leading.specs.Rounds.{HasGoneOn, lease_steps, limited}
 
 -- a row that is changed at one place
 pub set_is : (xs : List ℕ) (n v hart : ℕ) →
@@ -44,7 +44,7 @@ settled m row slice full n are same each many is hart =
 
 -- a book that went on to other limits, and has none now
 pub led : (steps : ℕ) (b c : BookView RecordingView) (end full : List ℕ) → Continues (limited b end) c → TellsOn (limited b end) c →
-    KeepsOffered (limited b end) c → GoesRound (limited b end) c → GoWithin (limited b end) c → IsIdle c → AreThrough c → c.mode.limits ≡ end →
+    KeepsOffered (limited b end) c → GoesRoundFor (lease_steps (length b.machine.harts)) (limited b end) c → GoWithin (limited b end) c → IsIdle c → AreThrough c → c.mode.limits ≡ end →
     ((hart : ℕ) → count_at end hart ≤ counts_of b.machine hart + steps) →
     ((hart : ℕ) → hart < length b.machine.harts → min (counts_of b.machine hart + steps) (COUNT_LIMIT - 1) ≤ count_at end hart) →
     ((hart : ℕ) → counts_of c.machine hart ≤ count_at full hart) → LeadsTo (heard_by b.mode) b.start b.journal b.machine → IsPrimary (limited c full) →
@@ -73,5 +73,5 @@ led steps b c end full continues tells offered round go idle through limits most
   ];
   offered = offered;
   end = end;
-  rounds = subst (GoesRound (limited b end)) (ap (λ (row : List ℕ). limited c row) limits) round;
+  rounds = subst (GoesRoundFor (lease_steps (length b.machine.harts)) (limited b end)) (ap (λ (row : List ℕ). limited c row) limits) round;
 }

@@ -1,6 +1,6 @@
 -- A round of a primary.
 use Rattle.std.specs.Prelude.{ℕ, ◌≡◌, ◌≢◌, ◌≤◌, ◌⊎◌, ◌+◌, ◌-◌, ◌^◌, ◌++◌, ◌∷◌, ◌==◌, ◌&&◌, [], List, Bool, true, not, Option, Some, None, length, min, slice_get, bit_and, if◌then◌else◌}
-use Rattle.ft_types.specs.declared.names.TheConstants.{COUNT_LIMIT}
+use Rattle.ft_types.specs.declared.names.TheConstants.{COUNT_LIMIT, LEASE_STEPS}
 use Rattle.input_log.specs.declared.Input.{Input}
 use Rattle.input_log.specs.Waiting.{bells_of, others_of}
 use Rattle.rv32_hart.specs.Hart.{Hart}
@@ -10,7 +10,7 @@ use Rattle.book_modes.specs.Recordings.{RecordingView, heard_by}
 use Rattle.page_book.specs.Books.{BookView}
 use Rattle.page_book.specs.Tellings.{TellsOn}
 use Rattle.hart_replay.specs.Primaries.{IsPrimary}
-use Rattle.lease_rounds.specs.Running.{IsIdle, GoesRound, KeepsOffered}
+use Rattle.lease_rounds.specs.Running.{IsIdle, GoesRoundFor, KeepsOffered}
 use Rattle.lease_rounds.specs.Steps.{AreWithin}
 use Rattle.primary.specs.declared.granted.Primary.{Primary}
 use Rattle.primary.specs.Primaries.{GoesOn}
@@ -53,6 +53,10 @@ pub record LeadsOn (b c : BookView RecordingView) : Type 0 where
   pub before : LeadsTo (heard_by b.mode) b.start b.journal b.machine
   pub after : LeadsTo (heard_by c.mode) c.start c.journal c.machine
 
+-- how many steps a lease has at the most: up to where the round ends where there is one hart, which nobody waits for
+abbrev pub lease_steps : ℕ → ℕ
+lease_steps harts = if harts == 1 then COUNT_LIMIT else LEASE_STEPS
+
 -- the book, with these counts as its limits
 abbrev pub limited : BookView RecordingView → List ℕ → BookView RecordingView
 limited b limits = record b { mode = record b.mode { limits = limits } }
@@ -68,7 +72,7 @@ pub record HasGoneOn (steps : ℕ) (b c : BookView RecordingView) : Type 0 where
   pub there : (hart : ℕ) → IsThere steps b c hart
   pub offered : KeepsOffered b c
   pub end : List ℕ
-  pub rounds : GoesRound (limited b end) (limited c end)
+  pub rounds : GoesRoundFor (lease_steps (length b.machine.harts)) (limited b end) (limited c end)
 
 -- inputs were handed on to the book, of which nothing is another but what waits for its harts, and of that no bell; and then it went on
 pub record IsRound (steps : ℕ) (old new : LeaderView) : Type 0 where

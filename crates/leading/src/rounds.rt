@@ -5,9 +5,9 @@ ghost use Rattle.ft_types.specs.Counts.{count_at};
 ghost use Rattle.ft_types.specs.declared.names.TheConstants.{COUNT_LIMIT};
 ghost use Rattle.lease_rounds.specs.Running.{IsIdle};
 ghost use Rattle.lease_rounds.specs.Steps.{AreWithin};
-ghost use Rattle.leading.specs.Rounds.{HasGoneOn};
+ghost use Rattle.leading.specs.Rounds.{HasGoneOn, lease_steps as steps_of_lease};
 
-use ft_types::{COUNT_LIMIT, Count, Counts, Hart, Memory};
+use ft_types::{COUNT_LIMIT, Count, Counts, Hart, LEASE_STEPS, Memory};
 use lease_rounds::run_plain;
 use primary::{Primary, no_limits, tell_primary};
 use std::alloc::Global;
@@ -31,6 +31,15 @@ fn round_end(counts: Counts, steps: Count) -> Counts
     end
 }
 
+/// How many steps a lease has at the most: a hart alone goes to the round's end, and where there are more each waits for the others.
+fn lease_steps(harts: u8) -> Count
+    ensures value { result ≡ steps_of_lease harts }
+    ensures some { 0 < result }
+    ensures most { result ≤ COUNT_LIMIT }
+{
+    if harts == 1 { COUNT_LIMIT } else { LEASE_STEPS }
+}
+
 /// Each hart goes on for so many steps, or until it is halted. Where memory is refused the primary is given up.
 pub(crate) fn go_on(alloc: Global, primary: Primary, steps: Count) -> Result<Primary, Memory>
     requires idle { IsIdle primary.book }
@@ -48,7 +57,8 @@ pub(crate) fn go_on(alloc: Global, primary: Primary, steps: Count) -> Result<Pri
     tell_primary(&book);
     let end = round_end(book.counts(), steps);
     book.limit_at(end);
-    let mut book = run_plain(alloc, book)?;
+    let lease = lease_steps(book.machine().harts());
+    let mut book = run_plain(alloc, book, lease)?;
     let now = book.counts();
     // proof: counts are below their limit.
     let _counts = now.as_slice();

@@ -12,7 +12,7 @@ use Rattle.hart_lease.specs.Leases.{LeaseView, IsFull, whole_in}
 use Rattle.hart_lease.specs.OpenLeases.{OpenView, LentView}
 use Rattle.hart_lease.specs.Runs.{counts_of, steps_taken}
 use Rattle.hart_lease.proofs.steps.LackedRights.{step_counts}
-use Rattle.lease_rounds.specs.Leading.{IsIdle, GoesFor, GoesOn, IsHeld, Goes, Rounds, NoHart, Went, Stood, lent_as}
+use Rattle.lease_rounds.specs.Leading.{IsIdle, GoesFor, IsHeld, MayGoFor, RoundsFor, NoHart, Went, Stood, lent_as}
 use Rattle.lease_rounds.proofs.Filling.{HasFilled, HasGone, has_filled}
 use Rattle.lease_rounds.proofs.Lending.{idle_at, lent_runs}
 
@@ -107,11 +107,11 @@ module _ {M : Type 0} (g : Ghosts M) where
     pub harts_stay : length d.machine.harts ≡ length b.machine.harts
     harts_stay = ap length harts_are ∙ length-set b.machine.harts hart state_after
 
-  module _ (keep : Keep) (hart : ℕ) (b d : BookView M) (on : GoesOn g keep hart b d) where
+  module _ (keep : Keep) (hart : ℕ) (b d : BookView M) {most : ℕ} (on : GoesFor g most keep hart b d) where
     abbrev its : HasFilled on.opened on.lease on.leads.filled on.leads.lease
     its = lease_filled keep hart b d on
 
-    module _ (ahead : IsAhead) (idle : IsIdle b) where
+    module _ (ahead : IsAhead) (idle : IsIdle b) (lasts : 0 < most) where
       state : Hart
       state = on.lends.state
 
@@ -135,8 +135,8 @@ module _ {M : Type 0} (g : Ghosts M) where
       room full = elim full [
         | inl many ↦
             (let none : on.lease.steps ≡ 0 = ap (λ (x : LeaseView). x.steps) on.lends.lent in
-            let some : on.lease.most ≡ 1024 = ap (λ (x : LeaseView). x.most) on.lends.lent in
-            omega (arith, many, none, some))
+            let some : on.lease.most ≡ most = ap (λ (x : LeaseView). x.most) on.lends.lent in
+            omega (arith, many, none, some, lasts))
         | inr rest ↦ elim rest [
           | inl past ↦ (let above = stop.0 in omega (arith, past, from, above, count_is))
           | inr other ↦ elim other [
@@ -172,27 +172,27 @@ module _ {M : Type 0} (g : Ghosts M) where
 
 -- ---- a round
 
-module _ {M : Type 0} (g : Ghosts M) (keep : Keep) where
+module _ {M : Type 0} (g : Ghosts M) (most : ℕ) (keep : Keep) where
   -- the next hart went
-  pub round_goes : (b c d : BookView M) (went now new : Bool) (n : ℕ) → now ≡ true → new ≡ true → Rounds g keep b went n c → Goes g keep now n c d →
-      Rounds g keep b new (n + 1) d × (length d.machine.harts ≡ length c.machine.harts)
+  pub round_goes : (b c d : BookView M) (went now new : Bool) (n : ℕ) → now ≡ true → new ≡ true → RoundsFor g most keep b went n c → MayGoFor g most keep now n c d →
+      RoundsFor g most keep b new (n + 1) d × (length d.machine.harts ≡ length c.machine.harts)
   round_goes b c d went now new n did is rounds goes =
-      let on = subst (λ (x : Bool). Goes g keep x n c d) did goes in
-      (subst (λ (x : Bool). Rounds g keep b x (n + 1) d) (sym is) (Went d rounds on), harts_stay g keep n c d on)
+      let on = subst (λ (x : Bool). MayGoFor g most keep x n c d) did goes in
+      (subst (λ (x : Bool). RoundsFor g most keep b x (n + 1) d) (sym is) (Went d rounds on), harts_stay g keep n c d on)
 
   -- it did not
-  pub round_stands : (b c d : BookView M) (went now new : Bool) (n : ℕ) → now ≡ false → new ≡ went → Rounds g keep b went n c → Goes g keep now n c d →
-      Rounds g keep b new (n + 1) d × (length d.machine.harts ≡ length c.machine.harts)
+  pub round_stands : (b c d : BookView M) (went now new : Bool) (n : ℕ) → now ≡ false → new ≡ went → RoundsFor g most keep b went n c → MayGoFor g most keep now n c d →
+      RoundsFor g most keep b new (n + 1) d × (length d.machine.harts ≡ length c.machine.harts)
   round_stands b c d went now new n stood is rounds goes =
-      let held = subst (λ (x : Bool). Goes g keep x n c d) stood goes in (
-        subst (λ (x : Bool). Rounds g keep b x (n + 1) d) (sym is) (subst (λ (x : BookView M). Rounds g keep b went (n + 1) x) (sym held.0)
+      let held = subst (λ (x : Bool). MayGoFor g most keep x n c d) stood goes in (
+        subst (λ (x : Bool). RoundsFor g most keep b x (n + 1) d) (sym is) (subst (λ (x : BookView M). RoundsFor g most keep b went (n + 1) x) (sym held.0)
             (Stood rounds held.1)),
         ap (λ (x : BookView M). length x.machine.harts) held.0,
       )
 
   -- what holds of each lease, and of two of which one goes on from the other, holds of a round in which a hart went; in another
   -- one nothing has changed, and no hart can go
-  module _ (IsFurther : BookView M → BookView M → Type 0) (one : (hart : ℕ) (b c : BookView M) → IsIdle b → GoesOn g keep hart b c → IsFurther b c)
+  module _ (IsFurther : BookView M → BookView M → Type 0) (one : (hart : ℕ) (b c : BookView M) → IsIdle b → GoesFor g most keep hart b c → IsFurther b c)
       (on : (b c d : BookView M) → IsFurther b c → IsFurther c d → IsFurther b d) where
     abbrev pub AsFar : BookView M → Bool → ℕ → BookView M → Type 0
     AsFar b true harts c = IsFurther b c
@@ -215,12 +215,12 @@ module _ {M : Type 0} (g : Ghosts M) (keep : Keep) where
           ],
     )
 
-    idle_still : (b : BookView M) → IsIdle b → (went : Bool) (n : ℕ) (c : BookView M) → Rounds g keep b went n c → IsIdle c
+    idle_still : (b : BookView M) → IsIdle b → (went : Bool) (n : ℕ) (c : BookView M) → RoundsFor g most keep b went n c → IsIdle c
     idle_still b idle went n c NoHart = idle
     idle_still b idle went n d (Went e rounds goes) = goes.idle
     idle_still b idle went n c (Stood {went = same} {n = m} rounds held) = idle_still b idle went m c rounds
 
-    pub round_far : (b : BookView M) → IsIdle b → (went : Bool) (n : ℕ) (c : BookView M) → Rounds g keep b went n c → AsFar b went n c
+    pub round_far : (b : BookView M) → IsIdle b → (went : Bool) (n : ℕ) (c : BookView M) → RoundsFor g most keep b went n c → AsFar b went n c
     round_far b idle went n c NoHart = (refl, λ hart lt. absurd (omega (arith, lt)))
     round_far b idle went n d (Went {went = before} {n = m} {c = c} e rounds goes) =
         as_far b c d before m (round_far b idle before m c rounds) (one m c d (idle_still b idle before m c rounds) goes)

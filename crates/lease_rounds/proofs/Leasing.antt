@@ -25,7 +25,7 @@ use Rattle.book_modes.specs.Dues.{due_at, is_silent, stop_before}
 use Rattle.hart_lease.specs.Leases.{LeaseView}
 use Rattle.hart_lease.specs.OpenLeases.{OpenView, has_taken}
 use Rattle.book_modes.specs.Recordings.{AreLogged, RecordingView, IsFilled, IsTaker, IsGiven, offers_at, right_at, right_met, right_stored}
-use Rattle.lease_rounds.specs.Leading.{IsFreeAlone, Fills, NoneYet, Steps, Takes, GoesOn}
+use Rattle.lease_rounds.specs.Leading.{IsFreeAlone, Fills, NoneYet, Steps, Takes, GoesFor}
 use Rattle.lease_rounds.proofs.GoingOn.{IsAhead, lease_filled, own, harts_stay}
 use Rattle.page_book.specs.Tellings.{HearsMore}
 use Rattle.page_book.proofs.Tellings.{hears_on, edges_on, notes_kept}
@@ -118,7 +118,7 @@ rights_stay old new many same page = elim (cases_lt page (length old)) [
 
 -- ---- a lease of a hart
 
-module _ (keep : Keep) (hart : ℕ) (b d : BookView RecordingView) (on : GoesOn recording keep hart b d) where
+module _ (keep : Keep) (hart : ℕ) (b d : BookView RecordingView) {most : ℕ} (on : GoesFor recording most keep hart b d) where
   abbrev filled : BookView RecordingView
   filled = on.leads.filled
 
@@ -189,7 +189,7 @@ module _ (keep : Keep) (hart : ℕ) (b d : BookView RecordingView) (on : GoesOn 
       }
 
 -- where it keeps all rights, each page that was held is held
-module _ (hart : ℕ) (b d : BookView RecordingView) (on : GoesOn recording told.All hart b d) where
+module _ (hart : ℕ) (b d : BookView RecordingView) {most : ℕ} (on : GoesFor recording most told.All hart b d) where
   pub keep_held : KeepHeld b d
   keep_held page held =
       let settled = on.leads.back.mode in

@@ -188,14 +188,14 @@ module _ (hart : ℕ) (b : BookView RecordingView) (once : List ℕ) (d : BookVi
 
   module _ (on : GoesOn recording told.Nothing hart (limited b once) d) where
     gone : HasGoneOn recording hart (limited b once) d
-    gone = has_gone_on recording told.Nothing hart low d on ahead idle
+    gone = has_gone_on recording told.Nothing hart low d on ahead idle (omega arith)
 
     steps_one : on.leads.lease.steps ≡ 1
     steps_one =
-        let far = went_far recording told.Nothing hart low d on ahead idle in
-        let end = stop recording told.Nothing hart low d on ahead idle in
-        let is = count_is recording told.Nothing hart low d on ahead idle in
-        let begun = from recording told.Nothing hart low d on ahead idle in
+        let far = went_far recording told.Nothing hart low d on ahead idle (omega arith) in
+        let end = stop recording told.Nothing hart low d on ahead idle (omega arith) in
+        let is = count_is recording told.Nothing hart low d on ahead idle (omega arith) in
+        let begun = from recording told.Nothing hart low d on ahead idle (omega arith) in
         let base : on.leads.lease.base.count ≡ on.lends.state.count =
         ap (λ (h : Hart). h.count) (lease_filled recording told.Nothing hart low d on).base ∙ ap (λ (x : LeaseView). x.base.count) on.lends.lent in
         omega (arith, far.0, far.1, end.1, is, begun, base, one, on.leads.back.mode.counts)

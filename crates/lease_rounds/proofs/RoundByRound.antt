@@ -12,7 +12,7 @@ use Rattle.hart_lease.specs.declared.stretch.Stretch.{Stretch}
 use Rattle.hart_lease.specs.Runs.{counts_of, steps_taken}
 use Rattle.page_book.specs.Books.{BookView}
 use Rattle.book_modes.specs.Recordings.{RecordingView}
-use Rattle.lease_rounds.specs.Leading.{IsHeld, GoesOn, Rounds}
+use Rattle.lease_rounds.specs.Leading.{IsHeld, GoesFor, RoundsFor}
 use Rattle.lease_rounds.proofs.GoingOn.{HasGoneOn, AsFar, has_gone_on, has_fewer, round_far, steps_left}
 use Rattle.page_book.proofs.Later.{adds_nothing, adds_on}
 use Rattle.page_book.proofs.Tellings.{hears_nothing, hears_more, notes_kept}
@@ -89,9 +89,9 @@ pub record IsFurther (b c : BookView RecordingView) : Type 0 where
   pub offered : KeepsOffered b c
   pub held : KeepHeld b c
 
-further : (hart : ℕ) (b d : BookView RecordingView) → IsIdle b → GoesOn recording told.All hart b d → IsFurther b d
-further hart b d idle on =
-    let gone : HasGoneOn recording hart b d = has_gone_on recording told.All hart b d on ahead idle in
+further : (most : ℕ) → 0 < most → (hart : ℕ) (b d : BookView RecordingView) → IsIdle b → GoesFor recording most told.All hart b d → IsFurther b d
+further most lasts hart b d idle on =
+    let gone : HasGoneOn recording hart b d = has_gone_on recording told.All hart b d on ahead idle lasts in
     let counts : GoWithin b d = λ other.
     subst
     (λ (hs : List Hart). (counts_of b.machine other ≤ steps_taken (slice_get hs other)) ×
@@ -135,8 +135,8 @@ through b hart held h there = elim (held h there) [
   ]
 ]
 
-pub begins : (b : BookView RecordingView) → IsIdle b → HasRun b → IsSoFar b b
-begins b idle ran =
+pub begins : (most : ℕ) (b : BookView RecordingView) → IsIdle b → HasRun b → IsSoFar most b b
+begins most b idle ran =
     record {
       ran = ran;
       idle = idle;
@@ -148,8 +148,9 @@ begins b idle ran =
       held = λ page held. held;
     }
 
-leads_on : (a b c : BookView RecordingView) → IsSoFar a b → IsFurther b c → Rounds recording told.All b true (length b.machine.harts) c → IsSoFar a c
-leads_on a b c p q round =
+leads_on : (most : ℕ) (a b c : BookView RecordingView) → IsSoFar most a b → IsFurther b c →
+    RoundsFor recording most told.All b true (length b.machine.harts) c → IsSoFar most a c
+leads_on most a b c p q round =
     record {
       ran = p.ran;
       idle = q.idle;
@@ -166,16 +167,17 @@ some_below [] hart h there = cc
 some_below (x ∷ harts) zero h there = omega arith
 some_below (x ∷ harts) (suc hart) h there = let rest = some_below harts hart h there in omega (arith, rest)
 
-module _ (a b c : BookView RecordingView) (so_far : IsSoFar a b) (went : Bool) (rounds : Rounds recording told.All b went (length b.machine.harts) c) where
-  far : AsFar recording told.All IsFurther further further_on b went (length b.machine.harts) c
-  far = round_far recording told.All IsFurther further further_on b so_far.idle went (length b.machine.harts) c rounds
+module _ (most : ℕ) (lasts : 0 < most) (a b c : BookView RecordingView) (so_far : IsSoFar most a b) (went : Bool)
+    (rounds : RoundsFor recording most told.All b went (length b.machine.harts) c) where
+  far : AsFar recording most told.All IsFurther (further most lasts) further_on b went (length b.machine.harts) c
+  far = round_far recording most told.All IsFurther (further most lasts) further_on b so_far.idle went (length b.machine.harts) c rounds
 
   -- a round in which a hart went
   round_more : went ≡ true → IsFurther b c
-  round_more is = subst (λ (w : Bool). AsFar recording told.All IsFurther further further_on b w (length b.machine.harts) c) is far
+  round_more is = subst (λ (w : Bool). AsFar recording most told.All IsFurther (further most lasts) further_on b w (length b.machine.harts) c) is far
 
-  pub round_on : went ≡ true → IsSoFar a c
-  round_on is = leads_on a b c so_far (round_more is) (subst (λ (w : Bool). Rounds recording told.All b w (length b.machine.harts) c) is rounds)
+  pub round_on : went ≡ true → IsSoFar most a c
+  round_on is = leads_on most a b c so_far (round_more is) (subst (λ (w : Bool). RoundsFor recording most told.All b w (length b.machine.harts) c) is rounds)
 
   pub round_nearer : went ≡ true → steps_left c.mode.limits c.machine.harts < steps_left b.mode.limits b.machine.harts
   round_nearer is =
@@ -185,11 +187,11 @@ module _ (a b c : BookView RecordingView) (so_far : IsSoFar a b) (went : Bool) (
   -- one in which none did
   pub round_last : went ≡ false → (c ≡ b) × AreThrough c
   round_last is =
-      let last = subst (λ (w : Bool). AsFar recording told.All IsFurther further further_on b w (length b.machine.harts) c) is far in (
+      let last = subst (λ (w : Bool). AsFar recording most told.All IsFurther (further most lasts) further_on b w (length b.machine.harts) c) is far in (
         last.0,
         subst (λ (x : BookView RecordingView). AreThrough x) (sym last.0)
             (λ hart h there. through b hart (last.1 hart (some_below b.machine.harts hart h there)) h there),
       )
 
-  pub round_end : went ≡ false → IsSoFar a c
-  round_end is = subst (λ (x : BookView RecordingView). IsSoFar a x) (sym (round_last is).0) so_far
+  pub round_end : went ≡ false → IsSoFar most a c
+  round_end is = subst (λ (x : BookView RecordingView). IsSoFar most a x) (sym (round_last is).0) so_far

@@ -158,8 +158,13 @@ module _ {M : Type 0} (g : Ghosts M) where
   abbrev pub Goes : Keep → Bool → ℕ → BookView M → BookView M → Type 0
   Goes keep went hart b c = MayGoFor LEASE_STEPS keep went hart b c
 
-  -- the first harts went on in rising order, each for one lease, but for those that could not; whether one did
-  pub data Rounds (keep : Keep) (b : BookView M) : Bool → ℕ → BookView M → Type 0 where
-    NoHart : Rounds keep b false 0 b
-    Went : {went : Bool} {n : ℕ} {c : BookView M} (d : BookView M) → Rounds keep b went n c → GoesOn keep n c d → Rounds keep b true (n + 1) d
-    Stood : {went : Bool} {n : ℕ} {c : BookView M} → Rounds keep b went n c → IsHeld c n → Rounds keep b went (n + 1) c
+  -- the first harts went on in rising order, each for one lease, of so many steps at the most, but for those that could not; whether one did
+  pub data RoundsFor (most : ℕ) (keep : Keep) (b : BookView M) : Bool → ℕ → BookView M → Type 0 where
+    NoHart : RoundsFor most keep b false 0 b
+    Went : {went : Bool} {n : ℕ} {c : BookView M} (d : BookView M) → RoundsFor most keep b went n c → GoesFor most keep n c d →
+        RoundsFor most keep b true (n + 1) d
+    Stood : {went : Bool} {n : ℕ} {c : BookView M} → RoundsFor most keep b went n c → IsHeld c n → RoundsFor most keep b went (n + 1) c
+
+  -- for one of LEASE_STEPS each
+  abbrev pub Rounds : Keep → BookView M → Bool → ℕ → BookView M → Type 0
+  Rounds keep b went n c = RoundsFor LEASE_STEPS keep b went n c

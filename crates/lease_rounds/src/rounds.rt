@@ -5,7 +5,7 @@ ghost use Rattle.hart_lease.specs.Slots.{slot_at, want_of};
 ghost use Rattle.hart_lease.specs.Leases.{IsFull};
 ghost use Rattle.page_book.specs.Books.{IsOurs};
 ghost use Rattle.hart_lease.specs.Laws.{Covers};
-ghost use Rattle.lease_rounds.specs.Leading.{IsIdle, IsAlone, IsFreeAlone, Gives, Fills, ComesBack, Leads, Goes, Rounds, lacking};
+ghost use Rattle.lease_rounds.specs.Leading.{IsIdle, IsAlone, IsFreeAlone, Gives, Fills, ComesBack, Leads, Goes, RoundsFor, lacking};
 ghost use Rattle.lease_rounds.specs.Leading.{EndsWithout, LeavesOff, HasNotGone, HasNotGoneFor, MayGoFor};
 
 use crate::page_mask::PageMask;
@@ -196,17 +196,23 @@ pub fn go<M: Mode>(
     go_for(alloc, book, hart, keep, LEASE_STEPS, &mut PageMask::none())
 }
 
-/// Lets each hart go on in turn, where it may. Whether one did.
-pub fn go_round<M: Mode>(alloc: Global, book: &mut Book<M>, keep: Keep) -> Result<bool, Memory>
+/// Lets each hart go on in turn, where it may, for a lease of so many steps at the most. Whether one did.
+pub fn go_round<M: Mode>(
+    alloc: Global,
+    book: &mut Book<M>,
+    keep: Keep,
+    most: u64,
+) -> Result<bool, Memory>
     requires free { IsFreeAlone M.Mode }
     requires idle { IsIdle book.old }
-    ensures rounds { IfOk result (λ went. Rounds M.Mode keep book.old went (length book.old.machine.harts) book.new) }
+    requires most { most ≤ COUNT_LIMIT }
+    ensures rounds { IfOk result (λ went. RoundsFor M.Mode most keep book.old went (length book.old.machine.harts) book.new) }
     ensures idle { OnOk result (IsIdle book.new) }
 {
     let mut went = false;
     let harts = book.machine().harts();
     for number in 0..harts {
-        if go(alloc, book, Hart::new(number), keep)? {
+        if go_for(alloc, book, Hart::new(number), keep, most, &mut PageMask::none())? {
             went = true;
         }
     }

@@ -8,7 +8,7 @@ ghost use Rattle.page_book.specs.Books.{BookView};
 ghost use Rattle.lease_rounds.specs.Running.{IsIdle, AreThrough, Continues, RunsOn, GoWithin, KeepsOffered};
 
 use crate::replays::{Plainly, Replays};
-use ft_types::Memory;
+use ft_types::{LEASE_STEPS, Memory};
 use lease_rounds::run_plain;
 use page_book::{Book, Recording};
 use std::alloc::Global;
@@ -39,6 +39,6 @@ impl Runs for Plainly {
     ghost goes = { λ _ b c. GoesRound b c };
 
     fn run_book(&self, alloc: Global, book: Book<Recording>) -> Result<Book<Recording>, Memory> {
-        run_plain(alloc, book)
+        run_plain(alloc, book, LEASE_STEPS)
     }
 }

@@ -3,7 +3,7 @@
 use crate::runs::{came_to, leads_in_turn};
 use fixtures::{Dice, HALTS, cut, image_of, key, opening_of, piece_of};
 use fragment_codec::{Frame, first_opening};
-use ft_types::{Count, Counts, Guest, Hart, Memory, Term};
+use ft_types::{Count, Counts, Guest, Hart, LEASE_STEPS, Memory, Term};
 use guest_image::{Image, Machine};
 use hart_replay::ReplayFault;
 use hart_threads::Follower;
@@ -172,7 +172,7 @@ fn gone_to(alloc: Global, book: Book<Recording>, count: Count) -> Result<Book<Re
         }
     }
     book.reclaim();
-    match run_plain(alloc, book) {
+    match run_plain(alloc, book, LEASE_STEPS) {
         Ok(book) => Ok(book),
         Err(_) => Err(Memory),
     }

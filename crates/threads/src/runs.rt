@@ -1,7 +1,7 @@
 //! What primaries do, and what their logs lead to. Each call gives up where memory is refused.
 
 use closed_cut::position;
-use ft_types::{HartSet, Memory};
+use ft_types::{HartSet, LEASE_STEPS, Memory};
 use guest_image::{Image, Machine};
 use hart_replay::{Plan, ReplayFault, plan, replay_plain};
 use hart_threads::{Free, Turnstile, replay, run_with};
@@ -76,7 +76,7 @@ pub fn on_threads<R: Threads + Wait + Sync, T: Turnstile + Sync>(
 
 /// What one leaves whose harts go on in turn.
 pub fn in_turn(alloc: Global, image: &Image, budget: u32) -> Result<Left, Memory> {
-    match run_plain(alloc, begin_run(alloc, image, &[], budget)?) {
+    match run_plain(alloc, begin_run(alloc, image, &[], budget)?, LEASE_STEPS) {
         Ok(book) => left_by(alloc, image, book),
         Err(_) => Err(Memory),
     }

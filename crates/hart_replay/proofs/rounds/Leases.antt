@@ -1,5 +1,6 @@
 -- From lease to lease, and from round to round, of a book that obeys a leg.
 use Rattle.std.proofs.Common.{◌≡◌, ℕ, ◌<◌, [], length, length-set, Option, Bool, true, false, refl, sym, ap, subst, ◌∙◌, inl, inr, arith}
+use Rattle.ft_types.specs.declared.names.TheConstants.{LEASE_STEPS}
 use Rattle.rv32_hart.specs.Hardware.{hardware}
 use Rattle.guest_image.specs.Machine.{MachineState}
 use Rattle.interleaving.specs.Stored.{halted_of}
@@ -62,7 +63,7 @@ pub record IsFurther (b c : BookView Leg) : Type 0 where
 
 further : (hart : ℕ) (b d : BookView Leg) → IsIdle b → GoesOn replaying told.Nothing hart b d → IsFurther b d
 further hart b d idle on =
-    let gone : HasGoneOn replaying hart b d = has_gone_on replaying told.Nothing hart b d on ahead idle in
+    let gone : HasGoneOn replaying hart b d = has_gone_on replaying told.Nothing hart b d on ahead idle (omega arith) in
     record {
       start = gone.start;
       mode = on.leads.back.mode ∙ filled_mode on.opened on.lease on.leads.filled on.leads.lease on.leads.fills ∙ on.lends.mode.0;
@@ -100,12 +101,12 @@ held b hart within held_there =
 
 module _ (start : MachineState) (leg : Leg) (b c : BookView Leg) (leading : IsLeading start leg b) (went : Bool)
     (round : Rounds replaying told.Nothing b went (length b.machine.harts) c) where
-  far : AsFar replaying told.Nothing IsFurther further further_on b went (length b.machine.harts) c
-  far = round_far replaying told.Nothing IsFurther further further_on b leading.idle went (length b.machine.harts) c round
+  far : AsFar replaying LEASE_STEPS told.Nothing IsFurther further further_on b went (length b.machine.harts) c
+  far = round_far replaying LEASE_STEPS told.Nothing IsFurther further further_on b leading.idle went (length b.machine.harts) c round
 
   -- a round in which a hart went
   more : went ≡ true → IsFurther b c
-  more is = subst (λ (w : Bool). AsFar replaying told.Nothing IsFurther further further_on b w (length b.machine.harts) c) is far
+  more is = subst (λ (w : Bool). AsFar replaying LEASE_STEPS told.Nothing IsFurther further further_on b w (length b.machine.harts) c) is far
 
   pub leads_on : went ≡ true → IsLeading start leg c
   leads_on is =
@@ -117,7 +118,7 @@ module _ (start : MachineState) (leg : Leg) (b c : BookView Leg) (leading : IsLe
 
   -- one in which none did
   last : went ≡ false → (c ≡ b) × ((hart : ℕ) → hart < length b.machine.harts → rounds.IsHeld replaying b hart)
-  last is = subst (λ (w : Bool). AsFar replaying told.Nothing IsFurther further further_on b w (length b.machine.harts) c) is far
+  last is = subst (λ (w : Bool). AsFar replaying LEASE_STEPS told.Nothing IsFurther further further_on b w (length b.machine.harts) c) is far
 
   pub all_held : went ≡ false → (c ≡ b) × ((hart : ℕ) → hart < length b.machine.harts → IsHeld b hart)
   all_held is = ((last is).0, λ hart within. held b hart within ((last is).1 hart within))

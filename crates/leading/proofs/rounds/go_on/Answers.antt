@@ -1,12 +1,12 @@
 use Rattle.std.proofs.Common.{◌≡◌, ◌≤◌, ◌+◌, ℕ, sym, ap, subst, ◌∙◌, arith}
 use Rattle.ft_types.specs.Counts.{count_at}
 use Rattle.hart_lease.specs.Runs.{LeadsTo}
-use Rattle.lease_rounds.specs.Running.{Continues, GoWithin, GoesRound, KeepsOffered}
+use Rattle.lease_rounds.specs.Running.{Continues, GoWithin, GoesRoundFor, KeepsOffered}
 use Rattle.page_book.specs.Books.{BookView}
 use Rattle.page_book.specs.Tellings.{TellsOn}
 use Rattle.book_modes.specs.Recordings.{RecordingView, heard_by}
 use Rattle.hart_replay.specs.Primaries.{IsPrimary}
-use Rattle.leading.specs.Rounds.{HasGoneOn}
+use Rattle.leading.specs.Rounds.{HasGoneOn, lease_steps}
 use Rattle.leading.proofs.Led.{settled, led}
 use Rattle.leading.proofs.rounds.go_on.Goals as goal
 
@@ -25,10 +25,12 @@ returns-clause-on c =
     let first = c.limit_at.ensures in
     let last = c.limit_at-2.ensures in
     let are = c.counts.ensures.all in
+    let lease = c.lease_steps.result in
+    let lasts : lease ≡ lease_steps (length b.machine.harts) = c.lease_steps.ensures.value ∙ ap lease_steps c.harts.ensures.value in
     subst (λ (x : BookView RecordingView). HasGoneOn c.args.steps b x) (sym last)
     (led c.args.steps b d end full (subst (λ (x : BookView RecordingView). Continues x d) first ran.continues)
     (subst (λ (x : BookView RecordingView). TellsOn x d) first ran.tells) (subst (λ (x : BookView RecordingView). KeepsOffered x d) first ran.offered)
-    (subst (λ (x : BookView RecordingView). GoesRound x d) first ran.rounds)
+    (subst (λ (n : ℕ). GoesRoundFor n (limited b end) d) lasts (subst (λ (x : BookView RecordingView). GoesRoundFor lease x d) first ran.rounds))
     (subst (λ (x : BookView RecordingView). GoWithin x d) first ran.counts) ran.idle ran.done
     (ran.limits ∙ ap (λ (x : BookView RecordingView). x.mode.limits) first)
     (λ hart. let most = c.round_end-end.ensures.end hart in let a = are hart in omega (arith, most, a))

@@ -1,11 +1,11 @@
 use Rattle.std.proofs.Common.{◌≡◌, length}
-use Rattle.lease_rounds.specs.Leading.{IsIdle, Rounds}
+use Rattle.lease_rounds.specs.Leading.{IsIdle, RoundsFor}
 use Rattle.lease_rounds.proofs.rounds.go_round.Given as goal
 
 abbrev pub invariant-loop-number : goal.invariant-loop-number
 invariant-loop-number g l =
     record {
-      rounds : Rounds g.M.Mode l.keep l.fn.book l.went l.number l.book;
+      rounds : RoundsFor g.M.Mode l.most l.keep l.fn.book l.went l.number l.book;
       idle : IsIdle l.book;
       harts : length l.book.machine.harts ≡ length l.fn.book.machine.harts;
     }
