@@ -55,9 +55,9 @@ pub(crate) fn go_on(alloc: Global, primary: Primary, steps: Count) -> Result<Pri
     } = primary;
     // proof: its log is honest, before and after.
     tell_primary(&book);
+    let lease = lease_steps(book.machine().harts());
     let end = round_end(book.counts(), steps);
     book.limit_at(end);
-    let lease = lease_steps(book.machine().harts());
     let mut book = run_plain(alloc, book, lease)?;
     let now = book.counts();
     // proof: counts are below their limit.
