@@ -7,7 +7,7 @@ use Rattle.page_book.specs.Books.{BookView}
 use Rattle.page_book.specs.Tellings.{TellsOn}
 use Rattle.book_modes.specs.Recordings.{RecordingView, heard_by}
 use Rattle.hart_replay.specs.Primaries.{IsPrimary}
-use Rattle.leading.specs.Rounds.{HasGoneOn, lease_steps}
+use Rattle.leading.specs.Rounds.{HasGoneOn, lease_steps, limited}
 use Rattle.leading.proofs.Led.{settled, led}
 use Rattle.leading.proofs.rounds.go_on.Goals as goal
 
