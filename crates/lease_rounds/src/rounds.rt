@@ -212,7 +212,14 @@ pub fn go_round<M: Mode>(
     let mut went = false;
     let harts = book.machine().harts();
     for number in 0..harts {
-        if go_for(alloc, book, Hart::new(number), keep, most, &mut PageMask::none())? {
+        if go_for(
+            alloc,
+            book,
+            Hart::new(number),
+            keep,
+            most,
+            &mut PageMask::none(),
+        )? {
             went = true;
         }
     }

@@ -26,8 +26,8 @@ returns-clause-on c =
     let first = c.limit_at.ensures in
     let last = c.limit_at-2.ensures in
     let are = c.counts.ensures.all in
-    let lease = c.lease_steps.result in
-    let lasts : lease ≡ lease_steps (length b.machine.harts) = c.lease_steps.ensures.value ∙ ap lease_steps
+    let lease = c.lease_steps-lease.result in
+    let lasts : lease ≡ lease_steps (length b.machine.harts) = c.lease_steps-lease.ensures.value ∙ ap lease_steps
     (c.harts.ensures.value ∙ ap (λ (m : MachineState). length m.harts) c.machine.ensures.value) in
     subst (λ (x : BookView RecordingView). HasGoneOn c.args.steps b x) (sym last)
     (led c.args.steps b d end full (subst (λ (x : BookView RecordingView). Continues x d) first ran.continues)
