@@ -41,6 +41,14 @@ impl Model for Due {
     ghost invariant = { λ d. (length d.inputs.items ≤ INPUT_LIMIT) × (length d.edges.items ≤ EDGE_ROOM) };
 }
 
+/// A copy of so few inputs, which takes no memory.
+pub(crate) fn inputs_copied(alloc: Global, inputs: &[Input]) -> SmallVec<Input, INPUT_LIMIT>
+    requires { length inputs.now ≤ INPUT_LIMIT }
+    ensures { result.items ≡ inputs.now }
+{
+    SmallVec::from_slice(alloc, inputs).unwrap()
+}
+
 /// The edges from harts whose bells this hart hears at this count.
 fn edges_of(
     alloc: Global,
@@ -97,7 +105,7 @@ impl Due {
     pub(crate) fn copy(&self, alloc: Global) -> Due
         ensures { result ≡ self.now }
     {
-        let inputs = SmallVec::from_slice(alloc, self.inputs.as_slice()).unwrap();
+        let inputs = inputs_copied(alloc, self.inputs.as_slice());
         let edges = SmallVec::from_slice(alloc, self.edges.as_slice()).unwrap();
         Due { inputs, edges }
     }
@@ -127,8 +135,14 @@ impl Due {
     pub(crate) fn lent(&self, alloc: Global, stop: Count) -> Lent
         ensures { result ≡ lent_with stop self.now.inputs self.now.edges }
     {
-        let inputs = SmallVec::from_slice(alloc, self.inputs.as_slice()).unwrap();
-        let edges = SmallVec::from_slice(alloc, self.edges.as_slice()).unwrap();
+        self.copy(alloc).out(stop)
+    }
+
+    /// A hart is lent with this itself, as far as this count.
+    fn out(self, stop: Count) -> Lent
+        ensures { result ≡ lent_with stop self.inputs self.edges }
+    {
+        let Due { inputs, edges } = self;
         Lent::new(stop, inputs, edges)
     }
 }

@@ -14,6 +14,7 @@ ghost use Rattle.edge_log.specs.declared.Edge.{Edge as edge_found};
 ghost use Rattle.book_modes.specs.Obeying.{GoesOut, EachHears};
 ghost use Rattle.book_modes.specs.Modes.{Fact, IsAsking, IsGiven, IsSettling, IsEnding, KeepsLending, KeepsGiving, KeepsSettling, SettlesHeard, KeepsEnding};
 
+use crate::due::inputs_copied;
 use crate::keep::Keep;
 use crate::settled::steps_taken;
 use edge_log::{Edge, EdgeLog};
@@ -320,7 +321,7 @@ impl Mode for Replaying {
     }
 
     fn lend(&mut self, alloc: Global, hart: Hart, count: Count) -> Lent {
-        let inputs = SmallVec::from_slice(alloc, self.leg.inputs.at(hart, count)).unwrap();
+        let inputs = inputs_copied(alloc, self.leg.inputs.at(hart, count));
         let stop = self.leg.stop(hart, count);
         Lent::new(stop, inputs, SmallVec::new(alloc))
     }
