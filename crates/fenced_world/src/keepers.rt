@@ -177,13 +177,34 @@ pub(crate) fn gifts_of<'k>(
 }
 
 /// A frame of its own guest comes to the keeper.
-pub(crate) fn take_frame(keeper: &mut Kept, alloc: Global, frame: Frame) -> Result<(), Memory>
+fn take_frame(keeper: &mut Kept, alloc: Global, frame: Frame) -> Result<(), Memory>
     requires own { answer_to keeper.old.store frame ≢ OtherGuest }
     ensures takes { OnOk result (Takes frame keeper.old keeper.new) }
     ensures err { OnErr result (keeper.new ≡ keeper.old) }
 {
     let _answer = keeper.put(alloc, frame)?;
     Ok(())
+}
+
+/// A frame of its own guest comes to the keeper of this number, who is not lost. Where memory is refused it is as it was.
+pub(crate) fn put_frame(
+    held: &mut Vec<Option<Kept>>,
+    alloc: Global,
+    number: u64,
+    frame: Frame,
+) -> Result<(), Memory>
+    requires there { (x : KeptView) × (kept_at held.old.items number ≡ Some x) }
+    requires own { (x : KeptView) → kept_at held.old.items number ≡ Some x → answer_to x.store frame ≢ OtherGuest }
+    ensures takes { OnOk result ((x : KeptView) × (kept_at held.old.items number ≡ Some x)
+        × (y : KeptView) × Takes frame x y × (held.new.items ≡ slice_set held.old.items number (Some y))) }
+    ensures kept { OnErr result (held.new.items ≡ held.old.items) }
+{
+    let Some(mut taken) = take_keeper(held, number) else {
+        unreachable!();
+    };
+    let put = take_frame(&mut taken, alloc, frame);
+    put_keeper(held, number, taken);
+    put
 }
 
 /// The keeper joins the store of another one, which is of the same guest.

@@ -5,6 +5,7 @@ ghost use Rattle.ft_types.specs.declared.names.TheConstants.{KEEPER_LIMIT};
 ghost use Rattle.input_log.specs.Inputs.{is_bell};
 ghost use Rattle.go_live.specs.declared.fault.LiveFault.{LiveFault as live_fault};
 ghost use Rattle.fenced_world.specs.declared.event.FencedEvent.TheVariants as on;
+ghost use Rattle.fenced_world.specs.Keepers.{KeptView, kept_at};
 ghost use Rattle.fenced_world.specs.Running.{RunningView};
 ghost use Rattle.fenced_world.specs.Happenings.{Begins, Happens, MayCome, DoesKeeper, Raises, HasRaised, Grants};
 ghost use Rattle.fenced_world.specs.Refusals.{Refuses, RefusesGrant, RefusesLive, CannotGoLive, IsAtTerm, MayHaveRaised, IsLeft, IsLeftByGrant};
@@ -16,7 +17,7 @@ use crate::fault::FencedFault;
 use crate::finding::find;
 use crate::keepers::{
     Kept, are_not_above, are_there, come_back, count_given, empty_keepers, gifts_of, held_by,
-    join_other, put_keeper, raise_kept, save_kept, take_frame, take_keeper,
+    join_other, put_frame, put_keeper, raise_kept, save_kept, take_keeper,
 };
 use crate::reviving::revived;
 use crate::running::Running;
@@ -202,25 +203,30 @@ impl FencedWorld {
         Ok(self.running[number].seal(alloc, &mut self.sent)?)
     }
 
+    /// The frame of this number, where the keeper that it is for is there.
+    fn frame_for(&self, alloc: Global, keeper: u64, frame: u64) -> Result<Frame, FencedFault>
+        ensures sent { IfOk result (λ f. slice_get self.now.sent frame ≡ Some f) }
+        ensures there { IfOk result (λ f. (x : KeptView) × (kept_at self.now.held keeper ≡ Some x)) }
+        ensures refused { IfErr result (λ f. Refuses self.now (on.Deliver keeper frame) f) }
+    {
+        let Some(_kept) = held_by(self.held.as_slice(), keeper) else {
+            return Err(FencedFault::NoKeeper);
+        };
+        if frame >= self.sent.len() as u64 {
+            return Err(FencedFault::NoFrame);
+        }
+        let copy = self.sent[frame as usize].copy(alloc)?;
+        Ok(copy)
+    }
+
     fn deliver(&mut self, alloc: Global, keeper: u64, frame: u64) -> Result<(), FencedFault>
         ensures happens { OnOk result (Happens self.old (on.Deliver keeper frame) self.new) }
         ensures refused { IfErr result (λ f. Refuses self.old (on.Deliver keeper frame) f) }
         ensures left { IfErr result (λ f. IsLeft self.old (on.Deliver keeper frame) f self.new) }
         ensures image { self.new.image ≡ self.old.image }
     {
-        if held_by(self.held.as_slice(), keeper).is_none() {
-            return Err(FencedFault::NoKeeper);
-        }
-        if frame >= self.sent.len() as u64 {
-            return Err(FencedFault::NoFrame);
-        }
-        let copy = self.sent[frame as usize].copy(alloc)?;
-        let Some(mut taken) = take_keeper(&mut self.held, keeper) else {
-            return Err(FencedFault::NoKeeper);
-        };
-        let put = take_frame(&mut taken, alloc, copy);
-        put_keeper(&mut self.held, keeper, taken);
-        Ok(put?)
+        let copy = self.frame_for(alloc, keeper, frame)?;
+        Ok(put_frame(&mut self.held, alloc, keeper, copy)?)
     }
 
     fn join(&mut self, alloc: Global, keeper: u64, other: u64) -> Result<(), FencedFault>

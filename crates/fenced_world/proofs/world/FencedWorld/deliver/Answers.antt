@@ -1,20 +1,24 @@
-use Rattle.std.proofs.Common.{◌≡◌, slice_get, slice_set, Some, sym, ap, subst, ◌∙◌, arith}
-use Rattle.std.proofs.lemmas.Option.{slice_get-get_or}
+use Rattle.std.proofs.Common.{◌≡◌, slice_get, Some, sym, ap, subst, ◌∙◌}
 use Rattle.std.proofs.lemmas.Result.{err_from_is_err_and}
-use Rattle.fenced_world.specs.declared.event.FencedEvent.TheVariants as on
 use Rattle.failover_world.proofs.Keeping.{contained}
-use Rattle.fenced_world.specs.Keepers.{KeptView}
+use Rattle.fenced_world.specs.declared.event.FencedEvent.TheVariants as on
+use Rattle.fenced_world.specs.Keepers.{KeptView, kept_at}
 use Rattle.fenced_world.specs.Worlds.{WorldView}
 use Rattle.fenced_world.specs.Happenings.{Delivers}
 use Rattle.fenced_world.specs.Refusals.{Refuses}
 use Rattle.fenced_world.specs.machinery.Tied.{IsWorld}
 use Rattle.fenced_world.proofs.Guests.{not_foreign}
 use Rattle.fenced_world.proofs.Events.{taken}
-use Rattle.fenced_world.proofs.Found.{put_back, back_again, is_there}
+use Rattle.fenced_world.proofs.Found.{is_there}
+use Rattle.fenced_world.proofs.Lists.{is_below}
 use Rattle.fenced_world.proofs.world.FencedWorld.deliver.Goals as goal
 
-pub take_frame-put-requires : goal.take_frame-put-requires
-take_frame-put-requires c =
+pub put_frame-requires-clause-there : goal.put_frame-requires-clause-there
+put_frame-requires-clause-there c =
+    subst (λ (w : WorldView). (x : KeptView) × (kept_at w.held c.args.keeper ≡ Some x)) (sym c.self.view_is) c.in_ok-copy.ensures.there
+
+pub put_frame-requires-clause-own : goal.put_frame-requires-clause-own
+put_frame-requires-clause-own c = λ x at.
     let v : WorldView = record {
       image = c.self.inside.image;
       keepers = c.self.inside.keepers;
@@ -24,15 +28,9 @@ take_frame-put-requires c =
       held = c.self.inside.held.items;
       released = c.self.inside.released.items;
     } in
-    let lt = c.if-frame-len.false in
-    let many = c.len.ensures in
     let sent : slice_get v.sent c.args.frame ≡ Some c.in_ok-copy.copy =
-    slice_get-get_or v.sent c.args.frame c.index.result.now (omega (arith, lt, many)) ∙ ap Some (sym c.index.ensures ∙ sym c.in_ok-copy.ensures) in
-    record {
-      own =
-          not_foreign v c.self.invariant.tied c.self.invariant.parts.guest c.args.keeper c.in-Some.taken c.in_ok-copy.copy c.in-Some.ensures.some
-          (contained v.sent c.args.frame c.in_ok-copy.copy sent);
-    }
+    ap (λ (w : WorldView). slice_get w.sent c.args.frame) c.self.view_is ∙ c.in_ok-copy.ensures.sent in
+    not_foreign v c.self.invariant.tied c.self.invariant.parts.guest c.args.keeper x c.in_ok-copy.copy at (contained v.sent c.args.frame c.in_ok-copy.copy sent)
 
 pub invariant_of-self-2 : goal.invariant_of-self-2
 invariant_of-self-2 c =
@@ -45,19 +43,13 @@ invariant_of-self-2 c =
       held = c.self.inside.held.items;
       released = c.self.inside.released.items;
     } in
-    let x : KeptView = c.in-Some.taken in
-    let y : KeptView = c.take_frame-put.new.keeper in
-    let back : c.put_keeper.new.held.items ≡ slice_set v.held c.args.keeper (Some y) =
-    put_back v.held c.take_keeper.new.held.items c.put_keeper.new.held.items c.args.keeper y c.in-Some.ensures.taken c.put_keeper.ensures in
-    let lt = c.if-frame-len.false in
-    let many = c.len.ensures in
     let sent : slice_get v.sent c.args.frame ≡ Some c.in_ok-copy.copy =
-    slice_get-get_or v.sent c.args.frame c.index.result.now (omega (arith, lt, many)) ∙ ap Some (sym c.index.ensures ∙ sym c.in_ok-copy.ensures) in
-    subst (λ rows. IsWorld (record v { held = rows })) (sym back)
-    (taken v c.self.invariant c.args.keeper x y c.in-Some.ensures.some c.args.frame c.in_ok-copy.copy sent c.in_ok-put.ensures.takes)
+    ap (λ (w : WorldView). slice_get w.sent c.args.frame) c.self.view_is ∙ c.in_ok-copy.ensures.sent in
+    let (x, there, y, takes, back) = c.in_ok-put_frame.ensures.takes in
+    subst (λ rows. IsWorld (record v { held = rows })) (sym back) (taken v c.self.invariant c.args.keeper x y there c.args.frame c.in_ok-copy.copy sent takes)
 
-pub invariant_of-self-in_err-put : goal.invariant_of-self-in_err-put
-invariant_of-self-in_err-put c =
+pub invariant_of-self : goal.invariant_of-self
+invariant_of-self c =
     let v : WorldView = record {
       image = c.self.inside.image;
       keepers = c.self.inside.keepers;
@@ -67,14 +59,10 @@ invariant_of-self-in_err-put c =
       held = c.self.inside.held.items;
       released = c.self.inside.released.items;
     } in
-    let x : KeptView = c.in-Some.taken in
-    let y : KeptView = c.take_frame-put.new.keeper in
-    let back : c.put_keeper.new.held.items ≡ slice_set v.held c.args.keeper (Some y) =
-    put_back v.held c.take_keeper.new.held.items c.put_keeper.new.held.items c.args.keeper y c.in-Some.ensures.taken c.put_keeper.ensures in
-    subst IsWorld (sym (back_again v c.put_keeper.new.held.items c.args.keeper x y c.in-Some.ensures.some c.in_err-put.ensures.err back)) c.self.invariant
+    subst (λ rows. IsWorld (record v { held = rows })) (sym c.in_err-put_frame.ensures.kept) c.self.invariant
 
-pub returns-in_err-put-clause-left : goal.returns-in_err-put-clause-left
-returns-in_err-put-clause-left c =
+pub returns-in_err-put_frame-clause-left : goal.returns-in_err-put_frame-clause-left
+returns-in_err-put_frame-clause-left c =
     let v : WorldView = record {
       image = c.self.inside.image;
       keepers = c.self.inside.keepers;
@@ -84,30 +72,16 @@ returns-in_err-put-clause-left c =
       held = c.self.inside.held.items;
       released = c.self.inside.released.items;
     } in
-    let x : KeptView = c.in-Some.taken in
-    let y : KeptView = c.take_frame-put.new.keeper in
-    let back : c.put_keeper.new.held.items ≡ slice_set v.held c.args.keeper (Some y) =
-    put_back v.held c.take_keeper.new.held.items c.put_keeper.new.held.items c.args.keeper y c.in-Some.ensures.taken c.put_keeper.ensures in
-    let e = err_from_is_err_and c.from_residual-in_err-put.result c.from_residual-in_err-put.ensures.1 in
-    rw (e.1) (back_again v c.put_keeper.new.held.items c.args.keeper x y c.in-Some.ensures.some c.in_err-put.ensures.err back ∙ c.self.view_is)
+    let e = err_from_is_err_and c.from_residual-in_err-put_frame.result c.from_residual-in_err-put_frame.ensures.1 in
+    rw (e.1) (ap (λ rows. let w : WorldView = record v { held = rows } in w) c.in_err-put_frame.ensures.kept ∙ c.self.view_is)
 
-pub returns-in_err-put-clause-refused : goal.returns-in_err-put-clause-refused
-returns-in_err-put-clause-refused c =
-    let v : WorldView = record {
-      image = c.self.inside.image;
-      keepers = c.self.inside.keepers;
-      need = c.self.inside.need;
-      running = c.self.inside.running.items;
-      sent = c.self.inside.sent.items;
-      held = c.self.inside.held.items;
-      released = c.self.inside.released.items;
-    } in
-    let e = err_from_is_err_and c.from_residual-in_err-put.result c.from_residual-in_err-put.ensures.1 in
-    let lt = c.if-frame-len.false in
-    let many = c.len.ensures in
+pub returns-in_err-put_frame-clause-refused : goal.returns-in_err-put_frame-clause-refused
+returns-in_err-put_frame-clause-refused c =
+    let e = err_from_is_err_and c.from_residual-in_err-put_frame.result c.from_residual-in_err-put_frame.ensures.1 in
+    let (x, there) = c.in_ok-copy.ensures.there in
     rw (e.1)
-    (subst (λ (w : WorldView). Refuses w (on.Deliver c.args.keeper c.args.frame) e.0) c.self.view_is
-    (subst (λ f. Refuses v (on.Deliver c.args.keeper c.args.frame) f) (sym e.2) (is_there v c.args.keeper c.in-Some.taken c.in-Some.ensures.some, omega (arith, lt, many))))
+    (subst (λ f. Refuses c.args.self.now (on.Deliver c.args.keeper c.args.frame) f) (sym e.2)
+    (is_there c.args.self.now c.args.keeper x there, is_below c.args.self.now.sent c.args.frame c.in_ok-copy.copy c.in_ok-copy.ensures.sent))
 
 pub returns-clause-happens : goal.returns-clause-happens
 returns-clause-happens c =
@@ -120,24 +94,19 @@ returns-clause-happens c =
       held = c.self.inside.held.items;
       released = c.self.inside.released.items;
     } in
-    let x : KeptView = c.in-Some.taken in
-    let y : KeptView = c.take_frame-put.new.keeper in
-    let back : c.put_keeper.new.held.items ≡ slice_set v.held c.args.keeper (Some y) =
-    put_back v.held c.take_keeper.new.held.items c.put_keeper.new.held.items c.args.keeper y c.in-Some.ensures.taken c.put_keeper.ensures in
-    let lt = c.if-frame-len.false in
-    let many = c.len.ensures in
     let sent : slice_get v.sent c.args.frame ≡ Some c.in_ok-copy.copy =
-    slice_get-get_or v.sent c.args.frame c.index.result.now (omega (arith, lt, many)) ∙ ap Some (sym c.index.ensures ∙ sym c.in_ok-copy.ensures) in
-    let w : WorldView = record v { held = c.put_keeper.new.held.items } in
+    ap (λ (w : WorldView). slice_get w.sent c.args.frame) c.self.view_is ∙ c.in_ok-copy.ensures.sent in
+    let (x, there, y, takes, back) = c.in_ok-put_frame.ensures.takes in
+    let w : WorldView = record v { held = c.put_frame.new.held.items } in
     subst (λ (z : WorldView). Delivers z c.args.keeper c.args.frame w) c.self.view_is
     (record {
       frame = c.in_ok-copy.copy;
       sent = sent;
       takes = record {
         before = x;
-        there = c.in-Some.ensures.some;
+        there = there;
         after = y;
-        deed = c.in_ok-put.ensures.takes;
+        deed = takes;
         rest = ap (λ rows. let z : WorldView = record v { held = rows } in z) back;
       };
     })
