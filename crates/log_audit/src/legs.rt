@@ -2,6 +2,7 @@
 
 ghost use Rattle.std.specs.Prelude.{◌≡◌, ◌<◌, ◌≤◌, ℕ, length, IfOk, IfSome, IfNone};
 ghost use Rattle.ft_types.specs.declared.names.TheConstants.{HART_LIMIT};
+ghost use Rattle.edge_log.specs.EdgeLog.{IsLog};
 ghost use Rattle.hart_replay.specs.Plans.{IsLeg};
 ghost use Rattle.log_audit.specs.machinery.Covered.{IsOn};
 ghost use Rattle.log_audit.specs.machinery.Turns.{TurnsOf, HasStopped, IsClash, Ends};
@@ -64,11 +65,9 @@ fn go_on(harts: &mut Harts, leg: &PlannedLeg, many: u8) -> Result<Option<Clash>,
 pub(crate) fn run_leg(alloc: Global, start: Machine, leg: &PlannedLeg) -> Result<Ended, Memory>
     requires leg { IsLeg (length start.harts) leg.now }
     requires base { (hart : ℕ) → count_at leg.now.base hart ≡ counts_of start hart }
+    requires rules { IsLog leg.now.edges.start leg.now.edges.rows }
     ensures { IfOk result (Ends leg.now start) }
 {
-    // No edge of the log is of a step before its start.
-    // proof: a log keeps the rules by type.
-    let _rules = leg.edges.at(Hart::new(0), 0);
     let mut harts = Harts::begin(alloc, start)?;
     let many = harts.many();
     match go_on(&mut harts, leg, many)? {

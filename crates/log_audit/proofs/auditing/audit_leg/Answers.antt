@@ -4,6 +4,9 @@ use Rattle.log_audit.specs.machinery.Turns.{Ends}
 use Rattle.log_audit.proofs.Ending.{ends_agree, ends_short}
 use Rattle.log_audit.proofs.auditing.audit_leg.Goals as goal
 
+pub run_leg-requires-clause-rules : goal.run_leg-requires-clause-rules
+run_leg-requires-clause-rules c = c.at-rules.ensures.rules
+
 pub returns-in-Ok-clause-agrees : goal.returns-in-Ok-clause-agrees
 returns-in-Ok-clause-agrees c =
     ends_agree c.args.leg.now c.args.start c.in-Ok-Stopped.machine c.requires.leg c.requires.base

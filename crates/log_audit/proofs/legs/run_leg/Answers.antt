@@ -9,7 +9,7 @@ use Rattle.log_audit.proofs.legs.run_leg.Goals as goal
 pub go_on-requires-clause-on : goal.go_on-requires-clause-on
 go_on-requires-clause-on c =
     subst (λ (v : HartsView). IsOn c.args.leg.now v) (sym c.in_ok-harts.ensures)
-    (begun_on c.args.leg.now c.args.start c.requires.leg c.requires.base c.at-rules.ensures.rules.own)
+    (begun_on c.args.leg.now c.args.start c.requires.leg c.requires.base c.requires.rules.own)
 
 pub returns-in_ok-end-in-None : goal.returns-in_ok-end-in-None
 returns-in_ok-end-in-None c =
