@@ -350,7 +350,9 @@ pub fn no_request<E: Sink>(fault: WordsFault, err: &mut E) -> u8 {
 }
 
 /// Says that what was held back could not be written, and gives the status that the program ends with.
-pub fn no_output<E: Sink>(err: &mut E) -> u8 {
+pub fn no_output<E: Sink>(err: &mut E) -> u8
+    ensures status { result ≡ 1 }
+{
     let fault = CommandFault::Streams(StreamsFault::Write);
     let _told = write_fault(&fault, "", err);
     status_of(&fault)
