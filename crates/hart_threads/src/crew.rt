@@ -67,12 +67,14 @@ pub(crate) fn run_overseen<
     let is_seen = !overseer.is_absent();
     let room = Room {
         desk: Mutex::new(Desk::new(book, pace, ends, turnstile.is_free(), is_seen)),
+        ends,
         calls: Calls::new(),
         overseer: Mutex::new(overseer),
     };
     lead_all(rt, alloc, &room, ends, turnstile, here);
     let Room {
         desk,
+        ends: _,
         calls: _,
         overseer,
     } = room;
@@ -161,7 +163,7 @@ fn go_once<M: Mode, R: Wait, O: Overseer<M> + Drop>(
             room.oversee(rt, alloc, hart);
             Some(false)
         }
-        Turn::Waits => Some(false),
+        Turn::Waits | Turn::Leads(_) => Some(false),
     }
 }
 
@@ -286,6 +288,7 @@ fn lend<M: Mode, R: Wait, O: Overseer<M> + Drop>(
             Turn::Looks => room.oversee(rt, alloc, hart),
             Turn::Stands => stand(rt, alloc, room, hart),
             Turn::Waits => room.calls.wait(rt, hart),
+            Turn::Leads(rounds) => lead_crowd(rt, alloc, room, rounds),
         }
     }
     unreachable!()
@@ -300,6 +303,47 @@ fn stand<M: Mode, R: Wait, O: Overseer<M> + Drop>(
 ) {
     room.oversee(rt, alloc, hart);
     room.calls.wait(rt, hart);
+}
+
+/// Leads all harts in turn on this thread, one lease each, for so many rounds or until none goes on. Their own threads wait meanwhile.
+fn lead_crowd<M: Mode, R: Wait, O: Overseer<M> + Drop>(
+    rt: &R,
+    alloc: Global,
+    room: &Room<M, O>,
+    rounds: u32,
+) {
+    for _round in 0..rounds {
+        let mut went = false;
+        for number in 0..room.ends.harts() {
+            let hart = Hart::new(number);
+            went = lead_once(rt, alloc, room, hart, room.ends.get(hart)) || went;
+        }
+        if !went {
+            break;
+        }
+    }
+    room.end_to_lead(rt);
+}
+
+/// One lease of the hart, where it has more to do than to wait. Whether it took steps, or the overseer looked for it.
+fn lead_once<M: Mode, R: Wait, O: Overseer<M> + Drop>(
+    rt: &R,
+    alloc: Global,
+    room: &Room<M, O>,
+    hart: Hart,
+    end: Count,
+) -> bool {
+    match room.ask_led(rt, alloc, hart, end) {
+        Turn::Goes(lease, _) => match lead(rt, room, lease) {
+            Some((steps, _)) => steps > 0,
+            None => false,
+        },
+        Turn::Looks | Turn::Stands => {
+            room.oversee(rt, alloc, hart);
+            true
+        }
+        Turn::Waits | Turn::Ends | Turn::Leads(_) => false,
+    }
 }
 
 /// Takes steps, until the lease is full or one lacks something.
@@ -358,6 +402,10 @@ fn exchange<M: Mode, R: Wait, O: Overseer<M> + Drop>(
         }
         Turn::Waits => {
             room.calls.wait(rt, hart);
+            lend(rt, alloc, room, hart, end)
+        }
+        Turn::Leads(rounds) => {
+            lead_crowd(rt, alloc, room, rounds);
             lend(rt, alloc, room, hart, end)
         }
     }

@@ -64,6 +64,27 @@ impl<M: Mode> Desk<M> {
         if !self.steering.may_ask(hart) {
             return Turn::Waits;
         }
+        self.go_out(alloc, hart)
+    }
+
+    /// The same, of a hart that is led by whoever leads all harts, where it has more to do than to wait.
+    pub(crate) fn lend_led(&mut self, alloc: Global, hart: Hart, end: Count) -> Turn {
+        if hart.number() >= self.book.machine().harts() || !self.may_go(hart, end) {
+            return Turn::Ends;
+        }
+        if self.bounds.left(hart, self.count_of(hart)) == 0 {
+            return self.stand(hart);
+        }
+        if !self.steering.may_be_led(hart) {
+            return Turn::Waits;
+        }
+        self.go_out(alloc, hart)
+    }
+
+    /// A lease of the hart, which it may have, as far as others tell.
+    fn go_out(&mut self, alloc: Global, hart: Hart) -> Turn
+        requires { hart < length self.old.book.machine.harts }
+    {
         match self.book.lease(alloc, hart) {
             Ok(lease) => {
                 self.steering.go_out(hart);
@@ -150,7 +171,10 @@ impl<M: Mode> Desk<M> {
                 if self.bounds.is_due(hart, count) && self.may_go(hart, end) {
                     return Turn::Looks;
                 }
-                self.lend(alloc, hart, end)
+                match self.steering.begin_to_lead() {
+                    Some(rounds) => Turn::Leads(rounds),
+                    None => self.lend(alloc, hart, end),
+                }
             }
             Brought::Ends => Turn::Ends,
         }
@@ -186,6 +210,7 @@ impl<M: Mode> Desk<M> {
     fn take_back(&mut self, lease: Lease) -> Option<(u64, Count)> {
         let (hart, steps, count) = (lease.hart(), lease.steps(), lease.count());
         let woken = !lease.inputs().is_empty();
+        let takes_over = !lease.edges().is_empty();
         let before = self.rung_by(hart);
         let keep = if self.steering.keeps_rights(hart) {
             Keep::All
@@ -196,6 +221,9 @@ impl<M: Mode> Desk<M> {
         let returned = self
             .steering
             .come_back(hart, steps, is_short, lease.stop(), woken);
+        if takes_over {
+            self.steering.take_over();
+        }
         match self.book.settle(lease, keep) {
             Ok(()) => {
                 self.tell_settled(hart, returned, before);
@@ -271,6 +299,11 @@ impl<M: Mode> Desk<M> {
         let grant = overseer.look(rt, alloc, &mut self.book);
         let counts = self.book.counts();
         Some(self.bounds.grant(grant, &counts))
+    }
+
+    /// Whoever led all harts ends that. Whose threads are to look again.
+    pub(crate) fn end_to_lead(&mut self) -> HartSet {
+        self.steering.end_to_lead()
     }
 
     /// The hart does not go on. Whose threads are to look again.

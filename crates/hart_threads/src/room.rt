@@ -4,7 +4,7 @@ use crate::calls::Calls;
 use crate::desk::Desk;
 use crate::overseer::Overseer;
 use crate::turns::{Brought, Stop, Turn};
-use ft_types::{Count, Hart, HartSet};
+use ft_types::{Count, Counts, Hart, HartSet};
 use page_book::{Lease, Mode};
 use std::alloc::Global;
 use std::hint;
@@ -20,6 +20,8 @@ const PAUSES: u32 = 8;
 #[derive(Drop)]
 pub(crate) struct Room<M: Mode, O: Overseer<M> + Drop> {
     pub(crate) desk: Mutex<Desk<M>>,
+    /// How far each hart is to come.
+    pub(crate) ends: Counts,
     pub(crate) calls: Calls,
     /// Who has it holds it while he takes the desk, never the other way round, and nobody waits for it.
     pub(crate) overseer: Mutex<O>,
@@ -56,6 +58,17 @@ impl<M: Mode, O: Overseer<M> + Drop> Room<M, O> {
         let mut held = self.hold(rt);
         let turn = held.lend(alloc, hart, end);
         (turn, held.wanted())
+    }
+
+    /// What asking for the lease of a hart comes to, where this thread leads all harts.
+    pub(crate) fn ask_led<R: Wait>(&self, rt: &R, alloc: Global, hart: Hart, end: Count) -> Turn {
+        self.hold(rt).lend_led(alloc, hart, end)
+    }
+
+    /// This thread leads all harts no longer.
+    pub(crate) fn end_to_lead<R: Wait>(&self, rt: &R) {
+        let called = self.hold(rt).end_to_lead();
+        self.calls.make(rt, called);
     }
 
     /// Brings the lease, which stops here.

@@ -53,6 +53,8 @@ pub(crate) enum Turn {
     Looks,
     /// It has to wait until the overseer has looked.
     Stands,
+    /// Its thread leads all harts for so many rounds.
+    Leads(u32),
     /// It is to end.
     Ends,
 }

@@ -2,6 +2,7 @@
 //! how far apart the harts may be, and how long a lease is. All of it on values: there is no book here, no lock and no thread.
 #![tactic(auto)]
 
+mod crowd;
 mod habits;
 mod idlers;
 mod pace;

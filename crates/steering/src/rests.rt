@@ -15,6 +15,8 @@ pub(crate) enum Rest {
     Idle,
     /// Others are to settle steps.
     Edges,
+    /// The thread that leads all harts is to end that.
+    Led,
     /// Nothing more.
     Over,
 }

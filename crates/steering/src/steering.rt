@@ -3,6 +3,7 @@
 ghost use Rattle.std.specs.Prelude.{◌≤◌};
 ghost use Rattle.ft_types.specs.declared.names.TheConstants.{HART_LIMIT};
 
+use crate::crowd::Crowd;
 use crate::habits::Habits;
 use crate::idlers::{Idlers, LOOK, Returned};
 use crate::pace::Pace;
@@ -25,6 +26,7 @@ pub struct Steering {
     idlers: Idlers,
     progress: Progress,
     rests: Rests,
+    crowd: Crowd,
     pace: Pace,
     /// How far each hart is to come.
     ends: Counts,
@@ -46,6 +48,7 @@ impl Steering {
             idlers: Idlers::new(),
             progress: Progress::new(harts),
             rests: Rests::new(),
+            crowd: Crowd::new(),
             pace,
             ends,
             is_free,
@@ -68,7 +71,11 @@ impl Steering {
 
     /// Whether the hart may ask for a lease. Else it waits until it is called.
     pub fn may_ask(&mut self, hart: Hart) -> bool {
-        let rest = self.rest(hart);
+        let rest = if self.crowd.is_led() {
+            Rest::Led
+        } else {
+            self.rest(hart)
+        };
         if rest != Rest::Awake {
             self.wait(hart, rest);
             return false;
@@ -108,7 +115,7 @@ impl Steering {
             let has_it = match rest {
                 Rest::Pages => self.queue.held(other).is_against(self.queue.wishes(hart)),
                 Rest::Idle | Rest::Edges => true,
-                Rest::Awake | Rest::Ahead | Rest::Over => false,
+                Rest::Awake | Rest::Ahead | Rest::Led | Rest::Over => false,
             };
             if number != hart.number() && has_it {
                 self.wanted = self.wanted.with(other);
@@ -126,6 +133,33 @@ impl Steering {
             }
         }
         false
+    }
+
+    /// Whether the hart has more to do than to wait, so that whoever leads all harts leads it next. None has where they take no pages from each
+    /// other any more.
+    pub fn may_be_led(&self, hart: Hart) -> bool {
+        self.crowd.is_close() && self.rest(hart) == Rest::Awake
+    }
+
+    /// The lease that came back took a page from another hart.
+    pub fn take_over(&mut self) {
+        self.crowd.meet();
+    }
+
+    /// For how many rounds one thread is to lead all harts from now on, where it is to: they have to do with each other so often that handing on
+    /// takes longer than their steps. Their own threads wait until it ends that.
+    pub fn begin_to_lead(&mut self) -> Option<u32> {
+        if self.has_rests {
+            self.crowd.begin()
+        } else {
+            None
+        }
+    }
+
+    /// The thread that led all harts ends that. Whose threads are to look again.
+    pub fn end_to_lead(&mut self) -> HartSet {
+        self.crowd.end();
+        self.called()
     }
 
     /// The hart has a lease, and looks again where it only waited.
@@ -209,6 +243,7 @@ impl Steering {
     ) -> Returned {
         let pages = self.queue.held(hart);
         self.progress.add(hart, steps);
+        self.crowd.add(steps);
         self.habits
             .note(hart, pages.without(self.queue.wished(hart)));
         self.queue.release(hart);
@@ -331,6 +366,7 @@ impl Steering {
             Rest::Pages => self.queue.is_called(hart),
             Rest::Ahead => !self.progress.is_ahead(hart, &self.idlers),
             Rest::Idle => !self.is_idle(hart),
+            Rest::Led => !self.crowd.is_led(),
             Rest::Over => true,
         }
     }

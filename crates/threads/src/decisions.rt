@@ -13,7 +13,7 @@ const AS_IT_WAS: u64 = 7777;
 
 /// Calls of harts, each with its hart and, where there is one, a page, a number of steps or another hart; and what it answers: a number, 1 for yes, or
 /// a bit a hart. The first of each text begins, with so many harts.
-static ROWS: [&str; 4] = [
+static ROWS: [&str; 5] = [
     // Whoever was refused first is given first, and a page in dispute is kept by nobody.
     "\
 even 3|
@@ -88,6 +88,34 @@ brings 1 5|3
 waits 1|1
 leaves 0|2
 waits 1|0
+asks 1|1
+",
+    // Behind sixteen leases that brought few steps one thread leads all harts for a while, and the others' threads wait until it ends that.
+    "\
+even 2|
+brings 0 9|0
+brings 0 9|0
+brings 0 9|0
+brings 0 9|0
+brings 0 9|0
+brings 0 9|0
+brings 0 9|0
+brings 0 9|0
+brings 0 9|0
+brings 0 9|0
+brings 0 9|0
+brings 0 9|0
+brings 0 9|0
+brings 0 9|0
+brings 0 9|0
+leads 0|0
+brings 0 9|0
+leads 0|64
+leads 1|0
+asks 1|0
+wanted 0|0
+led 1|1
+ends 0|2
 asks 1|1
 ",
 ];
@@ -169,6 +197,9 @@ fn answer(steering: &mut Steering, call: &str, hart: Hart, number: u16, place: u
         "stays" => settles(steering, hart, number, AS_IT_WAS, None),
         "rings" => settles(steering, hart, 1, place, Some(Hart::new(0))),
         "leaves" => bits(steering.leave(hart)),
+        "leads" => u64::from(steering.begin_to_lead().unwrap_or(0)),
+        "led" => u64::from(steering.may_be_led(hart)),
+        "ends" => bits(steering.end_to_lead()),
         _ => u64::MAX,
     }
 }
