@@ -88,7 +88,8 @@ fn live(alloc: Global, image: &Image, term: Term, log: &mut Vec<u8>) -> Result<L
 
 /// The primary a round later, its frames added to the log.
 fn round(alloc: Global, leader: Leader, log: &mut Vec<u8>) -> Result<Leader, Memory> {
-    let (next, frames) = leader.round(alloc, 240)?;
+    let mut next = leader.round(alloc, 240)?;
+    let frames = next.seal(alloc)?;
     add(alloc, log, &frames)?;
     Ok(next)
 }

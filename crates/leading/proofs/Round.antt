@@ -5,9 +5,8 @@ use Rattle.guest_image.specs.Machine.{MachineState}
 use Rattle.hart_lease.specs.Runs.{counts_of}
 use Rattle.book_modes.specs.Recordings.{RecordingView}
 use Rattle.page_book.specs.Books.{BookView}
-use Rattle.fragment_codec.specs.declared.frame.Frame.{Frame}
 use Rattle.fragment_codec.specs.Rules.{OpeningParts}
-use Rattle.log_pieces.specs.Pieces.{SealedView, IsCut, book_log}
+use Rattle.log_pieces.specs.Pieces.{SealedView}
 use Rattle.lease_rounds.specs.Running.{IsIdle}
 use Rattle.lease_rounds.specs.Steps.{AreWithin}
 use Rattle.lease_rounds.specs.machinery.SoFar.{HasRun}
@@ -23,7 +22,6 @@ use Rattle.leading.proofs.Offering.{offered_later}
 use Rattle.leading.proofs.Onward.{as_many, book_later, leads_of, leads_further}
 use Rattle.leading.proofs.Saying.{AreLater}
 use Rattle.leading.proofs.Sound.{sound_gate, sound_queues, sound_book}
-use Rattle.leading.proofs.Within.{cut_within}
 
 module _ (p q : Primary) (g : TermGateView) (queues : List QueueView) (s : IsSound p g queues) (handed : GoesOn p.book q.book)
     (rest : q ≡ record p { book = record p.book { mode = q.book.mode } }) (limits : q.book.mode.limits ≡ p.book.mode.limits) where
@@ -58,15 +56,6 @@ module _ (p q : Primary) (g : TermGateView) (queues : List QueueView) (s : IsSou
     pub same_sealed : r.sealed ≡ p.sealed
     same_sealed = sealed ∙ ap (λ (x : Primary). x.sealed) rest
 
-    harts_of_guest : p.opening.guest.harts ≡ r.opening.guest.harts
-    harts_of_guest = ap (λ (o : OpeningParts). o.guest.harts) (sym same_opening)
-
-    pub harts : length r.book.machine.harts ≡ r.opening.guest.harts
-    harts = as_many p.book r.book whole first second ∙ s.harts ∙ sym s.guest ∙ harts_of_guest
-
-    pub reached : length r.sealed.reached ≡ r.opening.guest.harts
-    reached = ap (λ (x : SealedView). length x.reached) same_sealed ∙ s.reached ∙ sym s.guest ∙ harts_of_guest
-
     pub behind : (hart : ℕ) → count_at r.sealed.reached hart ≤ counts_of r.book.machine hart
     behind hart =
         let low = s.behind hart in
@@ -74,21 +63,12 @@ module _ (p q : Primary) (g : TermGateView) (queues : List QueueView) (s : IsSou
         let up = (later hart).counts in
         omega (arith, low, same, up)
 
-    -- and what is new of it was cut
-    pub sound : (t : Primary) (h : TermGateView) (new : List QueueView) (frames : List Frame) → t ≡ record r { sealed = t.sealed } →
-        IsCut (book_log r.opening.guest r.opening.term r.book) r.opening.guest.harts r.sealed frames t.sealed → OffersMore g h →
-        AreAllOffered h.gate r.book.machine → length new ≡ length queues → IsSound t h new
-    sound t h new frames only cut more all many =
-        let book : t.book ≡ r.book = ap (λ (x : Primary). x.book) only in
-        let same : t.book.machine ≡ r.book.machine = ap (λ (x : BookView RecordingView). x.machine) book in
-        sound_queues t h queues new many
-        (sound_gate t g h queues (ap (λ (x : TermGateView). x.harts) more.rest) (ap (λ (x : TermGateView). x.gate.term) more.rest)
-        (subst (AreOffered h.gate) (sym same) (all_stay h.gate r.book.machine all))
-        (sound_book p t g queues (ap (λ (x : Primary). x.opening) only ∙ same_opening)
-        (ap (λ (m : MachineState). length m.harts) same ∙ as_many p.book r.book whole first second)
-        (cut.same_harts ∙ ap (λ (x : SealedView). length x.reached) same_sealed) (subst IsIdle (sym book) on.idle) (subst AreWithin (sym book) on.within)
-        (subst (AreLater p.book.machine) (sym same) later)
-        (λ hart.
-        let low = cut_within r.opening.guest r.opening.term r.book r.sealed frames t.sealed behind cut hart in
-        let is = ap (λ (m : MachineState). counts_of m hart) same in
-        omega (arith, low, is)) s))
+    -- and its outputs came to the gate
+    pub sound : (h : TermGateView) (new : List QueueView) → OffersMore g h → AreAllOffered h.gate r.book.machine → length new ≡ length queues →
+        IsSound r h new
+    sound h new more all many =
+        sound_queues r h queues new many
+        (sound_gate r g h queues (ap (λ (x : TermGateView). x.harts) more.rest) (ap (λ (x : TermGateView). x.gate.term) more.rest)
+        (all_stay h.gate r.book.machine all)
+        (sound_book p r g queues same_opening (as_many p.book r.book whole first second) (ap (λ (x : SealedView). length x.reached) same_sealed) on.idle
+        on.within later behind s))

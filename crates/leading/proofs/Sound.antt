@@ -4,6 +4,8 @@ use Rattle.ft_types.specs.Counts.{count_at}
 use Rattle.guest_image.specs.Machine.{MachineState}
 use Rattle.hart_lease.specs.Runs.{counts_of}
 use Rattle.book_modes.specs.Recordings.{RecordingView}
+use Rattle.fragment_codec.specs.declared.frame.Frame.{Frame}
+use Rattle.log_pieces.specs.Pieces.{IsCut, book_log}
 use Rattle.page_book.specs.Books.{BookView}
 use Rattle.lease_rounds.specs.Running.{IsIdle}
 use Rattle.lease_rounds.specs.Steps.{AreWithin}
@@ -14,6 +16,7 @@ use Rattle.requests.specs.Queues.{QueueView}
 use Rattle.leading.specs.Leaders.{IsSound, AreTidy}
 use Rattle.leading.proofs.Offering.{offered_later}
 use Rattle.leading.proofs.Saying.{AreLater, still_tidy}
+use Rattle.leading.proofs.Within.{cut_within}
 
 -- with another gate of its term
 pub sound_gate : (p : Primary) (g h : TermGateView) (queues : List QueueView) → h.harts ≡ g.harts → h.gate.term ≡ g.gate.term →
@@ -86,3 +89,20 @@ sound_notes p c g queues book limits s =
       term = s.term;
       many = s.many;
     }
+
+-- with what is new of its log cut
+pub sound_sealed : (p q : Primary) (g : TermGateView) (queues : List QueueView) (frames : List Frame) → q ≡ record p { sealed = q.sealed } →
+    IsCut (book_log p.opening.guest p.opening.term p.book) p.opening.guest.harts p.sealed frames q.sealed → IsSound p g queues → IsSound q g queues
+sound_sealed p q g queues frames rest cut s =
+    subst (λ (x : Primary). IsSound x g queues) (sym rest) (record {
+      idle = s.idle;
+      within = s.within;
+      harts = s.harts;
+      guest = s.guest;
+      reached = cut.same_harts ∙ s.reached;
+      behind = cut_within p.opening.guest p.opening.term p.book p.sealed frames q.sealed s.behind cut;
+      tidy = s.tidy;
+      offered = s.offered;
+      term = s.term;
+      many = s.many;
+    })

@@ -290,16 +290,15 @@ impl Leader {
         self.release(alloc)
     }
 
-    /// One round: inputs go from the queues to the machine, each hart goes on for so many steps, its outputs come to the gate, and what is
-    /// new of the log is cut. The frames are sent to the keepers. Want of memory ends the primary.
-    pub fn round(self, alloc: Global, steps: Count) -> Result<(Leader, Vec<Frame>), Memory>
-        ensures opening { IfOk result (λ r. r.0.primary.opening ≡ self.primary.opening) }
-        ensures round { IfOk result (λ r. IsRound steps self r.0) }
-        ensures cut { IfOk result (λ r. IsCut (book_log self.primary.opening.guest self.primary.opening.term r.0.primary.book)
-            self.primary.opening.guest.harts self.primary.sealed r.1.items r.0.primary.sealed) }
-        ensures gate { IfOk result (λ r. OffersMore self.gate r.0.gate) }
-        ensures offered { IfOk result (λ r. AreAllOffered r.0.gate.gate r.0.primary.book.machine) }
-        ensures released { IfOk result (λ r. r.0.released ≡ self.released) }
+    /// One round: inputs go from the queues to the machine, each hart goes on for so many steps, and its outputs come to the gate. Nothing
+    /// of it is cut. Want of memory ends the primary.
+    pub fn round(self, alloc: Global, steps: Count) -> Result<Leader, Memory>
+        ensures opening { IfOk result (λ l. l.primary.opening ≡ self.primary.opening) }
+        ensures round { IfOk result (λ l. IsRound steps self l) }
+        ensures sealed { IfOk result (λ l. l.primary.sealed ≡ self.primary.sealed) }
+        ensures gate { IfOk result (λ l. OffersMore self.gate l.gate) }
+        ensures offered { IfOk result (λ l. AreAllOffered l.gate.gate l.primary.book.machine) }
+        ensures released { IfOk result (λ l. l.released ≡ self.released) }
     {
         let Leader {
             mut primary,
@@ -312,19 +311,28 @@ impl Leader {
         // proof: its journal leads to its machine, before and after.
         has_run(&primary.book);
         hand_all(&mut primary, &mut queues)?;
-        let mut led = go_on(alloc, primary, steps)?;
+        let led = go_on(alloc, primary, steps)?;
         has_run(&led.book);
         offer_all(&mut gate, led.book.machine())?;
-        let mut frames = Vec::new(alloc);
-        led.seal(alloc, &mut frames)?;
-        let leader = Leader {
+        Ok(Leader {
             primary: led,
             gate,
             queues,
             released,
             quorum,
             marks,
-        };
-        Ok((leader, frames))
+        })
+    }
+
+    /// Cuts what is new of the log. The frames are sent to the keepers. Want of memory leaves all as it was.
+    pub fn seal(&mut self, alloc: Global) -> Result<Vec<Frame>, Memory>
+        ensures cut { IfOk result (λ frames. IsCut (book_log self.old.primary.opening.guest self.old.primary.opening.term self.old.primary.book)
+            self.old.primary.opening.guest.harts self.old.primary.sealed frames.items self.new.primary.sealed) }
+        ensures rest { self.new ≡ record self.old { primary = record self.old.primary { sealed = self.new.primary.sealed } } }
+        ensures err { OnErr result (self.new ≡ self.old) }
+    {
+        let mut frames = Vec::new(alloc);
+        self.primary.seal(alloc, &mut frames)?;
+        Ok(frames)
     }
 }

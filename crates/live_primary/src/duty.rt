@@ -149,25 +149,23 @@ fn take_all<H: Host>(
     Ok(())
 }
 
-/// Leads a round of so many steps, and gives the bytes of its frames.
-fn round(alloc: Global, leader: Leader, steps: Count) -> Result<(Leader, Vec<u8>), Memory> {
-    let (leader, frames) = leader.round(alloc, steps)?;
-    Ok((leader, frame_bytes(alloc, &frames)?))
-}
-
 /// Leads a round of so many steps, and where it is a short one some more, until something comes to the gate: harts that ring each other for an answer
-/// hear it in the next round, before keepers are sent anything, and before it is looked whether they wait. Gives the bytes of all frames.
-fn rounds(alloc: Global, leader: Leader, steps: Count) -> Result<(Leader, Vec<u8>), Memory> {
-    let (mut leader, mut frames) = round(alloc, leader, steps)?;
+/// hear it in the next round, before keepers are sent anything, and before it is looked whether they wait.
+fn rounds(alloc: Global, leader: Leader, steps: Count) -> Result<Leader, Memory> {
+    let mut leader = leader.round(alloc, steps)?;
     for _more in 1..SHORT_ROUNDS {
         if steps > FIRST_ROUND || leader.kept() > 0 {
             break;
         }
-        let (next, mut more) = round(alloc, leader, steps)?;
-        leader = next;
-        frames.append(&mut more)?;
+        leader = leader.round(alloc, steps)?;
     }
-    Ok((leader, frames))
+    Ok(leader)
+}
+
+/// Sends keepers what is new of the log.
+fn send_new<H: Host>(rt: &H, leader: &mut Leader, office: &Office) -> Result<(), Memory> {
+    let frames = leader.seal(rt.alloc())?;
+    office.send(rt, frame_bytes(rt.alloc(), &frames)?)
 }
 
 /// Leads rounds, sends their frames, and looks, unless that is put off, whether more rounds would change anything. What came meanwhile is taken
@@ -178,8 +176,8 @@ fn go_on<H: Host>(
     duty: &mut Duty,
     office: &Office,
 ) -> Result<Leader, Fault> {
-    let (mut leader, frames) = rounds(rt.alloc(), leader, duty.steps)?;
-    office.send(rt, frames)?;
+    let mut leader = rounds(rt.alloc(), leader, duty.steps)?;
+    send_new(rt, &mut leader, office)?;
     take_all(rt, &mut leader, duty, office)?;
     duty.waits = duty.blind == 0 && leader.only_waits(rt.alloc())?;
     duty.blind = next_blind(duty.blind, duty.steps);

@@ -6,7 +6,7 @@ use Rattle.term_gate.specs.TermGates.{TermGateView}
 use Rattle.primary.specs.declared.granted.Primary.{Primary}
 use Rattle.primary.specs.Gating.{AreOffered, AreAllOffered}
 use Rattle.leading.specs.Leaders.{LeaderView}
-use Rattle.leading.specs.Rounds.{HasGoneOn, IsRound}
+use Rattle.leading.specs.Rounds.{IsRound}
 use Rattle.leading.proofs.Round.{offered, sound}
 use Rattle.leading.proofs.leader.Leader.round.Goals as goal
 
@@ -19,17 +19,16 @@ offer_all-requires c =
     (offered c.self.inside.primary c.hand_all.new.primary c.self.inside.gate c.self.inside.queues.items s given.goes_on given.rest given.limits
     c.args.steps c.in_ok-led.led led.on c.has_run.ensures c.has_run-2.ensures led.opening led.sealed)
 
-pub invariant_of-leader : goal.invariant_of-leader
-invariant_of-leader c =
+pub invariant_of-result : goal.invariant_of-result
+invariant_of-result c =
     let given = c.in_ok-hand_all.ensures in
     let led = c.in_ok-led.ensures in
     let h = c.offer_all.new.gate in
-    let cut = c.in_ok-seal.ensures.cut in
     let more = c.in_ok-offer_all.ensures.more in
     let all = subst (λ (m : MachineState). AreAllOffered h.gate m) c.machine.ensures.value c.in_ok-offer_all.ensures.all in (
       sound c.self.inside.primary c.hand_all.new.primary c.self.inside.gate c.self.inside.queues.items c.self.invariant.0 given.goes_on given.rest
-          given.limits c.args.steps c.in_ok-led.led led.on c.has_run.ensures c.has_run-2.ensures led.opening led.sealed c.seal.new.self h
-          c.hand_all.new.queues.items cut.0 c.in_ok-seal.ensures.rest cut.1 more all given.many,
+          given.limits c.args.steps c.in_ok-led.led led.on c.has_run.ensures c.has_run-2.ensures led.opening led.sealed h c.hand_all.new.queues.items more
+          all given.many,
       ap (λ (x : TermGateView). x.gate.keepers) more.rest ∙ c.self.invariant.1,
       λ hart. (more.lines hart).mark ∙ c.self.invariant.2 hart,
     )
@@ -44,7 +43,7 @@ returns-clause-round c =
       released = c.self.inside.released.items;
     } in
     let new : LeaderView = record {
-      primary = c.seal.new.self;
+      primary = c.in_ok-led.led;
       gate = c.offer_all.new.gate;
       queues = c.hand_all.new.queues.items;
       released = c.self.inside.released.items;
@@ -58,5 +57,5 @@ returns-clause-round c =
           ∙ ap (λ (m : RecordingView). let x : BookView RecordingView = record c.self.inside.primary.book { mode = m } in x) given.waiting;
       bells = given.bells;
       hands = given.hands;
-      on = subst (λ (b : BookView RecordingView). HasGoneOn c.args.steps q b) (sym (ap (λ (x : Primary). x.book) c.in_ok-seal.ensures.rest)) c.in_ok-led.ensures.on;
+      on = c.in_ok-led.ensures.on;
     })
