@@ -1,3 +1,4 @@
 pub mod Coming
 pub mod Applied
 pub mod Audited
+pub mod Ending

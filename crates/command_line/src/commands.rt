@@ -1,7 +1,10 @@
 //! The commands of the program.
 
-ghost use Rattle.std.specs.Prelude.{◌≡◌, length, IfOk};
+ghost use Rattle.std.specs.Prelude.{◌≡◌, codes, length, IfOk};
+ghost use Rattle.ft_types.specs.Text.{line};
 ghost use Rattle.scripts.specs.Script.{AreOffered};
+ghost use Rattle.command_line.specs.Faults.{words_line};
+ghost use Rattle.command_line.specs.Writing.{Ends, WritesSome};
 
 use crate::audits::audit_streams;
 use crate::failing_over::fail_over;
@@ -329,6 +332,7 @@ fn run_and_tell<F: Files, P: Pairs, W: Sink, E: Sink>(
     err: &mut E,
 ) -> u8
     requires { P.may_run pairs.now }
+    ensures { Ends result (E.bytes err.old) (E.bytes err.new) (E.failures err.old) (E.failures err.new) }
 {
     match run(alloc, request, files, pairs, out) {
         Ok(()) => 0,
@@ -341,7 +345,11 @@ fn run_and_tell<F: Files, P: Pairs, W: Sink, E: Sink>(
 }
 
 /// Says why there is no request, and gives the status that the program ends with.
-pub fn no_request<E: Sink>(fault: WordsFault, err: &mut E) -> u8 {
+pub fn no_request<E: Sink>(fault: WordsFault, err: &mut E) -> u8
+    ensures told { WritesSome (E.bytes err.old) (E.bytes err.new) (E.failures err.old) (E.failures err.new) (words_line fault) }
+    ensures usage { fault ≡ WordsFault.Usage → result ≡ 2 }
+    ensures memory { fault ≡ WordsFault.Memory → result ≡ 1 }
+{
     let _told = write_words_fault(fault, err);
     match fault {
         WordsFault::Usage => 2,
@@ -351,6 +359,7 @@ pub fn no_request<E: Sink>(fault: WordsFault, err: &mut E) -> u8 {
 
 /// Says that what was held back could not be written, and gives the status that the program ends with.
 pub fn no_output<E: Sink>(err: &mut E) -> u8
+    ensures told { WritesSome (E.bytes err.old) (E.bytes err.new) (E.failures err.old) (E.failures err.new) (line (codes "fault write")) }
     ensures status { result ≡ 1 }
 {
     let fault = CommandFault::Streams(StreamsFault::Write);
@@ -368,6 +377,8 @@ pub fn command<F: Files, P: Pairs, W: Sink, E: Sink>(
     err: &mut E,
 ) -> u8
     requires { P.may_run pairs.now }
+    // With 0 and nothing told, or with the status of a fault whose one line was told.
+    ensures ends { Ends result (E.bytes err.old) (E.bytes err.new) (E.failures err.old) (E.failures err.new) }
 {
     match read_words(alloc, words) {
         Ok(request) => run_and_tell(alloc, &request, files, pairs, out, err),

@@ -1,0 +1,13 @@
+-- How a command ends.
+use Rattle.std.proofs.Common.{◌≡◌, ◌≢◌, ℕ, List, Option, refl, inr, []}
+use Rattle.command_line.specs.declared.words.WordsFault.{WordsFault}
+use Rattle.command_line.specs.declared.words.WordsFault.TheVariants.{Usage as NoWords, Memory as NoWordsMemory}
+use Rattle.command_line.specs.declared.faults.CommandFault.TheVariants.{Usage, Memory}
+use Rattle.command_line.specs.Faults.{words_line}
+use Rattle.command_line.specs.Writing.{Ends, WritesSome}
+
+-- words that are no request are told as the fault of a command
+pub words_end : (fault : WordsFault) (status : ℕ) (old new : Option (List ℕ)) (f g : ℕ) → (fault ≡ NoWords → status ≡ 2) →
+    (fault ≡ NoWordsMemory → status ≡ 1) → WritesSome old new f g (words_line fault) → Ends status old new f g
+words_end NoWords status old new f g usage memory told = inr (Usage, [], (λ _. usage refl, λ other. absurd (other refl)), told)
+words_end NoWordsMemory status old new f g usage memory told = inr (Memory, [], (λ e. cc e, λ _. memory refl), told)
