@@ -1,7 +1,7 @@
 //! The book.
 
 ghost use Rattle.std.specs.Prelude.{All, ◌≡◌, ◌≢◌, ◌<◌, ◌≤◌, ◌⊎◌, ◌+◌, ◌↔◌, ◌++◌, ◌∷◌, ℕ, List, [], length, replicate, map, slice_set, slice_get};
-ghost use Rattle.std.specs.Prelude.{slice_index, slice_index_or, Some, None, Ok, Err, true, false, IfOk, IfErr, IfSome, OnOk, OnErr, IsTrue, IsOk, min};
+ghost use Rattle.std.specs.Prelude.{slice_index, slice_index_or, Some, None, Ok, Err, true, false, IfOk, IfErr, IfSome, IfNone, OnOk, OnErr, IsTrue, IsOk, min};
 ghost use Rattle.std.specs.Vec.{vec_len, vec_capacity};
 ghost use Rattle.page_book.specs.machinery.Words.{added, asked_by, base_at, BeginsSchedule, count_at, counts_of, edges_after, fresh, given_more, greater, HasHonestLog, HasUnmet};
 ghost use Rattle.page_book.specs.machinery.Words.{heard_by, inputs_of, is_bell, IsAsking, IsBareLease, IsBetween, IsFull, IsInputOf, IsLentBy};
@@ -16,7 +16,7 @@ ghost use Rattle.ft_types.specs.declared.names.TheConstants.{HART_ROW};
 ghost use Rattle.rv32_hart.specs.Hart.{Hart as HartRecord, with_outputs_of, without_outputs};
 
 use crate::answers::{BookFault, Need};
-use crate::giving::{fresh_lease, give, no_leases, note_taken, with_edges};
+use crate::giving::{Owed, fresh_lease, give, no_leases, note_taken, with_edges};
 use crate::journals::{begins, journal_copied};
 use crate::laying::{add_stretch, take_back};
 use crate::lease::Lease;
@@ -276,26 +276,48 @@ impl<M: Mode> Book<M> {
         ensures memory { IfErr result (λ f. f ≡ BookFault.Memory → IsMet (M.obeyed self.old.mode) (counts_of self.old.machine) hart) }
         ensures err { OnErr result (self.new ≡ self.old) }
     {
-        if self.leases[hart.index()].is_some() {
-            return Err(BookFault::Leased);
+        if let Some(fault) = self.why_not(hart) {
+            return Err(fault);
         }
         let state = self.machine.hart(hart);
-        if state.is_halted() {
-            return Err(BookFault::Halted);
-        }
         let count = state.count();
-        if count >= self.mode.limit(hart) {
-            return Err(BookFault::AtLimit);
-        }
-        if self.mode.is_open(hart, &self.machine) {
-            return Err(BookFault::EdgeOpen);
-        }
         let pages = self.machine.pages();
         let taken = TakenPages::none(alloc, pages)?;
         let mut own = fresh_lease(alloc, hart, state, pages)?;
         let lent = self.lend_out(alloc, hart, count, taken);
         own.go_out(lent);
         Ok(Lease { own })
+    }
+
+    /// Why the hart is not lent, where it is not: it has an open lease, is halted, is at its limit, or has to wait for another.
+    fn why_not(&self, hart: Hart) -> Option<BookFault>
+        requires { hart < length self.now.machine.harts }
+        ensures unrefused { IfNone result ((h : HartRecord) → slice_get self.now.machine.harts hart ≡ Some h →
+            refusal (open_at self.now.leases hart) h (count_at (M.stops self.now.mode) hart) ≡ None) }
+        ensures met { IfNone result (IsMet (M.obeyed self.now.mode) (counts_of self.now.machine) hart) }
+        ensures unlent { IfNone result (open_at self.now.leases hart ≡ None) }
+        ensures limit { IfNone result (counts_of self.now.machine hart < count_at (M.stops self.now.mode) hart) }
+        ensures refused { IfSome result (λ f. f ≢ BookFault.EdgeOpen → (h : HartRecord) → slice_get self.now.machine.harts hart ≡ Some h →
+            refusal (open_at self.now.leases hart) h (count_at (M.stops self.now.mode) hart) ≡ Some f) }
+        ensures later { IfSome result (λ f. f ≡ BookFault.EdgeOpen → (h : HartRecord) → slice_get self.now.machine.harts hart ≡ Some h →
+            refusal (open_at self.now.leases hart) h (count_at (M.stops self.now.mode) hart) ≡ None) }
+        ensures edge_open { IfSome result (λ f. f ≡ BookFault.EdgeOpen → HasUnmet (M.obeyed self.now.mode) (counts_of self.now.machine) hart) }
+        ensures few { IfSome result (λ f. f ≢ BookFault.Memory) }
+    {
+        if self.leases[hart.index()].is_some() {
+            return Some(BookFault::Leased);
+        }
+        let state = self.machine.hart(hart);
+        if state.is_halted() {
+            return Some(BookFault::Halted);
+        }
+        if state.count() >= self.mode.limit(hart) {
+            return Some(BookFault::AtLimit);
+        }
+        if self.mode.is_open(hart, &self.machine) {
+            return Some(BookFault::EdgeOpen);
+        }
+        None
     }
 
     /// What the hart, which is at this count, goes out with. It has an open lease then, of no page.
@@ -496,13 +518,45 @@ impl<M: Mode> Book<M> {
         let asked = lease.asks(page, want);
         let alloc = *self.journal.allocator();
         let settled = self.counts();
-        let found = self.mode.edges_owed(alloc, &settled, &asked);
-        let waiting = with_edges(alloc, lease.edges(), found.as_slice())?;
-        let known = with_edges(alloc, lease.edges(), found.as_slice())?;
+        let Owed {
+            found,
+            waiting,
+            known,
+        } = self.owed(alloc, lease, &settled, &asked)?;
         give(lease, page, here, want, copy)?;
         lease.wait_with(waiting);
         self.hand_over(&settled, &asked, found.as_slice(), known);
         Ok(())
+    }
+
+    /// The edges that the next step of this book's lease owes for what it asks, against which no open lease stands.
+    fn owed(
+        &self,
+        alloc: Global,
+        lease: &hart_lease::Lease,
+        settled: &Counts,
+        asked: &Asked,
+    ) -> Result<Owed, Memory>
+        requires ours { IsOurs self.now lease.now }
+        requires asked { asked.now ≡ asked_by lease.now asked.now.page asked.now.want }
+        requires bare { IsBareLease lease.now }
+        requires count { asked.now.count < COUNT_LIMIT }
+        requires page { asked.now.page < length self.now.machine.pages }
+        requires free { (g : ℕ) → M.is_holder self.now.mode self.now.leases asked.now g → ⊥ }
+        requires harts { length settled.now ≡ length self.now.machine.harts }
+        requires settled { (hart : ℕ) → count_at settled.now hart ≡ counts_of self.now.machine hart }
+        ensures found { IfOk result (λ o. M.owes self.now.mode (count_at settled.now) asked.now o.found.items) }
+        ensures waiting { IfOk result (λ o. edges_after o.waiting lease.now.edges ≡ lease.now.edges ++ o.found.items) }
+        ensures known { IfOk result (λ o. edges_after o.known lease.now.edges ≡ lease.now.edges ++ o.found.items) }
+    {
+        let found = self.mode.edges_owed(alloc, settled, asked);
+        let waiting = with_edges(alloc, lease.edges(), found.as_slice())?;
+        let known = with_edges(alloc, lease.edges(), found.as_slice())?;
+        Ok(Owed {
+            found,
+            waiting,
+            known,
+        })
     }
 
     /// Adds the lease's steps, where it is this book's. Otherwise it comes back.

@@ -13,6 +13,16 @@ use smallvec::SmallVec;
 use std::alloc::Global;
 use std::array;
 
+/// What a lease's next step owes for a page that it is given.
+pub(crate) struct Owed {
+    /// The edges that were found.
+    pub(crate) found: SmallVec<Edge, HART_ROW>,
+    /// The edges that wait in the lease from then on, where any were found.
+    pub(crate) waiting: Option<Box<SmallVec<Edge, EDGE_ROOM>>>,
+    /// The same, for what the book knows of its open lease.
+    pub(crate) known: Option<Box<SmallVec<Edge, EDGE_ROOM>>>,
+}
+
 /// No hart has an open lease.
 fn none_open() -> [Option<OpenLease>; HART_ROW]
     ensures { result ≡ replicate HART_ROW None }
