@@ -196,7 +196,10 @@ drills() {
     if bash "$top/samples/live/$script" "$live" "$program" "$@" > "$work/drills" 2>&1; then pass; else fail "$what" < "$work/drills"; fi
 }
 
-if [ -x "$live" ] && command -v bash > /dev/null; then
+# By a program of `rt try` each replay behind a drill takes most of a minute.
+if [ -n "${TRIED:-}" ]; then
+    echo "left out samples/live, which replay by the built program"
+elif [ -x "$live" ] && command -v bash > /dev/null; then
     drills 'primaries that are processes' drill.sh 10
     if [ -f "$lua" ]; then
         drills 'Lua on primaries that are processes' drill.sh 10 1 800 10 lua

@@ -196,12 +196,13 @@ lead 2 '' "${handed[@]}"
 ask 'the next primary'
 is 'keepers and primaries have no fault' '' "$(cat faults.*)"
 
-# Two primaries of one term, since what was handed over was copied: keepers take no second frame with a key.
+# Two primaries of one term, since what was handed over was copied: keepers take no second frame with a key. The other one's last request is another
+# word, since for the same one it may well write the same frames.
 for k in 0 1 2; do cp "log.$k" "before.$k"; done
+{ head -n -1 words; echo 03080001; } > other.words
 lead 2 .b copy.1 copy.2
-(exec timeout 20 "$live" client words 8 300 to in.b from out.b > other.answers 2> /dev/null) &
+(exec timeout 20 "$live" client other.words 8 300 to in.b from out.b > other.answers 2> /dev/null) &
 client=$!
-sleep 0.2
 for k in 0 1 2; do ends "two primaries of one term, keeper $k" "${keeper[$k]}" 'fault input 1 clash' "faults.$k"; done
 stop "$client"
 stop "$primary"
