@@ -19,7 +19,7 @@ use crate::names::{name_in_hand, name_in_keeper};
 use ends::{Fault, Host, refuse, tell};
 use live_client::ask;
 use live_primary::lead;
-use live_words::{HandWords, KeeperWords, NoTask, Task, read_task};
+use live_words::{HandWords, KeeperWords, Task, WordsFault, read_task};
 use std::process::ExitCode;
 use std::{env, io};
 
@@ -82,8 +82,8 @@ fn command<H: Host>(rt: &H, words: &[String]) -> u8
 {
     match read_task(rt.alloc(), words) {
         Ok(task) => run(rt, &task),
-        Err(NoTask::Usage) => refuse(rt, &Fault::Usage, ""),
-        Err(NoTask::Memory) => refuse(rt, &Fault::Memory, ""),
+        Err(WordsFault::Usage) => refuse(rt, &Fault::Usage, ""),
+        Err(WordsFault::Memory) => refuse(rt, &Fault::Memory, ""),
     }
 }
 

@@ -5,5 +5,6 @@ mod forms;
 mod matching;
 mod tasks;
 
-pub use matching::{NoTask, read_task};
+pub use matching::read_task;
 pub use tasks::{ClientWords, HandWords, KeeperWords, PrimaryWords, Task};
+pub use word_forms::WordsFault;
