@@ -1,7 +1,7 @@
 -- How a command ends.
 use Rattle.std.proofs.Common.{◌≡◌, ◌≢◌, ℕ, List, Option, refl, inr, []}
-use Rattle.command_line.specs.declared.words.WordsFault.{WordsFault}
-use Rattle.command_line.specs.declared.words.WordsFault.TheVariants.{Usage as NoWords, Memory as NoWordsMemory}
+use Rattle.word_forms.specs.declared.fault.WordsFault.{WordsFault}
+use Rattle.word_forms.specs.declared.fault.WordsFault.TheVariants.{Usage as NoWords, Memory as NoWordsMemory}
 use Rattle.command_line.specs.declared.faults.CommandFault.TheVariants.{Usage, Memory}
 use Rattle.command_line.specs.Faults.{words_line}
 use Rattle.command_line.specs.Writing.{Ends, WritesSome}

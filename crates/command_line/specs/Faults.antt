@@ -11,8 +11,8 @@ use Rattle.failover_world.specs.Faults.{fault_number as world_fault_number}
 use Rattle.log_streams.specs.declared.faults.StreamsFault.{StreamsFault}
 use Rattle.log_streams.specs.declared.faults.StreamsFault.TheVariants.{Read, Frame, Guest, Replay, Write, Memory as NoRoom}
 use Rattle.log_streams.specs.Stores.{numbers}
-use Rattle.command_line.specs.declared.words.WordsFault.{WordsFault}
-use Rattle.command_line.specs.declared.words.WordsFault.TheVariants.{Usage as NoWords, Memory as NoWordsMemory}
+use Rattle.word_forms.specs.declared.fault.WordsFault.{WordsFault}
+use Rattle.word_forms.specs.declared.fault.WordsFault.TheVariants.{Usage as NoWords, Memory as NoWordsMemory}
 use Rattle.command_line.specs.declared.faults.CommandFault.{CommandFault}
 use Rattle.command_line.specs.declared.faults.CommandFault.TheVariants.{Usage, File, Image, Script, Events, World, Uncovered, Streams, Memory}
 

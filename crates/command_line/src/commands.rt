@@ -10,7 +10,7 @@ use crate::audits::audit_streams;
 use crate::failing_over::fail_over;
 use crate::faults::{CommandFault, named_in, status_of, write_fault, write_words_fault, written};
 use crate::files::Files;
-use crate::words::{NamedFile, Request, Task, WordsFault, read_words};
+use crate::words::{NamedFile, Request, Task, read_words};
 use ft_types::{Sink, Source};
 use guest_image::{Image, read_image};
 use log_join::Store;
@@ -21,6 +21,7 @@ use log_streams::{
 use page_book::{Book, Recording};
 use scripts::{Offered, read_events, read_script};
 use std::alloc::Global;
+use word_forms::WordsFault;
 
 /// How many bytes of a file are read at once.
 const PIECE: usize = 4096;

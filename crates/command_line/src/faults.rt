@@ -7,7 +7,7 @@ ghost use Rattle.command_line.specs.Writing.{as_told};
 ghost use Rattle.command_line.specs.Audits.{replay_fault};
 ghost use Rattle.command_line.specs.Faults.{image_line, in_one_line, replay_line, shown, streams_line, step_text, uncovered_line, fault_line, words_line};
 
-use crate::words::{NamedFile, Request, WordsFault};
+use crate::words::{NamedFile, Request};
 use failover_world::WorldFault;
 use ft_types::{Count, Failed, Hart, LineBuffer, Memory, PageNo, Sink, write_all};
 use guest_image::ImageFault;
@@ -15,6 +15,7 @@ use hart_replay::ReplayFault;
 use log_audit::AuditFault;
 use log_streams::{StreamsFault, write_counts_line, write_long_line, write_numbered};
 use scripts::{EventsFault, ScriptFault};
+use word_forms::WordsFault;
 
 /// Why a command failed.
 #[derive(Clone, Copy)]

@@ -12,4 +12,4 @@ mod words;
 pub use commands::{command, no_output, no_request};
 pub use files::Files;
 pub use log_streams::{PairOrders, Pairs};
-pub use words::WordsFault;
+pub use word_forms::WordsFault;

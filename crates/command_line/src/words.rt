@@ -1,10 +1,9 @@
 //! What the words of the command line ask for.
 
-use clap::error::ErrorKind;
-use clap::{Arg, ArgAction, ArgMatches, Command, Error};
 use ft_types::read_number;
 use log_streams::{PairOrders, Quorum};
-use std::alloc::{AllocError, Global};
+use std::alloc::Global;
+use word_forms::{Form, Words, WordsFault, read_form};
 
 /// The number of steps that a run may ask of each hart, at the most.
 const BUDGET_LIMIT: u32 = 1_000_000;
@@ -117,150 +116,52 @@ fn name_at<'a>(names: &Vec<&'a str>, number: usize) -> &'a str {
     }
 }
 
-/// Why words ask for nothing.
-#[derive(Clone, Copy)]
-pub enum WordsFault {
-    Usage,
-    Memory,
-}
-
-impl From<AllocError> for WordsFault {
-    fn from(_e: AllocError) -> WordsFault {
-        WordsFault::Memory
-    }
-}
-
-fn fault_of(error: Error) -> WordsFault {
-    match error.kind() {
-        ErrorKind::OutOfMemory => WordsFault::Memory,
-        _ => WordsFault::Usage,
-    }
-}
-
-fn word<'a>(alloc: Global, name: &'a str) -> Arg<'a> {
-    Arg::new(alloc, name).required(true).action(ArgAction::Set)
-}
-
-fn one_to_eight(arg: Arg<'_>) -> Arg<'_> {
-    arg.num_args(1..=8)
-}
-
-/// One to eight logs.
-fn logs<'a>(alloc: Global) -> Arg<'a> {
-    one_to_eight(word(alloc, "logs"))
-}
-
-fn with_arg<'a>(command: Command<'a>, arg: Arg<'a>) -> Result<Command<'a>, AllocError> {
-    command.arg(arg)
-}
-
-/// A command, by the names of its words.
-struct Form {
-    name: &'static str,
-    words: &'static [&'static str],
-    /// Whether logs stand behind the words.
-    has_logs: bool,
-}
-
+/// `replay IMAGE LOGS..`, `join IMAGE OUT LOGS..`, `cut IMAGE LOGS..`, `audit IMAGE LOGS..`, `run IMAGE SCRIPT BUDGET OUT`,
+/// `pair IMAGE SCRIPT BUDGET KEEPERS NEED`, `failover IMAGE EVENTS KEEPERS NEED`
 static FORMS: [Form; 7] = [
     Form {
         name: "replay",
         words: &["image"],
-        has_logs: true,
+        has_paths: true,
+        behind: &[],
     },
     Form {
         name: "join",
         words: &["image", "made"],
-        has_logs: true,
+        has_paths: true,
+        behind: &[],
     },
     Form {
         name: "cut",
         words: &["image"],
-        has_logs: true,
+        has_paths: true,
+        behind: &[],
     },
     Form {
         name: "audit",
         words: &["image"],
-        has_logs: true,
+        has_paths: true,
+        behind: &[],
     },
     Form {
         name: "run",
         words: &["image", "script", "budget", "made"],
-        has_logs: false,
+        has_paths: false,
+        behind: &[],
     },
     Form {
         name: "pair",
         words: &["image", "script", "budget", "keepers", "need"],
-        has_logs: false,
+        has_paths: false,
+        behind: &[],
     },
     Form {
         name: "failover",
         words: &["image", "events", "keepers", "need"],
-        has_logs: false,
+        has_paths: false,
+        behind: &[],
     },
 ];
-
-/// A command without its words.
-fn bare<'a>(alloc: Global, name: &'a str) -> Command<'a> {
-    Command::new(alloc, name).disable_help_flag(true)
-}
-
-fn command_of<'a>(alloc: Global, form: &Form) -> Result<Command<'a>, AllocError> {
-    let mut command = bare(alloc, form.name);
-    for name in form.words {
-        command = with_arg(command, word(alloc, name))?;
-    }
-    if form.has_logs {
-        with_arg(command, logs(alloc))
-    } else {
-        Ok(command)
-    }
-}
-
-/// The program without its commands.
-fn bare_program<'a>(alloc: Global) -> Command<'a> {
-    bare(alloc, "workbench")
-        .no_binary_name(true)
-        .disable_help_subcommand(true)
-}
-
-fn with_command<'a>(program: Command<'a>, command: Command<'a>) -> Result<Command<'a>, AllocError> {
-    program.subcommand(command)
-}
-
-fn program<'a>(alloc: Global) -> Result<Command<'a>, AllocError> {
-    let mut program = bare_program(alloc);
-    for form in &FORMS {
-        program = with_command(program, command_of(alloc, form)?)?;
-    }
-    Ok(program)
-}
-
-/// The words of these names.
-fn words_of<'a>(
-    alloc: Global,
-    matches: &ArgMatches<'a>,
-    names: &[&str],
-) -> Result<Vec<&'a str>, WordsFault> {
-    let mut words = Vec::new(alloc);
-    for name in names {
-        let Some(word) = matches.get_str(name) else {
-            return Err(WordsFault::Usage);
-        };
-        if words.push(word).is_err() {
-            return Err(WordsFault::Memory);
-        }
-    }
-    Ok(words)
-}
-
-/// The names of the logs, of which a form may have none.
-fn logs_of<'a>(alloc: Global, matches: &ArgMatches<'a>) -> Result<Vec<&'a str>, WordsFault> {
-    match matches.get_strs("logs") {
-        Some(names) => Ok(names.to_vec(alloc)?),
-        None => Ok(Vec::new(alloc)),
-    }
-}
 
 fn number(word: &str) -> Result<u64, WordsFault> {
     match read_number(word.as_bytes()) {
@@ -349,46 +250,15 @@ fn request_of<'a>(
     })
 }
 
-/// The request that clap found, by the names of its form's words.
-fn found_request<'a>(
-    alloc: Global,
-    command: &str,
-    matches: &ArgMatches<'a>,
-) -> Result<Request<'a>, WordsFault> {
-    for form in &FORMS {
-        if form.name == command {
-            let words = words_of(alloc, matches, form.words)?;
-            return request_of(command, &words, logs_of(alloc, matches)?);
-        }
-    }
-    Err(WordsFault::Usage)
-}
-
-/// What clap finds in the words.
-fn matches_of<'a>(alloc: Global, words: &'a [String]) -> Result<ArgMatches<'a>, WordsFault> {
-    match program(alloc)?.try_get_matches_from(words) {
-        Ok(matches) => Ok(matches),
-        Err(error) => Err(fault_of(error)),
-    }
-}
-
-/// Whether a word begins with `-`.
-fn has_option(words: &[String]) -> bool {
-    for word in words {
-        if let [b'-', ..] = word.as_bytes() {
-            return true;
-        }
-    }
-    false
-}
-
 /// The request that the words are. A word that begins with `-` is refused before they are parsed.
 pub fn read_words<'a>(alloc: Global, words: &'a [String]) -> Result<Request<'a>, WordsFault> {
-    if has_option(words) {
-        return Err(WordsFault::Usage);
-    }
-    match matches_of(alloc, words)?.subcommand() {
-        Some((command, inner)) => found_request(alloc, command, inner),
-        None => Err(WordsFault::Usage),
+    let Words {
+        name,
+        words,
+        mut rows,
+    } = read_form(alloc, "workbench", &FORMS, words)?;
+    match rows.pop() {
+        Some(logs) => request_of(name, &words, logs),
+        None => request_of(name, &words, Vec::new(alloc)),
     }
 }
