@@ -5,7 +5,7 @@ ghost use Rattle.std.specs.Prelude.{◌≤◌};
 use crate::names::name_in;
 use crate::office::Office;
 use crate::outset::{Outset, frame_bytes, set_out};
-use crate::pace::{FIRST_ROUND, LONE_ROUND, SHORT_ROUNDS, next_blind, next_round};
+use crate::pace::{FIRST_ROUND, LONE_ROUND, SHORT_ROUNDS, is_sent, next_blind, next_round};
 use ends::{Event, Fault, Host, refuse};
 use ft_types::{Count, Guest, Memory};
 use leading::Leader;
@@ -168,7 +168,7 @@ fn send_new<H: Host>(rt: &H, leader: &mut Leader, office: &Office) -> Result<(),
     office.send(rt, frame_bytes(rt.alloc(), &frames)?)
 }
 
-/// Leads rounds, sends their frames, and looks, unless that is put off, whether more rounds would change anything. What came meanwhile is taken
+/// Leads rounds, sends their frames, unless more of the longest are to come before, and looks, unless that is put off, whether more rounds would change anything. What came meanwhile is taken
 /// before it looks, which may take longer than a keeper needs to acknowledge.
 fn go_on<H: Host>(
     rt: &H,
@@ -177,7 +177,9 @@ fn go_on<H: Host>(
     office: &Office,
 ) -> Result<Leader, Fault> {
     let mut leader = rounds(rt.alloc(), leader, duty.steps)?;
-    send_new(rt, &mut leader, office)?;
+    if is_sent(duty.blind, duty.steps, leader.kept()) {
+        send_new(rt, &mut leader, office)?;
+    }
     take_all(rt, &mut leader, duty, office)?;
     duty.waits = duty.blind == 0 && leader.only_waits(rt.alloc())?;
     duty.blind = next_blind(duty.blind, duty.steps);

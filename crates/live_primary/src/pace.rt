@@ -19,6 +19,20 @@ const LONGEST_ROUND: Count = 61_440;
 /// How many of the longest rounds go by without a look: a look at a hart that computes takes nearly as many instructions as such a round.
 const BLIND_ROUNDS: u8 = 15;
 
+/// How many of the longest rounds go by at the most before keepers are sent what they brought, where no output waits for it: to send wakes a thread for
+/// each keeper, which takes a fifth of such a round's time.
+const UNSENT_ROUNDS: u8 = 4;
+
+/// Whether keepers are sent what is new behind a round of so many steps, behind which so many are to go by without a look, where so many outputs wait
+/// for them.
+pub(crate) fn is_sent(blind: u8, steps: Count, kept: usize) -> bool
+    ensures waiting { 0 < kept → result ≡ true }
+    ensures short { steps < LONGEST_ROUND → result ≡ true }
+    ensures looked { blind ≡ 0 → result ≡ true }
+{
+    kept > 0 || steps < LONGEST_ROUND || blind % UNSENT_ROUNDS == 0
+}
+
 /// How many steps the round behind one of so many has, where no request came between them: few where an input is to be handed to a hart, and
 /// otherwise four times as many, up to a limit. So an answer is soon there, and a guest that computes is led on in long rounds.
 pub(crate) fn next_round(steps: Count, may_hand: bool) -> Count
