@@ -5,7 +5,7 @@ ghost use Rattle.page_book.specs.Books.{IsOurs};
 
 use crate::overseer::Overseer;
 use crate::standing::Bounds;
-use crate::turns::{Answer, Brought, Stop, Turn};
+use crate::turns::{Answer, Asker, Brought, Stop, Turn};
 use ft_types::{Count, Counts, HART_ROW, Hart, HartSet, LEASE_STEPS, PageNo, Want};
 use lease_rounds::PageMask;
 use page_book::{Book, BookFault, Keep, Lease, Mode, Need};
@@ -53,29 +53,19 @@ impl<M: Mode> Desk<M> {
         !state.is_halted() && state.count() < end
     }
 
-    /// A lease of the hart, with the pages that it takes at once.
-    pub(crate) fn lend(&mut self, alloc: Global, hart: Hart, end: Count) -> Turn {
+    /// A lease of the hart, with the pages that it takes at once. Whoever leads all harts gets one where the hart has more to do than to wait.
+    pub(crate) fn lend(&mut self, alloc: Global, hart: Hart, end: Count, asker: Asker) -> Turn {
         if hart.number() >= self.book.machine().harts() || !self.may_go(hart, end) {
             return Turn::Ends;
         }
         if self.bounds.left(hart, self.count_of(hart)) == 0 {
             return self.stand(hart);
         }
-        if !self.steering.may_ask(hart) {
-            return Turn::Waits;
-        }
-        self.go_out(alloc, hart)
-    }
-
-    /// The same, of a hart that is led by whoever leads all harts, where it has more to do than to wait.
-    pub(crate) fn lend_led(&mut self, alloc: Global, hart: Hart, end: Count) -> Turn {
-        if hart.number() >= self.book.machine().harts() || !self.may_go(hart, end) {
-            return Turn::Ends;
-        }
-        if self.bounds.left(hart, self.count_of(hart)) == 0 {
-            return self.stand(hart);
-        }
-        if !self.steering.may_be_led(hart) {
+        let may_have = match asker {
+            Asker::Itself => self.steering.may_ask(hart),
+            Asker::Leader => self.steering.may_be_led(hart),
+        };
+        if !may_have {
             return Turn::Waits;
         }
         self.go_out(alloc, hart)
@@ -173,7 +163,7 @@ impl<M: Mode> Desk<M> {
                 }
                 match self.steering.begin_to_lead() {
                     Some(rounds) => Turn::Leads(rounds),
-                    None => self.lend(alloc, hart, end),
+                    None => self.lend(alloc, hart, end, Asker::Itself),
                 }
             }
             Brought::Ends => Turn::Ends,

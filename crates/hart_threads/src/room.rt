@@ -3,7 +3,7 @@
 use crate::calls::Calls;
 use crate::desk::Desk;
 use crate::overseer::Overseer;
-use crate::turns::{Brought, Stop, Turn};
+use crate::turns::{Asker, Brought, Stop, Turn};
 use ft_types::{Count, Counts, Hart, HartSet};
 use page_book::{Lease, Mode};
 use std::alloc::Global;
@@ -56,13 +56,13 @@ impl<M: Mode, O: Overseer<M> + Drop> Room<M, O> {
         end: Count,
     ) -> (Turn, HartSet) {
         let mut held = self.hold(rt);
-        let turn = held.lend(alloc, hart, end);
+        let turn = held.lend(alloc, hart, end, Asker::Itself);
         (turn, held.wanted())
     }
 
     /// What asking for the lease of a hart comes to, where this thread leads all harts.
     pub(crate) fn ask_led<R: Wait>(&self, rt: &R, alloc: Global, hart: Hart, end: Count) -> Turn {
-        self.hold(rt).lend_led(alloc, hart, end)
+        self.hold(rt).lend(alloc, hart, end, Asker::Leader)
     }
 
     /// This thread leads all harts no longer.

@@ -43,6 +43,15 @@ pub(crate) enum Brought {
     Ends,
 }
 
+/// Who asks for a hart's lease.
+#[derive(Clone, Copy, PartialEq, Eq)]
+pub(crate) enum Asker {
+    /// The hart's own thread.
+    Itself,
+    /// The thread that leads all harts.
+    Leader,
+}
+
 /// What may come of asking for a lease.
 pub(crate) enum Turn {
     /// The hart goes on, for so many steps at the most while nobody waits for its lease.
