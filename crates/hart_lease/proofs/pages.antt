@@ -8,3 +8,5 @@ pub mod Equal
 pub mod Places
 pub mod SlotSets
 pub mod Rows
+pub mod Cleared
+pub mod Anew

@@ -1,9 +1,9 @@
 //! A lease: one hart's state and some pages, on loan.
 
-ghost use Rattle.std.specs.Prelude.{◌≡◌, ◌==◌, ◌&&◌, ◌≢◌, ◌<◌, ◌≤◌, ◌^◌, ◌⊎◌, ◌+◌, ◌-◌, ◌↔◌, ℕ, List, [], length, replicate, map, slice_set, slice_index_or};
+ghost use Rattle.std.specs.Prelude.{◌≡◌, ◌==◌, ◌&&◌, ◌≢◌, ◌<◌, ◌≤◌, ◌^◌, ◌⊎◌, ◌+◌, ◌-◌, ◌↔◌, ℕ, List, [], length, replicate, map, slice_get, slice_set, slice_index_or};
 ghost use Rattle.std.specs.Prelude.{Option, Some, None, ◌∷◌, true, false, IfOk, IfSome, IfNone, OnOk, OnErr, IsTrue};
 ghost use Rattle.ft_types.specs.declared.names.TheConstants.{LEASE_STEPS};
-ghost use Rattle.rv32_hart.specs.Hart.{without_outputs};
+ghost use Rattle.rv32_hart.specs.Hart.{Hart as HartRecord, with_outputs_of, without_outputs};
 ghost use Rattle.guest_image.specs.Machine.{MachineState};
 ghost use Rattle.std.specs.Arc.{arc_value};
 ghost use Rattle.hart_lease.specs.Slots.{slot_at, want_of, base_of, is_writable, part_of};
@@ -12,11 +12,11 @@ ghost use Rattle.hart_lease.specs.Runs.{IsBareLease};
 ghost use Rattle.hart_lease.specs.Asks.{asked_by};
 ghost use Rattle.hart_lease.specs.OpenLeases.{edges_after, idle};
 ghost use Rattle.hart_lease.specs.Leases.{LeaseView, fresh, rung_bell, bells_rung, IsFull, Ticks, StepsOn, Runs, IsLent, IsLentAt, base_at, whole, whole_in};
-ghost use Rattle.hart_lease.specs.Leases.{with_page_to_read, with_page_to_write};
+ghost use Rattle.hart_lease.specs.Leases.{with_page_to_read, with_page_to_write, laid};
 
 use crate::alike::{is_base, same_edges, same_inputs};
 use crate::asked::Asked;
-use crate::lease_pages::{LeasePages, Slot, no_pages};
+use crate::lease_pages::{LeasePages, Slot, clear_bases, no_pages};
 use crate::lent::{EDGE_ROOM, Lent};
 use crate::taken::{Taken, TakenPages};
 use edge_log::Edge;
@@ -120,6 +120,23 @@ impl Lease {
             stop: 0,
             last: 0,
         })
+    }
+
+    /// The same in the place of another, which has not been sent out, of as many pages.
+    pub fn begin_anew(&mut self, hart: Hart, state: &HartState)
+        requires idle { self.old ≡ fresh self.old.hart (without_outputs self.old.base) (length self.old.slots) idle }
+        ensures { self.new ≡ fresh hart (without_outputs state.now) (length self.old.slots) idle }
+    {
+        self.hart = hart;
+        self.base.become_but_outputs(state);
+        self.present.become_but_outputs(state);
+    }
+
+    /// How many pages its machine has.
+    pub fn pages(&self) -> usize
+        ensures { result ≡ length self.now.slots }
+    {
+        self.pages.len()
     }
 
     /// Sends the lease out with this, for `LEASE_STEPS` steps.
@@ -472,23 +489,35 @@ impl Lease {
         None
     }
 
-    /// Nothing of the lease is needed.
-    pub fn waste(self) {
-        let (present, slots, _) = self.spend();
-        drop(present);
-        drop(slots);
+    /// Puts its hart into the machine, which keeps the outputs that it has there, and its pages, of which these are the parts. It
+    /// is one without steps and pages then, and has not been sent out.
+    pub fn lay_in(&mut self, machine: &mut Machine, parts: Vec<Option<SharedPage>>)
+        requires state { (h : HartRecord) × (slice_get machine.old.harts self.old.hart ≡ Some h) × (without_outputs h ≡ without_outputs self.old.base) }
+        requires as_many { length self.old.slots ≡ length machine.old.pages }
+        requires unwritten { (page : ℕ) (bytes : List ℕ) → slot_at self.old.slots page ≡ Slot.Readable bytes → slice_get machine.old.pages page ≡ Some bytes }
+        requires parts { parts.items ≡ map part_of self.old.slots }
+        ensures machine { (h : HartRecord) → slice_get machine.old.harts self.old.hart ≡ Some h → machine.new ≡ laid machine.old
+            (record self.old { present = with_outputs_of h self.old.present }) }
+        ensures idle { self.new ≡ fresh self.old.hart (without_outputs self.old.present) (length self.old.slots) idle }
+    {
+        // proof: a machine's harts have its places for their numbers.
+        let _pages = machine.pages();
+        machine.take_hart_but_outputs(self.hart, &self.present);
+        self.pages.lay_in(machine, self.hart, parts);
+        self.present.cut_outputs(0);
+        self.base.cut_outputs(0);
+        self.base.become_but_outputs(&self.present);
+        self.inputs.clear();
+        clear_bases(&mut self.bases);
+        self.taken.clear();
+        self.edges.clear();
+        self.most = LEASE_STEPS;
+        self.stop = 0;
+        self.last = 0;
     }
 
-    /// What the lease has now. The lease is gone.
-    pub fn spend(self) -> (HartState, Vec<Slot>, u64)
-        ensures hart { result.0 ≡ self.present }
-        ensures slots { result.1.items ≡ self.slots }
-        ensures steps { result.2 ≡ self.steps }
-        ensures number { result.0.number ≡ self.base.number }
-        ensures harts { result.0.harts ≡ self.base.harts }
-        ensures kept { IsBareLease self }
-    {
-        let steps = self.steps();
+    /// Nothing of the lease is needed.
+    pub fn waste(self) {
         let Lease {
             hart: _,
             base,
@@ -503,10 +532,11 @@ impl Lease {
             last: _,
         } = self;
         drop(base);
+        drop(present);
         drop(inputs);
         drop(bases);
+        drop(pages);
         drop(taken);
         drop(edges);
-        (present, pages.into_slots(), steps)
     }
 }

@@ -1,6 +1,6 @@
 //! When a lease took a page, and with which right.
 
-ghost use Rattle.std.specs.Prelude.{◌≡◌, ◌↔◌, replicate, slice_set, None, Some, IfOk, IsTrue};
+ghost use Rattle.std.specs.Prelude.{◌≡◌, ◌↔◌, length, replicate, slice_set, None, Some, IfOk, IsTrue};
 ghost use Rattle.hart_lease.specs.Taken.{right_of_taken, taken_at, taking};
 
 use ft_types::{Count, Memory, PageNo, Want};
@@ -82,6 +82,13 @@ impl TakenPages {
         let mut row = Vec::new(alloc);
         row.resize(pages as usize, None)?;
         Ok(TakenPages { row })
+    }
+
+    /// No page is taken any more.
+    pub(crate) fn clear(&mut self)
+        ensures { self.new ≡ replicate (length self.old) None }
+    {
+        self.row.fill(None);
     }
 
     /// Writes down that the page was taken at this count. The machine has the page.

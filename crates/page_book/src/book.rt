@@ -16,10 +16,10 @@ ghost use Rattle.ft_types.specs.declared.names.TheConstants.{HART_ROW};
 ghost use Rattle.rv32_hart.specs.Hart.{Hart as HartRecord, with_outputs_of, without_outputs};
 
 use crate::answers::{BookFault, Need};
-use crate::giving::{Owed, fresh_lease, give, no_leases, note_taken, with_edges};
-use crate::journals::{begins, journal_copied};
-use crate::laying::{add_stretch, take_back};
+use crate::giving::{Owed, give, no_leases, note_taken, with_edges};
+use crate::journals::{add_stretch, begins, journal_copied};
 use crate::lease::Lease;
+use crate::spare::Spare;
 use book_modes::{Keep, Leg, Mode, Recording, Replaying, settled_counts, steps_taken};
 use edge_log::{Edge, EdgeLog};
 use ft_types::{
@@ -40,6 +40,7 @@ pub struct Book<M: Mode> {
     journal: Vec<Stretch>,
     leases: Box<[Option<OpenLease>; HART_ROW]>,
     mode: M,
+    spare: Spare,
 }
 
 impl<M: Mode> Drop for Book<M> {
@@ -50,6 +51,7 @@ impl<M: Mode> Drop for Book<M> {
             journal: _,
             leases: _,
             mode: _,
+            spare: _,
         } = self;
     }
 }
@@ -78,6 +80,7 @@ impl Book<Replaying> {
             journal: Vec::new(alloc),
             leases,
             mode: Replaying::new(leg),
+            spare: Spare::none(),
         })
     }
 }
@@ -98,6 +101,7 @@ impl Book<Recording> {
             journal: Vec::new(alloc),
             leases,
             mode,
+            spare: Spare::none(),
         })
     }
 
@@ -229,6 +233,7 @@ impl<M: Mode> Book<M> {
             journal: _,
             leases: _,
             mode: _,
+            spare: _,
         } = self;
         machine
     }
@@ -283,7 +288,7 @@ impl<M: Mode> Book<M> {
         let count = state.count();
         let pages = self.machine.pages();
         let taken = TakenPages::none(alloc, pages)?;
-        let mut own = fresh_lease(alloc, hart, state, pages)?;
+        let mut own = self.spare.lease(alloc, hart, state, pages)?;
         let lent = self.lend_out(alloc, hart, count, taken);
         own.go_out(lent);
         Ok(Lease { own })
@@ -590,7 +595,7 @@ impl<M: Mode> Book<M> {
         ensures start { OnOk result (self.new.start ≡ self.old.start) }
         ensures mode { OnOk result (M.settles self.old.mode lease keep self.new.mode) }
     {
-        let Lease { own } = lease;
+        let Lease { mut own } = lease;
         let body = &*own;
         let parts = match body.parts() {
             Ok(parts) => parts,
@@ -612,7 +617,9 @@ impl<M: Mode> Book<M> {
                 return Err((Lease { own }, BookFault::Memory));
             }
         }
-        let steps = take_back(&mut self.machine, Box::into_inner(own), parts);
+        let steps = body.steps();
+        own.lay_in(&mut self.machine, parts);
+        self.spare.keep(own);
         add_stretch(&mut self.journal, hart, steps);
         self.leases[hart.index()] = None;
         Ok(())
@@ -673,6 +680,7 @@ impl<M: Mode> Book<M> {
             journal: journal_copied(&self.journal)?,
             leases: no_leases(*self.journal.allocator())?,
             mode: self.mode.copy()?,
+            spare: Spare::none(),
         })
     }
 

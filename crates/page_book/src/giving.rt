@@ -1,14 +1,12 @@
 //! What a lease that is given a page gets.
 
 ghost use Rattle.std.specs.Prelude.{◌≡◌, ◌<◌, ◌≤◌, ◌++◌, ℕ, List, length, replicate, None, Some, IfOk, IfSome, OnOk, OnErr};
-ghost use Rattle.page_book.specs.machinery.Words.{base_at, edges_after, fresh, given_more, idle, OpenView, with_page};
-ghost use Rattle.rv32_hart.specs.Hart.{without_outputs};
+ghost use Rattle.page_book.specs.machinery.Words.{base_at, edges_after, given_more, OpenView, with_page};
 
 use edge_log::Edge;
-use ft_types::{HART_ROW, Hart, Memory, PAGE_LIMIT, PageNo, Want};
+use ft_types::{HART_ROW, Memory, PageNo, Want};
 use guest_image::{Page, SharedPage};
 use hart_lease::{Asked, EDGE_ROOM, OpenLease};
-use rv32_hart::HartState;
 use smallvec::SmallVec;
 use std::alloc::Global;
 use std::array;
@@ -35,26 +33,6 @@ pub(crate) fn no_leases(alloc: Global) -> Result<Box<[Option<OpenLease>; HART_RO
     ensures { IfOk result (λ leases. leases.value ≡ replicate HART_ROW None) }
 {
     Ok(Box::new(alloc, none_open())?)
-}
-
-/// A lease of a hart in this state but for its outputs, without steps and pages, which may not take any yet.
-pub(crate) fn fresh_lease(
-    alloc: Global,
-    hart: Hart,
-    state: &HartState,
-    pages: u16,
-) -> Result<Box<hart_lease::Lease>, Memory>
-    requires pages { pages ≤ PAGE_LIMIT }
-    ensures { IfOk result (λ l. l.value ≡ fresh hart (without_outputs state.now) pages idle) }
-{
-    let lease = hart_lease::Lease::fresh(alloc, hart, state, pages)?;
-    match Box::new(alloc, lease) {
-        Ok(own) => Ok(own),
-        Err(refused) => {
-            refused.value.waste();
-            Err(Memory)
-        }
-    }
 }
 
 /// The edges that wait, with those found, where any were found.

@@ -1,9 +1,11 @@
 //! Journals, and whether one begins another.
 
-ghost use Rattle.std.specs.Prelude.{◌≡◌, ◌↔◌, IfOk, IsTrue};
+ghost use Rattle.std.specs.Prelude.{◌≡◌, ◌<◌, ◌↔◌, IfOk, IsTrue};
+ghost use Rattle.std.specs.Vec.{vec_len, vec_capacity};
+ghost use Rattle.page_book.specs.machinery.Words.{added};
 ghost use Rattle.page_book.specs.Reclaims.{IsBeginning};
 
-use ft_types::Memory;
+use ft_types::{Hart, Memory};
 use hart_lease::Stretch;
 
 /// An equal journal.
@@ -32,4 +34,14 @@ pub(crate) fn begins(first: &[Stretch], second: &[Stretch]) -> bool
         }
     }
     true
+}
+
+/// Adds a stretch to a journal that has room for it. One without steps adds nothing.
+pub(crate) fn add_stretch(journal: &mut Vec<Stretch>, hart: Hart, steps: u64)
+    requires { vec_len journal.old < vec_capacity journal.old }
+    ensures { journal.new.items ≡ added journal.old.items hart steps }
+{
+    if steps > 0 {
+        journal.push(Stretch { hart, steps }).unwrap();
+    }
 }

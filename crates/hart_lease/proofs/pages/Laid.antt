@@ -1,5 +1,6 @@
 -- Pages laid over those of a machine.
-use Rattle.std.proofs.Common.{◌≡◌, ◌≤◌, ◌<◌, ℕ, zero, suc, List, [], ◌∷◌, ◌++◌, length, refl, ap, arith, slice_set, slice_get}
+use Rattle.std.proofs.Common.{◌≡◌, ◌≤◌, ◌<◌, ℕ, zero, suc, List, [], ◌∷◌, ◌++◌, length, refl, ap, arith, slice_set, slice_get, take, ◌+◌, sym}
+use Rattle.std.proofs.lemmas.List.{take_more, length-take-le}
 use Rattle.guest_image.specs.Machine.{MachineState}
 use Rattle.hart_lease.specs.declared.lease_pages.Slot.{Slot}
 use Rattle.hart_lease.specs.declared.lease_pages.Slot.TheVariants.{Missing, Readable, Writable}
@@ -42,17 +43,21 @@ pub lay_more : (m₀ m m' : MachineState) (ss : List Slot) (s : Slot) (i number 
     m' ≡ record m₀ { pages = laid_pages m₀.pages (ss ++ s ∷ []) }
 lay_more m₀ m m' ss s i number e at same e' = rw (laid_pages-more m₀.pages ss s) (rw (e, same, at) at e')
 
+-- the slot that comes next
+pub lay_next : (m₀ m m' : MachineState) (ss : List Slot) (s : Slot) (i number : ℕ) →
+    m ≡ record m₀ { pages = laid_pages m₀.pages (take number ss) } → number < length ss → s ≡ slot_at ss number → i ≡ number →
+    m' ≡ record m { pages = with_slot m.pages i s } →
+    m' ≡ record m₀ { pages = laid_pages m₀.pages (take (number + 1) ss) }
+lay_next m₀ m m' ss s i number e lt is same e' =
+    rw (take_more ss number Missing lt, ← is)
+    (lay_more m₀ m m' (take number ss) s i number e (sym (length-take-le number ss (omega arith))) same e')
+
 -- pages behind the slots are as they were
 pub laid_pages-behind : (ps : List (List ℕ)) (ss : List Slot) (n : ℕ) → length ss ≤ n → slice_get (laid_pages ps ss) n ≡ slice_get ps n
 laid_pages-behind [] ss n le = refl
 laid_pages-behind (p ∷ ps) [] n le = refl
 laid_pages-behind (p ∷ ps) (s ∷ ss) zero le = absurd (omega arith)
 laid_pages-behind (p ∷ ps) (s ∷ ss) (suc n) le = laid_pages-behind ps ss n (omega arith)
-
--- the slot behind others stands at their number
-pub slot_behind : (ss : List Slot) (s : Slot) (rest : List Slot) → slot_at (ss ++ s ∷ rest) (length ss) ≡ s
-slot_behind [] s rest = refl
-slot_behind (x ∷ ss) s rest = slot_behind ss s rest
 
 -- a slot with a page is one of those that there are
 pub readable_there : (ss : List Slot) (n : ℕ) (bytes : List ℕ) → slot_at ss n ≡ Readable bytes → n < length ss

@@ -7,6 +7,7 @@ use Rattle.hart_lease.specs.declared.lease_pages.Slot.{Slot}
 use Rattle.hart_lease.specs.declared.lease_pages.Slot.TheVariants.{Readable}
 use Rattle.hart_lease.specs.Slots.{slot_at, base_of}
 use Rattle.hart_lease.proofs.pages.Laid.{readable_there}
+use Rattle.hart_lease.proofs.pages.Anew.{fresh_again}
 use Rattle.book_modes.specs.Modes.{IsSettling, KeepsSettling, SettlesHeard}
 use Rattle.hart_lease.proofs.steps.EarlierOutputs.{longer, longer_there, cut_back, laid_longer, base_bare}
 use Rattle.page_book.proofs.Kept.{settled_kept}
@@ -78,8 +79,8 @@ returns-in-Err-settle-clause-kept g c =
     c.cut_outputs.ensures in
     rw (back, c.in-Err-settle.ensures.err, c.reserve.ensures.items) c.self.view_is
 
-pub take_back-steps-requires-clause-state : goal.take_back-steps-requires-clause-state
-take_back-steps-requires-clause-state g c =
+pub lay_in-requires-clause-state : goal.lay_in-requires-clause-state
+lay_in-requires-clause-state g c =
     let d : c.deref-body.result.now ≡ c.lease.inside.own.value = c.deref-body.ensures in
     let hart_is = c.hart-hart.ensures.value ∙ ap (λ (v : LeaseView). v.hart) d in
     let outs_are = c.outputs.ensures ∙ ap (λ (v : LeaseView). v.present.outputs) d in
@@ -90,14 +91,14 @@ take_back-steps-requires-clause-state g c =
     let there : slice_get m.harts l.hart ≡ Some h = rw (← hart_is) c.hart.ensures in
     let new = made_longer m c.add_outputs.new.self l c.hart-hart.result h c.outputs.result.now hart_is outs_are
     (c.in-Ok-add_outputs.ensures.added h c.hart.ensures) in
-    rw c.into_inner.ensures (
+    rw c.deref_mut.ensures.value (
       longer h l.present.outputs,
       rw new (longer_there m l.hart h l.present.outputs there),
       base_bare m l h there (stands_ours (open_at c.self.inside.leases.value l.hart) m (whole_in m l) ours),
     )
 
-pub take_back-steps-requires-clause-unwritten : goal.take_back-steps-requires-clause-unwritten
-take_back-steps-requires-clause-unwritten g c = λ page bytes is.
+pub lay_in-requires-clause-unwritten : goal.lay_in-requires-clause-unwritten
+lay_in-requires-clause-unwritten g c = λ page bytes is.
     let d : c.deref-body.result.now ≡ c.lease.inside.own.value = c.deref-body.ensures in
     let hart_is = c.hart-hart.ensures.value ∙ ap (λ (v : LeaseView). v.hart) d in
     let outs_are = c.outputs.ensures ∙ ap (λ (v : LeaseView). v.present.outputs) d in
@@ -107,14 +108,19 @@ take_back-steps-requires-clause-unwritten g c = λ page bytes is.
     let ours : IsLentBy (open_at c.self.inside.leases.value l.hart) m (whole_in m l) = rw (← c.self.view_is, ← c.lease.view_is) at c.requires in
     let new = made_longer m c.add_outputs.new.self l c.hart-hart.result h c.outputs.result.now hart_is outs_are
     (c.in-Ok-add_outputs.ensures.added h c.hart.ensures) in
-    ap (λ (w : MachineState). slice_get w.pages page) new ∙ read_ours (open_at c.self.inside.leases.value l.hart) m (whole_in m l) page bytes ours (rw c.into_inner.ensures at is)
+    ap (λ (w : MachineState). slice_get w.pages page) new ∙ read_ours (open_at c.self.inside.leases.value l.hart) m (whole_in m l) page bytes ours (rw c.deref_mut.ensures.value at is)
+
+pub keep-requires : goal.keep-requires
+keep-requires g c =
+    let l = c.deref_mut.result.now in
+    fresh_again c.lay_in.new.self l.hart (length l.slots) l.present c.lay_in.ensures.idle
 
 pub returns-clause-machine : goal.returns-clause-machine
 returns-clause-machine g c =
     let d : c.deref-body.result.now ≡ c.lease.inside.own.value = c.deref-body.ensures in
     let hart_is = c.hart-hart.ensures.value ∙ ap (λ (v : LeaseView). v.hart) d in
     let outs_are = c.outputs.ensures ∙ ap (λ (v : LeaseView). v.present.outputs) d in
-    let back_is = rw c.into_inner.ensures at c.take_back-steps.ensures.machine in
+    let back_is = rw c.deref_mut.ensures.value at c.lay_in.ensures.machine in
     let m = c.self.inside.machine in
     let l = c.lease.inside.own.value in
     let h = c.hart.result.now in
@@ -130,7 +136,7 @@ invariant_of-self-2 g c =
     let hart_is = c.hart-hart.ensures.value ∙ ap (λ (v : LeaseView). v.hart) d in
     let outs_are = c.outputs.ensures ∙ ap (λ (v : LeaseView). v.present.outputs) d in
     let bare = rw d at c.hart-hart.ensures.kept in
-    let back_is = rw c.into_inner.ensures at c.take_back-steps.ensures.machine in
+    let back_is = rw c.deref_mut.ensures.value at c.lay_in.ensures.machine in
     let i = c.self.inside in
     let l = c.lease.inside.own.value in
     let h = c.hart.result.now in
@@ -141,7 +147,7 @@ invariant_of-self-2 g c =
     let new = made_longer i.machine c.add_outputs.new.self l c.hart-hart.result h c.outputs.result.now hart_is outs_are
     (c.in-Ok-add_outputs.ensures.added h c.hart.ensures) in
     let taken = back_is (longer h l.present.outputs) (rw new (longer_there i.machine l.hart h l.present.outputs there)) in
-    let laid_is : c.take_back-steps.new.machine ≡ laid i.machine w = taken ∙ rw new (laid_longer i.machine l h there) in
+    let laid_is : c.lay_in.new.machine ≡ laid i.machine w = taken ∙ rw new (laid_longer i.machine l h there) in
     let settling : IsSettling (g.M.Mode.keeps i.mode) w =
     record {
       start = i.start;
@@ -159,13 +165,13 @@ invariant_of-self-2 g c =
       laid_is,
       c.add_stretch.ensures,
       c.reserve.ensures.items,
-      c.take_back-steps.ensures.steps,
+      c.steps-steps.ensures,
+      d,
       c.index.ensures.value,
-      c.deref_mut.ensures.value,
+      c.deref_mut-2.ensures.value,
       hart_is,
       c.settle.ensures.stops,
       c.settle.ensures.obeyed,
-      c.into_inner.ensures,
     )
     (settled_kept i.start i.machine i.journal.items i.leases.value (g.M.Mode.stops i.mode) (g.M.Mode.obeyed i.mode) (g.M.Mode.heard i.mode)
     (g.M.Mode.heard c.settle.new.self) _ _ w c.self.invariant (bare.with_any earlier) ours (hears.hears settling) (kept settling))
