@@ -40,13 +40,13 @@ use std::{array, mem};
 pub struct Recording {
     limits: Counts,
     rights: Vec<PageRight>,
-    edges: EdgeLog,
-    inputs: InputLog,
+    edges: Box<EdgeLog>,
+    inputs: Box<InputLog>,
     notes: NoteLog,
     /// What each hart's next step is given.
     due: Box<[Due; HART_ROW]>,
     /// What waits for later steps.
-    desk: Desk,
+    desk: Box<Desk>,
 }
 
 impl Drop for Recording {
@@ -68,7 +68,7 @@ impl Model for Recording {
 
     ghost Value = { RecordingView };
 
-    ghost view = { λ r. record { limits = r.limits; rights = r.rights.items; edges = r.edges; inputs = r.inputs; notes = r.notes; due = r.due.value; desk = r.desk } };
+    ghost view = { λ r. record { limits = r.limits; rights = r.rights.items; edges = r.edges.value; inputs = r.inputs.value; notes = r.notes; due = r.due.value; desk = r.desk.value } };
 }
 
 fn unused_rights(alloc: Global, pages: u16) -> Result<Vec<PageRight>, Memory>
@@ -86,11 +86,11 @@ fn nothing_due(alloc: Global) -> [Due; HART_ROW]
     array::from_fn(|_| Due::nothing(alloc))
 }
 
-/// What is due to each hart, in memory of its own.
-fn dues_boxed(alloc: Global, due: [Due; HART_ROW]) -> Result<Box<[Due; HART_ROW]>, Memory>
-    ensures { IfOk result (λ boxed. boxed.value ≡ due) }
+/// A value in memory of its own, so that a book is small where it goes from hand to hand.
+fn boxed<T: Drop>(alloc: Global, value: T) -> Result<Box<T>, Memory>
+    ensures { IfOk result (λ own. own.value ≡ value) }
 {
-    Ok(Box::new(alloc, due)?)
+    Ok(Box::new(alloc, value)?)
 }
 
 fn rights_copied(rights: &Vec<PageRight>) -> Result<Vec<PageRight>, Memory>
@@ -161,11 +161,11 @@ impl Recording {
         Ok(Recording {
             limits,
             rights,
-            edges,
-            inputs: InputLog::new(alloc),
+            edges: boxed(alloc, edges)?,
+            inputs: boxed(alloc, InputLog::new(alloc))?,
             notes: NoteLog::new(alloc),
-            due: dues_boxed(alloc, nothing_due(alloc))?,
-            desk,
+            due: boxed(alloc, nothing_due(alloc))?,
+            desk: boxed(alloc, desk)?,
         })
     }
 
@@ -173,14 +173,14 @@ impl Recording {
     pub fn edges(&self) -> &EdgeLog
         ensures { result.now ≡ self.now.edges }
     {
-        &self.edges
+        &*self.edges
     }
 
     /// The inputs of the settled steps.
     pub fn inputs(&self) -> &InputLog
         ensures { result.now ≡ self.now.inputs }
     {
-        &self.inputs
+        &*self.inputs
     }
 
     /// The notes of the outputs that were released.
@@ -238,7 +238,7 @@ impl Recording {
         ensures value { but_bells result ≡ offers_at self.now hart count }
     {
         let due = self.due[hart.index()].inputs();
-        Offered::new(&self.inputs, count, due, &self.desk, hart)
+        Offered::new(&*self.inputs, count, due, &*self.desk, hart)
     }
 
     /// It has a row for each hart.
@@ -254,7 +254,7 @@ impl Recording {
     fn keeps_inputs(&self, now: Count, hart: Hart, count: Count, before: &Recording) -> bool
         ensures { IsTrue result ↔ KeepsInputs before.now hart count self.now now }
     {
-        self.inputs.hears_more(hart, count, &before.inputs)
+        self.inputs.hears_more(hart, count, &*before.inputs)
             && self.offered(hart, now).keeps(before.offered(hart, count))
     }
 
@@ -452,16 +452,16 @@ impl Mode for Recording {
         Ok(Recording {
             limits: self.limits,
             rights: rights_copied(&self.rights)?,
-            edges: self.edges.copy()?,
-            inputs: self.inputs.copy()?,
+            edges: boxed(alloc, self.edges.copy()?)?,
+            inputs: boxed(alloc, self.inputs.copy()?)?,
             notes: self.notes.copy()?,
-            due: dues_boxed(alloc, dues_copied(alloc, &*self.due))?,
-            desk: self.desk.copy()?,
+            due: boxed(alloc, dues_copied(alloc, &*self.due))?,
+            desk: boxed(alloc, self.desk.copy()?)?,
         })
     }
 
     fn goes_on_from(&self, now: &Counts, settled: &Counts, before: &Recording) -> bool {
-        if !self.edges.adds_later(settled, &before.edges) {
+        if !self.edges.adds_later(settled, &*before.edges) {
             return false;
         }
         if !self.notes.adds_later(settled, &before.notes) {
