@@ -36,11 +36,11 @@ returns-clause-rest c =
     record {
       limits = now.limits i;
       rights = c.loop-page.self-inside.rights.items;
-      edges = now.edges i;
-      inputs = now.inputs i;
+      edges = (now.edges i).value;
+      inputs = (now.inputs i).value;
       notes = now.notes i;
       due = (now.due i).value;
-      desk = now.desk i;
+      desk = (now.desk i).value;
     })
 
 pub returns-clause-many : goal.returns-clause-many

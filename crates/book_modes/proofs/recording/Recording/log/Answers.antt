@@ -13,25 +13,25 @@ add_all-requires-clause-own c = rw (c.edges.ensures, c.hart.ensures.value) (edge
 
 pub add_all-requires-clause-each : goal.add_all-requires-clause-each
 add_all-requires-clause-each c =
-    let same : c.requires.settles.1.edges ≡ c.self.inside.edges =
+    let same : c.requires.settles.1.edges ≡ c.self.inside.edges.value =
     ap (λ (v : RecordingView). v.edges) (sym (c.self.view_is ∙ (c.log_inputs.ensures.rest ∙
     ap (λ (v : RecordingView). let w : RecordingView = record v { inputs = c.log_inputs.new.self.inputs } in w) c.requires.settles.3))) in
-    rw c.edges.ensures (rw same at (edges_each c.requires.settles.1 (whole c.requires.settles.0 c.args.lease.now) c.requires.settles.2))
+    rw (c.deref_mut.ensures.value, c.edges.ensures) (rw same at (edges_each c.requires.settles.1 (whole c.requires.settles.0 c.args.lease.now) c.requires.settles.2))
 
 pub add_all-requires-clause-rising : goal.add_all-requires-clause-rising
 add_all-requires-clause-rising c = rw c.edges.ensures (edges_rising c.requires.settles.1 (whole c.requires.settles.0 c.args.lease.now) c.requires.settles.2)
 
 pub returns-in-Ok-clause-edges : goal.returns-in-Ok-clause-edges
 returns-in-Ok-clause-edges c =
-    let same : c.self.inside.edges ≡ c.args.self.now.edges = ap (λ (v : RecordingView). v.edges) (c.self.view_is ∙ c.log_inputs.ensures.rest) in
+    let same : c.self.inside.edges.value ≡ c.args.self.now.edges = ap (λ (v : RecordingView). v.edges) (c.self.view_is ∙ c.log_inputs.ensures.rest) in
     subst (λ (old : Edges). AreLogged old c.args.lease.now.edges c.add_all.new.self) same
     (rw (← c.edges.ensures)
     (record {
-      added = c.in-Ok.ensures.added;
-      was = c.in-Ok.ensures.rules_before;
+      added = rw c.deref_mut.ensures.value at c.in-Ok.ensures.added;
+      was = rw c.deref_mut.ensures.value at c.in-Ok.ensures.rules_before;
       log = c.in-Ok.ensures.rules;
-      start = c.in-Ok.ensures.start;
-      enough = c.in-Ok.ensures.enough;
+      start = rw c.deref_mut.ensures.value at c.in-Ok.ensures.start;
+      enough = rw c.deref_mut.ensures.value at c.in-Ok.ensures.enough;
     }))
 
 pub returns-in-Ok-clause-unsettled : goal.returns-in-Ok-clause-unsettled

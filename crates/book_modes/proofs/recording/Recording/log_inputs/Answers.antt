@@ -8,7 +8,7 @@ add_all-requires-clause-room c =
     let i = c.self.inside in
     let l = c.args.lease.now in
     let last = rw (← c.self.view_is) at c.requires.last in
-    rw (c.hart.ensures.value, c.lent_at.ensures) (room_there i.inputs l.hart l.base.count c.inputs.result.now last c.inputs.ensures.few)
+    rw (c.deref_mut.ensures.value, c.hart.ensures.value, c.lent_at.ensures) (room_there i.inputs.value l.hart l.base.count c.inputs.result.now last c.inputs.ensures.few)
 
 pub returns-clause-logged : goal.returns-clause-logged
 returns-clause-logged c =
@@ -19,7 +19,7 @@ returns-clause-logged c =
     logs_some l.steps c.args.self.now.inputs l c.add_all.new.self some
     (rw (← c.self.view_is)
     (record {
-      harts = c.add_all.ensures.harts;
-      row = rw (c.hart.ensures.value, c.lent_at.ensures, c.inputs.ensures.value) at row;
-      others = rw c.hart.ensures.value at c.add_all.ensures.others_kept;
+      harts = rw c.deref_mut.ensures.value at c.add_all.ensures.harts;
+      row = rw (c.deref_mut.ensures.value, c.hart.ensures.value, c.lent_at.ensures, c.inputs.ensures.value) at row;
+      others = rw (c.deref_mut.ensures.value, c.hart.ensures.value) at c.add_all.ensures.others_kept;
     }))) c.add_all.ensures.added

@@ -69,11 +69,11 @@ abbrev after : goal.After-loop-page → RecordingView
 after c = record {
   limits = c.loop-page.self-inside.limits;
   rights = c.loop-page.self-inside.rights.items;
-  edges = c.loop-page.self-inside.edges;
-  inputs = c.loop-page.self-inside.inputs;
+  edges = c.loop-page.self-inside.edges.value;
+  inputs = c.loop-page.self-inside.inputs.value;
   notes = c.loop-page.self-inside.notes;
   due = c.loop-page.self-inside.due.value;
-  desk = c.loop-page.self-inside.desk;
+  desk = c.loop-page.self-inside.desk.value;
 }
 
 is_ended : (c : goal.After-loop-page) → IsEnded c.args.self.now c.args.hart c.args.count c.args.taken.now (after c)
@@ -87,11 +87,11 @@ is_ended c =
           record {
             limits = now.limits i;
             rights = c.loop-page.self-inside.rights.items;
-            edges = now.edges i;
-            inputs = now.inputs i;
+            edges = (now.edges i).value;
+            inputs = (now.inputs i).value;
             notes = now.notes i;
             due = (now.due i).value;
-            desk = now.desk i;
+            desk = (now.desk i).value;
           };
       many = now.rights.many;
       rights =
@@ -110,4 +110,4 @@ pub returns-clause-kept : goal.returns-clause-kept
 returns-clause-kept c = λ e. ended_recorded c.args.self.now c.args.hart c.args.count c.args.taken.now e (after c) (is_ended c)
 
 pub returns-clause-heard : goal.returns-clause-heard
-returns-clause-heard c = ap heard_in c.loop-page.invariant.inputs ∙ ap (λ (v : RecordingView). heard_by v) c.self.view_is
+returns-clause-heard c = (λ i. heard_in (c.loop-page.invariant.inputs i).value) ∙ ap (λ (v : RecordingView). heard_by v) c.self.view_is

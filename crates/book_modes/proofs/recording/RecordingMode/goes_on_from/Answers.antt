@@ -65,7 +65,7 @@ returns c = (
   λ e.
       record {
         edges =
-            rw (← c.self.view_is, ← c.before-2.view_is) (c.adds_later.ensures.0 c.if-not-adds_later.false);
+            rw (← c.self.view_is, ← c.before-2.view_is) (rw (c.deref.ensures, c.deref-2.ensures) at (c.adds_later.ensures.0 c.if-not-adds_later.false));
         notes = rw (← c.self.view_is, ← c.before-2.view_is) (c.adds_later-2.ensures.0 c.if-not-adds_later-2.false);
         inputs = λ h. elim (cases_lt h c.loop-number.number) [
           | inl less ↦ c.loop-number.invariant h less
