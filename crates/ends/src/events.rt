@@ -1,8 +1,11 @@
 //! What the threads of inputs and outputs tell the one that decides.
 
 use crate::faults::Fault;
+use crate::host::Host;
+use crossbeam_channel::TrySendError;
+use ft_types::Memory;
 use std::alloc::{AllocError, Global};
-use std::sync::Wait;
+use std::sync::{Arc, Wait};
 use wire::Line;
 
 /// What came of an input or an output.
@@ -30,14 +33,78 @@ pub fn row(alloc: Global) -> Result<(Sender, Receiver), AllocError> {
     crossbeam_channel::bounded(alloc, ROOM)
 }
 
+/// Who takes the events. A thread that has left some asks it to serve, so that what they ask for can be done by that thread, and none has to be woken for it.
+pub trait Taker<H: Host>: Send + Sync + Drop + 'static {
+    /// Takes the events that are there, or leaves them to a thread that looks for them behind this call.
+    fn serve(&self, rt: &H);
+}
+
+/// A thread of its own takes them, as they come.
+#[derive(Drop)]
+pub struct Waiting;
+
+impl<H: Host> Taker<H> for Waiting {
+    fn serve(&self, _rt: &H) {}
+}
+
+/// Where the thread of an input or an output leaves events.
+#[derive(Drop)]
+pub struct Door<T: Drop> {
+    to: Sender,
+    taker: Arc<T, Global>,
+}
+
 /// Whoever takes the events is gone.
 #[derive(Clone, Copy)]
 pub(crate) struct Gone;
 
-/// Sends an event.
-pub(crate) fn send<R: Wait>(rt: &R, to: &Sender, event: Event) -> Result<(), Gone> {
+/// Leaves an event once there is room.
+fn send<R: Wait>(rt: &R, to: &Sender, event: Event) -> Result<(), Gone> {
     match to.send(rt, event) {
         Ok(()) => Ok(()),
         Err(_) => Err(Gone),
     }
+}
+
+impl<T: Drop> Door<T> {
+    /// A door to who takes the events.
+    pub fn new(to: Sender, taker: Arc<T, Global>) -> Door<T> {
+        Door { to, taker }
+    }
+
+    /// Another one to the same.
+    pub(crate) fn copy(&self) -> Result<Door<T>, Memory> {
+        Ok(Door {
+            to: self.to.clone()?,
+            taker: Arc::try_clone(&self.taker)?,
+        })
+    }
+}
+
+/// Leaves an event. Where there is no room, those that are there are taken first, so that not all threads wait for one that takes them.
+pub(crate) fn leave<H: Host, T: Taker<H>>(
+    rt: &H,
+    door: &Door<T>,
+    event: Event,
+) -> Result<(), Gone> {
+    match door.to.try_send(rt, event) {
+        Ok(()) => Ok(()),
+        Err(TrySendError::Full(event)) | Err(TrySendError::OutOfMemory(event)) => {
+            door.taker.serve(rt);
+            send(rt, &door.to, event)
+        }
+        Err(TrySendError::Disconnected(_)) => Err(Gone),
+    }
+}
+
+/// Has the events taken that were left.
+pub(crate) fn serve<H: Host, T: Taker<H>>(rt: &H, door: &Door<T>) {
+    door.taker.serve(rt);
+}
+
+/// Leaves an event, and has it taken.
+pub(crate) fn tell<H: Host, T: Taker<H>>(rt: &H, door: &Door<T>, event: Event) -> Result<(), Gone> {
+    leave(rt, door, event)?;
+    serve(rt, door);
+    Ok(())
 }

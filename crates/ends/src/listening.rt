@@ -1,94 +1,112 @@
 //! A thread for each input: it opens the path, reads lines to its end, and opens it again where it is a FIFO.
 
-use crate::events::{Event, Gone, Sender, send};
+use crate::events::{Door, Event, Gone, Taker, leave, serve, tell};
 use crate::faults::{Fault, NamedFile};
 use crate::files::is_fifo;
-use crate::host::{Host, Paths};
+use crate::host::Host;
 use ft_types::Memory;
 use std::fs::File;
 use std::io::Read;
-use std::sync::Wait;
 use std::thread;
-use wire::LineFeed;
+use wire::{Line, LineFeed};
 
 /// How many bytes are read at once.
 const PIECE: usize = 4096;
 
 /// An input.
 #[derive(Drop)]
-struct Input {
+struct Input<T: Drop> {
     number: usize,
     path: String,
-    to: Sender,
+    to: Door<T>,
 }
 
-impl Input {
-    /// Tells that the process can't go on.
-    fn fail<R: Wait>(&self, rt: &R, fault: Fault) -> Gone {
-        let _told = send(rt, &self.to, Event::Failed(fault));
-        Gone
-    }
+/// Tells that the process can't go on.
+fn fail<H: Host, T: Taker<H>>(rt: &H, input: &Input<T>, fault: Fault) -> Gone {
+    let _told = tell(rt, &input.to, Event::Failed(fault));
+    Gone
+}
 
-    /// Takes the next piece of a connection.
-    fn take<R: Paths + AllocGlobal + Wait>(
-        &self,
-        rt: &R,
-        feed: &mut LineFeed,
-        piece: &[u8],
-    ) -> Result<(), Gone> {
-        match feed.push(rt.alloc(), piece) {
-            Ok(lines) => {
-                for line in lines {
-                    send(rt, &self.to, Event::Line(self.number, line))?;
-                }
-                Ok(())
-            }
-            Err(Memory) => Err(self.fail(rt, Fault::Memory)),
+/// Leaves the lines of a piece, and then has them taken, all at once.
+fn leave_lines<H: Host, T: Taker<H>>(
+    rt: &H,
+    input: &Input<T>,
+    lines: Vec<Line>,
+) -> Result<(), Gone> {
+    for line in lines {
+        leave(rt, &input.to, Event::Line(input.number, line))?;
+    }
+    serve(rt, &input.to);
+    Ok(())
+}
+
+/// Takes the next piece of a connection.
+fn take<H: Host, T: Taker<H>>(
+    rt: &H,
+    input: &Input<T>,
+    feed: &mut LineFeed,
+    piece: &[u8],
+) -> Result<(), Gone> {
+    match feed.push(rt.alloc(), piece) {
+        Ok(lines) => leave_lines(rt, input, lines),
+        Err(Memory) => Err(fail(rt, input, Fault::Memory)),
+    }
+}
+
+/// One connection, to its end. A line of which only a beginning came goes with it.
+fn read<H: Host, T: Taker<H>>(rt: &H, input: &Input<T>, file: &mut File) -> Result<(), Gone> {
+    let mut feed = LineFeed::new();
+    let mut piece = [0; PIECE];
+    for _ in rt.forever() {
+        let Ok(count) = file.read(&mut piece) else {
+            return Err(fail(
+                rt,
+                input,
+                Fault::File(NamedFile::Input(input.number)),
+            ));
+        };
+        if count == 0 {
+            return Ok(());
+        }
+        take(rt, input, &mut feed, &piece[..count])?;
+    }
+    Err(Gone)
+}
+
+/// One connection behind the other.
+fn listen_on<H: Host, T: Taker<H>>(rt: &H, input: &Input<T>) -> Result<(), Gone> {
+    for _ in rt.forever() {
+        let Ok(mut file) = rt.open(input.path.as_str()) else {
+            return Err(fail(
+                rt,
+                input,
+                Fault::File(NamedFile::Input(input.number)),
+            ));
+        };
+        let comes_again = is_fifo(&file);
+        read(rt, input, &mut file)?;
+        if !comes_again {
+            return tell(rt, &input.to, Event::Ended);
         }
     }
-
-    /// One connection, to its end. A line of which only a beginning came goes with it.
-    fn read<R: Paths + AllocGlobal + Wait>(&self, rt: &R, file: &mut File) -> Result<(), Gone> {
-        let mut feed = LineFeed::new();
-        let mut piece = [0; PIECE];
-        for _ in rt.forever() {
-            let Ok(count) = file.read(&mut piece) else {
-                return Err(self.fail(rt, Fault::File(NamedFile::Input(self.number))));
-            };
-            if count == 0 {
-                return Ok(());
-            }
-            self.take(rt, &mut feed, &piece[..count])?;
-        }
-        Err(Gone)
-    }
-
-    /// One connection behind the other.
-    fn listen<R: Paths + AllocGlobal + Wait>(&self, rt: &R) -> Result<(), Gone> {
-        for _ in rt.forever() {
-            let Ok(mut file) = rt.open(self.path.as_str()) else {
-                return Err(self.fail(rt, Fault::File(NamedFile::Input(self.number))));
-            };
-            let comes_again = is_fifo(&file);
-            self.read(rt, &mut file)?;
-            if !comes_again {
-                return send(rt, &self.to, Event::Ended);
-            }
-        }
-        Err(Gone)
-    }
+    Err(Gone)
 }
 
 /// Starts a thread that listens on the input with this number.
-fn listen<H: Host>(rt: &H, number: usize, path: &str, to: &Sender) -> Result<(), Memory> {
+fn listen<H: Host, T: Taker<H>>(
+    rt: &H,
+    number: usize,
+    path: &str,
+    to: &Door<T>,
+) -> Result<(), Memory> {
     let own = *rt;
     let input = Input {
         number,
         path: String::from_str(rt.alloc(), path)?,
-        to: to.clone()?,
+        to: to.copy()?,
     };
     match thread::spawn(rt, move || {
-        let _ended = input.listen(&own);
+        let _ended = listen_on(&own, &input);
     }) {
         Ok(_thread) => Ok(()),
         Err(_) => Err(Memory),
@@ -96,11 +114,11 @@ fn listen<H: Host>(rt: &H, number: usize, path: &str, to: &Sender) -> Result<(),
 }
 
 /// Starts threads that listen on inputs, whose numbers begin with this one.
-pub fn listen_all<H: Host>(
+pub fn listen_all<H: Host, T: Taker<H>>(
     rt: &H,
     first: usize,
     paths: &[&str],
-    to: &Sender,
+    to: &Door<T>,
 ) -> Result<(), Memory> {
     let mut number = first;
     for path in paths {

@@ -1,16 +1,16 @@
 //! A thread for each output: it opens the path and writes the pieces that are left for it. Where nobody reads any more it opens the path again.
 
-use crate::events::{Event, Sender as EventSender, send};
+use crate::events::{Door, Event, Taker, tell};
 use crate::faults::{Fault, NamedFile};
-use crate::host::{Host, Paths};
+use crate::host::Host;
 use crossbeam_channel::{Receiver, Sender, bounded, unbounded};
 use ft_types::Memory;
 use std::alloc::{AllocError, Global};
 use std::fs::File;
 use std::io::Write;
 use std::sync::{Arc, Wait};
-use std::thread::{JoinHandle, Threads};
-use std::time::{Clock, Duration};
+use std::thread::JoinHandle;
+use std::time::Duration;
 use std::{io, thread};
 
 /// Bytes that are written to some outputs.
@@ -56,12 +56,12 @@ enum End {
 
 /// An output.
 #[derive(Drop)]
-struct Output {
+struct Output<T: Drop> {
     number: usize,
     path: String,
     keeps: Keeps,
     orders: Receiver<Order, Global>,
-    to: EventSender,
+    to: Door<T>,
 }
 
 fn write(file: &mut File, piece: &Piece) -> Result<(), End> {
@@ -79,7 +79,7 @@ fn write_kept(file: &mut File, kept: &[Piece]) -> Result<(), End> {
     Ok(())
 }
 
-impl Output {
+impl<T: Drop> Output<T> {
     /// Keeps a piece, and writes it.
     fn take(&self, file: &mut File, kept: &mut Vec<Piece>, piece: Piece) -> Result<(), End> {
         let Ok(same) = Arc::try_clone(&piece) else {
@@ -106,30 +106,30 @@ impl Output {
         }
         Ok(())
     }
+}
 
-    fn fail<R: Wait>(&self, rt: &R, fault: Fault) {
-        let _told = send(rt, &self.to, Event::Failed(fault));
-    }
+fn fail<H: Host, T: Taker<H>>(rt: &H, output: &Output<T>, fault: Fault) {
+    let _told = tell(rt, &output.to, Event::Failed(fault));
+}
 
-    /// One connection behind the other.
-    fn run<R: Paths + AllocGlobal + Clock + Wait>(&self, rt: &R) {
-        let failed = Fault::File(NamedFile::Output(self.number));
-        let mut kept = Vec::new(rt.alloc());
-        for _ in rt.forever() {
-            let Ok(mut file) = rt.open_to_add(self.path.as_str()) else {
-                return self.fail(rt, failed);
-            };
-            let end = self.serve(rt, &mut file, &mut kept);
-            drop(file);
-            match end {
-                Ok(()) | Err(End::Done) => return,
-                Err(End::Left) => {}
-                Err(End::Anew) => {
-                    let _slept = thread::sleep(rt, Duration::from_millis(GAP));
-                }
-                Err(End::Failed) => return self.fail(rt, failed),
-                Err(End::Memory) => return self.fail(rt, Fault::Memory),
+/// One connection behind the other.
+fn run<H: Host, T: Taker<H>>(rt: &H, output: &Output<T>) {
+    let failed = Fault::File(NamedFile::Output(output.number));
+    let mut kept = Vec::new(rt.alloc());
+    for _ in rt.forever() {
+        let Ok(mut file) = rt.open_to_add(output.path.as_str()) else {
+            return fail(rt, output, failed);
+        };
+        let end = output.serve(rt, &mut file, &mut kept);
+        drop(file);
+        match end {
+            Ok(()) | Err(End::Done) => return,
+            Err(End::Left) => {}
+            Err(End::Anew) => {
+                let _slept = thread::sleep(rt, Duration::from_millis(GAP));
             }
+            Err(End::Failed) => return fail(rt, output, failed),
+            Err(End::Memory) => return fail(rt, output, Fault::Memory),
         }
     }
 }
@@ -139,7 +139,6 @@ impl Output {
 pub struct Post {
     keeps: Keeps,
     to: Sender<Order, Global>,
-    thread: JoinHandle<()>,
 }
 
 impl Post {
@@ -161,17 +160,6 @@ impl Post {
     pub fn begin_anew<R: Wait>(&self, rt: &R) {
         let _left = self.to.send(rt, Order::BeginAnew);
     }
-
-    /// Waits until all is written.
-    pub fn end<R: Wait + Threads>(self, rt: &R) {
-        let Post {
-            keeps: _,
-            to,
-            thread,
-        } = self;
-        drop(to);
-        thread.join(rt);
-    }
 }
 
 fn orders(
@@ -184,14 +172,14 @@ fn orders(
     }
 }
 
-/// Starts a thread that writes to the output with this number.
-fn begin_post<H: Host>(
+/// Starts a thread that writes to the output with this number, until nobody leaves anything for it any more.
+fn begin_post<H: Host, T: Taker<H>>(
     rt: &H,
     number: usize,
     path: &str,
     keeps: Keeps,
-    to: &EventSender,
-) -> Result<Post, Memory> {
+    to: &Door<T>,
+) -> Result<(Post, JoinHandle<()>), Memory> {
     let own = *rt;
     let (left, orders) = orders(rt.alloc(), keeps)?;
     let output = Output {
@@ -199,30 +187,29 @@ fn begin_post<H: Host>(
         path: String::from_str(rt.alloc(), path)?,
         keeps,
         orders,
-        to: to.clone()?,
+        to: to.copy()?,
     };
-    match thread::spawn(rt, move || output.run(&own)) {
-        Ok(thread) => Ok(Post {
-            keeps,
-            to: left,
-            thread,
-        }),
+    match thread::spawn(rt, move || run(&own, &output)) {
+        Ok(thread) => Ok((Post { keeps, to: left }, thread)),
         Err(_) => Err(Memory),
     }
 }
 
-/// Starts threads that write to outputs, whose numbers begin with this one.
-pub fn begin_posts<H: Host>(
+/// Starts threads that write to outputs, whose numbers begin with this one. They stand behind the others.
+pub fn begin_posts<H: Host, T: Taker<H>>(
     rt: &H,
     first: usize,
     paths: &[&str],
     keeps: Keeps,
-    to: &EventSender,
+    to: &Door<T>,
+    threads: &mut Vec<JoinHandle<()>>,
 ) -> Result<Vec<Post>, Memory> {
     let mut posts = Vec::new(rt.alloc());
     let mut number = first;
     for path in paths {
-        posts.push(begin_post(rt, number, path, keeps, to)?)?;
+        let (post, thread) = begin_post(rt, number, path, keeps, to)?;
+        posts.push(post)?;
+        threads.push(thread)?;
         number = number.saturating_add(1);
     }
     Ok(posts)

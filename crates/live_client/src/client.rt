@@ -6,14 +6,15 @@ use crate::names::name_in;
 use asking::{Heard, Talk, WordsFault, read_words, told_line};
 use crossbeam_channel::RecvTimeoutError;
 use ends::{
-    Event, Fault, Host, Keeps, NamedFile, Post, Receiver, begin_posts, file_fault, leave_all,
-    listen_all, read_file, row, tell,
+    Door, Event, Fault, Host, Keeps, NamedFile, Post, Receiver, Waiting, begin_posts, file_fault,
+    leave_all, listen_all, read_file, row, tell,
 };
 use ft_types::Memory;
 use live_words::ClientWords;
 use std::alloc::Global;
 use std::io;
 use std::io::Write;
+use std::sync::Arc;
 use std::time::{Duration, Instant};
 use wire::{Request, request_line};
 
@@ -62,7 +63,9 @@ impl Client {
         let many = asked.len();
         let talk = Talk::new(rt.alloc(), asked, words.window)?;
         let (to, events) = row(rt.alloc())?;
-        let posts = begin_posts(rt, 0, &words.requests, Keeps::Last, &to)?;
+        let to = Door::new(to, Arc::new(rt.alloc(), Waiting)?);
+        let mut threads = Vec::new(rt.alloc());
+        let posts = begin_posts(rt, 0, &words.requests, Keeps::Last, &to, &mut threads)?;
         listen_all(rt, 0, &words.answers, &to)?;
         Ok(Client {
             talk,

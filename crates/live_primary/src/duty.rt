@@ -1,21 +1,34 @@
-//! A primary: events are taken, and rounds led, one after the other, on one thread.
+//! A primary: events are taken, and rounds led, one after the other.
 
 ghost use Rattle.std.specs.Prelude.{◌≤◌};
 
+use crate::bridge::Bridge;
 use crate::names::name_in;
 use crate::office::Office;
 use crate::outset::{Outset, frame_bytes, set_out};
 use crate::pace::{FIRST_ROUND, LONE_ROUND, SHORT_ROUNDS, is_sent, next_blind, next_round};
-use ends::{Event, Fault, Host, refuse};
+use ends::{Door, Event, Fault, Host, Receiver, refuse, row};
 use ft_types::{Count, Guest, Memory};
 use leading::Leader;
 use live_words::PrimaryWords;
 use primary::Released;
 use std::alloc::Global;
+use std::sync::Arc;
 use wire::{Answer, Line, read_acknowledgement, read_again, read_request};
 
 /// How many events are taken between two rounds, at the most.
 const BATCH: usize = 512;
+
+/// What is to be done next.
+#[derive(Clone, Copy)]
+enum Next {
+    /// Rounds are to be led.
+    Lead,
+    /// It is to be looked whether more rounds would change anything.
+    Look,
+    /// Nothing: rounds change nothing until a request comes.
+    Wait,
+}
 
 /// What a primary that leads knows beside its term.
 #[derive(Drop)]
@@ -29,8 +42,15 @@ struct Duty {
     steps: Count,
     /// How many rounds go by without a look.
     blind: u8,
-    /// Whether rounds change nothing until a request comes.
-    waits: bool,
+    next: Next,
+}
+
+/// A primary that leads, with all that it needs for that.
+#[derive(Drop)]
+pub(crate) struct Helm {
+    leader: Leader,
+    duty: Duty,
+    office: Office,
 }
 
 /// What went out behind the first so many.
@@ -79,7 +99,7 @@ fn take_request<H: Host>(
         LONE_ROUND
     };
     duty.blind = 0;
-    duty.waits = false;
+    duty.next = Next::Lead;
     Ok(())
 }
 
@@ -127,28 +147,6 @@ fn take<H: Host>(
     }
 }
 
-/// Takes the events that are there. Where rounds would change nothing, it waits for one.
-fn take_all<H: Host>(
-    rt: &H,
-    leader: &mut Leader,
-    duty: &mut Duty,
-    office: &Office,
-) -> Result<(), Fault> {
-    if duty.waits {
-        let Ok(event) = office.events.recv(rt) else {
-            return Err(Fault::Memory);
-        };
-        take(rt, leader, duty, office, event)?;
-    }
-    for _more in 0..office.events.len().min(BATCH) {
-        let Ok(event) = office.events.try_recv(rt) else {
-            break;
-        };
-        take(rt, leader, duty, office, event)?;
-    }
-    Ok(())
-}
-
 /// Leads a round of so many steps, and where it is a short one some more, until something comes to the gate: harts that ring each other for an answer
 /// hear it in the next round, before keepers are sent anything, and before it is looked whether they wait.
 fn rounds(alloc: Global, leader: Leader, steps: Count) -> Result<Leader, Memory> {
@@ -168,42 +166,86 @@ fn send_new<H: Host>(rt: &H, leader: &mut Leader, office: &Office) -> Result<(),
     office.send(rt, frame_bytes(rt.alloc(), &frames)?)
 }
 
-/// Leads rounds, sends their frames, unless more of the longest are to come before, and looks, unless that is put off, whether more rounds would change anything. What came meanwhile is taken
-/// before it looks, which may take longer than a keeper needs to acknowledge.
-fn go_on<H: Host>(
-    rt: &H,
-    leader: Leader,
-    duty: &mut Duty,
-    office: &Office,
-) -> Result<Leader, Fault> {
-    let mut leader = rounds(rt.alloc(), leader, duty.steps)?;
-    if is_sent(duty.blind, duty.steps, leader.kept()) {
-        send_new(rt, &mut leader, office)?;
+impl Helm {
+    /// Takes the events that are there.
+    fn take_all<H: Host>(&mut self, rt: &H, events: &Receiver) -> Result<(), Fault> {
+        for _more in 0..events.len().min(BATCH) {
+            let Ok(event) = events.try_recv(rt) else {
+                break;
+            };
+            take(rt, &mut self.leader, &mut self.duty, &self.office, event)?;
+        }
+        Ok(())
     }
-    take_all(rt, &mut leader, duty, office)?;
-    duty.waits = duty.blind == 0 && leader.only_waits(rt.alloc())?;
-    duty.blind = next_blind(duty.blind, duty.steps);
-    duty.steps = next_round(duty.steps, leader.may_hand());
-    Ok(leader)
-}
 
-/// Leads until all inputs are at their end, and only waiting is left.
-fn lead_on<H: Host>(
-    rt: &H,
-    mut leader: Leader,
-    mut duty: Duty,
-    office: &Office,
-) -> Result<(), Fault> {
-    for _ in rt.forever() {
-        if duty.waits && duty.open == 0 {
-            return Ok(());
+    /// Leads rounds, and sends their frames, unless more of the longest are to come before.
+    fn lead<H: Host>(self, rt: &H) -> Result<Helm, Memory> {
+        let Helm {
+            leader,
+            mut duty,
+            office,
+        } = self;
+        let mut leader = rounds(rt.alloc(), leader, duty.steps)?;
+        if is_sent(duty.blind, duty.steps, leader.kept()) {
+            send_new(rt, &mut leader, &office)?;
         }
-        take_all(rt, &mut leader, &mut duty, office)?;
-        if !duty.waits {
-            leader = go_on(rt, leader, &mut duty, office)?;
+        duty.next = Next::Look;
+        Ok(Helm {
+            leader,
+            duty,
+            office,
+        })
+    }
+
+    /// Looks, unless that is put off, whether more rounds would change anything.
+    fn look<H: Host>(&mut self, rt: &H) -> Result<(), Memory> {
+        let only_waits = self.duty.blind == 0 && self.leader.only_waits(rt.alloc())?;
+        self.duty.next = if only_waits { Next::Wait } else { Next::Lead };
+        self.duty.blind = next_blind(self.duty.blind, self.duty.steps);
+        self.duty.steps = next_round(self.duty.steps, self.leader.may_hand());
+        Ok(())
+    }
+
+    /// Takes the events that are there, and leads the first rounds behind a request. What comes then is left to the thread that leads.
+    pub(crate) fn serve<H: Host>(self, rt: &H, events: &Receiver) -> Result<Helm, Fault> {
+        let mut helm = self;
+        helm.take_all(rt, events)?;
+        match helm.duty.next {
+            Next::Lead => Ok(helm.lead(rt)?),
+            _ => Ok(helm),
         }
     }
-    Ok(())
+
+    /// Takes events and leads rounds until they would change nothing before a request comes. What came while rounds were led is taken before it is
+    /// looked behind them, which may take longer than a keeper needs to acknowledge.
+    pub(crate) fn go_on<H: Host>(self, rt: &H, events: &Receiver) -> Result<Helm, Fault> {
+        let mut helm = self;
+        for _ in rt.forever() {
+            helm.take_all(rt, events)?;
+            match helm.duty.next {
+                Next::Lead => helm = helm.lead(rt)?,
+                Next::Look => helm.look(rt)?,
+                Next::Wait => break,
+            }
+        }
+        Ok(helm)
+    }
+
+    /// Whether there is something to do for the thread that leads.
+    pub(crate) fn calls(&self) -> bool {
+        match self.duty.next {
+            Next::Wait => self.duty.open == 0,
+            _ => true,
+        }
+    }
+
+    /// Whether all inputs are at their end, and only waiting is left.
+    pub(crate) fn is_over(&self) -> bool {
+        match self.duty.next {
+            Next::Wait => self.duty.open == 0,
+            _ => false,
+        }
+    }
 }
 
 /// Whether there is a path to each keeper, or one to all.
@@ -220,17 +262,27 @@ fn lead_all<H: Host>(rt: &H, words: &PrimaryWords<'_>) -> Result<(), Fault> {
         leader,
         frames,
     } = set_out(rt, words)?;
-    let office = Office::open(rt, words, frames)?;
+    let (to, events) = row(rt.alloc())?;
+    let bridge = Arc::new(rt.alloc(), Bridge::new(rt.alloc(), events)?)?;
+    let to = Door::new(to, Arc::try_clone(&bridge)?);
+    let (office, threads) = Office::open(rt, words, frames, &to)?;
     let duty = Duty {
         guest,
         told: 0,
         open: words.requests.len() + words.acknowledgements.len(),
         steps: FIRST_ROUND,
         blind: 0,
-        waits: false,
+        next: Next::Lead,
     };
-    lead_on(rt, leader, duty, &office)?;
-    office.close(rt);
+    let helm = Helm {
+        leader,
+        duty,
+        office,
+    };
+    bridge.lead(rt, helm)?;
+    for thread in threads {
+        thread.join(rt);
+    }
     Ok(())
 }
 

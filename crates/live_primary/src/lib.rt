@@ -1,6 +1,7 @@
 //! `live primary`: a term is led.
 #![tactic(auto)]
 
+mod bridge;
 mod duty;
 mod faults;
 mod names;

@@ -1,14 +1,14 @@
 //! The threads of a primary, and what they are given.
 
-use ends::{Host, Keeps, Post, Receiver, begin_posts, leave_all, listen_all, row};
+use ends::{Door, Host, Keeps, Post, Taker, begin_posts, leave_all, listen_all};
 use ft_types::{Keeper, Memory};
 use live_words::PrimaryWords;
+use std::thread::JoinHandle;
 use wire::{Answer, answer_line};
 
 /// The inputs and outputs of a primary.
 #[derive(Drop)]
 pub(crate) struct Office {
-    pub(crate) events: Receiver,
     /// How many inputs bring requests. Those behind them bring what keepers say.
     pub(crate) requests: usize,
     answers: Vec<Post>,
@@ -17,24 +17,34 @@ pub(crate) struct Office {
 }
 
 impl Office {
-    /// Starts all threads. Keepers are sent these frames first.
-    pub(crate) fn open<H: Host>(
+    /// Starts all threads, which leave what comes at this door. Keepers are sent these frames first. The threads of outputs end once the office is gone
+    /// and all is written.
+    pub(crate) fn open<H: Host, T: Taker<H>>(
         rt: &H,
         words: &PrimaryWords<'_>,
         frames: Vec<u8>,
-    ) -> Result<Office, Memory> {
-        let (to, events) = row(rt.alloc())?;
-        let answers = begin_posts(rt, 0, &words.answers, Keeps::Last, &to)?;
-        let keepers = begin_posts(rt, answers.len(), &words.frames, Keeps::All, &to)?;
+        to: &Door<T>,
+    ) -> Result<(Office, Vec<JoinHandle<()>>), Memory> {
+        let mut threads = Vec::new(rt.alloc());
+        let answers = begin_posts(rt, 0, &words.answers, Keeps::Last, to, &mut threads)?;
+        let frames_from = answers.len();
+        let keepers = begin_posts(
+            rt,
+            frames_from,
+            &words.frames,
+            Keeps::All,
+            to,
+            &mut threads,
+        )?;
         leave_all(rt, &keepers, frames)?;
-        listen_all(rt, 0, &words.requests, &to)?;
-        listen_all(rt, words.requests.len(), &words.acknowledgements, &to)?;
-        Ok(Office {
-            events,
+        listen_all(rt, 0, &words.requests, to)?;
+        listen_all(rt, words.requests.len(), &words.acknowledgements, to)?;
+        let office = Office {
             requests: words.requests.len(),
             answers,
             keepers,
-        })
+        };
+        Ok((office, threads))
     }
 
     /// Sends frames to the keepers.
@@ -60,22 +70,6 @@ impl Office {
         };
         if let Some(post) = self.keepers.get(index) {
             post.begin_anew(rt);
-        }
-    }
-
-    /// Waits until all is written.
-    pub(crate) fn close<H: Host>(self, rt: &H) {
-        let Office {
-            events: _,
-            requests: _,
-            answers,
-            keepers,
-        } = self;
-        for post in answers {
-            post.end(rt);
-        }
-        for post in keepers {
-            post.end(rt);
         }
     }
 }

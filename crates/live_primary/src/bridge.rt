@@ -1,0 +1,120 @@
+//! What the threads of a primary share: whoever brings events takes them, and leads the first rounds behind a request, where no other thread does so.
+
+use crate::duty::Helm;
+use crossbeam_channel::{Receiver as TurnReceiver, Sender as TurnSender, bounded};
+use ends::{Fault, Host, Receiver, Taker};
+use ft_types::Memory;
+use std::alloc::Global;
+use std::option::Option;
+use std::sync::Mutex;
+
+/// The helm, which one thread has at a time, and why nobody has it any more.
+#[derive(Drop)]
+struct Watch {
+    helm: Option<Helm>,
+    fault: Option<Fault>,
+}
+
+/// What the threads of a primary share.
+#[derive(Drop)]
+pub(crate) struct Bridge {
+    watch: Mutex<Watch>,
+    events: Receiver,
+    /// By it the thread that leads is woken.
+    turn: TurnSender<(), Global>,
+    turns: TurnReceiver<(), Global>,
+}
+
+impl Watch {
+    /// Takes the events that are there, on a thread that brought some. Whether the thread that leads is to be woken.
+    fn serve<H: Host>(&mut self, rt: &H, events: &Receiver) -> bool {
+        let Some(helm) = self.helm.take() else {
+            return false;
+        };
+        match helm.serve(rt, events) {
+            Ok(helm) => {
+                let calls = helm.calls();
+                self.helm = Some(helm);
+                calls
+            }
+            Err(fault) => {
+                self.fault = Some(fault);
+                true
+            }
+        }
+    }
+
+    /// Leads until only waiting is left. Whether all inputs are at their end.
+    fn go_on<H: Host>(&mut self, rt: &H, events: &Receiver) -> Result<bool, Fault> {
+        if let Some(fault) = self.fault.take() {
+            return Err(fault);
+        }
+        let Some(helm) = self.helm.take() else {
+            return Ok(true);
+        };
+        let helm = helm.go_on(rt, events)?;
+        if helm.is_over() {
+            return Ok(true);
+        }
+        self.helm = Some(helm);
+        Ok(false)
+    }
+}
+
+impl<H: Host> Taker<H> for Bridge {
+    /// Takes the events that are there. Where another thread has the helm, that one looks for events behind it.
+    fn serve(&self, rt: &H) {
+        for _ in rt.forever() {
+            let Some(mut watch) = self.watch.try_lock() else {
+                return;
+            };
+            if watch.helm.is_none() {
+                return;
+            }
+            let calls = watch.serve(rt, &self.events);
+            drop(watch);
+            if calls {
+                let _left = self.turn.try_send(rt, ());
+            }
+            if self.events.is_empty() {
+                return;
+            }
+        }
+    }
+}
+
+impl Bridge {
+    /// Nobody leads yet.
+    pub(crate) fn new(alloc: Global, events: Receiver) -> Result<Bridge, Memory> {
+        let (turn, turns) = bounded(alloc, 1)?;
+        let watch = Watch {
+            helm: None,
+            fault: None,
+        };
+        Ok(Bridge {
+            watch: Mutex::new(watch),
+            events,
+            turn,
+            turns,
+        })
+    }
+
+    /// Leads until all inputs are at their end, and only waiting is left.
+    pub(crate) fn lead<H: Host>(&self, rt: &H, helm: Helm) -> Result<(), Fault> {
+        let mut watch = self.watch.lock(rt);
+        watch.helm = Some(helm);
+        drop(watch);
+        for _ in rt.forever() {
+            let mut watch = self.watch.lock(rt);
+            let is_over = watch.go_on(rt, &self.events)?;
+            drop(watch);
+            if is_over {
+                return Ok(());
+            }
+            if self.events.is_empty() {
+                let _turn = self.turns.recv(rt);
+            }
+        }
+        Ok(())
+    }
+}
