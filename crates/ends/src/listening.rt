@@ -59,11 +59,7 @@ fn read<H: Host, T: Taker<H>>(rt: &H, input: &Input<T>, file: &mut File) -> Resu
     let mut piece = [0; PIECE];
     for _ in rt.forever() {
         let Ok(count) = file.read(&mut piece) else {
-            return Err(fail(
-                rt,
-                input,
-                Fault::File(NamedFile::Input(input.number)),
-            ));
+            return Err(fail(rt, input, Fault::File(NamedFile::Input(input.number))));
         };
         if count == 0 {
             return Ok(());
@@ -77,11 +73,7 @@ fn read<H: Host, T: Taker<H>>(rt: &H, input: &Input<T>, file: &mut File) -> Resu
 fn listen_on<H: Host, T: Taker<H>>(rt: &H, input: &Input<T>) -> Result<(), Gone> {
     for _ in rt.forever() {
         let Ok(mut file) = rt.open(input.path.as_str()) else {
-            return Err(fail(
-                rt,
-                input,
-                Fault::File(NamedFile::Input(input.number)),
-            ));
+            return Err(fail(rt, input, Fault::File(NamedFile::Input(input.number))));
         };
         let comes_again = is_fifo(&file);
         read(rt, input, &mut file)?;

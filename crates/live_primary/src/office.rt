@@ -28,14 +28,7 @@ impl Office {
         let mut threads = Vec::new(rt.alloc());
         let answers = begin_posts(rt, 0, &words.answers, Keeps::Last, to, &mut threads)?;
         let frames_from = answers.len();
-        let keepers = begin_posts(
-            rt,
-            frames_from,
-            &words.frames,
-            Keeps::All,
-            to,
-            &mut threads,
-        )?;
+        let keepers = begin_posts(rt, frames_from, &words.frames, Keeps::All, to, &mut threads)?;
         leave_all(rt, &keepers, frames)?;
         listen_all(rt, 0, &words.requests, to)?;
         listen_all(rt, words.requests.len(), &words.acknowledgements, to)?;
