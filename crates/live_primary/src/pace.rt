@@ -1,6 +1,6 @@
 //! How long rounds are.
 
-ghost use Rattle.std.specs.Prelude.{◌≡◌, ◌+◌, ◌<◌, ◌≤◌, ◌*◌, true, false};
+ghost use Rattle.std.specs.Prelude.{◌≡◌, ◌≢◌, ◌+◌, ◌<◌, ◌≤◌, ◌*◌, ◌%◌, true, false};
 
 use ft_types::Count;
 
@@ -29,6 +29,8 @@ pub(crate) fn is_sent(blind: u8, steps: Count, kept: usize) -> bool
     ensures waiting { 0 < kept → result ≡ true }
     ensures short { steps < LONGEST_ROUND → result ≡ true }
     ensures looked { blind ≡ 0 → result ≡ true }
+    ensures fourth { blind % UNSENT_ROUNDS ≡ 0 → result ≡ true }
+    ensures unsent { kept ≡ 0 → LONGEST_ROUND ≤ steps → blind % UNSENT_ROUNDS ≢ 0 → result ≡ false }
 {
     kept > 0 || steps < LONGEST_ROUND || blind % UNSENT_ROUNDS == 0
 }
