@@ -42,7 +42,7 @@ use wire::{Acknowledgement, Answer, Request};
 /// A primary of a term, with the gate of its term, the inputs that wait, and what went out.
 pub struct Leader {
     primary: Primary,
-    gate: Box<TermGate>,
+    gate: TermGate,
     /// The inputs that wait for each hart.
     queues: Vec<Queue>,
     /// The outputs that went out.
@@ -74,10 +74,10 @@ impl Model for Leader {
 
     ghost Value = { LeaderView };
 
-    ghost view = { λ l. record { primary = l.primary; gate = l.gate.value; queues = l.queues.items; released = l.released.items } };
+    ghost view = { λ l. record { primary = l.primary; gate = l.gate; queues = l.queues.items; released = l.released.items } };
 
-    ghost invariant = { λ l. IsSound l.primary l.gate.value l.queues.items × (l.gate.value.gate.keepers ≡ l.quorum.keepers)
-        × ((hart : ℕ) → mark_at l.gate.value.gate hart ≡ count_at l.marks hart) };
+    ghost invariant = { λ l. IsSound l.primary l.gate l.queues.items × (l.gate.gate.keepers ≡ l.quorum.keepers)
+        × ((hart : ℕ) → mark_at l.gate.gate hart ≡ count_at l.marks hart) };
 }
 
 impl Leader {
@@ -98,9 +98,6 @@ impl Leader {
     {
         let (primary, gate, marks) = started(alloc, image, given, quorum, term)?;
         let Ok(queues) = queues_of(alloc, primary.book.machine()) else {
-            return Err(GivenFault::Live(LiveFault::Memory));
-        };
-        let Ok(gate) = Box::new(alloc, gate) else {
             return Err(GivenFault::Live(LiveFault::Memory));
         };
         let opening = primary.opening.copy();
@@ -250,7 +247,7 @@ impl Leader {
         } }
     {
         self.primary
-            .release(alloc, &mut *self.gate, &mut self.released)
+            .release(alloc, &mut self.gate, &mut self.released)
     }
 
     /// Has a keeper's acknowledgement noted. One of another term, below what the keeper acknowledged, or of no keeper is none.
@@ -316,7 +313,7 @@ impl Leader {
         hand_all(&mut primary, &mut queues)?;
         let led = go_on(alloc, primary, steps)?;
         has_run(&led.book);
-        offer_all(&mut *gate, led.book.machine())?;
+        offer_all(&mut gate, led.book.machine())?;
         Ok(Leader {
             primary: led,
             gate,
