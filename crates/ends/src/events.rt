@@ -34,17 +34,17 @@ pub fn row(alloc: Global) -> Result<(Sender, Receiver), AllocError> {
 }
 
 /// Who takes the events. A thread that has left some asks it to serve, so that what they ask for can be done by that thread, and none has to be woken for it.
-pub trait Taker<H: Host>: Send + Sync + Drop + 'static {
+pub trait Taker<R: AllocGlobal + Wait>: Send + Sync + Drop + 'static {
     /// Takes the events that are there, or leaves them to a thread that looks for them behind this call.
-    fn serve(&self, rt: &H);
+    fn serve(&self, rt: &R);
 }
 
 /// A thread of its own takes them, as they come.
 #[derive(Drop)]
 pub struct Waiting;
 
-impl<H: Host> Taker<H> for Waiting {
-    fn serve(&self, _rt: &H) {}
+impl<R: AllocGlobal + Wait> Taker<R> for Waiting {
+    fn serve(&self, _rt: &R) {}
 }
 
 /// Where the thread of an input or an output leaves events.

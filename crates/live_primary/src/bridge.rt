@@ -2,11 +2,11 @@
 
 use crate::duty::Helm;
 use crossbeam_channel::{Receiver as TurnReceiver, Sender as TurnSender, bounded};
-use ends::{Fault, Host, Receiver, Taker};
+use ends::{Fault, Receiver, Taker};
 use ft_types::Memory;
 use std::alloc::Global;
 use std::option::Option;
-use std::sync::Mutex;
+use std::sync::{Mutex, Wait};
 
 /// The helm, which one thread has at a time, and why nobody has it any more.
 #[derive(Drop)]
@@ -27,7 +27,7 @@ pub(crate) struct Bridge {
 
 impl Watch {
     /// Takes the events that are there, on a thread that brought some. Whether the thread that leads is to be woken.
-    fn serve<H: Host>(&mut self, rt: &H, events: &Receiver) -> bool {
+    fn serve<R: AllocGlobal + Wait>(&mut self, rt: &R, events: &Receiver) -> bool {
         let Some(helm) = self.helm.take() else {
             return false;
         };
@@ -45,7 +45,7 @@ impl Watch {
     }
 
     /// Leads until only waiting is left. Whether all inputs are at their end.
-    fn go_on<H: Host>(&mut self, rt: &H, events: &Receiver) -> Result<bool, Fault> {
+    fn go_on<R: AllocGlobal + Wait>(&mut self, rt: &R, events: &Receiver) -> Result<bool, Fault> {
         if let Some(fault) = self.fault.take() {
             return Err(fault);
         }
@@ -61,9 +61,9 @@ impl Watch {
     }
 }
 
-impl<H: Host> Taker<H> for Bridge {
+impl<R: AllocGlobal + Wait> Taker<R> for Bridge {
     /// Takes the events that are there. Where another thread has the helm, that one looks for events behind it.
-    fn serve(&self, rt: &H) {
+    fn serve(&self, rt: &R) {
         for _ in rt.forever() {
             let Some(mut watch) = self.watch.try_lock() else {
                 return;
@@ -100,7 +100,7 @@ impl Bridge {
     }
 
     /// Leads until all inputs are at their end, and only waiting is left.
-    pub(crate) fn lead<H: Host>(&self, rt: &H, helm: Helm) -> Result<(), Fault> {
+    pub(crate) fn lead<R: AllocGlobal + Wait>(&self, rt: &R, helm: Helm) -> Result<(), Fault> {
         let mut watch = self.watch.lock(rt);
         watch.helm = Some(helm);
         drop(watch);

@@ -13,7 +13,7 @@ use leading::Leader;
 use live_words::PrimaryWords;
 use primary::Released;
 use std::alloc::Global;
-use std::sync::Arc;
+use std::sync::{Arc, Wait};
 use wire::{Answer, Line, read_acknowledgement, read_again, read_request};
 
 /// How many events are taken between two rounds, at the most.
@@ -63,8 +63,8 @@ fn behind(released: &[Released], told: usize) -> &[Released] {
 }
 
 /// Tells the outputs that went out and were not told yet.
-fn tell_new<H: Host>(
-    rt: &H,
+fn tell_new<R: AllocGlobal + Wait>(
+    rt: &R,
     leader: &Leader,
     duty: &mut Duty,
     office: &Office,
@@ -80,8 +80,8 @@ fn tell_new<H: Host>(
 }
 
 /// Takes the line of a client.
-fn take_request<H: Host>(
-    rt: &H,
+fn take_request<R: AllocGlobal + Wait>(
+    rt: &R,
     leader: &mut Leader,
     duty: &mut Duty,
     office: &Office,
@@ -104,8 +104,8 @@ fn take_request<H: Host>(
 }
 
 /// Takes the line of a keeper.
-fn take_said<H: Host>(
-    rt: &H,
+fn take_said<R: AllocGlobal + Wait>(
+    rt: &R,
     leader: &mut Leader,
     duty: &mut Duty,
     office: &Office,
@@ -123,8 +123,8 @@ fn take_said<H: Host>(
 }
 
 /// Takes an event.
-fn take<H: Host>(
-    rt: &H,
+fn take<R: AllocGlobal + Wait>(
+    rt: &R,
     leader: &mut Leader,
     duty: &mut Duty,
     office: &Office,
@@ -161,14 +161,18 @@ fn rounds(alloc: Global, leader: Leader, steps: Count) -> Result<Leader, Memory>
 }
 
 /// Sends keepers what is new of the log.
-fn send_new<H: Host>(rt: &H, leader: &mut Leader, office: &Office) -> Result<(), Memory> {
+fn send_new<R: AllocGlobal + Wait>(
+    rt: &R,
+    leader: &mut Leader,
+    office: &Office,
+) -> Result<(), Memory> {
     let frames = leader.seal(rt.alloc())?;
     office.send(rt, frame_bytes(rt.alloc(), &frames)?)
 }
 
 impl Helm {
     /// Takes the events that are there.
-    fn take_all<H: Host>(&mut self, rt: &H, events: &Receiver) -> Result<(), Fault> {
+    fn take_all<R: AllocGlobal + Wait>(&mut self, rt: &R, events: &Receiver) -> Result<(), Fault> {
         for _more in 0..events.len().min(BATCH) {
             let Ok(event) = events.try_recv(rt) else {
                 break;
@@ -179,7 +183,7 @@ impl Helm {
     }
 
     /// Leads rounds, and sends their frames, unless more of the longest are to come before.
-    fn lead<H: Host>(self, rt: &H) -> Result<Helm, Memory> {
+    fn lead<R: AllocGlobal + Wait>(self, rt: &R) -> Result<Helm, Memory> {
         let Helm {
             leader,
             mut duty,
@@ -198,7 +202,7 @@ impl Helm {
     }
 
     /// Looks, unless that is put off, whether more rounds would change anything.
-    fn look<H: Host>(&mut self, rt: &H) -> Result<(), Memory> {
+    fn look<R: AllocGlobal + Wait>(&mut self, rt: &R) -> Result<(), Memory> {
         let only_waits = self.duty.blind == 0 && self.leader.only_waits(rt.alloc())?;
         self.duty.next = if only_waits { Next::Wait } else { Next::Lead };
         self.duty.blind = next_blind(self.duty.blind, self.duty.steps);
@@ -207,7 +211,11 @@ impl Helm {
     }
 
     /// Takes the events that are there, and leads the first rounds behind a request. What comes then is left to the thread that leads.
-    pub(crate) fn serve<H: Host>(self, rt: &H, events: &Receiver) -> Result<Helm, Fault> {
+    pub(crate) fn serve<R: AllocGlobal + Wait>(
+        self,
+        rt: &R,
+        events: &Receiver,
+    ) -> Result<Helm, Fault> {
         let mut helm = self;
         helm.take_all(rt, events)?;
         match helm.duty.next {
@@ -218,7 +226,11 @@ impl Helm {
 
     /// Takes events and leads rounds until they would change nothing before a request comes. What came while rounds were led is taken before it is
     /// looked behind them, which may take longer than a keeper needs to acknowledge.
-    pub(crate) fn go_on<H: Host>(self, rt: &H, events: &Receiver) -> Result<Helm, Fault> {
+    pub(crate) fn go_on<R: AllocGlobal + Wait>(
+        self,
+        rt: &R,
+        events: &Receiver,
+    ) -> Result<Helm, Fault> {
         let mut helm = self;
         for _ in rt.forever() {
             helm.take_all(rt, events)?;

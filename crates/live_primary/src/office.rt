@@ -3,6 +3,7 @@
 use ends::{Door, Host, Keeps, Post, Taker, begin_posts, leave_all, listen_all};
 use ft_types::{Keeper, Memory};
 use live_words::PrimaryWords;
+use std::sync::Wait;
 use std::thread::JoinHandle;
 use wire::{Answer, answer_line};
 
@@ -41,7 +42,11 @@ impl Office {
     }
 
     /// Sends frames to the keepers.
-    pub(crate) fn send<H: Host>(&self, rt: &H, frames: Vec<u8>) -> Result<(), Memory> {
+    pub(crate) fn send<R: AllocGlobal + Wait>(
+        &self,
+        rt: &R,
+        frames: Vec<u8>,
+    ) -> Result<(), Memory> {
         if frames.is_empty() {
             return Ok(());
         }
@@ -49,13 +54,17 @@ impl Office {
     }
 
     /// Tells an answer.
-    pub(crate) fn tell<H: Host>(&self, rt: &H, answer: &Answer) -> Result<(), Memory> {
+    pub(crate) fn tell<R: AllocGlobal + Wait>(
+        &self,
+        rt: &R,
+        answer: &Answer,
+    ) -> Result<(), Memory> {
         let bytes = answer_line(answer).as_slice().to_vec(rt.alloc())?;
         leave_all(rt, &self.answers, bytes)
     }
 
     /// Sends all frames to a keeper once more.
-    pub(crate) fn begin_anew<H: Host>(&self, rt: &H, keeper: Keeper) {
+    pub(crate) fn begin_anew<R: AllocGlobal + Wait>(&self, rt: &R, keeper: Keeper) {
         let index = if self.keepers.len() == 1 {
             0
         } else {
