@@ -21,9 +21,17 @@ fn guest(harts: u8) -> Option<Guest> {
     Guest::new(IMAGE, harts)
 }
 
+/// Bytes without the line feed at their end.
+pub fn without_line_feed(bytes: &[u8]) -> &[u8] {
+    match bytes {
+        [text @ .., b'\n'] => text,
+        _ => b"no line",
+    }
+}
+
 /// The text of a line, without its line feed.
 pub fn text_of(line: &Line) -> &[u8] {
-    line.as_slice().strip_suffix(b"\n").unwrap_or(b"no line")
+    without_line_feed(line.as_slice())
 }
 
 /// Whether the line is this text with a line feed.
@@ -271,7 +279,8 @@ fn is_last(guest: &Guest, file: &mut Vec<u8>, last: u64) -> Result<bool, Memory>
     let before = last_fence(guest, file);
     file.extend_from_slice(fence_entry(guest, 7).as_slice())?;
     let after = last_fence(guest, file);
-    Ok(u64::from(before) == last && u64::from(after) == last.max(7))
+    let greater = if last < 7 { 7 } else { last };
+    Ok(u64::from(before) == last && u64::from(after) == greater)
 }
 
 /// The first file with another last fence.
