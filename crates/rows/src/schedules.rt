@@ -55,23 +55,31 @@ fn machine(alloc: Global, told: &str) -> Result<Counters, Memory> {
     })
 }
 
-/// Turns, at most eight, each a hart that loads or stores, and a page.
+fn small(text: &str) -> usize {
+    (number(text) % 8) as usize
+}
+
+/// The turn that a text begins with, a hart that loads or stores, and a page; and what stands behind it.
+fn turn(text: &str) -> (Turn, &str) {
+    let (hart, behind) = word(text);
+    let (act, behind) = word(behind);
+    let (page, behind) = word(behind);
+    let act = match act {
+        "loads" => Act::Load(small(page)),
+        _ => Act::Store(small(page)),
+    };
+    let hart = small(hart);
+    (Turn { hart, act }, behind)
+}
+
+/// Turns, at most eight.
 fn turns(alloc: Global, told: &str) -> Result<Vec<Turn>, Memory> {
     let mut turns = Vec::new(alloc);
     let mut rest = told;
     for _ in 0..8 {
         if !rest.is_empty() {
-            let (hart, behind) = word(rest);
-            let (act, behind) = word(behind);
-            let (page, behind) = word(behind);
-            let page = (number(page) % 8) as usize;
-            let act = if act == "loads" {
-                Act::Load(page)
-            } else {
-                Act::Store(page)
-            };
-            let hart = (number(hart) % 8) as usize;
-            turns.push(Turn { hart, act })?;
+            let (first, behind) = turn(rest);
+            turns.push(first)?;
             rest = behind;
         }
     }

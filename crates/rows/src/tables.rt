@@ -55,5 +55,7 @@ pub fn is_count(count: Option<Count>, answer: &str) -> bool {
 
 /// Ends a test at a row that is answered otherwise.
 pub fn all_right(rt: &impl Abort, wrong: Option<&str>) {
-    assert!(rt; wrong.is_none());
+    if let Some(line) = wrong {
+        panic!(rt; "{line}");
+    }
 }
