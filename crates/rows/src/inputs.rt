@@ -29,15 +29,21 @@ pub fn are(inputs: &[Input], given: &str) -> bool {
     rest.is_empty()
 }
 
+/// Adds an input, where the text is one.
+fn push(inputs: &mut Vec<Input>, text: &str) -> Result<(), Memory> {
+    if let Some(input) = input(text) {
+        inputs.push(input)?;
+    }
+    Ok(())
+}
+
 /// These inputs, at most as many as a hart is given at a count.
 fn inputs_of(alloc: Global, given: &str) -> Result<Vec<Input>, Memory> {
     let mut inputs = Vec::new(alloc);
     let mut rest = given;
     for _ in 0..INPUT_LIMIT {
         let (first, behind) = word(rest);
-        if let Some(input) = input(first) {
-            inputs.push(input)?;
-        }
+        push(&mut inputs, first)?;
         rest = behind;
     }
     Ok(inputs)

@@ -332,13 +332,19 @@ fn are_fed(alloc: Global, pieces: &[&[u8]], wanted: &[u8]) -> Result<bool, Memor
     Ok(texts.as_slice() == wanted)
 }
 
-/// A line of so many bytes and one of two, with this byte at their ends.
-fn long_line(alloc: Global, length: usize, end: u8) -> Result<Vec<u8>, Memory> {
-    let mut bytes = Vec::new(alloc);
+/// Adds the bytes of a line of so many bytes and of one of two, with this byte at their ends.
+fn add_lines(bytes: &mut Vec<u8>, length: usize, end: u8) -> Result<(), Memory> {
     for _ in 1..length {
         bytes.push(b'x')?;
     }
     bytes.extend_from_slice(&[end, b'y', end])?;
+    Ok(())
+}
+
+/// Those lines.
+fn long_line(alloc: Global, length: usize, end: u8) -> Result<Vec<u8>, Memory> {
+    let mut bytes = Vec::new(alloc);
+    add_lines(&mut bytes, length, end)?;
     Ok(bytes)
 }
 
