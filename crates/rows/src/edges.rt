@@ -149,12 +149,17 @@ static MANY: &str = "\
 1 9 0 9|new
 ";
 
-/// The edges of a table.
-fn edges_of(alloc: Global, rows: &'static str) -> Result<Vec<Edge>, Memory> {
-    let mut edges = Vec::new(alloc);
+fn push_all(edges: &mut Vec<Edge>, rows: &'static str) -> Result<(), Memory> {
     for line in rows.lines() {
         edges.push(edge(row(line).0).0)?;
     }
+    Ok(())
+}
+
+/// The edges of a table.
+fn edges_of(alloc: Global, rows: &'static str) -> Result<Vec<Edge>, Memory> {
+    let mut edges = Vec::new(alloc);
+    push_all(&mut edges, rows)?;
     Ok(edges)
 }
 

@@ -265,12 +265,18 @@ fence 2 5b2ab55a;|2
 fence 2 5b2ab55afence 10 ab65f06a;|0
 ";
 
+/// Adds a text's bytes with line feeds for semicolons.
+fn add_text(bytes: &mut Vec<u8>, text: &[u8]) -> Result<(), Memory> {
+    for byte in text {
+        bytes.push(if *byte == b';' { b'\n' } else { *byte })?;
+    }
+    Ok(())
+}
+
 /// The bytes of a text with line feeds for semicolons.
 pub fn with_line_feeds(alloc: Global, text: &str) -> Result<Vec<u8>, Memory> {
     let mut bytes = Vec::new(alloc);
-    for byte in text.as_bytes() {
-        bytes.push(if *byte == b';' { b'\n' } else { *byte })?;
-    }
+    add_text(&mut bytes, text.as_bytes())?;
     Ok(bytes)
 }
 
