@@ -124,16 +124,28 @@ fn plain_pieces(alloc: Global, settled: Count) -> Result<Vec<Frame>, Fail> {
     )?)
 }
 
-/// Whether the pieces of a hart that is settled at a count have so many counts.
-fn have_lengths(alloc: Global, settled: Count, lengths: &[Count]) -> Result<bool, Fail> {
-    let frames = plain_pieces(alloc, settled)?;
-    for (frame, length) in frames.iter().zip(lengths) {
-        match frame {
-            Frame::Log(piece) if piece.to().saturating_sub(piece.from()) == *length => {}
-            _ => return Ok(false),
+fn is_long(frame: &Frame, length: Count) -> bool {
+    match frame {
+        Frame::Log(piece) => piece.to().saturating_sub(piece.from()) == length,
+        _ => false,
+    }
+}
+
+/// Whether these frames are pieces of so many counts.
+fn are_long(frames: &[Frame], lengths: &[Count]) -> bool {
+    let mut rest = lengths;
+    for frame in frames {
+        match rest {
+            [length, behind @ ..] if is_long(frame, *length) => rest = behind,
+            _ => return false,
         }
     }
-    Ok(frames.len() == lengths.len())
+    rest.is_empty()
+}
+
+/// Whether the pieces of a hart that is settled at a count have so many counts.
+fn have_lengths(alloc: Global, settled: Count, lengths: &[Count]) -> Result<bool, Fail> {
+    Ok(are_long(&plain_pieces(alloc, settled)?, lengths))
 }
 
 /// Where a hart is settled, and how many counts each piece has. It ends behind as many as version 2 of frames tells of.

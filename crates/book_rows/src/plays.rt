@@ -56,22 +56,30 @@ fn need_of(bits: u8) -> Need {
     }
 }
 
+fn is_edge(edge: &edge_log::Edge, (at, other, after): Edge) -> bool {
+    edge.at == at && edge.other.number() == other && edge.after == after
+}
+
 fn are_edges(edges: &[edge_log::Edge], want: &[Edge]) -> bool {
-    for (edge, (at, other, after)) in edges.iter().zip(want) {
-        if (edge.at, edge.other.number(), edge.after) != (*at, *other, *after) {
-            return false;
+    let mut rest = want;
+    for edge in edges {
+        match rest {
+            [want, behind @ ..] if is_edge(edge, *want) => rest = behind,
+            _ => return false,
         }
     }
-    edges.len() == want.len()
+    rest.is_empty()
 }
 
 fn are_inputs(inputs: &[Input], want: &[Heard]) -> bool {
-    for (input, heard) in inputs.iter().zip(want) {
-        if *input != heard.input() {
-            return false;
+    let mut rest = want;
+    for input in inputs {
+        match rest {
+            [heard, behind @ ..] if *input == heard.input() => rest = behind,
+            _ => return false,
         }
     }
-    inputs.len() == want.len()
+    rest.is_empty()
 }
 
 /// Whether a lease's call answers as its row says.
@@ -201,41 +209,41 @@ fn is_done(stage: &mut Stage<Recording>, alloc: Global, row: &Row) -> bool {
     }
 }
 
-/// What a play came to: how many rows from the first on are as they say, and the machine.
-type Played = (usize, Machine);
+/// What a play came to: whether each row is as it says, and the machine.
+type Played = (bool, Machine);
 
-/// How many rows from the first on a book that records does as they say.
-fn rows_recorded(stage: &mut Stage<Recording>, alloc: Global, rows: &[Row]) -> usize {
-    for (number, row) in rows.iter().enumerate() {
+/// Whether a book that records does each row as it says.
+fn rows_recorded(stage: &mut Stage<Recording>, alloc: Global, rows: &[Row]) -> bool {
+    for row in rows {
         if !is_done(stage, alloc, row) {
-            return number;
+            return false;
         }
     }
-    rows.len()
+    true
 }
 
-/// How many a book that replays.
-fn rows_replayed(stage: &mut Stage<Replaying>, alloc: Global, rows: &[Row]) -> usize {
-    for (number, row) in rows.iter().enumerate() {
+/// Whether one that replays does.
+fn rows_replayed(stage: &mut Stage<Replaying>, alloc: Global, rows: &[Row]) -> bool {
+    for row in rows {
         if !holds(stage, alloc, row) {
-            return number;
+            return false;
         }
     }
-    rows.len()
+    true
 }
 
 fn record(alloc: Global, play: &Play) -> Result<Played, Fail> {
     let (book, other) = (recorder_of(alloc, play)?, recorder_of(alloc, play)?);
     let mut stage = Stage::new(book, other);
-    let rows = rows_recorded(&mut stage, alloc, play.rows);
-    Ok((rows, stage.end()))
+    let goes = rows_recorded(&mut stage, alloc, play.rows);
+    Ok((goes, stage.end()))
 }
 
 fn replay(alloc: Global, play: &Play) -> Result<Played, Fail> {
     let (book, other) = (replayer_of(alloc, play)?, replayer_of(alloc, play)?);
     let mut stage = Stage::new(book, other);
-    let rows = rows_replayed(&mut stage, alloc, play.rows);
-    Ok((rows, stage.end()))
+    let goes = rows_replayed(&mut stage, alloc, play.rows);
+    Ok((goes, stage.end()))
 }
 
 fn played(alloc: Global, play: &Play) -> Result<Played, Fail> {
@@ -255,8 +263,8 @@ fn is_alike(play: &Play, last: &Option<Machine>, machine: &Machine) -> bool {
 
 /// Whether a play goes as is said, behind the play that came to the last machine.
 fn goes_so(alloc: Global, play: &Play, last: &mut Option<Machine>) -> Result<bool, Fail> {
-    let (rows, machine) = played(alloc, play)?;
-    let right = rows == play.rows.len() && is_alike(play, &*last, &machine);
+    let (goes, machine) = played(alloc, play)?;
+    let right = goes && is_alike(play, &*last, &machine);
     *last = Some(machine);
     Ok(right)
 }

@@ -6,6 +6,7 @@ use fixtures::{edge, hart};
 use fragment_codec::Record;
 use ft_types::{Count, HART_LIMIT, Memory, Term};
 use hart_replay::{Plan, PlannedLeg, ReplayFault, honest_plans, honest_primaries, plan};
+use input_log::Input;
 use log_join::Store;
 use std::alloc::Global;
 use std::result::Result;
@@ -183,54 +184,66 @@ fn has_edges(leg: &PlannedLeg, edges: &[(u8, Count, u8, Count)]) -> bool {
     next == edges.len()
 }
 
+/// Whether these inputs are those of the records.
+fn are_inputs(inputs: &[Input], wanted: &[Record]) -> bool {
+    let mut rest = wanted;
+    for input in inputs {
+        match rest {
+            [Record::Input(_, wanted), behind @ ..] if *input == *wanted => rest = behind,
+            _ => return false,
+        }
+    }
+    rest.is_empty()
+}
+
 /// Whether a leg gives a hart these inputs at a count, and no others.
 fn gives(
     alloc: Global,
     leg: &PlannedLeg,
     (number, count, facts): (u8, Count, &[Fact]),
 ) -> Result<bool, Memory> {
-    let there = leg.inputs.at(hart(number), count);
     let wanted = records_of(alloc, number, facts)?;
-    if there.len() != wanted.len() {
-        return Ok(false);
-    }
-    for (input, want) in there.iter().zip(&wanted) {
-        match want {
-            Record::Input(_, wanted) if *input == *wanted => {}
-            _ => return Ok(false),
-        }
-    }
-    Ok(true)
+    Ok(are_inputs(leg.inputs.at(hart(number), count), &wanted))
 }
 
-fn is_so(alloc: Global, leg: &PlannedLeg, want: &Leg) -> Result<bool, Memory> {
+/// Whether a leg gives what it should.
+fn gives_all(alloc: Global, leg: &PlannedLeg, want: &Leg) -> Result<bool, Memory> {
     for row in want.inputs {
         if !gives(alloc, leg, *row)? {
             return Ok(false);
         }
     }
-    Ok(
-        leg.term == want.term
-            && leg.base.as_slice() == want.base
-            && leg.edges.start() == leg.base
-            && leg.ends.as_slice() == want.ends
-            && has_edges(leg, want.edges),
-    )
+    Ok(true)
+}
+
+/// Whether it begins and ends where it should, with its edges.
+fn is_so(leg: &PlannedLeg, want: &Leg) -> bool {
+    leg.term == want.term
+        && leg.base.as_slice() == want.base
+        && leg.edges.start() == leg.base
+        && leg.ends.as_slice() == want.ends
+        && has_edges(leg, want.edges)
+}
+
+/// Whether these are the legs.
+fn are_so(alloc: Global, legs: &[PlannedLeg], wanted: &[Leg]) -> Result<bool, Memory> {
+    let mut rest = wanted;
+    for leg in legs {
+        let [want, behind @ ..] = rest else {
+            return Ok(false);
+        };
+        if !is_so(leg, want) || !gives_all(alloc, leg, want)? {
+            return Ok(false);
+        }
+        rest = behind;
+    }
+    Ok(rest.is_empty())
 }
 
 /// Whether the plan of the row's store has its legs.
 fn is_planned(alloc: Global, (harts, frames, legs): &Row) -> Result<bool, Fail> {
     let plan = plan_of(alloc, &store_of(alloc, guest_of(*harts), frames)?)?;
-    let there = plan.legs();
-    if there.len() != legs.len() || plan.guest() != guest_of(*harts) {
-        return Ok(false);
-    }
-    for (leg, want) in there.iter().zip(legs.iter()) {
-        if !is_so(alloc, leg, want)? {
-            return Ok(false);
-        }
-    }
-    Ok(true)
+    Ok(plan.guest() == guest_of(*harts) && are_so(alloc, plan.legs(), legs)?)
 }
 
 #[test]

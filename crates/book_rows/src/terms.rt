@@ -2,7 +2,7 @@
 
 use fenced_keeper::Given;
 use fragment_codec::{Frame, write_frame};
-use ft_types::{Count, Guest, Hart, Keeper, Memory, MemorySink, Output, Quorum, Term, read_number};
+use ft_types::{Count, Guest, Hart, Keeper, Memory, MemorySink, Output, Quorum, Term};
 use guest_image::{Image, read_image};
 use leading::{HandedLog, Leader, read_handed_log};
 use std::alloc::Global;
@@ -94,30 +94,16 @@ fn round(alloc: Global, leader: Leader, log: &mut Vec<u8>) -> Result<Leader, Mem
     Ok(next)
 }
 
-/// The first word of a text, and what stands behind it.
-fn word(text: &str) -> (&str, &str) {
-    match text.split_once(' ') {
-        Some(parts) => parts,
-        None => (text, ""),
-    }
-}
+/// An output of hart 0: its number, and its word.
+type Said = (Count, u32);
 
-/// A number below a thousand.
-fn small(text: &str) -> u32 {
-    match read_number(text.as_bytes()) {
-        Some(number) => (number % 1000) as u32,
-        None => 999,
-    }
-}
-
-/// What is told behind an output, where it begins with its number and its word.
-fn behind<'a>(output: &Output, told: &'a str) -> Option<&'a str> {
-    let (number, rest) = word(told);
-    let (word, rest) = word(rest);
-    if output.number == u64::from(small(number)) && output.word == small(word) {
-        Some(rest)
-    } else {
-        None
+/// What is told behind an output, where it begins with that one.
+fn behind<'a>(output: &Output, told: &'a [Said]) -> Option<&'a [Said]> {
+    match told {
+        [(number, word), rest @ ..] if output.number == *number && output.word == *word => {
+            Some(rest)
+        }
+        _ => None,
     }
 }
 
@@ -126,7 +112,7 @@ fn many(leader: &Leader) -> usize {
 }
 
 /// Whether these outputs were let go behind the first ones.
-fn let_go(leader: &Leader, first: usize, told: &str) -> bool {
+fn let_go(leader: &Leader, first: usize, told: &[Said]) -> bool {
     let mut rest = told;
     for released in leader.released().get(first..).unwrap_or(&[]) {
         match behind(&released.output, rest) {
@@ -153,7 +139,7 @@ fn lets_go(
     leader: &mut Leader,
     keeper: u8,
     term: Term,
-    told: &str,
+    told: &[Said],
 ) -> Result<bool, Memory> {
     let before = many(&*leader);
     acknowledge(alloc, leader, keeper, term)?;
@@ -165,7 +151,7 @@ fn hears(
     alloc: Global,
     leader: &mut Leader,
     request: &Request,
-    told: &str,
+    told: &[Said],
 ) -> Result<bool, Memory> {
     let mut rest = told;
     for answer in leader.hear(alloc, request)?.as_slice() {
@@ -183,7 +169,7 @@ fn hears_word(
     leader: &mut Leader,
     word: u32,
     number: Count,
-    told: &str,
+    told: &[Said],
 ) -> Result<bool, Memory> {
     let number = Some(number);
     let hart = Hart::new(0);
@@ -195,7 +181,7 @@ fn tells_again(
     alloc: Global,
     leader: &mut Leader,
     number: Count,
-    told: &str,
+    told: &[Said],
 ) -> Result<bool, Memory> {
     let hart = Hart::new(0);
     hears(alloc, leader, &Request::From { hart, number }, told)
@@ -206,94 +192,105 @@ fn only_waits(alloc: Global, leader: &mut Leader) -> Result<bool, Memory> {
 }
 
 /// Whether a primary of this term keeps so many outputs.
-fn keeps(leader: &Leader, kept: u32, term: Term) -> bool {
-    leader.kept() as u64 == u64::from(kept) && leader.term() == term
+fn keeps(leader: &Leader, kept: usize, term: Term) -> bool {
+    leader.kept() == kept && leader.term() == term
 }
 
-/// Whether what happens to a primary has this said: `word WORD NUMBER` comes for hart 0; `again NUMBER` asks for its outputs from that on;
-/// `held KEEPER TERM` is a keeper's acknowledgement; `keeps MANY TERM` and `waits` look.
-fn does(alloc: Global, leader: &mut Leader, deed: &str, told: &str) -> Result<bool, Memory> {
-    let (call, behind) = word(deed);
-    let (first, second) = word(behind);
-    let (first, second) = (small(first), small(second));
-    match call {
-        "word" => hears_word(alloc, leader, first, u64::from(second), told),
-        "again" => tells_again(alloc, leader, u64::from(first), told),
-        "held" => lets_go(alloc, leader, (first % 5) as u8, second, told),
-        "keeps" => Ok(keeps(&*leader, first, second)),
-        _ => only_waits(alloc, leader),
+/// What happens to a primary.
+enum Deed {
+    /// A word comes for hart 0, by its number.
+    Word(u32, Count),
+    /// Its outputs from a number on are asked for.
+    Again(Count),
+    /// A keeper acknowledges all that the primary has, in a term.
+    Held(u8, Term),
+    /// It keeps so many outputs, in its term.
+    Keeps(usize, Term),
+    /// Its harts only wait.
+    Waits,
+    /// It goes round.
+    Round,
+}
+
+/// What happens to a primary, and which outputs are told or let go by that.
+type Row = (Deed, &'static [Said]);
+
+/// Whether what happens to a primary has this told.
+fn does(alloc: Global, leader: &mut Leader, (deed, told): &Row) -> Result<bool, Memory> {
+    match *deed {
+        Deed::Word(word, number) => hears_word(alloc, leader, word, number, told),
+        Deed::Again(number) => tells_again(alloc, leader, number, told),
+        Deed::Held(keeper, term) => lets_go(alloc, leader, keeper, term, told),
+        Deed::Keeps(kept, term) => Ok(keeps(&*leader, kept, term)),
+        Deed::Waits => only_waits(alloc, leader),
+        Deed::Round => Ok(false),
     }
 }
 
-/// The first row in which a primary says otherwise. In a row of a round alone it goes round, its frames added to the log.
-fn first_wrong(
-    alloc: Global,
-    leader: Leader,
-    log: &mut Vec<u8>,
-    rows: &'static str,
-) -> Result<Option<&'static str>, Memory> {
+/// Whether each row is told so. Where the primary goes round, its frames are added to the log.
+fn go_so(alloc: Global, leader: Leader, log: &mut Vec<u8>, rows: &[Row]) -> Result<bool, Memory> {
     let mut leader = leader;
-    for line in rows.lines() {
-        match line.split_once('|') {
-            None => leader = round(alloc, leader, log)?,
-            Some((deed, told)) => {
-                if !does(alloc, &mut leader, deed, told)? {
-                    return Ok(Some(line));
+    for row in rows {
+        match row.0 {
+            Deed::Round => leader = round(alloc, leader, log)?,
+            _ => {
+                if !does(alloc, &mut leader, row)? {
+                    return Ok(false);
                 }
             }
         }
     }
-    Ok(None)
+    Ok(true)
 }
 
 /// Words that come twice or too early are given once and in order; two of three keepers let their outputs out, in the primary's term. They
 /// are told again, and the next round's frames note that they went out.
-static FIRST: &str = "\
-word 70 0|
-word 70 0|
-word 72 2|
-word 71 1|
-word 72 2|
-round
-round
-round
-held 1 1|
-held 0 2|
-held 0 1|0 70 1 71 2 72
-held 2 1|
-waits|
-again 1|1 71 2 72
-round
-";
+static FIRST: [Row; 15] = [
+    (Deed::Word(70, 0), &[]),
+    (Deed::Word(70, 0), &[]),
+    (Deed::Word(72, 2), &[]),
+    (Deed::Word(71, 1), &[]),
+    (Deed::Word(72, 2), &[]),
+    (Deed::Round, &[]),
+    (Deed::Round, &[]),
+    (Deed::Round, &[]),
+    (Deed::Held(1, 1), &[]),
+    (Deed::Held(0, 2), &[]),
+    (Deed::Held(0, 1), &[(0, 70), (1, 71), (2, 72)]),
+    (Deed::Held(2, 1), &[]),
+    (Deed::Waits, &[]),
+    (Deed::Again(1), &[(1, 71), (2, 72)]),
+    (Deed::Round, &[]),
+];
 
 /// The next primary tells them too, and lets out only what is new.
-static SECOND: &str = "\
-word 72 2|
-word 74 4|
-word 73 3|
-again 1|1 71 2 72
-round
-round
-held 4 2|
-held 1 2|
-held 2 2|3 73
-keeps 3 2|
-";
+static SECOND: [Row; 10] = [
+    (Deed::Word(72, 2), &[]),
+    (Deed::Word(74, 4), &[]),
+    (Deed::Word(73, 3), &[]),
+    (Deed::Again(1), &[(1, 71), (2, 72)]),
+    (Deed::Round, &[]),
+    (Deed::Round, &[]),
+    (Deed::Held(4, 2), &[]),
+    (Deed::Held(1, 2), &[]),
+    (Deed::Held(2, 2), &[(3, 73)]),
+    (Deed::Keeps(3, 2), &[]),
+];
 
-/// The first row that goes otherwise in one of two terms.
-fn wrong_in_two_terms(alloc: Global) -> Result<Option<&'static str>, Memory> {
+/// Whether each of two terms goes so.
+fn go_so_in_two_terms(alloc: Global) -> Result<bool, Memory> {
     let image = image_of(alloc)?;
     let mut log = Vec::new(alloc);
     let first = live(alloc, &image, 1, &mut log)?;
-    if let Some(line) = first_wrong(alloc, first, &mut log, FIRST)? {
-        return Ok(Some(line));
+    if !go_so(alloc, first, &mut log, &FIRST)? {
+        return Ok(false);
     }
     let second = live(alloc, &image, 2, &mut log)?;
-    first_wrong(alloc, second, &mut log, SECOND)
+    go_so(alloc, second, &mut log, &SECOND)
 }
 
 #[test]
 fn two_terms(rt: HostRuntime) -> Result<(), Memory> {
-    assert_eq!(rt; wrong_in_two_terms(rt.alloc())?, None);
+    assert!(rt; go_so_in_two_terms(rt.alloc())?);
     Ok(())
 }

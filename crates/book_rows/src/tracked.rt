@@ -19,7 +19,10 @@ pub fn agrees(alloc: Global, tracked: &Tracked) -> Result<bool, Memory> {
 
 /// The last term of the store's chain: 0 where there is none.
 fn top_of(alloc: Global, store: &Store) -> Result<Term, Memory> {
-    Ok(chain(alloc, store)?.last().copied().unwrap_or(0))
+    match chain(alloc, store)?.as_slice() {
+        [.., last] => Ok(*last),
+        [] => Ok(0),
+    }
 }
 
 /// What a tracked store tells of itself.

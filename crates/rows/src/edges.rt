@@ -4,7 +4,6 @@ use crate::tables::{all_right, hart, is_count, number, row, word};
 use edge_log::{Added, Edge, EdgeLog};
 use ft_types::{Count, Counts, Hart, Memory};
 use std::alloc::Global;
-use std::process::Abort;
 
 /// The edge that a text begins with, by the hart's number, its count, the other's number and that one's count, and what stands behind it.
 fn edge(text: &str) -> (Edge, &str) {
@@ -121,16 +120,17 @@ fn edges_one_by_one(rt: HostRuntime) -> Result<(), Memory> {
     Ok(())
 }
 
-/// Adds edges of a hart after a look at what that asks for.
-fn add_all(rt: &impl Abort, log: &mut EdgeLog, hart: Hart, edges: &[Edge]) -> Result<(), Memory> {
+/// Adds edges of a hart, where what that asks for is so.
+fn add_all(log: &mut EdgeLog, hart: Hart, edges: &[Edge]) -> Result<bool, Memory> {
     let mut last = 0;
     for edge in edges {
-        assert!(rt; edge.hart == hart);
-        assert!(rt; log.may_add(edge));
-        assert!(rt; last <= edge.at);
+        if edge.hart != hart || !log.may_add(edge) || edge.at < last {
+            return Ok(false);
+        }
         last = edge.at;
     }
-    log.add_all(hart, edges)
+    log.add_all(hart, edges)?;
+    Ok(true)
 }
 
 static BEGUN: &str = "\
@@ -149,12 +149,17 @@ static MANY: &str = "\
 1 9 0 9|new
 ";
 
-/// The edges of a table.
-fn edges_of(alloc: Global, rows: &'static str) -> Result<Vec<Edge>, Memory> {
-    let mut edges = Vec::new(alloc);
+fn push_all(edges: &mut Vec<Edge>, rows: &'static str) -> Result<(), Memory> {
     for line in rows.lines() {
         edges.push(edge(row(line).0).0)?;
     }
+    Ok(())
+}
+
+/// The edges of a table.
+fn edges_of(alloc: Global, rows: &'static str) -> Result<Vec<Edge>, Memory> {
+    let mut edges = Vec::new(alloc);
+    push_all(&mut edges, rows)?;
     Ok(edges)
 }
 
@@ -171,16 +176,16 @@ fn edges_at_once(rt: HostRuntime) -> Result<(), Memory> {
     let mut at_once = one_by_one.copy()?;
     all_right(&rt, first_wrong(&mut one_by_one, MANY)?);
     let edges = edges_of(rt.alloc(), MANY)?;
-    add_all(&rt, &mut at_once, Hart::new(1), edges.as_slice())?;
-    add_all(&rt, &mut at_once, Hart::new(7), &[])?;
+    assert!(rt; add_all(&mut at_once, Hart::new(1), edges.as_slice())?);
+    assert!(rt; add_all(&mut at_once, Hart::new(7), &[])?);
     let left = "1 3 2 9 1 3 3 4 1 6 0 8 1 6 3 5 1 9 0 9";
     assert!(rt; have(&at_once, &one_by_one, left));
     Ok(())
 }
 
 /// The edge of hart 1 that is this much behind a count.
-fn behind(from: Count, more: Count) -> Edge {
-    let count = from.saturating_add(more);
+fn behind(from: u8, more: u8) -> Edge {
+    let count = u64::from(from) + u64::from(more);
     Edge {
         hart: Hart::new(1),
         at: count,
@@ -189,34 +194,32 @@ fn behind(from: Count, more: Count) -> Edge {
     }
 }
 
-fn next_three(from: Count) -> [Edge; 3] {
+fn next_three(from: u8) -> [Edge; 3] {
     [behind(from, 1), behind(from, 2), behind(from, 3)]
 }
 
 /// Whether a log of two harts has so many edges of hart 1, none of them behind this count.
-fn ends(log: &EdgeLog, many: u64) -> bool {
-    log.of_hart(Hart::new(1)).len() as u64 == many
+fn ends(log: &EdgeLog, many: u8) -> bool {
+    log.of_hart(Hart::new(1)).len() == usize::from(many)
         && log.start().harts() == 2
-        && is_next(log, many.saturating_add(1), "none")
+        && is_next(log, u64::from(many) + 1, "none")
 }
 
 /// Three more edges are added: where memory is refused the log is as it was, and takes all when they are added again.
-fn adds_three(rt: &impl Abort, log: &mut EdgeLog, from: Count) -> Result<bool, Memory> {
+fn adds_three(log: &mut EdgeLog, from: u8) -> Result<bool, Memory> {
     let edges = next_three(from);
-    if add_all(rt, log, Hart::new(1), &edges).is_err() {
-        if !ends(log, from) {
-            return Ok(false);
-        }
-        add_all(rt, log, Hart::new(1), &edges)?;
-    }
-    Ok(ends(log, from.saturating_add(3)))
+    let added = match add_all(log, Hart::new(1), &edges) {
+        Err(Memory) => ends(log, from) && add_all(log, Hart::new(1), &edges)?,
+        Ok(added) => added,
+    };
+    Ok(added && ends(log, from % 100 + 3))
 }
 
 #[test]
 fn refused_memory(rt: HostRuntime) -> Result<(), Memory> {
     let mut log = started(rt.alloc(), &[0; 2])?;
-    for from in [0, 3, 6, 9, 12, 15] {
-        assert!(rt; adds_three(&rt, &mut log, from)?);
+    for from in [0u8, 3, 6, 9, 12, 15] {
+        assert!(rt; adds_three(&mut log, from)?);
     }
     Ok(())
 }

@@ -1,22 +1,17 @@
 //! Logs of inputs. What memory is refused once is asked for once more, of a log that must be as it was.
 
-use crate::tables::{all_right, hart, is_count, number, row, word};
+use crate::tables::{all_right, hart_of, is_count, number, number_of, row, word};
 use ft_types::{Count, Hart, INPUT_LIMIT, Memory};
 use input_log::{Input, InputLog};
 use std::alloc::Global;
 
 /// An input: `t` is the timer's, `w7` the word 7, `b1` hart 1's bell.
 pub fn input(text: &str) -> Option<Input> {
-    if let Some(word) = text.strip_prefix("w") {
-        return Some(Input::Word((number(word) % 1000) as u32));
-    }
-    if let Some(source) = text.strip_prefix("b") {
-        return Some(Input::Bell(hart(source)));
-    }
-    if text == "t" {
-        Some(Input::Timer)
-    } else {
-        None
+    match text.as_bytes() {
+        [b't'] => Some(Input::Timer),
+        [b'w', word @ ..] => Some(Input::Word((number_of(word) % 1000) as u32)),
+        [b'b', source @ ..] => Some(Input::Bell(hart_of(source))),
+        _ => None,
     }
 }
 
@@ -25,12 +20,21 @@ pub fn are(inputs: &[Input], given: &str) -> bool {
     let mut rest = given;
     for one in inputs {
         let (first, behind) = word(rest);
-        if input(first) != Some(*one) {
-            return false;
+        match input(first) {
+            Some(given) if given == *one => {}
+            _ => return false,
         }
         rest = behind;
     }
     rest.is_empty()
+}
+
+/// Adds an input, where the text is one.
+fn push(inputs: &mut Vec<Input>, text: &str) -> Result<(), Memory> {
+    if let Some(input) = input(text) {
+        inputs.push(input)?;
+    }
+    Ok(())
 }
 
 /// These inputs, at most as many as a hart is given at a count.
@@ -39,9 +43,7 @@ fn inputs_of(alloc: Global, given: &str) -> Result<Vec<Input>, Memory> {
     let mut rest = given;
     for _ in 0..INPUT_LIMIT {
         let (first, behind) = word(rest);
-        if let Some(input) = input(first) {
-            inputs.push(input)?;
-        }
+        push(&mut inputs, first)?;
         rest = behind;
     }
     Ok(inputs)

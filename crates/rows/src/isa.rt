@@ -192,11 +192,18 @@ fn shown(alloc: Global, word: u32) -> Result<String, Memory> {
     }
 }
 
+fn is_comment(line: &[u8]) -> bool {
+    match line {
+        [b'#', ..] => true,
+        _ => false,
+    }
+}
+
 /// Whether the word is shown so.
 fn is_shown(alloc: Global, word: &str, wanted: &str) -> Result<bool, Memory> {
     match read_word(word.as_bytes()) {
         Some(word) => Ok(shown(alloc, word)?.as_str() == wanted),
-        None => Ok(word.starts_with('#')),
+        None => Ok(is_comment(word.as_bytes())),
     }
 }
 

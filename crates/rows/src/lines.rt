@@ -21,9 +21,17 @@ fn guest(harts: u8) -> Option<Guest> {
     Guest::new(IMAGE, harts)
 }
 
+/// Bytes without the line feed at their end.
+pub fn without_line_feed(bytes: &[u8]) -> &[u8] {
+    match bytes {
+        [text @ .., b'\n'] => text,
+        _ => b"no line",
+    }
+}
+
 /// The text of a line, without its line feed.
 pub fn text_of(line: &Line) -> &[u8] {
-    line.as_slice().strip_suffix(b"\n").unwrap_or(b"no line")
+    without_line_feed(line.as_slice())
 }
 
 /// Whether the line is this text with a line feed.
@@ -257,12 +265,18 @@ fence 2 5b2ab55a;|2
 fence 2 5b2ab55afence 10 ab65f06a;|0
 ";
 
+/// Adds a text's bytes with line feeds for semicolons.
+fn add_text(bytes: &mut Vec<u8>, text: &[u8]) -> Result<(), Memory> {
+    for byte in text {
+        bytes.push(if *byte == b';' { b'\n' } else { *byte })?;
+    }
+    Ok(())
+}
+
 /// The bytes of a text with line feeds for semicolons.
 pub fn with_line_feeds(alloc: Global, text: &str) -> Result<Vec<u8>, Memory> {
     let mut bytes = Vec::new(alloc);
-    for byte in text.as_bytes() {
-        bytes.push(if *byte == b';' { b'\n' } else { *byte })?;
-    }
+    add_text(&mut bytes, text.as_bytes())?;
     Ok(bytes)
 }
 
@@ -271,7 +285,8 @@ fn is_last(guest: &Guest, file: &mut Vec<u8>, last: u64) -> Result<bool, Memory>
     let before = last_fence(guest, file);
     file.extend_from_slice(fence_entry(guest, 7).as_slice())?;
     let after = last_fence(guest, file);
-    Ok(u64::from(before) == last && u64::from(after) == last.max(7))
+    let greater = if last < 7 { 7 } else { last };
+    Ok(u64::from(before) == last && u64::from(after) == greater)
 }
 
 /// The first file with another last fence.
@@ -323,13 +338,19 @@ fn are_fed(alloc: Global, pieces: &[&[u8]], wanted: &[u8]) -> Result<bool, Memor
     Ok(texts.as_slice() == wanted)
 }
 
-/// A line of so many bytes and one of two, with this byte at their ends.
-fn long_line(alloc: Global, length: usize, end: u8) -> Result<Vec<u8>, Memory> {
-    let mut bytes = Vec::new(alloc);
+/// Adds the bytes of a line of so many bytes and of one of two, with this byte at their ends.
+fn add_lines(bytes: &mut Vec<u8>, length: usize, end: u8) -> Result<(), Memory> {
     for _ in 1..length {
         bytes.push(b'x')?;
     }
     bytes.extend_from_slice(&[end, b'y', end])?;
+    Ok(())
+}
+
+/// Those lines.
+fn long_line(alloc: Global, length: usize, end: u8) -> Result<Vec<u8>, Memory> {
+    let mut bytes = Vec::new(alloc);
+    add_lines(&mut bytes, length, end)?;
     Ok(bytes)
 }
 

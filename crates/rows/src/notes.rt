@@ -10,7 +10,12 @@ use std::alloc::Global;
 fn ends_by(notes: &[(Count, u64)], count: Count) -> bool
     ensures { IsTrue result → All (λ x. x.0 ≤ count) notes.now }
 {
-    notes.iter().all(|note| note.0 <= count)
+    for note in notes {
+        if note.0 > count {
+            return false;
+        }
+    }
+    true
 }
 
 fn add(log: &mut NoteLog, at: Count, number: u64) -> Result<bool, Memory> {

@@ -1,7 +1,7 @@
 //! Requests by their numbers: what a queue takes of a list of them and in which order it offers that, and what a client asks for, hears
 //! and tells.
 
-use crate::lines::{is_line, text_of};
+use crate::lines::{is_line, text_of, without_line_feed};
 use crate::tables::{all_right, number, row, word};
 use asking::{Heard, Talk, WordsFault, read_words, told_line};
 use ft_types::{Count, Hart, Memory, Output, read_number, read_word};
@@ -146,7 +146,7 @@ fn hears(talk: &mut Talk, text: &str) -> &'static str {
 /// Whether a client tells this.
 fn tells(talk: &mut Talk, answer: &str) -> bool {
     match talk.tell() {
-        Some(told) => told_line(&told).as_slice().strip_suffix(b"\n") == Some(answer.as_bytes()),
+        Some(told) => without_line_feed(told_line(&told).as_slice()) == answer.as_bytes(),
         None => answer == "nothing",
     }
 }

@@ -1,6 +1,6 @@
 //! Schedules of a machine small enough to follow by hand.
 
-use crate::tables::{all_right, number, row, word};
+use crate::tables::{all_right, number, parts, row, word};
 use ft_types::Memory;
 use interleaving::counters::{Act, Counter, Counters, Turn};
 use std::alloc::Global;
@@ -48,30 +48,38 @@ fn pages(alloc: Global, told: &str) -> Result<Vec<u64>, Memory> {
 
 /// A machine: its harts, a slash, and its pages.
 fn machine(alloc: Global, told: &str) -> Result<Counters, Memory> {
-    let (own, shared) = told.split_once('/').unwrap_or((told, ""));
+    let (own, shared) = parts(told, '/');
     Ok(Counters {
         harts: harts(alloc, own)?,
         pages: pages(alloc, shared)?,
     })
 }
 
-/// Turns, at most eight, each a hart that loads or stores, and a page.
+fn small(text: &str) -> usize {
+    (number(text) % 8) as usize
+}
+
+/// The turn that a text begins with, a hart that loads or stores, and a page; and what stands behind it.
+fn turn(text: &str) -> (Turn, &str) {
+    let (hart, behind) = word(text);
+    let (act, behind) = word(behind);
+    let (page, behind) = word(behind);
+    let act = match act {
+        "loads" => Act::Load(small(page)),
+        _ => Act::Store(small(page)),
+    };
+    let hart = small(hart);
+    (Turn { hart, act }, behind)
+}
+
+/// Turns, at most eight.
 fn turns(alloc: Global, told: &str) -> Result<Vec<Turn>, Memory> {
     let mut turns = Vec::new(alloc);
     let mut rest = told;
     for _ in 0..8 {
         if !rest.is_empty() {
-            let (hart, behind) = word(rest);
-            let (act, behind) = word(behind);
-            let (page, behind) = word(behind);
-            let page = (number(page) % 8) as usize;
-            let act = if act == "loads" {
-                Act::Load(page)
-            } else {
-                Act::Store(page)
-            };
-            let hart = (number(hart) % 8) as usize;
-            turns.push(Turn { hart, act })?;
+            let (first, behind) = turn(rest);
+            turns.push(first)?;
             rest = behind;
         }
     }
@@ -80,7 +88,7 @@ fn turns(alloc: Global, told: &str) -> Result<Vec<Turn>, Memory> {
 
 /// Whether these turns lead from a machine to another: to none where one of them cannot be taken.
 fn lead(alloc: Global, told: &str, wanted: &str) -> Result<bool, Memory> {
-    let (start, taken) = told.split_once(": ").unwrap_or((told, ""));
+    let (start, taken) = parts(told, ':');
     let taken = turns(alloc, taken)?;
     match machine(alloc, start)?.run(taken.as_slice()) {
         Some(ended) => Ok(wanted != "none" && ended == machine(alloc, wanted)?),
@@ -93,16 +101,16 @@ fn lead(alloc: Global, told: &str, wanted: &str) -> Result<bool, Memory> {
 /// where a page was handed on, and the hart between is lost. A hart that is not there, or whose count is full, takes no turn; a page that is
 /// not there holds nothing.
 static ROWS: &str = "\
-0 0 0 0 0 0/0 0: 0 stores 0 1 loads 0 0 stores 0 2 stores 1 1 stores 1|2 0 2 1 1 0/2 2
-0 0 0 0 0 0/0 0: 2 stores 1 0 stores 0 1 loads 0 1 stores 1 0 stores 0|2 0 2 1 1 0/2 2
-0 0 0 0 0 0/0 0: 0 stores 0 0 stores 0 1 loads 0 2 stores 1 1 stores 1|2 0 2 2 1 0/2 2
-7 0 5 0/0: 0 stores 0 1 loads 0|8 0 6 8/8
-7 0 5 0/0: 1 loads 0 0 stores 0|8 0 6 0/8
-0 0 0 0 0 0/0 0: 0 stores 0 2 loads 0|1 0 0 0 1 1/1 0
-0 0 0 0 0 0/0 0: 2 loads 0 0 stores 0|1 0 0 0 1 0/1 0
-0 0/7: 0 loads 0 1 loads 0|none
-max 0/7: 0 stores 0|none
-last 0/7: 0 stores 1|max 0/7
+0 0 0 0 0 0/0 0:0 stores 0 1 loads 0 0 stores 0 2 stores 1 1 stores 1|2 0 2 1 1 0/2 2
+0 0 0 0 0 0/0 0:2 stores 1 0 stores 0 1 loads 0 1 stores 1 0 stores 0|2 0 2 1 1 0/2 2
+0 0 0 0 0 0/0 0:0 stores 0 0 stores 0 1 loads 0 2 stores 1 1 stores 1|2 0 2 2 1 0/2 2
+7 0 5 0/0:0 stores 0 1 loads 0|8 0 6 8/8
+7 0 5 0/0:1 loads 0 0 stores 0|8 0 6 0/8
+0 0 0 0 0 0/0 0:0 stores 0 2 loads 0|1 0 0 0 1 1/1 0
+0 0 0 0 0 0/0 0:2 loads 0 0 stores 0|1 0 0 0 1 0/1 0
+0 0/7:0 loads 0 1 loads 0|none
+max 0/7:0 stores 0|none
+last 0/7:0 stores 1|max 0/7
 ";
 
 /// The first row that goes otherwise.

@@ -12,24 +12,37 @@ pub fn row(line: &str) -> (&str, &str) {
     }
 }
 
-/// The first word of a text, and what stands behind it.
-pub fn word(text: &str) -> (&str, &str) {
-    match text.split_once(' ') {
+/// What stands before a sign in a text, and behind it: of a text without it all, and nothing.
+pub fn parts(text: &str, sign: char) -> (&str, &str) {
+    match text.split_once(sign) {
         Some(parts) => parts,
         None => (text, ""),
     }
 }
 
+/// The first word of a text, and what stands behind it.
+pub fn word(text: &str) -> (&str, &str) {
+    parts(text, ' ')
+}
+
 /// A number, or one that is none of a table.
-pub fn number(text: &str) -> u64 {
-    match read_number(text.as_bytes()) {
+pub fn number_of(digits: &[u8]) -> u64 {
+    match read_number(digits) {
         Some(number) => number,
         None => u64::MAX,
     }
 }
 
+pub fn number(text: &str) -> u64 {
+    number_of(text.as_bytes())
+}
+
+pub fn hart_of(digits: &[u8]) -> Hart {
+    Hart::new((number_of(digits) % u64::from(HART_LIMIT)) as u8)
+}
+
 pub fn hart(text: &str) -> Hart {
-    Hart::new((number(text) % u64::from(HART_LIMIT)) as u8)
+    hart_of(text.as_bytes())
 }
 
 /// Whether a count is the one that is answered, or `none`.
@@ -42,5 +55,7 @@ pub fn is_count(count: Option<Count>, answer: &str) -> bool {
 
 /// Ends a test at a row that is answered otherwise.
 pub fn all_right(rt: &impl Abort, wrong: Option<&str>) {
-    assert_eq!(rt; wrong, None);
+    if let Some(line) = wrong {
+        panic!(rt; "{line}");
+    }
 }
