@@ -5,7 +5,7 @@ use Rattle.edge_log.specs.EdgeLog.{MayAdd}
 use Rattle.rows.proofs.edges.add_all.Given as goal
 
 abbrev pub invariant-loop-edge : goal.invariant-loop-edge
-invariant-loop-edge g l =
+invariant-loop-edge l =
     record {
       own : AllWithin (λ e. e.hart ≡ l.hart) l.edges 0 l.edge-index;
       each : AllWithin (λ e. MayAdd l.log e) l.edges 0 l.edge-index;
