@@ -37,19 +37,29 @@ pub fn guest_of(harts: u8) -> Guest {
     guest_with([7; 32], harts)
 }
 
+/// The record of a hart's piece that says this.
+fn record_of(number: u8, fact: &Fact) -> Record {
+    match *fact {
+        Fact::Edge(at, other, after) => Record::Edge(edge(number, at, other, after)),
+        Fact::Timer(at) => Record::Input(at, Input::Timer),
+        Fact::Word(at, word) => Record::Input(at, Input::Word(word)),
+        Fact::Bell(at, source) => Record::Input(at, Input::Bell(hart(source))),
+        Fact::Note(at, number) => Record::Note(at, number),
+    }
+}
+
+/// Adds the records of a hart's piece.
+fn add_records(records: &mut Vec<Record>, number: u8, facts: &[Fact]) -> Result<(), Memory> {
+    for fact in facts {
+        records.push(record_of(number, fact))?;
+    }
+    Ok(())
+}
+
 /// The records of a hart's piece.
 pub fn records_of(alloc: Global, number: u8, facts: &[Fact]) -> Result<Vec<Record>, Memory> {
     let mut records = Vec::new(alloc);
-    for fact in facts {
-        let record = match *fact {
-            Fact::Edge(at, other, after) => Record::Edge(edge(number, at, other, after)),
-            Fact::Timer(at) => Record::Input(at, Input::Timer),
-            Fact::Word(at, word) => Record::Input(at, Input::Word(word)),
-            Fact::Bell(at, source) => Record::Input(at, Input::Bell(hart(source))),
-            Fact::Note(at, number) => Record::Note(at, number),
-        };
-        records.push(record)?;
-    }
+    add_records(&mut records, number, facts)?;
     Ok(records)
 }
 
@@ -91,11 +101,17 @@ pub fn put(alloc: Global, store: &mut Store, guest: Guest, come: &Come) -> Resul
     }
 }
 
+/// Puts these frames of a guest.
+fn put_all(alloc: Global, store: &mut Store, guest: Guest, frames: &[Come]) -> Result<(), Fail> {
+    for come in frames {
+        let _put = put(alloc, store, guest, come)?;
+    }
+    Ok(())
+}
+
 /// A store of a guest to which these frames came.
 pub fn store_of(alloc: Global, guest: Guest, frames: &[Come]) -> Result<Store, Fail> {
     let mut store = Store::new(alloc, guest);
-    for come in frames {
-        let _put = put(alloc, &mut store, guest, come)?;
-    }
+    put_all(alloc, &mut store, guest, frames)?;
     Ok(store)
 }

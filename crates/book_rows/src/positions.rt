@@ -5,11 +5,20 @@ use crate::tracked::{agrees, put};
 use edge_log::Edge;
 use fixtures::{Dice, edge, key, opening_of, piece_of};
 use fragment_codec::{Frame, Key, Record};
-use ft_types::{Count, HART_LIMIT, HART_ROW, Term};
+use ft_types::{Count, HART_LIMIT, HART_ROW, Memory, Term};
 use input_log::Input;
 use std::alloc::Global;
 use std::test::Fail;
 use tracked_position::Tracked;
+
+/// Adds an edge, if there is one, and an input at this step.
+fn add(records: &mut Vec<Record>, edge: Option<Edge>, last: Count) -> Result<(), Memory> {
+    if let Some(edge) = edge {
+        records.push(Record::Edge(edge))?;
+    }
+    records.push(Record::Input(last, Input::Timer))?;
+    Ok(())
+}
 
 /// A piece of a hart, with an input at its last step and, if there is one, this edge.
 fn piece(
@@ -20,10 +29,7 @@ fn piece(
     edge: Option<Edge>,
 ) -> Result<Frame, Fail> {
     let mut records = Vec::new(alloc);
-    if let Some(edge) = edge {
-        records.push(Record::Edge(edge))?;
-    }
-    records.push(Record::Input(to.saturating_sub(1), Input::Timer))?;
+    add(&mut records, edge, to.saturating_sub(1))?;
     piece_of(alloc, guest_of(harts), key, from, to, &records)
 }
 

@@ -64,13 +64,18 @@ fn push_line(text: &mut Vec<u8>, word: u32) -> Result<(), Memory> {
     Ok(())
 }
 
+/// Adds the lines of sixty words.
+fn push_lines(text: &mut Vec<u8>, dice: &mut Dice) -> Result<(), Memory> {
+    for _word in 0..60 {
+        push_line(text, word(dice))?;
+    }
+    Ok(())
+}
+
 fn guest_text(alloc: Global, seed: u64) -> Result<Vec<u8>, Memory> {
     let mut dice = Dice::new(seed);
-    let mut text = Vec::new(alloc);
-    text.extend_from_slice(HEAD)?;
-    for _word in 0..60 {
-        push_line(&mut text, word(&mut dice))?;
-    }
+    let mut text = HEAD.to_vec(alloc)?;
+    push_lines(&mut text, &mut dice)?;
     Ok(text)
 }
 

@@ -367,13 +367,19 @@ fn piece_at(number: u8, place: u32, steps: Count) -> Come {
     Come::Piece(1, number, place, from, from.saturating_add(steps), &[])
 }
 
-/// Twenty places of a hart, each of which goes this far.
-fn twenty(alloc: Global, number: u8, steps: Count) -> Result<Store, Fail> {
-    let mut store = Store::new(alloc, guest_of(2));
+/// Puts twenty places of a hart, each of which goes this far.
+fn put_twenty(alloc: Global, store: &mut Store, number: u8, steps: Count) -> Result<(), Fail> {
     for place in 0..20u32 {
         let piece = piece_at(number, place, steps);
-        let _put = put_into(alloc, &mut store, guest_of(2), &piece)?;
+        let _put = put_into(alloc, store, guest_of(2), &piece)?;
     }
+    Ok(())
+}
+
+/// A store of those.
+fn twenty(alloc: Global, number: u8, steps: Count) -> Result<Store, Fail> {
+    let mut store = Store::new(alloc, guest_of(2));
+    put_twenty(alloc, &mut store, number, steps)?;
     Ok(store)
 }
 

@@ -42,34 +42,46 @@ impl Change {
         Some(Record::Edge(Edge { after, ..*edge }))
     }
 
-    fn records(&mut self, alloc: Global, records: &[Record]) -> Result<Vec<Record>, Memory> {
-        let mut changed = Vec::with_capacity(alloc, records.len())?;
+    /// Adds what becomes of these records.
+    fn add(&mut self, changed: &mut Vec<Record>, records: &[Record]) -> Result<(), Memory> {
         for record in records {
             if let Some(record) = self.next(record) {
                 changed.push(record)?;
             }
         }
-        Ok(changed)
+        Ok(())
     }
 
     /// What becomes of the next piece.
     fn piece(&mut self, alloc: Global, piece: &Fragment) -> Result<Frame, Memory> {
-        let records = self.records(alloc, piece.records())?;
+        let mut changed = Vec::new(alloc);
+        self.add(&mut changed, piece.records())?;
         let (from, to) = (piece.from(), piece.to());
-        match Fragment::new(piece.guest(), piece.key(), from, to, records) {
+        match Fragment::new(piece.guest(), piece.key(), from, to, changed) {
             Some(piece) => Ok(Frame::Log(piece)),
             None => Err(Memory),
         }
     }
 
-    /// What becomes of all pieces.
-    fn pieces(&mut self, alloc: Global, pieces: &[Frame]) -> Result<Vec<Frame>, Memory> {
-        let mut changed = Vec::with_capacity(alloc, pieces.len())?;
+    /// Adds what becomes of these pieces.
+    fn add_pieces(
+        &mut self,
+        alloc: Global,
+        changed: &mut Vec<Frame>,
+        pieces: &[Frame],
+    ) -> Result<(), Memory> {
         for piece in pieces {
             if let Frame::Log(piece) = piece {
                 changed.push(self.piece(alloc, piece)?)?;
             }
         }
+        Ok(())
+    }
+
+    /// What becomes of all pieces.
+    fn pieces(&mut self, alloc: Global, pieces: &[Frame]) -> Result<Vec<Frame>, Memory> {
+        let mut changed = Vec::new(alloc);
+        self.add_pieces(alloc, &mut changed, pieces)?;
         Ok(changed)
     }
 }

@@ -43,12 +43,11 @@ fn turn(crew: &mut Crew<Replaying>, hart: Hart) -> Tick {
     }
 }
 
-/// Takes the next step of a hart that is lent. Says which pages it asked for.
-fn uses_of(crew: &mut Crew<Replaying>, alloc: Global, hart: Hart) -> Result<Vec<Use>, Memory> {
-    let mut uses = Vec::new(alloc);
+/// Takes the next step of a hart that is lent, and adds which pages it asked for.
+fn add_uses(crew: &mut Crew<Replaying>, uses: &mut Vec<Use>, hart: Hart) -> Result<(), Memory> {
     for _turn in 0..8 {
         match turn(crew, hart) {
-            Tick::Done => return Ok(uses),
+            Tick::Done => return Ok(()),
             Tick::Miss(page, want) => {
                 uses.push((page, want))?;
                 if crew.ask(hart, page, want).is_err() {
@@ -123,7 +122,8 @@ fn take(
         Err(_) => return Ok(()),
     }
     let count = crew.book.counts().count_of(hart);
-    let uses = uses_of(crew, alloc, hart)?;
+    let mut uses = Vec::new(alloc);
+    add_uses(crew, &mut uses, hart)?;
     if crew.settle(hart, Keep::Nothing).is_err() {
         return Err(Memory);
     }
@@ -137,17 +137,32 @@ fn take(
     Ok(steps.push(step)?)
 }
 
-/// Takes a step of each hart in turn, the greatest first, again and again until none may go on.
-fn run(crew: &mut Crew<Replaying>, alloc: Global, leg: &PlannedLeg) -> Result<Vec<Taken>, Memory> {
-    let mut steps = Vec::new(alloc);
+/// Takes a step of each hart in turn, the greatest first.
+fn take_each(
+    crew: &mut Crew<Replaying>,
+    alloc: Global,
+    leg: &PlannedLeg,
+    steps: &mut Vec<Taken>,
+) -> Result<(), Memory> {
+    for number in 0..HART_LIMIT {
+        let last = HART_LIMIT - 1 - number;
+        take(crew, alloc, leg, steps, hart(last))?;
+    }
+    Ok(())
+}
+
+/// Takes a step of each again and again until none may go on.
+fn run(
+    crew: &mut Crew<Replaying>,
+    alloc: Global,
+    leg: &PlannedLeg,
+    steps: &mut Vec<Taken>,
+) -> Result<(), Memory> {
     for _round in 0..1000 {
         let taken = steps.len();
-        for number in 0..HART_LIMIT {
-            let last = HART_LIMIT - 1 - number;
-            take(crew, alloc, leg, &mut steps, hart(last))?;
-        }
+        take_each(crew, alloc, leg, steps)?;
         if steps.len() == taken {
-            return Ok(steps);
+            return Ok(());
         }
     }
     Err(Memory)
@@ -174,20 +189,25 @@ fn add_conflicts(pairs: &mut Vec<Pair>, one: &Taken, other: &Taken) -> Result<()
     Ok(())
 }
 
-/// The pairs among the steps of a run.
-fn pairs_of(alloc: Global, steps: &[Taken]) -> Result<Vec<Pair>, Memory> {
-    let mut pairs = Vec::new(alloc);
-    for later in steps {
-        let mut place = 0usize;
-        for earlier in steps {
-            let is_earlier = place < later.before.len();
-            if is_earlier && earlier.hart != later.hart && !is_before(&later.before, place) {
-                add_conflicts(&mut pairs, earlier, later)?;
-            }
-            place = place.saturating_add(1);
+/// Adds the pairs of a step with those among these that it follows, and that nothing puts before it.
+fn add_pairs(pairs: &mut Vec<Pair>, steps: &[Taken], later: &Taken) -> Result<(), Memory> {
+    let mut place = 0usize;
+    for earlier in steps {
+        let is_earlier = place < later.before.len();
+        if is_earlier && earlier.hart != later.hart && !is_before(&later.before, place) {
+            add_conflicts(pairs, earlier, later)?;
         }
+        place = place.saturating_add(1);
     }
-    Ok(pairs)
+    Ok(())
+}
+
+/// Adds the pairs among the steps of a run.
+fn add_all_pairs(pairs: &mut Vec<Pair>, steps: &[Taken]) -> Result<(), Memory> {
+    for later in steps {
+        add_pairs(pairs, steps, later)?;
+    }
+    Ok(())
 }
 
 /// A crew over a book that obeys a leg from boot.
@@ -209,8 +229,11 @@ fn pairs_run(
     alloc: Global,
     leg: &PlannedLeg,
 ) -> Result<Vec<Pair>, Memory> {
-    let steps = run(crew, alloc, leg)?;
-    pairs_of(alloc, &steps)
+    let mut steps = Vec::new(alloc);
+    run(crew, alloc, leg, &mut steps)?;
+    let mut pairs = Vec::new(alloc);
+    add_all_pairs(&mut pairs, &steps)?;
+    Ok(pairs)
 }
 
 /// What the leg comes to from boot.

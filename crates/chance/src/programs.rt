@@ -99,13 +99,12 @@ fn put(sinks: &mut [MemorySink], frame: &Frame, dice: &mut Dice) -> Result<(), F
     }
 }
 
-/// So many streams, without frames yet.
-fn empty_streams(alloc: Global, streams: u8) -> Result<Vec<MemorySink>, Fail> {
-    let mut sinks = Vec::new(alloc);
+/// Adds so many streams, without frames yet.
+fn add_streams(alloc: Global, sinks: &mut Vec<MemorySink>, streams: u8) -> Result<(), Memory> {
     for _stream in 0..streams {
         sinks.push(MemorySink::new(alloc, 1 << 20))?;
     }
-    Ok(sinks)
+    Ok(())
 }
 
 /// Writes as many frames as there are, any of them, to any of the streams.
@@ -132,12 +131,15 @@ fn scatter_all(sinks: &mut [MemorySink], frames: &[Frame], dice: &mut Dice) -> R
     scatter_each(sinks, frames, dice)
 }
 
-fn readers_of(alloc: Global, sinks: &[MemorySink]) -> Result<Vec<MemorySource>, Fail> {
-    let mut readers = Vec::new(alloc);
+fn add_readers(
+    alloc: Global,
+    readers: &mut Vec<MemorySource>,
+    sinks: &[MemorySink],
+) -> Result<(), Memory> {
     for sink in sinks {
         readers.push(MemorySource::new(sink.bytes().to_vec(alloc)?))?;
     }
-    Ok(readers)
+    Ok(())
 }
 
 /// Each frame in one stream or several, once or more often, in any order.
@@ -147,9 +149,12 @@ fn shuffled(
     streams: u8,
     dice: &mut Dice,
 ) -> Result<Vec<MemorySource>, Fail> {
-    let mut sinks = empty_streams(alloc, streams)?;
+    let mut sinks = Vec::new(alloc);
+    add_streams(alloc, &mut sinks, streams)?;
     scatter_all(&mut sinks, frames, dice)?;
-    readers_of(alloc, &sinks)
+    let mut readers = Vec::new(alloc);
+    add_readers(alloc, &mut readers, &sinks)?;
+    Ok(readers)
 }
 
 /// How many records the frames have.

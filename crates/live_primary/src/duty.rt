@@ -243,20 +243,19 @@ impl Helm {
         Ok(helm)
     }
 
-    /// Whether there is something to do for the thread that leads.
+    /// Whether only waiting is left for the thread that leads.
+    fn waits(&self) -> bool {
+        matches!(self.duty.next, Next::Wait)
+    }
+
+    /// Whether there is something to do for the thread that leads: its end, too.
     pub(crate) fn calls(&self) -> bool {
-        match self.duty.next {
-            Next::Wait => self.duty.open == 0,
-            _ => true,
-        }
+        !self.waits() || self.is_over()
     }
 
     /// Whether all inputs are at their end, and only waiting is left.
     pub(crate) fn is_over(&self) -> bool {
-        match self.duty.next {
-            Next::Wait => self.duty.open == 0,
-            _ => false,
-        }
+        self.waits() && self.duty.open == 0
     }
 }
 

@@ -47,15 +47,21 @@ fn is_whole(alloc: Global) -> Result<bool, Memory> {
     )
 }
 
+/// Adds the lines of so many words, less one: of a jump, and of noughts.
+fn add_words(file: &mut Vec<u8>, words: u64) -> Result<(), Memory> {
+    file.extend_from_slice(b"0000006f\n")?;
+    for _word in 2..words {
+        file.extend_from_slice(b"00000000\n")?;
+    }
+    Ok(())
+}
+
 /// A file by the number of its words, of which the first is a jump, its last word and its first lines, with semicolons for line feeds.
 fn long_file(alloc: Global, told: &str) -> Result<Vec<u8>, Memory> {
     let (words, behind) = word(told);
     let (last, head) = word(behind);
     let mut file = with_line_feeds(alloc, head)?;
-    file.extend_from_slice(b"0000006f\n")?;
-    for _word in 2..number(words) {
-        file.extend_from_slice(b"00000000\n")?;
-    }
+    add_words(&mut file, number(words))?;
     file.extend_from_slice(with_line_feeds(alloc, last)?.as_slice())?;
     Ok(file)
 }

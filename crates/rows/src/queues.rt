@@ -123,13 +123,19 @@ fn asks(talk: &mut Talk, answer: &str) -> bool {
     }
 }
 
-/// Whether a client asks again for this, each with a semicolon.
-fn asks_again(alloc: Global, talk: &Talk, answer: &str) -> Result<bool, Memory> {
-    let mut texts = Vec::new(alloc);
-    for request in talk.ask_again(alloc)?.as_slice() {
+/// Adds the lines of requests, each with a semicolon.
+fn add_requests(texts: &mut Vec<u8>, requests: &[Request]) -> Result<(), Memory> {
+    for request in requests {
         texts.extend_from_slice(text_of(&request_line(request)))?;
         texts.push(b';')?;
     }
+    Ok(())
+}
+
+/// Whether a client asks again for this.
+fn asks_again(alloc: Global, talk: &Talk, answer: &str) -> Result<bool, Memory> {
+    let mut texts = Vec::new(alloc);
+    add_requests(&mut texts, talk.ask_again(alloc)?.as_slice())?;
     Ok(texts.as_slice() == answer.as_bytes())
 }
 

@@ -14,9 +14,8 @@ fn count(text: &str) -> u64 {
     }
 }
 
-/// The harts of a machine, each by its count and its value, at most eight.
-fn harts(alloc: Global, told: &str) -> Result<Vec<Counter>, Memory> {
-    let mut harts = Vec::new(alloc);
+/// Adds the harts of a machine, each by its count and its value, at most eight.
+fn add_harts(harts: &mut Vec<Counter>, told: &str) -> Result<(), Memory> {
     let mut rest = told;
     for _ in 0..8 {
         if !rest.is_empty() {
@@ -29,12 +28,11 @@ fn harts(alloc: Global, told: &str) -> Result<Vec<Counter>, Memory> {
             rest = behind;
         }
     }
-    Ok(harts)
+    Ok(())
 }
 
-/// Its pages, at most eight.
-fn pages(alloc: Global, told: &str) -> Result<Vec<u64>, Memory> {
-    let mut pages = Vec::new(alloc);
+/// Adds its pages, at most eight.
+fn add_pages(pages: &mut Vec<u64>, told: &str) -> Result<(), Memory> {
     let mut rest = told;
     for _ in 0..8 {
         if !rest.is_empty() {
@@ -43,16 +41,17 @@ fn pages(alloc: Global, told: &str) -> Result<Vec<u64>, Memory> {
             rest = behind;
         }
     }
-    Ok(pages)
+    Ok(())
 }
 
 /// A machine: its harts, a slash, and its pages.
 fn machine(alloc: Global, told: &str) -> Result<Counters, Memory> {
     let (own, shared) = parts(told, '/');
-    Ok(Counters {
-        harts: harts(alloc, own)?,
-        pages: pages(alloc, shared)?,
-    })
+    let mut harts = Vec::new(alloc);
+    add_harts(&mut harts, own)?;
+    let mut pages = Vec::new(alloc);
+    add_pages(&mut pages, shared)?;
+    Ok(Counters { harts, pages })
 }
 
 fn small(text: &str) -> usize {
@@ -72,9 +71,8 @@ fn turn(text: &str) -> (Turn, &str) {
     (Turn { hart, act }, behind)
 }
 
-/// Turns, at most eight.
-fn turns(alloc: Global, told: &str) -> Result<Vec<Turn>, Memory> {
-    let mut turns = Vec::new(alloc);
+/// Adds turns, at most eight.
+fn add_turns(turns: &mut Vec<Turn>, told: &str) -> Result<(), Memory> {
     let mut rest = told;
     for _ in 0..8 {
         if !rest.is_empty() {
@@ -83,14 +81,15 @@ fn turns(alloc: Global, told: &str) -> Result<Vec<Turn>, Memory> {
             rest = behind;
         }
     }
-    Ok(turns)
+    Ok(())
 }
 
 /// Whether these turns lead from a machine to another: to none where one of them cannot be taken.
 fn lead(alloc: Global, told: &str, wanted: &str) -> Result<bool, Memory> {
     let (start, taken) = parts(told, ':');
-    let taken = turns(alloc, taken)?;
-    match machine(alloc, start)?.run(taken.as_slice()) {
+    let mut turns = Vec::new(alloc);
+    add_turns(&mut turns, taken)?;
+    match machine(alloc, start)?.run(turns.as_slice()) {
         Some(ended) => Ok(wanted != "none" && ended == machine(alloc, wanted)?),
         None => Ok(wanted == "none"),
     }
