@@ -6,6 +6,8 @@ mod chances;
 #[cfg(test)]
 mod decisions;
 #[cfg(test)]
+mod deeds;
+#[cfg(test)]
 mod followers;
 #[cfg(test)]
 mod overseers;
@@ -17,5 +19,7 @@ mod refused;
 mod runs;
 #[cfg(test)]
 mod turnstiles;
+#[cfg(test)]
+mod virtual_time;
 #[cfg(test)]
 mod waiting;
