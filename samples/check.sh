@@ -178,6 +178,15 @@ else
     echo "left out benches/refusals, since a C compiler, python3 or /dev/shm is not there"
 fi
 
+# A hundred guests whose instructions fall by chance, recorded, replayed and taken step by step; five by a program of `rt try`.
+if ! command -v python3 > /dev/null || [ ! -d /dev/shm ]; then
+    echo "left out benches/programs, since python3 or /dev/shm is not there"
+elif sh "$top/benches/programs/measure.sh" "$program" "$([ -n "${TRIED:-}" ] && echo 5 || echo 100)" > "$work/differ" 2>&1; then
+    pass
+else
+    fail "guests whose instructions fall by chance" < "$work/differ"
+fi
+
 # Three keepers over FIFOs: one is killed and begins again, two hand their logs over behind a fence, in some twenty seconds. Then primaries and clients
 # too: primaries are killed and paused.
 if [ ! -x "$live" ]; then
