@@ -101,7 +101,10 @@ def words_of(chance, length):
     if kind == 18:
         return [i_type(inside() + chance.choice([0, 0, 0, 2]), CODE, 0, chance.choice([0, 5]), 0x67)]  # JALR, sometimes to half a word
     if kind == 19:
-        return [i_type(inside(), CODE, 2, 6, 0x03), s_type(inside(), 6, CODE, 2)]  # a word of the body, stored over another one
+        taken = i_type(inside(), CODE, 2, 6, 0x03)  # a word of the body, stored or exchanged for another one
+        if chance.randrange(2):
+            return [taken, s_type(inside(), 6, CODE, 2)]
+        return [taken, i_type(inside(), CODE, 0, 7, 0x13), r_type(4, 6, 7, 2, to, 0x2F)]
     if kind == 20:
         return [s_type(inside(), free(), CODE, chance.choice([0, 1, 2]))]  # what a register has, stored over a word of the body
     if kind == 21:
