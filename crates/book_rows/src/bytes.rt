@@ -3,7 +3,7 @@
 
 use fixtures::{edge, guest_with, key, piece_of};
 use fragment_codec::{Feed, Frame, FrameFault, Record, write_frame};
-use ft_types::{Failed, Memory, MemorySink};
+use ft_types::{Failed, MemorySink};
 use std::alloc::Global;
 use std::test::Fail;
 
@@ -151,25 +151,20 @@ fn write_whole(alloc: Global, frame: &Frame) -> Result<MemorySink, Failed> {
     Ok(sink)
 }
 
-/// Adds 256 edges.
-fn add_edges(records: &mut Vec<Record>) -> Result<(), Memory> {
+/// The bytes of the frame of 256 edges.
+fn largest(alloc: Global) -> Result<MemorySink, Fail> {
+    let mut records = Vec::new(alloc);
     for at in 0..256u64 {
         records.push(Record::Edge(edge(0, at, 1, 9)))?;
     }
-    Ok(())
-}
-
-/// The frame of 256 edges.
-fn largest_frame(alloc: Global) -> Result<Frame, Fail> {
-    let mut records = Vec::new(alloc);
-    add_edges(&mut records)?;
-    let guest = guest_with([7; 32], 2);
-    piece_of(alloc, guest, key(1, 0, 0), 0, 256, &records)
-}
-
-/// Its bytes.
-fn largest(alloc: Global) -> Result<MemorySink, Fail> {
-    let frame = largest_frame(alloc)?;
+    let frame = piece_of(
+        alloc,
+        guest_with([7; 32], 2),
+        key(1, 0, 0),
+        0,
+        256,
+        &records,
+    )?;
     match write_whole(alloc, &frame) {
         Ok(sink) => Ok(sink),
         Err(Failed) => Ok(write_whole(alloc, &frame)?),

@@ -48,18 +48,12 @@ fn record_of(number: u8, fact: &Fact) -> Record {
     }
 }
 
-/// Adds the records of a hart's piece.
-fn add_records(records: &mut Vec<Record>, number: u8, facts: &[Fact]) -> Result<(), Memory> {
-    for fact in facts {
-        records.push(record_of(number, fact))?;
-    }
-    Ok(())
-}
-
 /// The records of a hart's piece.
 pub fn records_of(alloc: Global, number: u8, facts: &[Fact]) -> Result<Vec<Record>, Memory> {
     let mut records = Vec::new(alloc);
-    add_records(&mut records, number, facts)?;
+    for fact in facts {
+        records.push(record_of(number, fact))?;
+    }
     Ok(records)
 }
 
