@@ -37,22 +37,18 @@ pub fn guest_of(harts: u8) -> Guest {
     guest_with([7; 32], harts)
 }
 
-/// The record of a hart's piece that says this.
-fn record_of(number: u8, fact: &Fact) -> Record {
-    match *fact {
-        Fact::Edge(at, other, after) => Record::Edge(edge(number, at, other, after)),
-        Fact::Timer(at) => Record::Input(at, Input::Timer),
-        Fact::Word(at, word) => Record::Input(at, Input::Word(word)),
-        Fact::Bell(at, source) => Record::Input(at, Input::Bell(hart(source))),
-        Fact::Note(at, number) => Record::Note(at, number),
-    }
-}
-
 /// The records of a hart's piece.
 pub fn records_of(alloc: Global, number: u8, facts: &[Fact]) -> Result<Vec<Record>, Memory> {
     let mut records = Vec::new(alloc);
     for fact in facts {
-        records.push(record_of(number, fact))?;
+        let record = match *fact {
+            Fact::Edge(at, other, after) => Record::Edge(edge(number, at, other, after)),
+            Fact::Timer(at) => Record::Input(at, Input::Timer),
+            Fact::Word(at, word) => Record::Input(at, Input::Word(word)),
+            Fact::Bell(at, source) => Record::Input(at, Input::Bell(hart(source))),
+            Fact::Note(at, number) => Record::Note(at, number),
+        };
+        records.push(record)?;
     }
     Ok(records)
 }
