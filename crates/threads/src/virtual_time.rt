@@ -13,7 +13,7 @@ const SEEDS: u64 = 200;
 /// So many visits no guest takes.
 const VISITS: u32 = 20_000;
 
-/// Guests, with the most steps that a hart of theirs may take: three times what it needs in turn.
+/// Guests, with the most steps that a hart of theirs may take: three times what it needs in turn, where a hart that waits takes one lease of 1,024 steps a round.
 static GUESTS: [Guest; 8] = [
     // Each works for itself.
     Guest {
@@ -37,7 +37,7 @@ static GUESTS: [Guest; 8] = [
         rounds: 30,
         first: [Deed::MyTurn(0), Deed::Add(0), Deed::Nothing],
         others: [Deed::MyTurn(0), Deed::Add(0), Deed::Nothing],
-        budget: 300_000,
+        budget: 90_000,
     },
     // Meet again and again.
     Guest {
@@ -45,7 +45,7 @@ static GUESTS: [Guest; 8] = [
         rounds: 30,
         first: [Deed::Work(50), Deed::Add(0), Deed::All(0)],
         others: [Deed::Work(50), Deed::Add(0), Deed::All(0)],
-        budget: 300_000,
+        budget: 90_000,
     },
     // Look at a word until the first has written it.
     Guest {
@@ -61,7 +61,7 @@ static GUESTS: [Guest; 8] = [
         rounds: 10,
         first: [Deed::Add(0), Deed::Ring, Deed::Hear],
         others: [Deed::Hear, Deed::Add(0), Deed::Ring],
-        budget: 300_000,
+        budget: 30_000,
     },
     // The first seems to wait while it works, and the second waits for it.
     Guest {
@@ -77,7 +77,7 @@ static GUESTS: [Guest; 8] = [
         rounds: 12,
         first: [Deed::Alike(1_000), Deed::Add(0), Deed::Nothing],
         others: [Deed::Add(1), Deed::Next(0), Deed::Nothing],
-        budget: 72_000,
+        budget: 36_000,
     },
 ];
 
