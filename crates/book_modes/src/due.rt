@@ -1,15 +1,17 @@
 //! What a hart's next step is given.
 
-ghost use Rattle.std.specs.Prelude.{◌≡◌, ◌≤◌, ◌<◌, ℕ, length, true};
+ghost use Rattle.std.specs.Prelude.{◌≡◌, ◌≤◌, ◌<◌, ℕ, length, replicate, true};
 ghost use Rattle.book_modes.specs.machinery.Words.{HasRoomFor, lent_with, small_vec_len};
-ghost use Rattle.book_modes.specs.Dues.{DueView, nothing_due, bell_edges, is_silent};
+ghost use Rattle.book_modes.specs.Dues.{DueView, nothing_due, bell_edges, is_silent, stop_before};
+ghost use Rattle.ft_types.specs.declared.names.TheConstants.{HART_ROW};
 
 use edge_log::Edge;
-use ft_types::{Count, Hart, INPUT_LIMIT};
+use ft_types::{Count, HART_ROW, Hart, INPUT_LIMIT};
 use hart_lease::{EDGE_ROOM, Lent};
 use input_log::{Input, WaitingBell};
 use smallvec::SmallVec;
 use std::alloc::Global;
+use std::array;
 use std::marker::Model;
 
 /// What a hart's next step is given, until it is settled: its inputs, and the edges from the harts whose bells it hears:
@@ -144,5 +146,34 @@ impl Due {
     {
         let Due { inputs, edges } = self;
         Lent::new(stop, inputs, edges)
+    }
+}
+
+/// Nothing, for each hart.
+pub(crate) fn nothing_due(alloc: Global) -> [Due; HART_ROW]
+    ensures { result ≡ replicate HART_ROW nothing_due }
+{
+    array::from_fn(|_| Due::nothing(alloc))
+}
+
+/// The same, for each hart.
+pub(crate) fn dues_copied(alloc: Global, due: &[Due; HART_ROW]) -> [Due; HART_ROW]
+    ensures { result ≡ due.now }
+{
+    let mut copied = nothing_due(alloc);
+    for hart in 0..HART_ROW {
+        copied[hart] = due[hart].copy(alloc);
+    }
+    copied
+}
+
+/// How far a hart at this count goes, where the next of what waits for it may be given at this other count.
+pub(crate) fn stop_before(limit: Count, count: Count, next: Option<Count>) -> Count
+    requires { count < limit }
+    ensures { result ≡ stop_before limit count next }
+{
+    match next {
+        None => limit,
+        Some(next) => limit.min(next.max(count + 1)),
     }
 }

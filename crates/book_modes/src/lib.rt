@@ -5,6 +5,7 @@ mod due;
 mod keep;
 mod mode;
 mod recording;
+mod rights;
 mod settled;
 mod unheard;
 mod yielding;

@@ -1,11 +1,7 @@
 //! Books that record: who has which right to each page, and the edges found.
 
-ghost use Rattle.std.specs.Prelude.{◌≡◌, ◌<◌, ◌≤◌, ◌^◌, ◌↔◌, ◌+◌, ℕ, All, AllPairs, Contains, List, [], map, length, slice_index, slice_get, Some, IsTrue};
-ghost use Rattle.std.specs.Prelude.{IfOk, OnOk, OnErr, true, false, replicate, None, IsOk};
-ghost use Rattle.book_modes.specs.machinery.Words.{count_at, counts_of, edge_as, but_bells, give_up, given, greater, has_taken, holds, inputs_of, is_bell, IsFree, IsInputOf};
-ghost use Rattle.book_modes.specs.machinery.Words.{IsMember, IsOwed, kept, owns, Queues, unused, whole};
-ghost use Rattle.crew_pages.specs.Rights.{right_of};
-ghost use Rattle.edge_log.specs.declared.Edge.{Edge as edge_found};
+ghost use Rattle.std.specs.Prelude.{◌≡◌, ◌<◌, ◌≤◌, ◌↔◌, ◌+◌, ℕ, All, List, [], length, slice_get, Some, IsTrue, IfOk, OnOk, OnErr, true, false, None, IsOk};
+ghost use Rattle.book_modes.specs.machinery.Words.{but_bells, give_up, greater, inputs_of, is_bell, IsInputOf, IsMember, kept, Queues, unused, whole};
 ghost use Rattle.input_log.specs.declared.Input.{Input as input_of_specs};
 ghost use Rattle.input_log.specs.declared.WaitingBell.{WaitingBell as bell_of_specs};
 ghost use Rattle.book_modes.specs.Modes.{IsSettling};
@@ -13,28 +9,29 @@ ghost use Rattle.input_log.specs.Waiting.{bells_of, next_going, others_of};
 ghost use Rattle.book_modes.specs.Dues.{nothing_due, due_at, is_silent, stop_before};
 ghost use Rattle.rv32_hart.specs.Hart.{Hart as HartRecord};
 ghost use Rattle.book_modes.specs.Recordings.{RecordingView, IsUnused, IsRecorded, heard_by, IsFilled, GoesOut, IsOffered, LogsInputs, due_after, AreLogged};
-ghost use Rattle.book_modes.specs.Recordings.{PutsBell, IsFrom, IsTaker, AreOwed, IsGiven, IsSettled, IsEnded, keep_as, right_at, right_met};
-ghost use Rattle.book_modes.specs.Recordings.{GoesOn, HasRows, IsNoting, HasRoomed, KeepsInputs, offers_at};
+ghost use Rattle.book_modes.specs.Recordings.{PutsBell, IsFrom, IsTaker, AreOwed, IsGiven, IsSettled, IsEnded, keep_as, right_at, GoesOn, HasRows, IsNoting};
+ghost use Rattle.book_modes.specs.Recordings.{HasRoomed, KeepsInputs, offers_at};
 ghost use Rattle.input_log.specs.Notes.{notes_of, HasRoom};
 ghost use Rattle.ft_types.specs.declared.names.TheConstants.{HART_ROW};
 
-use crate::due::Due;
+use crate::due::{Due, dues_copied, nothing_due, stop_before};
 use crate::keep::Keep;
 use crate::mode::Mode;
+use crate::rights::{keep_right, rights_copied, takes, unused_rights};
 use crate::settled::settled_counts;
 use crate::unheard::desk_of;
 use crate::yielding::{is_at_hand, yield_right};
 use crew_pages::PageRight;
 use edge_log::{Edge, EdgeLog};
-use ft_types::{COUNT_LIMIT, Count, Counts, HART_LIMIT, HART_ROW, Hart, HartSet, Memory, PageNo};
+use ft_types::{Count, Counts, HART_LIMIT, HART_ROW, Hart, HartSet, Memory};
 use guest_image::Machine;
 use hart_lease::{Asked, Lease, Lent, OpenLease, Taken};
 use input_log::{Desk, Input, InputLog, Note, NoteLog, Offered, WaitingBell};
 use smallvec::SmallVec;
 use std::alloc::Global;
 use std::marker::Model;
+use std::mem;
 use std::option::Option;
-use std::{array, mem};
 
 /// The log is written.
 pub struct Recording {
@@ -71,82 +68,11 @@ impl Model for Recording {
     ghost view = { λ r. record { limits = r.limits; rights = r.rights.items; edges = r.edges.value; inputs = r.inputs.value; notes = r.notes; due = r.due.value; desk = r.desk.value } };
 }
 
-fn unused_rights(alloc: Global, pages: u16) -> Result<Vec<PageRight>, Memory>
-    ensures many { IfOk result (λ rights. length rights.items ≡ pages) }
-    ensures each { IfOk result (λ rights. (page : ℕ) → page < pages → right_at rights.items page ≡ unused) }
-{
-    let mut rights = Vec::new(alloc);
-    rights.resize(pages as usize, PageRight::new())?;
-    Ok(rights)
-}
-
-fn nothing_due(alloc: Global) -> [Due; HART_ROW]
-    ensures { result ≡ replicate HART_ROW nothing_due }
-{
-    array::from_fn(|_| Due::nothing(alloc))
-}
-
 /// A value in memory of its own, so that a book is small where it goes from hand to hand.
 fn boxed<T: Drop>(alloc: Global, value: T) -> Result<Box<T>, Memory>
     ensures { IfOk result (λ own. own.value ≡ value) }
 {
     Ok(Box::new(alloc, value)?)
-}
-
-fn rights_copied(rights: &Vec<PageRight>) -> Result<Vec<PageRight>, Memory>
-    ensures { IfOk result (λ copied. copied.items ≡ rights.now.items) }
-{
-    Ok(rights.clone()?)
-}
-
-fn dues_copied(alloc: Global, due: &[Due; HART_ROW]) -> [Due; HART_ROW]
-    ensures { result ≡ due.now }
-{
-    let mut copied = nothing_due(alloc);
-    for hart in 0..HART_ROW {
-        copied[hart] = due[hart].copy(alloc);
-    }
-    copied
-}
-
-/// How far a hart at this count goes, where the next of what waits for it may be given at this other count.
-fn stop_before(limit: Count, count: Count, next: Option<Count>) -> Count
-    requires { count < limit }
-    ensures { result ≡ stop_before limit count next }
-{
-    match next {
-        None => limit,
-        Some(next) => limit.min(next.max(count + 1)),
-    }
-}
-
-/// Whether an open lease has taken the page.
-fn takes(lease: &Option<OpenLease>, page: PageNo) -> bool
-    ensures { result ≡ has_taken lease.now page }
-{
-    match lease {
-        None => false,
-        Some(open) => open.right(page).is_some(),
-    }
-}
-
-/// The hart keeps what it is told of a right, at its present count.
-fn keep_right(right: &mut PageRight, hart: Hart, count: Count, keep: Keep)
-    ensures { right_of right.new ≡ kept (keep_as keep) (right_of right.old) hart count }
-{
-    match keep {
-        Keep::All => {}
-        Keep::Readable => {
-            if right.owns(hart) {
-                right.lower(hart, count);
-            }
-        }
-        Keep::Nothing => {
-            if right.holds(hart) {
-                right.give_up(hart, count);
-            }
-        }
-    }
 }
 
 impl Recording {

@@ -3,6 +3,7 @@
 
 mod alike;
 mod asked;
+mod given_pages;
 mod laws;
 mod lease;
 mod lease_pages;

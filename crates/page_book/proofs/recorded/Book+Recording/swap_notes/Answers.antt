@@ -4,7 +4,7 @@ use Rattle.hart_lease.specs.Runs.{counts_of}
 use Rattle.book_modes.specs.Recordings.{RecordingView}
 use Rattle.page_book.specs.Books.{BookView}
 use Rattle.page_book.proofs.Kept.{renoted_book}
-use Rattle.page_book.proofs.book.Book+Recording.swap_notes.Goals as goal
+use Rattle.page_book.proofs.recorded.Book+Recording.swap_notes.Goals as goal
 
 pub invariant_of-self : goal.invariant_of-self
 invariant_of-self c =

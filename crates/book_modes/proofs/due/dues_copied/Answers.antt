@@ -1,7 +1,7 @@
 use Rattle.std.proofs.Common.{rules, arith, length, length-set, ◌≡◌, ◌<◌, ◌∙◌, sym}
 use Rattle.ft_types.proofs.Zips.{all_equal}
 use Rattle.book_modes.proofs.Copies.{one_copied}
-use Rattle.book_modes.proofs.recording.dues_copied.Goals as goal
+use Rattle.book_modes.proofs.due.dues_copied.Goals as goal
 
 pub loop-hart-preserved : goal.loop-hart-preserved
 loop-hart-preserved c =

@@ -1,4 +1,4 @@
-use Rattle.page_book.proofs.book.Book+Recording.notes.Goals as goal
+use Rattle.page_book.proofs.recorded.Book+Recording.notes.Goals as goal
 
 pub returns-clause-within : goal.returns-clause-within
 returns-clause-within c hart = rw (c.notes.ensures, ← c.self.view_is) (c.self.invariant.keeps.noted hart)

@@ -8,7 +8,7 @@ use Rattle.hart_lease.specs.Runs.{counts_of}
 use Rattle.page_book.specs.Books.{IsBook}
 use Rattle.book_modes.specs.Recordings.{RecordingView, IsNoting, IsRecorded, heard_by}
 use Rattle.page_book.proofs.Kept.{noting_book}
-use Rattle.page_book.proofs.book.Book+Recording.note_released.Goals as goal
+use Rattle.page_book.proofs.recorded.Book+Recording.note_released.Goals as goal
 
 module _ (start m : MachineState) (journal : List Stretch) (leases : List (Option OpenView)) where
   abbrev Keeps : RecordingView → Type 0

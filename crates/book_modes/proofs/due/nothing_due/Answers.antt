@@ -2,7 +2,7 @@ use Rattle.std.proofs.Common.{rules, arith}
 use Rattle.ft_types.specs.declared.names.TheConstants.{HART_ROW}
 use Rattle.ft_types.proofs.Zips.{all_alike}
 use Rattle.book_modes.specs.Dues.{nothing_due}
-use Rattle.book_modes.proofs.recording.nothing_due.Goals as goal
+use Rattle.book_modes.proofs.due.nothing_due.Goals as goal
 
 pub returns : goal.returns
 returns c =

@@ -5,7 +5,7 @@ use Rattle.book_modes.specs.Recordings.{RecordingView, heard_by}
 use Rattle.book_modes.proofs.ledger.Honesty.{raised_kept}
 use Rattle.page_book.specs.Books.{BookView}
 use Rattle.page_book.proofs.Lowering.{limits_set}
-use Rattle.page_book.proofs.book.Book+Recording.limit_at.Goals as goal
+use Rattle.page_book.proofs.recorded.Book+Recording.limit_at.Goals as goal
 
 pub limit_at-requires : goal.limit_at-requires
 limit_at-requires c = let p = c.self.invariant in rw (← c.self.view_is) at c.requires.harts ∙ sym (p.keeps.limits ∙ sym p.harts)

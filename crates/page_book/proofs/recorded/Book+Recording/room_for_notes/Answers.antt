@@ -1,5 +1,5 @@
 use Rattle.page_book.proofs.Kept.{roomed_book}
-use Rattle.page_book.proofs.book.Book+Recording.room_for_notes.Goals as goal
+use Rattle.page_book.proofs.recorded.Book+Recording.room_for_notes.Goals as goal
 
 pub invariant_of-self : goal.invariant_of-self
 invariant_of-self c =

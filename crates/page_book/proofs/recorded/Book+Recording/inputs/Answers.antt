@@ -1,5 +1,5 @@
 use Rattle.book_modes.proofs.ledger.Honesty.{logged_within}
-use Rattle.page_book.proofs.book.Book+Recording.inputs.Goals as goal
+use Rattle.page_book.proofs.recorded.Book+Recording.inputs.Goals as goal
 
 pub returns-clause-within : goal.returns-clause-within
 returns-clause-within c hart =
