@@ -307,6 +307,7 @@ fn read_rest(
     }
 }
 
+/// A piece of a hart's log, from the body of a frame of this version, behind its head and before its digest. `Broken` where it is none, `Memory` where there is no room for it.
 #[tactic(auto, unfolding(crate::specs::machinery::Reading::log_of))]
 pub fn read_log(alloc: Global, version: u8, body: &[u8]) -> Result<Fragment, BodyError>
     ensures { Makes IsFragment result (log_of version body.now) }
@@ -330,6 +331,7 @@ fn make_opening(guest: Guest, term: Term, parent: Term, base: &[u64]) -> Result<
     }
 }
 
+/// A term's opening, from such a body. `Broken` where it is none.
 #[tactic(auto, unfolding(crate::specs::machinery::Reading::opening_of))]
 pub fn read_opening(version: u8, body: &[u8]) -> Result<Opening, BodyError>
     ensures { Makes IsOpening result (opening_of version body.now) }

@@ -57,6 +57,7 @@ impl Content {
         }
     }
 
+    /// Whether it is unequal frames.
     pub fn is_clash(&self) -> bool
         ensures { result ≡ clashes self.now }
     {

@@ -12,6 +12,7 @@ ghost use Rattle.interleaving.specs.Examples.{PartsOfHonesty, EndsAlike, StartMa
 ghost use Rattle.interleaving.specs.AsItWas.{HartAsItWas, HartWasThere};
 ghost use Rattle.interleaving.specs.AsItWas.{PageAsItWas, PageUnwritten, PageHasWriter};
 
+/// Harts that count, as an example.
 pub mod counters;
 
 /// A replay of an honest log to a closed cut runs, never gets stuck, and ends where the log's interleaving was.

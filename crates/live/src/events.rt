@@ -18,8 +18,10 @@ pub enum Event {
     Failed(Fault),
 }
 
+/// Where whoever reads or waits puts its events.
 pub type Sender = crossbeam_channel::Sender<Event, Global>;
 
+/// Where a process takes its events, one after the other.
 pub type Receiver = crossbeam_channel::Receiver<Event, Global>;
 
 /// Whoever takes the events is gone.

@@ -3,6 +3,7 @@
 use ends::{Fault, Frames, FramesFault, NamedFile};
 use stations::{FenceFault, FilesFault, LogFault};
 
+/// As it is told that a file could not be read or written, or that memory is wanting.
 pub fn files_fault(fault: FilesFault) -> Fault {
     match fault {
         FilesFault::Log => Fault::File(NamedFile::Log),
@@ -11,6 +12,7 @@ pub fn files_fault(fault: FilesFault) -> Fault {
     }
 }
 
+/// As it is told what is wrong with a log.
 pub fn log_fault(fault: LogFault) -> Fault {
     let fault = match fault {
         LogFault::Files(fault) => return files_fault(fault),
@@ -21,6 +23,7 @@ pub fn log_fault(fault: LogFault) -> Fault {
     Fault::Frames(Frames::Log, fault)
 }
 
+/// As it is told that a keeper may not promise a term.
 pub fn fence_fault(fault: FenceFault) -> Fault {
     match fault {
         FenceFault::Files(fault) => files_fault(fault),
