@@ -8,7 +8,7 @@ use ft_types::Memory;
 use std::alloc::{AllocError, Global};
 use std::fs::File;
 use std::io::Write;
-use std::sync::{Arc, Wait};
+use std::sync::{Arc, Mutex, Wait};
 use std::thread::JoinHandle;
 use std::time::Duration;
 use std::{io, thread};
@@ -21,6 +21,9 @@ const GAP: u64 = 100;
 
 /// How many pieces wait for an output that keeps the last one, at the most.
 const ROOM: usize = 512;
+
+/// How many bytes an empty FIFO takes without waiting, at the least (POSIX.1-2017, `PIPE_BUF` of Linux).
+const ROOM_BYTES: usize = 4096;
 
 /// With what of the pieces before a new connection begins.
 #[derive(Clone, Copy)]
@@ -35,8 +38,8 @@ pub enum Keeps {
 #[derive(Drop)]
 enum Order {
     Write(Piece),
-    /// Begin the connection anew.
-    BeginAnew,
+    /// The connection is at its end.
+    End(End),
 }
 
 /// How a connection ended.
@@ -54,13 +57,27 @@ enum End {
     Memory,
 }
 
+/// The connection of an output, which its thread shares with the one that decides.
+#[derive(Drop)]
+struct Connection {
+    keeps: Keeps,
+    /// None between connections.
+    file: Option<File>,
+    /// The pieces with which a new one begins.
+    kept: Vec<Piece>,
+    /// How many orders were carried out.
+    done: u64,
+    /// How many of them were before this connection.
+    before: u64,
+}
+
 /// An output.
 #[derive(Drop)]
 struct Output<T: Drop> {
     number: usize,
     path: String,
-    keeps: Keeps,
     orders: Receiver<Order, Global>,
+    connection: Arc<Mutex<Connection>, Global>,
     to: Door<T>,
 }
 
@@ -72,35 +89,52 @@ fn write(file: &mut File, piece: &Piece) -> Result<(), End> {
     }
 }
 
-fn write_kept(file: &mut File, kept: &[Piece]) -> Result<(), End> {
-    for piece in kept {
-        write(file, piece)?;
+impl Connection {
+    /// Begins with what is kept.
+    fn begin(&mut self, file: File) -> Result<(), End> {
+        let mut file = file;
+        self.before = self.done;
+        for piece in &self.kept {
+            write(&mut file, piece)?;
+        }
+        self.file = Some(file);
+        Ok(())
     }
-    Ok(())
-}
 
-impl<T: Drop> Output<T> {
     /// Keeps a piece, and writes it.
-    fn take(&self, file: &mut File, kept: &mut Vec<Piece>, piece: Piece) -> Result<(), End> {
+    fn take(&mut self, piece: Piece) -> Result<(), End> {
         let Ok(same) = Arc::try_clone(&piece) else {
             return Err(End::Memory);
         };
         if let Keeps::Last = self.keeps {
-            kept.clear();
+            self.kept.clear();
         }
-        if kept.push(same).is_err() {
+        if self.kept.push(same).is_err() {
             return Err(End::Memory);
         }
-        write(file, &piece)
+        match &mut self.file {
+            Some(file) => write(file, &piece),
+            None => Err(End::Left),
+        }
     }
 
+    /// Does what is ordered.
+    fn obey(&mut self, order: Order) -> Result<(), End> {
+        self.done = self.done.wrapping_add(1);
+        match order {
+            Order::Write(piece) => self.take(piece),
+            Order::End(end) => Err(end),
+        }
+    }
+}
+
+impl<T: Drop> Output<T> {
     /// One connection, which begins with what is kept.
-    fn serve<R: Wait>(&self, rt: &R, file: &mut File, kept: &mut Vec<Piece>) -> Result<(), End> {
-        write_kept(file, kept)?;
+    fn serve<R: Wait>(&self, rt: &R, file: File) -> Result<(), End> {
+        self.connection.lock(rt).begin(file)?;
         for _ in rt.forever() {
             match self.orders.recv(rt) {
-                Ok(Order::Write(piece)) => self.take(file, kept, piece)?,
-                Ok(Order::BeginAnew) => return Err(End::Anew),
+                Ok(order) => self.connection.lock(rt).obey(order)?,
                 Err(_) => return Err(End::Done),
             }
         }
@@ -115,13 +149,12 @@ fn fail<H: Host, T: Taker<H>>(rt: &H, output: &Output<T>, fault: Fault) {
 /// One connection behind the other.
 fn run<H: Host, T: Taker<H>>(rt: &H, output: &Output<T>) {
     let failed = Fault::File(NamedFile::Output(output.number));
-    let mut kept = Vec::new(rt.alloc());
     for _ in rt.forever() {
-        let Ok(mut file) = rt.open_to_add(output.path.as_str()) else {
+        let Ok(file) = rt.open_to_add(output.path.as_str()) else {
             return fail(rt, output, failed);
         };
-        let end = output.serve(rt, &mut file, &mut kept);
-        drop(file);
+        let end = output.serve(rt, file);
+        output.connection.lock(rt).file = None;
         match end {
             Ok(()) | Err(End::Done) => return,
             Err(End::Left) => {}
@@ -139,26 +172,66 @@ fn run<H: Host, T: Taker<H>>(rt: &H, output: &Output<T>) {
 pub struct Post {
     keeps: Keeps,
     to: Sender<Order, Global>,
+    connection: Arc<Mutex<Connection>, Global>,
+    /// How many orders were left.
+    left: u64,
+    /// How many of them whoever reads is known to have read.
+    read: u64,
 }
 
 impl Post {
+    /// Leaves an order for the thread.
+    fn order<R: Wait>(&mut self, rt: &R, order: Order) {
+        self.left = self.left.wrapping_add(1);
+        let _left = self.to.send(rt, order);
+    }
+
     /// Has a piece written.
-    fn leave<R: Wait>(&self, rt: &R, piece: &Piece) -> Result<(), Memory> {
-        let order = Order::Write(Arc::try_clone(piece)?);
+    fn leave<R: Wait>(&mut self, rt: &R, piece: &Piece) -> Result<(), Memory> {
+        let piece = Arc::try_clone(piece)?;
         match self.keeps {
             Keeps::All => {
-                let _left = self.to.send(rt, order);
+                if let Some(piece) = self.write_now(rt, piece) {
+                    self.order(rt, Order::Write(piece));
+                }
             }
             Keeps::Last => {
-                let _left = self.to.try_send(rt, order);
+                let _left = self.to.try_send(rt, Order::Write(piece));
             }
         }
         Ok(())
     }
 
+    /// Writes a piece at once, where whoever reads has read all that was written before, so that there is room for it and no thread has to be woken.
+    /// Otherwise it comes back.
+    fn write_now<R: Wait>(&mut self, rt: &R, piece: Piece) -> Option<Piece> {
+        if piece.len() > ROOM_BYTES || self.read != self.left {
+            return Some(piece);
+        }
+        let Some(mut connection) = self.connection.try_lock() else {
+            return Some(piece);
+        };
+        let is_read = connection.done == self.left && connection.before < self.read;
+        if !is_read || connection.file.is_none() {
+            return Some(piece);
+        }
+        let written = connection.obey(Order::Write(piece));
+        drop(connection);
+        self.left = self.left.wrapping_add(1);
+        if let Err(end) = written {
+            self.order(rt, Order::End(end));
+        }
+        None
+    }
+
+    /// Notes that whoever reads has read all that was left so far.
+    pub fn note_read(&mut self) {
+        self.read = self.left;
+    }
+
     /// Has the connection begin anew.
-    pub fn begin_anew<R: Wait>(&self, rt: &R) {
-        let _left = self.to.send(rt, Order::BeginAnew);
+    pub fn begin_anew<R: Wait>(&mut self, rt: &R) {
+        self.order(rt, Order::End(End::Anew));
     }
 }
 
@@ -182,15 +255,32 @@ fn begin_post<H: Host, T: Taker<H>>(
 ) -> Result<(Post, JoinHandle<()>), Memory> {
     let own = *rt;
     let (left, orders) = orders(rt.alloc(), keeps)?;
+    let connection = Arc::new(
+        rt.alloc(),
+        Mutex::new(Connection {
+            keeps,
+            file: None,
+            kept: Vec::new(rt.alloc()),
+            done: 0,
+            before: 0,
+        }),
+    )?;
+    let post = Post {
+        keeps,
+        to: left,
+        connection: Arc::try_clone(&connection)?,
+        left: 0,
+        read: 0,
+    };
     let output = Output {
         number,
         path: String::from_str(rt.alloc(), path)?,
-        keeps,
         orders,
+        connection,
         to: to.copy()?,
     };
     match thread::spawn(rt, move || run(&own, &output)) {
-        Ok(thread) => Ok((Post { keeps, to: left }, thread)),
+        Ok(thread) => Ok((post, thread)),
         Err(_) => Err(Memory),
     }
 }
@@ -218,7 +308,7 @@ pub fn begin_posts<H: Host, T: Taker<H>>(
 /// Has bytes written to these outputs.
 pub fn leave_all<R: AllocGlobal + Wait>(
     rt: &R,
-    posts: &[Post],
+    posts: &mut [Post],
     bytes: Vec<u8>,
 ) -> Result<(), Memory> {
     let piece = Arc::new(rt.alloc(), bytes)?;

@@ -79,9 +79,9 @@ impl Client {
     }
 
     /// Sends a request on all outputs.
-    fn send<H: Host>(&self, rt: &H, request: &Request) -> Result<(), Memory> {
+    fn send<H: Host>(&mut self, rt: &H, request: &Request) -> Result<(), Memory> {
         let bytes = request_line(request).as_slice().to_vec(rt.alloc())?;
-        leave_all(rt, &self.posts, bytes)
+        leave_all(rt, &mut self.posts, bytes)
     }
 
     /// Asks for as many words as may be open.

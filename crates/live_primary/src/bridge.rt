@@ -28,16 +28,13 @@ pub(crate) struct Bridge {
 impl Watch {
     /// Takes the events that are there, on a thread that brought some. Whether the thread that leads is to be woken.
     fn serve<R: AllocGlobal + Wait>(&mut self, rt: &R, events: &Receiver) -> bool {
-        let Some(helm) = self.helm.take() else {
+        let Some(helm) = &mut self.helm else {
             return false;
         };
         match helm.serve(rt, events) {
-            Ok(helm) => {
-                let calls = helm.calls();
-                self.helm = Some(helm);
-                calls
-            }
+            Ok(()) => helm.calls(),
             Err(fault) => {
+                self.helm = None;
                 self.fault = Some(fault);
                 true
             }
@@ -49,15 +46,11 @@ impl Watch {
         if let Some(fault) = self.fault.take() {
             return Err(fault);
         }
-        let Some(helm) = self.helm.take() else {
+        let Some(helm) = &mut self.helm else {
             return Ok(true);
         };
-        let helm = helm.go_on(rt, events)?;
-        if helm.is_over() {
-            return Ok(true);
-        }
-        self.helm = Some(helm);
-        Ok(false)
+        helm.go_on(rt, events)?;
+        Ok(helm.is_over())
     }
 }
 

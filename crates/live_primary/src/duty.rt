@@ -45,10 +45,11 @@ struct Duty {
     next: Next,
 }
 
-/// A primary that leads, with all that it needs for that.
+/// A primary that leads, with all that it needs for that. It stays where it is: it is large.
 #[derive(Drop)]
 pub(crate) struct Helm {
-    leader: Leader,
+    /// None while rounds are led, and where memory was refused in one.
+    leader: Option<Leader>,
     duty: Duty,
     office: Office,
 }
@@ -67,7 +68,7 @@ fn tell_new<R: AllocGlobal + Wait>(
     rt: &R,
     leader: &Leader,
     duty: &mut Duty,
-    office: &Office,
+    office: &mut Office,
 ) -> Result<(), Memory> {
     let term = leader.term();
     let released = leader.released();
@@ -84,7 +85,7 @@ fn take_request<R: AllocGlobal + Wait>(
     rt: &R,
     leader: &mut Leader,
     duty: &mut Duty,
-    office: &Office,
+    office: &mut Office,
     line: &Line,
 ) -> Result<(), Memory> {
     let Some(request) = read_request(duty.guest.harts(), line.as_slice()) else {
@@ -108,11 +109,12 @@ fn take_said<R: AllocGlobal + Wait>(
     rt: &R,
     leader: &mut Leader,
     duty: &mut Duty,
-    office: &Office,
+    office: &mut Office,
     line: &Line,
 ) -> Result<(), Memory> {
     if let Some(acknowledgement) = read_acknowledgement(&duty.guest, line.as_slice()) {
         leader.acknowledge(rt.alloc(), &acknowledgement)?;
+        office.hear(leader.term(), &acknowledgement);
         tell_new(rt, leader, duty, office)
     } else {
         if let Some(keeper) = read_again(&duty.guest, line.as_slice()) {
@@ -127,7 +129,7 @@ fn take<R: AllocGlobal + Wait>(
     rt: &R,
     leader: &mut Leader,
     duty: &mut Duty,
-    office: &Office,
+    office: &mut Office,
     event: Event,
 ) -> Result<(), Fault> {
     match event {
@@ -164,83 +166,82 @@ fn rounds(alloc: Global, leader: Leader, steps: Count) -> Result<Leader, Memory>
 fn send_new<R: AllocGlobal + Wait>(
     rt: &R,
     leader: &mut Leader,
-    office: &Office,
+    office: &mut Office,
 ) -> Result<(), Memory> {
     let frames = leader.seal(rt.alloc())?;
-    office.send(rt, frame_bytes(rt.alloc(), &frames)?)
+    office.send(rt, frame_bytes(rt.alloc(), &frames)?, leader.counts())
 }
 
 impl Helm {
     /// Takes the events that are there.
     fn take_all<R: AllocGlobal + Wait>(&mut self, rt: &R, events: &Receiver) -> Result<(), Fault> {
+        let Some(leader) = &mut self.leader else {
+            return Err(Fault::Memory);
+        };
         for _more in 0..events.len().min(BATCH) {
             let Ok(event) = events.try_recv(rt) else {
                 break;
             };
-            take(rt, &mut self.leader, &mut self.duty, &self.office, event)?;
+            take(rt, leader, &mut self.duty, &mut self.office, event)?;
         }
         Ok(())
     }
 
     /// Leads rounds, and sends their frames, unless more of the longest are to come before.
-    fn lead<R: AllocGlobal + Wait>(self, rt: &R) -> Result<Helm, Memory> {
-        let Helm {
-            leader,
-            mut duty,
-            office,
-        } = self;
-        let mut leader = rounds(rt.alloc(), leader, duty.steps)?;
-        if is_sent(duty.blind, duty.steps, leader.kept()) {
-            send_new(rt, &mut leader, &office)?;
+    fn lead<R: AllocGlobal + Wait>(&mut self, rt: &R) -> Result<(), Memory> {
+        let Some(leader) = self.leader.take() else {
+            return Err(Memory);
+        };
+        let mut leader = rounds(rt.alloc(), leader, self.duty.steps)?;
+        if is_sent(self.duty.blind, self.duty.steps, leader.kept()) {
+            send_new(rt, &mut leader, &mut self.office)?;
         }
-        duty.next = Next::Look;
-        Ok(Helm {
-            leader,
-            duty,
-            office,
-        })
+        self.leader = Some(leader);
+        self.duty.next = Next::Look;
+        Ok(())
     }
 
     /// Looks, unless that is put off, whether more rounds would change anything.
     fn look<R: AllocGlobal + Wait>(&mut self, rt: &R) -> Result<(), Memory> {
-        let only_waits = self.duty.blind == 0 && self.leader.only_waits(rt.alloc())?;
+        let Some(leader) = &mut self.leader else {
+            return Err(Memory);
+        };
+        let only_waits = self.duty.blind == 0 && leader.only_waits(rt.alloc())?;
         self.duty.next = if only_waits { Next::Wait } else { Next::Lead };
         self.duty.blind = next_blind(self.duty.blind, self.duty.steps);
-        self.duty.steps = next_round(self.duty.steps, self.leader.may_hand());
+        self.duty.steps = next_round(self.duty.steps, leader.may_hand());
         Ok(())
     }
 
     /// Takes the events that are there, and leads the first rounds behind a request. What comes then is left to the thread that leads.
     pub(crate) fn serve<R: AllocGlobal + Wait>(
-        self,
+        &mut self,
         rt: &R,
         events: &Receiver,
-    ) -> Result<Helm, Fault> {
-        let mut helm = self;
-        helm.take_all(rt, events)?;
-        match helm.duty.next {
-            Next::Lead => Ok(helm.lead(rt)?),
-            _ => Ok(helm),
+    ) -> Result<(), Fault> {
+        self.take_all(rt, events)?;
+        if let Next::Lead = self.duty.next {
+            self.lead(rt)?;
         }
+        Ok(())
     }
 
     /// Takes events and leads rounds until they would change nothing before a request comes. What came while rounds were led is taken before it is
     /// looked behind them, which may take longer than a keeper needs to acknowledge.
     pub(crate) fn go_on<R: AllocGlobal + Wait>(
-        self,
+        &mut self,
         rt: &R,
         events: &Receiver,
-    ) -> Result<Helm, Fault> {
-        let mut helm = self;
+    ) -> Result<(), Fault> {
         for _ in rt.forever() {
-            helm.take_all(rt, events)?;
-            match helm.duty.next {
-                Next::Lead => helm = helm.lead(rt)?,
-                Next::Look => helm.look(rt)?,
+            self.take_all(rt, events)?;
+            match self.duty.next {
+                Next::Lead => self.lead(rt)?,
+                Next::Look => self.look(rt)?,
                 Next::Wait => break,
             }
         }
-        Ok(helm)
+        Ok(())
     }
 
     /// Whether only waiting is left for the thread that leads.
@@ -286,7 +287,7 @@ fn lead_all<H: Host>(rt: &H, words: &PrimaryWords<'_>) -> Result<(), Fault> {
         next: Next::Lead,
     };
     let helm = Helm {
-        leader,
+        leader: Some(leader),
         duty,
         office,
     };

@@ -1,11 +1,11 @@
 //! The threads of a primary, and what they are given.
 
 use ends::{Door, Host, Keeps, Post, Taker, begin_posts, leave_all, listen_all};
-use ft_types::{Keeper, Memory};
+use ft_types::{Counts, Hart, Keeper, Memory, Term};
 use live_words::PrimaryWords;
 use std::sync::Wait;
 use std::thread::JoinHandle;
-use wire::{Answer, answer_line};
+use wire::{Acknowledgement, Answer, answer_line};
 
 /// The inputs and outputs of a primary.
 #[derive(Drop)]
@@ -15,6 +15,19 @@ pub(crate) struct Office {
     answers: Vec<Post>,
     /// One for each keeper, or one for all.
     keepers: Vec<Post>,
+    /// The counts to which the frames go that were sent last; none before the first.
+    sent: Option<Counts>,
+}
+
+/// Whether each hart of the first is at least where it is in the second.
+fn reaches(counts: &Counts, others: &Counts) -> bool {
+    for number in 0..others.harts() {
+        let hart = Hart::new(number);
+        if number >= counts.harts() || counts.get(hart) < others.get(hart) {
+            return false;
+        }
+    }
+    true
 }
 
 impl Office {
@@ -29,48 +42,71 @@ impl Office {
         let mut threads = Vec::new(rt.alloc());
         let answers = begin_posts(rt, 0, &words.answers, Keeps::Last, to, &mut threads)?;
         let frames_from = answers.len();
-        let keepers = begin_posts(rt, frames_from, &words.frames, Keeps::All, to, &mut threads)?;
-        leave_all(rt, &keepers, frames)?;
+        let mut keepers = begin_posts(
+            rt,
+            frames_from,
+            &words.frames,
+            Keeps::All,
+            to,
+            &mut threads,
+        )?;
+        leave_all(rt, &mut keepers, frames)?;
         listen_all(rt, 0, &words.requests, to)?;
         listen_all(rt, words.requests.len(), &words.acknowledgements, to)?;
         let office = Office {
             requests: words.requests.len(),
             answers,
             keepers,
+            sent: None,
         };
         Ok((office, threads))
     }
 
-    /// Sends frames to the keepers.
+    /// Sends frames that go to these counts to the keepers.
     pub(crate) fn send<R: AllocGlobal + Wait>(
-        &self,
+        &mut self,
         rt: &R,
         frames: Vec<u8>,
+        counts: Counts,
     ) -> Result<(), Memory> {
         if frames.is_empty() {
             return Ok(());
         }
-        leave_all(rt, &self.keepers, frames)
+        self.sent = Some(counts);
+        leave_all(rt, &mut self.keepers, frames)
+    }
+
+    /// Hears what a keeper acknowledged in this term. One that has acknowledged all that was sent has read it, by a path of its own.
+    pub(crate) fn hear(&mut self, term: Term, acknowledgement: &Acknowledgement) {
+        let Some(sent) = &self.sent else {
+            return;
+        };
+        if acknowledgement.term != term || !reaches(&acknowledgement.counts, sent) {
+            return;
+        }
+        if let Some(post) = self.keepers.get_mut(acknowledgement.keeper.index()) {
+            post.note_read();
+        }
     }
 
     /// Tells an answer.
     pub(crate) fn tell<R: AllocGlobal + Wait>(
-        &self,
+        &mut self,
         rt: &R,
         answer: &Answer,
     ) -> Result<(), Memory> {
         let bytes = answer_line(answer).as_slice().to_vec(rt.alloc())?;
-        leave_all(rt, &self.answers, bytes)
+        leave_all(rt, &mut self.answers, bytes)
     }
 
     /// Sends all frames to a keeper once more.
-    pub(crate) fn begin_anew<R: AllocGlobal + Wait>(&self, rt: &R, keeper: Keeper) {
+    pub(crate) fn begin_anew<R: AllocGlobal + Wait>(&mut self, rt: &R, keeper: Keeper) {
         let index = if self.keepers.len() == 1 {
             0
         } else {
             keeper.index()
         };
-        if let Some(post) = self.keepers.get(index) {
+        if let Some(post) = self.keepers.get_mut(index) {
             post.begin_anew(rt);
         }
     }
