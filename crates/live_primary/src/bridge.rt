@@ -50,7 +50,12 @@ impl Watch {
             return Ok(true);
         };
         helm.go_on(rt, events)?;
-        Ok(helm.is_over())
+        if helm.is_over() {
+            // The threads of its outputs end with it.
+            self.helm = None;
+            return Ok(true);
+        }
+        Ok(false)
     }
 }
 

@@ -3,10 +3,10 @@
 use crate::messages::{ToGate, ToKeeper, Went, send};
 use crate::news::News;
 use crate::noting::note_out;
-use crate::rounds::round_end;
+use crate::rounds::{has_gone_on, round_end};
 use crossbeam_channel::{Receiver, Sender};
 use fragment_codec::Frame;
-use ft_types::Memory;
+use ft_types::{Counts, Memory};
 use hart_threads::{Grant, Overseer};
 use page_book::{Book, Recording};
 use std::alloc::Global;
@@ -20,6 +20,8 @@ pub(crate) struct Herald {
     pub(crate) news: News,
     /// The limit of each hart.
     pub(crate) budget: u32,
+    /// The counts at which was taken what was new the last time.
+    pub(crate) taken_at: Counts,
     pub(crate) keepers: Vec<Sender<ToKeeper, Global>>,
     pub(crate) gate: Sender<ToGate, Global>,
     /// What went out.
@@ -50,9 +52,19 @@ fn send_copies<R: Wait>(
 }
 
 impl Herald {
+    /// Takes what is new in the book, where a hart has gone on far enough since.
+    fn take_news(&mut self, alloc: Global, book: &Book<Recording>) -> Result<(), Memory> {
+        let counts = book.counts();
+        if !has_gone_on(&self.taken_at, &counts) {
+            return Ok(());
+        }
+        self.taken_at = counts;
+        self.news.take(alloc, book)
+    }
+
     /// Takes what is new in the book, and says how far its harts may go: two rounds, the first of which calls for the next look.
     fn see(&mut self, alloc: Global, book: &Book<Recording>) -> Option<Grant> {
-        if self.is_lost || self.news.take(alloc, book).is_err() {
+        if self.is_lost || self.take_news(alloc, book).is_err() {
             self.is_lost = true;
             return None;
         }

@@ -42,6 +42,7 @@ pub(crate) fn lead<R: Threads + Wait + Sync>(
     let herald = Herald {
         news: News::new(alloc, opening, sealed)?,
         budget,
+        taken_at: book.counts(),
         keepers,
         gate,
         went,

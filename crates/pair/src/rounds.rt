@@ -9,6 +9,26 @@ use ft_types::{Count, Counts, Hart};
 /// How many steps a round gives each hart, at the most.
 pub(crate) const ROUND: u64 = 4096;
 
+/// How many rounds a hart goes on, at the most, until keepers are sent what is new: to send it wakes a thread for each of them, which takes longer than a
+/// round does.
+const ROUNDS_SENT: u64 = 4;
+
+/// Whether a hart has gone on from these counts to those by as many rounds as are sent at once.
+pub(crate) fn has_gone_on(before: &Counts, now: &Counts) -> bool {
+    for number in 0..now.harts() {
+        let hart = Hart::new(number);
+        let since = if number < before.harts() {
+            before.get(hart)
+        } else {
+            0
+        };
+        if now.get(hart).saturating_sub(since) >= ROUNDS_SENT * ROUND {
+            return true;
+        }
+    }
+    false
+}
+
 /// Where a round ends that begins at these counts: each hart's is so many steps further, or the budget where that comes first.
 pub(crate) fn round_end(counts: Counts, budget: u32) -> Counts
     ensures harts { length result ≡ length counts }
