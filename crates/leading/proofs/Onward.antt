@@ -7,8 +7,9 @@ use Rattle.guest_image.specs.Machine.{MachineState}
 use Rattle.page_book.specs.Books.{BookView}
 use Rattle.page_book.proofs.Tellings.{notes_kept, tells_the_same, tells_further}
 use Rattle.hart_replay.specs.Primaries.{IsPrimary}
-use Rattle.lease_rounds.specs.Running.{Continues}
+use Rattle.lease_rounds.specs.Running.{Continues, KeepsOffered, offers}
 use Rattle.lease_rounds.specs.machinery.SoFar.{HasRun}
+use Rattle.lease_rounds.proofs.Offers.{kept_itself}
 use Rattle.lease_rounds.proofs.Onward.{runs_on}
 use Rattle.primary.specs.Primaries.{GoesOn}
 use Rattle.leading.specs.Rounds.{LeadsOn}
@@ -24,6 +25,10 @@ goes_nowhere b primary leads = record {
   before = leads;
   after = leads;
 }
+
+-- nothing that was offered is lost where nothing goes on
+pub keeps_itself : (b : BookView RecordingView) → KeepsOffered b b
+keeps_itself b hart = kept_itself (offers b hart)
 
 pub goes_further : (b c d : BookView RecordingView) → GoesOn b c → GoesOn c d → GoesOn b d
 goes_further b c d one two = record {

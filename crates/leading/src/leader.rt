@@ -158,7 +158,7 @@ impl Leader {
 
     /// Whether rounds would change nothing but counts until an input comes: no hart could be handed one, and all of them only wait, which
     /// few steps of each show. It steers rounds alone, and costs no more as the past grows.
-    pub fn only_waits(&mut self, alloc: Global) -> Result<bool, Memory>
+    pub fn only_waits(&mut self, _alloc: Global) -> Result<bool, Memory>
         ensures waits { result ≡ Ok true → (hart : ℕ) (h : HartRecord) → slice_get self.old.primary.book.machine.harts hart ≡ Some h →
             next_of h (queue_at self.old.queues hart) ≡ None }
         ensures on { GoesOn self.old.primary.book self.new.primary.book }
@@ -166,15 +166,10 @@ impl Leader {
         ensures offered { KeepsOffered self.old.primary.book self.new.primary.book }
         ensures rest { self.new ≡ record self.old { primary = record self.old.primary { book = self.new.primary.book } } }
     {
-        // proof: its log is honest, and its journal leads to its machine, before and after.
+        // proof: its log is honest, and its journal leads to its machine.
         tell_primary(&self.primary.book);
-        has_run(&self.primary.book);
-        if has_input(self.primary.book.machine(), &self.queues) {
-            return Ok(false);
-        }
-        let waits = only_waits(alloc, &mut self.primary);
-        has_run(&self.primary.book);
-        waits
+        let machine = self.primary.book.machine();
+        Ok(!has_input(machine, &self.queues) && only_waits(machine))
     }
 
     /// Takes a word that is asked for, where its hart is there.

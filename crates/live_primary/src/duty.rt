@@ -210,7 +210,8 @@ impl Helm {
         Ok(())
     }
 
-    /// Takes the events that are there, and leads the first rounds behind a request. What comes then is left to the thread that leads.
+    /// Takes the events that are there, leads the first rounds behind a request, and looks behind them. Rounds that go on are left to the thread that
+    /// leads.
     pub(crate) fn serve<R: AllocGlobal + Wait>(
         self,
         rt: &R,
@@ -218,14 +219,17 @@ impl Helm {
     ) -> Result<Helm, Fault> {
         let mut helm = self;
         helm.take_all(rt, events)?;
-        match helm.duty.next {
-            Next::Lead => Ok(helm.lead(rt)?),
-            _ => Ok(helm),
+        if let Next::Lead = helm.duty.next {
+            helm = helm.lead(rt)?;
         }
+        if let Next::Look = helm.duty.next {
+            helm.look(rt)?;
+        }
+        Ok(helm)
     }
 
     /// Takes events and leads rounds until they would change nothing before a request comes. What came while rounds were led is taken before it is
-    /// looked behind them, which may take longer than a keeper needs to acknowledge.
+    /// looked behind them.
     pub(crate) fn go_on<R: AllocGlobal + Wait>(
         self,
         rt: &R,
