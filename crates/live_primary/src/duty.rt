@@ -172,7 +172,11 @@ fn send_new<R: AllocGlobal + Wait>(
 
 impl Helm {
     /// Takes the events that are there.
-    fn take_all<R: AllocGlobal + Wait>(&mut self, rt: &R, events: &Receiver) -> Result<(), Fault> {
+    fn take_all<R: AllocGlobal + Wait>(
+        &mut self,
+        rt: &R,
+        events: &Receiver<Event>,
+    ) -> Result<(), Fault> {
         for _more in 0..events.len().min(BATCH) {
             let Ok(event) = events.try_recv(rt) else {
                 break;
@@ -215,7 +219,7 @@ impl Helm {
     pub(crate) fn serve<R: AllocGlobal + Wait>(
         self,
         rt: &R,
-        events: &Receiver,
+        events: &Receiver<Event>,
     ) -> Result<Helm, Fault> {
         let mut helm = self;
         helm.take_all(rt, events)?;
@@ -233,7 +237,7 @@ impl Helm {
     pub(crate) fn go_on<R: AllocGlobal + Wait>(
         self,
         rt: &R,
-        events: &Receiver,
+        events: &Receiver<Event>,
     ) -> Result<Helm, Fault> {
         let mut helm = self;
         for _ in rt.forever() {
