@@ -187,10 +187,6 @@ fn tells_again(
     hears(alloc, leader, &Request::From { hart, number }, told)
 }
 
-fn only_waits(alloc: Global, leader: &mut Leader) -> Result<bool, Memory> {
-    leader.only_waits(alloc)
-}
-
 /// Whether a primary of this term keeps so many outputs.
 fn keeps(leader: &Leader, kept: usize, term: Term) -> bool {
     leader.kept() == kept && leader.term() == term
@@ -222,7 +218,7 @@ fn does(alloc: Global, leader: &mut Leader, (deed, told): &Row) -> Result<bool, 
         Deed::Again(number) => tells_again(alloc, leader, number, told),
         Deed::Held(keeper, term) => lets_go(alloc, leader, keeper, term, told),
         Deed::Keeps(kept, term) => Ok(keeps(&*leader, kept, term)),
-        Deed::Waits => only_waits(alloc, leader),
+        Deed::Waits => Ok(leader.only_waits()),
         Deed::Round => Ok(false),
     }
 }

@@ -20,16 +20,16 @@ pub enum Event {
 }
 
 /// Where threads leave events.
-pub type Sender = crossbeam_channel::Sender<Event, Global>;
+pub type Sender<E> = crossbeam_channel::Sender<E, Global>;
 
 /// Where the thread that decides takes them.
-pub type Receiver = crossbeam_channel::Receiver<Event, Global>;
+pub type Receiver<E> = crossbeam_channel::Receiver<E, Global>;
 
 /// How many events wait at the most. Whoever has one more waits for room.
 const ROOM: usize = 512;
 
 /// Both ends of a row of events.
-pub fn row(alloc: Global) -> Result<(Sender, Receiver), AllocError> {
+pub fn row<E: Drop>(alloc: Global) -> Result<(Sender<E>, Receiver<E>), AllocError> {
     crossbeam_channel::bounded(alloc, ROOM)
 }
 
@@ -49,31 +49,31 @@ impl<R: AllocGlobal + Wait> Taker<R> for Waiting {
 
 /// Where the thread of an input or an output leaves events.
 #[derive(Drop)]
-pub struct Door<T: Drop> {
-    to: Sender,
+pub struct Door<E: Drop, T: Drop> {
+    to: Sender<E>,
     taker: Arc<T, Global>,
 }
 
 /// Whoever takes the events is gone.
 #[derive(Clone, Copy)]
-pub(crate) struct Gone;
+pub struct Gone;
 
 /// Leaves an event once there is room.
-fn send<R: Wait>(rt: &R, to: &Sender, event: Event) -> Result<(), Gone> {
+fn send<R: Wait, E: Drop>(rt: &R, to: &Sender<E>, event: E) -> Result<(), Gone> {
     match to.send(rt, event) {
         Ok(()) => Ok(()),
         Err(_) => Err(Gone),
     }
 }
 
-impl<T: Drop> Door<T> {
+impl<E: Drop, T: Drop> Door<E, T> {
     /// A door to who takes the events.
-    pub fn new(to: Sender, taker: Arc<T, Global>) -> Door<T> {
+    pub fn new(to: Sender<E>, taker: Arc<T, Global>) -> Door<E, T> {
         Door { to, taker }
     }
 
     /// Another one to the same.
-    pub(crate) fn copy(&self) -> Result<Door<T>, Memory> {
+    pub fn copy(&self) -> Result<Door<E, T>, Memory> {
         Ok(Door {
             to: self.to.clone()?,
             taker: Arc::try_clone(&self.taker)?,
@@ -82,10 +82,10 @@ impl<T: Drop> Door<T> {
 }
 
 /// Leaves an event. Where there is no room, those that are there are taken first, so that not all threads wait for one that takes them.
-pub(crate) fn leave<H: Host, T: Taker<H>>(
+pub fn leave<H: Host, E: Drop, T: Taker<H>>(
     rt: &H,
-    door: &Door<T>,
-    event: Event,
+    door: &Door<E, T>,
+    event: E,
 ) -> Result<(), Gone> {
     match door.to.try_send(rt, event) {
         Ok(()) => Ok(()),
@@ -98,12 +98,16 @@ pub(crate) fn leave<H: Host, T: Taker<H>>(
 }
 
 /// Has the events taken that were left.
-pub(crate) fn serve<H: Host, T: Taker<H>>(rt: &H, door: &Door<T>) {
+pub fn serve<H: Host, E: Drop, T: Taker<H>>(rt: &H, door: &Door<E, T>) {
     door.taker.serve(rt);
 }
 
 /// Leaves an event, and has it taken.
-pub(crate) fn tell<H: Host, T: Taker<H>>(rt: &H, door: &Door<T>, event: Event) -> Result<(), Gone> {
+pub fn bring<H: Host, E: Drop, T: Taker<H>>(
+    rt: &H,
+    door: &Door<E, T>,
+    event: E,
+) -> Result<(), Gone> {
     leave(rt, door, event)?;
     serve(rt, door);
     Ok(())

@@ -1,6 +1,6 @@
 //! A thread for each input: it opens the path, reads lines to its end, and opens it again where it is a FIFO.
 
-use crate::events::{Door, Event, Gone, Taker, leave, serve, tell};
+use crate::events::{Door, Event, Gone, Taker, bring, leave, serve};
 use crate::faults::{Fault, NamedFile};
 use crate::files::is_fifo;
 use crate::host::Host;
@@ -18,12 +18,12 @@ const PIECE: usize = 4096;
 struct Input<T: Drop> {
     number: usize,
     path: String,
-    to: Door<T>,
+    to: Door<Event, T>,
 }
 
 /// Tells that the process can't go on.
 fn fail<H: Host, T: Taker<H>>(rt: &H, input: &Input<T>, fault: Fault) -> Gone {
-    let _told = tell(rt, &input.to, Event::Failed(fault));
+    let _told = bring(rt, &input.to, Event::Failed(fault));
     Gone
 }
 
@@ -78,7 +78,7 @@ fn listen_on<H: Host, T: Taker<H>>(rt: &H, input: &Input<T>) -> Result<(), Gone>
         let comes_again = is_fifo(&file);
         read(rt, input, &mut file)?;
         if !comes_again {
-            return tell(rt, &input.to, Event::Ended);
+            return bring(rt, &input.to, Event::Ended);
         }
     }
     Err(Gone)
@@ -89,7 +89,7 @@ fn listen<H: Host, T: Taker<H>>(
     rt: &H,
     number: usize,
     path: &str,
-    to: &Door<T>,
+    to: &Door<Event, T>,
 ) -> Result<(), Memory> {
     let own = *rt;
     let input = Input {
@@ -110,7 +110,7 @@ pub fn listen_all<H: Host, T: Taker<H>>(
     rt: &H,
     first: usize,
     paths: &[&str],
-    to: &Door<T>,
+    to: &Door<Event, T>,
 ) -> Result<(), Memory> {
     let mut number = first;
     for path in paths {

@@ -1,6 +1,6 @@
 //! A thread for each output: it opens the path and writes the pieces that are left for it. Where nobody reads any more it opens the path again.
 
-use crate::events::{Door, Event, Taker, tell};
+use crate::events::{Door, Event, Taker, bring};
 use crate::faults::{Fault, NamedFile};
 use crate::host::Host;
 use crossbeam_channel::{Receiver, Sender, bounded, unbounded};
@@ -78,7 +78,7 @@ struct Output<T: Drop> {
     path: String,
     orders: Receiver<Order, Global>,
     connection: Arc<Mutex<Connection>, Global>,
-    to: Door<T>,
+    to: Door<Event, T>,
 }
 
 fn write(file: &mut File, piece: &Piece) -> Result<(), End> {
@@ -143,7 +143,7 @@ impl<T: Drop> Output<T> {
 }
 
 fn fail<H: Host, T: Taker<H>>(rt: &H, output: &Output<T>, fault: Fault) {
-    let _told = tell(rt, &output.to, Event::Failed(fault));
+    let _told = bring(rt, &output.to, Event::Failed(fault));
 }
 
 /// One connection behind the other.
@@ -251,7 +251,7 @@ fn begin_post<H: Host, T: Taker<H>>(
     number: usize,
     path: &str,
     keeps: Keeps,
-    to: &Door<T>,
+    to: &Door<Event, T>,
 ) -> Result<(Post, JoinHandle<()>), Memory> {
     let own = *rt;
     let (left, orders) = orders(rt.alloc(), keeps)?;
@@ -291,7 +291,7 @@ pub fn begin_posts<H: Host, T: Taker<H>>(
     first: usize,
     paths: &[&str],
     keeps: Keeps,
-    to: &Door<T>,
+    to: &Door<Event, T>,
     threads: &mut Vec<JoinHandle<()>>,
 ) -> Result<Vec<Post>, Memory> {
     let mut posts = Vec::new(rt.alloc());

@@ -12,7 +12,5 @@ pub mod Beginning
 pub mod Hearing
 pub mod Within
 pub mod Sound
-pub mod Alone
 pub mod Releasing
 pub mod Round
-pub mod Few

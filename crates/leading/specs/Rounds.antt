@@ -1,5 +1,5 @@
 -- A round of a primary.
-use Rattle.std.specs.Prelude.{ℕ, ◌≡◌, ◌≢◌, ◌≤◌, ◌⊎◌, ◌+◌, ◌-◌, ◌^◌, ◌++◌, ◌∷◌, ◌==◌, ◌&&◌, [], List, Bool, true, not, Option, Some, None, length, min, slice_get, bit_and, if◌then◌else◌}
+use Rattle.std.specs.Prelude.{ℕ, ◌≡◌, ◌≤◌, ◌⊎◌, ◌+◌, ◌-◌, ◌^◌, ◌++◌, ◌∷◌, ◌==◌, ◌&&◌, [], List, Bool, true, not, Option, Some, None, length, min, slice_get, bit_and, if◌then◌else◌}
 use Rattle.ft_types.specs.declared.names.TheConstants.{COUNT_LIMIT, LEASE_STEPS}
 use Rattle.input_log.specs.declared.Input.{Input}
 use Rattle.input_log.specs.Waiting.{bells_of, others_of}
@@ -12,7 +12,6 @@ use Rattle.page_book.specs.Tellings.{TellsOn}
 use Rattle.hart_replay.specs.Primaries.{IsPrimary}
 use Rattle.lease_rounds.specs.Running.{IsIdle, GoesRoundFor, KeepsOffered}
 use Rattle.lease_rounds.specs.Steps.{AreWithin}
-use Rattle.primary.specs.declared.granted.Primary.{Primary}
 use Rattle.primary.specs.Primaries.{GoesOn}
 use Rattle.requests.specs.Queues.{QueueView, front, handed_on}
 use Rattle.leading.specs.declared.inputs.TheConstants.{SPACING}
@@ -83,19 +82,3 @@ pub record IsRound (steps : ℕ) (old new : LeaderView) : Type 0 where
   pub hands : (hart : ℕ) (h : Hart) → slice_get old.primary.book.machine.harts hart ≡ Some h →
       Hands (next_of h (queue_at old.queues hart)) hart h.count (queue_at old.queues hart) (queue_at new.queues hart) old.primary.book.mode given.mode
   pub on : HasGoneOn steps given new.primary.book
-
--- ---- private words
-
--- a hart has taken so many steps more at the most, and no other one any
-pub record GoesFew (hart many : ℕ) (b c : BookView RecordingView) : Type 0 where
-  pub own : counts_of c.machine hart ≤ counts_of b.machine hart + many
-  pub others : (other : ℕ) → other ≢ hart → counts_of c.machine other ≡ counts_of b.machine other
-
--- the primary's book went on, and nothing else of it is another: no lease is open, no hart is past its limit, and nothing that was offered is lost
-pub record GoesAlone (p q : Primary) : Type 0 where
-  pub goes_on : GoesOn p.book q.book
-  pub offered : KeepsOffered p.book q.book
-  pub rest : q ≡ record p { book = q.book }
-  pub harts : length q.book.machine.harts ≡ length p.book.machine.harts
-  pub idle : IsIdle q.book
-  pub within : AreWithin q.book

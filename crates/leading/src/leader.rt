@@ -5,19 +5,16 @@ ghost use Rattle.ft_types.specs.Counts.{count_at};
 ghost use Rattle.hart_lease.specs.Runs.{counts_of};
 ghost use Rattle.rv32_hart.specs.Hart.{Hart as HartRecord};
 ghost use Rattle.fragment_codec.specs.declared.frame.Frame.TheVariants.{Opening as OpeningFrame};
-ghost use Rattle.lease_rounds.specs.Running.{KeepsOffered};
 ghost use Rattle.log_pieces.specs.Pieces.{IsCut, book_log};
 ghost use Rattle.output_gate.specs.Gates.{kept_count, mark_at};
 ghost use Rattle.input_log.specs.declared.Input.TheVariants.{Timer as TimerInput};
 ghost use Rattle.primary.specs.Gating.{AreAllOffered, OffersMore};
-ghost use Rattle.primary.specs.Primaries.{GoesOn};
 ghost use Rattle.requests.specs.Queues.{with_input};
 ghost use Rattle.leading.specs.Beginning.{GoesLive, CannotGoLive};
 ghost use Rattle.leading.specs.Hearing.{Hears, LetsGo, LetsNothingGo, Notes, WithNoted, put_word, with_queue};
 ghost use Rattle.leading.specs.Leaders.{BeginBehind, queue_at};
 ghost use Rattle.leading.specs.Rounds.{IsRound, next_of};
 ghost use Rattle.leading.specs.Telling.{told_again};
-ghost use Rattle.leading.specs.declared.waiting.TheConstants.{LOOP};
 
 use crate::inputs::{hand_all, has_input, queues_of};
 use crate::rounds::go_on;
@@ -31,7 +28,7 @@ use ft_types::{Count, Counts, Hart, Memory, Position, Quorum, Term};
 use go_live::LiveFault;
 use guest_image::{Image, Machine};
 use lease_rounds::has_run;
-use primary::{Primary, Released, offer_all, tell_primary};
+use primary::{Primary, Released, offer_all};
 use requests::{Came, Queue};
 use std::alloc::Global;
 use std::marker::Model;
@@ -157,24 +154,12 @@ impl Leader {
     }
 
     /// Whether rounds would change nothing but counts until an input comes: no hart could be handed one, and all of them only wait, which
-    /// few steps of each show. It steers rounds alone, and costs no more as the past grows.
-    pub fn only_waits(&mut self, alloc: Global) -> Result<bool, Memory>
-        ensures waits { result ≡ Ok true → (hart : ℕ) (h : HartRecord) → slice_get self.old.primary.book.machine.harts hart ≡ Some h →
-            next_of h (queue_at self.old.queues hart) ≡ None }
-        ensures on { GoesOn self.old.primary.book self.new.primary.book }
-        ensures few { (hart : ℕ) → counts_of self.new.primary.book.machine hart ≤ counts_of self.old.primary.book.machine hart + LOOP }
-        ensures offered { KeepsOffered self.old.primary.book self.new.primary.book }
-        ensures rest { self.new ≡ record self.old { primary = record self.old.primary { book = self.new.primary.book } } }
+    /// few steps of a copy of each show. It steers rounds alone, and costs no more as the past grows.
+    pub fn only_waits(&self) -> bool
+        ensures { result ≡ true → (hart : ℕ) (h : HartRecord) → slice_get self.now.primary.book.machine.harts hart ≡ Some h →
+            next_of h (queue_at self.now.queues hart) ≡ None }
     {
-        // proof: its log is honest, and its journal leads to its machine, before and after.
-        tell_primary(&self.primary.book);
-        has_run(&self.primary.book);
-        if has_input(self.primary.book.machine(), &self.queues) {
-            return Ok(false);
-        }
-        let waits = only_waits(alloc, &mut self.primary);
-        has_run(&self.primary.book);
-        waits
+        !self.may_hand() && only_waits(self.machine())
     }
 
     /// Takes a word that is asked for, where its hart is there.

@@ -7,6 +7,7 @@ mod inputs;
 mod leader;
 mod rounds;
 mod starting;
+mod still_pages;
 mod telling;
 mod waiting;
 

@@ -24,7 +24,7 @@ struct Client {
     talk: Talk,
     /// How many words are asked for.
     words: usize,
-    events: Receiver,
+    events: Receiver<Event>,
     posts: Vec<Post>,
     /// How many inputs are not at their end.
     open: usize,

@@ -2,7 +2,7 @@
 
 use crate::duty::Helm;
 use crossbeam_channel::{Receiver as TurnReceiver, Sender as TurnSender, bounded};
-use ends::{Fault, Receiver, Taker};
+use ends::{Event, Fault, Receiver, Taker};
 use ft_types::Memory;
 use std::alloc::Global;
 use std::option::Option;
@@ -19,7 +19,7 @@ struct Watch {
 #[derive(Drop)]
 pub(crate) struct Bridge {
     watch: Mutex<Watch>,
-    events: Receiver,
+    events: Receiver<Event>,
     /// By it the thread that leads is woken.
     turn: TurnSender<(), Global>,
     turns: TurnReceiver<(), Global>,
@@ -27,7 +27,7 @@ pub(crate) struct Bridge {
 
 impl Watch {
     /// Takes the events that are there, on a thread that brought some. Whether the thread that leads is to be woken.
-    fn serve<R: AllocGlobal + Wait>(&mut self, rt: &R, events: &Receiver) -> bool {
+    fn serve<R: AllocGlobal + Wait>(&mut self, rt: &R, events: &Receiver<Event>) -> bool {
         let Some(helm) = &mut self.helm else {
             return false;
         };
@@ -42,7 +42,11 @@ impl Watch {
     }
 
     /// Leads until only waiting is left. Whether all inputs are at their end.
-    fn go_on<R: AllocGlobal + Wait>(&mut self, rt: &R, events: &Receiver) -> Result<bool, Fault> {
+    fn go_on<R: AllocGlobal + Wait>(
+        &mut self,
+        rt: &R,
+        events: &Receiver<Event>,
+    ) -> Result<bool, Fault> {
         if let Some(fault) = self.fault.take() {
             return Err(fault);
         }
@@ -83,7 +87,7 @@ impl<R: AllocGlobal + Wait> Taker<R> for Bridge {
 
 impl Bridge {
     /// Nobody leads yet.
-    pub(crate) fn new(alloc: Global, events: Receiver) -> Result<Bridge, Memory> {
+    pub(crate) fn new(alloc: Global, events: Receiver<Event>) -> Result<Bridge, Memory> {
         let (turn, turns) = bounded(alloc, 1)?;
         let watch = Watch {
             helm: None,

@@ -174,7 +174,11 @@ fn send_new<R: AllocGlobal + Wait>(
 
 impl Helm {
     /// Takes the events that are there.
-    fn take_all<R: AllocGlobal + Wait>(&mut self, rt: &R, events: &Receiver) -> Result<(), Fault> {
+    fn take_all<R: AllocGlobal + Wait>(
+        &mut self,
+        rt: &R,
+        events: &Receiver<Event>,
+    ) -> Result<(), Fault> {
         let Some(leader) = &mut self.leader else {
             return Err(Fault::Memory);
         };
@@ -202,42 +206,45 @@ impl Helm {
     }
 
     /// Looks, unless that is put off, whether more rounds would change anything.
-    fn look<R: AllocGlobal + Wait>(&mut self, rt: &R) -> Result<(), Memory> {
-        let Some(leader) = &mut self.leader else {
-            return Err(Memory);
+    fn look(&mut self) {
+        let Some(leader) = &self.leader else {
+            return;
         };
-        let only_waits = self.duty.blind == 0 && leader.only_waits(rt.alloc())?;
+        let only_waits = self.duty.blind == 0 && leader.only_waits();
         self.duty.next = if only_waits { Next::Wait } else { Next::Lead };
         self.duty.blind = next_blind(self.duty.blind, self.duty.steps);
         self.duty.steps = next_round(self.duty.steps, leader.may_hand());
-        Ok(())
     }
 
-    /// Takes the events that are there, and leads the first rounds behind a request. What comes then is left to the thread that leads.
+    /// Takes the events that are there, leads the first rounds behind a request, and looks behind them. Rounds that go on are left to the thread that
+    /// leads.
     pub(crate) fn serve<R: AllocGlobal + Wait>(
         &mut self,
         rt: &R,
-        events: &Receiver,
+        events: &Receiver<Event>,
     ) -> Result<(), Fault> {
         self.take_all(rt, events)?;
         if let Next::Lead = self.duty.next {
             self.lead(rt)?;
         }
+        if let Next::Look = self.duty.next {
+            self.look();
+        }
         Ok(())
     }
 
     /// Takes events and leads rounds until they would change nothing before a request comes. What came while rounds were led is taken before it is
-    /// looked behind them, which may take longer than a keeper needs to acknowledge.
+    /// looked behind them.
     pub(crate) fn go_on<R: AllocGlobal + Wait>(
         &mut self,
         rt: &R,
-        events: &Receiver,
+        events: &Receiver<Event>,
     ) -> Result<(), Fault> {
         for _ in rt.forever() {
             self.take_all(rt, events)?;
             match self.duty.next {
                 Next::Lead => self.lead(rt)?,
-                Next::Look => self.look(rt)?,
+                Next::Look => self.look(),
                 Next::Wait => break,
             }
         }

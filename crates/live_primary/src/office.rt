@@ -1,6 +1,6 @@
 //! The threads of a primary, and what they are given.
 
-use ends::{Door, Host, Keeps, Post, Taker, begin_posts, leave_all, listen_all};
+use ends::{Door, Event, Host, Keeps, Post, Taker, begin_posts, leave_all, listen_all};
 use ft_types::{Counts, Hart, Keeper, Memory, Term};
 use live_words::PrimaryWords;
 use std::sync::Wait;
@@ -37,7 +37,7 @@ impl Office {
         rt: &H,
         words: &PrimaryWords<'_>,
         frames: Vec<u8>,
-        to: &Door<T>,
+        to: &Door<Event, T>,
     ) -> Result<(Office, Vec<JoinHandle<()>>), Memory> {
         let mut threads = Vec::new(rt.alloc());
         let answers = begin_posts(rt, 0, &words.answers, Keeps::Last, to, &mut threads)?;

@@ -16,7 +16,7 @@ pub(crate) const SHORT_ROUNDS: u8 = 4;
 /// How many steps a round has at the most.
 const LONGEST_ROUND: Count = 61_440;
 
-/// How many of the longest rounds go by without a look: a look at a hart that computes takes nearly as many instructions as such a round.
+/// How many of the longest rounds go by without a look: a hart that computes for so long seldom waits behind the next one.
 const BLIND_ROUNDS: u8 = 15;
 
 /// How many of the longest rounds go by at the most before keepers are sent what they brought, where no output waits for it: to send wakes a thread for
