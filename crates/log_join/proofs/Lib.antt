@@ -5,6 +5,7 @@ pub mod Joins
 pub mod Shown
 pub mod Present
 pub mod Stores
+pub mod First
 pub mod Listed
 pub mod Gathered
 pub mod Families

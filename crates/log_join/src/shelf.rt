@@ -34,6 +34,20 @@ pub(crate) fn put_at<K: Ord + Drop>(
     Ok(put)
 }
 
+/// Takes a frame at its key, at which nothing is.
+pub(crate) fn put_first<K: Ord + Drop>(
+    shelf: &mut BTreeMap<K, Content>,
+    key: K,
+    frame: Frame,
+) -> Result<(), Memory>
+    requires new { get K.cmp shelf.old key ≡ None }
+    ensures taken { OnOk result ((q : K) → get K.cmp shelf.new q ≡ (if eq_by_cmp K.cmp key q then Some (taken None frame) else get K.cmp shelf.old q)) }
+    ensures err { OnErr result ((q : K) → get K.cmp shelf.new q ≡ get K.cmp shelf.old q) }
+{
+    shelf.insert(key, Content::One(frame))?;
+    Ok(())
+}
+
 /// The keys of one map that the other lacks.
 pub(crate) fn missing_keys<K: Ord + Copy>(
     alloc: Global,

@@ -9,7 +9,7 @@ ghost use Rattle.log_join.specs.Answers.{answer_to, Puts, TellsOpening, TellsFra
 
 use crate::answers::{Found, Put, StoreFault};
 use crate::place::Place;
-use crate::shelf::{count_clashes, put_at};
+use crate::shelf::{count_clashes, put_at, put_first};
 use crate::shelves::Shelves;
 use fragment_codec::{Fragment, Frame, Key, Opening};
 use frame_content::Content;
@@ -131,6 +131,18 @@ impl Store {
             Frame::Opening(opening) => self.put_opening(opening),
             Frame::Log(fragment) => self.put_fragment(fragment),
         }
+    }
+
+    /// Takes a fragment at whose key nothing came.
+    pub fn put_new(&mut self, fragment: Fragment) -> Result<(), Memory>
+        requires new { answer_to self.old (frame_of_specs.Log fragment) ≡ Put.New }
+        ensures joined { OnOk result (IsJoin self.old (alone (frame_of_specs.Log fragment)) self.new) }
+        ensures err { OnErr result (self.new ≡ self.old) }
+    {
+        // proof: a fragment keeps the rules by type.
+        let _rules = fragment.records();
+        let place = Place::from(fragment.key());
+        put_first(&mut self.shelves.fragments, place, Frame::Log(fragment))
     }
 
     /// Joins another store to this one.

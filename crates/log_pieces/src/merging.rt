@@ -203,6 +203,9 @@ pub(crate) fn records_between(
     ensures there { IfOk result (λ v. StandBetween from to v.items) }
     ensures logged { IfOk result (λ v. (harts : ℕ) → AreEdgesOf harts edges.now → AreInputsOf harts inputs.now → AreLogged harts hart v.items) }
 {
+    if to <= from {
+        return Ok(Vec::new(alloc));
+    }
     let records = unnoted_between(alloc, edges, inputs, hart, from, to)?;
     let notes = notes_between(notes.of_hart(hart), from, to);
     with_notes(alloc, records, notes)

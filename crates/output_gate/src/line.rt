@@ -182,6 +182,9 @@ impl Line {
             return give_each(need, noted, waiting, given);
         }
         let held = held_front(need, noted, waiting);
+        if held == 0 {
+            return Ok(0);
+        }
         given.extend_from_slice(&waiting[..held])?;
         Ok(held)
     }

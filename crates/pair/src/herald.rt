@@ -44,7 +44,7 @@ fn send_copies<R: Wait>(
     keeper: &Sender<ToKeeper, Global>,
     frames: &[Frame],
 ) -> Result<(), Memory> {
-    let mut copies = Vec::new(alloc);
+    let mut copies = Vec::with_capacity(alloc, frames.len())?;
     for frame in frames {
         add_copy(alloc, &mut copies, frame)?;
     }
@@ -73,7 +73,7 @@ impl Herald {
         Some(Grant { calls, ends })
     }
 
-    /// Sends the gate what was put out, and each keeper the pieces.
+    /// Sends the gate what was put out, and each keeper the pieces: the last one themselves, the others copies.
     fn send_news<R: Wait>(&mut self, rt: &R, alloc: Global) -> Result<(), Memory> {
         let outputs = mem::replace(&mut self.news.outputs, Vec::new(alloc));
         if !outputs.is_empty() {
@@ -83,10 +83,13 @@ impl Herald {
         if pieces.is_empty() {
             return Ok(());
         }
-        for keeper in &self.keepers {
+        let Some((last, others)) = self.keepers.as_slice().split_last() else {
+            return Ok(());
+        };
+        for keeper in others {
             send_copies(rt, alloc, keeper, &pieces)?;
         }
-        Ok(())
+        send(rt, last, Some(pieces))
     }
 
     /// Sends what the book has more than was sent, and that there is no more.

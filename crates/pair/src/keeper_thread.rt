@@ -5,6 +5,7 @@ ghost use Rattle.ack_core.specs.Seats.{keeper_of};
 ghost use Rattle.pair.specs.Posts.{IsPostOf};
 ghost use Rattle.pair.specs.Serving.{IsServed};
 
+use crate::adding::add_all;
 use crate::keeping::keep;
 use crate::messages::{ToGate, ToKeeper, send};
 use crate::posts::Post;
@@ -20,11 +21,6 @@ use tracked_position::Tracked;
 /// What a keeper's thread gives: the keeper's seat, which publishes no more, and what the keeper holds, with its position.
 pub(crate) type Served = (KeeperSeat, Tracked);
 
-fn add(frames: &mut Vec<Frame>, more: Vec<Frame>) -> Result<(), Memory> {
-    let mut more = more;
-    Ok(frames.append(&mut more)?)
-}
-
 /// Waits for a message to a keeper, and takes with it what is there by then. Whether the last one came.
 fn hear<R: Wait>(
     rt: &R,
@@ -32,13 +28,13 @@ fn hear<R: Wait>(
     frames: &mut Vec<Frame>,
 ) -> Result<bool, Memory> {
     match channel.recv(rt) {
-        Ok(Some(more)) => add(frames, more)?,
+        Ok(Some(more)) => add_all(frames, more)?,
         Ok(None) => return Ok(true),
         Err(_) => return Err(Memory),
     }
     for _more in 0..channel.len() {
         match channel.try_recv(rt) {
-            Ok(Some(more)) => add(frames, more)?,
+            Ok(Some(more)) => add_all(frames, more)?,
             Ok(None) => return Ok(true),
             Err(_) => break,
         }

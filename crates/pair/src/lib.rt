@@ -2,6 +2,7 @@
 //! a gate that lets its outputs go. What decides stands in functions with contracts; the threads are thin.
 #![tactic(auto)]
 
+mod adding;
 mod exits;
 mod gate_thread;
 mod herald;

@@ -7,6 +7,7 @@ ghost use Rattle.fragment_codec.specs.declared.frame.Frame.TheVariants.{Opening 
 ghost use Rattle.log_pieces.specs.Pieces.{IsCut, book_log};
 ghost use Rattle.primary.specs.Outputs.{outputs_since as since};
 
+use crate::adding::add_all;
 use fragment_codec::{Frame, Opening};
 use ft_types::{HART_ROW, Memory, Output};
 use guest_image::Machine;
@@ -56,8 +57,8 @@ impl News {
             slice_index self.new.told hart ≡ length h.outputs) }
         ensures rest { self.new ≡ record self.old { outputs = self.new.outputs; told = self.new.told } }
     {
-        let mut outputs = outputs_since(alloc, machine, &self.told)?;
-        self.outputs.append(&mut outputs)?;
+        let outputs = outputs_since(alloc, machine, &self.told)?;
+        add_all(&mut self.outputs, outputs)?;
         self.told = outputs_told(machine);
         Ok(())
     }
@@ -78,9 +79,8 @@ impl News {
         if counts.harts() != guest.harts() || !self.sealed.is_within(&counts) {
             return Err(Memory);
         }
-        let mut pieces = cut_pieces(alloc, book, &guest, term, &mut self.sealed)?;
-        self.pieces.append(&mut pieces)?;
-        Ok(())
+        let pieces = cut_pieces(alloc, book, &guest, term, &mut self.sealed)?;
+        add_all(&mut self.pieces, pieces)
     }
 
     /// Takes what the book has more: what its harts have put out since, and the pieces of its log from where it was cut to the settled

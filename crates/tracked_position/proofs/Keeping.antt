@@ -1,5 +1,5 @@
 -- What is kept of a store and its position, when a frame comes.
-use Rattle.std.proofs.Common.{◌≡◌, ◌≢◌, ◌⊎◌, inl, inr, ℕ, zero, suc, ◌<◌, List, length, replicate, Option, Result, Ok, Err, IfOk, OnErr, refl, sym, ap, subst, ◌∙◌}
+use Rattle.std.proofs.Common.{◌≡◌, ◌≢◌, inl, inr, ℕ, zero, suc, ◌<◌, List, length, replicate, Option, refl, sym, ap, subst, ◌∙◌}
 use Rattle.std.proofs.Common.{arith}
 use Rattle.std.proofs.lemmas.Bool.{cases_lt, cases_eq}
 use Rattle.std.proofs.lemmas.List.{length-replicate}
@@ -7,16 +7,11 @@ use Rattle.std.specs.FinMap as finite
 use Rattle.std.specs.Ordering.{nat_cmp}
 use Rattle.ft_types.specs.Counts.{count_at}
 use Rattle.ft_types.specs.Guests.{GuestParts}
-use Rattle.ft_types.specs.declared.errors.Memory.{Memory}
 use Rattle.ft_types.specs.declared.names.TheConstants.{HART_LIMIT}
 use Rattle.fragment_codec.specs.declared.types.Key.{Key}
-use Rattle.fragment_codec.specs.declared.frame.Frame.TheVariants.{Log}
 use Rattle.fragment_codec.specs.Rules.{FragmentParts, OpeningParts}
-use Rattle.log_join.specs.declared.answers.Put.{Put}
-use Rattle.log_join.specs.declared.answers.Put.TheVariants.{New, OtherGuest}
 use Rattle.log_join.specs.Cells.{Cell, Absent, One, cell_of}
-use Rattle.log_join.specs.Stores.{StoreView, key_cmp, opening_at, fragment_at, IsStore, IsJoin, nothing, alone}
-use Rattle.log_join.specs.Answers.{answer_to}
+use Rattle.log_join.specs.Stores.{StoreView, key_cmp, opening_at, fragment_at, IsStore, nothing}
 use Rattle.closed_cut.specs.Chain.{Sound}
 use Rattle.closed_cut.specs.Position.{base_of, pieces_of, Goes, InChain, Stops, IsPosition, NoTop}
 use Rattle.ft_types.specs.declared.position.Position.{Position}
@@ -29,7 +24,7 @@ use Rattle.tracked_position.specs.machinery.Legs.{IsNext}
 use Rattle.tracked_position.specs.machinery.Walks.{cursor_at, EndsAt, IsAhead, IsOver, AreOver, IsApart}
 use Rattle.tracked_position.specs.machinery.Keeping.{IsTracked}
 use Rattle.tracked_position.proofs.Cuts.{over_of, goes_same}
-use Rattle.tracked_position.proofs.Growth.{HasOneMore, one_more, GrowsAt, goes_grown, cut_grown, over_grown, to_greatest}
+use Rattle.tracked_position.proofs.Growth.{HasOneMore, GrowsAt, goes_grown, cut_grown, over_grown, to_greatest}
 use Rattle.tracked_position.proofs.Positions.{here_reached, here_chain, here_sound, next_over, chain_grown, sound_grown, no_more, position_same}
 use Rattle.tracked_position.proofs.Positions.{position_here}
 
@@ -60,18 +55,6 @@ nothing_tracked guest cursors =
     none term = ap cell_of (finite.get-empty nat_cmp term)
 
 -- ---- a piece came
-
--- it is there now
-pub put_more : (old new : StoreView) (f : FragmentParts) (p : Put) → answer_to old (Log f) ≡ New → p ≡ answer_to old (Log f) →
-    (p ≢ OtherGuest → IsJoin old (alone (Log f)) new) → HasOneMore old new f
-put_more old new f p is answer joined = one_more old new f is (joined (λ other. let e : New ≡ OtherGuest = sym is ∙ (sym answer ∙ other) in cc))
-
--- or nothing changed
-pub taken : (old new : StoreView) (f : FragmentParts) (result : Result Put Memory) → answer_to old (Log f) ≡ New →
-    IfOk result (λ p. p ≡ answer_to old (Log f)) → IfOk result (λ p. p ≢ OtherGuest → IsJoin old (alone (Log f)) new) → OnErr result (new ≡ old) →
-    (new ≡ old) ⊎ HasOneMore old new f
-taken old new f (Ok p) is answer joined err = inr (put_more old new f p is answer joined)
-taken old new f (Err e) is answer joined err = inl err
 
 -- a position that was found anew
 pub found_tracked : (s : StoreView) (p : Position) (cursors : List Cursor) → IsStore s → IsPosition s p → length p.counts ≡ s.guest.harts →

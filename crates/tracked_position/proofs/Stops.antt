@@ -121,13 +121,17 @@ module _ (s : StoreView) (rules : IsStore s) (term : ℕ) (base cut : ℕ → �
             ]
       ]
 
+  -- where the walk has ended, and the hart has come as far
+  pub ended_waits : (limit : Option (ℕ → ℕ)) → EndsAt (pieces_of s term hart) at → at.end ≤ cut hart → IsWaiting s term base limit cut hart None
+  ended_waits limit ends le =
+      λ other is.
+      let w = is.within hart in le_trans w.far (le_trans (last_end_of s rules term base hart at over.goes ends w.place w.end w.goes) le)
+
   -- where it is as far as the walk came, or at its limit
   pub stop_waits : (limit : Option (List ℕ)) (edge : Option Edge) → IfSome edge (StopsBefore (pieces_of s term hart) cut ceiling at) →
       IfNone edge (EndsAt (pieces_of s term hart) at) → limited_to limit hart (stop_count at edge) ≡ stop_count at edge → stop_count at edge ≤ cut hart →
       IsWaiting s term base (option_map count_at limit) cut hart (other_of edge)
-  stop_waits limit None before ends whole le =
-      λ other is.
-      let w = is.within hart in le_trans w.far (le_trans (last_end_of s rules term base hart at over.goes ends w.place w.end w.goes) le)
+  stop_waits limit None before ends whole le = ended_waits (option_map count_at limit) ends le
   stop_waits limit (Some e) before ends whole le =
       record {
         place = at.place;

@@ -31,6 +31,18 @@ fn hold_more(waits: &[Option<Hart>; HART_ROW], held: &mut [bool; HART_ROW]) -> b
     more
 }
 
+/// Whether none waits.
+fn is_none_waiting(waits: &[Option<Hart>; HART_ROW]) -> bool
+    ensures { IsTrue result → (hart : ℕ) → IsHeld waits.now hart }
+{
+    for index in 0..HART_ROW {
+        if waits[index].is_some() {
+            return false;
+        }
+    }
+    true
+}
+
 /// No hart's flag is set.
 fn no_flags() -> [bool; HART_ROW]
     ensures { (hart : ℕ) → slice_index_or result hart false ≡ false }
@@ -42,6 +54,9 @@ fn no_flags() -> [bool; HART_ROW]
 pub(crate) fn all_held(waits: &[Option<Hart>; HART_ROW]) -> bool
     ensures { IsTrue result → (hart : ℕ) → IsHeld waits.now hart }
 {
+    if is_none_waiting(waits) {
+        return true;
+    }
     let mut held = no_flags();
     for _ in 0..HART_ROW {
         if !hold_more(waits, &mut held) {

@@ -1,6 +1,6 @@
 //! Raising harts as far as the edges of their next steps are met.
 
-ghost use Rattle.std.specs.Prelude.{◌≡◌, ◌<◌, ◌≤◌, ℕ, false, true, Option, None, length, slice_index_or};
+ghost use Rattle.std.specs.Prelude.{◌≡◌, ◌<◌, ◌≤◌, ℕ, false, true, Option, None, length, slice_index_or, IsTrue};
 ghost use Rattle.std.specs.Option.{option_map, ForSome};
 ghost use Rattle.ft_types.specs.Counts.{count_at};
 ghost use Rattle.interleaving.specs.Lists as theory;
@@ -13,7 +13,7 @@ ghost use Rattle.tracked_position.specs.machinery.Waits.{IsWaiting, room, limite
 
 use crate::held::all_held;
 use crate::lowering::lower;
-use crate::walk::{Cursor, walk_further};
+use crate::walk::{Ahead, Cursor, walk_further};
 use fragment_codec::Opening;
 use ft_types::{Count, Counts, HART_ROW, Hart};
 use log_join::Store;
@@ -44,6 +44,16 @@ pub(crate) fn limited(count: Count, limit: &Option<Counts>, hart: Hart) -> Count
     }
 }
 
+/// Whether a walk has ended no further than this count: its hart, which has come there, goes no further.
+fn is_at_end(cursor: &Cursor, count: Count) -> bool
+    ensures { IsTrue result → (cursor.now.ahead ≡ Ahead.End) × (cursor.now.end ≤ count) }
+{
+    match cursor.ahead {
+        Ahead::End => cursor.end <= count,
+        Ahead::Unseen | Ahead::Waits(_) => false,
+    }
+}
+
 /// Raises a hart to the first edge that the counts do not meet, to the end of its pieces or to its limit.
 fn raise_hart(
     store: &Store,
@@ -68,11 +78,18 @@ fn raise_hart(
     ensures waits { result.rose ≡ false → IsWaiting store.now opening.now.term (base_of opening.now) (option_map count_at limit.now) (count_at
         cut.old) hart result.waits }
 {
+    let here = cut.get(hart);
+    if is_at_end(cursor, here) {
+        return Raised {
+            rose: false,
+            waits: None,
+        };
+    }
     let stop = walk_further(store, opening.term(), hart, *cursor, cut);
     *cursor = stop.cursor;
     let count = stop.count();
     let end = limited(count, limit, hart);
-    let rose = cut.get(hart) < end;
+    let rose = here < end;
     if rose {
         cut.set(hart, end);
     }

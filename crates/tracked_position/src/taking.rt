@@ -20,7 +20,7 @@ use crate::raising::reach;
 use crate::starting::start;
 use crate::walk::{Ahead, Cursor};
 use closed_cut::{Position, opening_of};
-use fragment_codec::{Fragment, Frame, Key, Opening};
+use fragment_codec::{Fragment, Key, Opening};
 use ft_types::{Count, Counts, HART_ROW, Memory, Term};
 use log_join::{Put, Store};
 use std::option::Option;
@@ -104,10 +104,10 @@ pub(crate) fn take_elsewhere(
     ensures takes { Takes store.old (frame_of_specs.Log fragment) result store.new }
     ensures tracked { IsTracked store.new position.now cursors.now }
 {
-    let put = store.put(Frame::Log(fragment));
+    store.put_new(fragment)?;
     // proof: a store's guest keeps the rules.
     let _rules = store.guest();
-    put
+    Ok(Put::New)
 }
 
 /// Whether a piece that comes may let harts go on: not where the walk over its hart has ended elsewhere. Where it begins at that
@@ -150,12 +150,12 @@ pub(crate) fn take_here(
 {
     let key = fragment.key();
     let from = fragment.from();
-    let put = store.put(Frame::Log(fragment))?;
+    store.put_new(fragment)?;
     // proof: a store's guest keeps the rules.
     let _rules = store.guest();
     if !may_go_on(cursors, key, from) {
-        return Ok(put);
+        return Ok(Put::New);
     }
     position.term = go_on(store, position.top, opening, cursors, &mut position.counts);
-    Ok(put)
+    Ok(Put::New)
 }

@@ -164,11 +164,13 @@ impl Tracked {
         ensures memory { OnErr result (MayGrow self.old frame) }
         ensures err { OnErr result (self.new ≡ self.old) }
     {
-        match (answer_of(&self.store, &frame), frame) {
-            (Put::New, Frame::Log(fragment)) => self.put_new(alloc, fragment),
-            (Put::New, frame) => self.put_anew(alloc, frame),
-            (Put::Same | Put::OtherGuest, frame) => self.store.put(frame),
-            (Put::Clash, frame) => self.put_clashing(alloc, frame),
+        match answer_of(&self.store, &frame) {
+            Put::New => match frame {
+                Frame::Log(fragment) => self.put_new(alloc, fragment),
+                Frame::Opening(opening) => self.put_anew(alloc, Frame::Opening(opening)),
+            },
+            Put::Same | Put::OtherGuest => self.store.put(frame),
+            Put::Clash => self.put_clashing(alloc, frame),
         }
     }
 

@@ -56,6 +56,23 @@ all_between count from to xs =
     recursion_from_All (λ x. (from ≤ count x) × (count x < to)) kept
     (λ k d below. between_is from to _ (filter_passes (λ x. is_between from to (count x)) xs k d below))
 
+-- and none does where the second is not the greater
+none_between : {A : Type 0} (count : A → ℕ) (from to : ℕ) (xs : List A) → to ≤ from → filter (λ x. is_between from to (count x)) xs ≡ []
+none_between {A} count from to xs low = empty (filter (λ x. is_between from to (count x)) xs) (all_between count from to xs)
+  where
+    empty : (ys : List A) → AllByRecursion (λ x. (from ≤ count x) × (count x < to)) ys → ys ≡ []
+    empty [] h = refl
+    empty (y ∷ ys) h = absurd (omega (arith, h.0.0, h.0.1, low))
+
+pub nothing_told : (from to : ℕ) (edges : List Edge) (inputs : List (ℕ × HartInput)) (notes : List (ℕ × ℕ)) → to ≤ from →
+    told_by [] ≡ facts_between from to (record { edges = edges; inputs = inputs; notes = notes })
+nothing_told from to edges inputs notes low =
+    rw (
+      none_between (λ (e : Edge). e.at) from to edges low,
+      none_between (λ (x : ℕ × HartInput). x.0) from to inputs low,
+      none_between (λ (x : ℕ × ℕ). x.0) from to notes low,
+    ) refl
+
 module _ (from to : ℕ) (edges : List Edge) (inputs : List (ℕ × HartInput)) (notes : List (ℕ × ℕ)) (rs : List Record)
     (told : told_by rs ≡ facts_between from to (record { edges = edges; inputs = inputs; notes = notes })) where
   edges_are : filter_map edge_in rs ≡ filter (λ e. is_between from to e.at) edges

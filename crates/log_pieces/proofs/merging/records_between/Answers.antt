@@ -5,7 +5,7 @@ use Rattle.edge_log.specs.EdgeLog.{row_of}
 use Rattle.input_log.specs.Inputs.{inputs_of}
 use Rattle.input_log.specs.Notes.{notes_of, IsNotedBefore, AreNotes}
 use Rattle.fragment_codec.specs.Facts.{is_between}
-use Rattle.log_pieces.proofs.cuts.Between.{told_noted, there_between, logged_between}
+use Rattle.log_pieces.proofs.cuts.Between.{nothing_told, told_noted, there_between, logged_between}
 use Rattle.input_log.proofs.Notings.{counts_rise}
 use Rattle.log_pieces.proofs.merging.records_between.Goals as goal
 
@@ -50,3 +50,10 @@ returns-clause-logged c =
     (notes_of c.args.notes.now c.args.hart) v.items told harts c.args.hart order c.unnoted_between.ensures.few (edges c.args.hart) (inputs c.args.hart)
     (subst (λ l. AreNotes l) c.of_hart.ensures.value c.of_hart.ensures.rules).each)
     (returns-clause-told c) c.with_notes.ensures.order
+
+-- where no count is between there is nothing to tell
+pub returns-then-to-from-clause-told : goal.returns-then-to-from-clause-told
+returns-then-to-from-clause-told c =
+    rw c.new.ensures.items
+    (nothing_told c.args.from c.args.to (row_of c.args.edges.now c.args.hart) (inputs_of c.args.inputs.now c.args.hart) (notes_of c.args.notes.now c.args.hart)
+    c.if-to-from.true)

@@ -5,7 +5,7 @@ use Rattle.closed_cut.specs.Position.{base_of, pieces_of}
 use Rattle.tracked_position.specs.machinery.Walks.{IsOver, IsAhead, StopsBefore, EndsAt, stop_count}
 use Rattle.tracked_position.specs.machinery.Waits.{limited_to}
 use Rattle.tracked_position.proofs.Cuts.{own, raised, set_rises, limited_is, limited_le, limited_holds}
-use Rattle.tracked_position.proofs.Stops.{over_on, over_more, stop_comes, stop_below, stop_met, stop_waits, comes_less}
+use Rattle.tracked_position.proofs.Stops.{over_on, over_more, ended_waits, stop_comes, stop_below, stop_met, stop_waits, comes_less}
 use Rattle.std.specs.Option.{option_map}
 use Rattle.tracked_position.proofs.raising.raise_hart.Goals as goal
 use Rattle.tracked_position.proofs.raising.raise_hart.Goals.{then-rose, else-rose, then-end-count, else-end-count}
@@ -65,7 +65,7 @@ returns-clause-cut c =
       | then-rose w ↦
           rw (w.cut-is, w.set.ensures)
           (raised s c.requires.rules term base (option_map count_at c.args.limit.now) c.args.cut.now c.args.hart c.limited-end.result c.requires.cut
-          c.requires.hart (let less : c.get.result < c.limited-end.result = w.if-rose.true in omega arith)
+          c.requires.hart (let less : c.get-here.result < c.limited-end.result = w.if-rose.true in omega arith)
           (rw c.limited-end.ensures (limited_is c.args.limit.now c.args.hart c.count-count.result))
           (comes_less (pieces_of s term c.args.hart) (base c.args.hart) (stop_count at edge) c.limited-end.result le
           (stop_comes s c.requires.rules term base cut c.args.hart (2 ^ 48) at (over c) edge (before c)))
@@ -82,7 +82,7 @@ returns-clause-over c =
       | then-rose w ↦
           rw (w.cut-is, w.set.ensures)
           (set_rises c.args.cut.now c.args.hart c.limited-end.result c.requires.hart
-          (let less : c.get.result < c.limited-end.result = w.if-rose.true in omega arith))
+          (let less : c.get-here.result < c.limited-end.result = w.if-rose.true in omega arith))
       | else-rose w ↦ rw w.cut-is (λ h. le_of_eq refl)
     ]) (over c)
 
@@ -90,7 +90,7 @@ pub returns-clause-waits : goal.returns-clause-waits
 returns-clause-waits c risen =
     let at = c.walk_further-stop.result.cursor in
     let edge = c.walk_further-stop.result.edge in
-    let down : c.limited-end.result ≤ c.get.result = ltb-false c.get.result c.limited-end.result risen in
+    let down : c.limited-end.result ≤ c.get-here.result = ltb-false c.get-here.result c.limited-end.result risen in
     let is : c.limited-end.result ≡ limited_to c.args.limit.now c.args.hart c.count-count.result = c.limited-end.ensures in
     elim c.if-end-count.branch [
       | then-end-count w ↦
@@ -109,3 +109,13 @@ returns-clause-waits c risen =
           (stop_waits c.args.store.now c.requires.rules c.args.opening.now.term (base_of c.args.opening.now) (count_at c.args.cut.now) c.args.hart (2 ^ 48) at
           (over c) c.args.limit.now edge (before c) (ends c) (rw c.count-count.ensures at whole) (omega arith))
     ]
+
+-- it has ended there
+pub returns-then-is_at_end-clause-waits : goal.returns-then-is_at_end-clause-waits
+returns-then-is_at_end-clause-waits c _ =
+    let s = c.args.store.now in
+    let o = c.args.opening.now in
+    let at = c.args.cursor.now in
+    let (ended, far) = c.is_at_end.ensures c.if-is_at_end.true in
+    ended_waits s c.requires.rules o.term (base_of o) (count_at c.args.cut.now) c.args.hart (2 ^ 48) at c.requires.over (option_map count_at c.args.limit.now)
+    (subst (IsAhead (pieces_of s o.term c.args.hart) (count_at c.args.cut.now) at) ended c.requires.over.seen) (rw c.get-here.ensures.value at far)

@@ -8,38 +8,35 @@ use Rattle.closed_cut.specs.Position.{base_of, InChain, Stops}
 use Rattle.tracked_position.specs.machinery.Cuts.{IsCutOf}
 use Rattle.tracked_position.specs.machinery.Walks.{AreOver}
 use Rattle.tracked_position.specs.machinery.Legs.{IsNext}
-use Rattle.tracked_position.proofs.Growth.{HasOneMore}
-use Rattle.tracked_position.proofs.Keeping.{put_more, over_more, cut_here, chain_here, sound_here, tracked_here, tracked_moved, tracked_apart}
+use Rattle.tracked_position.proofs.Growth.{HasOneMore, one_more}
+use Rattle.tracked_position.proofs.Keeping.{over_more, cut_here, chain_here, sound_here, tracked_here, tracked_moved, tracked_apart}
 use Rattle.tracked_position.proofs.taking.take_here.Goals as goal
 
 pub go_on-position-requires-clause-sound : goal.go_on-position-requires-clause-sound
 go_on-position-requires-clause-sound c =
     let old = c.args.store.now in
-    let new = c.put.new.self in
-    let more : HasOneMore old new c.args.fragment =
-    put_more old new c.args.fragment c.in_ok-put.put c.requires.new c.in_ok-put.ensures.answer c.in_ok-put.ensures.joined in
+    let new = c.put_new.new.self in
+    let more : HasOneMore old new c.args.fragment = one_more old new c.args.fragment c.requires.new c.in_ok-put_new.ensures.joined in
     sound_here old new c.args.fragment c.requires.tracked.rules c.guest-rules.ensures.rules more c.args.position.now c.args.opening.now
     c.requires.tracked.position c.requires.opening
 
 pub go_on-position-requires-clause-opening : goal.go_on-position-requires-clause-opening
 go_on-position-requires-clause-opening c =
     let old = c.args.store.now in
-    let new = c.put.new.self in
+    let new = c.put_new.new.self in
     let p = c.args.position.now in
     let o = c.args.opening.now in
-    let more : HasOneMore old new c.args.fragment =
-    put_more old new c.args.fragment c.in_ok-put.put c.requires.new c.in_ok-put.ensures.answer c.in_ok-put.ensures.joined in
+    let more : HasOneMore old new c.args.fragment = one_more old new c.args.fragment c.requires.new c.in_ok-put_new.ensures.joined in
     let at : o.term ≡ p.term = (c.requires.tracked.rules.openings p.term o c.requires.opening).same_term in
     subst (λ t. opening_at new t ≡ One o) (sym at) (more.openings p.term ∙ c.requires.opening)
 
 pub go_on-position-requires-clause-in_chain : goal.go_on-position-requires-clause-in_chain
 go_on-position-requires-clause-in_chain c =
     let old = c.args.store.now in
-    let new = c.put.new.self in
+    let new = c.put_new.new.self in
     let p = c.args.position.now in
     let o = c.args.opening.now in
-    let more : HasOneMore old new c.args.fragment =
-    put_more old new c.args.fragment c.in_ok-put.put c.requires.new c.in_ok-put.ensures.answer c.in_ok-put.ensures.joined in
+    let more : HasOneMore old new c.args.fragment = one_more old new c.args.fragment c.requires.new c.in_ok-put_new.ensures.joined in
     let at : o.term ≡ p.term = (c.requires.tracked.rules.openings p.term o c.requires.opening).same_term in
     subst (λ t. InChain new t p.top) (sym at)
     (chain_here old new c.args.fragment c.requires.tracked.rules c.guest-rules.ensures.rules more p o c.requires.tracked.position c.requires.opening)
@@ -47,11 +44,10 @@ go_on-position-requires-clause-in_chain c =
 pub go_on-position-requires-clause-cut : goal.go_on-position-requires-clause-cut
 go_on-position-requires-clause-cut c =
     let old = c.args.store.now in
-    let new = c.put.new.self in
+    let new = c.put_new.new.self in
     let p = c.args.position.now in
     let o = c.args.opening.now in
-    let more : HasOneMore old new c.args.fragment =
-    put_more old new c.args.fragment c.in_ok-put.put c.requires.new c.in_ok-put.ensures.answer c.in_ok-put.ensures.joined in
+    let more : HasOneMore old new c.args.fragment = one_more old new c.args.fragment c.requires.new c.in_ok-put_new.ensures.joined in
     let at : o.term ≡ p.term = (c.requires.tracked.rules.openings p.term o c.requires.opening).same_term in
     subst (λ t. (limit : Option (List ℕ)) → IsNext new p.top t limit → IsCutOf new t (base_of o) (option_map count_at limit) (count_at p.counts)) (sym at)
     (cut_here old new c.args.fragment c.requires.tracked.rules c.guest-rules.ensures.rules more p o c.requires.tracked.position c.requires.opening)
@@ -59,11 +55,10 @@ go_on-position-requires-clause-cut c =
 pub go_on-position-requires-clause-over : goal.go_on-position-requires-clause-over
 go_on-position-requires-clause-over c =
     let old = c.args.store.now in
-    let new = c.put.new.self in
+    let new = c.put_new.new.self in
     let p = c.args.position.now in
     let o = c.args.opening.now in
-    let more : HasOneMore old new c.args.fragment =
-    put_more old new c.args.fragment c.in_ok-put.put c.requires.new c.in_ok-put.ensures.answer c.in_ok-put.ensures.joined in
+    let more : HasOneMore old new c.args.fragment = one_more old new c.args.fragment c.requires.new c.in_ok-put_new.ensures.joined in
     let at : o.term ≡ p.term = (c.requires.tracked.rules.openings p.term o c.requires.opening).same_term in
     let cursors = c.may_go_on.new.cursors in
     subst (λ t. AreOver new t (base_of o) (count_at p.counts) cursors) (sym at)
@@ -74,11 +69,10 @@ go_on-position-requires-clause-over c =
 pub returns-clause-tracked : goal.returns-clause-tracked
 returns-clause-tracked c =
     let old = c.args.store.now in
-    let new = c.put.new.self in
+    let new = c.put_new.new.self in
     let p = c.args.position.now in
     let o = c.args.opening.now in
-    let more : HasOneMore old new c.args.fragment =
-    put_more old new c.args.fragment c.in_ok-put.put c.requires.new c.in_ok-put.ensures.answer c.in_ok-put.ensures.joined in
+    let more : HasOneMore old new c.args.fragment = one_more old new c.args.fragment c.requires.new c.in_ok-put_new.ensures.joined in
     let at : o.term ≡ p.term = (c.requires.tracked.rules.openings p.term o c.requires.opening).same_term in
     tracked_here old new c.args.fragment c.requires.tracked.rules c.guest-rules.ensures.rules more p _ c.args.cursors.now c.go_on-position.new.cursors o
     c.requires.opening refl c.go_on-position.ensures.harts
@@ -88,11 +82,10 @@ returns-clause-tracked c =
 pub returns-then-not-may_go_on-clause-tracked : goal.returns-then-not-may_go_on-clause-tracked
 returns-then-not-may_go_on-clause-tracked c =
     let old = c.args.store.now in
-    let new = c.put.new.self in
+    let new = c.put_new.new.self in
     let p = c.args.position.now in
     let cursors = c.may_go_on.new.cursors in
-    let more : HasOneMore old new c.args.fragment =
-    put_more old new c.args.fragment c.in_ok-put.put c.requires.new c.in_ok-put.ensures.answer c.in_ok-put.ensures.joined in
+    let more : HasOneMore old new c.args.fragment = one_more old new c.args.fragment c.requires.new c.in_ok-put_new.ensures.joined in
     tracked_apart old new c.args.fragment c.requires.tracked.rules c.guest-rules.ensures.rules more p cursors
     (rw c.key-key.ensures at c.may_go_on.ensures.hart) (rw (c.key-key.ensures, c.from-from.ensures) at c.may_go_on.ensures.apart)
     (rw c.key-key.ensures at c.may_go_on.ensures.ended c.if-not-may_go_on.true)
