@@ -11,7 +11,7 @@ pub(crate) const ROUND: u64 = 4096;
 
 /// How many rounds a hart goes on, at the most, until keepers are sent what is new: to send it wakes a thread for each of them, which takes longer than a
 /// round does.
-const ROUNDS_SENT: u64 = 4;
+const ROUNDS_SENT: u64 = 8;
 
 /// Whether a hart has gone on from these counts to those by as many rounds as are sent at once.
 pub(crate) fn has_gone_on(before: &Counts, now: &Counts) -> bool {
