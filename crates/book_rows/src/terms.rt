@@ -218,7 +218,7 @@ fn does(alloc: Global, leader: &mut Leader, (deed, told): &Row) -> Result<bool, 
         Deed::Again(number) => tells_again(alloc, leader, number, told),
         Deed::Held(keeper, term) => lets_go(alloc, leader, keeper, term, told),
         Deed::Keeps(kept, term) => Ok(keeps(&*leader, kept, term)),
-        Deed::Waits => Ok(leader.only_waits()),
+        Deed::Waits => leader.only_waits(alloc),
         Deed::Round => Ok(false),
     }
 }

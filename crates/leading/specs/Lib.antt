@@ -4,4 +4,3 @@ pub mod Leaders
 pub mod Beginning
 pub mod Hearing
 pub mod Rounds
-pub mod machinery

@@ -155,11 +155,14 @@ impl Leader {
 
     /// Whether rounds would change nothing but counts until an input comes: no hart could be handed one, and all of them only wait, which
     /// few steps of a copy of each show. It steers rounds alone, and costs no more as the past grows.
-    pub fn only_waits(&self) -> bool
-        ensures { result ≡ true → (hart : ℕ) (h : HartRecord) → slice_get self.now.primary.book.machine.harts hart ≡ Some h →
+    pub fn only_waits(&self, alloc: Global) -> Result<bool, Memory>
+        ensures { result ≡ Ok true → (hart : ℕ) (h : HartRecord) → slice_get self.now.primary.book.machine.harts hart ≡ Some h →
             next_of h (queue_at self.now.queues hart) ≡ None }
     {
-        !self.may_hand() && only_waits(self.machine())
+        if self.may_hand() {
+            return Ok(false);
+        }
+        only_waits(alloc, self.machine())
     }
 
     /// Takes a word that is asked for, where its hart is there.

@@ -7,7 +7,6 @@ mod inputs;
 mod leader;
 mod rounds;
 mod starting;
-mod still_pages;
 mod telling;
 mod waiting;
 

@@ -206,14 +206,15 @@ impl Helm {
     }
 
     /// Looks, unless that is put off, whether more rounds would change anything.
-    fn look(&mut self) {
+    fn look<R: AllocGlobal>(&mut self, rt: &R) -> Result<(), Memory> {
         let Some(leader) = &self.leader else {
-            return;
+            return Err(Memory);
         };
-        let only_waits = self.duty.blind == 0 && leader.only_waits();
+        let only_waits = self.duty.blind == 0 && leader.only_waits(rt.alloc())?;
         self.duty.next = if only_waits { Next::Wait } else { Next::Lead };
         self.duty.blind = next_blind(self.duty.blind, self.duty.steps);
         self.duty.steps = next_round(self.duty.steps, leader.may_hand());
+        Ok(())
     }
 
     /// Takes the events that are there, leads the first rounds behind a request, and looks behind them. Rounds that go on are left to the thread that
@@ -228,7 +229,7 @@ impl Helm {
             self.lead(rt)?;
         }
         if let Next::Look = self.duty.next {
-            self.look();
+            self.look(rt)?;
         }
         Ok(())
     }
@@ -244,7 +245,7 @@ impl Helm {
             self.take_all(rt, events)?;
             match self.duty.next {
                 Next::Lead => self.lead(rt)?,
-                Next::Look => self.look(),
+                Next::Look => self.look(rt)?,
                 Next::Wait => break,
             }
         }
