@@ -86,25 +86,24 @@ fn fences_of(alloc: Global, log: &str) -> Result<String, AllocError> {
 
 /// The files of one keeper: the log, which is open to add where the keeper runs, and the fences, which are where its log is handed over.
 #[derive(Drop)]
-pub struct HostFiles<R: Paths + AllocGlobal + Copy> {
-    rt: R,
+pub struct HostFiles<'a, R: Paths + AllocGlobal> {
+    rt: &'a R,
     guest: Guest,
-    log: String,
+    log: &'a str,
     fences: String,
     open_log: Option<File>,
     open_fences: Option<File>,
 }
 
-impl<R: Paths + AllocGlobal + Copy> HostFiles<R> {
+impl<'a, R: Paths + AllocGlobal> HostFiles<'a, R> {
     /// The files of a keeper that runs. No other keeper has its log.
-    pub fn of_keeper(rt: &R, guest: Guest, log: &str) -> Result<HostFiles<R>, Fault> {
-        let name = String::from_str(rt.alloc(), log)?;
+    pub fn of_keeper(rt: &'a R, guest: Guest, log: &'a str) -> Result<HostFiles<'a, R>, Fault> {
         let fences = fences_of(rt.alloc(), log)?;
         let file = open_log(rt, log)?;
         Ok(HostFiles {
-            rt: *rt,
+            rt,
             guest,
-            log: name,
+            log,
             fences,
             open_log: Some(file),
             open_fences: None,
@@ -112,14 +111,13 @@ impl<R: Paths + AllocGlobal + Copy> HostFiles<R> {
     }
 
     /// The files of a keeper whose log is handed over. Whoever else hands it over waits meanwhile.
-    pub fn of_hand(rt: &R, guest: Guest, log: &str) -> Result<HostFiles<R>, Fault> {
-        let name = String::from_str(rt.alloc(), log)?;
+    pub fn of_hand(rt: &'a R, guest: Guest, log: &'a str) -> Result<HostFiles<'a, R>, Fault> {
         let fences = fences_of(rt.alloc(), log)?;
         let file = open_fences(rt, fences.as_str())?;
         Ok(HostFiles {
-            rt: *rt,
+            rt,
             guest,
-            log: name,
+            log,
             fences,
             open_log: None,
             open_fences: Some(file),
@@ -133,11 +131,11 @@ fn add_synced(file: &mut File, piece: &[u8]) -> io::Result<()> {
     file.sync_all()
 }
 
-impl<R: Paths + AllocGlobal + Copy> KeeperFiles for HostFiles<R> {
+impl<R: Paths + AllocGlobal> KeeperFiles for HostFiles<'_, R> {
     ghost acts = { λ _. None };
 
     fn read_log(&mut self, _alloc: Global) -> Result<Vec<u8>, FilesFault> {
-        match read_if_there(&self.rt, self.log.as_str()) {
+        match read_if_there(self.rt, self.log) {
             Ok(bytes) => Ok(bytes),
             Err(error) => Err(fault_of(&error, FilesFault::Log)),
         }
@@ -165,7 +163,7 @@ impl<R: Paths + AllocGlobal + Copy> KeeperFiles for HostFiles<R> {
     }
 
     fn last_fence(&mut self, _alloc: Global) -> Result<Term, FilesFault> {
-        match read_if_there(&self.rt, self.fences.as_str()) {
+        match read_if_there(self.rt, self.fences.as_str()) {
             Ok(bytes) => Ok(last_fence(&self.guest, &bytes)),
             Err(error) => Err(fault_of(&error, FilesFault::Fences)),
         }

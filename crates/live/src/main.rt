@@ -2,7 +2,6 @@
 //! FIFOs or files.
 #![tactic(auto)]
 
-mod desk;
 mod events;
 mod faults;
 mod files;

@@ -1,13 +1,13 @@
 //! A thread for each output: it opens the path and writes what was acknowledged last. Where nobody reads any more it opens the path again.
 
-use crate::events::Event;
-use ends::{Door, Fault, Host, NamedFile, Taker, bring};
-use ft_types::{Guest, Keeper, Memory};
+use crate::events::{Event, Sender, send};
+use ends::{Fault, Host, NamedFile, Paths};
+use ft_types::{Guest, Keeper};
 use std::alloc::Global;
 use std::fs::File;
 use std::io::Write;
 use std::sync::{Arc, Condvar, Mutex, Wait};
-use std::thread::JoinHandle;
+use std::thread::{JoinHandle, Threads};
 use std::{io, thread};
 use wire::{Acknowledgement, Line, acknowledgement_line, again_line};
 
@@ -18,7 +18,7 @@ struct Next {
     is_last: bool,
 }
 
-/// Where whoever decides leaves what is to be written.
+/// Where the thread that decides leaves what is to be written.
 #[derive(Drop)]
 struct Tray {
     next: Mutex<Next>,
@@ -78,13 +78,13 @@ enum End {
 
 /// An output.
 #[derive(Drop)]
-struct Output<T: Drop> {
+struct Output {
     number: usize,
     path: String,
     guest: Guest,
     keeper: Keeper,
     from: Arc<Tray, Global>,
-    to: Door<Event, T>,
+    to: Sender,
 }
 
 fn write(file: &mut File, line: &Line) -> Result<(), End> {
@@ -95,7 +95,7 @@ fn write(file: &mut File, line: &Line) -> Result<(), End> {
     }
 }
 
-impl<T: Drop> Output<T> {
+impl Output {
     /// One connection, which begins with the last line that there was.
     fn serve<R: Wait>(&self, rt: &R, file: &mut File, last: &mut Line) -> Result<(), End> {
         for _ in rt.forever() {
@@ -107,32 +107,33 @@ impl<T: Drop> Output<T> {
         }
         Ok(())
     }
-}
 
-fn fail<H: Host, T: Taker<H>>(rt: &H, output: &Output<T>) {
-    let fault = Fault::File(NamedFile::Output(output.number));
-    let _told = bring(rt, &output.to, Event::Failed(fault));
-}
+    fn fail<R: Wait>(&self, rt: &R) {
+        let fault = Fault::File(NamedFile::Output(self.number));
+        let _told = send(rt, &self.to, Event::Failed(fault));
+    }
 
-/// One connection behind the other. The first begins by asking for all frames once more.
-fn run<H: Host, T: Taker<H>>(rt: &H, output: &Output<T>) {
-    let mut last = again_line(&output.guest, output.keeper);
-    for _ in rt.forever() {
-        let Ok(mut file) = rt.open_to_add(output.path.as_str()) else {
-            return fail(rt, output);
-        };
-        match output.serve(rt, &mut file, &mut last) {
-            Ok(()) => return,
-            Err(End::Left) => {}
-            Err(End::Failed) => return fail(rt, output),
+    /// One connection behind the other. The first begins by asking for all frames once more.
+    fn run<R: Paths + AllocGlobal + Wait>(&self, rt: &R) {
+        let mut last = again_line(&self.guest, self.keeper);
+        for _ in rt.forever() {
+            let Ok(mut file) = rt.open_to_add(self.path.as_str()) else {
+                return self.fail(rt);
+            };
+            match self.serve(rt, &mut file, &mut last) {
+                Ok(()) => return,
+                Err(End::Left) => {}
+                Err(End::Failed) => return self.fail(rt),
+            }
         }
     }
 }
 
-/// An output, for whoever decides.
+/// An output, for the thread that decides.
 #[derive(Drop)]
 pub struct Post {
     to: Arc<Tray, Global>,
+    thread: JoinHandle<()>,
 }
 
 impl Post {
@@ -141,21 +142,23 @@ impl Post {
         self.to.leave(rt, acknowledgement);
     }
 
-    /// Nothing is left any more: its thread ends once all is written.
-    pub fn end<R: Wait>(&self, rt: &R) {
-        self.to.end(rt);
+    /// Waits until all is written.
+    pub fn end<R: Wait + Threads>(self, rt: &R) {
+        let Post { to, thread } = self;
+        to.end(rt);
+        thread.join(rt);
     }
 }
 
 /// Starts a thread that writes to the output with this number.
-fn begin_post<H: Host, T: Taker<H>>(
+pub fn start<H: Host>(
     rt: &H,
     guest: Guest,
     keeper: Keeper,
     number: usize,
     path: &str,
-    to: &Door<Event, T>,
-) -> Result<(Post, JoinHandle<()>), Memory> {
+    to: &Sender,
+) -> Result<Post, Fault> {
     let own = *rt;
     let left = Arc::new(rt.alloc(), Tray::new())?;
     let output = Output {
@@ -164,28 +167,10 @@ fn begin_post<H: Host, T: Taker<H>>(
         guest,
         keeper,
         from: Arc::try_clone(&left)?,
-        to: to.copy()?,
+        to: to.clone()?,
     };
-    match thread::spawn(rt, move || run(&own, &output)) {
-        Ok(thread) => Ok((Post { to: left }, thread)),
-        Err(_) => Err(Memory),
+    match thread::spawn(rt, move || output.run(&own)) {
+        Ok(thread) => Ok(Post { to: left, thread }),
+        Err(_) => Err(Fault::Memory),
     }
-}
-
-/// Starts threads that write to all outputs. They stand behind the others.
-pub fn begin_posts<H: Host, T: Taker<H>>(
-    rt: &H,
-    guest: Guest,
-    keeper: Keeper,
-    paths: &[&str],
-    to: &Door<Event, T>,
-    threads: &mut Vec<JoinHandle<()>>,
-) -> Result<Vec<Post>, Memory> {
-    let mut posts = Vec::new(rt.alloc());
-    for number in 0..paths.len() {
-        let (post, thread) = begin_post(rt, guest, keeper, number, paths[number], to)?;
-        posts.push(post)?;
-        threads.push(thread)?;
-    }
-    Ok(posts)
 }
