@@ -47,7 +47,7 @@ impl Steering {
             habits: Habits::new(),
             idlers: Idlers::new(),
             progress: Progress::new(harts),
-            rests: Rests::new(harts),
+            rests: Rests::new(),
             crowd: Crowd::new(),
             pace,
             ends,
@@ -103,9 +103,6 @@ impl Steering {
 
     /// Whether the hart only waits, and others do more.
     fn is_idle(&self, hart: Hart) -> bool {
-        if !self.idlers.is_idle(hart.index()) {
-            return false;
-        }
         let others = self.progress.fewest_busy(&self.idlers);
         others != u64::MAX && self.idlers.is_patient(hart, others)
     }
@@ -177,8 +174,7 @@ impl Steering {
     /// The pages that the hart takes at once with its lease, which begins with inputs or without: those that it waits for, and those
     /// that it had in its last one.
     pub fn pages_at_once(&mut self, hart: Hart, woken: bool) -> PageMask {
-        let pages = self.habits.begin(hart, woken);
-        self.queue.with_wishes(hart, pages)
+        self.habits.begin(hart, woken).with(self.queue.wishes(hart))
     }
 
     /// What the open leases of other harts have, and what others have waited for longer.
@@ -232,7 +228,7 @@ impl Steering {
     /// that it keeps may stand in the way of others without being seen by those who wait.
     pub fn keeps_rights(&self, hart: Hart) -> bool {
         let pages = self.queue.held(hart);
-        !self.habits.is_disputed(pages) && !self.queue.is_wished(hart, pages)
+        !self.habits.is_disputed(pages) && !self.queue.wished(hart).is_against(pages)
     }
 
     /// The hart's lease comes back, with so many steps of those up to this count, fewer than it might have had or not; it began with inputs
@@ -248,7 +244,8 @@ impl Steering {
         let pages = self.queue.held(hart);
         self.progress.add(hart, steps);
         self.crowd.add(steps);
-        self.habits.note(hart, self.queue.unwished(hart, pages));
+        self.habits
+            .note(hart, pages.without(self.queue.wished(hart)));
         self.queue.release(hart);
         if is_short {
             self.meet();
@@ -282,25 +279,12 @@ impl Steering {
         &mut self,
         returned: Returned,
         trace: u64,
-        before: &[u64; HART_ROW],
-        after: &[u64; HART_ROW],
+        before: [u64; HART_ROW],
+        after: [u64; HART_ROW],
     ) {
-        let rung = self.rung_between(before, after);
-        self.note_idle(returned, trace, !rung.is_empty());
-        self.note_rung(rung);
+        self.note_idle(returned, trace, before != after);
+        self.note_rung(before, after);
         self.wake_where_all_wait();
-    }
-
-    /// The harts that were rung more often behind a lease than before it.
-    fn rung_between(&self, before: &[u64; HART_ROW], after: &[u64; HART_ROW]) -> HartSet {
-        let mut rung = HartSet::new();
-        for number in 0..self.harts() {
-            let target = Hart::new(number);
-            if before[target.index()] != after[target.index()] {
-                rung = rung.with(target);
-            }
-        }
-        rung
     }
 
     /// The hart only waits from now on, or others do not that wait for what it may have written.
@@ -320,13 +304,10 @@ impl Steering {
     }
 
     /// The harts that were rung meanwhile have more to do than to wait.
-    fn note_rung(&mut self, rung: HartSet) {
-        if rung.is_empty() {
-            return;
-        }
+    fn note_rung(&mut self, before: [u64; HART_ROW], after: [u64; HART_ROW]) {
         for number in 0..self.harts() {
             let target = Hart::new(number);
-            if rung.contains(target) {
+            if before[target.index()] != after[target.index()] {
                 self.meet();
                 self.stir(target.index());
                 self.wanted = self.wanted.with(target);
@@ -342,7 +323,7 @@ impl Steering {
 
     /// Where each hart seems only to wait none rests: one of them may do more, or what they wait for may come at a later count.
     fn wake_where_all_wait(&mut self) {
-        if !self.progress.has_busy(&self.idlers) {
+        if self.progress.fewest_busy(&self.idlers) == u64::MAX {
             self.idlers.wake_all();
             self.rests.end(Rest::Idle);
         }
@@ -368,9 +349,6 @@ impl Steering {
     /// Whose threads are to look again. They sleep no longer.
     pub fn called(&mut self) -> HartSet {
         let mut harts = HartSet::new();
-        if self.rests.are_awake() {
-            return harts;
-        }
         for number in 0..self.harts() {
             let hart = Hart::new(number);
             if self.may_look(hart) {
