@@ -132,40 +132,38 @@ fn put_place(out: &mut Body, guest: &Guest, key: &Key)
 }
 
 #[tactic(auto, unfolding(crate::specs::Spelling::log_body, crate::specs::Spelling::number))]
-fn log_bytes(version: u8, fragment: &Fragment) -> Body
+fn put_log(out: &mut Body, version: u8, fragment: &Fragment)
+    requires empty { out.old.items ≡ [] }
     requires short { version ≢ FIRST_VERSION → fragment.now.to - fragment.now.from < SPAN_LIMIT }
-    ensures text { result.items ≡ log_body version fragment.now }
+    ensures text { out.new.items ≡ log_body version fragment.now }
     ensures rules { IsFragment fragment.now }
 {
     let from = fragment.from();
     let records = fragment.records();
-    let mut out = Body::new();
-    put_place(&mut out, &fragment.guest(), &fragment.key());
-    put_u64(&mut out, from);
-    put_u64(&mut out, fragment.to());
-    put_u16(&mut out, records.len() as u16);
+    put_place(out, &fragment.guest(), &fragment.key());
+    put_u64(out, from);
+    put_u64(out, fragment.to());
+    put_u16(out, records.len() as u16);
     for record in records {
-        put_record(&mut out, version, from, record);
+        put_record(out, version, from, record);
     }
-    out
 }
 
 #[tactic(auto, unfolding(crate::specs::Spelling::opening_body, crate::specs::Spelling::number))]
-fn opening_bytes(opening: &Opening) -> Body
-    ensures text { result.items ≡ opening_body opening.now }
+fn put_opening(out: &mut Body, opening: &Opening)
+    requires empty { out.old.items ≡ [] }
+    ensures text { out.new.items ≡ opening_body opening.now }
     ensures rules { IsOpening opening.now }
 {
     let base = opening.base();
     let guest = opening.guest();
-    let mut out = Body::new();
-    put(&mut out, &guest.digest());
-    put(&mut out, &[guest.harts()]);
-    put_u32(&mut out, opening.term());
-    put_u32(&mut out, opening.parent());
+    put(out, &guest.digest());
+    put(out, &[guest.harts()]);
+    put_u32(out, opening.term());
+    put_u32(out, opening.parent());
     for count in base.as_slice() {
-        put_u64(&mut out, *count);
+        put_u64(out, *count);
     }
-    out
 }
 
 #[tactic(auto, unfolding(crate::specs::Spelling::headed, crate::specs::Spelling::number))]
@@ -211,11 +209,16 @@ pub fn write_frame<W: Sink>(frame: &Frame, sink: &mut W) -> Result<(), Failed>
     // What is written is read again as this frame, and nothing is left.
     ensures read_again { Splits (spelling frame.now) (frame.now ∷ []) [] }
 {
+    let mut body = Body::new();
     match frame {
         Frame::Log(fragment) => {
             let version = version_to_write(fragment);
-            write_sealed(sink, version, 1, &log_bytes(version, fragment))
+            put_log(&mut body, version, fragment);
+            write_sealed(sink, version, 1, &body)
         }
-        Frame::Opening(opening) => write_sealed(sink, FRAME_VERSION, 2, &opening_bytes(opening)),
+        Frame::Opening(opening) => {
+            put_opening(&mut body, opening);
+            write_sealed(sink, FRAME_VERSION, 2, &body)
+        }
     }
 }

@@ -7,8 +7,8 @@ use Rattle.fragment_codec.proofs.writing.write_frame.Goals as goal
 
 pub returns-in-Log-clause-read_again : goal.returns-in-Log-clause-read_again
 returns-in-Log-clause-read_again g c =
-    subst (λ (f : Frame). Splits (spelling f) (f ∷ []) []) (sym c.in-Log.is) (alone (Log c.in-Log.fragment) c.log_bytes.ensures.rules)
+    subst (λ (f : Frame). Splits (spelling f) (f ∷ []) []) (sym c.in-Log.is) (alone (Log c.in-Log.fragment) c.put_log.ensures.rules)
 
 pub returns-in-Opening-clause-read_again : goal.returns-in-Opening-clause-read_again
 returns-in-Opening-clause-read_again g c =
-    subst (λ (f : Frame). Splits (spelling f) (f ∷ []) []) (sym c.in-Opening.is) (alone (Opening c.in-Opening.opening) c.opening_bytes.ensures.rules)
+    subst (λ (f : Frame). Splits (spelling f) (f ∷ []) []) (sym c.in-Opening.is) (alone (Opening c.in-Opening.opening) c.put_opening.ensures.rules)

@@ -3,7 +3,7 @@ use Rattle.std.specs.Int.{w64}
 use Rattle.std.specs.List.{flat_map}
 use Rattle.fragment_codec.specs.Spelling.{number}
 use Rattle.fragment_codec.proofs.bytes.Texts.{opening_front}
-use Rattle.fragment_codec.proofs.writing.opening_bytes.Given as goal
+use Rattle.fragment_codec.proofs.writing.put_opening.Given as goal
 
 abbrev pub invariant-loop-count : goal.invariant-loop-count
 invariant-loop-count l = record {
