@@ -75,12 +75,15 @@ struct client {
     int64_t *asked, *took;
 };
 
-// A request of the service of guests/service, by its number.
+// A request of the service of guests/service, by its number. Where no word is open, it says before it that all answers so far were read.
 static void ask(struct client *c, long number) {
-    char line[64];
+    char line[96];
+    int size = 0;
     uint32_t chance = (uint32_t)number * 2654435761u >> 8;
     uint32_t word = (1 + chance % 3) << 24 | (chance / 3 % 40) << 16 | (1 + chance / 120 % 7);
-    write_all(c->requests, line, snprintf(line, sizeof line, "0 word %08x %ld\n", word, number));
+    if (!c->open) size = snprintf(line, sizeof line, "0 from %ld\n", number);
+    size += snprintf(line + size, sizeof line - size, "0 word %08x %ld\n", word, number);
+    write_all(c->requests, line, size);
 }
 
 static void take_answer(char *line, void *with) {

@@ -11,8 +11,8 @@ use wire::Line;
 /// What came of an input or an output.
 #[derive(Drop)]
 pub enum Event {
-    /// The input with this number brought a line, which stands here without its line feed.
-    Line(usize, Line),
+    /// The input with this number brought lines, all that ended in a piece, which stand here without their line feeds.
+    Lines(usize, Vec<Line>),
     /// An input is at its end, for good.
     Ended,
     /// The process can't go on.
@@ -25,12 +25,9 @@ pub type Sender<E> = crossbeam_channel::Sender<E, Global>;
 /// Where the thread that decides takes them.
 pub type Receiver<E> = crossbeam_channel::Receiver<E, Global>;
 
-/// How many events wait at the most. Whoever has one more waits for room.
-const ROOM: usize = 512;
-
-/// Both ends of a row of events.
-pub fn row<E: Drop>(alloc: Global) -> Result<(Sender<E>, Receiver<E>), AllocError> {
-    crossbeam_channel::bounded(alloc, ROOM)
+/// Both ends of a row of events, of which so many wait at the most. Whoever has one more waits for room.
+pub fn row<E: Drop>(alloc: Global, room: usize) -> Result<(Sender<E>, Receiver<E>), AllocError> {
+    crossbeam_channel::bounded(alloc, room)
 }
 
 /// Who takes the events. A thread that has left some asks it to serve, so that what they ask for can be done by that thread, and none has to be woken for it.
@@ -82,11 +79,7 @@ impl<E: Drop, T: Drop> Door<E, T> {
 }
 
 /// Leaves an event. Where there is no room, those that are there are taken first, so that not all threads wait for one that takes them.
-pub fn leave<H: Host, E: Drop, T: Taker<H>>(
-    rt: &H,
-    door: &Door<E, T>,
-    event: E,
-) -> Result<(), Gone> {
+fn leave<H: Host, E: Drop, T: Taker<H>>(rt: &H, door: &Door<E, T>, event: E) -> Result<(), Gone> {
     match door.to.try_send(rt, event) {
         Ok(()) => Ok(()),
         Err(TrySendError::Full(event)) | Err(TrySendError::OutOfMemory(event)) => {
@@ -97,11 +90,6 @@ pub fn leave<H: Host, E: Drop, T: Taker<H>>(
     }
 }
 
-/// Has the events taken that were left.
-pub fn serve<H: Host, E: Drop, T: Taker<H>>(rt: &H, door: &Door<E, T>) {
-    door.taker.serve(rt);
-}
-
 /// Leaves an event, and has it taken.
 pub fn bring<H: Host, E: Drop, T: Taker<H>>(
     rt: &H,
@@ -109,6 +97,6 @@ pub fn bring<H: Host, E: Drop, T: Taker<H>>(
     event: E,
 ) -> Result<(), Gone> {
     leave(rt, door, event)?;
-    serve(rt, door);
+    door.taker.serve(rt);
     Ok(())
 }

@@ -8,7 +8,7 @@ mod host;
 mod listening;
 mod posting;
 
-pub use events::{Door, Event, Gone, Receiver, Sender, Taker, Waiting, bring, leave, row, serve};
+pub use events::{Door, Event, Gone, Receiver, Sender, Taker, Waiting, bring, row};
 pub use faults::{Fault, Frames, FramesFault, NamedFile, file_fault, name_at, refuse, tell};
 pub use files::{is_fifo, read_file, remove_file, sync_folder};
 pub use host::{Host, Paths};

@@ -1,6 +1,6 @@
 //! A thread for each input: it opens the path, reads lines to its end, and opens it again where it is a FIFO.
 
-use crate::events::{Door, Event, Gone, Taker, bring, leave, serve};
+use crate::events::{Door, Event, Gone, Taker, bring};
 use crate::faults::{Fault, NamedFile};
 use crate::files::is_fifo;
 use crate::host::Host;
@@ -8,7 +8,7 @@ use ft_types::Memory;
 use std::fs::File;
 use std::io::Read;
 use std::thread;
-use wire::{Line, LineFeed};
+use wire::LineFeed;
 
 /// How many bytes are read at once.
 const PIECE: usize = 4096;
@@ -27,19 +27,6 @@ fn fail<H: Host, T: Taker<H>>(rt: &H, input: &Input<T>, fault: Fault) -> Gone {
     Gone
 }
 
-/// Leaves the lines of a piece, and then has them taken, all at once.
-fn leave_lines<H: Host, T: Taker<H>>(
-    rt: &H,
-    input: &Input<T>,
-    lines: Vec<Line>,
-) -> Result<(), Gone> {
-    for line in lines {
-        leave(rt, &input.to, Event::Line(input.number, line))?;
-    }
-    serve(rt, &input.to);
-    Ok(())
-}
-
 /// Takes the next piece of a connection.
 fn take<H: Host, T: Taker<H>>(
     rt: &H,
@@ -48,7 +35,8 @@ fn take<H: Host, T: Taker<H>>(
     piece: &[u8],
 ) -> Result<(), Gone> {
     match feed.push(rt.alloc(), piece) {
-        Ok(lines) => leave_lines(rt, input, lines),
+        Ok(lines) if lines.is_empty() => Ok(()),
+        Ok(lines) => bring(rt, &input.to, Event::Lines(input.number, lines)),
         Err(Memory) => Err(fail(rt, input, Fault::Memory)),
     }
 }

@@ -180,24 +180,22 @@ pub struct Post {
 }
 
 impl Post {
-    /// Leaves an order for the thread.
+    /// Leaves an order for the thread, unless it is left out.
     fn order<R: Wait>(&mut self, rt: &R, order: Order) {
-        self.left = self.left.wrapping_add(1);
-        let _left = self.to.send(rt, order);
+        let is_left = match self.keeps {
+            Keeps::All => self.to.send(rt, order).is_ok(),
+            Keeps::Last => self.to.try_send(rt, order).is_ok(),
+        };
+        if is_left {
+            self.left = self.left.wrapping_add(1);
+        }
     }
 
     /// Has a piece written.
     fn leave<R: Wait>(&mut self, rt: &R, piece: &Piece) -> Result<(), Memory> {
         let piece = Arc::try_clone(piece)?;
-        match self.keeps {
-            Keeps::All => {
-                if let Some(piece) = self.write_now(rt, piece) {
-                    self.order(rt, Order::Write(piece));
-                }
-            }
-            Keeps::Last => {
-                let _left = self.to.try_send(rt, Order::Write(piece));
-            }
+        if let Some(piece) = self.write_now(rt, piece) {
+            self.order(rt, Order::Write(piece));
         }
         Ok(())
     }

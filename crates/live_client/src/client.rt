@@ -9,14 +9,17 @@ use ends::{
     Door, Event, Fault, Host, Keeps, NamedFile, Post, Receiver, Waiting, begin_posts, file_fault,
     leave_all, listen_all, read_file, row, tell,
 };
-use ft_types::Memory;
+use ft_types::{Hart, Memory};
 use live_words::ClientWords;
 use std::alloc::Global;
 use std::io;
 use std::io::Write;
 use std::sync::Arc;
 use std::time::{Duration, Instant};
-use wire::{Request, request_line};
+use wire::{Line, Request, request_line};
+
+/// How many pieces of answers wait at the most.
+const ROOM: usize = 512;
 
 /// A client with its threads.
 #[derive(Drop)]
@@ -24,6 +27,8 @@ struct Client {
     talk: Talk,
     /// How many words are asked for.
     words: usize,
+    /// How many of them were asked for.
+    asked: usize,
     events: Receiver<Event>,
     posts: Vec<Post>,
     /// How many inputs are not at their end.
@@ -62,7 +67,7 @@ impl Client {
         let asked = words_of(rt, words.file)?;
         let many = asked.len();
         let talk = Talk::new(rt.alloc(), asked, words.window)?;
-        let (to, events) = row(rt.alloc())?;
+        let (to, events) = row(rt.alloc(), ROOM)?;
         let to = Door::new(to, Arc::new(rt.alloc(), Waiting)?);
         let mut threads = Vec::new(rt.alloc());
         let posts = begin_posts(rt, 0, &words.requests, Keeps::Last, &to, &mut threads)?;
@@ -70,6 +75,7 @@ impl Client {
         Ok(Client {
             talk,
             words: many,
+            asked: 0,
             events,
             posts,
             open: words.answers.len(),
@@ -84,13 +90,31 @@ impl Client {
         leave_all(rt, &mut self.posts, bytes)
     }
 
+    /// Says that all answers so far were read, where no word is open: the next one need not wait for a thread of the primary's then.
+    fn tell_read<H: Host>(&mut self, rt: &H) -> Result<(), Memory> {
+        let told = self.talk.told();
+        if told == 0 || told != self.asked {
+            return Ok(());
+        }
+        let number = told as u64;
+        self.send(
+            rt,
+            &Request::From {
+                hart: Hart::new(0),
+                number,
+            },
+        )
+    }
+
     /// Asks for as many words as may be open.
     fn ask<H: Host>(&mut self, rt: &H) -> Result<(), Fault> {
-        for _word in 0..self.words {
+        for _word in self.asked..self.words {
             let Some(request) = self.talk.ask() else {
                 break;
             };
+            self.tell_read(rt)?;
             self.send(rt, &request)?;
+            self.asked = self.asked.saturating_add(1);
         }
         Ok(())
     }
@@ -120,17 +144,36 @@ impl Client {
         out.flush()
     }
 
+    /// Prints the answers that are there, and asks for as many words as may be open then.
+    fn go_on<H: Host>(&mut self, rt: &H) -> Result<(), Fault> {
+        match self.tell(rt) {
+            Ok(()) => self.ask(rt),
+            Err(_) => Err(Fault::Write),
+        }
+    }
+
+    /// Hears an answer.
+    fn hear<H: Host>(&mut self, rt: &H, line: &Line) -> Result<(), Fault> {
+        match self.talk.hear(line.as_slice()) {
+            Heard::New => {
+                self.last = now(rt)?;
+                Ok(())
+            }
+            Heard::Contradiction => Err(Fault::Contradiction),
+            Heard::Known | Heard::Foreign => Ok(()),
+        }
+    }
+
     /// Takes an event.
     fn take<H: Host>(&mut self, rt: &H, event: Event) -> Result<(), Fault> {
         match event {
-            Event::Line(_, line) => match self.talk.hear(line.as_slice()) {
-                Heard::New => {
-                    self.last = now(rt)?;
-                    Ok(())
+            Event::Lines(_, lines) => {
+                for line in &lines {
+                    self.hear(rt, line)?;
+                    self.go_on(rt)?;
                 }
-                Heard::Contradiction => Err(Fault::Contradiction),
-                Heard::Known | Heard::Foreign => Ok(()),
-            },
+                Ok(())
+            }
             Event::Ended => {
                 self.open = self.open.saturating_sub(1);
                 Ok(())
@@ -151,16 +194,13 @@ impl Client {
     /// Asks until each word has its answer.
     fn run<H: Host>(&mut self, rt: &H) -> Result<(), Fault> {
         for _ in rt.forever() {
-            if self.tell(rt).is_err() {
-                return Err(Fault::Write);
-            }
+            self.go_on(rt)?;
             if self.talk.is_done() {
                 return Ok(());
             }
             if self.open == 0 {
                 return Err(Fault::Unanswered(self.talk.told()));
             }
-            self.ask(rt)?;
             let time = self.ask_again(rt)?;
             self.wait(rt, time)?;
         }

@@ -14,10 +14,10 @@ use live_words::PrimaryWords;
 use primary::Released;
 use std::alloc::Global;
 use std::sync::{Arc, Wait};
-use wire::{Answer, Line, read_acknowledgement, read_again, read_request};
+use wire::{Answer, Line, Request, read_acknowledgement, read_again, read_request};
 
-/// How many events are taken between two rounds, at the most.
-const BATCH: usize = 512;
+/// How many events wait at the most, and are taken between two rounds.
+const ROOM: usize = 512;
 
 /// What is to be done next.
 #[derive(Clone, Copy)]
@@ -49,7 +49,7 @@ struct Duty {
 #[derive(Drop)]
 pub(crate) struct Helm {
     /// None while rounds are led, and where memory was refused in one.
-    leader: Option<Leader>,
+    leader: Option<Box<Leader>>,
     duty: Duty,
     office: Office,
 }
@@ -91,6 +91,11 @@ fn take_request<R: AllocGlobal + Wait>(
     let Some(request) = read_request(duty.guest.harts(), line.as_slice()) else {
         return Ok(());
     };
+    if let Request::From { hart, number } = request
+        && office.lacks_none(hart, number)
+    {
+        return Ok(());
+    }
     for answer in &leader.hear(rt.alloc(), &request)? {
         office.tell(rt, answer)?;
     }
@@ -133,11 +138,13 @@ fn take<R: AllocGlobal + Wait>(
     event: Event,
 ) -> Result<(), Fault> {
     match event {
-        Event::Line(input, line) => {
-            if input < office.requests {
-                take_request(rt, leader, duty, office, &line)?;
-            } else {
-                take_said(rt, leader, duty, office, &line)?;
+        Event::Lines(input, lines) => {
+            for line in &lines {
+                if input < office.requests {
+                    take_request(rt, leader, duty, office, line)?;
+                } else {
+                    take_said(rt, leader, duty, office, line)?;
+                }
             }
             Ok(())
         }
@@ -182,7 +189,7 @@ impl Helm {
         let Some(leader) = &mut self.leader else {
             return Err(Fault::Memory);
         };
-        for _more in 0..events.len().min(BATCH) {
+        for _more in 0..events.len().min(ROOM) {
             let Ok(event) = events.try_recv(rt) else {
                 break;
             };
@@ -196,7 +203,10 @@ impl Helm {
         let Some(leader) = self.leader.take() else {
             return Err(Memory);
         };
-        let mut leader = rounds(rt.alloc(), leader, self.duty.steps)?;
+        let mut leader = Box::new(
+            rt.alloc(),
+            rounds(rt.alloc(), Box::into_inner(leader), self.duty.steps)?,
+        )?;
         if is_sent(self.duty.blind, self.duty.steps, leader.kept()) {
             send_new(rt, &mut leader, &mut self.office)?;
         }
@@ -282,7 +292,7 @@ fn lead_all<H: Host>(rt: &H, words: &PrimaryWords<'_>) -> Result<(), Fault> {
         leader,
         frames,
     } = set_out(rt, words)?;
-    let (to, events) = row(rt.alloc())?;
+    let (to, events) = row(rt.alloc(), ROOM)?;
     let bridge = Arc::new(rt.alloc(), Bridge::new(rt.alloc(), events)?)?;
     let to = Door::new(to, Arc::try_clone(&bridge)?);
     let (office, threads) = Office::open(rt, words, frames, &to)?;
@@ -295,7 +305,7 @@ fn lead_all<H: Host>(rt: &H, words: &PrimaryWords<'_>) -> Result<(), Fault> {
         next: Next::Lead,
     };
     let helm = Helm {
-        leader: Some(leader),
+        leader: Some(Box::new(rt.alloc(), leader)?),
         duty,
         office,
     };

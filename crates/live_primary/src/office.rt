@@ -1,8 +1,9 @@
 //! The threads of a primary, and what they are given.
 
 use ends::{Door, Event, Host, Keeps, Post, Taker, begin_posts, leave_all, listen_all};
-use ft_types::{Counts, Hart, Keeper, Memory, Term};
+use ft_types::{Count, Counts, HART_LIMIT, Hart, Keeper, Memory, Output, Term};
 use live_words::PrimaryWords;
+use std::alloc::Global;
 use std::sync::Wait;
 use std::thread::JoinHandle;
 use wire::{Acknowledgement, Answer, answer_line};
@@ -15,6 +16,10 @@ pub(crate) struct Office {
     answers: Vec<Post>,
     /// One for each keeper, or one for all.
     keepers: Vec<Post>,
+    /// For each hart the number behind that of its answer that was told last; none before the first.
+    told: Vec<Option<Count>>,
+    /// The hart whose answer was told last of all.
+    last: Option<Hart>,
     /// The counts to which the frames go that were sent last; none before the first.
     sent: Option<Counts>,
 }
@@ -28,6 +33,15 @@ fn reaches(counts: &Counts, others: &Counts) -> bool {
         }
     }
     true
+}
+
+/// No answer of so many harts was told.
+fn untold(alloc: Global, harts: usize) -> Result<Vec<Option<Count>>, Memory> {
+    let mut told = Vec::new(alloc);
+    for _hart in 0..harts {
+        told.push(None)?;
+    }
+    Ok(told)
 }
 
 impl Office {
@@ -57,6 +71,8 @@ impl Office {
             requests: words.requests.len(),
             answers,
             keepers,
+            told: untold(rt.alloc(), usize::from(HART_LIMIT))?,
+            last: None,
             sent: None,
         };
         Ok((office, threads))
@@ -89,12 +105,33 @@ impl Office {
         }
     }
 
+    /// Hears that a client wants the answers of a hart from this number on. Whether none of them is out, since it stands behind the one that was told last.
+    /// Where that was the last of all, the client has read all that were told, where there is one path for them.
+    pub(crate) fn lacks_none(&mut self, hart: Hart, number: Count) -> bool {
+        if self.told.get(hart.index()) != Some(&Some(number)) {
+            return false;
+        }
+        if self.last == Some(hart) && self.answers.len() == 1 {
+            self.answers[0].note_read();
+        }
+        true
+    }
+
+    /// Notes that an answer is told.
+    fn note(&mut self, output: &Output) {
+        if let Some(told) = self.told.get_mut(output.hart.index()) {
+            *told = Some(output.number.saturating_add(1));
+        }
+        self.last = Some(output.hart);
+    }
+
     /// Tells an answer.
     pub(crate) fn tell<R: AllocGlobal + Wait>(
         &mut self,
         rt: &R,
         answer: &Answer,
     ) -> Result<(), Memory> {
+        self.note(&answer.output);
         let bytes = answer_line(answer).as_slice().to_vec(rt.alloc())?;
         leave_all(rt, &mut self.answers, bytes)
     }
