@@ -201,6 +201,16 @@ if cmp -s "$work/run.log" "$work/log"; then pass; else fail 'the log has the fra
 refuses 'the same frames again' 0 '' keeper "$image" 4 "$work/log" from "$work/run.log" "$work/run.log" to "$work/acks"
 if cmp -s "$work/run.log" "$work/log"; then pass; else fail 'frames that come again are not added' < /dev/null; fi
 
+# Frames that come over three inputs at once.
+for frame in "$work"/frames/*; do
+    number=$((10#$(basename "$frame")))
+    cat "$frame" >> "$work/third.$((number % 3))"
+done
+refuses 'frames over three inputs' 0 '' keeper "$image" 4 "$work/thirds" from "$work/third.0" "$work/third.1" "$work/third.2" to "$work/acks"
+is 'all of them are acknowledged' "ack 1 4 $end" "$(tail -n 1 "$work/acks" | sed 's/ [0-9a-f]*$//')"
+"$workbench" replay "$image" "$work/thirds" > "$work/replayed" 2>&1
+if cmp -s "$work/text" "$work/replayed"; then pass; else fail 'the replay of what came over three inputs' < "$work/replayed"; fi
+
 # A rest that is less than a frame is cut off.
 size=$(wc -c < "$work/run.log")
 head -c "$((size - 7))" "$work/run.log" > "$work/torn"

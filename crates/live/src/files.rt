@@ -86,24 +86,27 @@ fn fences_of(alloc: Global, log: &str) -> Result<String, AllocError> {
 
 /// The files of one keeper: the log, which is open to add where the keeper runs, and the fences, which are where its log is handed over.
 #[derive(Drop)]
-pub struct HostFiles<'a, R: Paths + AllocGlobal> {
-    rt: &'a R,
+pub struct LogFiles {
     guest: Guest,
-    log: &'a str,
+    log: String,
     fences: String,
     open_log: Option<File>,
     open_fences: Option<File>,
 }
 
-impl<'a, R: Paths + AllocGlobal> HostFiles<'a, R> {
+impl LogFiles {
     /// The files of a keeper that runs. No other keeper has its log.
-    pub fn of_keeper(rt: &'a R, guest: Guest, log: &'a str) -> Result<HostFiles<'a, R>, Fault> {
+    pub fn of_keeper<R: Paths + AllocGlobal>(
+        rt: &R,
+        guest: Guest,
+        log: &str,
+    ) -> Result<LogFiles, Fault> {
+        let name = String::from_str(rt.alloc(), log)?;
         let fences = fences_of(rt.alloc(), log)?;
         let file = open_log(rt, log)?;
-        Ok(HostFiles {
-            rt,
+        Ok(LogFiles {
             guest,
-            log,
+            log: name,
             fences,
             open_log: Some(file),
             open_fences: None,
@@ -111,17 +114,43 @@ impl<'a, R: Paths + AllocGlobal> HostFiles<'a, R> {
     }
 
     /// The files of a keeper whose log is handed over. Whoever else hands it over waits meanwhile.
-    pub fn of_hand(rt: &'a R, guest: Guest, log: &'a str) -> Result<HostFiles<'a, R>, Fault> {
+    pub fn of_hand<R: Paths + AllocGlobal>(
+        rt: &R,
+        guest: Guest,
+        log: &str,
+    ) -> Result<LogFiles, Fault> {
+        let name = String::from_str(rt.alloc(), log)?;
         let fences = fences_of(rt.alloc(), log)?;
         let file = open_fences(rt, fences.as_str())?;
-        Ok(HostFiles {
-            rt,
+        Ok(LogFiles {
             guest,
-            log,
+            log: name,
             fences,
             open_log: None,
             open_fences: Some(file),
         })
+    }
+
+    /// With what opens them again.
+    pub fn on<R: Paths + AllocGlobal + Copy>(self, rt: &R) -> HostFiles<R> {
+        HostFiles {
+            rt: *rt,
+            files: self,
+        }
+    }
+}
+
+/// The files of a keeper, with what opens them.
+#[derive(Drop)]
+pub struct HostFiles<R: Paths + AllocGlobal + Copy> {
+    rt: R,
+    files: LogFiles,
+}
+
+impl<R: Paths + AllocGlobal + Copy> HostFiles<R> {
+    /// The files alone.
+    pub fn off(self) -> LogFiles {
+        self.files
     }
 }
 
@@ -131,47 +160,47 @@ fn add_synced(file: &mut File, piece: &[u8]) -> io::Result<()> {
     file.sync_all()
 }
 
-impl<R: Paths + AllocGlobal> KeeperFiles for HostFiles<'_, R> {
+impl<R: Paths + AllocGlobal + Copy> KeeperFiles for HostFiles<R> {
     ghost acts = { λ _. None };
 
     fn read_log(&mut self, _alloc: Global) -> Result<Vec<u8>, FilesFault> {
-        match read_if_there(self.rt, self.log) {
+        match read_if_there(&self.rt, self.files.log.as_str()) {
             Ok(bytes) => Ok(bytes),
             Err(error) => Err(fault_of(&error, FilesFault::Log)),
         }
     }
 
     fn cut(&mut self, size: usize) -> Result<(), FilesFault> {
-        match &self.open_log {
+        match &self.files.open_log {
             Some(file) => changed(file.set_len(size as u64), FilesFault::Log),
             None => Err(FilesFault::Log),
         }
     }
 
     fn add(&mut self, bytes: &[u8]) -> Result<(), FilesFault> {
-        match &mut self.open_log {
+        match &mut self.files.open_log {
             Some(file) => changed(file.write_all(bytes), FilesFault::Log),
             None => Err(FilesFault::Log),
         }
     }
 
     fn sync(&mut self) -> Result<(), FilesFault> {
-        match &self.open_log {
+        match &self.files.open_log {
             Some(file) => changed(file.sync_data(), FilesFault::Log),
             None => Err(FilesFault::Log),
         }
     }
 
     fn last_fence(&mut self, _alloc: Global) -> Result<Term, FilesFault> {
-        match read_if_there(self.rt, self.fences.as_str()) {
-            Ok(bytes) => Ok(last_fence(&self.guest, &bytes)),
+        match read_if_there(&self.rt, self.files.fences.as_str()) {
+            Ok(bytes) => Ok(last_fence(&self.files.guest, &bytes)),
             Err(error) => Err(fault_of(&error, FilesFault::Fences)),
         }
     }
 
     fn add_fence(&mut self, term: Term) -> Result<(), FilesFault> {
-        let entry = fence_entry(&self.guest, term);
-        match &mut self.open_fences {
+        let entry = fence_entry(&self.files.guest, term);
+        match &mut self.files.open_fences {
             Some(file) => changed(add_synced(file, entry.as_slice()), FilesFault::Fences),
             None => Err(FilesFault::Fences),
         }

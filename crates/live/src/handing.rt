@@ -3,7 +3,7 @@
 ghost use Rattle.std.specs.Prelude.{◌≡◌, IfOk};
 
 use crate::faults::{fence_fault, log_fault};
-use crate::files::HostFiles;
+use crate::files::LogFiles;
 use ends::{Fault, Host};
 use ft_types::Guest;
 use live_primary::read_image_file;
@@ -23,7 +23,7 @@ fn write_handed<H: Host>(rt: &H, line: &[u8], frames: &[u8]) -> io::Result<()> {
 
 /// The frames of a log that is handed over to a term.
 fn handed<H: Host>(rt: &H, guest: &Guest, words: &HandWords<'_>) -> Result<Vec<u8>, Fault> {
-    let mut files = HostFiles::of_hand(rt, *guest, words.log)?;
+    let mut files = LogFiles::of_hand(rt, *guest, words.log)?.on(rt);
     let fenced = match fence_off(rt.alloc(), &mut files, words.term) {
         Ok(fenced) => fenced,
         Err(fault) => return Err(fence_fault(fault)),

@@ -2,91 +2,75 @@
 
 ghost use Rattle.std.specs.Prelude.{◌≡◌, ◌≤◌, true, false, IfOk};
 
-use crate::events::{Event, Receiver, Sender};
+use crate::desk::Desk;
+use crate::events::Event;
 use crate::faults::{files_fault, log_fault};
-use crate::files::HostFiles;
-use crate::posting::Post;
-use crate::{listening, posting};
-use crossbeam_channel::bounded;
-use ends::{Fault, Frames, FramesFault, Host, tell};
+use crate::files::{HostFiles, LogFiles};
+use crate::listening::listen_all;
+use crate::posting::{Post, begin_posts, posts};
+use ends::{Door, Fault, Frames, FramesFault, Host, Paths, Receiver, row, tell};
+use fragment_codec::Frame;
 use ft_types::{Guest, Keeper, Position};
 use live_primary::read_image_file;
 use live_words::KeeperWords;
 use log_join::Put;
 use stations::KeeperStation;
+use std::alloc::Global;
+use std::io::Eprint;
 use std::result::Result;
+use std::sync::{Arc, Wait};
+use std::thread::JoinHandle;
 use wire::Acknowledgement;
 
-/// How many events wait for the thread that decides, at the most, and how many it takes before it brings the log to disk.
-const BATCH: usize = 512;
+/// How many pieces of inputs wait at the most: whoever has one more takes those that are there, or waits. All that are there go to the log together.
+const ROOM: usize = 64;
 
-/// What a keeper does with its threads.
+/// What a keeper asks of the system as it takes frames.
+pub trait KeeperHost: Paths + AllocGlobal + Eprint + Wait + Copy {}
+
+impl<R: Paths + AllocGlobal + Eprint + Wait + Copy> KeeperHost for R {}
+
+/// What decides: a thread has it as long as it takes what came.
 #[derive(Drop)]
-struct Keeping {
+pub struct Keeping {
     keeper: Keeper,
-    events: Receiver,
-    posts: Vec<Post>,
+    station: KeeperStation,
+    files: LogFiles,
     /// How many inputs are not at their end.
     open: usize,
     /// Whether a fault was passed over.
     passed: bool,
 }
 
-fn listen_all<H: Host>(rt: &H, guest: Guest, paths: &[&str], to: &Sender) -> Result<(), Fault> {
-    for number in 0..paths.len() {
-        listening::start(rt, guest, number, paths[number], to)?;
-    }
-    Ok(())
-}
-
-fn post_all<H: Host>(
-    rt: &H,
-    guest: Guest,
-    keeper: Keeper,
-    paths: &[&str],
-    to: &Sender,
-) -> Result<Vec<Post>, Fault> {
-    let mut posts = Vec::new(rt.alloc());
-    for number in 0..paths.len() {
-        let path = paths[number];
-        posts.push(posting::start(rt, guest, keeper, number, path, to)?)?;
-    }
-    Ok(posts)
-}
-
 impl Keeping {
-    /// Starts the threads of all inputs and outputs.
-    fn start<H: Host>(rt: &H, guest: Guest, words: &KeeperWords<'_>) -> Result<Keeping, Fault> {
-        let (to, events) = bounded(rt.alloc(), BATCH)?;
-        let posts = post_all(rt, guest, words.keeper, &words.outputs, &to)?;
-        listen_all(rt, guest, &words.inputs, &to)?;
-        Ok(Keeping {
-            keeper: words.keeper,
-            events,
-            posts,
-            open: words.inputs.len(),
-            passed: false,
-        })
+    /// Whether all inputs are at their end.
+    pub fn is_over(&self) -> bool {
+        self.open == 0
     }
 
     /// Tells a fault that is passed over, on standard error.
-    fn pass<H: Host>(&mut self, rt: &H, fault: Fault) {
+    fn pass<R: Eprint>(&mut self, rt: &R, fault: Fault) {
         tell(rt, &fault, "");
         self.passed = true;
     }
 
-    /// Takes an event, and says whether it is a frame.
-    fn take<H: Host>(
-        &mut self,
-        rt: &H,
-        station: &mut KeeperStation,
-        event: Event,
-    ) -> Result<bool, Fault> {
+    /// Takes a frame of the input with this number.
+    fn take_frame(&mut self, alloc: Global, input: usize, frame: Frame) -> Result<(), Fault> {
+        match self.station.take(alloc, frame)? {
+            Put::Clash => Err(Fault::Frames(Frames::Input(input), FramesFault::Clash)),
+            _ => Ok(()),
+        }
+    }
+
+    /// Takes an event, and says whether it brings frames.
+    fn take<H: KeeperHost>(&mut self, rt: &H, event: Event) -> Result<bool, Fault> {
         match event {
-            Event::Frame(input, frame) => match station.take(rt.alloc(), frame)? {
-                Put::Clash => Err(Fault::Frames(Frames::Input(input), FramesFault::Clash)),
-                _ => Ok(true),
-            },
+            Event::Frames(input, frames) => {
+                for frame in frames {
+                    self.take_frame(rt.alloc(), input, frame)?;
+                }
+                Ok(true)
+            }
             Event::Ended => {
                 self.open = self.open.saturating_sub(1);
                 Ok(false)
@@ -99,26 +83,23 @@ impl Keeping {
         }
     }
 
-    /// Waits for an event, takes it and those that are there by then, and says whether frames are among them.
-    fn take_all<H: Host>(&mut self, rt: &H, station: &mut KeeperStation) -> Result<bool, Fault> {
-        let Ok(first) = self.events.recv(rt) else {
-            return Err(Fault::Memory);
-        };
-        let mut came = self.take(rt, station, first)?;
-        for _more in 0..self.events.len().min(BATCH) {
-            let Ok(event) = self.events.try_recv(rt) else {
+    /// Takes the events that are there, and says whether frames are among them.
+    fn take_all<H: KeeperHost>(&mut self, rt: &H, events: &Receiver<Event>) -> Result<bool, Fault> {
+        let mut came = false;
+        for _more in 0..events.len().min(ROOM) {
+            let Ok(event) = events.try_recv(rt) else {
                 break;
             };
-            came = self.take(rt, station, event)? || came;
+            came = self.take(rt, event)? || came;
         }
         Ok(came)
     }
 
-    /// Has a position acknowledged on all outputs.
-    fn acknowledge<H: Host>(&self, rt: &H, position: Option<Position>) {
+    /// Leaves a position to be acknowledged on all outputs.
+    fn acknowledge<R: Wait>(&self, rt: &R, outputs: &[Post], position: Option<Position>) {
         if let Some(position) = position {
-            for post in &self.posts {
-                post.leave(
+            for output in outputs {
+                output.leave(
                     rt,
                     Acknowledgement {
                         term: position.term,
@@ -130,64 +111,67 @@ impl Keeping {
         }
     }
 
+    /// Has the log take what came, and acknowledges what it has.
+    pub fn log<H: KeeperHost>(self, rt: &H, outputs: &[Post]) -> Result<Keeping, Fault> {
+        let Keeping {
+            keeper,
+            station,
+            files,
+            open,
+            passed,
+        } = self;
+        let mut files = files.on(rt);
+        let (station, position) = match station.log_and_acknowledge(rt.alloc(), &mut files) {
+            Ok(logged) => logged,
+            Err(fault) => return Err(files_fault(fault)),
+        };
+        let keeping = Keeping {
+            keeper,
+            station,
+            files: files.off(),
+            open,
+            passed,
+        };
+        keeping.acknowledge(rt, outputs, position);
+        Ok(keeping)
+    }
+
+    /// Takes the events that are there. Where frames are among them, the log takes all of them at once.
+    pub fn keep<H: KeeperHost>(
+        self,
+        rt: &H,
+        events: &Receiver<Event>,
+        outputs: &[Post],
+    ) -> Result<Keeping, Fault> {
+        let mut keeping = self;
+        if keeping.take_all(rt, events)? {
+            keeping.log(rt, outputs)
+        } else {
+            Ok(keeping)
+        }
+    }
+
     /// Ends behind the last input, once all is written: the status that the program ends with.
-    fn end<H: Host>(self, rt: &H) -> u8
+    fn end<H: Host>(self, rt: &H, outputs: &[Post], threads: Vec<JoinHandle<()>>) -> u8
         ensures passed { self.passed ≡ true → result ≡ 1 }
         ensures sound { self.passed ≡ false → result ≡ 0 }
     {
-        for post in self.posts {
-            post.end(rt);
+        for output in outputs {
+            output.end(rt);
+        }
+        for thread in threads {
+            thread.join(rt);
         }
         u8::from(self.passed)
     }
 }
 
-/// Has the log take what came, and acknowledges what it has.
-fn log<H: Host>(
-    rt: &H,
-    keeping: &Keeping,
-    station: KeeperStation,
-    files: &mut HostFiles<'_, H>,
-) -> Result<KeeperStation, Fault> {
-    match station.log_and_acknowledge(rt.alloc(), files) {
-        Ok((station, position)) => {
-            keeping.acknowledge(rt, position);
-            Ok(station)
-        }
-        Err(fault) => Err(files_fault(fault)),
-    }
-}
-
 /// A keeper that begins from its log.
-fn begin<H: Host>(
-    rt: &H,
-    guest: Guest,
-    files: &mut HostFiles<'_, H>,
-) -> Result<KeeperStation, Fault> {
+fn begin<H: Host>(rt: &H, guest: Guest, files: &mut HostFiles<H>) -> Result<KeeperStation, Fault> {
     match KeeperStation::begin(rt.alloc(), guest, files) {
         Ok(station) => Ok(station),
         Err(fault) => Err(log_fault(fault)),
     }
-}
-
-/// Keeps a log until all inputs are at their end.
-fn keep_on<H: Host>(
-    rt: &H,
-    keeping: &mut Keeping,
-    mut station: KeeperStation,
-    files: &mut HostFiles<'_, H>,
-) -> Result<(), Fault> {
-    let mut came = true;
-    for _ in rt.forever() {
-        if came {
-            station = log(rt, keeping, station, files)?;
-        }
-        if keeping.open == 0 {
-            break;
-        }
-        came = keeping.take_all(rt, &mut station)?;
-    }
-    Ok(())
 }
 
 /// Keeps a log until all inputs are at their end, and gives the status that the program ends with.
@@ -195,9 +179,21 @@ pub fn keep<H: Host>(rt: &H, words: &KeeperWords<'_>) -> Result<u8, Fault>
     ensures { IfOk result (λ status. status ≤ 1) }
 {
     let guest = read_image_file(rt, words.image)?.guest();
-    let mut files = HostFiles::of_keeper(rt, guest, words.log)?;
+    let mut files = LogFiles::of_keeper(rt, guest, words.log)?.on(rt);
     let station = begin(rt, guest, &mut files)?;
-    let mut keeping = Keeping::start(rt, guest, words)?;
-    keep_on(rt, &mut keeping, station, &mut files)?;
-    Ok(keeping.end(rt))
+    let (to, events) = row(rt.alloc(), ROOM)?;
+    let outputs = posts(rt.alloc(), guest, words.keeper, words.outputs.len())?;
+    let desk = Arc::new(rt.alloc(), Desk::new(rt.alloc(), events, outputs)?)?;
+    let to = Door::new(to, Arc::try_clone(&desk)?);
+    let threads = begin_posts(rt, desk.outputs(), &words.outputs, &to)?;
+    listen_all(rt, guest, &words.inputs, &to)?;
+    let keeping = Keeping {
+        keeper: words.keeper,
+        station,
+        files: files.off(),
+        open: words.inputs.len(),
+        passed: false,
+    };
+    let keeping = desk.keep(rt, keeping.log(rt, desk.outputs())?)?;
+    Ok(keeping.end(rt, desk.outputs(), threads))
 }

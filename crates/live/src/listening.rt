@@ -1,124 +1,142 @@
 //! A thread for each input: it opens the path, reads it to its end, and opens it again where it is a FIFO.
 
-use crate::events::{Event, Gone, Sender, send};
-use ends::{Fault, Frames, FramesFault, Host, NamedFile, Paths, is_fifo};
+use crate::events::Event;
+use ends::{Door, Fault, Frames, FramesFault, Gone, Host, NamedFile, Taker, bring, is_fifo};
 use fragment_codec::{Feed, Frame, FrameFault};
-use ft_types::Guest;
+use ft_types::{Guest, Memory};
 use stations::is_of;
 use std::fs::File;
 use std::io::Read;
-use std::sync::Wait;
 use std::thread;
 
-/// How many bytes are read at once.
-const PIECE: usize = 4096;
+/// How many bytes are read at once, as many as a FIFO holds: all that came while the log was brought to disk goes there together.
+const PIECE: usize = 65_536;
 
 /// An input.
 #[derive(Drop)]
-struct Input {
+struct Input<T: Drop> {
     number: usize,
     path: String,
     /// Whose frames it is to bring.
     guest: Guest,
-    to: Sender,
+    to: Door<Event, T>,
 }
 
-impl Input {
-    /// Tells that the input is at fault: what stands behind that is passed over.
-    fn pass<R: Wait>(&self, rt: &R, fault: FramesFault) -> Result<bool, Gone> {
-        let fault = Fault::Frames(Frames::Input(self.number), fault);
-        send(rt, &self.to, Event::Passed(fault))?;
-        Ok(false)
-    }
+/// Tells that the keeper can't go on.
+fn fail<H: Host, T: Taker<H>>(rt: &H, input: &Input<T>, fault: Fault) -> Gone {
+    let _told = bring(rt, &input.to, Event::Failed(fault));
+    Gone
+}
 
-    /// Sends frames, up to the first of another guest. Whether there is none.
-    fn send_all<R: Wait>(&self, rt: &R, frames: Vec<Frame>) -> Result<bool, Gone> {
-        for frame in frames {
-            if !is_of(&frame, &self.guest) {
-                return self.pass(rt, FramesFault::Guest);
-            }
-            send(rt, &self.to, Event::Frame(self.number, frame))?;
-        }
-        Ok(true)
-    }
+/// Tells that the input is at fault: what stands behind that is passed over.
+fn pass<H: Host, T: Taker<H>>(rt: &H, input: &Input<T>, fault: FramesFault) -> Result<bool, Gone> {
+    let fault = Fault::Frames(Frames::Input(input.number), fault);
+    bring(rt, &input.to, Event::Passed(fault))?;
+    Ok(false)
+}
 
-    /// Takes the next piece of a connection. Whether nothing is at fault.
-    fn take<R: AllocGlobal + Wait>(
-        &self,
-        rt: &R,
-        feed: &mut Feed,
-        piece: &[u8],
-    ) -> Result<bool, Gone> {
-        match feed.push(rt.alloc(), piece) {
-            Ok(frames) => self.send_all(rt, frames),
-            Err(FrameFault::Memory) => Err(self.fail(rt, Fault::Memory)),
-            Err(fault) => self.pass(rt, FramesFault::Frame(fault.number())),
-        }
+/// Has frames taken, up to the first of another guest. Whether there is none.
+fn bring_all<H: Host, T: Taker<H>>(
+    rt: &H,
+    input: &Input<T>,
+    mut frames: Vec<Frame>,
+) -> Result<bool, Gone> {
+    let foreign = frames.iter().position(|frame| !is_of(frame, &input.guest));
+    if let Some(place) = foreign {
+        frames.truncate(place);
     }
-
-    /// Tells that the keeper can't go on.
-    fn fail<R: Wait>(&self, rt: &R, fault: Fault) -> Gone {
-        let _told = send(rt, &self.to, Event::Failed(fault));
-        Gone
+    if !frames.is_empty() {
+        bring(rt, &input.to, Event::Frames(input.number, frames))?;
     }
+    match foreign {
+        Some(_) => pass(rt, input, FramesFault::Guest),
+        None => Ok(true),
+    }
+}
 
-    /// One connection, to its end.
-    fn read<R: AllocGlobal + Wait>(&self, rt: &R, file: &mut File) -> Result<(), Gone> {
-        let Ok(mut feed) = Feed::new(rt.alloc()) else {
-            return Err(self.fail(rt, Fault::Memory));
+/// Takes the next piece of a connection: its frames are taken all at once. Whether nothing is at fault.
+fn take<H: Host, T: Taker<H>>(
+    rt: &H,
+    input: &Input<T>,
+    feed: &mut Feed,
+    piece: &[u8],
+) -> Result<bool, Gone> {
+    match feed.push(rt.alloc(), piece) {
+        Ok(frames) => bring_all(rt, input, frames),
+        Err(FrameFault::Memory) => Err(fail(rt, input, Fault::Memory)),
+        Err(fault) => pass(rt, input, FramesFault::Frame(fault.number())),
+    }
+}
+
+/// One connection, to its end.
+fn read<H: Host, T: Taker<H>>(rt: &H, input: &Input<T>, file: &mut File) -> Result<(), Gone> {
+    let Ok(mut feed) = Feed::new(rt.alloc()) else {
+        return Err(fail(rt, input, Fault::Memory));
+    };
+    let mut is_sound = true;
+    let mut piece = [0; PIECE];
+    for _ in rt.forever() {
+        let Ok(count) = file.read(&mut piece) else {
+            return Err(fail(rt, input, Fault::File(NamedFile::Input(input.number))));
         };
-        let mut is_sound = true;
-        let mut piece = [0; PIECE];
-        for _ in rt.forever() {
-            let Ok(count) = file.read(&mut piece) else {
-                return Err(self.fail(rt, Fault::File(NamedFile::Input(self.number))));
-            };
-            // The empty piece at the end brings out a fault behind the last frame.
-            if is_sound {
-                is_sound = self.take(rt, &mut feed, &piece[..count])?;
-            }
-            if count == 0 {
-                return Ok(());
-            }
+        // The empty piece at the end brings out a fault behind the last frame.
+        if is_sound {
+            is_sound = take(rt, input, &mut feed, &piece[..count])?;
         }
-        Err(Gone)
+        if count == 0 {
+            return Ok(());
+        }
     }
+    Err(Gone)
+}
 
-    /// One connection behind the other.
-    fn listen<R: Paths + AllocGlobal + Wait>(&self, rt: &R) -> Result<(), Gone> {
-        for _ in rt.forever() {
-            let Ok(mut file) = rt.open(self.path.as_str()) else {
-                return Err(self.fail(rt, Fault::File(NamedFile::Input(self.number))));
-            };
-            let comes_again = is_fifo(&file);
-            self.read(rt, &mut file)?;
-            if !comes_again {
-                return send(rt, &self.to, Event::Ended);
-            }
+/// One connection behind the other.
+fn listen_on<H: Host, T: Taker<H>>(rt: &H, input: &Input<T>) -> Result<(), Gone> {
+    for _ in rt.forever() {
+        let Ok(mut file) = rt.open(input.path.as_str()) else {
+            return Err(fail(rt, input, Fault::File(NamedFile::Input(input.number))));
+        };
+        let comes_again = is_fifo(&file);
+        read(rt, input, &mut file)?;
+        if !comes_again {
+            return bring(rt, &input.to, Event::Ended);
         }
-        Err(Gone)
     }
+    Err(Gone)
 }
 
 /// Starts a thread that listens on the input with this number.
-pub fn start<H: Host>(
+fn listen<H: Host, T: Taker<H>>(
     rt: &H,
     guest: Guest,
     number: usize,
     path: &str,
-    to: &Sender,
-) -> Result<(), Fault> {
+    to: &Door<Event, T>,
+) -> Result<(), Memory> {
     let own = *rt;
     let input = Input {
         number,
         path: String::from_str(rt.alloc(), path)?,
         guest,
-        to: to.clone()?,
+        to: to.copy()?,
     };
     match thread::spawn(rt, move || {
-        let _ended = input.listen(&own);
+        let _ended = listen_on(&own, &input);
     }) {
         Ok(_thread) => Ok(()),
-        Err(_) => Err(Fault::Memory),
+        Err(_) => Err(Memory),
     }
+}
+
+/// Starts threads that listen on all inputs.
+pub fn listen_all<H: Host, T: Taker<H>>(
+    rt: &H,
+    guest: Guest,
+    paths: &[&str],
+    to: &Door<Event, T>,
+) -> Result<(), Memory> {
+    for number in 0..paths.len() {
+        listen(rt, guest, number, paths[number], to)?;
+    }
+    Ok(())
 }

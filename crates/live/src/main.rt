@@ -2,6 +2,7 @@
 //! FIFOs or files.
 #![tactic(auto)]
 
+mod desk;
 mod events;
 mod faults;
 mod files;

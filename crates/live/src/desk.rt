@@ -1,0 +1,129 @@
+//! Where a keeper's threads meet: whoever brings frames has the log take them itself, where no other thread does so, and none has to be woken for it.
+
+use crate::events::Event;
+use crate::keeping::{KeeperHost, Keeping};
+use crate::posting::Post;
+use crossbeam_channel::{Receiver as EndReceiver, Sender as EndSender, bounded};
+use ends::{Fault, Receiver, Taker};
+use ft_types::Memory;
+use std::alloc::Global;
+use std::option::Option;
+use std::sync::Mutex;
+
+/// What decides, which one thread has at a time, and why nothing does any more.
+#[derive(Drop)]
+struct Seat {
+    keeping: Option<Keeping>,
+    fault: Option<Fault>,
+}
+
+/// Where threads meet.
+#[derive(Drop)]
+pub struct Desk {
+    seat: Mutex<Seat>,
+    events: Receiver<Event>,
+    outputs: Vec<Post>,
+    /// By it the thread is woken that waits for the end.
+    end: EndSender<(), Global>,
+    ends: EndReceiver<(), Global>,
+}
+
+impl Seat {
+    /// Takes the events that are there. Whether the end has come.
+    fn serve<H: KeeperHost>(&mut self, rt: &H, events: &Receiver<Event>, outputs: &[Post]) -> bool {
+        let Some(keeping) = self.keeping.take() else {
+            return false;
+        };
+        match keeping.keep(rt, events, outputs) {
+            Ok(keeping) => {
+                let is_over = keeping.is_over();
+                self.keeping = Some(keeping);
+                is_over
+            }
+            Err(fault) => {
+                self.fault = Some(fault);
+                true
+            }
+        }
+    }
+
+    /// Takes what decides, once the end has come.
+    fn end(&mut self) -> Result<Option<Keeping>, Fault> {
+        if let Some(fault) = self.fault.take() {
+            return Err(fault);
+        }
+        match self.keeping.take() {
+            Some(keeping) if keeping.is_over() => Ok(Some(keeping)),
+            keeping => {
+                self.keeping = keeping;
+                Ok(None)
+            }
+        }
+    }
+}
+
+impl<H: KeeperHost> Taker<H> for Desk {
+    /// Takes the events that are there. Where another thread does so, that one looks for events behind it.
+    fn serve(&self, rt: &H) {
+        for _ in rt.forever() {
+            let Some(mut seat) = self.seat.try_lock() else {
+                return;
+            };
+            let is_over = seat.serve(rt, &self.events, &self.outputs);
+            let is_left = seat.keeping.is_none();
+            drop(seat);
+            for output in &self.outputs {
+                output.write(rt);
+            }
+            if is_over {
+                let _told = self.end.try_send(rt, ());
+            }
+            if is_left || self.events.is_empty() {
+                return;
+            }
+        }
+    }
+}
+
+impl Desk {
+    /// A desk at which nothing is decided yet.
+    pub fn new(alloc: Global, events: Receiver<Event>, outputs: Vec<Post>) -> Result<Desk, Memory> {
+        let (end, ends) = bounded(alloc, 1)?;
+        let seat = Seat {
+            keeping: None,
+            fault: None,
+        };
+        Ok(Desk {
+            seat: Mutex::new(seat),
+            events,
+            outputs,
+            end,
+            ends,
+        })
+    }
+
+    /// The outputs, in their order.
+    pub fn outputs(&self) -> &[Post] {
+        &self.outputs
+    }
+
+    /// Has it decided on what comes, up to the end: all inputs are at theirs, or the keeper can't go on.
+    pub fn keep<H: KeeperHost>(&self, rt: &H, keeping: Keeping) -> Result<Keeping, Fault> {
+        let mut seat = self.seat.lock(rt);
+        seat.keeping = Some(keeping);
+        drop(seat);
+        for _ in rt.forever() {
+            self.serve(rt);
+            let mut seat = self.seat.lock(rt);
+            let end = seat.end()?;
+            drop(seat);
+            if let Some(keeping) = end {
+                return Ok(keeping);
+            }
+            if self.events.is_empty() {
+                let _told = self.ends.recv(rt);
+            }
+        }
+        Err(Fault::Memory)
+    }
+}
