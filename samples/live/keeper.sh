@@ -211,6 +211,26 @@ is 'all of them are acknowledged' "ack 1 4 $end" "$(tail -n 1 "$work/acks" | sed
 "$workbench" replay "$image" "$work/thirds" > "$work/replayed" 2>&1
 if cmp -s "$work/text" "$work/replayed"; then pass; else fail 'the replay of what came over three inputs' < "$work/replayed"; fi
 
+# One output, which nobody reads: once it is full, the input whose frames it acknowledges waits, and what another one brings is logged.
+mkfifo "$work/often" "$work/once" "$work/unread"
+: > "$work/written"
+"$live" keeper "$image" 4 "$work/unheard" from "$work/often" "$work/once" to "$work/unread" 2> "$work/err" &
+keeper=$!
+sleep 60 < "$work/unread" &
+for _ in $(seq 8000); do cat "$work/frames/0000" && echo >> "$work/written"; done 2> /dev/null > "$work/often" &
+writer=$!
+written=-1
+while sleep 0.5 && [ "$(wc -l < "$work/written")" -gt "$written" ]; do written=$(wc -l < "$work/written"); done
+if kill -0 "$writer" 2> /dev/null; then pass; else fail 'an input waits for the only output' <<< "$written were written"; fi
+cat "$work"/frames/* > "$work/once"
+for _ in $(seq 100); do
+    if cmp -s "$work/run.log" "$work/unheard"; then break; fi
+    sleep 0.1
+done
+if cmp -s "$work/run.log" "$work/unheard"; then pass; else fail 'what comes beside an input that waits is logged' < "$work/err"; fi
+stop "$keeper"
+stop "$writer"
+
 # A rest that is less than a frame is cut off.
 size=$(wc -c < "$work/run.log")
 head -c "$((size - 7))" "$work/run.log" > "$work/torn"
