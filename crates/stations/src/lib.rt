@@ -9,6 +9,8 @@ mod handing;
 mod laws;
 mod log_front;
 mod station;
+mod written;
+mod written_feed;
 
 pub use admitting::is_of;
 pub use faults::{FenceFault, FilesFault, LogFault};
@@ -17,3 +19,5 @@ pub use handing::{FencedLog, fence_off, hand_over};
 pub use laws::handshake;
 pub use log_front::{LogFront, read_frames};
 pub use station::KeeperStation;
+pub use written::WrittenFrame;
+pub use written_feed::WrittenFeed;

@@ -62,7 +62,7 @@ fn split(alloc: Global, bytes: &[u8]) -> Result<(Vec<Frame>, Option<FrameFault>)
 
 /// How many bytes the frame at the front is: 8, its body and 32.
 #[tactic(auto, using(fragment_codec::proofs::bytes::Numbers::little_32))]
-fn frame_size(bytes: &[u8]) -> usize
+pub(crate) fn frame_size(bytes: &[u8]) -> usize
     requires { 8 ≤ length bytes.now }
     ensures { result ≡ body_len bytes.now + 40 }
 {

@@ -13,8 +13,9 @@ use crate::admitting::answer_of;
 use crate::faults::{FilesFault, LogFault};
 use crate::files::KeeperFiles;
 use crate::log_front::{LogFront, read_frames};
-use fragment_codec::{FIRST_TERM, FRAME_LIMIT, Frame, write_frame};
-use ft_types::{Guest, Memory, MemorySink, Position, Term};
+use crate::written::WrittenFrame;
+use fragment_codec::{FIRST_TERM, Frame};
+use ft_types::{Guest, Memory, Position, Term};
 use log_join::{Put, Store};
 use std::alloc::Global;
 use std::marker::Model;
@@ -122,25 +123,22 @@ impl KeeperStation {
     }
 
     /// Takes a frame that is new, and its bytes.
-    fn take_new(&mut self, alloc: Global, frame: Frame) -> Result<(), Memory>
+    fn take_new(&mut self, alloc: Global, frame: WrittenFrame) -> Result<(), Memory>
         requires { answer_to self.old.store frame ≡ Put.New }
         ensures joined { OnOk result (IsJoin self.old.store (alone frame) self.new.store) }
         ensures fresh { OnOk result (self.new.fresh ≡ self.old.fresh ++ spelling frame) }
         ensures one { OnOk result (Splits (spelling frame) (frame ∷ []) []) }
         ensures err { OnErr result (self.new ≡ self.old) }
     {
-        let mut spelled = MemorySink::new(alloc, FRAME_LIMIT);
-        if write_frame(&frame, &mut spelled).is_err() {
-            return Err(Memory);
-        }
-        self.fresh.reserve(spelled.bytes().len())?;
+        let (frame, bytes) = frame.into_parts();
+        self.fresh.reserve(bytes.len())?;
         self.held.put(alloc, frame)?;
-        add(&mut self.fresh, spelled.bytes());
+        add(&mut self.fresh, &bytes);
         Ok(())
     }
 
     /// Takes a frame, of whatever term, unless another content stands at its key: what was acknowledged is never given up.
-    pub fn take(&mut self, alloc: Global, frame: Frame) -> Result<Put, Memory>
+    pub fn take(&mut self, alloc: Global, frame: WrittenFrame) -> Result<Put, Memory>
         // The answer is as its key stands.
         ensures answer { IfOk result (λ p. p ≡ answer_to self.old.store frame) }
         // One that is new is joined to the store, and its spelling is to be added to the log. No other changes anything.
@@ -151,7 +149,7 @@ impl KeeperStation {
         // So it stays the keeper of its log.
         ensures log { (log : List ℕ) → IsOnLog log self.old → IsOnLog log self.new }
     {
-        let put = answer_of(alloc, self.held.store(), &frame)?;
+        let put = answer_of(alloc, self.held.store(), frame.frame())?;
         if let Put::New = put {
             self.take_new(alloc, frame)?;
         }
