@@ -5,8 +5,8 @@ ghost use Rattle.std.specs.Prelude.{None};
 use crate::come::{Come, frame_of, guest_of};
 use ft_types::{Count, Term};
 use stations::{
-    FenceFault, FencedLog, FilesFault, KeeperFiles, KeeperStation, fence_off, hand_over, handshake,
-    is_of, read_frames,
+    FenceFault, FencedLog, FilesFault, KeeperFiles, KeeperStation, WrittenFrame, fence_off,
+    hand_over, handshake, is_of, read_frames,
 };
 use std::alloc::Global;
 use std::result::Result;
@@ -85,7 +85,7 @@ fn keep(alloc: Global, shelf: &mut Shelf, comes: &[Come]) -> Result<Told, Fail> 
     let mut station = begin(alloc, shelf)?;
     for come in comes {
         let frame = frame_of(alloc, guest_of(1), come)?;
-        let _put = station.take(alloc, frame)?;
+        let _put = station.take(alloc, WrittenFrame::write(alloc, frame)?)?;
     }
     log(alloc, station, shelf)
 }

@@ -9,12 +9,11 @@ use crate::files::{HostFiles, LogFiles};
 use crate::listening::listen_all;
 use crate::posting::{Post, begin_posts, posts};
 use ends::{Door, Fault, Frames, FramesFault, Host, Paths, Receiver, row, tell};
-use fragment_codec::Frame;
 use ft_types::{Guest, Keeper, Position};
 use live_primary::read_image_file;
 use live_words::KeeperWords;
 use log_join::Put;
-use stations::KeeperStation;
+use stations::{KeeperStation, WrittenFrame};
 use std::alloc::Global;
 use std::io::Eprint;
 use std::result::Result;
@@ -55,7 +54,7 @@ impl Keeping {
     }
 
     /// Takes a frame of the input with this number.
-    fn take_frame(&mut self, alloc: Global, input: usize, frame: Frame) -> Result<(), Fault> {
+    fn take_frame(&mut self, alloc: Global, input: usize, frame: WrittenFrame) -> Result<(), Fault> {
         match self.station.take(alloc, frame)? {
             Put::Clash => Err(Fault::Frames(Frames::Input(input), FramesFault::Clash)),
             _ => Ok(()),

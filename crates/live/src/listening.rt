@@ -2,9 +2,9 @@
 
 use crate::events::Event;
 use ends::{Door, Fault, Frames, FramesFault, Gone, Host, NamedFile, Taker, bring, is_fifo};
-use fragment_codec::{Feed, Frame, FrameFault};
+use fragment_codec::FrameFault;
 use ft_types::{Guest, Memory};
-use stations::is_of;
+use stations::{WrittenFeed, WrittenFrame, is_of};
 use std::fs::File;
 use std::io::Read;
 use std::thread;
@@ -39,9 +39,11 @@ fn pass<H: Host, T: Taker<H>>(rt: &H, input: &Input<T>, fault: FramesFault) -> R
 fn bring_all<H: Host, T: Taker<H>>(
     rt: &H,
     input: &Input<T>,
-    mut frames: Vec<Frame>,
+    mut frames: Vec<WrittenFrame>,
 ) -> Result<bool, Gone> {
-    let foreign = frames.iter().position(|frame| !is_of(frame, &input.guest));
+    let foreign = frames
+        .iter()
+        .position(|frame| !is_of(frame.frame(), &input.guest));
     if let Some(place) = foreign {
         frames.truncate(place);
     }

@@ -8,7 +8,8 @@ use Rattle.fragment_codec.specs.Spelling.{sealed, headed}
 use Rattle.fragment_codec.specs.Streams.{Spelled, text_of, spelled, is_short, version_of, HasSpelling, IsSpelled, spelling, Splits, Follows, Unread, Keeps, body_len, head_of}
 use Rattle.fragment_codec.proofs.bytes.Heads.{head_is}
 use Rattle.fragment_codec.proofs.streams.Pieces.{spelling_head}
-use Rattle.fragment_codec.proofs.streams.Splits.{splits_first, splits_nothing, splits_none, splits_more, splits_on}
+use Rattle.fragment_codec.proofs.streams.Splits.{splits_first, splits_nothing, splits_none}
+use Rattle.stations.proofs.Fronts.{size_step}
 
 -- ---- one frame
 
@@ -82,6 +83,21 @@ own_bytes bytes last frame frames s =
       each = (first.rules, tt);
     }
 
+-- the first frame's bytes, apart from what stands behind them
+pub record Apart (bytes last : List ℕ) (frame : Frame) (frames : List Frame) : Type 0 where
+  pub len : 8 ≤ length bytes
+  pub within : body_len bytes + 40 ≤ length bytes
+  pub own : Splits (take (body_len bytes + 40) bytes) (frame ∷ []) []
+  pub others : Splits (drop (body_len bytes + 40) bytes) frames last
+
+-- a walk over frames that has come to a frame
+pub apart : (bytes rest last : List ℕ) (all left frames : List Frame) (frame : Frame) → ((end : List ℕ) → Splits bytes all end → Splits rest left end) →
+    left ≡ frame ∷ frames → Splits bytes all last → Apart rest last frame frames
+apart bytes rest last all left frames frame walk steps s =
+    let now : Splits rest (frame ∷ frames) last = subst (λ (fs : List Frame). Splits rest fs last) steps (walk last s) in
+    let step = size_step rest last frame frames now in
+    record { len = step.len; within = step.within; own = own_bytes rest last frame frames now; others = step.others }
+
 -- ---- feeds
 
 -- behind the frames that a feed gave of what was held and a piece stands what it holds now
@@ -96,11 +112,6 @@ given bytes frames feed f = record {
   splits = f.splits;
   follows = record { rest = f.rest; splits = splits_none f.rest; keeps = f.keeps };
 }
-
--- where nothing was held the piece is all
-pub nothing_held : (held piece : List ℕ) (frames : List Frame) → length held ≡ 0 → (rest : List ℕ) → Splits (held ++ piece) frames rest → Splits piece frames rest
-nothing_held [] piece frames e rest s = s
-nothing_held (x ∷ held) piece frames e rest s = absurd cc
 
 -- a feed that gave frames has the rest of what was held and the piece
 pub holds_rest : (bytes held : List ℕ) (frames : List Frame) (feed : Unread) → Follows bytes frames feed →
