@@ -54,7 +54,12 @@ impl Keeping {
     }
 
     /// Takes a frame of the input with this number.
-    fn take_frame(&mut self, alloc: Global, input: usize, frame: WrittenFrame) -> Result<(), Fault> {
+    fn take_frame(
+        &mut self,
+        alloc: Global,
+        input: usize,
+        frame: WrittenFrame,
+    ) -> Result<(), Fault> {
         match self.station.take(alloc, frame)? {
             Put::Clash => Err(Fault::Frames(Frames::Input(input), FramesFault::Clash)),
             _ => Ok(()),

@@ -29,10 +29,9 @@ fn fail<H: Host, T: Taker<H>>(rt: &H, input: &Input<T>, fault: Fault) -> Gone {
 }
 
 /// Tells that the input is at fault: what stands behind that is passed over.
-fn pass<H: Host, T: Taker<H>>(rt: &H, input: &Input<T>, fault: FramesFault) -> Result<bool, Gone> {
+fn pass<H: Host, T: Taker<H>>(rt: &H, input: &Input<T>, fault: FramesFault) -> Result<(), Gone> {
     let fault = Fault::Frames(Frames::Input(input.number), fault);
-    bring(rt, &input.to, Event::Passed(fault))?;
-    Ok(false)
+    bring(rt, &input.to, Event::Passed(fault))
 }
 
 /// Has frames taken, up to the first of another guest. Whether there is none.
@@ -51,39 +50,51 @@ fn bring_all<H: Host, T: Taker<H>>(
         bring(rt, &input.to, Event::Frames(input.number, frames))?;
     }
     match foreign {
-        Some(_) => pass(rt, input, FramesFault::Guest),
+        Some(_) => {
+            pass(rt, input, FramesFault::Guest)?;
+            Ok(false)
+        }
         None => Ok(true),
     }
 }
 
-/// Takes the next piece of a connection: its frames are taken all at once. Whether nothing is at fault.
+/// Takes the next piece of a connection: its frames are taken all at once. Its feed, unless something is at fault.
 fn take<H: Host, T: Taker<H>>(
     rt: &H,
     input: &Input<T>,
-    feed: &mut Feed,
+    feed: WrittenFeed,
     piece: &[u8],
-) -> Result<bool, Gone> {
+) -> Result<Option<WrittenFeed>, Gone> {
     match feed.push(rt.alloc(), piece) {
-        Ok(frames) => bring_all(rt, input, frames),
+        Ok((frames, feed)) => {
+            if bring_all(rt, input, frames)? {
+                Ok(Some(feed))
+            } else {
+                Ok(None)
+            }
+        }
         Err(FrameFault::Memory) => Err(fail(rt, input, Fault::Memory)),
-        Err(fault) => pass(rt, input, FramesFault::Frame(fault.number())),
+        Err(fault) => {
+            pass(rt, input, FramesFault::Frame(fault.number()))?;
+            Ok(None)
+        }
     }
 }
 
 /// One connection, to its end.
 fn read<H: Host, T: Taker<H>>(rt: &H, input: &Input<T>, file: &mut File) -> Result<(), Gone> {
-    let Ok(mut feed) = Feed::new(rt.alloc()) else {
+    let Ok(feed) = WrittenFeed::new(rt.alloc()) else {
         return Err(fail(rt, input, Fault::Memory));
     };
-    let mut is_sound = true;
+    let mut sound = Some(feed);
     let mut piece = [0; PIECE];
     for _ in rt.forever() {
         let Ok(count) = file.read(&mut piece) else {
             return Err(fail(rt, input, Fault::File(NamedFile::Input(input.number))));
         };
         // The empty piece at the end brings out a fault behind the last frame.
-        if is_sound {
-            is_sound = take(rt, input, &mut feed, &piece[..count])?;
+        if let Some(feed) = sound {
+            sound = take(rt, input, feed, &piece[..count])?;
         }
         if count == 0 {
             return Ok(());

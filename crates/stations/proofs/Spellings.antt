@@ -1,11 +1,10 @@
 -- The bytes of frames, as they came and as they are written.
-use Rattle.std.proofs.Common.{◌≡◌, ◌≢◌, ◌+◌, ◌≤◌, ◌<◌, ℕ, suc, Bool, true, cond, List, [], ◌∷◌, ◌++◌, length, take, drop, slice_index, refl, sym, ap, subst, ◌∙◌, append-nil, arith, inl, inr, Ok, Some, None}
-use Rattle.std.specs.List.{flat_map}
-use Rattle.std.proofs.lemmas.List.{take_at, length-append}
+use Rattle.std.proofs.Common.{◌≡◌, ◌+◌, ◌≤◌, ◌<◌, ℕ, suc, Bool, cond, List, [], ◌∷◌, ◌++◌, length, take, drop, slice_index, refl, sym, ap, subst, ◌∙◌, append-nil, arith, inl, inr, Ok, Some}
+use Rattle.std.proofs.lemmas.List.{take_at}
 use Rattle.fragment_codec.specs.declared.frame.Frame.{Frame}
 use Rattle.fragment_codec.specs.declared.frame.Frame.TheVariants.{Log, Opening}
 use Rattle.fragment_codec.specs.Spelling.{sealed, headed}
-use Rattle.fragment_codec.specs.Streams.{Spelled, text_of, spelled, is_short, version_of, HasSpelling, IsSpelled, spelling, Splits, Follows, Unread, Keeps, body_len, head_of}
+use Rattle.fragment_codec.specs.Streams.{Spelled, text_of, spelled, version_of, HasSpelling, IsSpelled, spelling, Splits, Follows, Unread, body_len, head_of}
 use Rattle.fragment_codec.proofs.bytes.Heads.{head_is}
 use Rattle.fragment_codec.proofs.streams.Pieces.{spelling_head}
 use Rattle.fragment_codec.proofs.streams.Splits.{splits_first, splits_nothing, splits_none}

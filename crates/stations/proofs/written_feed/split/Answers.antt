@@ -1,10 +1,10 @@
-use Rattle.std.proofs.Common.{◌≡◌, ◌≤◌, ◌+◌, [], ◌∷◌, ◌++◌, ℕ, List, length, take, drop, sym, ap, subst, ◌∙◌, append_assoc, rules}
+use Rattle.std.proofs.Common.{◌≡◌, [], ◌∷◌, ◌++◌, List, sym, ap, subst, ◌∙◌, append_assoc, rules}
 use Rattle.std.proofs.lemmas.List.{nil_from_length}
 use Rattle.std.specs.Vec.Iter.{into_iter_items}
 use Rattle.fragment_codec.specs.declared.frame.Frame.{Frame}
-use Rattle.fragment_codec.specs.Streams.{Splits, body_len}
+use Rattle.fragment_codec.specs.Streams.{Splits}
 use Rattle.fragment_codec.proofs.streams.Splits.{splits_nothing}
-use Rattle.stations.proofs.Spellings.{Apart, apart}
+use Rattle.stations.proofs.Spellings.{apart}
 use Rattle.stations.proofs.written_feed.split.Goals as goal
 
 pub frame_size-requires : goal.frame_size-requires
@@ -34,7 +34,7 @@ loop-frame-preserved c =
     let steps : into_iter_items at.frame-iterator ≡ frame ∷ into_iter_items c.next.new.self = c.in-Some.ensures.steps.0 in
     let pushed : c.push.new.self.items ≡ at.written.items ++ frame ∷ [] = search rules in (
       ap (λ (xs : List Frame). xs ++ into_iter_items c.next.new.self) pushed
-      ∙ append_assoc at.written.items (frame ∷ []) _ ∙ rw (← steps) at.invariant.0,
+          ∙ append_assoc at.written.items (frame ∷ []) _ ∙ rw (← steps) at.invariant.0,
       λ last s.
           rw (c.split_at.ensures.back, c.frame_size.ensures)
           (apart c.args.bytes.now at.rest.now last _ _ (into_iter_items c.next.new.self) frame at.invariant.1 steps s).others,

@@ -1,4 +1,4 @@
-use Rattle.std.proofs.Common.{◌≡◌, [], ◌++◌, ℕ, List, IfOk, arith, sym,  subst, rules}
+use Rattle.std.proofs.Common.{◌≡◌, [], ◌++◌, ℕ, List, IfOk, arith, sym, subst, rules}
 use Rattle.std.proofs.lemmas.List.{nil_from_length}
 use Rattle.std.proofs.lemmas.Bool.Decides.{nat_tests}
 use Rattle.fragment_codec.specs.Streams.{Splits}

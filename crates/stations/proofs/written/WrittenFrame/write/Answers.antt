@@ -1,4 +1,4 @@
-use Rattle.std.proofs.Common.{◌≡◌, rules}
+use Rattle.std.proofs.Common.{rules}
 use Rattle.stations.proofs.written.WrittenFrame.write.Goals as goal
 
 pub invariant_of-result : goal.invariant_of-result

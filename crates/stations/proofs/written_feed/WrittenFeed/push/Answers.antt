@@ -1,4 +1,4 @@
-use Rattle.std.proofs.Common.{◌≡◌, [], ◌++◌, ℕ, List, Some, sym, ap, subst, ◌∙◌, rules}
+use Rattle.std.proofs.Common.{[], ◌++◌, Some, sym, ap, subst, ◌∙◌}
 use Rattle.std.proofs.lemmas.Result.{err_from_is_err_and}
 use Rattle.fragment_codec.specs.Streams.{Unread, Follows}
 use Rattle.stations.proofs.Fronts.{behind}
