@@ -2,11 +2,13 @@
 
 ghost use Rattle.std.specs.Prelude.{None};
 
+use crate::bytes::{FIRST_WORD, OPENING as OPENING_BYTES, WORD};
 use crate::come::{Come, frame_of, guest_of};
-use ft_types::{Count, Term};
+use fixtures::guest_with;
+use ft_types::{Count, Guest, Term};
 use stations::{
-    FenceFault, FencedLog, FilesFault, KeeperFiles, KeeperStation, WrittenFrame, fence_off,
-    hand_over, handshake, is_of, read_frames,
+    FenceFault, FencedLog, FilesFault, KeeperFiles, KeeperStation, WrittenFeed, WrittenFrame,
+    fence_off, hand_over, handshake, is_of, read_frames,
 };
 use std::alloc::Global;
 use std::result::Result;
@@ -164,5 +166,56 @@ fn what_a_log_keeps_is_handed_over(rt: HostRuntime) -> Result<(), Fail> {
         fence: 0,
     };
     assert!(rt; is_handed_once(rt.alloc(), &mut shelf)?);
+    Ok(())
+}
+
+/// A keeper takes the frames of a stream that comes in pieces of so many bytes.
+fn take_stream(
+    alloc: Global,
+    station: &mut KeeperStation,
+    stream: &[u8],
+    size: usize,
+) -> Result<(), Fail> {
+    let mut feed = WrittenFeed::new(alloc)?;
+    for piece in stream.chunks(size.max(1)) {
+        let Ok((frames, next)) = feed.push(alloc, piece) else {
+            return Err("whole frames".into());
+        };
+        for frame in frames {
+            let _put = station.take(alloc, frame)?;
+        }
+        feed = next;
+    }
+    Ok(())
+}
+
+/// The log of a keeper of the stream's guest, to which it comes in pieces of so many bytes.
+fn log_of(alloc: Global, guest: Guest, stream: &[u8], size: usize) -> Result<Vec<u8>, Fail> {
+    let mut shelf = Shelf {
+        log: Vec::new(alloc),
+        fence: 0,
+    };
+    let Ok(mut station) = KeeperStation::begin(alloc, guest, &mut shelf) else {
+        return Err("an empty log is a keeper's".into());
+    };
+    take_stream(alloc, &mut station, stream, size)?;
+    log(alloc, station, &mut shelf)?;
+    Ok(shelf.log)
+}
+
+/// A frame of version 1 is written in version 2; one of that is logged as it came, however it was cut.
+#[test]
+fn frames_are_logged_as_they_are_written(rt: HostRuntime) -> Result<(), Fail> {
+    let mut came = OPENING_BYTES.to_vec(rt.alloc())?;
+    let mut written = OPENING_BYTES.to_vec(rt.alloc())?;
+    came.extend_from_slice(FIRST_WORD)?;
+    written.extend_from_slice(WORD)?;
+    let mut digest = [0; 32];
+    digest.copy_from_slice(&OPENING_BYTES[8..40]);
+    let guest = guest_with(digest, 1);
+    for size in [1, 7, 100, 1000] {
+        assert!(rt; log_of(rt.alloc(), guest, &came, size)? == written);
+        assert!(rt; log_of(rt.alloc(), guest, &written, size)? == written);
+    }
     Ok(())
 }
