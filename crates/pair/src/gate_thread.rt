@@ -31,11 +31,35 @@ pub(crate) struct GateEnd {
     pub(crate) seat: GateSeat,
 }
 
-/// Waits for a message to the gate, and takes with it what is there by then. Whether the primary's last one came: `None` where
+/// Takes the messages that are there by now. Whether the primary's last one is among them.
+fn take_what_is_there<R: Wait>(
+    rt: &R,
+    channel: &Receiver<ToGate, Global>,
+    gate: &mut Gate,
+    steps: &mut LastSteps,
+) -> Result<bool, Memory>
+    requires { AreLast gate.old steps.old }
+    ensures last { OnOk result (AreLast gate.new steps.new) }
+    ensures rest { gate.new ≡ record gate.old { lines = gate.new.lines } }
+{
+    let mut ended = false;
+    for _more in 0..channel.len() {
+        let Ok(message) = channel.try_recv(rt) else {
+            break;
+        };
+        if take_in(gate, steps, message)? {
+            ended = true;
+        }
+    }
+    Ok(ended)
+}
+
+/// Waits for a message to the gate, and takes with it what is there by then, and what was offered. Whether the primary's last one came: `None` where
 /// nobody sends any more.
 fn listen<R: Wait>(
     rt: &R,
     channel: &Receiver<ToGate, Global>,
+    offers: &Receiver<ToGate, Global>,
     gate: &mut Gate,
     last: &mut LastSteps,
 ) -> Result<Option<bool>, Memory>
@@ -46,16 +70,10 @@ fn listen<R: Wait>(
     let Ok(first) = channel.recv(rt) else {
         return Ok(None);
     };
-    let mut ended = take_in(gate, last, first)?;
-    for _more in 0..channel.len() {
-        let Ok(message) = channel.try_recv(rt) else {
-            break;
-        };
-        if take_in(gate, last, message)? {
-            ended = true;
-        }
-    }
-    Ok(Some(ended))
+    let is_last = take_in(gate, last, first)?;
+    let ended = take_what_is_there(rt, channel, gate, last)?;
+    let _offered = take_what_is_there(rt, offers, gate, last)?;
+    Ok(Some(is_last || ended))
 }
 
 /// The gate's thread. It looks whenever it was sent something, and once more when nobody sends any more: then each keeper has
@@ -75,13 +93,15 @@ pub(crate) fn guard<R: Wait>(
         mut gate,
         mut seat,
         channel,
+        offers,
+        begun: _,
         primary,
     } = watch;
     let mut last = no_steps();
     let mut released = Vec::new(alloc);
     let mut early = 0usize;
     for _ in rt.forever() {
-        let Some(ended) = listen(rt, &channel, &mut gate, &mut last)? else {
+        let Some(ended) = listen(rt, &channel, &offers, &mut gate, &mut last)? else {
             break;
         };
         if ended {

@@ -3,7 +3,7 @@
 use crate::messages::{ToGate, ToKeeper, Went, send};
 use crate::news::News;
 use crate::noting::note_out;
-use crate::rounds::{has_gone_on, round_end};
+use crate::rounds::{ROUNDS_AHEAD, ROUNDS_SENT, has_gone_on, rounds_on};
 use crossbeam_channel::{Receiver, Sender};
 use fragment_codec::Frame;
 use ft_types::{Counts, Memory};
@@ -24,8 +24,13 @@ pub(crate) struct Herald {
     pub(crate) taken_at: Counts,
     pub(crate) keepers: Vec<Sender<ToKeeper, Global>>,
     pub(crate) gate: Sender<ToGate, Global>,
+    pub(crate) offers: Sender<ToGate, Global>,
+    /// Gone once keepers and gate have begun.
+    pub(crate) begins: Option<Sender<(), Global>>,
     /// What went out.
     pub(crate) went: Receiver<Went, Global>,
+    /// Whether it has news to send.
+    pub(crate) has_news: bool,
     /// Whether a growth was refused, or somebody is gone to whom something was sent.
     pub(crate) is_lost: bool,
 }
@@ -59,25 +64,27 @@ impl Herald {
             return Ok(());
         }
         self.taken_at = counts;
+        self.has_news = true;
         self.news.take(alloc, book)
     }
 
-    /// Takes what is new in the book, and says how far its harts may go: two rounds, the first of which calls for the next look.
+    /// Takes what is new in the book, and says how far its harts may go: as many rounds as are sent at once, behind which a hart calls for the next look, and
+    /// some more.
     fn see(&mut self, alloc: Global, book: &Book<Recording>) -> Option<Grant> {
         if self.is_lost || self.take_news(alloc, book).is_err() {
             self.is_lost = true;
             return None;
         }
-        let calls = round_end(book.counts(), self.budget);
-        let ends = round_end(calls, self.budget);
+        let calls = rounds_on(book.counts(), self.budget, ROUNDS_SENT);
+        let ends = rounds_on(calls, self.budget, ROUNDS_AHEAD);
         Some(Grant { calls, ends })
     }
 
-    /// Sends the gate what was put out, and each keeper the pieces: the last one themselves, the others copies.
+    /// Sends the gate what was put out, and then each keeper the pieces: the last one themselves, the others copies.
     fn send_news<R: Wait>(&mut self, rt: &R, alloc: Global) -> Result<(), Memory> {
         let outputs = mem::replace(&mut self.news.outputs, Vec::new(alloc));
         if !outputs.is_empty() {
-            send(rt, &self.gate, ToGate::Offers(outputs))?;
+            send(rt, &self.offers, ToGate::Offers(outputs))?;
         }
         let pieces = mem::replace(&mut self.news.pieces, Vec::new(alloc));
         if pieces.is_empty() {
@@ -122,7 +129,12 @@ impl Overseer<Recording> for Herald {
     }
 
     fn hand_on<R: Wait>(&mut self, rt: &R, alloc: Global) {
-        if !self.is_lost && self.send_news(rt, alloc).is_err() {
+        if !self.has_news || self.is_lost {
+            return;
+        }
+        self.has_news = false;
+        self.begins = None;
+        if self.send_news(rt, alloc).is_err() {
             self.is_lost = true;
         }
     }

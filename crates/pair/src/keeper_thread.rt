@@ -9,8 +9,9 @@ use crate::adding::add_all;
 use crate::keeping::keep;
 use crate::messages::{ToGate, ToKeeper, send};
 use crate::posts::Post;
+use crate::tally::Tally;
 use ack_core::{Board, KeeperSeat};
-use crossbeam_channel::Receiver;
+use crossbeam_channel::{Receiver, Sender};
 use fragment_codec::Frame;
 use ft_types::Memory;
 use std::alloc::Global;
@@ -21,29 +22,57 @@ use tracked_position::Tracked;
 /// What a keeper's thread gives: the keeper's seat, which publishes no more, and what the keeper holds, with its position.
 pub(crate) type Served = (KeeperSeat, Tracked);
 
-/// Waits for a message to a keeper, and takes with it what is there by then. Whether the last one came.
+/// What a keeper heard.
+#[derive(Clone, Copy)]
+struct Heard {
+    /// How many messages with frames it took.
+    messages: u64,
+    /// Whether the last message came.
+    ended: bool,
+}
+
+/// Waits for a message to a keeper, and takes with it what is there by then.
 fn hear<R: Wait>(
     rt: &R,
     channel: &Receiver<ToKeeper, Global>,
     frames: &mut Vec<Frame>,
-) -> Result<bool, Memory> {
+) -> Result<Heard, Memory> {
+    let mut heard = Heard {
+        messages: 1,
+        ended: false,
+    };
     match channel.recv(rt) {
         Ok(Some(more)) => add_all(frames, more)?,
-        Ok(None) => return Ok(true),
+        Ok(None) => heard.ended = true,
         Err(_) => return Err(Memory),
     }
     for _more in 0..channel.len() {
         match channel.try_recv(rt) {
             Ok(Some(more)) => add_all(frames, more)?,
-            Ok(None) => return Ok(true),
+            Ok(None) => heard.ended = true,
             Err(_) => break,
         }
+        heard.messages = heard.messages.wrapping_add(1);
     }
-    Ok(false)
+    Ok(heard)
 }
 
-/// A keeper's thread, which publishes its position each time it took what came, and ends at the primary's last message. Where it
-/// finds no memory, or none comes any more, it gives up. Each count that it published is one that its store had.
+/// Tells the gate that the keeper at this place, which has taken so many messages, has published, where that makes as many keepers as it needs.
+fn tell_gate<R: Wait>(
+    rt: &R,
+    gate: &Sender<ToGate, Global>,
+    tally: &Tally,
+    place: usize,
+    taken: u64,
+) -> Result<(), Memory> {
+    if tally.has_moved(place, taken) {
+        send(rt, gate, ToGate::Published)?;
+    }
+    Ok(())
+}
+
+/// A keeper's thread, which publishes its position each time it took what came, tells the gate where it is the one that makes enough, and ends at the
+/// primary's last message. Where it finds no memory, or none comes any more, it gives up. Each count that it published is one that its store had.
 pub(crate) fn serve<R: Wait>(
     rt: &R,
     alloc: Global,
@@ -58,15 +87,19 @@ pub(crate) fn serve<R: Wait>(
         mut store,
         frames: channel,
         gate,
+        place,
+        tally,
     } = post;
+    let mut taken = 0u64;
     for _ in rt.forever() {
         let mut fresh = Vec::new(alloc);
-        let ended = hear(rt, &channel, &mut fresh)?;
+        let Heard { messages, ended } = hear(rt, &channel, &mut fresh)?;
         keep(alloc, board, &mut seat, &mut store, fresh)?;
         if ended {
             return Ok((seat, store));
         }
-        send(rt, &gate, ToGate::Published)?;
+        taken = taken.wrapping_add(messages);
+        tell_gate(rt, &gate, &tally, place, taken)?;
     }
     unreachable!()
 }

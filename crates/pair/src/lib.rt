@@ -17,6 +17,7 @@ mod printing;
 mod released;
 mod rounds;
 mod settling;
+mod tally;
 mod telling;
 mod threads;
 

@@ -10,12 +10,13 @@ use std::sync::Wait;
 /// What a keeper is sent: frames, or that there are no more.
 pub(crate) type ToKeeper = Option<Vec<Frame>>;
 
-/// What the gate is sent.
+/// What the gate is sent. It waits for what keepers and the primary tell it; what harts have put out it takes when it is told, since none of it goes out
+/// before keepers hold it.
 #[derive(Drop)]
 pub(crate) enum ToGate {
     /// Harts have put these out since the last look.
     Offers(Vec<Output>),
-    /// A keeper has published.
+    /// Keepers have published.
     Published,
     /// The primary is at its end.
     End,

@@ -5,6 +5,7 @@ ghost use Rattle.ack_core.specs.Seats.{harts_of};
 ghost use Rattle.pair.specs.Posts.{AreKeepersOf, ArePostsOf};
 
 use crate::messages::{ToGate, ToKeeper, Went};
+use crate::tally::Tally;
 use ack_core::{Board, GateSeat, KeeperSeat};
 use crossbeam_channel::{Receiver, Sender, unbounded};
 use ft_types::{Guest, Memory};
@@ -12,6 +13,7 @@ use output_gate::Gate;
 use primary::Primary;
 use std::alloc::Global;
 use std::result::Result;
+use std::sync::Arc;
 use tracked_position::Tracked;
 
 /// What a keeper's thread begins with.
@@ -21,6 +23,9 @@ pub(crate) struct Post {
     pub(crate) store: Tracked,
     pub(crate) frames: Receiver<ToKeeper, Global>,
     pub(crate) gate: Sender<ToGate, Global>,
+    /// Which keeper it is, and how far each of them is.
+    pub(crate) place: usize,
+    pub(crate) tally: Arc<Tally, Global>,
 }
 
 /// What the gate's thread begins with.
@@ -29,6 +34,10 @@ pub(crate) struct Watch {
     pub(crate) gate: Gate,
     pub(crate) seat: GateSeat,
     pub(crate) channel: Receiver<ToGate, Global>,
+    /// What harts have put out, which nobody waits for.
+    pub(crate) offers: Receiver<ToGate, Global>,
+    /// That the primary has something for keepers and gate.
+    pub(crate) begun: Receiver<(), Global>,
     /// Whom it tells what went out.
     pub(crate) primary: Sender<Went, Global>,
 }
@@ -42,6 +51,8 @@ pub(crate) struct PrimaryPost {
     /// Whom it sends to.
     pub(crate) keepers: Vec<Sender<ToKeeper, Global>>,
     pub(crate) gate: Sender<ToGate, Global>,
+    pub(crate) offers: Sender<ToGate, Global>,
+    pub(crate) begins: Sender<(), Global>,
     /// What went out.
     pub(crate) went: Receiver<Went, Global>,
 }
@@ -52,6 +63,8 @@ fn new_post(
     guest: Guest,
     seat: KeeperSeat,
     gate: &Sender<ToGate, Global>,
+    place: usize,
+    tally: &Arc<Tally, Global>,
 ) -> Result<(Post, Sender<ToKeeper, Global>), Memory>
     ensures { IfOk result (λ r. (r.0.seat ≡ seat) × (r.0.store.guest ≡ guest)) }
 {
@@ -63,6 +76,8 @@ fn new_post(
         store,
         frames,
         gate,
+        place,
+        tally: Arc::try_clone(tally)?,
     };
     Ok((post, sender))
 }
@@ -74,6 +89,7 @@ pub(crate) fn man_posts(
     guest: Guest,
     seats: Vec<KeeperSeat>,
     gate: &Sender<ToGate, Global>,
+    tally: &Arc<Tally, Global>,
 ) -> Result<(Vec<Post>, Vec<Sender<ToKeeper, Global>>), Memory>
     requires seats { AreKeepersOf board.now seats.items }
     requires harts { guest.harts ≡ harts_of board.now }
@@ -82,7 +98,7 @@ pub(crate) fn man_posts(
     let mut posts = Vec::new(alloc);
     let mut keepers = Vec::new(alloc);
     for seat in seats {
-        let (post, sender) = new_post(alloc, guest, seat, gate)?;
+        let (post, sender) = new_post(alloc, guest, seat, gate, posts.len(), tally)?;
         posts.push(post)?;
         keepers.push(sender)?;
     }

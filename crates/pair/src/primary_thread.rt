@@ -32,6 +32,8 @@ pub(crate) fn lead<R: Threads + Wait + Sync>(
         budget,
         keepers,
         gate,
+        offers,
+        begins,
         went,
     } = post;
     let Primary {
@@ -45,7 +47,10 @@ pub(crate) fn lead<R: Threads + Wait + Sync>(
         taken_at: book.counts(),
         keepers,
         gate,
+        offers,
+        begins: Some(begins),
         went,
+        has_news: false,
         is_lost: false,
     };
     let limits = book.limits();

@@ -75,7 +75,7 @@ pub(crate) fn released_in(
 ) -> Result<Vec<Output>, Memory>
     ensures { IfOk result (λ released. released.items ≡ filter (is_among given.now) (outputs_in machine.now)) }
 {
-    let mut released = Vec::new(alloc);
+    let mut released = Vec::with_capacity(alloc, given.len())?;
     for number in 0..machine.harts() {
         let hart = Hart::new(number);
         add_given(

@@ -9,9 +9,12 @@ use ft_types::{Count, Counts, Hart};
 /// How many steps a round gives each hart, at the most.
 pub(crate) const ROUND: u64 = 4096;
 
-/// How many rounds a hart goes on, at the most, until keepers are sent what is new: to send it wakes a thread for each of them, which takes longer than a
-/// round does.
-const ROUNDS_SENT: u64 = 8;
+/// How many rounds a hart goes on, at the most, until it has the primary look at the book, and keepers be sent what is new: a lease comes back for that, and to
+/// send it wakes a thread for each keeper, which takes longer than a round does.
+pub(crate) const ROUNDS_SENT: u64 = 8;
+
+/// How many more it may go on until the primary has looked: whoever looks may have to wait for a processor.
+pub(crate) const ROUNDS_AHEAD: u64 = 24;
 
 /// Whether a hart has gone on from these counts to those by as many rounds as are sent at once.
 pub(crate) fn has_gone_on(before: &Counts, now: &Counts) -> bool {
@@ -41,6 +44,15 @@ pub(crate) fn round_end(counts: Counts, budget: u32) -> Counts
         let count = counts.get(hart);
         let goal = Count::from(budget).min(count + ROUND);
         end.set(hart, count.max(goal));
+    }
+    end
+}
+
+/// Where so many rounds end, one behind the other.
+pub(crate) fn rounds_on(counts: Counts, budget: u32, rounds: u64) -> Counts {
+    let mut end = counts;
+    for _round in 0..rounds {
+        end = round_end(end, budget);
     }
     end
 }

@@ -18,6 +18,7 @@ use crate::primary_thread::lead;
 use crate::printing::write_pair;
 use crate::released::released_in;
 use crate::settling::stores_of;
+use crate::tally::Tally;
 use crate::telling::outputs_in_all;
 use ack_core::Board;
 use crossbeam_channel::unbounded;
@@ -32,7 +33,7 @@ use page_book::{Book, Recording};
 use scripts::Offered;
 use std::alloc::Global;
 use std::result::Result;
-use std::sync::Wait;
+use std::sync::{Arc, Wait};
 use std::thread;
 use std::thread::Threads;
 use tracked_position::Tracked;
@@ -72,32 +73,34 @@ fn serve_all<R: Threads + Wait + Sync>(
     )?)
 }
 
-/// The keepers' threads beside the primary. Where no thread can be made for them they come last.
-fn lead_and_serve<R: Threads + Wait + Sync>(
+/// The gate's thread beside those of the keepers, once the primary has something for them: its harts have their threads by then, each on a processor of its own where
+/// there are enough. Where no thread can be made for the gate it comes last.
+fn guard_and_serve<R: Threads + Wait + Sync>(
     rt: &R,
     alloc: Global,
     board: &Board,
+    watch: Watch,
     posts: Vec<Post>,
-    primary_post: PrimaryPost,
 ) -> (
+    Result<GateEnd, Memory>,
     Result<Vec<Result<Served, Memory>>, Memory>,
-    Result<Book<Recording>, Memory>,
 )
+    requires watch { IsWatchOf board.now watch }
     requires posts { ArePostsOf board.now posts.items }
-    requires primary { MayLead primary_post }
-    ensures served { IfOk result.0 (λ all. AreServed board.now all.items) }
-    ensures led { IfOk result.1 (λ book. HasLed primary_post.primary.book book) }
+    ensures guarded { IfOk result.0 (λ end. IsGateOf board.now end.seat × AllByRecursion (IsHeard board.now end.seat watch.gate.need) end.released.items) }
+    ensures served { IfOk result.1 (λ all. AreServed board.now all.items) }
 {
+    let _begun = watch.begun.recv(rt);
     thread::join(
         rt,
+        move || -> Result<GateEnd, Memory>
+            requires { IsWatchOf board.now watch }
+            ensures { IfOk result (λ end. IsGateOf board.entry.now end.seat × AllByRecursion (IsHeard board.entry.now end.seat watch.gate.need) end.released.items) }
+        { guard(rt, alloc, board, watch) },
         move || -> Result<Vec<Result<Served, Memory>>, Memory>
             requires { ArePostsOf board.now posts.items }
             ensures { IfOk result (λ all. AreServed board.entry.now all.items) }
         { serve_all(rt, alloc, board, posts) },
-        move || -> Result<Book<Recording>, Memory>
-            requires { MayLead primary_post }
-            ensures { IfOk result (λ book. HasLed primary_post.primary.book book) }
-        { lead(rt, alloc, primary_post) },
     )
 }
 
@@ -119,19 +122,20 @@ fn run_all<R: Threads + Wait + Sync>(
     ensures part { IfOk result (λ end. IsPartOf end.released.items (outputs_in end.book.machine)) }
     ensures kept { IfOk result (λ end. length end.released.items + end.kept ≡ length (outputs_in end.book.machine)) }
 {
-    let (gate, (served, book)) = thread::join(
+    let ((gate, served), book) = thread::join(
         rt,
-        move || -> Result<GateEnd, Memory>
-            requires { IsWatchOf board.now watch }
-            ensures { IfOk result (λ end. IsGateOf board.entry.now end.seat × AllByRecursion (IsHeard board.entry.now end.seat watch.gate.need) end.released.items) }
-        { guard(rt, alloc, board, watch) },
         move || -> (
+            Result<GateEnd, Memory>,
             Result<Vec<Result<Served, Memory>>, Memory>,
-            Result<Book<Recording>, Memory>,
         )
-            requires { ArePostsOf board.now posts.items × MayLead primary_post }
-            ensures { IfOk result.0 (λ all. AreServed board.entry.now all.items) × IfOk result.1 (λ book. HasLed primary_post.primary.book book) }
-        { lead_and_serve(rt, alloc, board, posts, primary_post) },
+            requires { IsWatchOf board.now watch × ArePostsOf board.now posts.items }
+            ensures { IfOk result.0 (λ end. IsGateOf board.entry.now end.seat × AllByRecursion (IsHeard board.entry.now end.seat watch.gate.need) end.released.items)
+                × IfOk result.1 (λ all. AreServed board.entry.now all.items) }
+        { guard_and_serve(rt, alloc, board, watch, posts) },
+        move || -> Result<Book<Recording>, Memory>
+            requires { MayLead primary_post }
+            ensures { IfOk result (λ book. HasLed primary_post.primary.book book) }
+        { lead(rt, alloc, primary_post) },
     );
     end_of(alloc, board, gate?, served?, book?)
 }
@@ -192,19 +196,26 @@ pub fn run_pair<R: Threads + Wait + Sync>(
     let (board, seats, seat) = Board::new(alloc, FIRST_TERM, image.harts(), orders.keepers())?;
     let gate = Gate::new(alloc, FIRST_TERM, orders.keepers(), orders.need());
     let (to_gate, channel) = unbounded(alloc)?;
+    let (to_offers, offers) = unbounded(alloc)?;
     let (to_primary, went) = unbounded(alloc)?;
-    let (posts, keepers) = man_posts(alloc, &board, image.guest(), seats, &to_gate)?;
+    let (begins, begun) = unbounded(alloc)?;
+    let tally = Arc::new(alloc, Tally::new(orders.need()))?;
+    let (posts, keepers) = man_posts(alloc, &board, image.guest(), seats, &to_gate, &tally)?;
     let primary_post = PrimaryPost {
         primary,
         budget: orders.budget(),
         keepers,
         gate: to_gate,
+        offers: to_offers,
+        begins,
         went,
     };
     let watch = Watch {
         gate,
         seat,
         channel,
+        offers,
+        begun,
         primary: to_primary,
     };
     run_all(rt, alloc, &board, watch, posts, primary_post)

@@ -18,7 +18,7 @@ returns-clause-led g c =
     let said = c.end_of.ensures in
     if_ok c.end_of.result (λ end. HasLed c.args.primary_post.primary.book end.book) said.rest said.rest said.rest
     (λ end rest _ _. subst (λ (b : BookView RecordingView). HasLed c.args.primary_post.primary.book b) (sym rest.1)
-    (subst (λ (r : Result (BookView RecordingView) Memory). IfOk r (λ b. HasLed c.args.primary_post.primary.book b)) c.in_ok-book.was c.join-gate.ensures.second.1))
+    (subst (λ (r : Result (BookView RecordingView) Memory). IfOk r (λ b. HasLed c.args.primary_post.primary.book b)) c.in_ok-book.was c.join-gate.ensures.second))
 
 pub returns-clause-inside : goal.returns-clause-inside
 returns-clause-inside g c =
@@ -27,7 +27,7 @@ returns-clause-inside g c =
     let gate = c.in_ok-gate.field-0 in
     let heard : AllByRecursion (IsHeard board gate.seat need) gate.released.items =
     (subst (λ (r : Result GateEnd Memory). IfOk r (λ end. IsGateOf board end.seat × AllByRecursion (IsHeard board end.seat need) end.released.items)) c.in_ok-gate.was
-    c.join-gate.ensures.first).1 in
+    c.join-gate.ensures.first.0).1 in
     let said = c.end_of.ensures in
     if_ok c.end_of.result (λ end. AllByRecursion (IsHeldOnTheWay end.stores.items (term_of board) need) end.released.items) said.stores said.had said.released
     (λ end count had released. subst (λ (outputs : List Output). AllByRecursion (IsHeldOnTheWay end.stores.items (term_of board) need) outputs) (sym released)

@@ -1,4 +1,4 @@
-use Rattle.std.proofs.Common.{arith, ◌∙◌, ℕ, ap, sym, subst}
+use Rattle.std.proofs.Common.{arith, ◌<◌, ◌∙◌, ℕ, ap, sym, subst}
 use Rattle.output_gate.specs.Gates.{offered_in}
 use Rattle.output_gate.specs.Looks.{IsSeen}
 use Rattle.std.specs.List.{AllByRecursion}
@@ -7,6 +7,13 @@ use Rattle.pair.specs.Serving.{IsHeldOnTheWay}
 use Rattle.pair.proofs.Held.{if_ok}
 use Rattle.pair.proofs.Leading.{may_lead, run_of}
 use Rattle.pair.proofs.threads.run_pair.Goals as goal
+
+pub man_posts-requires-clause-seats : goal.man_posts-requires-clause-seats
+man_posts-requires-clause-seats g c =
+    let said = c.in_ok-board.ensures in (
+      said.seats ∙ sym said.board.2,
+      λ k other less. said.keepers k other (subst (λ (n : ℕ). k < n) said.seats less),
+    )
 
 pub run_all-requires-clause-primary : goal.run_all-requires-clause-primary
 run_all-requires-clause-primary g c κs order =
