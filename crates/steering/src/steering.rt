@@ -135,10 +135,10 @@ impl Steering {
         false
     }
 
-    /// Whether the hart has more to do than to wait, so that whoever leads all harts leads it next. None has where they take no pages from each
-    /// other any more.
+    /// Whether the hart goes on and has more to do than to wait, so that whoever leads all harts leads it next. None has where they take no pages
+    /// from each other any more.
     pub fn may_be_led(&self, hart: Hart) -> bool {
-        self.crowd.is_close() && self.rest(hart) == Rest::Awake
+        self.crowd.is_close() && !self.progress.is_done(hart) && self.rest(hart) == Rest::Awake
     }
 
     /// The lease that came back took a page from another hart.
@@ -211,7 +211,8 @@ impl Steering {
     pub fn refuse(&mut self, hart: Hart, steps: u64, pages: PageMask) {
         self.meet();
         self.habits.dispute(pages);
-        if steps == 0 {
+        // One that does not go on may be led still. It would never take what it waits for.
+        if steps == 0 && !self.progress.is_done(hart) {
             self.queue.wait(hart, pages);
         }
     }
