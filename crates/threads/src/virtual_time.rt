@@ -404,7 +404,7 @@ impl Simulation {
         }
         if self.steering.has_rests() {
             self.steering
-                .settle(returned, worker.trace, [0u64; HART_ROW], after);
+                .settle(returned, worker.trace, &[0u64; HART_ROW], &after);
         }
         self.workers[hart.index()].end();
     }
