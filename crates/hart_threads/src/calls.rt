@@ -93,6 +93,9 @@ impl Calls {
 
     /// Others wait for the leases of these harts.
     pub(crate) fn want(&self, harts: HartSet) {
+        if harts.is_empty() {
+            return;
+        }
         for number in 0..HART_LIMIT {
             let hart = Hart::new(number);
             if harts.contains(hart) {
@@ -115,6 +118,9 @@ impl Calls {
 
     /// Calls the threads of these harts, each of which waits or is about to.
     pub(crate) fn make<R: Wait>(&self, rt: &R, harts: HartSet) {
+        if harts.is_empty() {
+            return;
+        }
         for number in 0..HART_LIMIT {
             let hart = Hart::new(number);
             if harts.contains(hart) {

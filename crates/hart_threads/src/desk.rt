@@ -105,6 +105,9 @@ impl<M: Mode> Desk<M> {
         let hart = lease.hart();
         let woken = !lease.inputs().is_empty();
         let pages = self.steering.pages_at_once(hart, woken);
+        if !pages.is_some() {
+            return lease;
+        }
         let in_the_way = self.steering.in_the_way(hart);
         for number in 0..self.book.machine().pages() {
             let page = PageNo::new(number);
@@ -216,7 +219,7 @@ impl<M: Mode> Desk<M> {
         }
         match self.book.settle(lease, keep) {
             Ok(()) => {
-                self.tell_settled(hart, returned, before);
+                self.tell_settled(hart, returned, &before);
                 Some((steps, count))
             }
             Err((lease, _)) => {
@@ -227,11 +230,11 @@ impl<M: Mode> Desk<M> {
     }
 
     /// Tells of the hart's settled lease, before which it had rung each hart so often.
-    fn tell_settled(&mut self, hart: Hart, returned: Returned, before: [u64; HART_ROW]) {
+    fn tell_settled(&mut self, hart: Hart, returned: Returned, before: &[u64; HART_ROW]) {
         if self.steering.has_rests() && hart.number() < self.book.machine().harts() {
-            let trace = trace_of(self.book.machine().hart(hart).registers());
-            let after = self.rung_by(hart);
-            self.steering.settle(returned, trace, before, after);
+            let state = self.book.machine().hart(hart);
+            let trace = trace_of(state.registers());
+            self.steering.settle(returned, trace, before, state.rung());
         }
     }
 

@@ -20,8 +20,8 @@ pub(crate) struct Habits {
     woken: [bool; HART_ROW],
     /// How many leases ago each hart last began one without pages.
     ages: [u8; HART_ROW],
-    /// Over which pages harts were in each other's way, and how many leases have come back since all were forgotten.
-    disputed: PageMask,
+    /// Over which pages harts were in each other's way, where they were, and how many leases have come back since all were forgotten.
+    disputed: Option<PageMask>,
     leases: u32,
 }
 
@@ -33,7 +33,7 @@ impl Habits {
             woken_pages: [PageMask::none(); HART_ROW],
             woken: [false; HART_ROW],
             ages: [0; HART_ROW],
-            disputed: PageMask::none(),
+            disputed: None,
             leases: 0,
         }
     }
@@ -46,17 +46,26 @@ impl Habits {
         } else {
             self.pages[hart.index()]
         };
-        pages.without(self.disputed)
+        match self.disputed {
+            Some(disputed) => pages.without(disputed),
+            None => pages,
+        }
     }
 
     /// A hart was refused these pages.
     pub(crate) fn dispute(&mut self, pages: PageMask) {
-        self.disputed = self.disputed.with(pages);
+        self.disputed = match self.disputed {
+            Some(disputed) => Some(disputed.with(pages)),
+            None => Some(pages),
+        };
     }
 
     /// Whether harts were in each other's way over one of these pages lately.
     pub(crate) fn is_disputed(&self, pages: PageMask) -> bool {
-        self.disputed.is_near(pages)
+        match self.disputed {
+            Some(disputed) => disputed.is_near(pages),
+            None => false,
+        }
     }
 
     /// A lease of the hart comes back, which had these pages that no other waits for.
@@ -64,7 +73,7 @@ impl Habits {
         self.leases = self.leases.saturating_add(1);
         if self.leases > DISPUTE {
             self.leases = 0;
-            self.disputed = PageMask::none();
+            self.disputed = None;
         }
         let hart = hart.index();
         if self.woken[hart] {

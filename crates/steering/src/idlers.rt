@@ -18,13 +18,25 @@ const SURE: u8 = 2;
 /// A hart that only waits so many leases behind a ring waits for an answer to it.
 const SOON: u8 = 4;
 
+/// What words come to that came to this, and two more.
+#[inline(always)]
+fn with_two(trace: u64, first: u32, second: u32) -> u64 {
+    let both = u64::from(first) | u64::from(second) << 32;
+    (trace ^ both)
+        .wrapping_mul(0x9e37_79b9_7f4a_7c15)
+        .rotate_left(29)
+}
+
 /// What the words come to. Others mostly come to something else.
 pub fn trace_of(words: &[u32]) -> u64 {
     let mut trace = 0u64;
-    for word in words {
-        trace = trace.wrapping_mul(0x100_0000_01b3) ^ u64::from(*word);
+    for pair in 0..words.len() / 2 {
+        trace = with_two(trace, words[2 * pair], words[2 * pair + 1]);
     }
-    trace
+    match words.last() {
+        Some(last) => with_two(trace, *last, 0),
+        None => trace,
+    }
 }
 
 /// A lease that came back, until it is settled.

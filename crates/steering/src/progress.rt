@@ -31,6 +31,16 @@ impl Progress {
         }
     }
 
+    /// Whether a hart that is not done does more than wait.
+    pub(crate) fn has_busy(&self, idlers: &Idlers) -> bool {
+        for number in 0..HART_ROW.min(self.harts as usize) {
+            if self.steps[number] != u64::MAX && !idlers.is_idle(number) {
+                return true;
+            }
+        }
+        false
+    }
+
     /// The steps of the hart that has the fewest here, of those that do more than wait.
     pub(crate) fn fewest_busy(&self, idlers: &Idlers) -> u64 {
         let mut fewest = u64::MAX;

@@ -12,6 +12,8 @@ pub(crate) struct Queue {
     /// Since when; 0 where it does not wait.
     since: [u64; HART_ROW],
     next: u64,
+    /// How many harts wait.
+    waiting: u64,
     /// The number of harts.
     harts: u8,
 }
@@ -24,6 +26,7 @@ impl Queue {
             wishes: [PageMask::none(); HART_ROW],
             since: [0; HART_ROW],
             next: 1,
+            waiting: 0,
             harts,
         }
     }
@@ -63,7 +66,7 @@ impl Queue {
 
     /// Whether the hart may ask for what it waits for.
     pub(crate) fn is_called(&self, hart: Hart) -> bool {
-        !self.is_barred(hart, self.wishes[hart.index()])
+        !self.is_waiting(hart.index()) || !self.is_barred(hart, self.wishes[hart.index()])
     }
 
     /// What the hart waits for.
@@ -71,15 +74,42 @@ impl Queue {
         self.wishes[hart.index()]
     }
 
-    /// What other harts wait for.
-    pub(crate) fn wished(&self, hart: Hart) -> PageMask {
+    /// These pages, with what the hart waits for.
+    pub(crate) fn with_wishes(&self, hart: Hart, pages: PageMask) -> PageMask {
+        if !self.is_waiting(hart.index()) {
+            return pages;
+        }
+        pages.with(self.wishes[hart.index()])
+    }
+
+    /// What other harts wait for, where one does.
+    fn wished(&self, hart: Hart) -> Option<PageMask> {
+        if self.waiting == 0 {
+            return None;
+        }
         let mut pages = PageMask::none();
         for other in 0..HART_ROW.min(self.harts as usize) {
             if other != hart.index() {
                 pages = pages.with(self.wishes[other]);
             }
         }
-        pages
+        Some(pages)
+    }
+
+    /// Whether what other harts wait for is against these pages.
+    pub(crate) fn is_wished(&self, hart: Hart, pages: PageMask) -> bool {
+        match self.wished(hart) {
+            Some(wished) => wished.is_against(pages),
+            None => false,
+        }
+    }
+
+    /// These pages without what other harts wait for.
+    pub(crate) fn unwished(&self, hart: Hart, pages: PageMask) -> PageMask {
+        match self.wished(hart) {
+            Some(wished) => pages.without(wished),
+            None => pages,
+        }
     }
 
     /// What the hart's open lease has.
@@ -98,6 +128,7 @@ impl Queue {
         if self.since[hart] == 0 {
             self.since[hart] = self.next;
             self.next = self.next.saturating_add(1);
+            self.waiting = self.waiting.saturating_add(1);
         }
         self.wishes[hart] = self.wishes[hart].with(pages);
     }
@@ -109,7 +140,10 @@ impl Queue {
 
     /// The hart waits for nothing.
     pub(crate) fn forget(&mut self, hart: Hart) {
-        self.since[hart.index()] = 0;
-        self.wishes[hart.index()] = PageMask::none();
+        if self.is_waiting(hart.index()) {
+            self.since[hart.index()] = 0;
+            self.wishes[hart.index()] = PageMask::none();
+            self.waiting = self.waiting.saturating_sub(1);
+        }
     }
 }

@@ -47,7 +47,7 @@ impl Steering {
             habits: Habits::new(),
             idlers: Idlers::new(),
             progress: Progress::new(harts),
-            rests: Rests::new(),
+            rests: Rests::new(harts),
             crowd: Crowd::new(),
             pace,
             ends,
@@ -103,6 +103,9 @@ impl Steering {
 
     /// Whether the hart only waits, and others do more.
     fn is_idle(&self, hart: Hart) -> bool {
+        if !self.idlers.is_idle(hart.index()) {
+            return false;
+        }
         let others = self.progress.fewest_busy(&self.idlers);
         others != u64::MAX && self.idlers.is_patient(hart, others)
     }
@@ -135,10 +138,10 @@ impl Steering {
         false
     }
 
-    /// Whether the hart has more to do than to wait, so that whoever leads all harts leads it next. None has where they take no pages from each
-    /// other any more.
+    /// Whether the hart goes on and has more to do than to wait, so that whoever leads all harts leads it next. None has where they take no pages
+    /// from each other any more.
     pub fn may_be_led(&self, hart: Hart) -> bool {
-        self.crowd.is_close() && self.rest(hart) == Rest::Awake
+        self.crowd.is_close() && !self.progress.is_done(hart) && self.rest(hart) == Rest::Awake
     }
 
     /// The lease that came back took a page from another hart.
@@ -174,7 +177,8 @@ impl Steering {
     /// The pages that the hart takes at once with its lease, which begins with inputs or without: those that it waits for, and those
     /// that it had in its last one.
     pub fn pages_at_once(&mut self, hart: Hart, woken: bool) -> PageMask {
-        self.habits.begin(hart, woken).with(self.queue.wishes(hart))
+        let pages = self.habits.begin(hart, woken);
+        self.queue.with_wishes(hart, pages)
     }
 
     /// What the open leases of other harts have, and what others have waited for longer.
@@ -211,7 +215,8 @@ impl Steering {
     pub fn refuse(&mut self, hart: Hart, steps: u64, pages: PageMask) {
         self.meet();
         self.habits.dispute(pages);
-        if steps == 0 {
+        // One that does not go on may be led still. It would never take what it waits for.
+        if steps == 0 && !self.progress.is_done(hart) {
             self.queue.wait(hart, pages);
         }
     }
@@ -228,7 +233,7 @@ impl Steering {
     /// that it keeps may stand in the way of others without being seen by those who wait.
     pub fn keeps_rights(&self, hart: Hart) -> bool {
         let pages = self.queue.held(hart);
-        !self.habits.is_disputed(pages) && !self.queue.wished(hart).is_against(pages)
+        !self.habits.is_disputed(pages) && !self.queue.is_wished(hart, pages)
     }
 
     /// The hart's lease comes back, with so many steps of those up to this count, fewer than it might have had or not; it began with inputs
@@ -244,8 +249,7 @@ impl Steering {
         let pages = self.queue.held(hart);
         self.progress.add(hart, steps);
         self.crowd.add(steps);
-        self.habits
-            .note(hart, pages.without(self.queue.wished(hart)));
+        self.habits.note(hart, self.queue.unwished(hart, pages));
         self.queue.release(hart);
         if is_short {
             self.meet();
@@ -279,12 +283,25 @@ impl Steering {
         &mut self,
         returned: Returned,
         trace: u64,
-        before: [u64; HART_ROW],
-        after: [u64; HART_ROW],
+        before: &[u64; HART_ROW],
+        after: &[u64; HART_ROW],
     ) {
-        self.note_idle(returned, trace, before != after);
-        self.note_rung(before, after);
+        let rung = self.rung_between(before, after);
+        self.note_idle(returned, trace, !rung.is_empty());
+        self.note_rung(rung);
         self.wake_where_all_wait();
+    }
+
+    /// The harts that were rung more often behind a lease than before it.
+    fn rung_between(&self, before: &[u64; HART_ROW], after: &[u64; HART_ROW]) -> HartSet {
+        let mut rung = HartSet::new();
+        for number in 0..self.harts() {
+            let target = Hart::new(number);
+            if before[target.index()] != after[target.index()] {
+                rung = rung.with(target);
+            }
+        }
+        rung
     }
 
     /// The hart only waits from now on, or others do not that wait for what it may have written.
@@ -304,10 +321,13 @@ impl Steering {
     }
 
     /// The harts that were rung meanwhile have more to do than to wait.
-    fn note_rung(&mut self, before: [u64; HART_ROW], after: [u64; HART_ROW]) {
+    fn note_rung(&mut self, rung: HartSet) {
+        if rung.is_empty() {
+            return;
+        }
         for number in 0..self.harts() {
             let target = Hart::new(number);
-            if before[target.index()] != after[target.index()] {
+            if rung.contains(target) {
                 self.meet();
                 self.stir(target.index());
                 self.wanted = self.wanted.with(target);
@@ -323,7 +343,7 @@ impl Steering {
 
     /// Where each hart seems only to wait none rests: one of them may do more, or what they wait for may come at a later count.
     fn wake_where_all_wait(&mut self) {
-        if self.progress.fewest_busy(&self.idlers) == u64::MAX {
+        if !self.progress.has_busy(&self.idlers) {
             self.idlers.wake_all();
             self.rests.end(Rest::Idle);
         }
@@ -349,6 +369,9 @@ impl Steering {
     /// Whose threads are to look again. They sleep no longer.
     pub fn called(&mut self) -> HartSet {
         let mut harts = HartSet::new();
+        if self.rests.are_awake() {
+            return harts;
+        }
         for number in 0..self.harts() {
             let hart = Hart::new(number);
             if self.may_look(hart) {

@@ -174,7 +174,7 @@ fn settles(steering: &mut Steering, hart: Hart, steps: u16, trace: u64, rung: Op
         after[rung.index()] = 1;
     }
     if steering.has_rests() {
-        steering.settle(returned, trace, [0u64; HART_ROW], after);
+        steering.settle(returned, trace, &[0u64; HART_ROW], &after);
     }
     bits(steering.called())
 }

@@ -107,6 +107,8 @@ struct Thread {
     /// Whether others wait for its lease, and how many steps this may have while none does.
     is_wanted: bool,
     reach: u64,
+    /// After so many leases it gives up, as where memory is refused.
+    leases: u32,
 }
 
 /// A guest on simulated threads.
@@ -137,6 +139,7 @@ impl Simulation {
             is_called: false,
             is_wanted: false,
             reach: 0,
+            leases: u32::MAX,
         };
         Simulation {
             guest,
@@ -152,13 +155,33 @@ impl Simulation {
 
     /// Whether each hart comes to its end within its budget, and never two had a page that one might write.
     fn ends_well(&mut self) -> bool {
+        self.ends() && self.is_at_its_end()
+    }
+
+    /// Whether each thread ends, and never two had a page that one might write, where the thread of this hart gives up behind so many leases.
+    fn ends_without(&mut self, hart: Hart, leases: u32) -> bool {
+        self.threads[hart.index()].leases = leases;
+        self.ends() && self.is_apart
+    }
+
+    /// Whether each thread ends.
+    fn ends(&mut self) -> bool {
         for _visit in 0..VISITS {
             match self.next() {
                 Some(hart) => self.visit(hart),
-                None => return self.is_at_its_end(),
+                None => return self.is_over(),
             }
         }
         false
+    }
+
+    fn is_over(&self) -> bool {
+        for number in 0..self.guest.harts {
+            if self.threads[hart_of(number).index()].doing != Doing::Over {
+                return false;
+            }
+        }
+        true
     }
 
     /// Whose thread does something next, unless all sleep or are at their ends.
@@ -212,16 +235,25 @@ impl Simulation {
         if roll < 4 { 20_000 } else { roll * 4 }
     }
 
+    /// Whether the hart's thread is to end.
+    fn is_at_end(&self, hart: Hart) -> bool {
+        let worker = self.workers[hart.index()];
+        worker.is_done(&self.guest)
+            || worker.count > self.guest.budget
+            || self.threads[hart.index()].leases == 0
+    }
+
     /// The hart asks for a lease, or is at its end.
     fn ask(&mut self, hart: Hart) {
-        let worker = self.workers[hart.index()];
-        if worker.is_done(&self.guest) || worker.count > self.guest.budget {
+        if self.is_at_end(hart) {
             let called = self.steering.leave(hart);
             self.go_on(hart, Doing::Over, 0);
             self.call(called);
             return;
         }
         if self.steering.may_ask(hart) {
+            let leases = &mut self.threads[hart.index()].leases;
+            *leases = leases.saturating_sub(1);
             self.go_out(hart);
             self.go_on_with_lease(hart);
         } else {
@@ -372,7 +404,7 @@ impl Simulation {
         }
         if self.steering.has_rests() {
             self.steering
-                .settle(returned, worker.trace, [0u64; HART_ROW], after);
+                .settle(returned, worker.trace, &[0u64; HART_ROW], &after);
         }
         self.workers[hart.index()].end();
     }
@@ -418,6 +450,18 @@ impl Simulation {
     }
 }
 
+/// Whether all threads of the guest end, with delays by each seed, where one of them gives up.
+fn ends_without_one(guest: &Guest) -> bool {
+    for seed in 0..SEEDS / 4 {
+        let hart = hart_of((seed % 8) as u8 % guest.harts.max(1));
+        let leases = (seed / 8) as u32;
+        if !Simulation::new(*guest, seed).ends_without(hart, leases) {
+            return false;
+        }
+    }
+    true
+}
+
 /// Whether the guest comes to its end with delays by each seed.
 fn ends_with_all(guest: &Guest) -> bool {
     for seed in 1..=SEEDS {
@@ -434,6 +478,17 @@ fn simulated_harts_come_to_their_ends(rt: HostRuntime) -> Result<(), Fail> {
     let guests = GUESTS;
     for guest in &guests {
         right = right && ends_with_all(guest);
+    }
+    assert!(rt; right);
+    Ok(())
+}
+
+#[test]
+fn a_thread_that_gives_up_holds_up_no_other(rt: HostRuntime) -> Result<(), Fail> {
+    let mut right = true;
+    let guests = GUESTS;
+    for guest in &guests {
+        right = right && ends_without_one(guest);
     }
     assert!(rt; right);
     Ok(())
