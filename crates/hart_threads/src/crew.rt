@@ -81,22 +81,57 @@ pub(crate) fn run_overseen<
     (desk.into_inner().into_book(), overseer.into_inner())
 }
 
-/// Starts the threads, leads the harts that have none, and returns when each has ended. The first hart's thread is this one, unless
-/// it has others to lead: else it would sleep, and the system would have to find out that its processor is free.
+/// Leads all harts to their ends: together on this thread as long as that is better, and then apart.
 fn lead_all<
+    M: Mode + Send,
+    R: Threads + Wait + Sync,
+    T: Turnstile + Sync,
+    O: Overseer<M> + Send + Drop,
+>(rt: &R, alloc: Global, room: &Room<M, O>, ends: Counts, turnstile: &T, here: HartSet) {
+    let mut all = HartSet::new();
+    for number in 0..ends.harts() {
+        all = all.with(Hart::new(number));
+    }
+    let left = if here.is_empty() {
+        go_together(rt, alloc, room, all, ends)
+    } else {
+        all
+    };
+    room.end_to_lead(rt);
+    if !left.is_empty() {
+        lead_apart(rt, alloc, room, ends, turnstile, here, left);
+    }
+}
+
+/// Starts the threads of the harts that are left, leads those that have none, and returns when each has ended. The first hart's thread is this
+/// one, unless it has others to lead: else it would sleep, and the system would have to find out that its processor is free.
+fn lead_apart<
     'x,
     M: Mode + Send,
     R: Threads + Wait + Sync,
     T: Turnstile + Sync,
     O: Overseer<M> + Send + Drop,
->(rt: &'x R, alloc: Global, room: &'x Room<M, O>, ends: Counts, turnstile: &'x T, here: HartSet) {
+>(
+    rt: &'x R,
+    alloc: Global,
+    room: &'x Room<M, O>,
+    ends: Counts,
+    turnstile: &'x T,
+    here: HartSet,
+    left: HartSet,
+) {
     thread::scope(thread::scope_env(), rt, |scope| {
         let mut here = here;
+        let mut left = left;
         for done in 0..ends.harts() {
             let number = ends.harts() - 1 - done;
             let hart = Hart::new(number);
             let end = ends.get(hart);
-            if number == 0 && here.is_empty() {
+            if !left.contains(hart) {
+                continue;
+            }
+            left = left.without(hart);
+            if left.is_empty() && here.is_empty() {
                 work(rt, alloc, room, number, end, turnstile);
             } else if !here.contains(hart)
                 && scope
@@ -123,26 +158,59 @@ fn go_in_turn<M: Mode, R: Wait, O: Overseer<M> + Drop>(
         if left.is_empty() {
             return;
         }
-        let mut next = HartSet::new();
-        let mut went = false;
-        for number in 0..ends.harts() {
-            let hart = Hart::new(number);
-            if left.contains(hart) {
-                match go_once(rt, alloc, room, hart, ends.get(hart)) {
-                    Some(goes) => {
-                        went = went || goes;
-                        next = next.with(hart);
-                    }
-                    None => room.leave(rt, hart),
-                }
-            }
-        }
+        let (next, went) = go_round(rt, alloc, room, left, ends);
         if !went {
             thread::yield_now();
         }
         left = next;
     }
     unreachable!()
+}
+
+/// The same, as long as they do better together, and one goes on. Who is left.
+fn go_together<M: Mode, R: Wait, O: Overseer<M> + Drop>(
+    rt: &R,
+    alloc: Global,
+    room: &Room<M, O>,
+    harts: HartSet,
+    ends: Counts,
+) -> HartSet {
+    let mut left = harts;
+    let mut goes = true;
+    for _ in rt.forever() {
+        if !goes || left.is_empty() || !room.hold(rt).are_together() {
+            return left;
+        }
+        let (next, went) = go_round(rt, alloc, room, left, ends);
+        left = next;
+        goes = went;
+    }
+    unreachable!()
+}
+
+/// One lease of each of these harts in turn. Who is not to end, and whether one had a lease.
+fn go_round<M: Mode, R: Wait, O: Overseer<M> + Drop>(
+    rt: &R,
+    alloc: Global,
+    room: &Room<M, O>,
+    harts: HartSet,
+    ends: Counts,
+) -> (HartSet, bool) {
+    let mut left = HartSet::new();
+    let mut went = false;
+    for number in 0..ends.harts() {
+        let hart = Hart::new(number);
+        if harts.contains(hart) {
+            match go_once(rt, alloc, room, hart, ends.get(hart)) {
+                Some(goes) => {
+                    went = went || goes;
+                    left = left.with(hart);
+                }
+                None => room.leave(rt, hart),
+            }
+        }
+    }
+    (left, went)
 }
 
 /// One lease of the hart, where it need not wait for it. Whether it need not; None where it is to end.

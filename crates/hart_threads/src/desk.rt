@@ -294,6 +294,11 @@ impl<M: Mode> Desk<M> {
         Some(self.bounds.grant(grant, &counts))
     }
 
+    /// Whether the harts, which nobody oversees, do better together on one thread than apart, from the beginning on.
+    pub(crate) fn are_together(&self) -> bool {
+        !self.bounds.is_seen() && self.steering.are_together()
+    }
+
     /// Whoever led all harts ends that. Whose threads are to look again.
     pub(crate) fn end_to_lead(&mut self) -> HartSet {
         self.steering.end_to_lead()

@@ -63,8 +63,9 @@ fn finish(
     Ok(run_plain(alloc, book, LEASE_STEPS)?)
 }
 
-/// Runs a primary's harts, each on a thread of its own, one hart alone on the calling thread, until each hart is halted or at its
-/// budget, and no hart past it. What is left undone is done here, harts in turn. Where memory is refused the book is given up.
+/// Runs a primary's harts, each on a thread of its own once that is better than all in turn on the calling one, one hart alone on the
+/// calling thread, until each hart is halted or at its budget, and no hart past it. What is left undone is done here, harts in
+/// turn. Where memory is refused the book is given up.
 pub fn run<R: Threads + Wait + Sync, T: Turnstile + Sync>(
     rt: &R,
     alloc: Global,

@@ -17,6 +17,12 @@ const MOST: u32 = 4096;
 /// After so many leases in a row that took no page from another hart they are apart.
 const APART: u32 = 64;
 
+/// From the beginning on one thread leads all harts until so many leases in a row took no page from another hart, and for so many steps at the most: a thread's
+/// start takes as long as some leases.
+const OWN: u32 = 16;
+
+const BEGINNING: u64 = 4096 * LEASE_STEPS;
+
 /// Whether harts have to do with each other so often that one thread is to lead them all.
 #[derive(Clone, Copy)]
 pub(crate) struct Crowd {
@@ -58,6 +64,11 @@ impl Crowd {
     /// Whether one thread leads all harts.
     pub(crate) fn is_led(&self) -> bool {
         self.is_led
+    }
+
+    /// Whether one thread leads all harts from the beginning on, of which no lease was looked at yet.
+    pub(crate) fn are_together(&self) -> bool {
+        self.apart < OWN && self.steps < BEGINNING
     }
 
     /// Whether harts still take pages from each other.

@@ -144,6 +144,11 @@ impl Steering {
         self.crowd.is_close() && !self.progress.is_done(hart) && self.rest(hart) == Rest::Awake
     }
 
+    /// Whether one thread still leads all harts from the beginning on, before the others have theirs.
+    pub fn are_together(&self) -> bool {
+        self.has_rests && self.crowd.are_together()
+    }
+
     /// The lease that came back took a page from another hart.
     pub fn take_over(&mut self) {
         self.crowd.meet();

@@ -13,7 +13,7 @@ const AS_IT_WAS: u64 = 7777;
 
 /// Calls of harts, each with its hart and, where there is one, a page, a number of steps or another hart; and what it answers: a number, 1 for yes, or
 /// a bit a hart. The first of each text begins, with so many harts.
-static ROWS: [&str; 5] = [
+static ROWS: [&str; 6] = [
     // Whoever was refused first is given first, and a page in dispute is kept by nobody.
     "\
 even 3|
@@ -118,6 +118,34 @@ led 1|1
 ends 0|2
 asks 1|1
 ",
+    // A run begins with one thread that leads all harts, until sixteen leases in a row took no page from another. Whose thread has ended is led no more.
+    "\
+even 2|
+together 0|1
+brings 0 1024|0
+brings 0 1024|0
+brings 0 1024|0
+brings 0 1024|0
+brings 0 1024|0
+brings 0 1024|0
+brings 0 1024|0
+brings 0 1024|0
+brings 0 1024|0
+brings 0 1024|0
+brings 0 1024|0
+brings 0 1024|0
+brings 0 1024|0
+brings 0 1024|0
+brings 0 1024|0
+together 0|1
+brings 0 1024|0
+together 0|0
+led 0|0
+led 1|1
+leaves 1|0
+led 1|0
+led 0|1
+",
 ];
 
 fn begun(harts: u8, pace: Pace) -> Steering {
@@ -200,6 +228,7 @@ fn answer(steering: &mut Steering, call: &str, hart: Hart, number: u16, place: u
         "leads" => u64::from(steering.begin_to_lead().unwrap_or(0)),
         "led" => u64::from(steering.may_be_led(hart)),
         "ends" => bits(steering.end_to_lead()),
+        "together" => u64::from(steering.are_together()),
         _ => u64::MAX,
     }
 }

@@ -42,6 +42,74 @@ pub struct Guest {
     pub budget: u64,
 }
 
+/// Guests, with the most steps that a hart of theirs may take: three times what it needs in turn, where a hart that waits takes one lease of 1,024 steps a round.
+pub static GUESTS: [Guest; 8] = [
+    // Each works for itself.
+    Guest {
+        harts: 4,
+        rounds: 10,
+        first: [Deed::Work(20_000), Deed::Nothing, Deed::Nothing],
+        others: [Deed::Work(20_000), Deed::Nothing, Deed::Nothing],
+        budget: 600_000,
+    },
+    // Add to one word.
+    Guest {
+        harts: 4,
+        rounds: 100,
+        first: [Deed::Add(0), Deed::Work(2), Deed::Nothing],
+        others: [Deed::Add(0), Deed::Work(2), Deed::Nothing],
+        budget: 900,
+    },
+    // Go in turns.
+    Guest {
+        harts: 4,
+        rounds: 30,
+        first: [Deed::MyTurn(0), Deed::Add(0), Deed::Nothing],
+        others: [Deed::MyTurn(0), Deed::Add(0), Deed::Nothing],
+        budget: 90_000,
+    },
+    // Meet again and again.
+    Guest {
+        harts: 4,
+        rounds: 30,
+        first: [Deed::Work(50), Deed::Add(0), Deed::All(0)],
+        others: [Deed::Work(50), Deed::Add(0), Deed::All(0)],
+        budget: 90_000,
+    },
+    // Look at a word until the first has written it.
+    Guest {
+        harts: 4,
+        rounds: 2,
+        first: [Deed::Work(50_000), Deed::Add(0), Deed::Nothing],
+        others: [Deed::Next(0), Deed::Nothing, Deed::Nothing],
+        budget: 300_000,
+    },
+    // Hand on a word, each rung by its neighbour.
+    Guest {
+        harts: 8,
+        rounds: 10,
+        first: [Deed::Add(0), Deed::Ring, Deed::Hear],
+        others: [Deed::Hear, Deed::Add(0), Deed::Ring],
+        budget: 30_000,
+    },
+    // The first seems to wait while it works, and the second waits for it.
+    Guest {
+        harts: 2,
+        rounds: 3,
+        first: [Deed::Alike(60_000), Deed::Add(0), Deed::Nothing],
+        others: [Deed::Next(0), Deed::Nothing, Deed::Nothing],
+        budget: 540_000,
+    },
+    // The same with a page for both.
+    Guest {
+        harts: 2,
+        rounds: 12,
+        first: [Deed::Alike(1_000), Deed::Add(0), Deed::Nothing],
+        others: [Deed::Add(1), Deed::Next(0), Deed::Nothing],
+        budget: 36_000,
+    },
+];
+
 /// The words of pages, and how often each hart was rung.
 #[derive(Clone, Copy)]
 pub struct Memory {

@@ -1,6 +1,6 @@
 //! What steers harts, led by threads that are simulated on one, in virtual time with delays by chance.
 
-use crate::deeds::{Deed, Guest, Memory, PAGES, Stop, Worker, pages_of};
+use crate::deeds::{GUESTS, Guest, Memory, PAGES, Stop, Worker, pages_of};
 use fixtures::{Dice, hart as hart_of};
 use ft_types::{Counts, HART_LIMIT, HART_ROW, Hart, HartSet, LEASE_STEPS, PageNo};
 use lease_rounds::PageMask;
@@ -12,74 +12,6 @@ const SEEDS: u64 = 200;
 
 /// So many visits no guest takes.
 const VISITS: u32 = 20_000;
-
-/// Guests, with the most steps that a hart of theirs may take: three times what it needs in turn, where a hart that waits takes one lease of 1,024 steps a round.
-static GUESTS: [Guest; 8] = [
-    // Each works for itself.
-    Guest {
-        harts: 4,
-        rounds: 10,
-        first: [Deed::Work(20_000), Deed::Nothing, Deed::Nothing],
-        others: [Deed::Work(20_000), Deed::Nothing, Deed::Nothing],
-        budget: 600_000,
-    },
-    // Add to one word.
-    Guest {
-        harts: 4,
-        rounds: 100,
-        first: [Deed::Add(0), Deed::Work(2), Deed::Nothing],
-        others: [Deed::Add(0), Deed::Work(2), Deed::Nothing],
-        budget: 900,
-    },
-    // Go in turns.
-    Guest {
-        harts: 4,
-        rounds: 30,
-        first: [Deed::MyTurn(0), Deed::Add(0), Deed::Nothing],
-        others: [Deed::MyTurn(0), Deed::Add(0), Deed::Nothing],
-        budget: 90_000,
-    },
-    // Meet again and again.
-    Guest {
-        harts: 4,
-        rounds: 30,
-        first: [Deed::Work(50), Deed::Add(0), Deed::All(0)],
-        others: [Deed::Work(50), Deed::Add(0), Deed::All(0)],
-        budget: 90_000,
-    },
-    // Look at a word until the first has written it.
-    Guest {
-        harts: 4,
-        rounds: 2,
-        first: [Deed::Work(50_000), Deed::Add(0), Deed::Nothing],
-        others: [Deed::Next(0), Deed::Nothing, Deed::Nothing],
-        budget: 300_000,
-    },
-    // Hand on a word, each rung by its neighbour.
-    Guest {
-        harts: 8,
-        rounds: 10,
-        first: [Deed::Add(0), Deed::Ring, Deed::Hear],
-        others: [Deed::Hear, Deed::Add(0), Deed::Ring],
-        budget: 30_000,
-    },
-    // The first seems to wait while it works, and the second waits for it.
-    Guest {
-        harts: 2,
-        rounds: 3,
-        first: [Deed::Alike(60_000), Deed::Add(0), Deed::Nothing],
-        others: [Deed::Next(0), Deed::Nothing, Deed::Nothing],
-        budget: 540_000,
-    },
-    // The same with a page for both.
-    Guest {
-        harts: 2,
-        rounds: 12,
-        first: [Deed::Alike(1_000), Deed::Add(0), Deed::Nothing],
-        others: [Deed::Add(1), Deed::Next(0), Deed::Nothing],
-        budget: 36_000,
-    },
-];
 
 /// What a hart's thread does.
 #[derive(Clone, Copy, PartialEq, Eq)]
@@ -424,6 +356,39 @@ impl Simulation {
         }
     }
 
+    /// Leads all harts on one thread, as long as they do better together and one goes on.
+    fn go_together(&mut self) {
+        for _round in 0..VISITS {
+            let mut goes = false;
+            for number in 0..self.guest.harts {
+                goes = self.go_once(hart_of(number)) || goes;
+            }
+            if !goes || !self.steering.are_together() {
+                break;
+            }
+        }
+        let called = self.steering.end_to_lead();
+        self.call(called);
+    }
+
+    /// One lease of the hart, where it need not wait for it. Whether it had one.
+    fn go_once(&mut self, hart: Hart) -> bool {
+        if self.threads[hart.index()].doing == Doing::Over {
+            return false;
+        }
+        if self.is_at_end(hart) {
+            self.threads[hart.index()].doing = Doing::Over;
+            let called = self.steering.leave(hart);
+            self.call(called);
+            return false;
+        }
+        if !self.steering.may_ask(hart) {
+            return false;
+        }
+        let _steps = self.lease(hart);
+        true
+    }
+
     /// One lease of the hart, where it has none and more to do than to wait. How many steps it took.
     fn lead_once(&mut self, hart: Hart) -> u64 {
         let worker = self.workers[hart.index()];
@@ -431,6 +396,11 @@ impl Simulation {
         if is_out || worker.is_done(&self.guest) || !self.steering.may_be_led(hart) {
             return 0;
         }
+        self.lease(hart)
+    }
+
+    /// One lease of the hart, on this thread. How many steps it took.
+    fn lease(&mut self, hart: Hart) -> u64 {
         self.go_out(hart);
         for _page in 0..2 * PAGES {
             let stop = self.workers[hart.index()].fill(&self.guest, &mut self.memory);
@@ -450,12 +420,21 @@ impl Simulation {
     }
 }
 
+/// The guest at boot, with delays by this seed. By each other one its harts go together at first.
+fn begun(guest: Guest, seed: u64) -> Simulation {
+    let mut simulation = Simulation::new(guest, seed);
+    if seed % 2 == 0 {
+        simulation.go_together();
+    }
+    simulation
+}
+
 /// Whether all threads of the guest end, with delays by each seed, where one of them gives up.
 fn ends_without_one(guest: &Guest) -> bool {
     for seed in 0..SEEDS / 4 {
         let hart = hart_of((seed % 8) as u8 % guest.harts.max(1));
         let leases = (seed / 8) as u32;
-        if !Simulation::new(*guest, seed).ends_without(hart, leases) {
+        if !begun(*guest, seed).ends_without(hart, leases) {
             return false;
         }
     }
@@ -465,7 +444,7 @@ fn ends_without_one(guest: &Guest) -> bool {
 /// Whether the guest comes to its end with delays by each seed.
 fn ends_with_all(guest: &Guest) -> bool {
     for seed in 1..=SEEDS {
-        if !Simulation::new(*guest, seed).ends_well() {
+        if !begun(*guest, seed).ends_well() {
             return false;
         }
     }
