@@ -72,9 +72,9 @@ choose() {
 
 # has FILE N PROCESS: waits until the file has N lines, or the process has ended.
 has() {
-    for _ in $(seq 6000); do
+    for _ in $(seq 20000); do
         if [ "$(wc -l < "$1")" -ge "$2" ] || ! runs "$3"; then return; fi
-        sleep 0.01
+        sleep 0.002
     done
 }
 
@@ -85,6 +85,9 @@ ends() {
         sleep 0.1
     done
 }
+
+# blink: sleeps less than a hundredth of a second, in which a client has some hundred answers.
+blink() { sleep "0.00$((RANDOM % 10))"; }
 
 # nap [TENTHS]: sleeps less than so many tenths of a second, or than one.
 nap() { sleep "0.$((RANDOM % ${1:-1}))$((RANDOM % 10))"; }

@@ -10,7 +10,7 @@
 . "$(dirname "$0")/common.sh"
 rounds=${3:-10}
 RANDOM=${4:-1}
-many=${5:-800}
+many=${5:-2000}
 pauses=${6:-$rounds}
 guest=${7:-service}
 image=$top/guests/images/$guest.image
@@ -52,7 +52,7 @@ killed() {
     client=$!
     for kills in 1 2; do
         has "$at/answers" "$((kills * many / 3 - RANDOM % (many / 4)))" "$client"
-        nap
+        blink
         victim=$((RANDOM % 3))
         when=$((RANDOM % 4))
         if [ "$when" = 0 ]; then stop "${keeper[$victim]}"; fi
@@ -88,7 +88,9 @@ killed() {
 
 # split ROUND LOGS..: the primary is paused, and goes on beside the next one. What is handed over are the logs, or copies of them.
 split() {
-    local at=$work/split.$1 first second one other k
+    local at=$work/split.$1 first second one other k many=$many
+    # Copies are made while the client has more to ask.
+    if [ "$2" = copies ]; then many=$((many * 4)); fi
     begin "$at"
     ask "$((RANDOM * 32768 + RANDOM))" "$at" one
     ask "$((RANDOM * 32768 + RANDOM))" "$at" other
@@ -100,7 +102,7 @@ split() {
     "$live" client "$at/one.words" 3 700 to "$at/in.a" from "$at/out.a" > "$at/answers.one" 2> /dev/null &
     one=$!
     has "$at/answers.one" "$((RANDOM % (many / 3) + 2))" "$one"
-    nap
+    blink
     kill -STOP "$first"
     choose
     if [ "$2" = copies ]; then
