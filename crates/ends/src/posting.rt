@@ -3,7 +3,7 @@
 use crate::events::{Door, Event, Taker, bring};
 use crate::faults::{Fault, NamedFile};
 use crate::host::Host;
-use crossbeam_channel::{Receiver, Sender, bounded, unbounded};
+use crossbeam_channel::{Receiver, SendError, Sender, TrySendError, bounded, unbounded};
 use ft_types::Memory;
 use std::alloc::{AllocError, Global};
 use std::fs::File;
@@ -32,6 +32,29 @@ pub enum Keeps {
     All,
     /// With the last one. A piece for which there is no room is left out, so that nobody waits for a reader that is slow.
     Last,
+}
+
+impl Keeps {
+    /// Leaves an order for whoever takes orders. Whether it was left.
+    fn send<R: Wait>(
+        self,
+        rt: &R,
+        to: &Sender<Order, Global>,
+        order: Order,
+    ) -> Result<bool, Memory> {
+        match self {
+            Keeps::All => match to.send(rt, order) {
+                Ok(()) => Ok(true),
+                Err(SendError::OutOfMemory(_)) => Err(Memory),
+                Err(SendError::Disconnected(_)) => Ok(false),
+            },
+            Keeps::Last => match to.try_send(rt, order) {
+                Ok(()) => Ok(true),
+                Err(TrySendError::OutOfMemory(_)) => Err(Memory),
+                Err(TrySendError::Full(_) | TrySendError::Disconnected(_)) => Ok(false),
+            },
+        }
+    }
 }
 
 /// What an output is to do.
@@ -180,46 +203,43 @@ pub struct Post {
 }
 
 impl Post {
-    /// Leaves an order for the thread, unless it is left out.
-    fn order<R: Wait>(&mut self, rt: &R, order: Order) {
-        let is_left = match self.keeps {
-            Keeps::All => self.to.send(rt, order).is_ok(),
-            Keeps::Last => self.to.try_send(rt, order).is_ok(),
-        };
-        if is_left {
+    /// Leaves an order for the thread, unless it is left out, or the thread is gone, which has said why.
+    fn order<R: Wait>(&mut self, rt: &R, order: Order) -> Result<(), Memory> {
+        if self.keeps.send(rt, &self.to, order)? {
             self.left = self.left.wrapping_add(1);
         }
+        Ok(())
     }
 
     /// Has a piece written.
     fn leave<R: Wait>(&mut self, rt: &R, piece: &Piece) -> Result<(), Memory> {
         let piece = Arc::try_clone(piece)?;
-        if let Some(piece) = self.write_now(rt, piece) {
-            self.order(rt, Order::Write(piece));
+        match self.write_now(rt, piece)? {
+            Some(piece) => self.order(rt, Order::Write(piece)),
+            None => Ok(()),
         }
-        Ok(())
     }
 
     /// Writes a piece at once, where whoever reads has read all that was written before, so that there is room for it and no thread has to be woken.
     /// Otherwise it comes back.
-    fn write_now<R: Wait>(&mut self, rt: &R, piece: Piece) -> Option<Piece> {
+    fn write_now<R: Wait>(&mut self, rt: &R, piece: Piece) -> Result<Option<Piece>, Memory> {
         if piece.len() > ROOM_BYTES || self.read != self.left {
-            return Some(piece);
+            return Ok(Some(piece));
         }
         let Some(mut connection) = self.connection.try_lock() else {
-            return Some(piece);
+            return Ok(Some(piece));
         };
         let is_read = connection.done == self.left && connection.before < self.read;
         if !is_read || connection.file.is_none() {
-            return Some(piece);
+            return Ok(Some(piece));
         }
         let written = connection.obey(Order::Write(piece));
         drop(connection);
         self.left = self.left.wrapping_add(1);
         if let Err(end) = written {
-            self.order(rt, Order::End(end));
+            self.order(rt, Order::End(end))?;
         }
-        None
+        Ok(None)
     }
 
     /// Notes that whoever reads has read all that was left so far.
@@ -228,8 +248,8 @@ impl Post {
     }
 
     /// Has the connection begin anew.
-    pub fn begin_anew<R: Wait>(&mut self, rt: &R) {
-        self.order(rt, Order::End(End::Anew));
+    pub fn begin_anew<R: Wait>(&mut self, rt: &R) -> Result<(), Memory> {
+        self.order(rt, Order::End(End::Anew))
     }
 }
 

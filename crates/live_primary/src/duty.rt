@@ -122,10 +122,10 @@ fn take_said<R: AllocGlobal + Wait>(
         office.hear(leader.term(), &acknowledgement);
         tell_new(rt, leader, duty, office)
     } else {
-        if let Some(keeper) = read_again(&duty.guest, line.as_slice()) {
-            office.begin_anew(rt, keeper);
+        match read_again(&duty.guest, line.as_slice()) {
+            Some(keeper) => office.begin_anew(rt, keeper),
+            None => Ok(()),
         }
-        Ok(())
     }
 }
 

@@ -137,14 +137,19 @@ impl Office {
     }
 
     /// Sends all frames to a keeper once more.
-    pub(crate) fn begin_anew<R: AllocGlobal + Wait>(&mut self, rt: &R, keeper: Keeper) {
+    pub(crate) fn begin_anew<R: AllocGlobal + Wait>(
+        &mut self,
+        rt: &R,
+        keeper: Keeper,
+    ) -> Result<(), Memory> {
         let index = if self.keepers.len() == 1 {
             0
         } else {
             keeper.index()
         };
-        if let Some(post) = self.keepers.get_mut(index) {
-            post.begin_anew(rt);
+        match self.keepers.get_mut(index) {
+            Some(post) => post.begin_anew(rt),
+            None => Ok(()),
         }
     }
 }
