@@ -1,6 +1,6 @@
 //! A lease: one hart's state and some pages, on loan.
 
-ghost use Rattle.std.specs.Prelude.{◌≡◌, ◌≢◌, ◌<◌, ◌≤◌, ◌+◌, ◌-◌, ◌↔◌, ℕ, List, [], length, Option, ◌∷◌, IfOk, IfSome, IfNone, IsTrue};
+ghost use Rattle.std.specs.Prelude.{◌≡◌, ◌≢◌, ◌<◌, ◌≤◌, ◌+◌, ◌-◌, ◌↔◌, ℕ, List, [], length, drop, Option, ◌∷◌, IfOk, IfSome, IfNone, IsTrue};
 ghost use Rattle.rv32_hart.specs.Hart.{without_outputs};
 ghost use Rattle.guest_image.specs.Machine.{MachineState};
 ghost use Rattle.hart_lease.specs.Slots.{slot_at, want_of};
@@ -174,6 +174,13 @@ impl Lease {
         ensures { result ≡ self.now.present.count }
     {
         self.present.count()
+    }
+
+    /// The hart's registers at present, from x1 on.
+    pub fn registers(&self) -> &[u32]
+        ensures { result.now ≡ drop 1 self.now.present.registers }
+    {
+        self.present.registers()
     }
 
     /// The hart's count when it was lent.

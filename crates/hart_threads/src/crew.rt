@@ -7,6 +7,7 @@ use crate::calls::Calls;
 use crate::desk::Desk;
 use crate::overseer::{Nobody, Overseer};
 use crate::room::Room;
+use crate::together::go_together;
 use crate::turns::{Brought, Stop, Turn};
 use crate::turnstile::Turnstile;
 use ft_types::{COUNT_LIMIT, Count, Counts, HART_LIMIT, HART_ROW, Hart, HartSet, LEASE_STEPS};
@@ -16,7 +17,7 @@ use std::alloc::Global;
 use std::sync::{Mutex, Wait};
 use std::thread;
 use std::thread::Threads;
-use steering::{FAR, Pace};
+use steering::{FAR, Pace, Steering};
 
 /// The harts of a book, each on a thread of its own, which ends only where its hart is halted or at its end, where memory is
 /// refused or where no hart can go on. A book of one hart is led on the calling thread, without a lock, until the same. Nothing is
@@ -65,13 +66,22 @@ pub(crate) fn run_overseen<
         return (book, overseer);
     }
     let is_seen = !overseer.is_absent();
+    let mut book = book;
+    let mut steering = Steering::new(book.machine().harts(), pace, ends, turnstile.is_free());
+    let mut left = all_of(ends);
+    if here.is_empty() && !is_seen {
+        left = go_together(rt, alloc, &mut book, &mut steering, left, ends);
+        if left.is_empty() {
+            return (book, overseer);
+        }
+    }
     let room = Room {
-        desk: Mutex::new(Desk::new(book, pace, ends, turnstile.is_free(), is_seen)),
+        desk: Mutex::new(Desk::new(book, steering, is_seen)),
         ends,
         calls: Calls::new(),
         overseer: Mutex::new(overseer),
     };
-    lead_all(rt, alloc, &room, ends, turnstile, here);
+    lead_apart(rt, alloc, &room, ends, turnstile, here, left);
     let Room {
         desk,
         ends: _,
@@ -81,26 +91,13 @@ pub(crate) fn run_overseen<
     (desk.into_inner().into_book(), overseer.into_inner())
 }
 
-/// Leads all harts to their ends: together on this thread as long as that is better, and then apart.
-fn lead_all<
-    M: Mode + Send,
-    R: Threads + Wait + Sync,
-    T: Turnstile + Sync,
-    O: Overseer<M> + Send + Drop,
->(rt: &R, alloc: Global, room: &Room<M, O>, ends: Counts, turnstile: &T, here: HartSet) {
+/// All harts that have an end.
+fn all_of(ends: Counts) -> HartSet {
     let mut all = HartSet::new();
     for number in 0..ends.harts() {
         all = all.with(Hart::new(number));
     }
-    let left = if here.is_empty() {
-        go_together(rt, alloc, room, all, ends)
-    } else {
-        all
-    };
-    room.end_to_lead(rt);
-    if !left.is_empty() {
-        lead_apart(rt, alloc, room, ends, turnstile, here, left);
-    }
+    all
 }
 
 /// Starts the threads of the harts that are left, leads those that have none, and returns when each has ended. The first hart's thread is this
@@ -163,27 +160,6 @@ fn go_in_turn<M: Mode, R: Wait, O: Overseer<M> + Drop>(
             thread::yield_now();
         }
         left = next;
-    }
-    unreachable!()
-}
-
-/// The same, as long as they do better together, and one goes on. Who is left.
-fn go_together<M: Mode, R: Wait, O: Overseer<M> + Drop>(
-    rt: &R,
-    alloc: Global,
-    room: &Room<M, O>,
-    harts: HartSet,
-    ends: Counts,
-) -> HartSet {
-    let mut left = harts;
-    let mut goes = true;
-    for _ in rt.forever() {
-        if !goes || left.is_empty() || !room.hold(rt).are_together() {
-            return left;
-        }
-        let (next, went) = go_round(rt, alloc, room, left, ends);
-        left = next;
-        goes = went;
     }
     unreachable!()
 }

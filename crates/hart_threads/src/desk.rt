@@ -5,13 +5,14 @@ ghost use Rattle.page_book.specs.Books.{IsOurs};
 
 use crate::overseer::Overseer;
 use crate::standing::Bounds;
+use crate::telling::{may_go, rung_by, tell_settled};
 use crate::turns::{Answer, Asker, Brought, Stop, Turn};
-use ft_types::{Count, Counts, HART_ROW, Hart, HartSet, LEASE_STEPS, PageNo, Want};
+use ft_types::{Count, Hart, HartSet, LEASE_STEPS, PageNo, Want};
 use lease_rounds::PageMask;
 use page_book::{Book, BookFault, Keep, Lease, Mode, Need};
 use std::alloc::Global;
 use std::sync::Wait;
-use steering::{Pace, Returned, Steering, trace_of};
+use steering::Steering;
 
 /// A book, beside what steers its harts and how far an overseer lets them go: no promise leans on that.
 #[derive(Drop)]
@@ -23,14 +24,7 @@ pub(crate) struct Desk<M: Mode> {
 
 impl<M: Mode> Desk<M> {
     /// A book whose harts all go on, each of them once an overseer has looked, where there is one.
-    pub(crate) fn new(
-        book: Book<M>,
-        pace: Pace,
-        ends: Counts,
-        is_free: bool,
-        is_seen: bool,
-    ) -> Desk<M> {
-        let steering = Steering::new(book.machine().harts(), pace, ends, is_free);
+    pub(crate) fn new(book: Book<M>, steering: Steering, is_seen: bool) -> Desk<M> {
         let bounds = Bounds::new(is_seen);
         Desk {
             book,
@@ -46,11 +40,7 @@ impl<M: Mode> Desk<M> {
 
     /// Whether the hart is to go on.
     pub(crate) fn may_go(&self, hart: Hart, end: Count) -> bool {
-        if hart.number() >= self.book.machine().harts() {
-            return false;
-        }
-        let state = self.book.machine().hart(hart);
-        !state.is_halted() && state.count() < end
+        may_go(&self.book, hart, end)
     }
 
     /// A lease of the hart, with the pages that it takes at once. Whoever leads all harts gets one where the hart has more to do than to wait.
@@ -204,7 +194,7 @@ impl<M: Mode> Desk<M> {
         let (hart, steps, count) = (lease.hart(), lease.steps(), lease.count());
         let woken = !lease.inputs().is_empty();
         let takes_over = !lease.edges().is_empty();
-        let before = self.rung_by(hart);
+        let before = rung_by(&self.book, hart);
         let keep = if self.steering.keeps_rights(hart) {
             Keep::All
         } else {
@@ -219,7 +209,7 @@ impl<M: Mode> Desk<M> {
         }
         match self.book.settle(lease, keep) {
             Ok(()) => {
-                self.tell_settled(hart, returned, &before);
+                tell_settled(&self.book, &mut self.steering, hart, returned, &before);
                 Some((steps, count))
             }
             Err((lease, _)) => {
@@ -227,23 +217,6 @@ impl<M: Mode> Desk<M> {
                 None
             }
         }
-    }
-
-    /// Tells of the hart's settled lease, before which it had rung each hart so often.
-    fn tell_settled(&mut self, hart: Hart, returned: Returned, before: &[u64; HART_ROW]) {
-        if self.steering.has_rests() && hart.number() < self.book.machine().harts() {
-            let state = self.book.machine().hart(hart);
-            let trace = trace_of(state.registers());
-            self.steering.settle(returned, trace, before, state.rung());
-        }
-    }
-
-    /// How often the hart has rung each hart, by its settled steps.
-    fn rung_by(&self, hart: Hart) -> [u64; HART_ROW] {
-        if hart.number() >= self.book.machine().harts() {
-            return [0; HART_ROW];
-        }
-        *self.book.machine().hart(hart).rung()
     }
 
     /// The hart's settled count.
@@ -292,11 +265,6 @@ impl<M: Mode> Desk<M> {
         let grant = overseer.look(rt, alloc, &mut self.book);
         let counts = self.book.counts();
         Some(self.bounds.grant(grant, &counts))
-    }
-
-    /// Whether the harts, which nobody oversees, do better together on one thread than apart, from the beginning on.
-    pub(crate) fn are_together(&self) -> bool {
-        !self.bounds.is_seen() && self.steering.are_together()
     }
 
     /// Whoever led all harts ends that. Whose threads are to look again.

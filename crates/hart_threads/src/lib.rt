@@ -16,6 +16,8 @@ mod replays;
 mod room;
 mod runs;
 mod standing;
+mod telling;
+mod together;
 mod turns;
 mod turnstile;
 

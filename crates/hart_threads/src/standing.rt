@@ -15,8 +15,6 @@ pub(crate) struct Bounds {
     standing: HartSet,
     /// Whether he lets none go on.
     is_over: bool,
-    /// Whether there is one.
-    is_seen: bool,
 }
 
 impl Bounds {
@@ -30,13 +28,7 @@ impl Bounds {
             lent: [0; HART_ROW],
             standing: HartSet::new(),
             is_over: false,
-            is_seen,
         }
-    }
-
-    /// Whether there is an overseer.
-    pub(crate) fn is_seen(&self) -> bool {
-        self.is_seen
     }
 
     /// The hart is lent.

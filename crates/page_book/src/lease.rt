@@ -1,6 +1,6 @@
 //! A book's leases.
 
-ghost use Rattle.std.specs.Prelude.{◌≡◌, ◌<◌, ◌≤◌, ◌↔◌, ℕ, List, Option, Some, None, length, IfSome, IfNone, IsTrue};
+ghost use Rattle.std.specs.Prelude.{◌≡◌, ◌<◌, ◌≤◌, ◌↔◌, ℕ, List, Option, Some, None, length, drop, IfSome, IfNone, IsTrue};
 ghost use Rattle.std.specs.Arc.{arc_value};
 ghost use Rattle.page_book.specs.machinery.Words.{base_at, IsBareLease, IsFull, IsLent, LeaseView, MachineState, Runs, slot_at, Taken, Ticks, want_of, whole};
 
@@ -41,6 +41,13 @@ impl Lease {
         ensures { result ≡ self.now.present.count }
     {
         self.own.count()
+    }
+
+    /// The hart's registers at present, from x1 on.
+    pub fn registers(&self) -> &[u32]
+        ensures { result.now ≡ drop 1 self.now.present.registers }
+    {
+        self.own.registers()
     }
 
     /// The count that the lease does not go past.

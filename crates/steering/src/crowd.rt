@@ -23,6 +23,12 @@ const OWN: u32 = 16;
 
 const BEGINNING: u64 = 4096 * LEASE_STEPS;
 
+/// After so many leases of one thread that leads all harts from the beginning on each may take more steps.
+const USUAL: u64 = 32;
+
+/// As many.
+const LONGER: u64 = 4 * LEASE_STEPS;
+
 /// Whether harts have to do with each other so often that one thread is to lead them all.
 #[derive(Clone, Copy)]
 pub(crate) struct Crowd {
@@ -59,6 +65,20 @@ impl Crowd {
     /// The last lease took a page from another hart.
     pub(crate) fn meet(&mut self) {
         self.apart = 0;
+    }
+
+    /// The open lease only waits, which says nothing of whether harts are apart.
+    pub(crate) fn stand(&mut self) {
+        self.apart = self.apart.saturating_sub(1);
+    }
+
+    /// How many steps a lease may take where one thread leads all harts from the beginning on.
+    pub(crate) fn turn(&self) -> u64 {
+        if self.leases < USUAL {
+            LEASE_STEPS
+        } else {
+            LONGER
+        }
     }
 
     /// Whether one thread leads all harts.

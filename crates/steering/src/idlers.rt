@@ -1,6 +1,6 @@
 //! Which harts only wait.
 
-use ft_types::{HART_ROW, Hart, LEASE_STEPS};
+use ft_types::{HART_LIMIT, HART_ROW, Hart, HartSet, LEASE_STEPS};
 use lease_rounds::PageMask;
 
 /// How many steps the others take before a hart that only waits looks again, though nothing that it reads has changed.
@@ -72,6 +72,10 @@ pub(crate) struct Idlers {
     since: [u64; HART_ROW],
     /// How many more leases each hart looks.
     looks: [u8; HART_ROW],
+    /// Whose open leases did more than to wait, by a look at them.
+    worked: HartSet,
+    /// Who is not to be looked at before it has taken a whole lease: where all seem to wait one of them may do more.
+    unseen: HartSet,
 }
 
 impl Idlers {
@@ -87,6 +91,8 @@ impl Idlers {
             rang: [SOON; HART_ROW],
             since: [0; HART_ROW],
             looks: [0; HART_ROW],
+            worked: HartSet::new(),
+            unseen: HartSet::new(),
         }
     }
 
@@ -110,6 +116,33 @@ impl Idlers {
         self.is_idle(hart) && hart < HART_ROW && self.pages[hart].is_against(written)
     }
 
+    /// How many steps the hart's next lease takes before it is looked at.
+    pub(crate) fn first_look(&self, hart: Hart) -> u64 {
+        if self.unseen.contains(hart) {
+            LEASE_STEPS
+        } else {
+            LOOK
+        }
+    }
+
+    /// Whether the hart only waited since its lease was last looked at: its registers come to this now.
+    pub(crate) fn is_still(&mut self, hart: Hart, trace: u64) -> bool {
+        let place = hart.index();
+        self.looks[place] = self.looks[place].max(1);
+        self.traces[place] == trace
+    }
+
+    /// The hart's lease did more than to wait, and goes on where its registers come to this.
+    pub(crate) fn go_on(&mut self, hart: Hart, trace: u64) {
+        self.traces[hart.index()] = trace;
+        self.worked = self.worked.with(hart);
+    }
+
+    /// Whether the hart's last lease did more than to wait, by a look at it.
+    pub(crate) fn has_worked(&self, hart: Hart) -> bool {
+        self.worked.contains(hart)
+    }
+
     /// A lease was settled, behind which its hart's registers come to this; whether its last step rang. Whether the hart only waits.
     pub(crate) fn note(&mut self, returned: Returned, trace: u64, rang: bool) -> bool {
         let hart = returned.hart.index();
@@ -118,7 +151,8 @@ impl Idlers {
         } else {
             LEASE_STEPS
         };
-        let still = returned.steps >= whole && self.traces[hart] == trace && !returned.awaits;
+        let is_alike = returned.steps >= whole && self.traces[hart] == trace;
+        let still = is_alike && !rang && !returned.awaits;
         let sure = rang && self.waits[hart] >= SURE;
         let idle = (still || sure) && !self.stirred[hart];
         self.learn(hart, still && idle, returned.woken, rang);
@@ -135,6 +169,7 @@ impl Idlers {
         }
         self.idle[hart] = idle;
         self.traces[hart] = trace;
+        self.unseen = self.unseen.without(returned.hart);
         idle
     }
 
@@ -173,16 +208,19 @@ impl Idlers {
     pub(crate) fn wake_all(&mut self) {
         self.idle = [false; HART_ROW];
         self.looks = [0; HART_ROW];
+        for number in 0..HART_LIMIT {
+            self.unseen = self.unseen.with(Hart::new(number));
+        }
     }
 
     /// The hart is lent.
-    pub(crate) fn go_out(&mut self, hart: usize) {
-        if hart < HART_ROW {
-            if self.idle[hart] {
-                self.waits[hart] = 0;
-            }
-            self.idle[hart] = false;
-            self.stirred[hart] = false;
+    pub(crate) fn go_out(&mut self, hart: Hart) {
+        let place = hart.index();
+        if self.idle[place] {
+            self.waits[place] = 0;
         }
+        self.idle[place] = false;
+        self.stirred[place] = false;
+        self.worked = self.worked.without(hart);
     }
 }

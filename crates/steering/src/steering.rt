@@ -172,11 +172,30 @@ impl Steering {
 
     /// The hart has a lease, and looks again where it only waited.
     pub fn go_out(&mut self, hart: Hart) {
-        let hart = hart.index();
-        if self.idlers.is_idle(hart) {
-            self.progress.catch_up(hart, &self.idlers);
+        if self.idlers.is_idle(hart.index()) {
+            self.progress.catch_up(hart.index(), &self.idlers);
         }
         self.idlers.go_out(hart);
+    }
+
+    /// How many steps the hart's lease takes before it is looked at, where one thread leads all from the beginning on.
+    pub fn first_look(&self, hart: Hart) -> u64 {
+        self.idlers.first_look(hart)
+    }
+
+    /// How many steps the hart's open lease, which has so many and does not go past this count, may take in all, where one thread leads all harts from
+    /// the beginning on, and its registers come to this now. None where it only waited since it was last looked at, or has as many as it may.
+    pub fn look(&mut self, hart: Hart, steps: u64, stop: Count, trace: u64) -> Option<u64> {
+        if self.idlers.is_still(hart, trace) && !self.awaits_its_count(hart, stop) {
+            self.crowd.stand();
+            return None;
+        }
+        let most = self.crowd.turn();
+        if steps >= most {
+            return None;
+        }
+        self.idlers.go_on(hart, trace);
+        Some(steps.saturating_add(steps.min(LEASE_STEPS)).min(most))
     }
 
     /// The pages that the hart takes at once with its lease, which begins with inputs or without: those that it waits for, and those
@@ -316,10 +335,12 @@ impl Steering {
         if self.idlers.note(returned, trace, rang) {
             let others = self.progress.fewest(&self.idlers);
             self.idlers.rest(hart, others);
-            return;
+            if !self.idlers.has_worked(hart) {
+                return;
+            }
         }
         for number in 0..self.harts() as usize {
-            if self.idlers.is_waiting_for(number, written) {
+            if number != hart.index() && self.idlers.is_waiting_for(number, written) {
                 self.stir(number);
             }
         }

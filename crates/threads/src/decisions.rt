@@ -13,7 +13,7 @@ const AS_IT_WAS: u64 = 7777;
 
 /// Calls of harts, each with its hart and, where there is one, a page, a number of steps or another hart; and what it answers: a number, 1 for yes, or
 /// a bit a hart. The first of each text begins, with so many harts.
-static ROWS: [&str; 6] = [
+static ROWS: [&str; 7] = [
     // Whoever was refused first is given first, and a page in dispute is kept by nobody.
     "\
 even 3|
@@ -146,6 +146,33 @@ leaves 1|0
 led 1|0
 led 0|1
 ",
+    // That thread looks at each lease now and then, which ends where its hart only waits; where all only wait, not before a whole lease.
+    "\
+even 2|
+asks 0|1
+first 0|128
+reads 0 5|1
+looks 0 128|256
+sees 0 256|512
+sees 0 512|0
+stays 0 512|0
+led 0|0
+asks 1|1
+writes 1 5|1
+looks 1 512|1024
+looks 1 1024|0
+brings 1 1024|0
+led 0|1
+asks 0|1
+sees 0 128|0
+stays 0 128|0
+asks 1|1
+sees 1 128|256
+sees 1 256|0
+stays 1 256|0
+led 0|1
+first 0|1024
+",
 ];
 
 fn begun(harts: u8, pace: Pace) -> Steering {
@@ -207,6 +234,11 @@ fn settles(steering: &mut Steering, hart: Hart, steps: u16, trace: u64, rung: Op
     bits(steering.called())
 }
 
+/// How many steps the hart's open lease may take in all, which has so many, and whose registers come to this; 0 where it ends.
+fn looks(steering: &mut Steering, hart: Hart, steps: u16, trace: u64) -> u64 {
+    steering.look(hart, u64::from(steps), 0, trace).unwrap_or(0)
+}
+
 /// What a call answers that a hart makes at this place of the rows.
 fn answer(steering: &mut Steering, call: &str, hart: Hart, number: u16, place: u64) -> u64 {
     match call {
@@ -219,6 +251,9 @@ fn answer(steering: &mut Steering, call: &str, hart: Hart, number: u16, place: u
         }
         "keeps" => u64::from(steering.keeps_rights(hart)),
         "reaches" => steering.reach(hart),
+        "first" => steering.first_look(hart),
+        "looks" => looks(steering, hart, number, place),
+        "sees" => looks(steering, hart, number, AS_IT_WAS),
         "waits" => u64::from(steering.wait_for_steps(hart)),
         "wanted" => bits(steering.wanted()),
         "brings" => settles(steering, hart, number, place, None),

@@ -186,7 +186,9 @@ impl Simulation {
         if self.steering.may_ask(hart) {
             let leases = &mut self.threads[hart.index()].leases;
             *leases = leases.saturating_sub(1);
-            self.go_out(hart);
+            let reach = self.steering.reach(hart);
+            self.threads[hart.index()].reach = reach;
+            self.go_out(hart, reach.min(LEASE_STEPS));
             self.go_on_with_lease(hart);
         } else {
             self.sleep(hart);
@@ -230,12 +232,10 @@ impl Simulation {
         }
     }
 
-    /// A lease of the hart, with the pages that it takes at once.
-    fn go_out(&mut self, hart: Hart) {
+    /// A lease of the hart, which may take so many steps, with the pages that it takes at once.
+    fn go_out(&mut self, hart: Hart, allowed: u64) {
         self.steering.go_out(hart);
-        let reach = self.steering.reach(hart);
-        self.threads[hart.index()].reach = reach;
-        let woken = self.workers[hart.index()].begin(&self.memory, reach.min(LEASE_STEPS));
+        let woken = self.workers[hart.index()].begin(&self.memory, allowed);
         let pages = self.steering.pages_at_once(hart, woken);
         let in_the_way = self.steering.in_the_way(hart);
         for number in 0..PAGES {
@@ -358,35 +358,52 @@ impl Simulation {
 
     /// Leads all harts on one thread, as long as they do better together and one goes on.
     fn go_together(&mut self) {
+        let mut goes = true;
         for _round in 0..VISITS {
-            let mut goes = false;
-            for number in 0..self.guest.harts {
-                goes = self.go_once(hart_of(number)) || goes;
-            }
             if !goes || !self.steering.are_together() {
                 break;
             }
+            goes = false;
+            for number in 0..self.guest.harts {
+                goes = self.go_once(hart_of(number)) || goes;
+            }
         }
-        let called = self.steering.end_to_lead();
-        self.call(called);
+        let _none_sleeps = self.steering.end_to_lead();
     }
 
-    /// One lease of the hart, where it need not wait for it. Whether it had one.
+    /// One lease of the hart, unless it only waits. Whether it had one.
     fn go_once(&mut self, hart: Hart) -> bool {
         if self.threads[hart.index()].doing == Doing::Over {
             return false;
         }
         if self.is_at_end(hart) {
             self.threads[hart.index()].doing = Doing::Over;
-            let called = self.steering.leave(hart);
-            self.call(called);
+            let _none_sleeps = self.steering.leave(hart);
             return false;
         }
-        if !self.steering.may_ask(hart) {
+        if !self.steering.may_be_led(hart) {
             return false;
         }
-        let _steps = self.lease(hart);
+        self.watch(hart);
         true
+    }
+
+    /// One lease of the hart, which is looked at now and then, and ends where it only waits.
+    fn watch(&mut self, hart: Hart) {
+        let first = self.steering.first_look(hart);
+        self.go_out(hart, first);
+        for _look in 0..LEASE_STEPS {
+            let stop = self.fill(hart);
+            let worker = self.workers[hart.index()];
+            if stop != Stop::Full {
+                break;
+            }
+            match self.steering.look(hart, worker.steps, 0, worker.trace) {
+                Some(further) => self.workers[hart.index()].allowed = further,
+                None => break,
+            }
+        }
+        self.settle(hart);
     }
 
     /// One lease of the hart, where it has none and more to do than to wait. How many steps it took.
@@ -396,12 +413,18 @@ impl Simulation {
         if is_out || worker.is_done(&self.guest) || !self.steering.may_be_led(hart) {
             return 0;
         }
-        self.lease(hart)
+        let reach = self.steering.reach(hart);
+        self.go_out(hart, reach.min(LEASE_STEPS));
+        let _stop = self.fill(hart);
+        let steps = self.workers[hart.index()].steps;
+        self.settle(hart);
+        let called = self.steering.called();
+        self.call(called);
+        steps
     }
 
-    /// One lease of the hart, on this thread. How many steps it took.
-    fn lease(&mut self, hart: Hart) -> u64 {
-        self.go_out(hart);
+    /// Takes the steps that the hart's lease may take, on this thread, with each page that one lacks. Where it stops.
+    fn fill(&mut self, hart: Hart) -> Stop {
         for _page in 0..2 * PAGES {
             let stop = self.workers[hart.index()].fill(&self.guest, &mut self.memory);
             let goes = match stop {
@@ -409,14 +432,10 @@ impl Simulation {
                 Stop::Full | Stop::Last => false,
             };
             if !goes {
-                break;
+                return stop;
             }
         }
-        let steps = self.workers[hart.index()].steps;
-        self.settle(hart);
-        let called = self.steering.called();
-        self.call(called);
-        steps
+        Stop::Last
     }
 }
 
