@@ -38,8 +38,14 @@ impl Model for Spare {
 /// Nothing of a lease is needed, where there is one.
 fn waste(own: Option<Box<hart_lease::Lease>>) {
     if let Some(own) = own {
-        Box::into_inner(own).waste();
+        waste_one(own);
     }
+}
+
+/// Nothing of a lease is needed. Not inlined, since a function clears its locals when it begins, a lease is large, and one is seldom wasted.
+#[inline(never)]
+fn waste_one(own: Box<hart_lease::Lease>) {
+    Box::into_inner(own).waste();
 }
 
 /// The lease in memory of its own.
@@ -53,6 +59,20 @@ fn boxed(alloc: Global, lease: hart_lease::Lease) -> Result<Box<hart_lease::Leas
             Err(Memory)
         }
     }
+}
+
+/// A lease in a place of its own. Not inlined either: only a book's first one has none to take.
+#[inline(never)]
+fn begun(
+    alloc: Global,
+    hart: Hart,
+    state: &HartState,
+    pages: u16,
+) -> Result<Box<hart_lease::Lease>, Memory>
+    requires pages { pages ≤ PAGE_LIMIT }
+    ensures { IfOk result (λ l. l.value ≡ fresh hart (without_outputs state.now) pages idle) }
+{
+    boxed(alloc, hart_lease::Lease::fresh(alloc, hart, state, pages)?)
 }
 
 impl Spare {
@@ -87,9 +107,9 @@ impl Spare {
                     own.begin_anew(hart, state);
                     return Ok(own);
                 }
-                Box::into_inner(own).waste();
+                waste_one(own);
             }
         }
-        boxed(alloc, hart_lease::Lease::fresh(alloc, hart, state, pages)?)
+        begun(alloc, hart, state, pages)
     }
 }
