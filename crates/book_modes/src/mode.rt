@@ -28,6 +28,7 @@ use input_log::InputLog;
 use smallvec::SmallVec;
 use std::alloc::Global;
 use std::marker::Model;
+use std::mem;
 
 /// What a replaying book has to obey.
 pub struct Leg {
@@ -203,7 +204,8 @@ pub trait Mode: Drop {
 
 /// The log is obeyed.
 pub struct Replaying {
-    leg: Leg,
+    /// Boxed, so that a swap is of a pointer.
+    leg: Box<Leg>,
 }
 
 impl Drop for Replaying {
@@ -217,17 +219,23 @@ impl Model for Replaying {
 
     ghost Value = { Leg };
 
-    ghost view = { λ r. r.leg };
-
-    ghost inverse = { λ leg. record { leg = leg } };
+    ghost view = { λ r. r.leg.value };
 }
 
 impl Replaying {
     /// The mode that obeys a leg.
-    pub fn new(leg: Leg) -> Replaying
-        ensures { result ≡ leg }
+    pub fn new(leg: Box<Leg>) -> Replaying
+        ensures { result ≡ leg.value }
     {
         Replaying { leg }
+    }
+
+    /// Obeys another leg; the one that it obeyed comes in that one's place.
+    pub fn swap(&mut self, leg: &mut Box<Leg>)
+        ensures obeys { self.new ≡ leg.old.value }
+        ensures obeyed { leg.new.value ≡ self.old }
+    {
+        mem::swap(&mut self.leg, leg);
     }
 
     /// What is obeyed.
@@ -303,7 +311,7 @@ impl Mode for Replaying {
     ghost goes_on = { λ r settled new now. new ≡ r };
 
     fn copy(&self) -> Result<Replaying, Memory> {
-        let leg = self.leg.copy()?;
+        let leg = Box::new(*Box::allocator(&self.leg), self.leg.copy()?)?;
         Ok(Replaying { leg })
     }
 

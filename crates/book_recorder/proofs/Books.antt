@@ -30,7 +30,7 @@ use Rattle.fenced_theory.specs.Recorders.{Output}
 use Rattle.fenced_theory.specs.Machines.{Outs, AreTidy, Book, RunsOn}
 use Rattle.fenced_theory.proofs.Recording.{at_cut}
 use Rattle.book_recorder.specs.TermBooks.{outputs_of, IsTermBook, ComesOf, AreTheory, BootedAreTermBooks, LaterAreTermBooks, RevivedAreTermBooks}
-use Rattle.book_recorder.proofs.Outputs.{effect_adds}
+use Rattle.page_book.proofs.Outputs.{effect_adds}
 
 -- what turns in an order leave of the counts
 counts_run : {Hart Page Input : Type 0} (system : System Hart Page Input) (m : Machine Hart Page) (inputs : ℕ → ℕ → Input) (now : ℕ → ℕ) (order : List ℕ) →

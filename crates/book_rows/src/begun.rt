@@ -15,7 +15,8 @@ pub fn recording(alloc: Global, image: &Image, limits: &[Count]) -> Result<Crew<
     Ok(Crew::new(recorder(alloc, image, limits)?))
 }
 
-fn leg_of(ends: Counts, edges: &EdgeLog, inputs: &InputLog) -> Result<Leg, Memory> {
+/// What is to be obeyed: these edges and inputs, up to these counts.
+pub fn leg_of(ends: Counts, edges: &EdgeLog, inputs: &InputLog) -> Result<Leg, Memory> {
     let edges = edges.copy()?;
     let inputs = inputs.copy()?;
     Ok(Leg {

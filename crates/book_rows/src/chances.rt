@@ -17,7 +17,7 @@ static MIXES: &[u8] = b"800010b7\n80008093\n00600113\nf14021f3\n00118193\n0011f2
 007181b3\n00518193\nfff10113\nfc0116e3\nf0000237\n00022a23\n";
 
 /// The file of so many harts that mix what they load.
-fn mixing(alloc: Global, harts: u8) -> Result<Vec<u8>, Memory> {
+pub fn mixing(alloc: Global, harts: u8) -> Result<Vec<u8>, Memory> {
     match file_of(alloc, harts, 2, MIXES) {
         Err(Memory) => file_of(alloc, harts, 2, MIXES),
         file => file,
@@ -92,14 +92,14 @@ fn go_round<M: Mode>(crew: &mut Crew<M>, alloc: Global, falls: bool) {
 }
 
 /// The book, once its harts took many turns by chance and its open leases went back.
-fn after_turns<M: Mode>(alloc: Global, book: Book<M>) -> Book<M> {
+pub fn after_turns<M: Mode>(alloc: Global, book: Book<M>) -> Book<M> {
     let mut crew = Crew::new(book);
     turns(&mut crew, alloc, 99);
     crew.end()
 }
 
 /// The book, once its harts went on in this order.
-fn after_rounds<M: Mode>(alloc: Global, book: Book<M>, falls: bool) -> Book<M> {
+pub fn after_rounds<M: Mode>(alloc: Global, book: Book<M>, falls: bool) -> Book<M> {
     let mut crew = Crew::new(book);
     go_round(&mut crew, alloc, falls);
     crew.end()

@@ -7,7 +7,7 @@ use Rattle.std.proofs.lemmas.Grind.{common_steps}
 use Rattle.std.proofs.lemmas.Option.{slice_get-get_or}
 use Rattle.guest_image.specs.Image.{ImageContents, Fits}
 use Rattle.rv32_hart.specs.Hart.{Hart, boot_hart}
-use Rattle.guest_image.specs.Machine.{MachineState, AreInPlace, IsMachine, word_bytes, page_with, pages_with, boot_harts, boot_machine}
+use Rattle.guest_image.specs.Machine.{MachineState, AreInPlace, IsMachine, word_bytes, page_with, pages_with, boot_harts, boot_machine, HasGoneOn, HaveGoneOn}
 
 -- ---- at the start
 
@@ -111,3 +111,12 @@ got_there hs i x found within = slice_get-get_or hs i x within ∙ ap (λ h. Som
 
 pub set_twice : (hs : List Hart) (i : ℕ) (h k : Hart) → slice_set (slice_set hs i h) i k ≡ slice_set hs i k
 set_twice hs i h k = set-set hs i h k
+
+-- ---- harts that went on
+
+pub first_on : (before after : List Hart) (h g : Hart) (hs gs : List Hart) → before ≡ h ∷ hs → after ≡ g ∷ gs → HaveGoneOn before after → HasGoneOn h g
+first_on before after h g hs gs e f on = on 0 h g (ap (λ (l : List Hart). slice_get l 0) e) (ap (λ (l : List Hart). slice_get l 0) f)
+
+pub others_on : (before after : List Hart) (h g : Hart) (hs gs : List Hart) → before ≡ h ∷ hs → after ≡ g ∷ gs → HaveGoneOn before after → HaveGoneOn hs gs
+others_on before after h g hs gs e f on i a b has_a has_b =
+    on (suc i) a b (ap (λ (l : List Hart). slice_get l (suc i)) e ∙ has_a) (ap (λ (l : List Hart). slice_get l (suc i)) f ∙ has_b)

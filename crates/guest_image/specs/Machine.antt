@@ -1,5 +1,5 @@
 -- A machine, what each one keeps, and how one starts.
-use Rattle.std.specs.Prelude.{◌≡◌, ℕ, zero, suc, ◌+◌, ◌-◌, ◌*◌, ◌<◌, ◌≤◌, List, [], ◌∷◌, ◌++◌, length, take, drop, map, replicate, slice_set}
+use Rattle.std.specs.Prelude.{◌≡◌, ℕ, zero, suc, ◌+◌, ◌-◌, ◌*◌, ◌<◌, ◌≤◌, List, [], ◌∷◌, ◌++◌, length, take, drop, map, replicate, slice_get, slice_set, Some}
 use Rattle.std.specs.Int.{to_le_bytes, from_le_bytes, w32}
 use Rattle.std.specs.List.{flat_map, range_with_len, AllByRecursion}
 use Rattle.ft_types.specs.declared.names.TheConstants.{HART_LIMIT, PAGE_LIMIT}
@@ -28,6 +28,20 @@ pub record IsMachine (m : MachineState) : Type 0 where
 -- the machine with a hart in this place
 abbrev pub with_hart : MachineState → ℕ → Hart → MachineState
 with_hart m place h = record m { harts = slice_set m.harts place h }
+
+-- the second hart put out what the first did, and then more
+abbrev pub HasPutOutMore : Hart → Hart → Type 0
+HasPutOutMore h g = (later : List (ℕ × ℕ)) × (g.outputs ≡ h.outputs ++ later)
+
+-- the second hart is what steps made of the first: it put out more, and is the same where it took none
+pub record HasGoneOn (h g : Hart) : Type 0 where
+  pub outputs : HasPutOutMore h g
+  pub count : h.count ≤ g.count
+  pub same : g.count ≡ h.count → g ≡ h
+
+-- so is each of the second harts, of the first with its place
+abbrev pub HaveGoneOn : List Hart → List Hart → Type 0
+HaveGoneOn before after = (hart : ℕ) (h g : Hart) → slice_get before hart ≡ Some h → slice_get after hart ≡ Some g → HasGoneOn h g
 
 -- a word in memory, its lowest byte first
 abbrev pub word_bytes : ℕ → List ℕ

@@ -14,7 +14,7 @@ use Rattle.rv32_hart.specs.machinery.Local.{step_counted}
 use Rattle.guest_image.specs.Machine.{MachineState}
 use Rattle.hart_lease.specs.Runs.{counts_of, steps_taken}
 use Rattle.primary.specs.Outputs.{said_by, said_at}
-use Rattle.book_recorder.proofs.Outputs.{AddsOne, effect_adds}
+use Rattle.page_book.proofs.Outputs.{AddsOne, effect_adds}
 use Rattle.leading.specs.Leaders.{IsTidy, AreTidy}
 
 -- ---- a hart

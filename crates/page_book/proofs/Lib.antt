@@ -1,4 +1,6 @@
 pub mod Ours
+pub mod Outputs
+mod Again
 pub mod Kept
 pub mod Tellings
 mod Closing

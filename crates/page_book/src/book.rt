@@ -57,6 +57,7 @@ impl Book<Replaying> {
     {
         let machine = start.copy()?;
         let leases = no_leases(alloc)?;
+        let leg = Box::new(alloc, leg)?;
         Ok(Book {
             start,
             machine,

@@ -35,6 +35,24 @@ pub(crate) fn no_leases(alloc: Global) -> Result<Box<[Option<OpenLease>; HART_RO
     Ok(Box::new(alloc, none_open())?)
 }
 
+/// Closes an open lease, where there is one. A lease is large, and most often there is none.
+fn close(lease: &mut Option<OpenLease>)
+    ensures { lease.new ≡ None }
+{
+    if lease.is_some() {
+        *lease = None;
+    }
+}
+
+/// Closes every open lease.
+pub(crate) fn close_all(leases: &mut [Option<OpenLease>; HART_ROW])
+    ensures { leases.new ≡ replicate HART_ROW None }
+{
+    for place in 0..HART_ROW {
+        close(&mut leases[place]);
+    }
+}
+
 /// The edges that wait, with those found, where any were found.
 #[inline(always)]
 pub(crate) fn with_edges(

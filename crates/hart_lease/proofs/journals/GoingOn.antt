@@ -158,7 +158,7 @@ get-set_here [] i v w e = cc
 get-set_here (x ∷ xs) zero v w e = refl
 get-set_here (x ∷ xs) (suc i) v w e = get-set_here xs i v w e
 
-get-set_there : {A : Type 0} (xs : List A) (i : ℕ) (v : A) (other : ℕ) → (i ≡ other → ⊥) → slice_get (slice_set xs i v) other ≡ slice_get xs other
+pub get-set_there : {A : Type 0} (xs : List A) (i : ℕ) (v : A) (other : ℕ) → (i ≡ other → ⊥) → slice_get (slice_set xs i v) other ≡ slice_get xs other
 get-set_there [] i v other ne = refl
 get-set_there (x ∷ xs) zero v zero ne = absurd (ne refl)
 get-set_there (x ∷ xs) zero v (suc other) ne = refl
