@@ -75,11 +75,32 @@ def arithmetic(chance, free, to):
     return u_type(chance.getrandbits(20), to, chance.choice([0x37, 0x17]))
 
 
+def pair(chance, free, near):
+    """Two words that have one form where the second follows the first: the second may fault, and either may be jumped to or stored over."""
+    to, one, other = free(), free(), free()
+    load = i_type(chance.randrange(256), DATA, 4, to, 0x03)  # LBU
+    on = i_type(chance.getrandbits(12), to, 0, to, 0x13)  # ADDI to itself
+    branch = b_type(near(), to, one, 1)  # BNE
+    return chance.choice(
+        [
+            [r_type(0, other, one, 4, to, 0x33), branch],
+            [i_type(chance.getrandbits(12), one, 7, to, 0x13), i_type(chance.randrange(32), to, 1, other, 0x13)],
+            [load, i_type(chance.randrange(32), to, 5, other, 0x13)],
+            [load, on],
+            [on, r_type(0, other, to, 4, one, 0x33)],
+            [r_type(0, chance.choice([0, other]), DATA, 0, to, 0x33), i_type(chance.choice([0, 4, 2]), to, 2, other, 0x03)],
+            [i_type(chance.getrandbits(12), one, 0, to, 0x13), i_type(chance.randrange(256), chance.choice([DATA, to]), 4, other, 0x03)],
+            [b_type(near(), other, one, 0), i_type(chance.getrandbits(12), one, 0, to, 0x13)],
+            [s_type(chance.randrange(256), to, DATA, 0), branch],
+        ]
+    )
+
+
 def words_of(chance, length):
     """Some words of the body: one, or two or three that belong together."""
     free = lambda: chance.choice(FREE)
     to = chance.choice([0, *FREE, *FREE])
-    kind = chance.randrange(24)
+    kind = chance.randrange(28)
     inside = lambda: 4 * (HANDLER + FRONT + chance.randrange(length))  # a place of the body in its page
     near = lambda: 4 * chance.randrange(-6, 12)
     if kind < 7:
@@ -111,6 +132,8 @@ def words_of(chance, length):
         return lower(chance.getrandbits(20), chance.getrandbits(12)) + [arithmetic(chance, free, to)]
     if kind == 22:
         return [chance.choice([0x73, 0x100073, 0, 0xFFFFFFFF, 0x30200073, 0x0FF0000F, i_type(0x342, 0, 2, to, 0x73), i_type(0x340, free(), 1, to, 0x73)])]
+    if kind > 23:
+        return pair(chance, free, near)
     return [chance.choice([s_type(8, free(), DEVICES, 2), i_type(0, DEVICES, 2, to, 0x03), s_type(16, HART, DEVICES, 2), i_type(chance.randrange(5000), 0, 2, to, 0x03)])]
 
 

@@ -131,7 +131,7 @@ impl Keeper {
 /// A page of RAM, by its number: page `p` begins `p * PAGE_BYTES` bytes after the first address of RAM.
 #[derive(Clone, Copy, PartialEq, Eq)]
 pub struct PageNo {
-    number: u8,
+    number: u32,
 }
 
 impl Model for PageNo {
@@ -152,8 +152,17 @@ impl PageNo {
         ensures { result ≡ number }
     {
         PageNo {
-            number: number as u8,
+            number: u32::from(number),
         }
+    }
+
+    /// The page of a number that is told by a word.
+    #[inline(always)]
+    pub fn of_word(number: u32) -> PageNo
+        requires { number < PAGE_LIMIT }
+        ensures { result ≡ number }
+    {
+        PageNo { number }
     }
 
     /// The page's number, below `PAGE_LIMIT`.
@@ -162,7 +171,7 @@ impl PageNo {
         ensures value { result ≡ self }
         ensures below { result < PAGE_LIMIT }
     {
-        self.number
+        self.number as u8
     }
 
     /// The page's number, as the index of a row.

@@ -14,9 +14,11 @@ mod quick_form;
 mod quick_step;
 mod quiet_run;
 mod registers;
+mod second;
 mod state;
 mod step;
 mod steps;
+mod turn;
 
 pub use code::{Code, CodedPages};
 pub use decoder::{Anew, Decode, Decoder};

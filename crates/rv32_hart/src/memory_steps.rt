@@ -60,7 +60,7 @@ pub(crate) fn page_number(address: u32) -> PageNo
     requires limit { page_at address < PAGE_LIMIT }
     ensures { result ≡ page_at address }
 {
-    PageNo::new(((address - RAM_BASE) >> 12) as u16)
+    PageNo::of_word((address - RAM_BASE) >> 12)
 }
 
 #[inline(always)]
