@@ -4,7 +4,7 @@ use fenced_keeper::Given;
 use fragment_codec::{Frame, write_frame};
 use ft_types::{Count, Guest, Hart, Keeper, Memory, MemorySink, Output, Quorum, Term};
 use guest_image::{Image, read_image};
-use leading::{HandedLog, Leader, read_handed_log};
+use leading::{HandedLog, Leader, Spacing, read_handed_log};
 use std::alloc::Global;
 use wire::{Acknowledgement, Handed, Request, handed_line};
 
@@ -88,7 +88,7 @@ fn live(alloc: Global, image: &Image, term: Term, log: &mut Vec<u8>) -> Result<L
 
 /// The primary a round later, its frames added to the log.
 fn round(alloc: Global, leader: Leader, log: &mut Vec<u8>) -> Result<Leader, Memory> {
-    let mut next = leader.round(alloc, 240)?;
+    let mut next = leader.round(alloc, 240, Spacing::Usual)?;
     let frames = next.seal(alloc)?;
     add(alloc, log, &frames)?;
     Ok(next)

@@ -7,9 +7,9 @@ use Rattle.rv32_hart.specs.Hart.{Hart}
 use Rattle.book_modes.specs.Recordings.{RecordingView, IsOffered}
 use Rattle.requests.specs.Queues.{QueueView, front, handed_on}
 use Rattle.std.specs.Prelude.{slice_set}
-use Rattle.leading.specs.declared.inputs.TheConstants.{SPACING}
+use Rattle.leading.specs.declared.inputs.Spacing.{Spacing}
 use Rattle.leading.specs.Leaders.{queue_at}
-use Rattle.leading.specs.Rounds.{Hands, may_take, next_of}
+use Rattle.leading.specs.Rounds.{Hands, may_take, next_of, spacing_of}
 use Rattle.leading.proofs.Queueing.{set_same, set_other}
 
 -- what a queue says is next, where the hart was given so many words
@@ -45,19 +45,23 @@ none_is (Some x) n same = tt
 same_state : (x : Option Hart) (h k : Hart) → x ≡ Some h → x ≡ Some k → h ≡ k
 same_state x h k p q = let e : Some h ≡ Some k = sym p ∙ q in cc
 
-pub hands_nothing : (x : Option Hart) (state : Hart) (hart : ℕ) (q : QueueView) (b : RecordingView) → x ≡ Some state → next_of state q ≡ None → (h : Hart) →
-    x ≡ Some h → Hands (next_of h q) hart h.count q q b b
-hands_nothing x state hart q b there none h at =
-    subst (λ (s : Hart). Hands (next_of s q) hart s.count q q b b) (same_state x state h there at)
-    (subst (λ (n : Option Input). Hands n hart state.count q q b b) (sym none) (refl, refl))
+pub hands_nothing : (d : Spacing) (x : Option Hart) (state : Hart) (hart : ℕ) (q : QueueView) (b : RecordingView) → x ≡ Some state → next_of state q ≡ None → (h : Hart) →
+    x ≡ Some h → Hands d (next_of h q) hart h.count q q b b
+hands_nothing d x state hart q b there none h at =
+    subst (λ (s : Hart). Hands d (next_of s q) hart s.count q q b b) (same_state x state h there at)
+    (subst (λ (n : Option Input). Hands d n hart state.count q q b b) (sym none) (refl, refl))
 
-pub hands_input : (x : Option Hart) (state : Hart) (hart count : ℕ) (input : Input) (q p : QueueView) (b c : RecordingView) → x ≡ Some state →
-    next_of state q ≡ Some input → count ≡ state.count → p ≡ handed_on q.handed q.waiting → IsOffered b hart (count + SPACING) input c → (h : Hart) →
-    x ≡ Some h → Hands (next_of h q) hart h.count q p b c
-hands_input x state hart count input q p b c there some so_many queue offered h at =
-    subst (λ (s : Hart). Hands (next_of s q) hart s.count q p b c) (same_state x state h there at)
-    (subst (λ (n : Option Input). Hands n hart state.count q p b c) (sym some)
-    (queue, subst (λ (k : ℕ). others_of c.desk hart ≡ others_of b.desk hart ++ record { not_before = k + SPACING; input = input } ∷ []) so_many offered.others))
+pub hands_input : (d : Spacing) (x : Option Hart) (state : Hart) (hart count spacing : ℕ) (input : Input) (q p : QueueView) (b c : RecordingView) → x ≡ Some state →
+    next_of state q ≡ Some input → count ≡ state.count → spacing ≡ spacing_of d → p ≡ handed_on q.handed q.waiting →
+    IsOffered b hart (count + spacing) input c → (h : Hart) →
+    x ≡ Some h → Hands d (next_of h q) hart h.count q p b c
+hands_input d x state hart count spacing input q p b c there some so_many so_far queue offered h at =
+    subst (λ (s : Hart). Hands d (next_of s q) hart s.count q p b c) (same_state x state h there at)
+    (subst (λ (n : Option Input). Hands d n hart state.count q p b c) (sym some) (
+      queue,
+      subst (λ (k : ℕ). others_of c.desk hart ≡ others_of b.desk hart ++ record { not_before = k + spacing_of d; input = input } ∷ []) so_many
+          (subst (λ (k : ℕ). others_of c.desk hart ≡ others_of b.desk hart ++ record { not_before = count + k; input = input } ∷ []) so_far offered.others),
+    ))
 
 -- no bell is touched
 pub bells_stay : (b c : RecordingView) (hart not_before : ℕ) (input : Input) → IsOffered b hart not_before input c → (other : ℕ) →
@@ -68,30 +72,30 @@ bells_stay b c hart not_before input offered other = elim (same_or_not other har
 ]
 
 -- where queue and desk of the hart are as they were, before and behind
-pub hands_same : (n : Option Input) (hart count : ℕ) (old new p q : QueueView) (b c d e : RecordingView) → p ≡ old → q ≡ new →
-    others_of d.desk hart ≡ others_of b.desk hart → others_of e.desk hart ≡ others_of c.desk hart → Hands n hart count old new b c → Hands n hart count p q d e
-hands_same None hart count old new p q b c d e first last before behind (queue, desk) = (last ∙ queue ∙ sym first, behind ∙ desk ∙ sym before)
-hands_same (Some input) hart count old new p q b c d e first last before behind (queue, desk) = (
+pub hands_same : (g : Spacing) (n : Option Input) (hart count : ℕ) (old new p q : QueueView) (b c d e : RecordingView) → p ≡ old → q ≡ new →
+    others_of d.desk hart ≡ others_of b.desk hart → others_of e.desk hart ≡ others_of c.desk hart → Hands g n hart count old new b c → Hands g n hart count p q d e
+hands_same g None hart count old new p q b c d e first last before behind (queue, desk) = (last ∙ queue ∙ sym first, behind ∙ desk ∙ sym before)
+hands_same g (Some input) hart count old new p q b c d e first last before behind (queue, desk) = (
   last ∙ queue ∙ ap (λ (k : QueueView). handed_on k.handed k.waiting) (sym first),
-  behind ∙ desk ∙ ap (λ os. os ++ record { not_before = count + SPACING; input = input } ∷ []) (sym before),
+  behind ∙ desk ∙ ap (λ os. os ++ record { not_before = count + spacing_of g; input = input } ∷ []) (sym before),
 )
 
 -- one hart more
-pub hands_more : (harts : List Hart) (n : ℕ) (old qs : List QueueView) (q p : QueueView) (b c d : RecordingView) → n < length qs → q ≡ queue_at qs n →
-    ((hart : ℕ) (h : Hart) → hart < n → slice_get harts hart ≡ Some h → Hands (next_of h (queue_at old hart)) hart h.count (queue_at old hart) (queue_at qs hart) b c) →
+pub hands_more : (g : Spacing) (harts : List Hart) (n : ℕ) (old qs : List QueueView) (q p : QueueView) (b c d : RecordingView) → n < length qs → q ≡ queue_at qs n →
+    ((hart : ℕ) (h : Hart) → hart < n → slice_get harts hart ≡ Some h → Hands g (next_of h (queue_at old hart)) hart h.count (queue_at old hart) (queue_at qs hart) b c) →
     ((hart : ℕ) → n ≤ hart → queue_at qs hart ≡ queue_at old hart) → ((hart : ℕ) → n ≤ hart → others_of c.desk hart ≡ others_of b.desk hart) →
-    ((h : Hart) → slice_get harts n ≡ Some h → Hands (next_of h q) n h.count q p c d) →
+    ((h : Hart) → slice_get harts n ≡ Some h → Hands g (next_of h q) n h.count q p c d) →
     ((other : ℕ) → other ≢ n → others_of d.desk other ≡ others_of c.desk other) → (hart : ℕ) (h : Hart) → hart < n + 1 → slice_get harts hart ≡ Some h →
-    Hands (next_of h (queue_at old hart)) hart h.count (queue_at old hart) (queue_at (slice_set qs n p) hart) b d
-hands_more harts n old qs q p b c d inside there done queues desk own others hart h lt at =
+    Hands g (next_of h (queue_at old hart)) hart h.count (queue_at old hart) (queue_at (slice_set qs n p) hart) b d
+hands_more g harts n old qs q p b c d inside there done queues desk own others hart h lt at =
     elim (same_or_not hart n) [
       | inl same ↦
           let first : queue_at old n ≡ q = sym (queues n (omega arith)) ∙ sym there in
-          subst (λ k. Hands (next_of h (queue_at old k)) k h.count (queue_at old k) (queue_at (slice_set qs n p) k) b d) (sym same)
-          (subst (λ x. Hands (next_of h x) n h.count (queue_at old n) (queue_at (slice_set qs n p) n) b d) (sym first)
-          (hands_same (next_of h q) n h.count q p (queue_at old n) (queue_at (slice_set qs n p) n) c d b d first (set_same qs n p inside)
+          subst (λ k. Hands g (next_of h (queue_at old k)) k h.count (queue_at old k) (queue_at (slice_set qs n p) k) b d) (sym same)
+          (subst (λ x. Hands g (next_of h x) n h.count (queue_at old n) (queue_at (slice_set qs n p) n) b d) (sym first)
+          (hands_same g (next_of h q) n h.count q p (queue_at old n) (queue_at (slice_set qs n p) n) c d b d first (set_same qs n p inside)
           (sym (desk n (omega arith))) refl (own h (subst (λ k. slice_get harts k ≡ Some h) same at))))
       | inr other ↦
-          hands_same (next_of h (queue_at old hart)) hart h.count (queue_at old hart) (queue_at qs hart) (queue_at old hart) (queue_at (slice_set qs n p) hart) b c b d
+          hands_same g (next_of h (queue_at old hart)) hart h.count (queue_at old hart) (queue_at qs hart) (queue_at old hart) (queue_at (slice_set qs n p) hart) b c b d
           refl (set_other qs n hart p other) refl (others hart other) (done hart h (omega (arith, lt, other)) at)
     ]

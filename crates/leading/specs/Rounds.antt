@@ -14,6 +14,7 @@ use Rattle.lease_rounds.specs.Running.{IsIdle, GoesRoundFor, KeepsOffered}
 use Rattle.lease_rounds.specs.Steps.{AreWithin}
 use Rattle.primary.specs.Primaries.{GoesOn}
 use Rattle.requests.specs.Queues.{QueueView, front, handed_on}
+use Rattle.leading.specs.declared.inputs.Spacing.{Spacing}
 use Rattle.leading.specs.declared.inputs.TheConstants.{SPACING}
 use Rattle.leading.specs.Leaders.{LeaderView, queue_at}
 
@@ -27,13 +28,18 @@ may_take h = not h.halted && (bit_and h.received.mip (2 ^ 11) == 0)
 abbrev pub next_of : Hart → QueueView → Option Input
 next_of h q = if may_take h then (if h.received.input_sequence == q.handed then front q.waiting else None) else None
 
--- what became of the queue and the desk of a hart at this count: the input went from the one to the end of the other, to be given SPACING steps later
+-- how many steps go by before the hart is given it, at the least
+abbrev pub spacing_of : Spacing → ℕ
+spacing_of Spacing.None = 0
+spacing_of Spacing.Usual = SPACING
+
+-- what became of the queue and the desk of a hart at this count: the input went from the one to the end of the other, to be given so many steps later
 -- at the earliest, or nothing did
-abbrev pub Hands : Option Input → ℕ → ℕ → QueueView → QueueView → RecordingView → RecordingView → Type 0
-Hands None hart count old new b c = (new ≡ old) × (others_of c.desk hart ≡ others_of b.desk hart)
-Hands (Some input) hart count old new b c =
+abbrev pub Hands : Spacing → Option Input → ℕ → ℕ → QueueView → QueueView → RecordingView → RecordingView → Type 0
+Hands spacing None hart count old new b c = (new ≡ old) × (others_of c.desk hart ≡ others_of b.desk hart)
+Hands spacing (Some input) hart count old new b c =
     (new ≡ handed_on old.handed old.waiting) ×
-    (others_of c.desk hart ≡ others_of b.desk hart ++ record { not_before = count + SPACING; input = input } ∷ [])
+    (others_of c.desk hart ≡ others_of b.desk hart ++ record { not_before = count + spacing_of spacing; input = input } ∷ [])
 
 -- ---- steps
 
@@ -74,11 +80,11 @@ pub record HasGoneOn (steps : ℕ) (b c : BookView RecordingView) : Type 0 where
   pub rounds : GoesRoundFor (lease_steps (length b.machine.harts)) (limited b end) (limited c end)
 
 -- inputs were handed on to the book, of which nothing is another but what waits for its harts, and of that no bell; and then it went on
-pub record IsRound (steps : ℕ) (old new : LeaderView) : Type 0 where
+pub record IsRound (spacing : Spacing) (steps : ℕ) (old new : LeaderView) : Type 0 where
   pub given : BookView RecordingView
   pub handed : GoesOn old.primary.book given
   pub book : given ≡ record old.primary.book { mode = record old.primary.book.mode { desk = given.mode.desk } }
   pub bells : (hart : ℕ) → bells_of given.mode.desk hart ≡ bells_of old.primary.book.mode.desk hart
   pub hands : (hart : ℕ) (h : Hart) → slice_get old.primary.book.machine.harts hart ≡ Some h →
-      Hands (next_of h (queue_at old.queues hart)) hart h.count (queue_at old.queues hart) (queue_at new.queues hart) old.primary.book.mode given.mode
+      Hands spacing (next_of h (queue_at old.queues hart)) hart h.count (queue_at old.queues hart) (queue_at new.queues hart) old.primary.book.mode given.mode
   pub on : HasGoneOn steps given new.primary.book

@@ -6,7 +6,7 @@ ghost use Rattle.input_log.specs.Waiting.{bells_of, others_of};
 ghost use Rattle.rv32_hart.specs.Hart.{Hart as HartRecord};
 ghost use Rattle.primary.specs.Primaries.{GoesOn};
 ghost use Rattle.leading.specs.Leaders.{BeginBehind, queue_at};
-ghost use Rattle.leading.specs.Rounds.{Hands, may_take, next_of};
+ghost use Rattle.leading.specs.Rounds.{Hands, may_take, next_of, spacing_of};
 
 use ft_types::{Hart, Memory};
 use guest_image::Machine;
@@ -20,6 +20,15 @@ use std::result::Result;
 
 /// How many steps a hart has behind an acknowledgement, to read the word, before it is given the next one.
 const SPACING: u64 = 64;
+
+/// When a hart is handed its next input.
+#[derive(Clone, Copy)]
+pub enum Spacing {
+    /// At its next step: it is known to have read the word before.
+    None,
+    /// `SPACING` steps later at the earliest.
+    Usual,
+}
 
 /// The bit of mip that a word sets, and whose clearing is a hart's acknowledgement.
 const WORD_BIT: u32 = 1 << 11;
@@ -79,11 +88,26 @@ pub(crate) fn has_input(machine: &Machine, queues: &[Queue]) -> bool
     false
 }
 
+/// How many steps go by first, at the least.
+fn steps_before(spacing: Spacing) -> u64
+    ensures { result ≡ spacing_of spacing }
+{
+    match spacing {
+        Spacing::None => 0,
+        Spacing::Usual => SPACING,
+    }
+}
+
 /// Hands the hart the next input, where there is one.
-fn hand_one(primary: &mut Primary, hart: Hart, queue: &mut Queue) -> Result<(), Memory>
+fn hand_one(
+    primary: &mut Primary,
+    hart: Hart,
+    queue: &mut Queue,
+    spacing: Spacing,
+) -> Result<(), Memory>
     requires hart { hart < length primary.old.book.machine.harts }
     ensures hands { OnOk result ((h : HartRecord) → slice_get primary.old.book.machine.harts hart ≡ Some h →
-        Hands (next_of h queue.old) hart h.count queue.old queue.new primary.old.book.mode primary.new.book.mode) }
+        Hands spacing (next_of h queue.old) hart h.count queue.old queue.new primary.old.book.mode primary.new.book.mode) }
     ensures err { OnErr result (queue.new ≡ queue.old) }
     // In either case:
     ensures goes_on { GoesOn primary.old.book primary.new.book }
@@ -100,17 +124,21 @@ fn hand_one(primary: &mut Primary, hart: Hart, queue: &mut Queue) -> Result<(), 
     let Some(input) = next_input(state, queue) else {
         return Ok(());
     };
-    let not_before = state.count() + SPACING;
+    let not_before = state.count() + steps_before(spacing);
     primary.offer(hart, not_before, input)?;
     queue.hand_on();
     Ok(())
 }
 
 /// Hands each hart its next input, where there is one.
-pub(crate) fn hand_all(primary: &mut Primary, queues: &mut Vec<Queue>) -> Result<(), Memory>
+pub(crate) fn hand_all(
+    primary: &mut Primary,
+    queues: &mut Vec<Queue>,
+    spacing: Spacing,
+) -> Result<(), Memory>
     requires harts { length queues.old.items ≡ length primary.old.book.machine.harts }
     ensures hands { OnOk result ((hart : ℕ) (h : HartRecord) → slice_get primary.old.book.machine.harts hart ≡ Some h →
-        Hands (next_of h (queue_at queues.old.items hart)) hart h.count (queue_at queues.old.items hart) (queue_at queues.new.items hart)
+        Hands spacing (next_of h (queue_at queues.old.items hart)) hart h.count (queue_at queues.old.items hart) (queue_at queues.new.items hart)
         primary.old.book.mode primary.new.book.mode) }
     // In either case:
     ensures goes_on { GoesOn primary.old.book primary.new.book }
@@ -125,7 +153,12 @@ pub(crate) fn hand_all(primary: &mut Primary, queues: &mut Vec<Queue>) -> Result
     tell_primary(&primary.book);
     let _harts = primary.book.machine().harts();
     for number in 0..queues.len() {
-        hand_one(primary, Hart::new(number as u8), &mut queues[number])?;
+        hand_one(
+            primary,
+            Hart::new(number as u8),
+            &mut queues[number],
+            spacing,
+        )?;
     }
     Ok(())
 }

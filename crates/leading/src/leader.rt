@@ -16,7 +16,7 @@ ghost use Rattle.leading.specs.Leaders.{BeginBehind, queue_at};
 ghost use Rattle.leading.specs.Rounds.{IsRound, next_of};
 ghost use Rattle.leading.specs.Telling.{told_again};
 
-use crate::inputs::{hand_all, has_input, queues_of};
+use crate::inputs::{Spacing, hand_all, has_input, queues_of};
 use crate::rounds::go_on;
 use crate::starting::started;
 use crate::telling::tell_again;
@@ -280,9 +280,9 @@ impl Leader {
 
     /// One round: inputs go from the queues to the machine, each hart goes on for so many steps, and its outputs come to the gate. Nothing
     /// of it is cut. Want of memory ends the primary.
-    pub fn round(self, alloc: Global, steps: Count) -> Result<Leader, Memory>
+    pub fn round(self, alloc: Global, steps: Count, spacing: Spacing) -> Result<Leader, Memory>
         ensures opening { IfOk result (λ l. l.primary.opening ≡ self.primary.opening) }
-        ensures round { IfOk result (λ l. IsRound steps self l) }
+        ensures round { IfOk result (λ l. IsRound spacing steps self l) }
         ensures sealed { IfOk result (λ l. l.primary.sealed ≡ self.primary.sealed) }
         ensures gate { IfOk result (λ l. OffersMore self.gate l.gate) }
         ensures offered { IfOk result (λ l. AreAllOffered l.gate.gate l.primary.book.machine) }
@@ -298,7 +298,7 @@ impl Leader {
         } = self;
         // proof: its journal leads to its machine, before and after.
         has_run(&primary.book);
-        hand_all(&mut primary, &mut queues)?;
+        hand_all(&mut primary, &mut queues, spacing)?;
         let led = go_on(alloc, primary, steps)?;
         has_run(&led.book);
         offer_all(&mut gate, led.book.machine())?;

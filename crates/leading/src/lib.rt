@@ -11,4 +11,5 @@ mod telling;
 mod waiting;
 
 pub use handed::{HandedFault, HandedLog, read_handed_log};
+pub use inputs::Spacing;
 pub use leader::Leader;

@@ -9,7 +9,7 @@ use crate::outset::{Outset, frame_bytes, set_out};
 use crate::pace::{FIRST_ROUND, LONE_ROUND, SHORT_ROUNDS, is_sent, next_blind, next_round};
 use ends::{Door, Event, Fault, Host, Receiver, refuse, row};
 use ft_types::{Count, Guest, Memory};
-use leading::Leader;
+use leading::{Leader, Spacing};
 use live_words::PrimaryWords;
 use primary::Released;
 use std::alloc::Global;
@@ -42,6 +42,9 @@ struct Duty {
     steps: Count,
     /// How many rounds go by without a look.
     blind: u8,
+    /// How soon the next round hands an input to a hart: at once where harts only waited when it was looked last. What a hart does not read
+    /// while it waits it won't read later.
+    spacing: Spacing,
     next: Next,
 }
 
@@ -158,13 +161,13 @@ fn take<R: AllocGlobal + Wait>(
 
 /// Leads a round of so many steps, and where it is a short one some more, until something comes to the gate: harts that ring each other for an answer
 /// hear it in the next round, before keepers are sent anything, and before it is looked whether they wait.
-fn rounds(alloc: Global, leader: Leader, steps: Count) -> Result<Leader, Memory> {
-    let mut leader = leader.round(alloc, steps)?;
+fn rounds(alloc: Global, leader: Leader, steps: Count, spacing: Spacing) -> Result<Leader, Memory> {
+    let mut leader = leader.round(alloc, steps, spacing)?;
     for _more in 1..SHORT_ROUNDS {
         if steps > FIRST_ROUND || leader.kept() > 0 {
             break;
         }
-        leader = leader.round(alloc, steps)?;
+        leader = leader.round(alloc, steps, Spacing::Usual)?;
     }
     Ok(leader)
 }
@@ -203,10 +206,10 @@ impl Helm {
         let Some(leader) = self.leader.take() else {
             return Err(Memory);
         };
-        let mut leader = Box::new(
-            rt.alloc(),
-            rounds(rt.alloc(), Box::into_inner(leader), self.duty.steps)?,
-        )?;
+        let Duty { steps, spacing, .. } = self.duty;
+        let leader = rounds(rt.alloc(), Box::into_inner(leader), steps, spacing)?;
+        let mut leader = Box::new(rt.alloc(), leader)?;
+        self.duty.spacing = Spacing::Usual;
         if is_sent(self.duty.blind, self.duty.steps, leader.kept()) {
             send_new(rt, &mut leader, &mut self.office)?;
         }
@@ -221,6 +224,9 @@ impl Helm {
             return Err(Memory);
         };
         let only_waits = self.duty.blind == 0 && leader.only_waits(rt.alloc())?;
+        if only_waits {
+            self.duty.spacing = Spacing::None;
+        }
         self.duty.next = if only_waits { Next::Wait } else { Next::Lead };
         self.duty.blind = next_blind(self.duty.blind, self.duty.steps);
         self.duty.steps = next_round(self.duty.steps, leader.may_hand());
@@ -302,6 +308,7 @@ fn lead_all<H: Host>(rt: &H, words: &PrimaryWords<'_>) -> Result<(), Fault> {
         open: words.requests.len() + words.acknowledgements.len(),
         steps: FIRST_ROUND,
         blind: 0,
+        spacing: Spacing::Usual,
         next: Next::Lead,
     };
     let helm = Helm {

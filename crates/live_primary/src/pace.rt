@@ -7,9 +7,9 @@ use ft_types::Count;
 /// How many steps the first round behind a request has, and each one while an input is to be handed to a hart.
 pub(crate) const FIRST_ROUND: Count = 240;
 
-/// How many steps the first round behind a request has where no output waits: a hart that rings another one for an answer has come to that in the second. Its first
-/// 64 go by before it is handed the request.
-pub(crate) const LONE_ROUND: Count = 128;
+/// How many steps the first round behind a request has where no output waits: a hart that is handed it at once, rings another one and is rung back has
+/// some 40 left to answer.
+pub(crate) const LONE_ROUND: Count = 160;
 
 /// How many of these short rounds go by at the most before keepers are sent what they brought.
 pub(crate) const SHORT_ROUNDS: u8 = 4;

@@ -69,11 +69,11 @@ loop-number-preserved c =
       waiting = one.waiting ∙ ap (λ (x : RecordingView). let y : RecordingView = record x { desk = e.mode.desk } in y) was.waiting;
       bells = λ other. one.bells other ∙ was.bells other;
       many = search rules;
-      done = hands_more b.machine.harts n olds qs c.index_mut.result.now c.hand_one.new.queue b.mode l.mode e.mode inside
+      done = hands_more c.args.spacing b.machine.harts n olds qs c.index_mut.result.now c.hand_one.new.queue b.mode l.mode e.mode inside
           (queue_there qs n c.index_mut.result.now inside c.index_mut.ensures.value) was.done
           was.queues was.desk
           (λ h at.
-          subst (λ k. Hands (next_of h c.index_mut.result.now) k h.count c.index_mut.result.now c.hand_one.new.queue l.mode e.mode) hart
+          subst (λ k. Hands c.args.spacing (next_of h c.index_mut.result.now) k h.count c.index_mut.result.now c.hand_one.new.queue l.mode e.mode) hart
           (one.hands h
           (subst (λ (m : MachineState). slice_get m.harts c.new.result ≡ Some h) (sym machine)
           (subst (λ k. slice_get b.machine.harts k ≡ Some h) (sym hart) at))))

@@ -15,7 +15,7 @@ invariant-loop-number l = record {
   bells : (hart : ℕ) → bells_of l.primary.book.mode.desk hart ≡ bells_of l.fn.primary.book.mode.desk hart;
   many : length l.queues.items ≡ length l.fn.queues.items;
   done : (hart : ℕ) (h : Hart) → hart < l.number → slice_get l.fn.primary.book.machine.harts hart ≡ Some h →
-      Hands (next_of h (queue_at l.fn.queues.items hart)) hart h.count (queue_at l.fn.queues.items hart) (queue_at l.queues.items hart)
+      Hands l.fn.spacing (next_of h (queue_at l.fn.queues.items hart)) hart h.count (queue_at l.fn.queues.items hart) (queue_at l.queues.items hart)
       l.fn.primary.book.mode l.primary.book.mode;
   queues : (hart : ℕ) → l.number ≤ hart → queue_at l.queues.items hart ≡ queue_at l.fn.queues.items hart;
   desk : (hart : ℕ) → l.number ≤ hart → others_of l.primary.book.mode.desk hart ≡ others_of l.fn.primary.book.mode.desk hart;

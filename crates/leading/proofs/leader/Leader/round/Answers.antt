@@ -49,7 +49,7 @@ returns-clause-round c =
       released = c.self.inside.released.items;
     } in
     let q = c.hand_all.new.primary.book in
-    subst (λ (o : LeaderView). IsRound c.args.steps o new) c.self.view_is
+    subst (λ (o : LeaderView). IsRound c.args.spacing c.args.steps o new) c.self.view_is
     (record {
       given = q;
       handed = given.goes_on;
