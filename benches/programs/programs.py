@@ -6,8 +6,10 @@ A guest has one to four harts and one body for all of them, which goes round: ar
 page, atomic memory operations, branches and jumps within the body, also into the second of two instructions that compilers write together, stores into the body's
 own words, of other words of the body or of what a register has, traps (ECALL, EBREAK, illegal words) and a handler that goes on behind them, outputs, bells and words
 that come in. `run` records it on a thread for each hart by forms that were decoded before; `audit` takes its log step by step, decoding each word anew and asking for each
-page; `replay` takes it by quick runs again. All three must print one text. Each guest is made from SEED (by itself by chance, and printed) and its number, from FIRST
-on, and so can be made again. A guest that differs is printed, and its files are kept in the temporary folder.
+page; `replay` takes it by quick runs again. All three must print one text. Each fourth guest has one hart, to which nothing comes in: plain.py takes its steps too, and the
+text must say of count, place, registers, outputs and memory what it comes to; by it are told how often a pair was met whole, how often its second word was jumped to or faulted,
+and how often one of its words was stored over, and none of these may be nought in a hundred guests. Each guest is made from SEED (by itself by chance, and printed) and its number, from
+FIRST on, and so can be made again. A guest that differs is printed, and its files are kept in the temporary folder.
 """
 
 import os
@@ -15,12 +17,14 @@ import random
 import shutil
 import sys
 import tempfile
+from collections import Counter
 from concurrent.futures import ProcessPoolExecutor
 
 HERE = os.path.dirname(os.path.abspath(__file__))
 sys.path.insert(0, os.path.dirname(HERE))
 sys.dont_write_bytecode = True
 from calls import call
+from plain import COUNTED, PAIRS, Plain
 
 SECONDS = 60
 BASE = 0x80000000
@@ -81,7 +85,7 @@ def pair(chance, free, near):
     load = i_type(chance.randrange(256), DATA, 4, to, 0x03)  # LBU
     on = i_type(chance.getrandbits(12), to, 0, to, 0x13)  # ADDI to itself
     branch = b_type(near(), to, one, 1)  # BNE
-    return chance.choice(
+    two = chance.choice(
         [
             [r_type(0, other, one, 4, to, 0x33), branch],
             [i_type(chance.getrandbits(12), one, 7, to, 0x13), i_type(chance.randrange(32), to, 1, other, 0x13)],
@@ -94,15 +98,17 @@ def pair(chance, free, near):
             [s_type(chance.randrange(256), to, DATA, 0), branch],
         ]
     )
+    over = chance.choice([None, None, None, j_type(8, 0), b_type(8, other, one, chance.choice([0, 1, 4, 7]))])
+    return [over, *two] if over else two  # some are jumped into from right before them
 
 
-def words_of(chance, length):
-    """Some words of the body: one, or two or three that belong together."""
+def words_of(chance, length, steady):
+    """Some words of the body: one, or some that belong together. Those of a steady body lead back to its beginning again and again."""
     free = lambda: chance.choice(FREE)
     to = chance.choice([0, *FREE, *FREE])
     kind = chance.randrange(28)
     inside = lambda: 4 * (HANDLER + FRONT + chance.randrange(length))  # a place of the body in its page
-    near = lambda: 4 * chance.randrange(-6, 12)
+    near = lambda: 4 * chance.randrange(1 if steady else -6, 12)
     if kind < 7:
         return [arithmetic(chance, free, to)]
     if kind < 10:
@@ -119,28 +125,34 @@ def words_of(chance, length):
         return [b_type(near(), free(), chance.choice([0, *FREE]), chance.choice([0, 1, 4, 5, 6, 7]))]
     if kind == 17:
         return [j_type(near(), chance.choice([0, 5]))]
-    if kind == 18:
+    if kind == 18 and not steady:
         return [i_type(inside() + chance.choice([0, 0, 0, 2]), CODE, 0, chance.choice([0, 5]), 0x67)]  # JALR, sometimes to half a word
     if kind == 19:
-        taken = i_type(inside(), CODE, 2, 6, 0x03)  # a word of the body, stored or exchanged for another one
-        if chance.randrange(2):
-            return [taken, s_type(inside(), 6, CODE, 2)]
-        return [taken, i_type(inside(), CODE, 0, 7, 0x13), r_type(4, 6, 7, 2, to, 0x2F)]
-    if kind == 20:
+        one = inside()
+        other = chance.choice([one, inside()])
+        taken = i_type(one, CODE, 2, 6, 0x03)  # a word of the body, stored or exchanged for another one, or over itself; or two change places
+        how = chance.randrange(3)
+        if how == 0:
+            return [taken, s_type(other, 6, CODE, 2)]
+        if how == 1:
+            return [taken, i_type(other, CODE, 0, 7, 0x13), r_type(chance.choice([4, 0x40]), 6, 7, 2, to, 0x2F)]
+        other = chance.choice([max(one - 4, 4 * (HANDLER + FRONT)), inside()])
+        return [taken, i_type(other, CODE, 2, 7, 0x03), s_type(other, 6, CODE, 2), s_type(one, 7, CODE, 2)]
+    if kind == 20 and chance.randrange(8 if steady else 1) == 0:
         return [s_type(inside(), free(), CODE, chance.choice([0, 1, 2]))]  # what a register has, stored over a word of the body
     if kind == 21:
         return lower(chance.getrandbits(20), chance.getrandbits(12)) + [arithmetic(chance, free, to)]
     if kind == 22:
         return [chance.choice([0x73, 0x100073, 0, 0xFFFFFFFF, 0x30200073, 0x0FF0000F, i_type(0x342, 0, 2, to, 0x73), i_type(0x340, free(), 1, to, 0x73)])]
-    if kind > 23:
+    if kind > 23 or kind == 18 or kind == 20:
         return pair(chance, free, near)
     return [chance.choice([s_type(8, free(), DEVICES, 2), i_type(0, DEVICES, 2, to, 0x03), s_type(16, HART, DEVICES, 2), i_type(chance.randrange(5000), 0, 2, to, 0x03)])]
 
 
-def image_of(chance):
-    """An image file by chance, and how many harts it has."""
-    harts = chance.choice([1, 1, 1, 2, 4])
-    length = chance.choice([8, 20, 60, 200])
+def image_of(chance, plain):
+    """An image file by chance, and how many harts it has: one, with a steady body, where plain steps are to take it too."""
+    harts = 1 if plain else chance.choice([1, 1, 1, 2, 4])
+    length = chance.choice([20, 60, 200] if plain else [8, 20, 60, 200])
     handler = [
         i_type(0x341, 0, 2, 14, 0x73),  # csrrs x14, mepc, x0
         i_type(4, 14, 0, 14, 0x13),  # addi x14, x14, 4
@@ -159,9 +171,9 @@ def image_of(chance):
         i_type(0x305, 14, 1, 0, 0x73),  # csrrw x0, mtvec, x14: the handler, behind the first word
         *(arithmetic(chance, lambda: chance.choice(FREE), chance.choice(FREE)) for _ in range(FRONT - 6)),
     ]
-    body = []
+    body, steady = [], plain or chance.randrange(2)
     while len(body) < length:
-        body += words_of(chance, length)
+        body += words_of(chance, length, steady)
     back = j_type(-4 * len(body), 0)
     words = [start, *handler[: HANDLER - 1], *front, *body, back]
     return f"harts {harts}\npages {chance.choice([2, 2, 3])}\n" + "".join(f"{word:08x}\n" for word in words), harts
@@ -176,14 +188,26 @@ def script_of(chance, harts):
     return "".join(lines)
 
 
-def differs(program, chance):
+def plainly(image, text, steps, met):
+    """Whether the text says what plain steps of the image's one hart come to. What they met is added."""
+    lines = image.splitlines()
+    plain = Plain([int(line, 16) for line in lines[2:]], int(lines[1].split()[1]))
+    plain.run(steps)
+    met.update(plain.met)
+    met["plain"] += 1
+    said = [line for line in text.decode().splitlines() if line.split()[0] not in ("csr", "dev", "heard", "rung")]
+    return plain.knows_no_more or said == list(plain.lines())
+
+
+def differs(program, chance, plain, met):
     """Makes a guest in this folder and runs it. What differs, if something does, and how many steps it took."""
-    image, harts = image_of(chance)
+    image, harts = image_of(chance, plain)
+    script = "" if plain else script_of(chance, harts)
     with open("image", "w") as file:
         file.write(image)
     with open("script", "w") as file:
-        file.write(script_of(chance, harts))
-    ran = call(program, ["run", "image", "script", str(chance.choice([50, 300, 3000, 10000])), "log"], SECONDS)
+        file.write(script)
+    ran = call(program, ["run", "image", "script", str(chance.choice([300, 3000, 10000] if plain else [50, 300, 3000, 10000])), "log"], SECONDS)
     if ran[0] != 0 or ran[2]:
         return f"run ended {ran[0]} {ran[2][:80]}", 0
     steps = sum(int(line.split()[3]) for line in ran[1].decode().splitlines() if line.startswith("hart") and " count " in line)
@@ -192,19 +216,21 @@ def differs(program, chance):
     status, out, err = call(program, ["audit", "image", "log"], SECONDS)
     if (status, out.removeprefix(b"audit yes\n"), err) != ran or not out.startswith(b"audit yes\n"):
         return "the steps one by one come to another machine", steps
+    if plain and not plainly(image, ran[1], steps, met):
+        return "plain steps come to another machine", steps
     return None, steps
 
 
 def batch(program, seed, first, count):
-    """So many guests: which differ, and how many steps all took."""
-    others, steps = [], 0
+    """So many guests: which differ, how many steps all took, and what plain steps met."""
+    others, steps, met = [], 0, Counter()
     folder = tempfile.mkdtemp(prefix="programs-", dir="/dev/shm")
     try:
         for number in range(first, first + count):
             at = os.path.join(folder, str(number))
             os.mkdir(at)
             os.chdir(at)
-            wrong, taken = differs(program, random.Random(f"{seed} {number}"))
+            wrong, taken = differs(program, random.Random(f"{seed} {number}"), number % 4 == 0, met)
             steps += taken
             if wrong:
                 kept = os.path.join(tempfile.gettempdir(), f"programs-{seed}-{number}")
@@ -215,7 +241,7 @@ def batch(program, seed, first, count):
     finally:
         os.chdir("/")
         shutil.rmtree(folder)
-    return others, steps
+    return others, steps, met
 
 
 def main():
@@ -224,15 +250,19 @@ def main():
     seed = sys.argv[3] if sys.argv[3:] else str(random.SystemRandom().getrandbits(32))
     first = int(sys.argv[4]) if sys.argv[4:] else 0
     print(f"seed {seed}, guests {first} to {first + count - 1}", flush=True)
-    others, steps = [], 0
+    others, steps, met = [], 0, Counter()
     with ProcessPoolExecutor(int(os.environ.get("JOBS", "2"))) as pool:
         ends = range(first, first + count, 100)
-        for wrong, taken in pool.map(batch, *zip(*((program, seed, at, min(100, first + count - at)) for at in ends))):
+        for wrong, taken, seen in pool.map(batch, *zip(*((program, seed, at, min(100, first + count - at)) for at in ends))):
             others += wrong
             steps += taken
+            met.update(seen)
             print("\n".join(wrong), end="\n" * bool(wrong), flush=True)
-    print(f"{count} guests, {steps} steps, {len(others)} differ")
-    sys.exit(1 if others else 0)
+    print(f"{met['plain']} guests taken by plain steps too: " + ", ".join(f"{met[what]} {what}" for what in COUNTED))
+    print("pairs met whole: " + ", ".join(f"{met[' '.join(pair)]} of {' '.join(pair)}" for pair in sorted(PAIRS)))
+    unmet = count >= 100 and not all(met[what] for what in (*COUNTED, *map(" ".join, PAIRS)))
+    print(f"{count} guests, {steps} steps, {len(others)} differ" + ", and not each that is counted was met" * unmet)
+    sys.exit(1 if others or unmet else 0)
 
 
 if __name__ == "__main__":

@@ -14,10 +14,13 @@ use std::test::Fail;
 static SAYS: &[u8] = b"f0000237\n00108093\n00122423\nff9ff06f\n";
 
 /// All that a book recorded, to be obeyed.
+fn told_once(book: &Book<Recording>) -> Result<Leg, Memory> {
+    leg_of(book.counts(), book.edges(), book.inputs())
+}
+
 fn told(book: &Book<Recording>) -> Result<Leg, Fail> {
-    let ends = book.counts();
-    let leg = match leg_of(ends, book.edges(), book.inputs()) {
-        Err(Memory) => leg_of(ends, book.edges(), book.inputs()),
+    let leg = match told_once(book) {
+        Err(Memory) => told_once(book),
         leg => leg,
     };
     match leg {
@@ -32,8 +35,7 @@ fn obey_once(
     replay: &mut Book<Replaying>,
     recorded: &Book<Recording>,
 ) -> Option<Leg> {
-    let leg = told(recorded).ok()?;
-    let mut leg = Box::new(alloc, leg).ok()?;
+    let mut leg = Box::new(alloc, told_once(recorded).ok()?).ok()?;
     replay.begin_again().ok()?;
     replay.swap_leg(&mut leg);
     Some(Box::into_inner(leg))
@@ -48,7 +50,10 @@ fn obey(
         None => obey_once(alloc, replay, recorded),
         before => before,
     };
-    before.ok_or("obey".into())
+    match before {
+        Some(leg) => Ok(leg),
+        None => Err("obey".into()),
+    }
 }
 
 /// The book, once its harts went on to these limits.
