@@ -13,9 +13,10 @@ HERE = os.path.dirname(os.path.abspath(__file__))
 TOP = os.path.dirname(os.path.dirname(HERE))
 sys.path.insert(0, HERE)
 sys.dont_write_bytecode = True
-from pairs import KEEPERS, NEED, Pair
+from pairs import KEEPERS, NEED, Pair, onto, places
 
 IMAGE = f"{TOP}/guests/images/service.image"
+PARTS = 10  # of a series, in turn
 AGAIN = 1000  # so many milliseconds without an answer, and what lacks is asked for again
 
 
@@ -27,8 +28,9 @@ def asked(hops, folder, first, count, window, again=AGAIN):
     return [int(line) / 1e9 for line in said.split()], time.monotonic() - began
 
 
-def plain(hops, folder, count, size, synced):
+def plain(hops, folder, count, size, synced, on=None):
     """The same over processes that hand bytes on and do nothing else."""
+    on = on or {}
     os.makedirs(folder)
     ends = lambda kind: [f"{folder}/{kind}.{k}" for k in range(KEEPERS)]
     for name in [f"{folder}/in", f"{folder}/out", *ends("frames"), *ends("acks")]:
@@ -36,7 +38,8 @@ def plain(hops, folder, count, size, synced):
     how = "synced" if synced else "unsynced"
     keepers = [[hops, "keeper", str(k), f"{folder}/frames.{k}", f"{folder}/acks.{k}", f"{folder}/log.{k}", str(size), how] for k in range(KEEPERS)]
     primary = [hops, "primary", f"{folder}/in", f"{folder}/out", str(size), str(NEED), *ends("frames"), *ends("acks")]
-    processes = [subprocess.Popen(words) for words in [*keepers, primary]]
+    names = [*(f"keeper.{k}" for k in range(KEEPERS)), "primary"]
+    processes = [subprocess.Popen(words, preexec_fn=onto(on.get(name))) for name, words in zip(names, [*keepers, primary])]
     try:
         return asked(hops, folder, 0, count, 1)
     finally:
@@ -59,19 +62,32 @@ def told(name, times):
 
 
 def answers(live, hops, disk, memory, count):
-    """From request to answer, one under way."""
-    for where, folder in (("on disk", disk), ("in memory", memory)):
-        pair = Pair(live, IMAGE, f"{folder}/answers")
-        pair.lead()
-        asked(hops, pair.folder, 0, 200, 1)
-        before = os.path.getsize(pair.at("log.0"))
-        times, _ = asked(hops, pair.folder, 200, count, 1)
-        size = (os.path.getsize(pair.at("log.0")) - before) // count
-        pair.stop()
-        told(f"live, logs {where}", times)
-        for synced in (True, False) if folder == disk else (False,):
-            hopped, _ = plain(hops, f"{folder}/plain.{synced}", count, size, synced)
-            told(f"hops in C, {size} bytes a request, logs {where}, {'synced' if synced else 'unsynced'}", hopped)
+    """From request to answer, one under way: processes that run where the system has them run, and each on a processor of its own, where there are as many."""
+    for on in [None] + [places()] * (places() is not None):
+        for where, folder in (("on disk", disk), ("in memory", memory)):
+            answers_on(live, hops, where, f"{folder}/{'placed' if on else 'free'}", folder == disk, count, on)
+
+
+def answers_on(live, hops, where, folder, is_disk, count, on):
+    """The same of the logs of one folder: in turn by the pair and by what hands bytes on, part by part, so that all rows have the same minutes."""
+    os.makedirs(folder)
+    pair = Pair(live, IMAGE, f"{folder}/answers", on=on)
+    pair.lead()
+    asked(hops, pair.folder, 0, 200, 1)
+    before = os.path.getsize(pair.at("log.0"))
+    times, hopped, part = [], {synced: [] for synced in (True, False)[1 - is_disk :]}, count // PARTS
+    for number in range(PARTS):
+        times += asked(hops, pair.folder, 200 + number * part, part, 1)[0]
+        size = (os.path.getsize(pair.at("log.0")) - before) // len(times)
+        for synced, ways in hopped.items():
+            ways += plain(hops, f"{folder}/plain.{synced}.{number}", part, size, synced, on)[0]
+    pair.stop()
+    said = f"logs {where}, {'each process on a processor of its own' if on else 'processes anywhere'}"
+    told(f"live, {said}", times)
+    for synced, ways in hopped.items():
+        told(f"hops in C, {size} bytes a request, {said}, {'synced' if synced else 'unsynced'}", ways)
+    alike = hopped[is_disk]  # in memory it costs nothing to bring a log to disk
+    print(f"{said}: {statistics.median(times) / statistics.median(alike):.2f} times the hops", flush=True)
 
 
 def rates(live, hops, disk, count):

@@ -8,11 +8,25 @@ import subprocess
 KEEPERS, NEED = 3, 2
 
 
-class Pair:
-    """Keepers that run, each with a log, and the primary that leads, if one does. `around` has, for the name of a process, what its environment has more."""
+def onto(processor):
+    """What a process that begins does to run on this processor alone; nothing where it is None."""
+    return None if processor is None else lambda: os.sched_setaffinity(0, {processor})
 
-    def __init__(self, live, image, folder, around=None, is_told=False):
+
+def places():
+    """A processor of its own for the primary and for each keeper, by the name of the process, where there are as many."""
+    names = ["primary"] + [f"keeper.{k}" for k in range(KEEPERS)]
+    processors = sorted(os.sched_getaffinity(0))
+    return dict(zip(names, processors)) if len(processors) >= len(names) else None
+
+
+class Pair:
+    """Keepers that run, each with a log, and the primary that leads, if one does. `around` has, for the name of a process, what its environment has more,
+    and `on` the processor on which it runs."""
+
+    def __init__(self, live, image, folder, around=None, is_told=False, on=None):
         self.live, self.image, self.folder, self.around, self.is_told = os.path.abspath(live), os.path.abspath(image), folder, around or {}, is_told
+        self.on = on or {}
         self.primary, self.term = None, 0
         os.makedirs(folder)
         for name in ["in", "out"] + [f"{kind}.{k}" for kind in ("frames", "acks") for k in range(KEEPERS)]:
@@ -39,6 +53,7 @@ class Pair:
                 stderr=faults,
                 cwd=self.folder,
                 env={**os.environ, **self.around.get(name, {})},
+                preexec_fn=onto(self.on.get(name)),
             )
 
     def keep(self, k):
