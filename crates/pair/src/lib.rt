@@ -3,6 +3,7 @@
 #![tactic(auto)]
 
 mod adding;
+mod apart;
 mod exits;
 mod gate_thread;
 mod herald;

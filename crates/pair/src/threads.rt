@@ -11,6 +11,7 @@ ghost use Rattle.pair.specs.Posts.{ArePostsOf, IsPostOf, IsWatchOf, MayLead};
 ghost use Rattle.pair.specs.Released.{IsPartOf, is_among};
 ghost use Rattle.pair.specs.Serving.{AreHad, AreServed, IsHeard, IsHeldOnTheWay, IsServed};
 
+use crate::apart::is_apart;
 use crate::gate_thread::{GateEnd, guard};
 use crate::keeper_thread::{Served, serve};
 use crate::posts::{Post, PrimaryPost, Watch, man_posts};
@@ -25,7 +26,7 @@ use crossbeam_channel::unbounded;
 use fragment_codec::FIRST_TERM;
 use ft_types::{Memory, Sink};
 use guest_image::{Image, Machine};
-use hart_replay::{Plan, ReplayFault};
+use hart_replay::{Plan, ReplayFault, replay_plain};
 use hart_threads::{Free, PoolFault, replay, run};
 use log_streams::{PairOrders, Pairs, Replays, Runs, StreamsFault, begin_primary};
 use output_gate::{Gate, Output};
@@ -240,7 +241,11 @@ impl<R: Threads + Wait + Sync> Replays for OnThreads<'_, R> {
     ghost may_run = { λ _. IsSync R.row };
 
     fn replay(&self, alloc: Global, image: &Image, plan: &Plan) -> Result<Machine, ReplayFault> {
-        replay(self.rt, alloc, image, plan, &Free)
+        if is_apart(plan) {
+            replay(self.rt, alloc, image, plan, &Free)
+        } else {
+            replay_plain(alloc, image, plan)
+        }
     }
 }
 
