@@ -117,6 +117,14 @@ set_twice hs i h k = set-set hs i h k
 pub first_on : (before after : List Hart) (h g : Hart) (hs gs : List Hart) → before ≡ h ∷ hs → after ≡ g ∷ gs → HaveGoneOn before after → HasGoneOn h g
 first_on before after h g hs gs e f on = on 0 h g (ap (λ (l : List Hart). slice_get l 0) e) (ap (λ (l : List Hart). slice_get l 0) f)
 
-pub others_on : (before after : List Hart) (h g : Hart) (hs gs : List Hart) → before ≡ h ∷ hs → after ≡ g ∷ gs → HaveGoneOn before after → HaveGoneOn hs gs
+others_on : (before after : List Hart) (h g : Hart) (hs gs : List Hart) → before ≡ h ∷ hs → after ≡ g ∷ gs → HaveGoneOn before after → HaveGoneOn hs gs
 others_on before after h g hs gs e f on i a b has_a has_b =
     on (suc i) a b (ap (λ (l : List Hart). slice_get l (suc i)) e ∙ has_a) (ap (λ (l : List Hart). slice_get l (suc i)) f ∙ has_b)
+
+-- behind the first of both stand as many, which went on too
+pub rest_on : (before after : List Hart) (h g : Hart) (hs gs : List Hart) → before ≡ h ∷ hs → after ≡ g ∷ gs → length before ≡ length after →
+    HaveGoneOn before after → (length hs ≡ length gs) × HaveGoneOn hs gs
+rest_on before after h g hs gs e f many on =
+    let one : length before ≡ suc (length hs) = ap (λ (l : List Hart). length l) e in
+    let other : length after ≡ suc (length gs) = ap (λ (l : List Hart). length l) f in
+    (omega (arith, one, other, many), others_on before after h g hs gs e f on)
