@@ -8,7 +8,7 @@ set -eu
 here=$(cd "$(dirname "$0")" && pwd)
 . "$here/../workspace.sh"
 
-workspace replaying_bench "ft_types input_log guest_image page_book lease_rounds fragment_codec log_pieces log_join closed_cut hart_replay hart_threads go_live anyhow" run 1
+workspace replaying_bench "ft_types input_log guest_image page_book lease_rounds fragment_codec log_pieces log_join closed_cut hart_replay hart_threads warm_backup go_live anyhow" run 1
 
 "$program" run 1
 "$program" replay 1
@@ -17,6 +17,7 @@ workspace replaying_bench "ft_types input_log guest_image page_book lease_rounds
 "$program" threads_run 1
 "$program" threads_replay 1
 "$program" follow 250 1
+"$program" backup 250 1
 
 # What two more rounds cost, each.
 per_round() {
@@ -53,7 +54,8 @@ for cuts in 125 250 500 "250 often"; do
     a=$(per_cut_round whole $cuts)
     b=$(per_cut_round follow $cuts)
     c=$(inside $cuts)
-    echo "cut $cuts: replay of the whole $a, follower $b, of which planning $c instructions, ratio beside planning $(awk "BEGIN { printf \"%.3f\", ($b - $c) / $a }")"
+    d=$(per_cut_round backup $cuts)
+    echo "cut $cuts: replay of the whole $a, follower $b, of which planning $c instructions, ratio beside planning $(awk "BEGIN { printf \"%.3f\", ($b - $c) / $a }"), backup $d, ratio $(awk "BEGIN { printf \"%.3f\", $d / $a }")"
 done
 
 a=$(per_round parts)

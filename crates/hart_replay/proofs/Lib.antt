@@ -4,3 +4,5 @@ pub mod walking
 pub mod honesty
 pub mod rounds
 pub mod failovers
+pub mod GoingOn
+pub mod Along

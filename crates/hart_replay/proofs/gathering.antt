@@ -1,4 +1,5 @@
 -- What a leg gathers of a store.
+pub mod Unmet
 pub mod Records
 pub mod Inputs
 pub mod Notes

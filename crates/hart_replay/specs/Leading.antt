@@ -43,9 +43,13 @@ pub record HasStopped (m : MachineState) (leg : PlannedLeg) (b : BookView Leg) :
 abbrev pub IsBelow : MachineState → List ℕ → ℕ → Type 0
 IsBelow m ends hart = counts_of m hart < count_at ends hart
 
+-- the harts are all at their ends
+abbrev pub AreAtEnds : MachineState → List ℕ → Type 0
+AreAtEnds m ends = (hart : ℕ) → hart < length m.harts → count_at ends hart ≤ counts_of m hart
+
 -- the machine is this one, whose harts are all at their ends
 abbrev pub ComesTo : MachineState → List ℕ → MachineState → Type 0
-ComesTo m ends n = (n ≡ m) × ((hart : ℕ) → hart < length m.harts → count_at ends hart ≤ counts_of m hart)
+ComesTo m ends n = (n ≡ m) × AreAtEnds m ends
 
 -- which hart has not come to its end, and why
 abbrev pub ComesShort : MachineState → List ℕ → ReplayFault → Type 0

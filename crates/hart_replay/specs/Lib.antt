@@ -7,6 +7,7 @@ pub mod Laws
 pub mod Replays
 pub mod Leading
 pub mod GoingOn
+pub mod KeepingUp
 pub mod Primaries
 pub mod Failovers
 pub mod machinery

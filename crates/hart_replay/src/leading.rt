@@ -1,11 +1,11 @@
 //! Replay of one leg, lease by lease.
 
-ghost use Rattle.std.specs.Prelude.{◌≡◌, ℕ, length, IfOk, IfErr};
+ghost use Rattle.std.specs.Prelude.{◌≡◌, ◌≢◌, ℕ, length, IfOk, IfErr, OnOk};
 ghost use Rattle.ft_types.specs.Counts.{count_at};
 ghost use Rattle.hart_lease.specs.Runs.{counts_of};
 ghost use Rattle.hart_replay.specs.Plans.{IsLeg};
 ghost use Rattle.hart_replay.specs.Replays.{LegLeads};
-ghost use Rattle.hart_replay.specs.Leading.{HasStopped, ComesTo, ComesShort, IsLegFault};
+ghost use Rattle.hart_replay.specs.Leading.{HasStopped, AreAtEnds, ComesTo, ComesShort, IsLegFault};
 
 use crate::fault::ReplayFault;
 use crate::plans::PlannedLeg;
@@ -17,7 +17,7 @@ use std::alloc::Global;
 use std::result::Result;
 
 /// A book of the leg from this machine on, in which no hart can go on.
-fn lead(alloc: Global, start: Machine, leg: &PlannedLeg) -> Result<Book<Replaying>, Memory>
+pub fn lead(alloc: Global, start: Machine, leg: &PlannedLeg) -> Result<Book<Replaying>, Memory>
     ensures { IfOk result (λ b. HasStopped start leg.now b) }
 {
     let obeyed = Leg {
@@ -33,12 +33,13 @@ fn lead(alloc: Global, start: Machine, leg: &PlannedLeg) -> Result<Book<Replayin
     }
 }
 
-/// The machine, where each of its harts has come to its end; else why not.
-pub fn come_to(machine: &Machine, counts: Counts, ends: Counts) -> Result<Machine, ReplayFault>
-    requires harts { length counts ≡ length machine.now.harts }
-    requires counts { (hart : ℕ) → count_at counts hart ≡ counts_of machine.now hart }
-    ensures ok { IfOk result (λ m. ComesTo machine.now ends m) }
-    ensures fault { IfErr result (λ fault. ComesShort machine.now ends fault) }
+/// Nothing, where each of the machine's harts has come to its end; else why not.
+pub fn has_come_to(machine: &Machine, counts: &Counts, ends: &Counts) -> Result<(), ReplayFault>
+    requires harts { length counts.now ≡ length machine.now.harts }
+    requires counts { (hart : ℕ) → count_at counts.now hart ≡ counts_of machine.now hart }
+    ensures ok { OnOk result (AreAtEnds machine.now ends.now) }
+    ensures fault { IfErr result (λ fault. ComesShort machine.now ends.now fault) }
+    ensures memory { IfErr result (λ fault. fault ≢ ReplayFault.Memory) }
 {
     let mut waits = false;
     for number in 0..counts.harts() {
@@ -52,8 +53,19 @@ pub fn come_to(machine: &Machine, counts: Counts, ends: Counts) -> Result<Machin
         }
     }
     if waits {
-        return Err(ReplayFault::Cyclic(counts));
+        return Err(ReplayFault::Cyclic(*counts));
     }
+    Ok(())
+}
+
+/// The machine, where each of its harts has come to its end; else why not.
+pub fn come_to(machine: &Machine, counts: Counts, ends: Counts) -> Result<Machine, ReplayFault>
+    requires harts { length counts ≡ length machine.now.harts }
+    requires counts { (hart : ℕ) → count_at counts hart ≡ counts_of machine.now hart }
+    ensures ok { IfOk result (λ m. ComesTo machine.now ends m) }
+    ensures fault { IfErr result (λ fault. ComesShort machine.now ends fault) }
+{
+    has_come_to(machine, &counts, &ends)?;
     Ok(machine.copy()?)
 }
 

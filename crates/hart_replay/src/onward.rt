@@ -21,7 +21,7 @@ fn same_leg(leg: &PlannedLeg, other: &PlannedLeg) -> bool
 }
 
 /// Whether the first legs begin the second.
-fn begin_legs(first: &[PlannedLeg], second: &[PlannedLeg]) -> bool
+pub fn begin_legs(first: &[PlannedLeg], second: &[PlannedLeg]) -> bool
     ensures { IsTrue result ↔ IsFront first.now second.now }
 {
     if first.len() > second.len() {

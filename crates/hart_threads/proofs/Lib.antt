@@ -1,5 +1,3 @@
 mod Aside
 mod Picking
 mod Finishing
-mod GoingOn
-mod Along

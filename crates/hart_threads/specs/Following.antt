@@ -3,19 +3,15 @@ use Rattle.std.specs.Prelude.{◌≡◌, ◌<◌, ◌≤◌, ◌⊎◌, ◌++◌
 use Rattle.ft_types.specs.Counts.{count_at}
 use Rattle.interleaving.specs.Stored.{view}
 use Rattle.log_join.specs.Stores.{StoreView, IsStore}
-use Rattle.closed_cut.specs.Position.{IsPosition}
 use Rattle.ft_types.specs.declared.position.Position.{Position}
 use Rattle.rv32_hart.specs.Hardware.{hardware}
-use Rattle.guest_image.specs.Image.{ImageContents, guest_of}
+use Rattle.guest_image.specs.Image.{ImageContents}
 use Rattle.guest_image.specs.Machine.{MachineState}
 use Rattle.hart_replay.specs.declared.plans.PlannedLeg.{PlannedLeg}
 use Rattle.hart_replay.specs.declared.fault.ReplayFault.{ReplayFault}
 use Rattle.hart_replay.specs.declared.fault.ReplayFault.TheVariants.{OtherGuest, Memory}
-use Rattle.hart_replay.specs.Plans.{IsPlan, PlanView}
-use Rattle.hart_replay.specs.Replays.{IsOutcome}
-use Rattle.hart_replay.specs.Laws.{ArePlanned}
+use Rattle.hart_replay.specs.Plans.{PlanView}
 use Rattle.hart_replay.specs.Images.{GuestHistory, machine_of, IsHonestStoreOf}
-use Rattle.hart_replay.specs.Leading.{IsLegsFault}
 
 -- an image, the legs that were replayed, up to a position, and the machine there; and how many steps the last advance took
 pub record FollowerView : Type 0 where
@@ -29,19 +25,6 @@ pub record FollowerView : Type 0 where
 abbrev pub legs_of : Option PlanView → List PlannedLeg
 legs_of None = []
 legs_of (Some plan) = plan.legs
-
--- what every follower keeps
-pub record KeepsUp (image : ImageContents) (legs : List PlannedLeg) (machine : MachineState) : Type 0 where
-  pub plan : IsPlan (guest_of image) legs
-  pub led : IsOutcome image legs machine
-
--- why the legs planned up to the store's position lead to no machine
-pub record IsFaultOfStore (image : ImageContents) (store : StoreView) (fault : ReplayFault) : Type 0 where
-  pub position : Position
-  pub is_position : IsPosition store position
-  pub legs : List PlannedLeg
-  pub planned : ArePlanned store position legs
-  pub is_fault : IsLegsFault image legs fault
 
 -- Where the store's frames are honest frames of one history of the image, the machine is the history's at the position, and the only
 -- faults are another guest and refused memory.

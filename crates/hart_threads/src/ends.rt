@@ -5,9 +5,9 @@ ghost use Rattle.ft_types.specs.Counts.{count_at};
 ghost use Rattle.hart_lease.specs.Runs.{counts_of};
 ghost use Rattle.hart_replay.specs.Leading.{ComesTo, ComesShort};
 
-use ft_types::{Counts, Hart};
+use ft_types::Counts;
 use guest_image::Machine;
-use hart_replay::ReplayFault;
+use hart_replay::{ReplayFault, has_come_to};
 use std::result::Result;
 
 /// The machine, where each of its harts has come to its end; else why not.
@@ -21,19 +21,6 @@ pub(crate) fn come_to(
     ensures ok { IfOk result (λ m. ComesTo machine ends m) }
     ensures fault { IfErr result (λ fault. ComesShort machine ends fault) }
 {
-    let mut waits = false;
-    for number in 0..counts.harts() {
-        let hart = Hart::new(number);
-        let count = counts.get(hart);
-        if count < ends.count_of(hart) {
-            if machine.hart(hart).is_halted() {
-                return Err(ReplayFault::HaltedInside(hart, count));
-            }
-            waits = true;
-        }
-    }
-    if waits {
-        return Err(ReplayFault::Cyclic(counts));
-    }
+    has_come_to(&machine, &counts, &ends)?;
     Ok(machine)
 }

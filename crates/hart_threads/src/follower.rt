@@ -12,13 +12,13 @@ ghost use Rattle.hart_replay.specs.Laws.{ArePlanned};
 ghost use Rattle.hart_replay.specs.GoingOn.{GoOnFrom};
 ghost use Rattle.hart_replay.specs.Replays.{IsOutcome};
 ghost use Rattle.hart_replay.specs.Leading.{IsLegsFault};
-ghost use Rattle.hart_threads.specs.Following.{KeepsUp, IsFaultOfStore, FollowsHistory};
+ghost use Rattle.hart_replay.specs.KeepingUp.{KeepsUp, IsFaultOfStore};
+ghost use Rattle.hart_threads.specs.Following.{FollowsHistory};
 
-use crate::going::lead_all;
 use closed_cut::{Position, position};
 use ft_types::{Counts, Hart, Memory, is_same_guest};
 use guest_image::{Image, Machine};
-use hart_replay::{Plan, PlannedLeg, ReplayFault, go_on_from, plan};
+use hart_replay::{Plan, PlannedLeg, ReplayFault, go_on_from, lead_all, plan, steps_in};
 use log_join::Store;
 use std::alloc::Global;
 use std::marker::Model;
@@ -48,7 +48,8 @@ impl Drop for Follower {
 }
 
 impl Model for Follower {
-    ghost use Rattle.hart_threads.specs.Following.{FollowerView, KeepsUp, legs_of};
+    ghost use Rattle.hart_replay.specs.KeepingUp.{KeepsUp};
+    ghost use Rattle.hart_threads.specs.Following.{FollowerView, legs_of};
 
     ghost Value = { FollowerView };
 
@@ -61,17 +62,6 @@ impl Model for Follower {
     } };
 
     ghost invariant = { λ f. KeepsUp f.image (legs_of f.plan) f.machine };
-}
-
-/// How many steps the counts are.
-fn steps_in(counts: &Counts) -> u64
-    ensures { result ≡ sum counts.now }
-{
-    let mut steps = 0u64;
-    for number in 0..counts.harts() {
-        steps += counts.get(Hart::new(number));
-    }
-    steps
 }
 
 /// The position of a store and its plan.

@@ -9,7 +9,6 @@ mod desk;
 mod ends;
 mod fault;
 mod follower;
-mod going;
 mod legs;
 mod overseer;
 mod replays;

@@ -13,16 +13,11 @@ use Rattle.hart_lease.specs.OpenLeases.{OpenView, LentView}
 use Rattle.hart_lease.specs.Runs.{counts_of, steps_taken}
 use Rattle.hart_lease.proofs.steps.LackedRights.{step_counts}
 use Rattle.lease_rounds.specs.Leading.{IsIdle, GoesFor, IsHeld, MayGoFor, RoundsFor, NoHart, Went, Stood, lent_as}
+use Rattle.lease_rounds.specs.machinery.StepsLeft.{steps_left}
 use Rattle.lease_rounds.proofs.Filling.{HasFilled, HasGone, has_filled}
 use Rattle.lease_rounds.proofs.Lending.{idle_at, lent_runs}
 
 -- ---- a lease
-
--- how many steps the harts have to go to these stops
-abbrev pub steps_left : List ℕ → List Hart → ℕ
-steps_left [] harts = 0
-steps_left (stop ∷ stops) [] = 0
-steps_left (stop ∷ stops) (hart ∷ harts) = (stop - hart.count) + steps_left stops harts
 
 -- a hart that goes on has fewer steps to go
 fewer_left : (stops : List ℕ) (harts : List Hart) (hart : ℕ) (h after : Hart) → slice_get harts hart ≡ Some h → h.count < after.count →

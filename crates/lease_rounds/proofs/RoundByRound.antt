@@ -13,7 +13,8 @@ use Rattle.hart_lease.specs.Runs.{counts_of, steps_taken}
 use Rattle.page_book.specs.Books.{BookView}
 use Rattle.book_modes.specs.Recordings.{RecordingView}
 use Rattle.lease_rounds.specs.Leading.{IsHeld, GoesFor, RoundsFor}
-use Rattle.lease_rounds.proofs.GoingOn.{HasGoneOn, AsFar, has_gone_on, has_fewer, round_far, steps_left}
+use Rattle.lease_rounds.specs.machinery.StepsLeft.{steps_left}
+use Rattle.lease_rounds.proofs.GoingOn.{HasGoneOn, AsFar, has_gone_on, has_fewer, round_far}
 use Rattle.page_book.proofs.Later.{adds_nothing, adds_on}
 use Rattle.page_book.proofs.Tellings.{hears_nothing, hears_more, notes_kept}
 use Rattle.lease_rounds.specs.Running.{IsIdle, AreThrough, IsThrough, Continues, GoWithin, recording, NoRound, OneMore, KeepsOffered, KeepHeld}

@@ -126,7 +126,7 @@ adds_on a m b n c le p q =
 
 -- where one of its hart's settled count or later is added
 module _ (a : Edges) (m : ℕ → ℕ) (e : Edge) (b : Edges) (own : AreOwn a) (later : m e.hart ≤ e.at) where
-  own_after : IsAdded a e b → AreOwn b
+  pub own_after : IsAdded a e b → AreOwn b
   own_after (Stays said same) hart = subst (λ (x : Edges). AreOwn x) (sym same) own hart
   own_after (Enters unsaid put) hart = elim (cases_eq hart e.hart) [
     | inl same ↦
@@ -135,7 +135,7 @@ module _ (a : Edges) (m : ℕ → ℕ) (e : Edge) (b : Edges) (own : AreOwn a) (
     | inr other ↦ subst (λ (row : List Edge). All (λ x. x.hart ≡ hart) row) (sym (put.others hart other)) (own hart)
   ]
 
-  added_later : IsAdded a e b → AddsLater a m b
+  pub added_later : IsAdded a e b → AddsLater a m b
   added_later (Stays said same) = adds_nothing a m b same
   added_later (Enters unsaid put) =
       record {

@@ -16,7 +16,7 @@ use std::alloc::Global;
 use std::test::Fail;
 
 /// Four harts add 1 to one word 100 times each, and halt after 305 steps.
-static ADDS: &[u8] =
+pub static ADDS: &[u8] =
     b"harts 4\npages 2\n800010b7\n06400113\n00100193\n0030a02f\nfff10113\nfe011ce3\nf0000237\n00022a23\n";
 
 /// Goes to the store's position, again where memory was refused.
@@ -52,17 +52,17 @@ fn put(alloc: Global, store: &mut Store, frame: &Frame) -> Result<(), Memory> {
 }
 
 /// Of a piece of term 1 its place, from and to, behind 0; of an opening its term, 0 and its base.
-type Comes = (Term, u32, Count, Count);
+pub type Comes = (Term, u32, Count, Count);
 
 /// Where a follower stands: the position's term and count, the machine's count, and how many steps it took last.
-type Stand = (u64, u64, u64, u64);
+pub type Stand = (u64, u64, u64, u64);
 
 /// What comes; and where the follower stands once it went on, if it does, with the number of its fault, or 0.
-type Row = (Comes, Option<(Stand, u64)>);
+pub type Row = (Comes, Option<(Stand, u64)>);
 
 /// What comes to a store of a guest that halts at 4. A second opening of term 2 changes the chain, and a second piece at one key takes the position
 /// back. A second piece costs its own steps alone. A piece past the halt is refused.
-static STORES: [&[Row]; 3] = [
+pub static STORES: [&[Row]; 3] = [
     &[
         ((1, 0, 0, 0), None),
         ((2, 0, 3, 0), None),
@@ -83,7 +83,11 @@ static STORES: [&[Row]; 3] = [
 ];
 
 /// The frame that comes.
-fn frame_of(alloc: Global, guest: Guest, (term, place, from, to): Comes) -> Result<Frame, Fail> {
+pub fn frame_of(
+    alloc: Global,
+    guest: Guest,
+    (term, place, from, to): Comes,
+) -> Result<Frame, Fail> {
     match term {
         0 => piece_of(alloc, guest, key(1, 0, place), from, to, &[]),
         _ => opening_of(guest, term, term.saturating_sub(1), &[from]),
@@ -99,7 +103,7 @@ fn halted_at(fault: &ReplayFault) -> u64 {
 }
 
 /// The fault as a number: its own, and for a halt 200 with the hart and the last digit of the count.
-fn number_of(answer: Result<(), ReplayFault>) -> u64 {
+pub fn number_of(answer: Result<(), ReplayFault>) -> u64 {
     let Err(fault) = answer else {
         return 0;
     };
@@ -164,7 +168,11 @@ pub fn is_not_followed(alloc: Global, image: &Image, store: &Store) -> Result<bo
 }
 
 /// The book after each hart went on to this count, or halted.
-fn gone_to(alloc: Global, book: Book<Recording>, count: Count) -> Result<Book<Recording>, Memory> {
+pub fn gone_to(
+    alloc: Global,
+    book: Book<Recording>,
+    count: Count,
+) -> Result<Book<Recording>, Memory> {
     let mut book = book;
     if let Some(limits) = Counts::from_slice(&[count; 4]) {
         if book.machine().harts() == limits.harts() {

@@ -4,6 +4,8 @@
 #[cfg(test)]
 mod apart;
 #[cfg(test)]
+mod backups;
+#[cfg(test)]
 mod chances;
 #[cfg(test)]
 mod decisions;

@@ -213,7 +213,7 @@ module _ (s : StoreView) (rules : IsStore s) (term : ℕ) (base : ℕ → ℕ) w
             ]
       ]
 
-  avail_of : Avail s term base
+  pub avail_of : Avail s term base
   avail_of = record { places = λ h. (all h).0; end = λ h. (all h).1; goes = λ h. (all h).2; stops = λ h. (all h).3 }
     where
       all : (hart : ℕ) → (p e : ℕ) × Goes (pieces_of s term hart) (base hart) p e × ((x : FragmentParts) → pieces_of s term hart p ≡ One x → x.from ≡ e → ⊥)

@@ -3,7 +3,7 @@ mod Walks
 mod Cuts
 mod Stops
 mod Bounds
-mod Growth
+pub mod Growth
 mod Positions
 mod Legs
 mod Keeping

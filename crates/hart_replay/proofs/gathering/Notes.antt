@@ -1,15 +1,16 @@
 -- Notes whose greatest number is kept.
 use Rattle.std.proofs.Common.{◌≡◌, ◌≢◌, ℕ, ◌+◌, ◌<◌, ◌≤◌, max, List, [], ◌∷◌, ◌++◌, take, length, get_or, refl, sym, ap, subst, ◌∙◌, arith, slice_set}
-use Rattle.std.proofs.Common.{append-nil}
+use Rattle.std.proofs.Common.{append-nil, Bool, true}
+use Rattle.std.specs.List.{filter}
 use Rattle.std.proofs.lemmas.List.{get_or-set_same, get_or-set_other, length-set}
 use Rattle.ft_types.specs.Counts.{count_at}
 use Rattle.input_log.specs.Notes.{greatest}
 use Rattle.input_log.proofs.Notings.{greatest_append}
 use Rattle.fragment_codec.specs.declared.types.Record.{Record}
 use Rattle.fragment_codec.specs.declared.types.Record.TheVariants.{Note as NoteRecord}
-use Rattle.hart_replay.specs.Facts.{below, notes_among}
+use Rattle.hart_replay.specs.Facts.{notes_among}
 use Rattle.hart_replay.specs.machinery.Taking.{TakesNotes}
-use Rattle.hart_replay.proofs.gathering.Records.{notes_more, below_one}
+use Rattle.hart_replay.proofs.gathering.Records.{notes_more, kept_one}
 
 pub takes_nothing : (hart : ℕ) (old : List ℕ) → TakesNotes hart old [] old
 takes_nothing hart old = record { many = refl; own = omega arith; others = λ other ne. refl }
@@ -25,26 +26,26 @@ takes_both hart old mid new a b one two =
     }
 
 -- one more record, of which nothing is taken
-pub skips_note : (hart : ℕ) (old now : List ℕ) (end : ℕ) (rs : List Record) (i : ℕ) (r : Record) → i < length rs → r ≡ get_or rs i r →
-    notes_among (below end (r ∷ [])) ≡ [] → TakesNotes hart old (notes_among (below end (take i rs))) now →
-    TakesNotes hart old (notes_among (below end (take (i + 1) rs))) now
-skips_note hart old now end rs i r less is none taken =
-    subst (λ l. TakesNotes hart old l now) (sym (notes_more end rs i r less is ∙ (ap (λ l. notes_among (below end (take i rs)) ++ l) none ∙
-    append-nil (notes_among (below end (take i rs)))))) taken
+pub skips_note : (hart : ℕ) (old now : List ℕ) (p : Record → Bool) (rs : List Record) (i : ℕ) (r : Record) → i < length rs → r ≡ get_or rs i r →
+    notes_among (filter p (r ∷ [])) ≡ [] → TakesNotes hart old (notes_among (filter p (take i rs))) now →
+    TakesNotes hart old (notes_among (filter p (take (i + 1) rs))) now
+skips_note hart old now p rs i r less is none taken =
+    subst (λ l. TakesNotes hart old l now) (sym (notes_more p rs i r less is ∙ (ap (λ l. notes_among (filter p (take i rs)) ++ l) none ∙
+    append-nil (notes_among (filter p (take i rs)))))) taken
 
-module _ (hart : ℕ) (old now : List ℕ) (end : ℕ) (rs : List Record) (i at number : ℕ) (less : i < length rs)
-    (is : NoteRecord at number ≡ get_or rs i (NoteRecord at number)) (inside : at < end)
-    (taken : TakesNotes hart old (notes_among (below end (take i rs))) now) where
-  more : notes_among (below end (take (i + 1) rs)) ≡ notes_among (below end (take i rs)) ++ (at, number) ∷ []
-  more = notes_more end rs i (NoteRecord at number) less is ∙
-      ap (λ l. notes_among (below end (take i rs)) ++ notes_among l) (below_one end (NoteRecord at number) inside)
+module _ (hart : ℕ) (old now : List ℕ) (p : Record → Bool) (rs : List Record) (i at number : ℕ) (less : i < length rs)
+    (is : NoteRecord at number ≡ get_or rs i (NoteRecord at number)) (inside : p (NoteRecord at number) ≡ true)
+    (taken : TakesNotes hart old (notes_among (filter p (take i rs))) now) where
+  more : notes_among (filter p (take (i + 1) rs)) ≡ notes_among (filter p (take i rs)) ++ (at, number) ∷ []
+  more = notes_more p rs i (NoteRecord at number) less is ∙
+      ap (λ l. notes_among (filter p (take i rs)) ++ notes_among l) (kept_one p (NoteRecord at number) inside)
 
   -- one more note: the mark is then the greater of the two
   pub takes_note : (mark : ℕ) → mark ≡ max (count_at now hart) number → hart < length now →
-      TakesNotes hart old (notes_among (below end (take (i + 1) rs))) (slice_set now hart mark)
+      TakesNotes hart old (notes_among (filter p (take (i + 1) rs))) (slice_set now hart mark)
   takes_note mark is_mark within =
       subst (λ l. TakesNotes hart old l (slice_set now hart mark)) (sym more)
-      (takes_both hart old now (slice_set now hart mark) (notes_among (below end (take i rs))) ((at, number) ∷ []) taken
+      (takes_both hart old now (slice_set now hart mark) (notes_among (filter p (take i rs))) ((at, number) ∷ []) taken
       (record {
         many = length-set now hart mark;
         own = get_or-set_same now hart mark 0 within ∙ (let e : mark ≡ max (count_at now hart) (max number 0) = omega (arith, is_mark) in e);

@@ -16,7 +16,8 @@ use Rattle.hart_lease.specs.Runs.{counts_of, steps_taken, heard_in}
 use Rattle.lease_rounds.specs.Leading as rounds
 use Rattle.lease_rounds.specs.Leading.{IsIdle, IsFreeAlone, Fills, NoneYet, Steps, Takes, GoesOn, Rounds}
 use Rattle.lease_rounds.proofs.Lending.{hart_at}
-use Rattle.lease_rounds.proofs.GoingOn.{IsAhead, HasGoneOn, AsFar, has_gone_on, has_fewer, round_far, steps_left}
+use Rattle.lease_rounds.specs.machinery.StepsLeft.{steps_left}
+use Rattle.lease_rounds.proofs.GoingOn.{IsAhead, HasGoneOn, AsFar, has_gone_on, has_fewer, round_far}
 use Rattle.hart_replay.specs.declared.plans.PlannedLeg.{PlannedLeg}
 use Rattle.hart_replay.specs.Leading.{IsHeld, IsLeading, leg_of, HasStopped}
 
@@ -43,12 +44,12 @@ free_alone r leases asked none other holder =
     let no : false ≡ true = ap (λ (o : Option OpenView). stands_against (right_of o asked.page) asked.want) (sym (none other holder.0)) ∙ holder.1 in
     cc
 
-ahead : IsAhead replaying
+pub ahead : IsAhead replaying
 ahead r s hart count lent lt goes = (goes.1.stop.above, goes.1.stop.within)
 
 -- ---- a lease
 
-filled_mode : (b : BookView Leg) (l : LeaseView) (c : BookView Leg) (k : LeaseView) → Fills replaying b l c k → c.mode ≡ b.mode
+pub filled_mode : (b : BookView Leg) (l : LeaseView) (c : BookView Leg) (k : LeaseView) → Fills replaying b l c k → c.mode ≡ b.mode
 filled_mode b l c k NoneYet = refl
 filled_mode b l c k (Steps {c = now} {k = before} n fills room t) = filled_mode b l c before fills
 filled_mode b l c k (Takes {c = before} {k = asker} d n fills room given) = given.mode ∙ filled_mode b l before asker fills
@@ -61,7 +62,7 @@ pub record IsFurther (b c : BookView Leg) : Type 0 where
   pub harts : length c.machine.harts ≡ length b.machine.harts
   pub fewer : steps_left b.mode.ends c.machine.harts < steps_left b.mode.ends b.machine.harts
 
-further : (hart : ℕ) (b d : BookView Leg) → IsIdle b → GoesOn replaying told.Nothing hart b d → IsFurther b d
+pub further : (hart : ℕ) (b d : BookView Leg) → IsIdle b → GoesOn replaying told.Nothing hart b d → IsFurther b d
 further hart b d idle on =
     let gone : HasGoneOn replaying hart b d = has_gone_on replaying told.Nothing hart b d on ahead idle (omega arith) in
     record {
@@ -88,7 +89,7 @@ further_on b c d p q =
 
 -- ---- rounds
 
-held : (b : BookView Leg) (hart : ℕ) → hart < length b.machine.harts → rounds.IsHeld replaying b hart → IsHeld b hart
+pub held : (b : BookView Leg) (hart : ℕ) → hart < length b.machine.harts → rounds.IsHeld replaying b hart → IsHeld b hart
 held b hart within held_there =
     let (h, there) = hart_at b.machine.harts hart within in
     elim (held_there h there) [

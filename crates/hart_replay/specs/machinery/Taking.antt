@@ -1,5 +1,5 @@
 -- What the facts of a leg are gathered into: private words.
-use Rattle.std.specs.Prelude.{ℕ, ◌≡◌, ◌≢◌, ◌≤◌, ◌<◌, ◌++◌, List, All, length, max}
+use Rattle.std.specs.Prelude.{ℕ, ◌≡◌, ◌≢◌, ◌≤◌, ◌<◌, ◌++◌, ◌&&◌, Bool, List, All, filter, length, max, nat_le, nat_lt}
 use Rattle.interleaving.specs.Log.{Edge}
 use Rattle.interleaving.specs.Cuts.{IsEnough}
 use Rattle.edge_log.specs.EdgeLog.{Edges, row_of, edges_of, start_of}
@@ -7,18 +7,31 @@ use Rattle.input_log.specs.declared.Input.{Input}
 use Rattle.input_log.specs.Inputs.{inputs_of}
 use Rattle.input_log.specs.Notes.{greatest}
 use Rattle.ft_types.specs.Counts.{count_at}
-use Rattle.fragment_codec.specs.Rules.{FragmentParts}
+use Rattle.fragment_codec.specs.declared.types.Record.{Record}
+use Rattle.fragment_codec.specs.Rules.{FragmentParts, count_of}
 use Rattle.log_join.specs.Cells.{One}
 use Rattle.log_join.specs.Stores.{StoreView}
 use Rattle.closed_cut.specs.Position.{pieces_of, Goes}
 use Rattle.hart_replay.specs.declared.plans.PlannedLeg.{PlannedLeg}
 use Rattle.hart_replay.specs.Facts.{records_of, below, edges_among, inputs_among, notes_among}
 
--- these edges were added to a log, all of them of one hart
-pub record TakesEdges (hart : ℕ) (old : Edges) (added : List Edge) (new : Edges) : Type 0 where
+-- the count is the first one or later, and below the end
+abbrev pub is_between : ℕ → ℕ → ℕ → Bool
+is_between from end count = nat_le from count && nat_lt count end
+
+-- the records at such counts
+abbrev pub between : ℕ → ℕ → List Record → List Record
+between from end records = filter (λ fact. is_between from end (count_of fact)) records
+
+-- of these edges, all of one hart, those that the counts do not meet were added to a log
+pub record TakesUnmet (hart : ℕ) (met : ℕ → ℕ) (old : Edges) (added : List Edge) (new : Edges) : Type 0 where
   pub start : new.start ≡ old.start
   pub others : (other : ℕ) → other ≢ hart → row_of new other ≡ row_of old other
-  pub enough : (all : List Edge) → IsEnough (edges_of old) all (start_of old) → IsEnough (edges_of new) (all ++ added) (start_of old)
+  pub enough : (all : List Edge) → IsEnough (edges_of old) all met → IsEnough (edges_of new) (all ++ added) met
+
+-- those that the log's start does not meet
+abbrev pub TakesEdges : ℕ → Edges → List Edge → Edges → Type 0
+TakesEdges hart old added new = TakesUnmet hart (start_of old) old added new
 
 -- a hart's edges are of no step after this count
 abbrev pub EdgesEndBy : Edges → ℕ → ℕ → Type 0

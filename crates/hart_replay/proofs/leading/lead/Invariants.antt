@@ -1,4 +1,4 @@
-use Rattle.lease_rounds.proofs.GoingOn.{steps_left}
+use Rattle.lease_rounds.specs.machinery.StepsLeft.{steps_left}
 use Rattle.hart_replay.specs.Leading.{IsLeading, leg_of}
 use Rattle.hart_replay.proofs.leading.lead.Given as goal
 

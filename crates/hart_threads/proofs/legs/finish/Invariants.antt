@@ -1,4 +1,4 @@
-use Rattle.lease_rounds.proofs.GoingOn.{steps_left}
+use Rattle.lease_rounds.specs.machinery.StepsLeft.{steps_left}
 use Rattle.hart_replay.specs.Leading.{IsLeading}
 use Rattle.hart_threads.proofs.legs.finish.Given as goal
 

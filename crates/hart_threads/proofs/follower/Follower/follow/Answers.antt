@@ -5,9 +5,9 @@ use Rattle.guest_image.specs.Image.{ImageContents, guest_of}
 use Rattle.guest_image.specs.Machine.{boot_machine}
 use Rattle.hart_replay.specs.declared.plans.PlannedLeg.{PlannedLeg}
 use Rattle.hart_replay.specs.Plans.{IsPlan}
-use Rattle.hart_threads.specs.machinery.Going.{IsAt}
+use Rattle.hart_replay.specs.machinery.Going.{IsAt}
 use Rattle.hart_threads.specs.Following.{FollowerView}
-use Rattle.hart_threads.proofs.Along.{boots_at, follows_at}
+use Rattle.hart_replay.proofs.Along.{boots_at, follows_at}
 use Rattle.hart_threads.proofs.follower.Follower.follow.Goals as goal
 
 pub lead_all-requires-clause-at : goal.lead_all-requires-clause-at

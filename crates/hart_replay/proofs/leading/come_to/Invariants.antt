@@ -1,5 +1,0 @@
-use Rattle.hart_replay.proofs.rounds.Ends.{Looked}
-use Rattle.hart_replay.proofs.leading.come_to.Given as goal
-
-abbrev pub invariant-loop-number : goal.invariant-loop-number
-invariant-loop-number l = Looked l.waits l.number l.machine l.ends

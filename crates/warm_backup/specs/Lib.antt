@@ -1,0 +1,2 @@
+pub mod Backups
+pub mod machinery

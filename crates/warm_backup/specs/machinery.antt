@@ -1,0 +1,5 @@
+-- Files that need no belief: contracts of private functions and the views of types name them, and only proofs use what they say.
+pub mod Leading
+pub mod Growing
+pub mod Cutting
+pub mod Working
