@@ -127,7 +127,7 @@ fn add_term(
     let mut sealed = Sealed::new(base);
     let mut next = book.machine().copy()?;
     for round in 1..5u64 {
-        book = gone_to(alloc, book, from.saturating_add(round * stride))?;
+        book = gone_to(alloc, book, from.saturating_add(round.wrapping_mul(stride)))?;
         let mut more = cut(alloc, image.guest(), &book, term, &mut sealed)?;
         frames.append(&mut more)?;
         if round == 2 {
