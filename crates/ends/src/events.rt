@@ -6,13 +6,13 @@ use crossbeam_channel::TrySendError;
 use ft_types::Memory;
 use std::alloc::{AllocError, Global};
 use std::sync::{Arc, Wait};
-use wire::Line;
+use wire::LineText;
 
 /// What came of an input or an output.
 #[derive(Drop)]
 pub enum Event {
     /// The input with this number brought lines, all that ended in a piece, which stand here without their line feeds.
-    Lines(usize, Vec<Line>),
+    Lines(usize, Vec<LineText>),
     /// An input is at its end, for good.
     Ended,
     /// The process can't go on.

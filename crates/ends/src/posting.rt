@@ -22,7 +22,8 @@ const GAP: u64 = 100;
 /// How many pieces wait for an output that keeps the last one, at the most.
 const ROOM: usize = 512;
 
-/// How many bytes an empty FIFO takes without waiting, at the least (POSIX.1-2017, `PIPE_BUF` of Linux).
+/// How many bytes a FIFO holds at the least, however they came there: it has two pages or more (pipe(7) of Linux, "Pipe capacity"), and the first of
+/// them may have been read in part.
 const ROOM_BYTES: usize = 4096;
 
 /// With what of the pieces before a new connection begins.
@@ -200,6 +201,10 @@ pub struct Post {
     left: u64,
     /// How many of them whoever reads is known to have read.
     read: u64,
+    /// How many bytes the others have.
+    unread: usize,
+    /// How many bytes the last one has.
+    last: usize,
 }
 
 impl Post {
@@ -214,23 +219,25 @@ impl Post {
     /// Has a piece written.
     fn leave<R: Wait>(&mut self, rt: &R, piece: &Piece) -> Result<(), Memory> {
         let piece = Arc::try_clone(piece)?;
+        self.last = piece.len();
+        self.unread = self.unread.saturating_add(self.last);
         match self.write_now(rt, piece)? {
             Some(piece) => self.order(rt, Order::Write(piece)),
             None => Ok(()),
         }
     }
 
-    /// Writes a piece at once, where whoever reads has read all that was written before, so that there is room for it and no thread has to be woken.
-    /// Otherwise it comes back.
+    /// Writes a piece at once, where there is room for it beside what whoever reads has not read yet, so that no thread has to be woken. Otherwise it
+    /// comes back.
     fn write_now<R: Wait>(&mut self, rt: &R, piece: Piece) -> Result<Option<Piece>, Memory> {
-        if piece.len() > ROOM_BYTES || self.read != self.left {
+        if self.unread > ROOM_BYTES {
             return Ok(Some(piece));
         }
         let Some(mut connection) = self.connection.try_lock() else {
             return Ok(Some(piece));
         };
-        let is_read = connection.done == self.left && connection.before < self.read;
-        if !is_read || connection.file.is_none() {
+        let is_next = connection.done == self.left && connection.before < self.read;
+        if !is_next || connection.file.is_none() {
             return Ok(Some(piece));
         }
         let written = connection.obey(Order::Write(piece));
@@ -245,6 +252,13 @@ impl Post {
     /// Notes that whoever reads has read all that was left so far.
     pub fn note_read(&mut self) {
         self.read = self.left;
+        self.unread = 0;
+    }
+
+    /// Notes that whoever reads has read all that was left before the last.
+    pub fn note_read_before(&mut self) {
+        self.read = self.read.max(self.left.saturating_sub(1));
+        self.unread = self.unread.min(self.last);
     }
 
     /// Has the connection begin anew.
@@ -289,6 +303,8 @@ fn begin_post<H: Host, T: Taker<H>>(
         connection: Arc::try_clone(&connection)?,
         left: 0,
         read: 0,
+        unread: 0,
+        last: 0,
     };
     let output = Output {
         number,

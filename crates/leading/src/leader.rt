@@ -37,9 +37,10 @@ use term_gate::TermGate;
 use wire::{Acknowledgement, Answer, Request};
 
 /// A primary of a term, with the gate of its term, the inputs that wait, and what went out.
+/// Its greater parts are boxed: it is moved from round to round.
 pub struct Leader {
-    primary: Primary,
-    gate: TermGate,
+    primary: Box<Primary>,
+    gate: Box<TermGate>,
     /// The inputs that wait for each hart.
     queues: Vec<Queue>,
     /// The outputs that went out.
@@ -71,10 +72,30 @@ impl Model for Leader {
 
     ghost Value = { LeaderView };
 
-    ghost view = { λ l. record { primary = l.primary; gate = l.gate; queues = l.queues.items; released = l.released.items } };
+    ghost view = { λ l. record { primary = l.primary.value; gate = l.gate.value; queues = l.queues.items; released = l.released.items } };
 
-    ghost invariant = { λ l. IsSound l.primary l.gate l.queues.items × (l.gate.gate.keepers ≡ l.quorum.keepers)
-        × ((hart : ℕ) → mark_at l.gate.gate hart ≡ count_at l.marks hart) };
+    ghost invariant = { λ l. IsSound l.primary.value l.gate.value l.queues.items × (l.gate.value.gate.keepers ≡ l.quorum.keepers)
+        × ((hart : ℕ) → mark_at l.gate.value.gate hart ≡ count_at l.marks hart) };
+}
+
+/// A primary, in a box.
+fn boxed(alloc: Global, primary: Primary) -> Result<Box<Primary>, Memory>
+    ensures { IfOk result (λ p. p.value ≡ primary) }
+{
+    Ok(Box::new(alloc, primary)?)
+}
+
+/// A primary and a gate, each in a box.
+fn boxed_both(
+    alloc: Global,
+    primary: Primary,
+    gate: TermGate,
+) -> Result<(Box<Primary>, Box<TermGate>), Memory>
+    ensures { IfOk result (λ r. (r.0.value ≡ primary) × (r.1.value ≡ gate)) }
+{
+    let primary = boxed(alloc, primary)?;
+    let gate = Box::new(alloc, gate)?;
+    Ok((primary, gate))
 }
 
 impl Leader {
@@ -98,6 +119,9 @@ impl Leader {
             return Err(GivenFault::Live(LiveFault::Memory));
         };
         let opening = primary.opening.copy();
+        let Ok((primary, gate)) = boxed_both(alloc, primary, gate) else {
+            return Err(GivenFault::Live(LiveFault::Memory));
+        };
         let leader = Leader {
             primary,
             gate,
@@ -289,21 +313,23 @@ impl Leader {
         ensures released { IfOk result (λ l. l.released ≡ self.released) }
     {
         let Leader {
-            mut primary,
+            primary,
             mut gate,
             mut queues,
             released,
             quorum,
             marks,
         } = self;
+        let mut primary = Box::into_inner(primary);
         // proof: its journal leads to its machine, before and after.
         has_run(&primary.book);
         hand_all(&mut primary, &mut queues, spacing)?;
         let led = go_on(alloc, primary, steps)?;
         has_run(&led.book);
         offer_all(&mut gate, led.book.machine())?;
+        let primary = boxed(alloc, led)?;
         Ok(Leader {
-            primary: led,
+            primary,
             gate,
             queues,
             released,

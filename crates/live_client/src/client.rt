@@ -16,7 +16,7 @@ use std::io;
 use std::io::Write;
 use std::sync::Arc;
 use std::time::{Duration, Instant};
-use wire::{Line, Request, request_line};
+use wire::{LineText, Request, request_line};
 
 /// How many pieces of answers wait at the most.
 const ROOM: usize = 512;
@@ -153,7 +153,7 @@ impl Client {
     }
 
     /// Hears an answer.
-    fn hear<H: Host>(&mut self, rt: &H, line: &Line) -> Result<(), Fault> {
+    fn hear<H: Host>(&mut self, rt: &H, line: &LineText) -> Result<(), Fault> {
         match self.talk.hear(line.as_slice()) {
             Heard::New => {
                 self.last = now(rt)?;

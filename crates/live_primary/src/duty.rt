@@ -14,7 +14,7 @@ use live_words::PrimaryWords;
 use primary::Released;
 use std::alloc::Global;
 use std::sync::{Arc, Wait};
-use wire::{Answer, Line, Request, read_acknowledgement, read_again, read_request};
+use wire::{Answer, LineText, Request, read_acknowledgement, read_again, read_request};
 
 /// How many events wait at the most, and are taken between two rounds.
 const ROOM: usize = 512;
@@ -48,11 +48,11 @@ struct Duty {
     next: Next,
 }
 
-/// A primary that leads, with all that it needs for that. It stays where it is: it is large.
+/// A primary that leads, with all that it needs for that.
 #[derive(Drop)]
 pub(crate) struct Helm {
     /// None while rounds are led, and where memory was refused in one.
-    leader: Option<Box<Leader>>,
+    leader: Option<Leader>,
     duty: Duty,
     office: Office,
 }
@@ -89,7 +89,7 @@ fn take_request<R: AllocGlobal + Wait>(
     leader: &mut Leader,
     duty: &mut Duty,
     office: &mut Office,
-    line: &Line,
+    line: &LineText,
 ) -> Result<(), Memory> {
     let Some(request) = read_request(duty.guest.harts(), line.as_slice()) else {
         return Ok(());
@@ -118,7 +118,7 @@ fn take_said<R: AllocGlobal + Wait>(
     leader: &mut Leader,
     duty: &mut Duty,
     office: &mut Office,
-    line: &Line,
+    line: &LineText,
 ) -> Result<(), Memory> {
     if let Some(acknowledgement) = read_acknowledgement(&duty.guest, line.as_slice()) {
         leader.acknowledge(rt.alloc(), &acknowledgement)?;
@@ -207,8 +207,7 @@ impl Helm {
             return Err(Memory);
         };
         let Duty { steps, spacing, .. } = self.duty;
-        let leader = rounds(rt.alloc(), Box::into_inner(leader), steps, spacing)?;
-        let mut leader = Box::new(rt.alloc(), leader)?;
+        let mut leader = rounds(rt.alloc(), leader, steps, spacing)?;
         self.duty.spacing = Spacing::Usual;
         if is_sent(self.duty.blind, self.duty.steps, leader.kept()) {
             send_new(rt, &mut leader, &mut self.office)?;
@@ -312,7 +311,7 @@ fn lead_all<H: Host>(rt: &H, words: &PrimaryWords<'_>) -> Result<(), Fault> {
         next: Next::Lead,
     };
     let helm = Helm {
-        leader: Some(Box::new(rt.alloc(), leader)?),
+        leader: Some(leader),
         duty,
         office,
     };

@@ -22,6 +22,8 @@ pub(crate) struct Office {
     last: Option<Hart>,
     /// The counts to which the frames go that were sent last; none before the first.
     sent: Option<Counts>,
+    /// The same of those that were sent before them.
+    sent_before: Option<Counts>,
 }
 
 /// Whether each hart of the first is at least where it is in the second.
@@ -33,6 +35,14 @@ fn reaches(counts: &Counts, others: &Counts) -> bool {
         }
     }
     true
+}
+
+/// Whether what was acknowledged reaches what was sent, if anything was.
+fn has_come_to(acknowledgement: &Acknowledgement, sent: &Option<Counts>) -> bool {
+    match sent {
+        Some(sent) => reaches(&acknowledgement.counts, sent),
+        None => false,
+    }
 }
 
 /// No answer of so many harts was told.
@@ -74,6 +84,7 @@ impl Office {
             told: untold(rt.alloc(), usize::from(HART_LIMIT))?,
             last: None,
             sent: None,
+            sent_before: None,
         };
         Ok((office, threads))
     }
@@ -88,20 +99,22 @@ impl Office {
         if frames.is_empty() {
             return Ok(());
         }
-        self.sent = Some(counts);
+        self.sent_before = self.sent.replace(counts);
         leave_all(rt, &mut self.keepers, frames)
     }
 
-    /// Hears what a keeper acknowledged in this term. One that has acknowledged all that was sent has read it, by a path of its own.
+    /// Hears what a keeper acknowledged in this term. One that has acknowledged what was sent has read it, by a path of its own: all, or all but the last.
     pub(crate) fn hear(&mut self, term: Term, acknowledgement: &Acknowledgement) {
-        let Some(sent) = &self.sent else {
-            return;
-        };
-        if acknowledgement.term != term || !reaches(&acknowledgement.counts, sent) {
+        if acknowledgement.term != term {
             return;
         }
-        if let Some(post) = self.keepers.get_mut(acknowledgement.keeper.index()) {
+        let Some(post) = self.keepers.get_mut(acknowledgement.keeper.index()) else {
+            return;
+        };
+        if has_come_to(acknowledgement, &self.sent) {
             post.note_read();
+        } else if has_come_to(acknowledgement, &self.sent_before) {
+            post.note_read_before();
         }
     }
 

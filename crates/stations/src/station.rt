@@ -47,6 +47,13 @@ fn hold(alloc: Global, guest: Guest, frames: Vec<Frame>) -> Result<Tracked, LogF
     Ok(held)
 }
 
+/// A store, in a box.
+fn boxed(alloc: Global, held: Tracked) -> Result<Box<Tracked>, Memory>
+    ensures { IfOk result (λ b. b.value ≡ held) }
+{
+    Ok(Box::new(alloc, held)?)
+}
+
 /// Adds bytes for which there is room.
 fn add(fresh: &mut Vec<u8>, bytes: &[u8])
     requires { vec_len fresh.old + length bytes.now ≤ vec_capacity fresh.old }
@@ -70,7 +77,7 @@ fn acknowledged(held: &Tracked, fence: Term) -> Option<Position>
 /// A keeper over its log: the store of its frames, and the bytes of those that are not in the log yet.
 #[derive(Drop)]
 pub struct KeeperStation {
-    held: Tracked,
+    held: Box<Tracked>,
     fresh: Vec<u8>,
 }
 
@@ -84,7 +91,7 @@ impl Model for KeeperStation {
 
     ghost coded = { Prim.hlevel (codes, coded_store) };
 
-    ghost view = { λ s. record { store = s.held; fresh = s.fresh.items } };
+    ghost view = { λ s. record { store = s.held.value; fresh = s.fresh.items } };
 }
 
 impl KeeperStation {
@@ -108,6 +115,7 @@ impl KeeperStation {
             return Err(LogFault::Frame(fault));
         }
         let held = hold(alloc, guest, frames)?;
+        let held = boxed(alloc, held)?;
         files.cut(size)?;
         Ok(KeeperStation {
             held,

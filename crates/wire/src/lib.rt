@@ -13,6 +13,7 @@ mod laws;
 mod line;
 mod requests;
 mod seals;
+mod text;
 
 pub use acknowledgements::{Acknowledgement, acknowledgement_line, read_acknowledgement};
 pub use again::{again_line, read_again};
@@ -23,3 +24,4 @@ pub use handed::{Handed, handed_line, read_handed};
 pub use laws::fence_is_added;
 pub use line::{LINE_LIMIT, Line};
 pub use requests::{Request, read_request, request_line};
+pub use text::LineText;

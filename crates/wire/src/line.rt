@@ -47,14 +47,11 @@ impl Line {
         }
     }
 
-    /// The same line.
-    pub(crate) fn copy(&self) -> Line
-        ensures { result ≡ self.now }
+    /// Takes all bytes out.
+    pub(crate) fn clear(&mut self)
+        ensures { self.new ≡ [] }
     {
-        Line {
-            bytes: self.bytes,
-            len: self.len,
-        }
+        self.len = 0;
     }
 
     /// The number of its bytes.

@@ -2,18 +2,18 @@ use Rattle.std.proofs.Common.{refl, ◌∷◌, [], ◌++◌, sym, ◌∙◌, ari
 use Rattle.std.proofs.lemmas.List.{take_all, take_at}
 use Rattle.wire.specs.declared.line.TheConstants.{LINE_LIMIT}
 use Rattle.wire.proofs.feed.take.Goals as goal
-use Rattle.wire.proofs.feed.take.Goals.{then-len-lt-LINE_LIMIT-2, else-len-lt-LINE_LIMIT-2}
+use Rattle.wire.proofs.feed.take.Goals.{then-len-lt-LINE_LIMIT, else-len-lt-LINE_LIMIT}
 
 pub returns-clause-goes_on : goal.returns-clause-goes_on
 returns-clause-goes_on c = λ other.
     let more = c.args.held.now ++ c.args.byte ∷ [] in
     let long = length-append c.args.held.now (c.args.byte ∷ []) in (
-      elim c.if-len-lt-LINE_LIMIT-2.branch [
-        | then-len-lt-LINE_LIMIT-2 w ↦ w.held-is ∙ w.push.ensures.bytes
-            ∙ sym (take_all LINE_LIMIT more (omega (arith, long, c.len-2.ensures.value, w.if-len-lt-LINE_LIMIT-2.true)))
-        | else-len-lt-LINE_LIMIT-2 w ↦ w.held-is
+      elim c.if-len-lt-LINE_LIMIT.branch [
+        | then-len-lt-LINE_LIMIT w ↦ w.held-is ∙ w.push.ensures.bytes
+            ∙ sym (take_all LINE_LIMIT more (omega (arith, long, c.len.ensures.value, w.if-len-lt-LINE_LIMIT.true)))
+        | else-len-lt-LINE_LIMIT w ↦ w.held-is
             ∙ sym (take_at c.args.held.now (c.args.byte ∷ []) LINE_LIMIT
-            (omega (arith, c.len-2.ensures.value, c.len-2.ensures.limit, w.if-len-lt-LINE_LIMIT-2.false)))
+            (omega (arith, c.len.ensures.value, c.len.ensures.limit, w.if-len-lt-LINE_LIMIT.false)))
       ],
       refl,
     )

@@ -9,14 +9,14 @@ use Rattle.leading.proofs.Releasing.{goes, stays, marks_stay, released_sound}
 use Rattle.leading.proofs.leader.Leader.release.Goals as goal
 
 pub release-requires : goal.release-requires
-release-requires c = c.self.invariant.0.offered
+release-requires c = rw (c.deref_mut.ensures.value, c.deref_mut-2.ensures.value) c.self.invariant.0.offered
 
 pub invariant_of-self : goal.invariant_of-self
 invariant_of-self c =
-    let p = c.self.inside.primary in
-    let g = c.self.inside.gate in
+    let p = c.self.inside.primary.value in
+    let g = c.self.inside.gate.value in
     let h = c.release.new.gate in
-    let does = c.release.ensures in (
+    let does = rw (c.deref_mut.ensures.value, c.deref_mut-2.ensures.value) at c.release.ensures in (
       released_sound p c.release.new.self g h c.self.inside.queues.items c.self.inside.released.items c.release.new.released.items c.release.result does.goes
           does.room does.book does.rest does.gate does.offered c.self.invariant.0,
       ap (λ (x : TermGateView). x.gate.keepers) does.gate ∙ c.self.invariant.1,
@@ -30,20 +30,23 @@ view_of p g queues released = record { primary = p; gate = g; queues = queues; r
 
 pub returns-clause-lets : goal.returns-clause-lets
 returns-clause-lets c =
-    let old = view_of c.self.inside.primary c.self.inside.gate c.self.inside.queues.items c.self.inside.released.items in
+    let does = rw (c.deref_mut.ensures.value, c.deref_mut-2.ensures.value) at c.release.ensures in
+    let old = view_of c.self.inside.primary.value c.self.inside.gate.value c.self.inside.queues.items c.self.inside.released.items in
     let new = view_of c.release.new.self c.release.new.gate c.self.inside.queues.items c.release.new.released.items in
-    subst (λ (o : LeaderView). OnOk c.release.result (LetsGo o o.gate new)) c.self.view_is (goes old new c.release.result c.release.ensures.goes)
+    subst (λ (o : LeaderView). OnOk c.release.result (LetsGo o o.gate new)) c.self.view_is (goes old new c.release.result does.goes)
 
 pub returns-clause-nothing : goal.returns-clause-nothing
 returns-clause-nothing c =
-    let old = view_of c.self.inside.primary c.self.inside.gate c.self.inside.queues.items c.self.inside.released.items in
+    let does = rw (c.deref_mut.ensures.value, c.deref_mut-2.ensures.value) at c.release.ensures in
+    let old = view_of c.self.inside.primary.value c.self.inside.gate.value c.self.inside.queues.items c.self.inside.released.items in
     let new = view_of c.release.new.self c.release.new.gate c.self.inside.queues.items c.release.new.released.items in
     subst (λ (o : LeaderView). OnErr c.release.result (LetsNothingGo o o.gate new)) c.self.view_is
-    (stays old new c.release.result c.release.ensures.was c.release.ensures.none c.release.ensures.room c.release.ensures.book)
+    (stays old new c.release.result does.was does.none does.room does.book)
 
 pub returns-clause-rest : goal.returns-clause-rest
 returns-clause-rest c =
+    let does = rw (c.deref_mut.ensures.value, c.deref_mut-2.ensures.value) at c.release.ensures in
     let n = view_of c.release.new.self c.release.new.gate c.self.inside.queues.items c.release.new.released.items in
     subst
     (λ (o : LeaderView). n ≡ record o { primary = record o.primary { book = n.primary.book }; gate = n.gate; released = n.released }) c.self.view_is
-    (ap (λ (p : Primary). let x : LeaderView = record n { primary = p } in x) c.release.ensures.rest)
+    (ap (λ (p : Primary). let x : LeaderView = record n { primary = p } in x) does.rest)

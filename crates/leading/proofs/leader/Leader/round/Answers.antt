@@ -13,21 +13,21 @@ use Rattle.leading.proofs.leader.Leader.round.Goals as goal
 pub offer_all-requires : goal.offer_all-requires
 offer_all-requires c =
     let s = c.self.invariant.0 in
-    let given = c.in_ok-hand_all.ensures in
+    let given = rw c.into_inner-primary.ensures at c.in_ok-hand_all.ensures in
     let led = c.in_ok-led.ensures in
-    subst (λ (m : MachineState). AreOffered c.self.inside.gate.gate m) (sym c.machine.ensures.value)
-    (offered c.self.inside.primary c.hand_all.new.primary c.self.inside.gate c.self.inside.queues.items s given.goes_on given.rest given.limits
-    c.args.steps c.in_ok-led.led led.on c.has_run.ensures c.has_run-2.ensures led.opening led.sealed)
+    rw c.deref_mut.ensures.value (subst (λ (m : MachineState). AreOffered c.self.inside.gate.value.gate m) (sym c.machine.ensures.value)
+    (offered c.self.inside.primary.value c.hand_all.new.primary c.self.inside.gate.value c.self.inside.queues.items s given.goes_on given.rest given.limits
+    c.args.steps c.in_ok-led.led led.on (rw c.into_inner-primary.ensures at c.has_run.ensures) c.has_run-2.ensures led.opening led.sealed))
 
 pub invariant_of-result : goal.invariant_of-result
 invariant_of-result c =
-    let given = c.in_ok-hand_all.ensures in
+    let given = rw c.into_inner-primary.ensures at c.in_ok-hand_all.ensures in
     let led = c.in_ok-led.ensures in
     let h = c.offer_all.new.gate in
-    let more = c.in_ok-offer_all.ensures.more in
-    let all = subst (λ (m : MachineState). AreAllOffered h.gate m) c.machine.ensures.value c.in_ok-offer_all.ensures.all in (
-      sound c.self.inside.primary c.hand_all.new.primary c.self.inside.gate c.self.inside.queues.items c.self.invariant.0 given.goes_on given.rest
-          given.limits c.args.steps c.in_ok-led.led led.on c.has_run.ensures c.has_run-2.ensures led.opening led.sealed h c.hand_all.new.queues.items more
+    let more = rw c.deref_mut.ensures.value at c.in_ok-offer_all.ensures.more in
+    let all = subst (λ (m : MachineState). AreAllOffered h.gate m) c.machine.ensures.value c.in_ok-offer_all.ensures.all in rw c.in_ok-primary.ensures (
+      sound c.self.inside.primary.value c.hand_all.new.primary c.self.inside.gate.value c.self.inside.queues.items c.self.invariant.0 given.goes_on given.rest
+          given.limits c.args.steps c.in_ok-led.led led.on (rw c.into_inner-primary.ensures at c.has_run.ensures) c.has_run-2.ensures led.opening led.sealed h c.hand_all.new.queues.items more
           all given.many,
       ap (λ (x : TermGateView). x.gate.keepers) more.rest ∙ c.self.invariant.1,
       λ hart. (more.lines hart).mark ∙ c.self.invariant.2 hart,
@@ -35,10 +35,10 @@ invariant_of-result c =
 
 pub returns-clause-round : goal.returns-clause-round
 returns-clause-round c =
-    let given = c.in_ok-hand_all.ensures in
+    let given = rw c.into_inner-primary.ensures at c.in_ok-hand_all.ensures in
     let old : LeaderView = record {
-      primary = c.self.inside.primary;
-      gate = c.self.inside.gate;
+      primary = c.self.inside.primary.value;
+      gate = c.self.inside.gate.value;
       queues = c.self.inside.queues.items;
       released = c.self.inside.released.items;
     } in
@@ -49,13 +49,13 @@ returns-clause-round c =
       released = c.self.inside.released.items;
     } in
     let q = c.hand_all.new.primary.book in
-    subst (λ (o : LeaderView). IsRound c.args.spacing c.args.steps o new) c.self.view_is
+    rw c.in_ok-primary.ensures (subst (λ (o : LeaderView). IsRound c.args.spacing c.args.steps o new) c.self.view_is
     (record {
       given = q;
       handed = given.goes_on;
       book = ap (λ (x : Primary). x.book) given.rest
-          ∙ ap (λ (m : RecordingView). let x : BookView RecordingView = record c.self.inside.primary.book { mode = m } in x) given.waiting;
+          ∙ ap (λ (m : RecordingView). let x : BookView RecordingView = record c.self.inside.primary.value.book { mode = m } in x) given.waiting;
       bells = given.bells;
       hands = given.hands;
       on = c.in_ok-led.ensures.on;
-    })
+    }))

@@ -20,10 +20,10 @@ pub returns-clause-acts : goal.returns-clause-acts
 returns-clause-acts g c =
     let acts = g.F.KeeperFiles.acts in
     let same : c.deref.result.now ≡ c.args.self.fresh = c.deref.ensures.value ∙ ap (λ (s : StationView). s.fresh) c.self.view_is in
-    let store : c.self.inside.held ≡ c.args.self.store = ap (λ (s : StationView). s.store) c.self.view_is in (
+    let store : c.self.inside.held.value ≡ c.args.self.store = ap (λ (s : StationView). s.store) c.self.view_is in (
       c.in_ok-fence.fence,
       subst (λ (fresh : List ℕ). Does (acts c.args.files.now) (acts c.last_fence.new.self) (Added fresh ∷ Synced ∷ SawFence c.in_ok-fence.fence ∷ [])) same
           (does_three (acts c.args.files.now) (acts c.add.new.self) (acts c.sync.new.self) (acts c.last_fence.new.self) (Added c.deref.result.now) Synced
           (SawFence c.in_ok-fence.fence) c.in_ok-add.ensures.ok c.in_ok-sync.ensures.ok c.in_ok-fence.ensures.ok),
-      subst (λ (s : StoreView). Answers s c.in_ok-fence.fence c.acknowledged-acknowledged.result) store c.acknowledged-acknowledged.ensures.answers,
+      subst (λ (s : StoreView). Answers s c.in_ok-fence.fence c.acknowledged-acknowledged.result) store (rw c.deref-2.ensures at c.acknowledged-acknowledged.ensures.answers),
     )
