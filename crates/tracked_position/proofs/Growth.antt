@@ -5,7 +5,7 @@ use Rattle.std.specs.List.{filter_map}
 use Rattle.std.specs.Ordering.{nat_cmp, eq_by_cmp}
 use Rattle.std.specs.declared.cmp.Ordering.{Ordering}
 use Rattle.std.specs.declared.cmp.Ordering.TheVariants.{Equal}
-use Rattle.std.specs.Cmp.{IsTotalOrder, Equal-is}
+use Rattle.std.specs.Cmp.{IsTotalOrder, Equal-is, eq_by_cmp_equiv}
 use Rattle.std.specs.FinMap as finite
 use Rattle.interleaving.specs.Log.{Edge as EdgeOfTheory}
 use Rattle.edge_log.specs.EdgeLog.{edge_as}
@@ -40,6 +40,7 @@ pub record HasOneMore (s n : StoreView) (piece : FragmentParts) : Type 0 where
   pub kept : (key : Key) (x : FragmentParts) → fragment_at s key ≡ One x → fragment_at n key ≡ One x
   pub others : (key : Key) → (key ≡ piece.key → ⊥) → fragment_at n key ≡ fragment_at s key
   pub fresh : fragment_at s piece.key ≡ Absent
+  pub there : fragment_at n piece.key ≡ One piece
   pub back : (key : Key) (x : FragmentParts) → fragment_at n key ≡ One x → (fragment_at s key ≡ One x) ⊎ ((key ≡ piece.key) × (x ≡ piece))
 
 -- a map of one content has that at its key, and nothing elsewhere
@@ -58,6 +59,13 @@ alone_cell {K} {X} {R} total exact k q x = of (eq_by_cmp R q k) refl
         ((q ≡ k) × (cell_of (finite.get (finite.insert (finite.empty {R = R}) k (Some x)) q) ≡ One x))
     of true t = inr (exact q k ((Equal-is (R q k)).0 t), is ∙ ap seen t)
     of false t = inl (is ∙ ap seen t ∙ ap cell_of (finite.get-empty R q))
+
+-- it has it there
+own_cell : {K X : Type 0} {R : K → K → Ordering} → IsTotalOrder R → (k : K) (x : X) →
+    cell_of (finite.get (finite.insert (finite.empty {R = R}) k (Some x)) k) ≡ One x
+own_cell {K} {X} {R} total k x =
+    ap cell_of (finite.get-insert total finite.empty k (Some x) k) ∙
+    ap (λ b. cell_of {X = X} (cond b (Some (Some x)) (finite.get (finite.empty {R = R}) k))) ((eq_by_cmp_equiv total).refl k)
 
 new_here : (b : Bool) (c : Cell FragmentParts) (f : FragmentParts) → cond b (answer same_fragment c f) OtherGuest ≡ New → c ≡ Absent
 new_here true Absent f e = refl
@@ -91,6 +99,7 @@ one_more s n f is joined =
             | inr (at, one_there) ↦ absurd (other at)
           ];
       fresh = absent;
+      there = joined.fragments f.key ∙ ap (λ c. join_cell same_fragment c (fragment_at (alone (Log f)) f.key)) absent ∙ own_cell keys_total f.key f;
       back =
           λ key x one.
           elim (alone_cell keys_total keys_exact f.key key f) [

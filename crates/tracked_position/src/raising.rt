@@ -131,9 +131,8 @@ fn sweep(
     let mut waits = no_waits();
     for number in 0..cut.harts() {
         let hart = Hart::new(number);
-        let mut cursor = cursors[hart.index()];
-        let raised = raise_hart(store, opening, limit, hart, &mut cursor, cut);
-        cursors[hart.index()] = cursor;
+        let cursor = &mut cursors[hart.index()];
+        let raised = raise_hart(store, opening, limit, hart, cursor, cut);
         waits[hart.index()] = raised.waits;
         rose = rose || raised.rose;
     }

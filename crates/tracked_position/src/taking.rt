@@ -1,27 +1,30 @@
 //! A piece that comes at a key at which nothing was.
 
-ghost use Rattle.std.specs.Prelude.{◌≡◌, ◌≢◌, ◌<◌, ℕ, List, Option, Some, None, false, length, IfSome, IfNone};
+ghost use Rattle.std.specs.Prelude.{◌≡◌, ◌≢◌, ◌<◌, ℕ, List, Contains, Option, Some, None, false, length, IfSome, IfNone, IsTrue};
+ghost use Rattle.std.specs.List.{filter_map};
 ghost use Rattle.std.specs.Option.{option_map};
-ghost use Rattle.ft_types.specs.declared.names.TheConstants.{HART_LIMIT};
+ghost use Rattle.edge_log.specs.declared.Edge.{Edge as edge_of_specs};
+ghost use Rattle.ft_types.specs.declared.names.TheConstants.{COUNT_LIMIT, HART_LIMIT};
 ghost use Rattle.ft_types.specs.Counts.{count_at};
-ghost use Rattle.fragment_codec.specs.Rules.{OpeningParts};
+ghost use Rattle.fragment_codec.specs.Facts.{edge_in};
+ghost use Rattle.fragment_codec.specs.Rules.{FragmentParts, OpeningParts};
 ghost use Rattle.fragment_codec.specs.declared.frame.Frame.{Frame as frame_of_specs};
 ghost use Rattle.log_join.specs.Cells.{One};
 ghost use Rattle.log_join.specs.Stores.{StoreView, opening_at, IsStore};
 ghost use Rattle.log_join.specs.Answers.{answer_to};
 ghost use Rattle.closed_cut.specs.Chain.{Sound};
-ghost use Rattle.closed_cut.specs.Position.{base_of, InChain, Stops};
-ghost use Rattle.tracked_position.specs.machinery.Cuts.{IsCutOf};
-ghost use Rattle.tracked_position.specs.machinery.Walks.{cursor_at, AreOver, IsApart};
+ghost use Rattle.closed_cut.specs.Position.{base_of, pieces_of, InChain, Stops};
+ghost use Rattle.tracked_position.specs.machinery.Cuts.{IsCutOf, Meets};
+ghost use Rattle.tracked_position.specs.machinery.Walks.{cursor_at, AreOver, IsApart, IsPassed};
 ghost use Rattle.tracked_position.specs.machinery.Legs.{IsChild, IsNext};
 ghost use Rattle.tracked_position.specs.machinery.Keeping.{Takes, IsTracked};
 
 use crate::raising::reach;
 use crate::starting::start;
-use crate::walk::{Ahead, Cursor};
+use crate::walk::{Ahead, Cursor, least_unmet};
 use closed_cut::{Position, opening_of};
-use fragment_codec::{Fragment, Key, Opening};
-use ft_types::{Count, Counts, HART_ROW, Memory, Term};
+use fragment_codec::{Fragment, Key, Opening, Record};
+use ft_types::{COUNT_LIMIT, Count, Counts, HART_ROW, Memory, Term};
 use log_join::{Put, Store};
 use std::option::Option;
 use std::result::Result;
@@ -134,6 +137,30 @@ fn may_go_on(cursors: &mut [Cursor; HART_ROW], key: Key, from: Count) -> bool
     true
 }
 
+/// Whether the counts meet each edge among the records.
+fn are_met(records: &[Record], cut: &Counts) -> bool
+    ensures { IsTrue result → (e : edge_of_specs) → Contains (filter_map edge_in records.now) e → e.at < COUNT_LIMIT → Meets (count_at cut.now) e }
+{
+    least_unmet(records, COUNT_LIMIT, cut).is_none()
+}
+
+/// Goes past a piece that came, without a look at the store, where it is the one with which its hart's walk goes on and its edges are met.
+fn pass(cursors: &mut [Cursor; HART_ROW], key: &Key, from: Count, to: Count, met: bool)
+    ensures { (store : StoreView) (term : ℕ) (base cut : ℕ → ℕ) (piece : FragmentParts) → IsStore store →
+        IsPassed (pieces_of store term key.now.hart) cut key.now.place from to met piece → AreOver store term base cut cursors.old → AreOver store term base cut cursors.new }
+{
+    let index = key.hart.index();
+    let cursor = cursors[index];
+    if !met || u64::from(key.place) != cursor.place || from != cursor.end {
+        return;
+    }
+    cursors[index] = Cursor {
+        place: cursor.place + 1,
+        end: to,
+        ahead: Ahead::Unseen,
+    };
+}
+
 /// Takes a piece of the position's term, and goes on as far as the store then reaches.
 pub(crate) fn take_here(
     store: &mut Store,
@@ -145,17 +172,21 @@ pub(crate) fn take_here(
     requires new { answer_to store.old (frame_of_specs.Log fragment) ≡ Put.New }
     requires tracked { IsTracked store.old position.old cursors.old }
     requires opening { opening_at store.old position.old.term ≡ One opening.now }
+    requires here { fragment.key.term ≡ position.old.term }
     ensures takes { Takes store.old (frame_of_specs.Log fragment) result store.new }
     ensures tracked { IsTracked store.new position.new cursors.new }
 {
     let key = fragment.key();
     let from = fragment.from();
+    let to = fragment.to();
+    let met = are_met(fragment.records(), &position.counts);
     store.put_new(fragment)?;
     // proof: a store's guest keeps the rules.
     let _rules = store.guest();
     if !may_go_on(cursors, key, from) {
         return Ok(Put::New);
     }
+    pass(cursors, &key, from, to, met);
     position.term = go_on(store, position.top, opening, cursors, &mut position.counts);
     Ok(Put::New)
 }

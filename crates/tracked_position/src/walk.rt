@@ -74,7 +74,7 @@ impl Stop {
 }
 
 /// The edge with the least count among those below the ceiling that ask for more of a hart's steps than the counts have.
-fn least_unmet(records: &[Record], ceiling: Count, cut: &Counts) -> Option<Edge>
+pub(crate) fn least_unmet(records: &[Record], ceiling: Count, cut: &Counts) -> Option<Edge>
     ensures least { IfSome result (λ e. IsLeastUnmet (filter_map edge_in records.now) (count_at cut.now) ceiling e) }
     ensures none { IfNone result ((e : edge_of_specs) → Contains (filter_map edge_in records.now) e → e.at < ceiling → Meets (count_at cut.now) e) }
 {

@@ -206,7 +206,7 @@ impl Backup {
         ensures history { FollowsHistory self.old.store result self.new }
         ensures err { OnErr result (self.new ≡ self.old) }
     {
-        let end = *self.tracked.position();
+        let end = self.tracked.position();
         let steps = go_to(
             alloc,
             &self.image,
@@ -214,10 +214,10 @@ impl Backup {
             &mut self.front,
             &mut self.stand,
             &self.position,
-            &end,
+            end,
         )?;
         self.last_steps = steps;
-        self.position = end;
+        self.position = *end;
         Ok(())
     }
 }

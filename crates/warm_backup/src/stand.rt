@@ -66,7 +66,7 @@ impl Stand {
     {
         match self {
             Stand::Boot(_) => false,
-            Stand::Led(work) => work.may_go_on(end.term, end.counts),
+            Stand::Led(work) => work.may_go_on(end.term, &end.counts),
         }
     }
 }

@@ -112,6 +112,19 @@ fn make_ready(alloc: Global, rest: &mut Leg, leg: &PlannedLeg, ends: &Counts)
     rest.ends = *ends;
 }
 
+/// Whether none of these counts is above the other one.
+fn are_within(counts: &Counts, others: &Counts) -> bool
+    ensures { IsTrue result → (hart : ℕ) → count_at counts.now hart ≤ count_at others.now hart }
+{
+    for number in 0..counts.harts() {
+        let hart = Hart::new(number);
+        if others.count_of(hart) < counts.get(hart) {
+            return false;
+        }
+    }
+    true
+}
+
 /// No pages of any hart.
 fn no_pages() -> [PageMask; HART_ROW] {
     [PageMask::none(); HART_ROW]
@@ -162,15 +175,15 @@ impl Work {
     }
 
     /// Whether the leg need only grow to come to these counts of this term.
-    pub(crate) fn may_go_on(&self, term: Term, ends: Counts) -> bool
+    pub(crate) fn may_go_on(&self, term: Term, ends: &Counts) -> bool
         ensures lasts { IsTrue result → self.now.lasts ≡ true }
         ensures term { IsTrue result → self.now.leg.term ≡ term }
-        ensures ends { IsTrue result → (hart : ℕ) → count_at self.now.leg.ends hart ≤ count_at ends hart }
+        ensures ends { IsTrue result → (hart : ℕ) → count_at self.now.leg.ends hart ≤ count_at ends.now hart }
     {
         self.lasts
             && self.leg.term == term
             && self.leg.ends.harts() == ends.harts()
-            && self.leg.ends.within(ends)
+            && are_within(&self.leg.ends, ends)
     }
 
     /// Whether the leg, below these counts, begins the other.

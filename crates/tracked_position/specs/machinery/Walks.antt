@@ -1,5 +1,5 @@
 -- A walk that goes on from where an earlier one stopped: private words.
-use Rattle.std.specs.Prelude.{ℕ, ◌≡◌, ◌<◌, ◌≤◌, List, Contains, slice_index_or, Option, Some, None}
+use Rattle.std.specs.Prelude.{ℕ, ◌≡◌, ◌<◌, ◌≤◌, Bool, true, List, Contains, slice_index_or, Option, Some, None}
 use Rattle.ft_types.specs.declared.names.TheConstants.{COUNT_LIMIT, HART_LIMIT}
 use Rattle.edge_log.specs.declared.Edge.{Edge}
 use Rattle.fragment_codec.specs.declared.types.Key.{Key}
@@ -81,6 +81,13 @@ cursor_at cursors hart = slice_index_or cursors hart (record { place = 0; end = 
 abbrev pub IsApart : List Cursor → Key → ℕ → Type 0
 IsApart cursors key from = (cursor_at cursors key.hart).ahead ≡ End → key.place ≡ (cursor_at cursors key.hart).place →
     from ≡ (cursor_at cursors key.hart).end → ⊥
+
+-- the piece stands at this place, with these counts, and its edges are met where that is said
+pub record IsPassed (pieces : ℕ → Cell FragmentParts) (cut : ℕ → ℕ) (place from to : ℕ) (met : Bool) (piece : FragmentParts) : Type 0 where
+  pub one : pieces place ≡ One piece
+  pub from_is : piece.from ≡ from
+  pub to_is : piece.to ≡ to
+  pub meets : met ≡ true → (e : Edge) → Contains (edges_in piece) e → e.at < COUNT_LIMIT → Meets cut e
 
 -- this holds of each hart
 abbrev pub AreOver : StoreView → ℕ → (ℕ → ℕ) → (ℕ → ℕ) → List Cursor → Type 0

@@ -18,11 +18,11 @@ loop-number-preserved c =
     let s = c.args.store.now in
     let term = c.args.opening.now.term in
     let base = base_of c.args.opening.now in
-    let here : c.index-in-loop-number.result ≡ c.loop-number.number = c.index-in-loop-number.ensures.value ∙ c.new-hart.ensures in
-    let there : c.index-in-loop-number-2.result ≡ c.loop-number.number = c.index-in-loop-number-2.ensures.value ∙ c.new-hart.ensures in
+    let here : c.index.result ≡ c.loop-number.number = c.index.ensures.value ∙ c.new-hart.ensures in
+    let there : c.index-in-loop-number.result ≡ c.loop-number.number = c.index-in-loop-number.ensures.value ∙ c.new-hart.ensures in
     let wide : length c.loop-number.cursors ≡ HART_ROW = c.loop-number.invariant.wide in
     let many : length c.loop-number.waits ≡ HART_ROW = c.loop-number.invariant.many in
-    let below : c.index-in-loop-number.result < HART_LIMIT = c.index-in-loop-number.ensures.below in
+    let below : c.index.result < HART_LIMIT = c.index.ensures.below in
     rw (here, there)
     (record {
       wide = length-set c.loop-number.cursors c.loop-number.number c.raise_hart-raised.new.cursor ∙ wide;

@@ -3,11 +3,12 @@ use Rattle.ft_types.specs.Guests.{GuestParts}
 use Rattle.std.specs.Option.{option_map}
 use Rattle.ft_types.specs.Counts.{count_at}
 use Rattle.log_join.specs.Cells.{One}
-use Rattle.log_join.specs.Stores.{opening_at}
-use Rattle.closed_cut.specs.Position.{base_of, InChain, Stops}
+use Rattle.log_join.specs.Stores.{StoreView, opening_at}
+use Rattle.closed_cut.specs.Position.{base_of, pieces_of, InChain, Stops}
 use Rattle.tracked_position.specs.machinery.Cuts.{IsCutOf}
 use Rattle.tracked_position.specs.machinery.Walks.{AreOver}
 use Rattle.tracked_position.specs.machinery.Legs.{IsNext}
+use Rattle.tracked_position.specs.machinery.Keeping.{IsTracked}
 use Rattle.tracked_position.proofs.Growth.{HasOneMore, one_more}
 use Rattle.tracked_position.proofs.Keeping.{over_more, cut_here, chain_here, sound_here, tracked_here, tracked_moved, tracked_apart}
 use Rattle.tracked_position.proofs.taking.take_here.Goals as goal
@@ -61,10 +62,25 @@ go_on-position-requires-clause-over c =
     let more : HasOneMore old new c.args.fragment = one_more old new c.args.fragment c.requires.new c.in_ok-put_new.ensures.joined in
     let at : o.term ≡ p.term = (c.requires.tracked.rules.openings p.term o c.requires.opening).same_term in
     let cursors = c.may_go_on.new.cursors in
-    subst (λ t. AreOver new t (base_of o) (count_at p.counts) cursors) (sym at)
-    (over_more old new c.args.fragment c.requires.tracked.rules c.guest-rules.ensures.rules more p.term (base_of o) (count_at p.counts) cursors
+    let f = c.args.fragment in
+    let before : AreOver new p.term (base_of o) (count_at p.counts) cursors =
+    over_more old new f c.requires.tracked.rules c.guest-rules.ensures.rules more p.term (base_of o) (count_at p.counts) cursors
     (rw (c.key-key.ensures, c.from-from.ensures) at c.may_go_on.ensures.apart)
-    (c.may_go_on.ensures.over old p.term (base_of o) (count_at p.counts) (c.requires.tracked.over o c.requires.opening)))
+    (c.may_go_on.ensures.over old p.term (base_of o) (count_at p.counts) (c.requires.tracked.over o c.requires.opening)) in
+    let there : pieces_of new p.term f.key.hart f.key.place ≡ One f =
+    subst (λ t. pieces_of new t f.key.hart f.key.place ≡ One f) c.requires.here more.there in
+    subst (λ t. AreOver new t (base_of o) (count_at p.counts) c.pass.new.cursors) (sym at)
+    (c.pass.ensures new p.term (base_of o) (count_at p.counts) f c.guest-rules.ensures.rules
+    (record {
+      one = rw c.key-key.ensures there;
+      from_is = sym c.from-from.ensures;
+      to_is = sym c.to-to.ensures;
+      meets = λ is. rw c.records.ensures.records at c.are_met-met.ensures is;
+    }) before)
+
+pub returns-in_err-put_new-clause-tracked : goal.returns-in_err-put_new-clause-tracked
+returns-in_err-put_new-clause-tracked c =
+    subst (λ (s : StoreView). IsTracked s c.args.position.now c.args.cursors.now) (sym c.in_err-put_new.ensures.err) c.requires.tracked
 
 pub returns-clause-tracked : goal.returns-clause-tracked
 returns-clause-tracked c =
