@@ -48,6 +48,17 @@ impl Pairs for InTurn {
     ) -> Result<(), StreamsFault> {
         Err(StreamsFault::Memory)
     }
+
+    fn run_pair_warm<W: Sink>(
+        &self,
+        _alloc: Global,
+        _image: &Image,
+        _script: &[Offered],
+        _orders: &PairOrders,
+        _out: &mut W,
+    ) -> Result<(), StreamsFault> {
+        Err(StreamsFault::Memory)
+    }
 }
 
 /// What came of a case.

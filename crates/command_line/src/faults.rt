@@ -195,6 +195,9 @@ fn write_streams_fault<W: Sink>(fault: StreamsFault, out: &mut W) -> Result<(), 
             write_numbered(b"fault stream ", stream as u64, b" guest\n", out)
         }
         StreamsFault::Replay(fault) => write_replay_fault(fault, out),
+        StreamsFault::Live(fault) => {
+            write_numbered(b"fault live ", u64::from(fault), b"\n", out)
+        }
         StreamsFault::Write => write_all(out, b"fault write\n"),
         StreamsFault::Memory => write_all(out, b"fault memory\n"),
     }

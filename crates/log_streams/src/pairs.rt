@@ -69,4 +69,17 @@ pub trait Pairs: Runs {
     ) -> Result<(), StreamsFault>
         requires may { Self.may_run self.now }
         requires script { AreOffered image.now.harts script.now };
+
+    /// Runs a pair whose first keeper is warm: at its end a primary of the next term goes live from that keeper's machine and what the
+    /// others hold. Then it writes what `run_pair` does, and what the new primary has.
+    fn run_pair_warm<W: Sink>(
+        &self,
+        alloc: Global,
+        image: &Image,
+        script: &[Offered],
+        orders: &PairOrders,
+        out: &mut W,
+    ) -> Result<(), StreamsFault>
+        requires may { Self.may_run self.now }
+        requires script { AreOffered image.now.harts script.now };
 }
