@@ -13,7 +13,7 @@ returns c store term base cut piece rules passed are =
     let is : c.index-index.result ≡ at = c.index-index.ensures.value in
     let below : c.index-index.result < HART_LIMIT = c.index-index.ensures.below in
     let less : at < HART_LIMIT = omega arith in
-    let wide : length cursors ≡ HART_ROW = c.type_inv.cursors in
+    let wide : length cursors ≡ HART_ROW = c.told-cursors in
     let here_is : cursor_at cursors at ≡ get_or cursors at c.index-cursors-index.result =
     get_or_default cursors at (record { place = 0; end = 0; ahead = Unseen }) c.index-cursors-index.result (omega arith) in
     let place_is : c.args.key.now.place ≡ (cursor_at cursors at).place = cc in

@@ -28,14 +28,14 @@ returns-in_err-steps-clause-history c =
       | inl memory ↦ memory
       | inr (legs, planned, fails) ↦
           of_guest image legs fault fails
-          (replays_history image legs (Err fault) tt fails history c.args.self.now.store c.position.result.now rules honest (rw same at planned))
+          (replays_history image legs (Err fault) tt fails history c.args.self.now.store c.position-end.result.now rules honest (rw same at planned))
     ])
 
 pub returns-clause-history : goal.returns-clause-history
 returns-clause-history c =
     let image = c.self.inside.image in
     let stand = c.go_to.new.stand in
-    let end = c.position.result.now in
+    let end = c.position-end.result.now in
     let same = c.store.ensures ∙ ap (λ (b : BackupView). b.store) c.self.view_is in
     λ history rules honest.
     replays_history image (legs_of c.go_to.new.front.items stand end.counts) (Ok (machine_of stand)) c.in_ok-steps.ensures.kept.keeps.led tt history
