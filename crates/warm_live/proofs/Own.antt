@@ -13,7 +13,7 @@ any_other P x xs (k, y, within, is, holds) = (suc k, y, omega (arith, within), i
 
 -- what holds of each is not refuted by one
 pub never_any : {X : Type 0} (P : X → Type 0) (xs : List X) → All P xs → Any (λ x. P x → ⊥) xs → ⊥
-never_any P xs all (k, y, within, is, no) = no (subst P (sym is) (all k y within))
+never_any P xs all (k, y, within, is, fails) = fails (subst P (sym is) (all k y within))
 
 -- how many keepers there are with one's own
 pub with_own : (own : ℕ) (others : List ℕ) (is : Bool) → is ≡ list_any (λ m. m == own) others →

@@ -91,8 +91,9 @@ pub fn go_live_warm(
         AreOfHistory backup.old.image history (backup.old.store ∷ map (λ s. s.1.now) stores.now) →
         MakesLonger backup.old.image history term live.book.start live.opening) }
 {
-    if let Err(fault) = may_go(backup, own, stores, keepers, need, term) {
-        return Err(fault);
+    match may_go(backup, own, stores, keepers, need, term) {
+        Ok(()) => {}
+        Err(fault) => return Err(fault),
     }
     catch_up(alloc, backup, stores)?;
     Ok(go_on(alloc, backup, term)?)

@@ -16,6 +16,12 @@ returns-then-not-is_new_to-clause-other_guest c = (
       (rw c.store.ensures at c.if-not-is_new_to.ensures.old (λ t. cc))),
 )
 
+pub returns-then-not-is_new_to-clause-not_new : goal.returns-then-not-is_new_to-clause-not_new
+returns-then-not-is_new_to-clause-not_new c = (
+  λ e. (c.if-not-are_enough.ensures.0 refl, rw c.store.ensures at c.if-not-is_new_to.ensures.old (λ t. cc)),
+  λ x. refl,
+)
+
 pub returns-then-not-are_of-clause-not_new : goal.returns-then-not-are_of-clause-not_new
 returns-then-not-are_of-clause-not_new c = (
   λ e. cc,

@@ -1,5 +1,6 @@
-use Rattle.std.proofs.Common.{◌≡◌, ◌≢◌, ◌∷◌, ℕ, List, map, length, refl, sym, ap, subst, ◌∙◌}
+use Rattle.std.proofs.Common.{◌≡◌, ◌≢◌, ◌∷◌, ℕ, List, map, length, refl, sym, ap, subst, arith, ◌∙◌}
 use Rattle.std.proofs.lemmas.Result.{err_from_is_err_and}
+use Rattle.std.proofs.lemmas.List.{take_all}
 use Rattle.log_join.specs.Stores.{StoreView}
 use Rattle.guest_image.specs.Image.{guest_of}
 use Rattle.hart_replay.specs.declared.fault.ReplayFault.TheVariants.{OtherGuest}
@@ -32,13 +33,25 @@ returns-in_err-catch_up-clause-history_ends c =
     (λ ne history honest. absurd (never_nowhere c.args.backup.now.image history all honest c.in_err-catch_up.field-0.0
     (c.in_err-catch_up.ensures.fault ne))))
 
+pub returns-in_err-go_on-clause-some : goal.returns-in_err-go_on-clause-some
+returns-in_err-go_on-clause-some c =
+    let stores = map (λ s. s.1.now) c.args.stores.now in
+    let p = err_from_is_err_and c.from_residual-in_err-go_on.result c.from_residual-in_err-go_on.ensures.1 in
+    rw p.1 (length stores, rw (take_all (length stores) stores (omega arith)) c.in_ok-catch_up.ensures.caught.joined)
+
+pub returns-clause-not_new : goal.returns-clause-not_new
+returns-clause-not_new c = (
+  λ e. cc,
+  λ (enough, old). absurd (not_both (c.args.backup.now.store ∷ map (λ s. s.1.now) c.args.stores.now) c.args.term c.in-Ok.ensures.new old),
+)
+
 pub go_on-requires-clause-later : goal.go_on-requires-clause-later
 go_on-requires-clause-later c =
     let old = c.args.backup.now in
     let new = c.catch_up.new.backup in
     let has = c.in_ok-catch_up.ensures.caught in
     let stores = map (λ s. s.1.now) c.args.stores.now in
-    let later = c.if-not-may_go.ensures.new in
+    let later = c.in-Ok.ensures.new in
     term_below new.store new.position c.args.term has.position later.granted
     (joined_below (guest_of old.image) (old.store ∷ stores) c.args.term new.store later
     (joined_first (guest_of old.image) old.store stores new.store has.guest has.joined))
@@ -69,4 +82,4 @@ pub returns-clause-longer : goal.returns-clause-longer
 returns-clause-longer c = λ history honest.
     let live = c.in_ok-go_on.field-0 in
     longer c.args.backup.now.image history (c.args.backup.now.store ∷ map (λ s. s.1.now) c.args.stores.now) honest c.args.term live.book.start live.opening
-    live.marks c.if-not-may_go.ensures.new (returns-clause-position c)
+    live.marks c.in-Ok.ensures.new (returns-clause-position c)
