@@ -9,12 +9,12 @@ use Rattle.hart_replay.specs.declared.fault.ReplayFault.{ReplayFault}
 use Rattle.hart_replay.specs.declared.fault.ReplayFault.TheVariants.{Cyclic, HaltedInside, OtherGuest, Memory as NoReplayMemory}
 use Rattle.failover_world.specs.Faults.{fault_number as world_fault_number}
 use Rattle.log_streams.specs.declared.faults.StreamsFault.{StreamsFault}
-use Rattle.log_streams.specs.declared.faults.StreamsFault.TheVariants.{Read, Frame, Guest, Replay, Live, Write, Memory as NoRoom}
+use Rattle.log_streams.specs.declared.faults.StreamsFault.TheVariants.{Read, Frame, Guest, Replay, Write, Memory as NoRoom}
 use Rattle.log_streams.specs.Stores.{numbers}
 use Rattle.word_forms.specs.declared.fault.WordsFault.{WordsFault}
 use Rattle.word_forms.specs.declared.fault.WordsFault.TheVariants.{Usage as NoWords, Memory as NoWordsMemory}
 use Rattle.command_line.specs.declared.faults.CommandFault.{CommandFault}
-use Rattle.command_line.specs.declared.faults.CommandFault.TheVariants.{Usage, File, Image, Script, Events, World, Uncovered, Streams, Memory}
+use Rattle.command_line.specs.declared.faults.CommandFault.TheVariants.{Usage, File, Image, Script, Events, World, Uncovered, Streams, Live, Memory}
 
 -- of an image
 abbrev pub image_line : ImageFault → List ℕ
@@ -36,7 +36,6 @@ streams_line (Read i) = codes "fault stream " ++ decimal i ++ line (codes " read
 streams_line (Frame i fault) = line (codes "fault stream " ++ decimal i ++ codes " frame " ++ decimal (frame_fault_number fault))
 streams_line (Guest i) = codes "fault stream " ++ decimal i ++ line (codes " guest")
 streams_line (Replay fault) = replay_line fault
-streams_line (Live n) = line (codes "fault live " ++ decimal n)
 streams_line Write = line (codes "fault write")
 streams_line NoRoom = line (codes "fault memory")
 
@@ -65,6 +64,7 @@ fault_line name (Events n) = line (codes "fault events line " ++ decimal n)
 fault_line name (World n fault) = line (codes "fault events line " ++ decimal n ++ codes " world " ++ decimal (world_fault_number fault))
 fault_line name (Uncovered page one other) = uncovered_line page one other
 fault_line name (Streams fault) = streams_line fault
+fault_line name (Live n) = line (codes "fault live " ++ decimal n)
 fault_line name Memory = line (codes "fault memory")
 
 -- of words that are no request

@@ -16,8 +16,6 @@ pub enum StreamsFault {
     Guest(usize),
     #[error("the log cannot be replayed: {0:?}")]
     Replay(ReplayFault),
-    #[error("no primary goes live: fault {0}")]
-    Live(u8),
     #[error("the text could not be written")]
     Write,
     #[error("memory was refused")]
