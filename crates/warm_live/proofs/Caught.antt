@@ -15,7 +15,6 @@ use Rattle.guest_image.specs.Machine.{MachineState}
 use Rattle.hart_replay.specs.GoingOn.{GoOnFrom}
 use Rattle.hart_replay.specs.KeepingUp.{IsFaultOfStore}
 use Rattle.hart_replay.specs.Laws.{ArePlanned}
-use Rattle.hart_replay.specs.Leading.{IsLegsFault}
 use Rattle.hart_replay.specs.Plans.{IsPlan, noted_in}
 use Rattle.hart_replay.specs.Replays.{IsOutcome}
 use Rattle.hart_replay.specs.declared.plans.PlannedLeg.{PlannedLeg}

@@ -1,5 +1,5 @@
 -- A store of one's own, before those of others.
-use Rattle.std.proofs.Common.{◌≡◌, ◌<◌, ◌≤◌, ◌+◌, ℕ, zero, suc, Bool, true, false, List, ◌∷◌, if◌then◌else◌, length, ap, refl, subst, sym, arith, inl, inr}
+use Rattle.std.proofs.Common.{◌≡◌, ◌<◌, ◌≤◌, ◌+◌, ℕ, zero, suc, Bool, List, ◌∷◌, if◌then◌else◌, refl, subst, arith, inl, inr}
 use Rattle.std.specs.Prelude.{All, ◌==◌}
 use Rattle.std.specs.List.{Any, list_any}
 use Rattle.std.proofs.lemmas.List.Elements.{All-cons}
@@ -13,7 +13,7 @@ any_other P x xs (k, y, within, is, holds) = (suc k, y, omega (arith, within), i
 
 -- what holds of each is not refuted by one
 pub never_any : {X : Type 0} (P : X → Type 0) (xs : List X) → All P xs → Any (λ x. P x → ⊥) xs → ⊥
-never_any P xs all (k, y, within, is, fails) = fails (subst P (sym is) (all k y within))
+never_any P xs all (k, y, within, is, fails) = fails (subst P is (all k y within))
 
 -- how many keepers there are with one's own
 pub with_own : (own : ℕ) (others : List ℕ) (is : Bool) → is ≡ list_any (λ m. m == own) others →

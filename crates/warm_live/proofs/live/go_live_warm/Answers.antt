@@ -1,14 +1,13 @@
-use Rattle.std.proofs.Common.{◌≡◌, ◌≢◌, ◌∷◌, ℕ, List, map, length, refl, sym, ap, subst, arith, ◌∙◌}
+use Rattle.std.proofs.Common.{◌≡◌, ◌≢◌, ◌∷◌, map, length, ap, arith}
 use Rattle.std.proofs.lemmas.Result.{err_from_is_err_and}
 use Rattle.std.proofs.lemmas.List.{take_all}
-use Rattle.log_join.specs.Stores.{StoreView}
 use Rattle.guest_image.specs.Image.{guest_of}
 use Rattle.hart_replay.specs.declared.fault.ReplayFault.TheVariants.{OtherGuest}
 use Rattle.hart_replay.specs.Images.{GuestHistory}
 use Rattle.hart_replay.proofs.failovers.Books.{counts_at_boot}
 use Rattle.go_live.specs.Histories.{AreOfHistory}
 use Rattle.go_live.specs.Lives.{LeadNowhere}
-use Rattle.go_live.proofs.Causes.{never_old, replay_told}
+use Rattle.go_live.proofs.Causes.{replay_told}
 use Rattle.go_live.proofs.Joins.{joined_below}
 use Rattle.go_live.proofs.Longer.{starts, never_nowhere, longer}
 use Rattle.go_live.proofs.Newness.{not_both}

@@ -1,6 +1,6 @@
-use Rattle.std.proofs.Common.{◌≡◌, ◌<◌, ◌++◌, ◌∷◌, [], List, map, length, take, arith, refl, ap, subst, sym, ◌∙◌}
+use Rattle.std.proofs.Common.{◌<◌, ◌++◌, ◌∷◌, [], List, map, length, take, arith, ap, subst, sym, ◌∙◌}
 use Rattle.std.proofs.lemmas.List.{take_more, take_all, length-map, get_or-map}
-use Rattle.log_join.specs.Stores.{StoreView, IsJoin}
+use Rattle.log_join.specs.Stores.{StoreView}
 use Rattle.go_live.specs.Joined.{AreJoinedTo}
 use Rattle.go_live.proofs.Joins.{joined_more}
 use Rattle.warm_backup.specs.Backups.{BackupView}
