@@ -1,6 +1,6 @@
 //! What a keeper holds.
 
-ghost use Rattle.std.specs.Prelude.{◌≡◌, ◌≢◌, length, IfOk, IfSome};
+ghost use Rattle.std.specs.Prelude.{◌≡◌, ◌≢◌, length, IfOk, IfSome, OnErr};
 ghost use Rattle.closed_cut.specs.Position.{IsPosition};
 ghost use Rattle.guest_image.specs.Image.{guest_of};
 ghost use Rattle.log_join.specs.Answers.{answer_to};
@@ -82,6 +82,7 @@ impl Held {
         ensures answer { IfOk result (λ p. p ≡ answer_to self.old frame) }
         ensures joined { IfOk result (λ p. p ≢ Put.OtherGuest → IsJoin self.old (alone frame) self.new) }
         ensures other_guest { result ≡ Ok Put.OtherGuest → self.new ≡ self.old }
+        ensures err { OnErr result (self.new ≡ self.old) }
     {
         match &mut self.holding {
             Holding::Cold(tracked) => tracked.put(alloc, frame),

@@ -31,7 +31,7 @@ use go_live::LiveFault;
 use guest_image::{Image, Machine};
 use hart_replay::{Plan, ReplayFault, replay_plain};
 use hart_threads::{Free, PoolFault, replay, run};
-use log_streams::{PairOrders, Pairs, Replays, Runs, StreamsFault, begin_primary};
+use log_streams::{PairOrders, Pairs, Replays, Runs, StreamsFault, WarmFault, begin_primary};
 use output_gate::{Gate, Output};
 use page_book::{Book, Recording};
 use scripts::Offered;
@@ -309,14 +309,14 @@ impl<R: Threads + Wait + Sync> Pairs for OnThreads<'_, R> {
         script: &[Offered],
         orders: &PairOrders,
         out: &mut W,
-    ) -> Result<(), StreamsFault> {
+    ) -> Result<(), WarmFault> {
         match run_pair_warm(self.rt, alloc, image, script, orders) {
             Ok(end) => match write_warm(&end, out) {
                 Ok(()) => Ok(()),
-                Err(_) => Err(StreamsFault::Write),
+                Err(_) => Err(WarmFault::Write),
             },
-            Err(LiveFault::Memory) => Err(StreamsFault::Memory),
-            Err(fault) => Err(StreamsFault::Live(fault.number())),
+            Err(LiveFault::Memory) => Err(WarmFault::Memory),
+            Err(fault) => Err(WarmFault::Live(fault.number())),
         }
     }
 }

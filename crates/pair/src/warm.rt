@@ -1,13 +1,11 @@
 //! A pair whose first keeper is warm, and the primary that goes live from it once the pair is at its end.
 
-ghost use Rattle.std.specs.Prelude.{◌≡◌, ◌+◌, ◌∷◌, [], ℕ, IfOk, IfSome, IsTrue, length, map};
-ghost use Rattle.std.specs.List.{AllByRecursion};
+ghost use Rattle.std.specs.Prelude.{◌≡◌, ◌+◌, ◌∷◌, IfOk, IfSome, IsTrue, length, map};
 ghost use Rattle.ft_types.specs.declared.names.TheConstants.{KEEPER_LIMIT};
 ghost use Rattle.scripts.specs.Script.{AreOffered};
 ghost use Rattle.log_streams.specs.Primary.{IsRunOf};
 ghost use Rattle.primary.specs.Outputs.{outputs_in};
 ghost use Rattle.pair.specs.Released.{IsPartOf};
-ghost use Rattle.pair.specs.Serving.{IsHeldOnTheWay};
 ghost use Rattle.pair.specs.Warm.{GoesOn, HasGoneLive};
 
 use crate::holding::Held;
