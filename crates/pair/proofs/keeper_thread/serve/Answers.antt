@@ -17,8 +17,8 @@ pub loop-preserved : goal.loop-preserved
 loop-preserved g c = record {
   seat = c.in_ok-keep.ensures.seat.0;
   keeper = c.in_ok-keep.ensures.seat.1 ∙ c.loop.invariant.keeper;
-  harts = ap (λ (s : StoreView). s.guest.harts) c.keep_up-2.ensures ∙ ap (λ (g : GuestParts). g.harts) c.in_ok-keep.ensures.guest ∙ c.loop.invariant.harts;
-  had = subst (λ (s : StoreView). HadAll c.args.board.now c.keep.new.seat s) (sym c.keep_up-2.ensures)
+  harts = ap (λ (s : StoreView). s.guest.harts) c.in_ok-keep_up-2.ensures ∙ ap (λ (g : GuestParts). g.harts) c.in_ok-keep.ensures.guest ∙ c.loop.invariant.harts;
+  had = subst (λ (s : StoreView). HadAll c.args.board.now c.keep.new.seat s) (sym c.in_ok-keep_up-2.ensures)
       (told_on c.args.board.now c.loop.seat c.keep.new.seat c.loop.store c.keep.new.store _ c.loop.invariant.had c.in_ok-keep.ensures.taken
       c.in_ok-keep.ensures.tells);
 }
