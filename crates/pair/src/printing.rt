@@ -79,7 +79,6 @@ pub(crate) fn write_pair<W: Sink>(end: &PairEnd, out: &mut W) -> Result<(), Fail
 }
 
 /// Writes the term of the primary that went live, and how many steps were replayed for it.
-#[tactic(auto, unfolding(crate::specs::Printing::live_line))]
 fn write_live<W: Sink>(steps: u64, out: &mut W) -> Result<(), Failed>
     ensures { Writes result (W.bytes out.old) (W.bytes out.new) (W.failures out.old) (W.failures out.new) (live_line steps) }
 {
