@@ -6,7 +6,7 @@ set -eu
 here=$(cd "$(dirname "$0")" && pwd)
 . "$here/../workspace.sh"
 
-workspace pair_bench "ft_types input_log edge_log guest_image page_book fragment_codec log_join closed_cut tracked_position hart_threads output_gate log_streams pair anyhow" positions once 1
+workspace pair_bench "ft_types input_log edge_log guest_image page_book fragment_codec log_join closed_cut tracked_position hart_threads output_gate log_streams log_pieces fixtures go_live warm_backup warm_live pair anyhow" positions once 1
 
 # Five runs of each.
 for _run in 1 2 3 4 5; do
@@ -14,6 +14,10 @@ for _run in 1 2 3 4 5; do
     "$program" rounds 1000000
     for keepers in 1 3 5; do
         "$program" pair "$keepers" 1000000
+        "$program" warm "$keepers" 1000000
+    done
+    for kind in boot ready behind; do
+        "$program" live "$kind" 1000000
     done
 done
 

@@ -7,7 +7,7 @@ use command_line::{PairOrders, Pairs, command};
 use ft_types::{Memory, MemorySink, Sink};
 use guest_image::{Image, Machine};
 use hart_replay::{Plan, ReplayFault};
-use log_streams::{Plainly, Replays, Runs, StreamsFault};
+use log_streams::{Plainly, Replays, Runs, StreamsFault, WarmFault};
 use page_book::{Book, Recording};
 use scripts::Offered;
 use std::alloc::Global;
@@ -47,6 +47,17 @@ impl Pairs for InTurn {
         _out: &mut W,
     ) -> Result<(), StreamsFault> {
         Err(StreamsFault::Memory)
+    }
+
+    fn run_pair_warm<W: Sink>(
+        &self,
+        _alloc: Global,
+        _image: &Image,
+        _script: &[Offered],
+        _orders: &PairOrders,
+        _out: &mut W,
+    ) -> Result<(), WarmFault> {
+        Err(WarmFault::Memory)
     }
 }
 

@@ -264,6 +264,7 @@ fn pair_script<F: Files, P: Pairs, W: Sink>(
     alloc: Global,
     image: &Image,
     orders: &PairOrders,
+    is_warm: bool,
     request: &Request<'_>,
     files: &mut F,
     pairs: &P,
@@ -272,6 +273,9 @@ fn pair_script<F: Files, P: Pairs, W: Sink>(
     requires { P.may_run pairs.now }
 {
     let script = read_script_file(alloc, request, image.harts(), files)?;
+    if is_warm {
+        return Ok(pairs.run_pair_warm(alloc, image, &script, orders, out)?);
+    }
     Ok(pairs.run_pair(alloc, image, &script, orders, out)?)
 }
 
@@ -306,7 +310,11 @@ fn run_task<F: Files, P: Pairs, W: Sink>(
         Task::Run { budget, .. } => record(alloc, image, *budget, request, files, pairs, out),
         Task::Cut(logs) => cut_logs(alloc, image, logs, files, out),
         Task::Audit(logs) => audit_logs(alloc, image, logs, files, out),
-        Task::Pair { orders, .. } => pair_script(alloc, image, orders, request, files, pairs, out),
+        Task::Pair {
+            orders,
+            is_warm,
+            ..
+        } => pair_script(alloc, image, orders, *is_warm, request, files, pairs, out),
         Task::FailOver { quorum, .. } => apply_events(alloc, image, *quorum, request, files, out),
     }
 }

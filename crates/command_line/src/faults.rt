@@ -13,7 +13,7 @@ use ft_types::{Count, Failed, Hart, LineBuffer, Memory, PageNo, Sink, write_all}
 use guest_image::ImageFault;
 use hart_replay::ReplayFault;
 use log_audit::AuditFault;
-use log_streams::{StreamsFault, write_counts_line, write_long_line, write_numbered};
+use log_streams::{StreamsFault, WarmFault, write_counts_line, write_long_line, write_numbered};
 use scripts::{EventsFault, ScriptFault};
 use word_forms::WordsFault;
 
@@ -36,6 +36,8 @@ pub enum CommandFault {
     Uncovered(PageNo, (Hart, Count), (Hart, Count)),
     /// What is wrong with the logs, their replay or the output.
     Streams(StreamsFault),
+    /// No primary goes live at the end of a pair with a warm keeper, by the number of that fault.
+    Live(u8),
     /// A growth was refused.
     Memory,
 }
@@ -85,6 +87,16 @@ impl From<EventsFault> for CommandFault {
         match fault {
             EventsFault::BadLine(line) => CommandFault::Events(line),
             EventsFault::Memory => CommandFault::Memory,
+        }
+    }
+}
+
+impl From<WarmFault> for CommandFault {
+    fn from(fault: WarmFault) -> CommandFault {
+        match fault {
+            WarmFault::Memory => CommandFault::Memory,
+            WarmFault::Write => CommandFault::Streams(StreamsFault::Write),
+            WarmFault::Live(fault) => CommandFault::Live(fault),
         }
     }
 }
@@ -281,6 +293,9 @@ pub fn write_fault<W: Sink>(fault: &CommandFault, name: &str, out: &mut W) -> Re
         }
         CommandFault::Uncovered(page, one, other) => write_uncovered(*page, *one, *other, out),
         CommandFault::Streams(fault) => write_streams_fault(*fault, out),
+        CommandFault::Live(fault) => {
+            write_numbered(b"fault live ", u64::from(*fault), b"\n", out)
+        }
         CommandFault::Memory => write_all(out, b"fault memory\n"),
     }
 }

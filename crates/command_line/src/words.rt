@@ -41,6 +41,8 @@ pub enum Task<'a> {
     Pair {
         script: &'a str,
         orders: PairOrders,
+        /// Whether its first keeper is warm, and a primary goes live from it at the end.
+        is_warm: bool,
     },
     /// Apply a list of events to a primary and its keepers.
     FailOver {
@@ -117,7 +119,7 @@ fn name_at<'a>(names: &Vec<&'a str>, number: usize) -> &'a str {
 }
 
 /// `replay IMAGE LOGS..`, `join IMAGE OUT LOGS..`, `cut IMAGE LOGS..`, `audit IMAGE LOGS..`, `run IMAGE SCRIPT BUDGET OUT`,
-/// `pair IMAGE SCRIPT BUDGET KEEPERS NEED`, `failover IMAGE EVENTS KEEPERS NEED`
+/// `pair IMAGE SCRIPT BUDGET KEEPERS NEED`, also with `warm` behind it, `failover IMAGE EVENTS KEEPERS NEED`
 static FORMS: [Form; 7] = [
     Form {
         name: "replay",
@@ -196,12 +198,16 @@ fn run<'a>(words: &[&'a str]) -> Result<Task<'a>, WordsFault> {
     })
 }
 
-fn pair<'a>(words: &[&'a str]) -> Result<Task<'a>, WordsFault> {
+fn pair<'a>(words: &[&'a str], is_warm: bool) -> Result<Task<'a>, WordsFault> {
     let [script, steps, keepers, need] = *words else {
         return Err(WordsFault::Usage);
     };
     match PairOrders::new(budget(steps)?, number(keepers)?, number(need)?) {
-        Some(orders) => Ok(Task::Pair { script, orders }),
+        Some(orders) => Ok(Task::Pair {
+            script,
+            orders,
+            is_warm,
+        }),
         None => Err(WordsFault::Usage),
     }
 }
@@ -221,6 +227,7 @@ fn task_of<'a>(
     command: &str,
     words: &[&'a str],
     logs: Vec<&'a str>,
+    is_warm: bool,
 ) -> Result<Task<'a>, WordsFault> {
     match command {
         "replay" => Ok(Task::Replay(logs)),
@@ -228,7 +235,7 @@ fn task_of<'a>(
         "cut" => Ok(Task::Cut(logs)),
         "audit" => Ok(Task::Audit(logs)),
         "run" => run(words),
-        "pair" => pair(words),
+        "pair" => pair(words, is_warm),
         "failover" => fail_over(words),
         _ => Err(WordsFault::Usage),
     }
@@ -239,26 +246,40 @@ fn request_of<'a>(
     command: &str,
     words: &[&'a str],
     logs: Vec<&'a str>,
+    is_warm: bool,
 ) -> Result<Request<'a>, WordsFault> {
     let Some((image, rest)) = words.split_first() else {
         return Err(WordsFault::Usage);
     };
-    let task = task_of(command, rest, logs)?;
+    let task = task_of(command, rest, logs, is_warm)?;
     Ok(Request {
         image: *image,
         task,
     })
 }
 
+/// The words of a pair before the last one, where that is `warm`: no form has a word that may be left out.
+fn before_warm(words: &[String]) -> Option<&[String]> {
+    let (last, before) = words.split_last()?;
+    let (command, others) = before.split_first()?;
+    if others.len() == 5 && command.as_str() == "pair" && last.as_str() == "warm" {
+        Some(before)
+    } else {
+        None
+    }
+}
+
 /// The request that the words are. A word that begins with `-` is refused before they are parsed.
 pub fn read_words<'a>(alloc: Global, words: &'a [String]) -> Result<Request<'a>, WordsFault> {
+    let before = before_warm(words);
+    let is_warm = before.is_some();
     let Words {
         name,
         words,
         mut rows,
-    } = read_form(alloc, "workbench", &FORMS, words)?;
+    } = read_form(alloc, "workbench", &FORMS, before.unwrap_or(words))?;
     match rows.pop() {
-        Some(logs) => request_of(name, &words, logs),
-        None => request_of(name, &words, Vec::new(alloc)),
+        Some(logs) => request_of(name, &words, logs, is_warm),
+        None => request_of(name, &words, Vec::new(alloc), is_warm),
     }
 }

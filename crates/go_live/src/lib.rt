@@ -9,4 +9,5 @@ mod quorum;
 
 pub use fault::LiveFault;
 pub use laws::live_histories;
-pub use live::{Live, go_live};
+pub use live::{Live, begin, go_live, opening_of};
+pub use quorum::{are_of, is_new, keepers_of};

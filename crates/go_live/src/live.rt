@@ -66,7 +66,7 @@ fn replay_to(
 }
 
 /// The opening of a term that goes on from the position.
-fn opening_of(guest: Guest, term: Term, position: &Position) -> Opening
+pub fn opening_of(guest: Guest, term: Term, position: &Position) -> Opening
     requires harts { length position.now.counts ≡ guest.harts }
     requires later { position.now.term < term }
     requires boot { position.now.term ≡ 0 → (hart : ℕ) → count_at position.now.counts hart ≡ 0 }
@@ -81,7 +81,7 @@ fn opening_of(guest: Guest, term: Term, position: &Position) -> Opening
 }
 
 /// A primary that goes on from a machine, which has these counts and marks.
-fn begin(
+pub fn begin(
     alloc: Global,
     machine: Machine,
     counts: Counts,

@@ -9,7 +9,7 @@ use ft_types::{Guest, Keeper, KeeperSet, Term};
 use log_join::Store;
 
 /// Of how many keepers the stores are.
-fn keepers_of(stores: &[(Keeper, &Store)]) -> usize
+pub fn keepers_of(stores: &[(Keeper, &Store)]) -> usize
     ensures { result ≡ distinct (map (λ s. s.0) stores.now) }
 {
     let mut keepers = KeeperSet::new();
@@ -28,7 +28,7 @@ pub(crate) fn are_enough(stores: &[(Keeper, &Store)], keepers: u8, need: u8) -> 
 }
 
 /// Whether the term is not 0, and greater than that of every key in the stores.
-pub(crate) fn is_new(stores: &[(Keeper, &Store)], term: Term) -> bool
+pub fn is_new(stores: &[(Keeper, &Store)], term: Term) -> bool
     ensures new { IsTrue result → IsNew (map (λ s. s.1.now) stores.now) term }
     ensures old { (IsTrue result → ⊥) → IsOld (map (λ s. s.1.now) stores.now) term }
 {
@@ -44,7 +44,7 @@ pub(crate) fn is_new(stores: &[(Keeper, &Store)], term: Term) -> bool
 }
 
 /// Whether all stores are of this guest.
-pub(crate) fn are_of(stores: &[(Keeper, &Store)], guest: &Guest) -> bool
+pub fn are_of(stores: &[(Keeper, &Store)], guest: &Guest) -> bool
     ensures own { IsTrue result → All (λ s. s.guest ≡ guest.now) (map (λ s. s.1.now) stores.now) }
     ensures foreign { (IsTrue result → ⊥) → Any (λ s. s.guest ≢ guest.now) (map (λ s. s.1.now) stores.now) }
 {

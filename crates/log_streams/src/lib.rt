@@ -18,7 +18,7 @@ pub use first_term::{begin_primary, begin_run, frames_of, run_primary};
 pub use ft_types::Quorum;
 pub use laws::honest_runs;
 pub use lines::{write_counts_line, write_long_line, write_numbered, write_three};
-pub use pairs::{PairOrders, Pairs};
+pub use pairs::{PairOrders, Pairs, WarmFault};
 pub use reading::read_store;
 pub use replays::{Plainly, Replays};
 pub use runs::Runs;

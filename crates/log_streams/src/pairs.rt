@@ -55,6 +55,17 @@ impl PairOrders {
     }
 }
 
+/// Why a pair with a warm keeper comes to no end.
+#[derive(Clone, Copy, PartialEq, Eq)]
+pub enum WarmFault {
+    /// A growth was refused.
+    Memory,
+    /// The writer failed.
+    Write,
+    /// No primary goes live at its end, by the number of that fault.
+    Live(u8),
+}
+
 /// Who runs pairs, a primary, its keepers and a gate, beside runs and replays. How pairs run is in no contract here.
 pub trait Pairs: Runs {
     /// Runs a primary of the image from boot, with what the script offers, beside keepers and a gate. Then it writes what went
@@ -67,6 +78,19 @@ pub trait Pairs: Runs {
         orders: &PairOrders,
         out: &mut W,
     ) -> Result<(), StreamsFault>
+        requires may { Self.may_run self.now }
+        requires script { AreOffered image.now.harts script.now };
+
+    /// Runs a pair whose first keeper is warm: at its end a primary of the next term goes live from that keeper's machine and what the
+    /// others hold. Then it writes what `run_pair` does, and what the new primary has.
+    fn run_pair_warm<W: Sink>(
+        &self,
+        alloc: Global,
+        image: &Image,
+        script: &[Offered],
+        orders: &PairOrders,
+        out: &mut W,
+    ) -> Result<(), WarmFault>
         requires may { Self.may_run self.now }
         requires script { AreOffered image.now.harts script.now };
 }

@@ -2,7 +2,7 @@ pub mod Places
 pub mod Offered
 pub mod Onward
 pub mod Heard
-pub mod Held
+pub mod HeldOutputs
 pub mod Served
 pub mod Among
 pub mod Leading

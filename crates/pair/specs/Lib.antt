@@ -1,4 +1,5 @@
 pub mod Exits
+pub mod Holding
 pub mod Keeping
 pub mod Leading
 pub mod Posts
@@ -6,3 +7,4 @@ pub mod Released
 pub mod Rounds
 pub mod Serving
 pub mod Printing
+pub mod Warm

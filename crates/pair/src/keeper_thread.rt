@@ -6,6 +6,7 @@ ghost use Rattle.pair.specs.Posts.{IsPostOf};
 ghost use Rattle.pair.specs.Serving.{IsServed};
 
 use crate::adding::add_all;
+use crate::holding::Held;
 use crate::keeping::keep;
 use crate::messages::{ToGate, ToKeeper, send};
 use crate::posts::Post;
@@ -17,10 +18,9 @@ use ft_types::Memory;
 use std::alloc::Global;
 use std::result::Result;
 use std::sync::Wait;
-use tracked_position::Tracked;
 
 /// What a keeper's thread gives: the keeper's seat, which publishes no more, and what the keeper holds, with its position.
-pub(crate) type Served = (KeeperSeat, Tracked);
+pub(crate) type Served = (KeeperSeat, Held);
 
 /// What a keeper heard.
 #[derive(Clone, Copy)]
@@ -72,7 +72,7 @@ fn tell_gate<R: Wait>(
 }
 
 /// A keeper's thread, which publishes its position each time it took what came, tells the gate where it is the one that makes enough, and ends at the
-/// primary's last message. Where it finds no memory, or none comes any more, it gives up. Each count that it published is one that its store had.
+/// primary's last message. Where it is warm, its machine keeps up whenever nothing more waits for it. Where it finds no memory, or none comes any more, it gives up. Each count that it published is one that its store had.
 pub(crate) fn serve<R: Wait>(
     rt: &R,
     alloc: Global,
@@ -96,10 +96,14 @@ pub(crate) fn serve<R: Wait>(
         let Heard { messages, ended } = hear(rt, &channel, &mut fresh)?;
         keep(alloc, board, &mut seat, &mut store, fresh)?;
         if ended {
+            // The gate waits until no keeper tells it more, and so not for the last steps of one that is warm.
+            drop(gate);
+            store.keep_up(alloc, 0)?;
             return Ok((seat, store));
         }
         taken = taken.wrapping_add(messages);
         tell_gate(rt, &gate, &tally, place, taken)?;
+        store.keep_up(alloc, channel.len())?;
     }
     unreachable!()
 }

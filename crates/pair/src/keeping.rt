@@ -4,15 +4,15 @@ ghost use Rattle.std.specs.Prelude.{◌≡◌, OnOk};
 ghost use Rattle.ack_core.specs.Seats.{harts_of, keeper_of, IsKeeperOf};
 ghost use Rattle.pair.specs.Keeping.{AreTaken, Tells};
 
+use crate::holding::Held;
 use ack_core::{Board, KeeperSeat};
 use fragment_codec::Frame;
 use ft_types::Memory;
 use std::alloc::Global;
 use std::result::Result;
-use tracked_position::Tracked;
 
 /// Takes frames, those of another guest aside.
-pub(crate) fn take_all(alloc: Global, store: &mut Tracked, frames: Vec<Frame>) -> Result<(), Memory>
+pub(crate) fn take_all(alloc: Global, store: &mut Held, frames: Vec<Frame>) -> Result<(), Memory>
     ensures taken { OnOk result (AreTaken store.old frames.items store.new) }
     ensures guest { store.new.guest ≡ store.old.guest }
 {
@@ -27,7 +27,7 @@ pub(crate) fn keep(
     alloc: Global,
     board: &Board,
     seat: &mut KeeperSeat,
-    store: &mut Tracked,
+    store: &mut Held,
     frames: Vec<Frame>,
 ) -> Result<(), Memory>
     requires seat { IsKeeperOf board.now seat.old }

@@ -7,6 +7,7 @@ mod apart;
 mod exits;
 mod gate_thread;
 mod herald;
+mod holding;
 mod keeper_thread;
 mod keeping;
 mod messages;
@@ -21,5 +22,8 @@ mod settling;
 mod tally;
 mod telling;
 mod threads;
+mod warm;
 
+pub use holding::Held;
 pub use threads::{OnThreads, PairEnd, run_pair};
+pub use warm::{WarmEnd, run_pair_warm};

@@ -2,25 +2,27 @@
 
 ghost use Rattle.std.specs.Prelude.{◌≡◌, IfOk};
 ghost use Rattle.ack_core.specs.Seats.{harts_of};
+ghost use Rattle.guest_image.specs.Image.{guest_of};
 ghost use Rattle.pair.specs.Posts.{AreKeepersOf, ArePostsOf};
 
+use crate::holding::Held;
 use crate::messages::{ToGate, ToKeeper, Went};
 use crate::tally::Tally;
 use ack_core::{Board, GateSeat, KeeperSeat};
 use crossbeam_channel::{Receiver, Sender, unbounded};
-use ft_types::{Guest, Memory};
+use ft_types::Memory;
+use guest_image::Image;
 use output_gate::Gate;
 use primary::Primary;
 use std::alloc::Global;
 use std::result::Result;
 use std::sync::Arc;
-use tracked_position::Tracked;
 
 /// What a keeper's thread begins with.
 #[derive(Drop)]
 pub(crate) struct Post {
     pub(crate) seat: KeeperSeat,
-    pub(crate) store: Tracked,
+    pub(crate) store: Held,
     pub(crate) frames: Receiver<ToKeeper, Global>,
     pub(crate) gate: Sender<ToGate, Global>,
     /// Which keeper it is, and how far each of them is.
@@ -60,16 +62,17 @@ pub(crate) struct PrimaryPost {
 /// A post for this seat, and the sender of its frames.
 fn new_post(
     alloc: Global,
-    guest: Guest,
+    image: &Image,
+    is_warm: bool,
     seat: KeeperSeat,
     gate: &Sender<ToGate, Global>,
     place: usize,
     tally: &Arc<Tally, Global>,
 ) -> Result<(Post, Sender<ToKeeper, Global>), Memory>
-    ensures { IfOk result (λ r. (r.0.seat ≡ seat) × (r.0.store.guest ≡ guest)) }
+    ensures { IfOk result (λ r. (r.0.seat ≡ seat) × (r.0.store.guest ≡ guest_of image.now)) }
 {
     let (sender, frames) = unbounded(alloc)?;
-    let store = Tracked::new(alloc, guest);
+    let store = Held::new(alloc, image, is_warm)?;
     let gate = gate.clone()?;
     let post = Post {
         seat,
@@ -82,23 +85,33 @@ fn new_post(
     Ok((post, sender))
 }
 
-/// A post for each seat, and the senders of their frames.
+/// A post for each seat, and the senders of their frames. Where one is to be warm it is the first.
 pub(crate) fn man_posts(
     alloc: Global,
     board: &Board,
-    guest: Guest,
+    image: &Image,
+    is_warm: bool,
     seats: Vec<KeeperSeat>,
     gate: &Sender<ToGate, Global>,
     tally: &Arc<Tally, Global>,
 ) -> Result<(Vec<Post>, Vec<Sender<ToKeeper, Global>>), Memory>
     requires seats { AreKeepersOf board.now seats.items }
-    requires harts { guest.harts ≡ harts_of board.now }
+    requires harts { image.now.harts ≡ harts_of board.now }
     ensures { IfOk result (λ r. ArePostsOf board.now r.0.items) }
 {
     let mut posts = Vec::new(alloc);
     let mut keepers = Vec::new(alloc);
     for seat in seats {
-        let (post, sender) = new_post(alloc, guest, seat, gate, posts.len(), tally)?;
+        let place = posts.len();
+        let (post, sender) = new_post(
+            alloc,
+            image,
+            is_warm && place == 0,
+            seat,
+            gate,
+            place,
+            tally,
+        )?;
         posts.push(post)?;
         keepers.push(sender)?;
     }

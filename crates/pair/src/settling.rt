@@ -4,12 +4,12 @@ ghost use Rattle.std.specs.Prelude.{◌≡◌, ◌<◌, length, IfOk};
 ghost use Rattle.ack_core.specs.Seats.{harts_of, keepers_of, IsGateOf};
 ghost use Rattle.pair.specs.Serving.{AreHad, AreServed};
 
+use crate::holding::Held;
 use crate::keeper_thread::Served;
 use ack_core::{Board, GateSeat};
 use ft_types::{Hart, Memory};
 use std::alloc::Global;
 use std::result::Result;
-use tracked_position::Tracked;
 
 /// The keepers' stores. All that the gate has heard of a keeper the keeper has published, and its store had it.
 pub(crate) fn stores_of(
@@ -17,7 +17,7 @@ pub(crate) fn stores_of(
     board: &Board,
     gate: GateSeat,
     served: Vec<Result<Served, Memory>>,
-) -> Result<Vec<Tracked>, Memory>
+) -> Result<Vec<Held>, Memory>
     requires gate { IsGateOf board.now gate }
     requires served { AreServed board.now served.items }
     requires harts { 0 < harts_of board.now }

@@ -13,22 +13,25 @@ ghost use Rattle.pair.specs.Serving.{AreHad, AreServed, IsHeard, IsHeldOnTheWay,
 
 use crate::apart::is_apart;
 use crate::gate_thread::{GateEnd, guard};
+use crate::holding::Held;
 use crate::keeper_thread::{Served, serve};
 use crate::posts::{Post, PrimaryPost, Watch, man_posts};
 use crate::primary_thread::lead;
-use crate::printing::write_pair;
+use crate::printing::{write_pair, write_warm};
 use crate::released::released_in;
 use crate::settling::stores_of;
 use crate::tally::Tally;
 use crate::telling::outputs_in_all;
+use crate::warm::run_pair_warm;
 use ack_core::Board;
 use crossbeam_channel::unbounded;
 use fragment_codec::FIRST_TERM;
 use ft_types::{Memory, Sink};
+use go_live::LiveFault;
 use guest_image::{Image, Machine};
 use hart_replay::{Plan, ReplayFault, replay_plain};
 use hart_threads::{Free, PoolFault, replay, run};
-use log_streams::{PairOrders, Pairs, Replays, Runs, StreamsFault, begin_primary};
+use log_streams::{PairOrders, Pairs, Replays, Runs, StreamsFault, WarmFault, begin_primary};
 use output_gate::{Gate, Output};
 use page_book::{Book, Recording};
 use scripts::Offered;
@@ -37,7 +40,6 @@ use std::result::Result;
 use std::sync::{Arc, Wait};
 use std::thread;
 use std::thread::Threads;
-use tracked_position::Tracked;
 
 /// What became of a pair.
 #[derive(Drop)]
@@ -51,7 +53,7 @@ pub struct PairEnd {
     /// The primary's book.
     pub book: Book<Recording>,
     /// What each keeper holds, with its position.
-    pub stores: Vec<Tracked>,
+    pub stores: Vec<Held>,
 }
 
 /// A thread for each keeper.
@@ -177,13 +179,14 @@ fn end_of(
 }
 
 /// Runs a primary of the image from boot, with what the script offers, until each hart is halted or at the budget, beside
-/// keepers and a gate, each on a thread of its own.
-pub fn run_pair<R: Threads + Wait + Sync>(
+/// keepers and a gate, each on a thread of its own. Where one is to be warm it is the first keeper.
+pub(crate) fn run_kept<R: Threads + Wait + Sync>(
     rt: &R,
     alloc: Global,
     image: &Image,
     script: &[Offered],
     orders: &PairOrders,
+    is_warm: bool,
 ) -> Result<PairEnd, Memory>
     requires { AreOffered image.now.harts script.now }
     ensures run { IfOk result (λ end. IsRunOf image.now script.now orders.now.budget end.book) }
@@ -201,7 +204,7 @@ pub fn run_pair<R: Threads + Wait + Sync>(
     let (to_primary, went) = unbounded(alloc)?;
     let (begins, begun) = unbounded(alloc)?;
     let tally = Arc::new(alloc, Tally::new(orders.need()))?;
-    let (posts, keepers) = man_posts(alloc, &board, image.guest(), seats, &to_gate, &tally)?;
+    let (posts, keepers) = man_posts(alloc, &board, image, is_warm, seats, &to_gate, &tally)?;
     let primary_post = PrimaryPost {
         primary,
         budget: orders.budget(),
@@ -220,6 +223,26 @@ pub fn run_pair<R: Threads + Wait + Sync>(
         primary: to_primary,
     };
     run_all(rt, alloc, &board, watch, posts, primary_post)
+}
+
+/// Runs a primary of the image from boot, with what the script offers, until each hart is halted or at the budget, beside
+/// keepers and a gate, each on a thread of its own.
+pub fn run_pair<R: Threads + Wait + Sync>(
+    rt: &R,
+    alloc: Global,
+    image: &Image,
+    script: &[Offered],
+    orders: &PairOrders,
+) -> Result<PairEnd, Memory>
+    requires { AreOffered image.now.harts script.now }
+    ensures run { IfOk result (λ end. IsRunOf image.now script.now orders.now.budget end.book) }
+    // As many keepers as are needed had each output inside a position, on the way to the stores that they are left with.
+    ensures inside { IfOk result (λ end. AllByRecursion (IsHeldOnTheWay end.stores.items 1 orders.now.quorum.need) end.released.items) }
+    // What went out is a part of what the primary's machine put out, in its order, and the rest is counted.
+    ensures part { IfOk result (λ end. IsPartOf end.released.items (outputs_in end.book.machine)) }
+    ensures kept { IfOk result (λ end. length end.released.items + end.kept ≡ length (outputs_in end.book.machine)) }
+{
+    run_kept(rt, alloc, image, script, orders, false)
 }
 
 /// Runs, pairs and replays on the threads of a runtime.
@@ -276,6 +299,24 @@ impl<R: Threads + Wait + Sync> Pairs for OnThreads<'_, R> {
         match write_pair(&end, out) {
             Ok(()) => Ok(()),
             Err(_) => Err(StreamsFault::Write),
+        }
+    }
+
+    fn run_pair_warm<W: Sink>(
+        &self,
+        alloc: Global,
+        image: &Image,
+        script: &[Offered],
+        orders: &PairOrders,
+        out: &mut W,
+    ) -> Result<(), WarmFault> {
+        match run_pair_warm(self.rt, alloc, image, script, orders) {
+            Ok(end) => match write_warm(&end, out) {
+                Ok(()) => Ok(()),
+                Err(_) => Err(WarmFault::Write),
+            },
+            Err(LiveFault::Memory) => Err(WarmFault::Memory),
+            Err(fault) => Err(WarmFault::Live(fault.number())),
         }
     }
 }

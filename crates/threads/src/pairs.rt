@@ -9,12 +9,11 @@ use guest_image::{Image, Machine};
 use log_join::Store;
 use output_gate::Output;
 use page_book::{Book, Recording};
-use pair::{PairEnd, run_pair};
+use pair::{Held, PairEnd, WarmEnd, run_pair, run_pair_warm};
 use std::alloc::Global;
 use std::sync::Wait;
 use std::test::Fail;
 use std::thread::Threads;
-use tracked_position::Tracked;
 
 /// Four harts, each of which adds 1 to one word 600 times, and halts.
 const ADDS: &[u8] =
@@ -43,7 +42,7 @@ fn end_of<R: Threads + Wait + Sync>(
 fn all_lead(
     alloc: Global,
     image: &Image,
-    stores: &[Tracked],
+    stores: &[Held],
     machine: &Machine,
 ) -> Result<bool, Memory> {
     for store in stores {
@@ -58,7 +57,7 @@ fn all_lead(
 fn join_leads(
     alloc: Global,
     image: &Image,
-    stores: &[Tracked],
+    stores: &[Held],
     machine: &Machine,
 ) -> Result<bool, Memory> {
     let mut all = Store::new(alloc, image.guest());
@@ -126,6 +125,44 @@ fn what_keepers_hold(rt: HostRuntime) -> Result<(), Fail> {
     for (file, keepers, need) in &PAIRS {
         let image = image_of(rt.alloc(), *file)?;
         right = right && is_right(&rt, rt.alloc(), &image, *keepers, *need)?;
+    }
+    assert!(rt; right);
+    Ok(())
+}
+
+/// Whether of a pair of this image with a warm keeper the new primary begins with the primary's machine, at its counts, with all of its
+/// outputs, and no step was replayed for it.
+fn goes_on<R: Threads + Wait + Sync>(
+    rt: &R,
+    alloc: Global,
+    image: &Image,
+    keepers: u64,
+    need: u64,
+) -> Result<bool, Fail> {
+    let Some(orders) = PairOrders::new(100_000, keepers, need) else {
+        return Ok(false);
+    };
+    let Ok(end) = run_pair_warm(rt, alloc, image, &[], &orders) else {
+        return Ok(false);
+    };
+    let WarmEnd {
+        released,
+        kept,
+        book,
+        live,
+        steps,
+    } = end;
+    let is_there = live.opening.base() == book.counts() && live.book.machine().same(book.machine());
+    let has_all = kept == 0 && live.outputs.len() == released.len();
+    Ok(is_there && has_all && steps == 0 && live.opening.parent() == 1)
+}
+
+#[test]
+fn who_goes_live_warm(rt: HostRuntime) -> Result<(), Fail> {
+    let mut right = true;
+    for (file, keepers, need) in &PAIRS {
+        let image = image_of(rt.alloc(), *file)?;
+        right = right && goes_on(&rt, rt.alloc(), &image, *keepers, *need)?;
     }
     assert!(rt; right);
     Ok(())

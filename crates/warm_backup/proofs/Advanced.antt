@@ -1,5 +1,5 @@
 -- A backup whose last leg need only grow.
-use Rattle.std.proofs.Common.{◌≡◌, ◌⊎◌, ◌<◌, ◌≤◌, ◌++◌, ◌∷◌, ◌-◌, inl, inr, ℕ, List, [], true, false, true≢false, length, sum, refl, sym, ap, subst, ◌∙◌, arith}
+use Rattle.std.proofs.Common.{◌≡◌, ◌⊎◌, ◌≤◌, ◌++◌, ◌∷◌, ◌-◌, inl, inr, ℕ, List, [], true, false, true≢false, length, sum, refl, sym, ap, subst, ◌∙◌}
 use Rattle.ft_types.specs.Counts.{count_at}
 use Rattle.ft_types.specs.declared.position.Position.{Position}
 use Rattle.log_join.specs.Stores.{StoreView, IsStore, opening_at}
@@ -8,7 +8,7 @@ use Rattle.closed_cut.specs.Position.{Avail, IsPosition, IsReached, base_of}
 use Rattle.closed_cut.proofs.Chains.{term_above}
 use Rattle.closed_cut.proofs.Unique.{one_end}
 use Rattle.closed_cut.proofs.Walking.{one_same}
-use Rattle.guest_image.specs.Image.{ImageContents, guest_of}
+use Rattle.guest_image.specs.Image.{ImageContents}
 use Rattle.guest_image.specs.Machine.{MachineState}
 use Rattle.hart_replay.specs.declared.plans.PlannedLeg.{PlannedLeg}
 use Rattle.hart_replay.specs.declared.fault.ReplayFault.{ReplayFault}
@@ -17,13 +17,13 @@ use Rattle.hart_replay.specs.GoingOn.{BeginsLeg, GoOnFrom}
 use Rattle.hart_replay.specs.KeepingUp.{KeepsUp}
 use Rattle.hart_replay.specs.Laws.{ArePlanned}
 use Rattle.hart_replay.specs.Leading.{IsLegsFault}
-use Rattle.hart_replay.specs.Plans.{BeginsAtBase, EndAt, IsLeg, terms_of}
+use Rattle.hart_replay.specs.Plans.{BeginsAtBase, IsLeg, terms_of}
 use Rattle.hart_replay.proofs.walking.Walk.{Leaves, ends_over}
 use Rattle.warm_backup.specs.declared.stand.Stand.TheVariants.{Led}
 use Rattle.warm_backup.specs.declared.work.Work.{Work}
 use Rattle.warm_backup.specs.machinery.Growing.{HasFacts, IsNext}
-use Rattle.warm_backup.specs.machinery.Working.{cut_leg, machine_in, Advances, HasAdvanced, HasGone, HasStood, IsAtEnds, IsBackup, IsRefused, IsSettled, IsUnderWay, IsUpToDate, LeadUp, MayGrowTo}
-use Rattle.warm_backup.proofs.Onward.{all_last, at_ends, ends_anew, failed_on, leg_is, leg_kept, led_on, many_harts, on, plan, planned_on, terms_same, all_anew}
+use Rattle.warm_backup.specs.machinery.Working.{cut_leg, machine_in, HasAdvanced, HasGone, HasStood, IsAtEnds, IsBackup, IsRefused, IsSettled, IsUnderWay, IsUpToDate, LeadUp, MayGrowTo}
+use Rattle.warm_backup.proofs.Onward.{all_last, at_ends, ends_anew, failed_on, leg_is, leg_kept, led_on, many_harts, plan, planned_on, terms_same, all_anew}
 
 -- a later position of the term is inside what the store has
 inside_next : (store : StoreView) → IsStore store → (p : Position) → IsPosition store p → (leg : PlannedLeg) → BeginsAtBase store leg → leg.term ≡ p.term →

@@ -1,5 +1,5 @@
 -- A backup that went to a position by the plan of its whole store.
-use Rattle.std.proofs.Common.{◌≡◌, ◌↔◌, Bool, IsTrue, sum, ◌<◌, ◌≤◌, ◌+◌, ◌-◌, ◌++◌, ◌∷◌, ℕ, zero, suc, List, [], All, length, take, refl, sym, ap, subst, ◌∙◌, arith, le_refl, length-append}
+use Rattle.std.proofs.Common.{◌≡◌, ◌↔◌, Bool, IsTrue, sum, ◌<◌, ◌≤◌, ◌-◌, ◌++◌, ◌∷◌, ℕ, List, [], All, length, take, refl, sym, ap, subst, ◌∙◌, arith, le_refl, length-append}
 use Rattle.std.proofs.lemmas.List.{get_or_past}
 use Rattle.ft_types.specs.Counts.{count_at}
 use Rattle.ft_types.specs.declared.position.Position.{Position}
@@ -10,14 +10,11 @@ use Rattle.input_log.specs.Inputs.{inputs_of}
 use Rattle.log_join.specs.Stores.{StoreView, IsStore}
 use Rattle.book_modes.specs.declared.mode.Leg.{Leg}
 use Rattle.closed_cut.specs.Chain.{LeadsTo}
-use Rattle.closed_cut.specs.Position.{Avail}
 use Rattle.closed_cut.proofs.Unique.{one_end}
 use Rattle.guest_image.specs.Image.{ImageContents, guest_of}
-use Rattle.guest_image.specs.Machine.{MachineState}
 use Rattle.hart_replay.specs.declared.plans.PlannedLeg.{PlannedLeg}
 use Rattle.hart_replay.specs.Facts.{EndsInside, HasEdges, HasInputs, HasMarks}
 use Rattle.hart_replay.specs.GoingOn.{GoOnFrom}
-use Rattle.hart_replay.specs.KeepingUp.{KeepsUp}
 use Rattle.hart_replay.specs.Laws.{ArePlanned}
 use Rattle.hart_replay.specs.Leading.{leg_of}
 use Rattle.hart_replay.specs.Plans.{EndAt, IsLeg, IsPlan, terms_of}
@@ -25,8 +22,8 @@ use Rattle.hart_replay.specs.Replays.{IsOutcome}
 use Rattle.warm_backup.specs.declared.stand.Stand.{Stand}
 use Rattle.warm_backup.specs.declared.stand.Stand.TheVariants.{Boot, Led}
 use Rattle.warm_backup.specs.declared.work.Work.{Work}
-use Rattle.warm_backup.specs.machinery.Growing.{HasFacts, IsBehind, Walks}
-use Rattle.warm_backup.specs.machinery.Working.{cut_leg, legs_of, machine_in, machine_of, HasAdvanced, HasBegun, IsBackup, IsLedTo, IsSettled, IsUpToDate, LeadUp}
+use Rattle.warm_backup.specs.machinery.Growing.{HasFacts, IsBehind}
+use Rattle.warm_backup.specs.machinery.Working.{cut_leg, legs_of, machine_in, HasAdvanced, HasBegun, IsBackup, IsLedTo, IsSettled, IsUpToDate, LeadUp}
 use Rattle.warm_backup.proofs.Cuts.{edges_before, inputs_before}
 use Rattle.warm_backup.proofs.Gone.{whole_below}
 use Rattle.warm_backup.proofs.Onward.{all_front, all_last}

@@ -1,5 +1,5 @@
 -- Rows below an end: their first elements.
-use Rattle.std.proofs.Common.{◌≡◌, ◌↔◌, ◌<◌, ◌≤◌, ◌+◌, ◌++◌, ℕ, zero, suc, Bool, true, false, List, [], ◌∷◌, length, take, map, zip, nat_lt, refl, sym, ap, subst, ◌∙◌, arith}
+use Rattle.std.proofs.Common.{◌≡◌, ◌↔◌, ◌<◌, ◌≤◌, ◌+◌, ◌++◌, ℕ, zero, suc, List, [], ◌∷◌, length, take, map, zip, nat_lt, refl, sym, ap, subst, ◌∙◌, arith}
 use Rattle.std.proofs.Common.{get_or, le-ltb, lt-ltb, length-take, length-drop, drop, append-nil, take-append-drop, inl, inr, le_refl, All, Contains}
 use Rattle.std.proofs.lemmas.Bool.{cases_lt}
 use Rattle.std.proofs.lemmas.List.{get_or-drop}

@@ -1,15 +1,15 @@
 -- A leg that grew, and a book that went on to its new ends.
-use Rattle.std.proofs.Common.{◌≡◌, ◌≢◌, ◌⊎◌, ◌<◌, ◌≤◌, inl, inr, ℕ, suc, List, [], ◌∷◌, All, map, slice_index_or, Result, Ok, Err, IfErr, length, refl, sym, ap, subst, ◌∙◌, arith, le_trans}
+use Rattle.std.proofs.Common.{◌≡◌, ◌≢◌, ◌⊎◌, ◌<◌, ◌≤◌, inl, inr, ℕ, suc, List, [], ◌∷◌, map, slice_index_or, length, refl, sym, ap, subst, ◌∙◌, arith, le_trans}
 use Rattle.std.specs.List.{flat_map}
 use Rattle.std.proofs.Math.Path.{fun_ext}
 use Rattle.std.proofs.lemmas.Bool.{cases_lt}
 use Rattle.ft_types.specs.Counts.{count_at}
-use Rattle.ft_types.specs.declared.names.TheConstants.{HART_LIMIT, HART_ROW}
+use Rattle.ft_types.specs.declared.names.TheConstants.{HART_ROW}
 use Rattle.interleaving.specs.Log.{IsClosed, IsCut}
 use Rattle.edge_log.specs.declared.Edge.{Edge}
 use Rattle.edge_log.specs.EdgeLog.{IsLog, edge_as, row_of}
 use Rattle.input_log.specs.declared.Input.{Input}
-use Rattle.input_log.specs.Inputs.{inputs_of, HearsMore}
+use Rattle.input_log.specs.Inputs.{inputs_of}
 use Rattle.log_join.specs.Stores.{StoreView, IsStore}
 use Rattle.guest_image.specs.Machine.{MachineState}
 use Rattle.hart_lease.specs.Runs.{counts_of}

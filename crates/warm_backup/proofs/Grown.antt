@@ -1,14 +1,13 @@
 -- A leg that got a hart's facts between its end and a later one has what the store tells up to that.
-use Rattle.std.proofs.Common.{◌≡◌, ◌≢◌, ◌↔◌, inl, inr, ℕ, ◌+◌, ◌<◌, ◌≤◌, max, List, [], ◌++◌, Contains, All, length, length-set, get_or-set_same, get_or-set_other, slice_set}
-use Rattle.std.proofs.Common.{refl, sym, ap, subst, ◌∙◌, arith, le_trans}
+use Rattle.std.proofs.Common.{◌≡◌, ◌≢◌, ◌↔◌, inl, inr, ℕ, ◌<◌, ◌≤◌, List, ◌++◌, Contains, length, get_or-set_same, get_or-set_other, slice_set}
+use Rattle.std.proofs.Common.{sym, ap, subst, ◌∙◌, arith}
 use Rattle.std.proofs.lemmas.Bool.{cases_eq}
-use Rattle.std.proofs.lemmas.List.Elements.{All-append, All-weaker, Contains-append_cases, Contains-append_left, Contains-append_right}
+use Rattle.std.proofs.lemmas.List.Elements.{Contains-append_cases, Contains-append_left, Contains-append_right}
 use Rattle.ft_types.specs.Counts.{count_at}
 use Rattle.interleaving.specs.Log.{Edge}
 use Rattle.interleaving.specs.Cuts.{IsEnough}
 use Rattle.interleaving.proofs.Cuts.{same_order}
-use Rattle.edge_log.specs.EdgeLog.{Edges, edges_of, row_of}
-use Rattle.input_log.specs.declared.Input.{Input}
+use Rattle.edge_log.specs.EdgeLog.{edges_of}
 use Rattle.input_log.specs.Inputs.{inputs_of}
 use Rattle.input_log.specs.Notes.{greatest}
 use Rattle.input_log.proofs.Notings.{greatest_append}
@@ -16,8 +15,8 @@ use Rattle.fragment_codec.specs.declared.types.Record.{Record}
 use Rattle.log_join.specs.Stores.{StoreView}
 use Rattle.closed_cut.specs.Position.{pieces_of, Goes, Avail}
 use Rattle.hart_replay.specs.declared.plans.PlannedLeg.{PlannedLeg}
-use Rattle.hart_replay.specs.Facts.{records_of, below, facts_of, edges_among, inputs_among, notes_among, HasEdges, HasInputs, HasMarks}
-use Rattle.hart_replay.specs.machinery.Taking.{TakesEdges, EdgesEndBy, TakesInputs, InputsEndBelow, TakesNotes}
+use Rattle.hart_replay.specs.Facts.{records_of, below, edges_among, inputs_among, notes_among, HasEdges, HasInputs, HasMarks}
+use Rattle.hart_replay.specs.machinery.Taking.{TakesEdges, TakesInputs, TakesNotes}
 use Rattle.hart_replay.proofs.gathering.Records.{edges_among-append, inputs_among-append, notes_among-append}
 
 module _ (store : StoreView) (old new : PlannedLeg) (hart end : ℕ) (added : List Record) (term : new.term ≡ old.term) (base : new.base ≡ old.base)

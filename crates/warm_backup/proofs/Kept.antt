@@ -1,5 +1,5 @@
 -- What a backup keeps as frames come.
-use Rattle.std.proofs.Common.{◌≡◌, ◌≢◌, Bool, ℕ, List, [], ◌∷◌, ◌++◌, true, false, true≢false, refl, sym, ap, subst, ◌∙◌}
+use Rattle.std.proofs.Common.{◌≡◌, ◌≢◌, Bool, ℕ, List, true, true≢false, refl, sym, ap, subst, ◌∙◌}
 use Rattle.ft_types.specs.declared.position.Position.{Position}
 use Rattle.fragment_codec.specs.Rules.{FragmentParts}
 use Rattle.fragment_codec.specs.declared.frame.Frame.{Frame}
@@ -11,11 +11,9 @@ use Rattle.log_join.specs.Stores.{StoreView, IsJoin, IsStore, alone}
 use Rattle.tracked_position.proofs.Growth.{HasOneMore, one_more}
 use Rattle.guest_image.specs.Image.{ImageContents}
 use Rattle.hart_replay.specs.declared.plans.PlannedLeg.{PlannedLeg}
-use Rattle.hart_replay.specs.KeepingUp.{KeepsUp}
 use Rattle.warm_backup.specs.declared.stand.Stand.{Stand}
 use Rattle.warm_backup.specs.declared.stand.Stand.TheVariants.{Boot, Led}
-use Rattle.warm_backup.specs.declared.work.Work.{Work}
-use Rattle.warm_backup.specs.machinery.Working.{legs_of, machine_of, unsure, IsBackup, IsUnderWay, StandsAt, TellsOn}
+use Rattle.warm_backup.specs.machinery.Working.{legs_of, machine_of, unsure, IsBackup, StandsAt, TellsOn}
 use Rattle.warm_backup.proofs.Telling.{led_up_too, up_to_date_too}
 
 pub legs_unsure : (front : List PlannedLeg) (stand : Stand) (counts : List ℕ) → legs_of front (unsure stand) counts ≡ legs_of front stand counts

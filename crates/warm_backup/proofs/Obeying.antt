@@ -1,8 +1,6 @@
 -- A book that obeyed what came of a leg, from where its harts had come to, as one of the leg.
-use Rattle.std.proofs.Common.{◌≡◌, ◌+◌, ◌<◌, ◌≤◌, ◌++◌, inl, inr, ℕ, List, [], ◌∷◌, All, Contains, Option, Some, Result, Ok, Err, length, refl, sym, ap, subst, ◌∙◌, arith, le_refl, le_trans}
-use Rattle.std.proofs.Common.{◌==◌, ne_eqb, map}
-use Rattle.std.specs.List.{filter}
-use Rattle.std.proofs.Math.Path.{fun_ext}
+use Rattle.std.proofs.Common.{◌≡◌, ◌<◌, ◌≤◌, ◌++◌, inl, inr, ℕ, List, [], ◌∷◌, All, Contains, Some, Ok, Err, length, refl, sym, ap, subst, ◌∙◌, arith, le_refl, le_trans}
+use Rattle.std.proofs.Common.{ne_eqb}
 use Rattle.std.proofs.lemmas.List.Elements.{All-head, All-tail}
 use Rattle.ft_types.specs.Counts.{count_at}
 use Rattle.interleaving.specs.Lists.{IsWithin}

@@ -1,10 +1,10 @@
 -- What came of a leg, as edges from the counts reached on: it lets the same steps go as the leg does.
-use Rattle.std.proofs.Common.{◌≡◌, ◌+◌, ◌<◌, ◌≤◌, ◌++◌, inl, inr, ℕ, List, [], ◌∷◌, Contains, refl, sym, ap, subst, ◌∙◌, arith, le_refl, le_trans}
+use Rattle.std.proofs.Common.{◌≡◌, ◌+◌, ◌<◌, ◌≤◌, ◌++◌, inl, inr, ℕ, List, [], ◌∷◌, Contains, sym, ap, subst, ◌∙◌, arith, le_refl}
 use Rattle.std.proofs.lemmas.Bool.{cases_lt, cases_eq}
 use Rattle.std.proofs.lemmas.List.Elements.{Contains-append_cases, Contains-append_right}
 use Rattle.interleaving.specs.Lists.{IsWithin}
 use Rattle.interleaving.specs.Log.{Edge, Begins, HasUnmet, IsClosed, IsMet, bump, counts_after}
-use Rattle.interleaving.specs.Cuts.{IsEnough, IsImplied}
+use Rattle.interleaving.specs.Cuts.{IsEnough}
 use Rattle.interleaving.proofs.Cuts.{same_order}
 use Rattle.interleaving.proofs.Put.{bump_le, put_same, put_other}
 use Rattle.hart_replay.proofs.honesty.Schedules.{begins_too}

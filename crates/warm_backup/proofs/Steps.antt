@@ -1,10 +1,10 @@
 -- What is added to a leg, piece after piece.
-use Rattle.std.proofs.Common.{◌≡◌, ◌≢◌, inl, inr, ℕ, ◌+◌, ◌<◌, ◌≤◌, max, List, [], ◌++◌, All, length, refl, sym, ap, subst, ◌∙◌, arith, append-nil, append_assoc, le_refl, le_trans}
+use Rattle.std.proofs.Common.{◌≡◌, inl, inr, ℕ, ◌<◌, ◌≤◌, List, [], ◌++◌, length, refl, sym, ap, subst, ◌∙◌, arith, append-nil, append_assoc, le_refl, le_trans}
 use Rattle.std.proofs.Common.{length-set, slice_set}
 use Rattle.std.proofs.lemmas.Bool.{cases_eq}
 use Rattle.std.proofs.lemmas.List.Elements.{All-append, All-nil, All-weaker}
 use Rattle.ft_types.specs.Counts.{count_at}
-use Rattle.edge_log.specs.EdgeLog.{Edges, AddsLater, edges_of, row_of, start_of}
+use Rattle.edge_log.specs.EdgeLog.{Edges, edges_of, start_of}
 use Rattle.interleaving.specs.Log.{Edge}
 use Rattle.interleaving.specs.Cuts.{IsEnough}
 use Rattle.input_log.specs.declared.Input.{Input}

@@ -1,13 +1,12 @@
 -- A store to which one piece came at a key where nothing was: what a leg had of it up to its ends, it still has.
-use Rattle.std.proofs.Common.{◌≡◌, ◌<◌, ◌≤◌, ◌++◌, inl, inr, ℕ, zero, suc, List, [], ◌∷◌, All, Contains, get_or, length, refl, sym, ap, subst, ◌∙◌, arith, le_trans}
+use Rattle.std.proofs.Common.{◌≡◌, ◌≤◌, ◌++◌, inl, inr, ℕ, zero, suc, List, [], ◌∷◌, Contains, get_or, refl, sym, ap, subst, ◌∙◌, le_trans}
 use Rattle.std.proofs.lemmas.Bool.{cases_lt}
 use Rattle.ft_types.specs.Counts.{count_at}
-use Rattle.interleaving.specs.Log.{Edge}
 use Rattle.fragment_codec.specs.declared.types.Record.{Record}
 use Rattle.fragment_codec.specs.Rules.{FragmentParts, IsFragment}
-use Rattle.log_join.specs.Cells.{Cell, One}
+use Rattle.log_join.specs.Cells.{One}
 use Rattle.log_join.specs.Stores.{StoreView, IsStore}
-use Rattle.closed_cut.specs.Chain.{IsParent, LeadsTo}
+use Rattle.closed_cut.specs.Chain.{LeadsTo}
 use Rattle.closed_cut.specs.Position.{pieces_of, Avail, Goes}
 use Rattle.closed_cut.proofs.Reach.{cut_short}
 use Rattle.closed_cut.proofs.Unique.{one_end}

@@ -1,14 +1,12 @@
 -- The facts of a hart below an end, as those below an earlier one and what came between.
-use Rattle.std.proofs.Common.{◌≡◌, ◌⊎◌, inl, inr, ℕ, zero, suc, ◌+◌, ◌<◌, ◌≤◌, Bool, true, false, List, [], ◌∷◌, ◌++◌, All, refl, sym, ap, subst, ◌∙◌, arith}
+use Rattle.std.proofs.Common.{◌≡◌, ◌⊎◌, inl, inr, ℕ, zero, suc, ◌+◌, ◌<◌, ◌≤◌, List, [], ◌∷◌, ◌++◌, All, refl, sym, ap, subst, ◌∙◌, arith}
 use Rattle.std.proofs.Common.{add-one, append-nil, append_assoc, lt-ltb, le-ltb, le_trans}
-use Rattle.std.specs.List.{filter}
 use Rattle.std.proofs.lemmas.Bool.{cases_lt, le-leb, lt-leb}
-use Rattle.std.proofs.lemmas.List.Elements.{All-head, All-tail, All-weaker, All-from_recursion, filter-append}
+use Rattle.std.proofs.lemmas.List.Elements.{All-head, All-tail, All-weaker, All-from_recursion}
 use Rattle.fragment_codec.specs.declared.types.Record.{Record}
 use Rattle.fragment_codec.specs.Rules.{FragmentParts, IsFragment, IsRecordOf, AreInOrder, count_of}
 use Rattle.log_join.specs.Cells.{Cell, One}
 use Rattle.closed_cut.specs.Position.{Goes}
-use Rattle.closed_cut.proofs.Reach.{goes_above}
 use Rattle.closed_cut.proofs.Walking.{one_same}
 use Rattle.hart_replay.specs.Facts.{records_in, records_of, below}
 use Rattle.hart_replay.specs.machinery.Taking.{between}

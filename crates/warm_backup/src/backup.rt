@@ -1,6 +1,6 @@
 //! A machine that keeps up with a store.
 
-ghost use Rattle.std.specs.Prelude.{◌≡◌, ◌≢◌, ◌⊎◌, ◌↔◌, ◌-◌, List, [], length, replicate, sum, Ok, Err, IfOk, IfErr, OnOk, OnErr, IsTrue};
+ghost use Rattle.std.specs.Prelude.{◌≡◌, ◌≢◌, ◌⊎◌, ◌↔◌, ◌-◌, ℕ, List, [], length, replicate, sum, Ok, Err, IfOk, IfErr, OnOk, OnErr, IsTrue};
 ghost use Rattle.fragment_codec.specs.declared.frame.Frame.{Frame as frame_of_specs};
 ghost use Rattle.fragment_codec.specs.Rules.{FragmentParts};
 ghost use Rattle.guest_image.specs.Image.{guest_of};
@@ -9,14 +9,16 @@ ghost use Rattle.log_join.specs.Answers.{answer_to};
 ghost use Rattle.log_join.specs.Stores.{IsJoin, nothing, alone};
 ghost use Rattle.closed_cut.specs.Position.{IsPosition};
 ghost use Rattle.tracked_position.specs.machinery.Keeping.{MayGrow};
+ghost use Rattle.ft_types.specs.Counts.{count_at};
 ghost use Rattle.hart_replay.specs.GoingOn.{GoOnFrom};
+ghost use Rattle.hart_replay.specs.Plans.{IsPlan, noted_in};
 ghost use Rattle.hart_replay.specs.Replays.{IsOutcome};
 ghost use Rattle.hart_replay.specs.KeepingUp.{IsFaultOfStore};
 ghost use Rattle.hart_replay.specs.Laws.{ArePlanned};
 ghost use Rattle.warm_backup.specs.Backups.{FollowsHistory};
 ghost use Rattle.warm_backup.specs.machinery.Working.{TellsOn};
 
-use crate::stand::{Stand, go_to};
+use crate::stand::{Stand, go_to, marks_at};
 use closed_cut::Position;
 use fragment_codec::Frame;
 use ft_types::{Counts, Memory};
@@ -123,6 +125,14 @@ impl Backup {
         })
     }
 
+    /// The image of whose guest it is.
+    pub fn image(&self) -> &Image
+        ensures value { result.now ≡ self.now.image }
+        ensures guest { self.now.store.guest ≡ guest_of self.now.image }
+    {
+        &self.image
+    }
+
     /// What came.
     pub fn store(&self) -> &Store
         ensures { result.now ≡ self.now.store }
@@ -134,9 +144,22 @@ impl Backup {
     pub fn machine(&self) -> &Machine
         ensures value { result.now ≡ self.now.machine }
         // Schedules of what was planned lead to it from boot, one leg after the other.
+        ensures plan { IsPlan (guest_of self.now.image) self.now.legs }
         ensures outcome { IsOutcome self.now.image self.now.legs result.now }
     {
         self.stand.machine()
+    }
+
+    /// For each hart the greatest number that is noted in what was planned, or 0.
+    pub fn marks(&self) -> Counts
+        ensures { (hart : ℕ) → count_at result hart ≡ noted_in self.now.legs hart }
+    {
+        marks_at(
+            self.front.as_slice(),
+            &self.stand,
+            &self.position,
+            self.image.harts(),
+        )
     }
 
     /// The position to which it last went.
@@ -144,6 +167,14 @@ impl Backup {
         ensures { result.now ≡ self.now.position }
     {
         &self.position
+    }
+
+    /// The position of all that came.
+    pub fn reached(&self) -> &Position
+        ensures position { IsPosition self.now.store result.now }
+        ensures harts { length result.now.counts ≡ self.now.store.guest.harts }
+    {
+        self.tracked.position()
     }
 
     /// How many steps the last advance took that was not refused.
@@ -195,6 +226,7 @@ impl Backup {
         ensures image { self.new.image ≡ self.old.image }
         ensures store { self.new.store ≡ self.old.store }
         ensures position { OnOk result (IsPosition self.old.store self.new.position) }
+        ensures harts { OnOk result (length self.new.position.counts ≡ self.old.store.guest.harts) }
         ensures planned { OnOk result (ArePlanned self.old.store self.new.position self.new.legs) }
         ensures outcome { OnOk result (IsOutcome self.new.image self.new.legs self.new.machine) }
         // Its steps are those from the old position to the new one where it went on, else all.

@@ -1,8 +1,11 @@
 //! Legs that are left behind.
 
-ghost use Rattle.std.specs.Prelude.{◌≡◌, ◌-◌, length, take, IfOk};
+ghost use Rattle.std.specs.Prelude.{◌≡◌, ◌-◌, ◌≤◌, ℕ, All, length, take, IfOk};
+ghost use Rattle.ft_types.specs.declared.names.TheConstants.{HART_LIMIT};
+ghost use Rattle.ft_types.specs.Counts.{count_at};
+ghost use Rattle.hart_replay.specs.Plans.{noted_in};
 
-use ft_types::Memory;
+use ft_types::{Counts, Memory};
 use hart_replay::PlannedLeg;
 use std::alloc::Global;
 use std::result::Result;
@@ -30,4 +33,18 @@ pub(crate) fn front_of(alloc: Global, legs: &[PlannedLeg]) -> Result<Vec<Planned
         front.push(copy_leg(&legs[number - 1])?)?;
     }
     Ok(front)
+}
+
+/// For each hart the greatest number that is noted in these legs, or 0.
+pub(crate) fn marks_of(harts: u8, legs: &[PlannedLeg]) -> Counts
+    requires harts { harts ≤ HART_LIMIT }
+    requires marks { All (λ leg. length leg.marks ≡ harts) legs.now }
+    ensures harts { length result ≡ harts }
+    ensures greatest { (hart : ℕ) → count_at result hart ≡ noted_in legs.now hart }
+{
+    let mut marks = Counts::zero(harts);
+    for leg in legs {
+        marks = marks.max(leg.marks);
+    }
+    marks
 }

@@ -1,7 +1,9 @@
 //! Where a backup stands.
 
-ghost use Rattle.std.specs.Prelude.{◌≡◌, ◌↔◌, ◌-◌, ◌≤◌, ◌++◌, ◌∷◌, [], length, sum, IfOk, IfErr, IsTrue};
+ghost use Rattle.std.specs.Prelude.{◌≡◌, ◌↔◌, ◌-◌, ◌≤◌, ◌++◌, ◌∷◌, ℕ, [], All, length, sum, IfOk, IfErr, IsTrue};
+ghost use Rattle.ft_types.specs.declared.names.TheConstants.{HART_LIMIT};
 ghost use Rattle.ft_types.specs.declared.position.Position.{Position as position_of_specs};
+ghost use Rattle.ft_types.specs.Counts.{count_at};
 ghost use Rattle.log_join.specs.Stores.{IsStore};
 ghost use Rattle.closed_cut.specs.Position.{IsPosition};
 ghost use Rattle.guest_image.specs.Image.{guest_of};
@@ -9,11 +11,11 @@ ghost use Rattle.hart_replay.specs.GoingOn.{GoOnFrom};
 ghost use Rattle.hart_replay.specs.KeepingUp.{KeepsUp};
 ghost use Rattle.hart_replay.specs.Laws.{ArePlanned};
 ghost use Rattle.hart_replay.specs.Leading.{IsLegsFault};
-ghost use Rattle.hart_replay.specs.Plans.{IsPlan};
+ghost use Rattle.hart_replay.specs.Plans.{IsPlan, noted_in};
 ghost use Rattle.hart_replay.specs.machinery.Going.{IsAt};
 ghost use Rattle.warm_backup.specs.machinery.Working.{cut_leg, legs_of, machine_of, unsure, HasNoFront, IsBackup, IsLedTo, MayGrowTo, Advances};
 
-use crate::legs::front_of;
+use crate::legs::{front_of, marks_of};
 use crate::work::Work;
 use closed_cut::Position;
 use ft_types::{Counts, Hart, Memory};
@@ -68,6 +70,24 @@ impl Stand {
             Stand::Boot(_) => false,
             Stand::Led(work) => work.may_go_on(end.term, &end.counts),
         }
+    }
+}
+
+/// For each hart the greatest number that is noted in these legs, or in the last one, which is under way; or 0.
+pub(crate) fn marks_at(
+    front: &[PlannedLeg],
+    stand: &Stand,
+    _position: &Position,
+    harts: u8,
+) -> Counts
+    requires limit { harts ≤ HART_LIMIT }
+    requires marks { All (λ leg. length leg.marks ≡ harts) (legs_of front.now stand.now _position.now.counts) }
+    ensures { (hart : ℕ) → count_at result hart ≡ noted_in (legs_of front.now stand.now _position.now.counts) hart }
+{
+    let before = marks_of(harts, front);
+    match stand {
+        Stand::Boot(_) => before,
+        Stand::Led(work) => before.max(work.marks()),
     }
 }
 

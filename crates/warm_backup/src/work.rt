@@ -167,6 +167,13 @@ impl Work {
         }
     }
 
+    /// The greatest numbers that are noted in its leg.
+    pub(crate) fn marks(&self) -> Counts
+        ensures { result ≡ self.now.leg.marks }
+    {
+        self.leg.marks
+    }
+
     /// The store does not go on as it did.
     pub(crate) fn look_anew(&mut self)
         ensures { self.new ≡ record self.old { lasts = false } }

@@ -1,6 +1,5 @@
 -- A book of a leg that is led on.
 use Rattle.std.specs.Prelude.{◌≡◌, ◌<◌, ℕ, length}
-use Rattle.ft_types.specs.Counts.{count_at}
 use Rattle.book_modes.specs.declared.mode.Leg.{Leg}
 use Rattle.edge_log.specs.EdgeLog.{edges_of}
 use Rattle.hart_lease.specs.Runs.{BeginsSchedule, LeadsTo, heard_in}

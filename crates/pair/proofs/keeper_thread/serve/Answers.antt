@@ -1,5 +1,7 @@
-use Rattle.std.proofs.Common.{ap, refl, ◌∙◌}
+use Rattle.std.proofs.Common.{ap, refl, subst, sym, ◌∙◌}
 use Rattle.ft_types.specs.Guests.{GuestParts}
+use Rattle.log_join.specs.Stores.{StoreView}
+use Rattle.pair.specs.Serving.{HadAll}
 use Rattle.pair.proofs.Served.{told_on, none_told}
 use Rattle.pair.proofs.keeper_thread.serve.Goals as goal
 
@@ -15,13 +17,17 @@ pub loop-preserved : goal.loop-preserved
 loop-preserved g c = record {
   seat = c.in_ok-keep.ensures.seat.0;
   keeper = c.in_ok-keep.ensures.seat.1 ∙ c.loop.invariant.keeper;
-  harts = ap (λ (g : GuestParts). g.harts) c.in_ok-keep.ensures.guest ∙ c.loop.invariant.harts;
-  had = told_on c.args.board.now c.loop.seat c.keep.new.seat c.loop.store c.keep.new.store _ c.loop.invariant.had c.in_ok-keep.ensures.taken c.in_ok-keep.ensures.tells;
+  harts = ap (λ (s : StoreView). s.guest.harts) c.in_ok-keep_up-2.ensures ∙ ap (λ (g : GuestParts). g.harts) c.in_ok-keep.ensures.guest ∙ c.loop.invariant.harts;
+  had = subst (λ (s : StoreView). HadAll c.args.board.now c.keep.new.seat s) (sym c.in_ok-keep_up-2.ensures)
+      (told_on c.args.board.now c.loop.seat c.keep.new.seat c.loop.store c.keep.new.store _ c.loop.invariant.had c.in_ok-keep.ensures.taken
+      c.in_ok-keep.ensures.tells);
 }
 
 pub returns-then-ended : goal.returns-then-ended
 returns-then-ended g c = record {
   seat = c.in_ok-keep.ensures.seat.0;
   keeper = c.in_ok-keep.ensures.seat.1 ∙ c.loop.invariant.keeper;
-  had = told_on c.args.board.now c.loop.seat c.keep.new.seat c.loop.store c.keep.new.store _ c.loop.invariant.had c.in_ok-keep.ensures.taken c.in_ok-keep.ensures.tells;
+  had = subst (λ (s : StoreView). HadAll c.args.board.now c.keep.new.seat s) (sym c.keep_up.ensures)
+      (told_on c.args.board.now c.loop.seat c.keep.new.seat c.loop.store c.keep.new.store _ c.loop.invariant.had c.in_ok-keep.ensures.taken
+      c.in_ok-keep.ensures.tells);
 }

@@ -10,7 +10,7 @@ use Rattle.pair.specs.Leading.{HasLed}
 use Rattle.pair.specs.Released.{IsPartOf, is_among}
 use Rattle.pair.specs.Serving.{IsHeard, IsHeldOnTheWay}
 use Rattle.pair.specs.declared.gate_thread.GateEnd.{GateEnd}
-use Rattle.pair.proofs.Held.{all_held, if_ok}
+use Rattle.pair.proofs.HeldOutputs.{all_held, if_ok}
 use Rattle.pair.proofs.threads.run_all.Goals as goal
 
 pub returns-clause-led : goal.returns-clause-led

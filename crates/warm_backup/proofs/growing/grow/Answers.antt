@@ -1,4 +1,4 @@
-use Rattle.std.proofs.Common.{◌≡◌, ◌≤◌, ◌<◌, length, sym, ap, ◌∙◌, arith}
+use Rattle.std.proofs.Common.{◌≡◌, length, ap, ◌∙◌, arith}
 use Rattle.ft_types.specs.Counts.{count_at}
 use Rattle.warm_backup.proofs.Raised.{grew_more, raised_all, raised_behind, raises_at, raises_none, raises_nothing}
 use Rattle.warm_backup.proofs.growing.grow.Goals as goal

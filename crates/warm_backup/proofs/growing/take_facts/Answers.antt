@@ -1,13 +1,9 @@
-use Rattle.std.proofs.Common.{◌≡◌, ◌≢◌, ◌≤◌, ◌<◌, ◌+◌, ℕ, List, All, length, max, refl, sym, ap, subst, ◌∙◌, arith, le_of_eq}
+use Rattle.std.proofs.Common.{◌≡◌, ◌≤◌, ◌<◌, ◌+◌, ℕ, List, All, length, refl, sym, ap, subst, ◌∙◌, arith}
 use Rattle.ft_types.specs.Counts.{count_at}
-use Rattle.edge_log.specs.declared.Edge.{Edge}
 use Rattle.edge_log.specs.EdgeLog.{row_of}
-use Rattle.input_log.specs.declared.Input.{Input}
 use Rattle.input_log.specs.Inputs.{inputs_of}
-use Rattle.fragment_codec.specs.Rules.{FragmentParts}
 use Rattle.log_join.specs.Cells.{One}
 use Rattle.closed_cut.specs.Position.{pieces_of}
-use Rattle.hart_replay.specs.machinery.Taking.{EdgesEndBy, InputsEndBelow}
 use Rattle.hart_replay.proofs.gathering.Pieces.{hart_is, harts_are, no_lower}
 use Rattle.warm_backup.proofs.Cuts.{edges_before, inputs_before}
 use Rattle.warm_backup.proofs.Growth.{begins_so_far, covers, covers_all, fits, grows_next, has_next, next_so_far, takes_up_to}

@@ -1,4 +1,4 @@
-use Rattle.std.proofs.Common.{◌≡◌, ℕ, List, sym, ap, ◌∙◌}
+use Rattle.std.proofs.Common.{◌≡◌, sym, ◌∙◌}
 use Rattle.warm_backup.proofs.Begun.{begins_by_rows}
 use Rattle.warm_backup.proofs.slices.begins_below.Goals as goal
 

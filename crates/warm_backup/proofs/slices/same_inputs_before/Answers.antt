@@ -1,9 +1,6 @@
-use Rattle.std.proofs.Common.{◌≡◌, ℕ, take, nat_lt, zip, sym, ap, ◌∙◌}
-use Rattle.std.specs.List.{filter}
+use Rattle.std.proofs.Common.{take, zip, sym, ◌∙◌}
 use Rattle.std.proofs.lemmas.Slice.Eq.{slice_eq-Decides}
 use Rattle.input_log.proofs.Told.{inputs_told}
-use Rattle.input_log.specs.declared.Input.{Input}
-use Rattle.input_log.specs.Inputs.{inputs_of}
 use Rattle.warm_backup.proofs.Firsts.{hears_from_same, inputs_below_are, paired_below, same_from_hears, same_zips}
 use Rattle.warm_backup.proofs.slices.same_inputs_before.Goals as goal
 

@@ -1,4 +1,4 @@
-use Rattle.std.proofs.Common.{◌≡◌, ◌-◌, ◌∷◌, List, length, take, sym, ap, subst, ◌∙◌}
+use Rattle.std.proofs.Common.{List, sym, subst}
 use Rattle.ft_types.specs.Guests.{GuestParts}
 use Rattle.hart_replay.specs.declared.plans.PlannedLeg.{PlannedLeg}
 use Rattle.hart_replay.specs.Laws.{ArePlanned}

@@ -1,10 +1,10 @@
-use Rattle.std.proofs.Common.{◌≡◌, ◌≢◌, List, refl, sym, ap, subst, ◌∙◌}
+use Rattle.std.proofs.Common.{◌≢◌, refl}
 use Rattle.std.proofs.lemmas.Result.{err_from_is_err_and}
 use Rattle.ft_types.specs.declared.position.Position.{Position}
 use Rattle.warm_backup.specs.declared.stand.Stand.{Stand}
 use Rattle.warm_backup.specs.declared.stand.Stand.TheVariants.{Boot, Led}
 use Rattle.warm_backup.specs.declared.work.Work.{Work}
-use Rattle.warm_backup.specs.machinery.Working.{IsBackup, MayGrowTo}
+use Rattle.warm_backup.specs.machinery.Working.{MayGrowTo}
 use Rattle.warm_backup.proofs.Advanced.{at, has_advanced, has_stood, next}
 use Rattle.warm_backup.proofs.stand.go_to.Goals as goal
 

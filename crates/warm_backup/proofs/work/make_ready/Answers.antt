@@ -1,4 +1,4 @@
-use Rattle.std.proofs.Common.{◌≡◌, ℕ, List, length, ap, subst, ◌∙◌, le_of_eq}
+use Rattle.std.proofs.Common.{ℕ, List, length, ap, subst, ◌∙◌, le_of_eq}
 use Rattle.ft_types.specs.Counts.{count_at}
 use Rattle.warm_backup.specs.machinery.Growing.{AsksForNothingOf}
 use Rattle.warm_backup.proofs.Gone.{asks_for_nothing}

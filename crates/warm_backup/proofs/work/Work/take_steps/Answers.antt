@@ -1,4 +1,4 @@
-use Rattle.std.proofs.Common.{◌≡◌, Result, Ok, Err, IfErr, OnOk, ap, refl, ◌∙◌}
+use Rattle.std.proofs.Common.{Result, Ok, Err, IfErr, OnOk, ap, refl, ◌∙◌}
 use Rattle.book_modes.specs.declared.mode.Leg.{Leg}
 use Rattle.warm_backup.specs.declared.work.Work.{Work}
 use Rattle.warm_backup.proofs.Gone.{has_gone, is_refused}

@@ -4,9 +4,9 @@ use Rattle.output_gate.specs.Looks.{IsSeen}
 use Rattle.std.specs.List.{AllByRecursion}
 use Rattle.log_streams.specs.Primary.{IsReady, IsRunOf}
 use Rattle.pair.specs.Serving.{IsHeldOnTheWay}
-use Rattle.pair.proofs.Held.{if_ok}
+use Rattle.pair.proofs.HeldOutputs.{if_ok}
 use Rattle.pair.proofs.Leading.{may_lead, run_of}
-use Rattle.pair.proofs.threads.run_pair.Goals as goal
+use Rattle.pair.proofs.threads.run_kept.Goals as goal
 
 pub man_posts-requires-clause-seats : goal.man_posts-requires-clause-seats
 man_posts-requires-clause-seats g c =

@@ -1,0 +1,15 @@
+use Rattle.std.proofs.Common.{◌≡◌, ◌<◌, ◌∷◌, [], List, get_or, length, ap, arith, sym, ◌∙◌}
+use Rattle.std.specs.List.{remove}
+use Rattle.log_join.specs.Stores.{StoreView}
+use Rattle.pair.proofs.warm.first_of.Goals as goal
+
+-- the first of a list, and the rest
+first_rest : (xs : List StoreView) (x : StoreView) → 0 < length xs → x ≡ get_or xs 0 x → xs ≡ x ∷ remove xs 0
+first_rest [] x some is = absurd (omega (arith, some))
+first_rest (y ∷ xs) x some is = ap (λ (s : StoreView). s ∷ xs) (sym is)
+
+pub returns-in-Some : goal.returns-in-Some
+returns-in-Some c =
+    first_rest c.args.held.items c.remove.result (omega arith) c.remove.ensures.value
+    ∙ ap (λ (s : StoreView). s ∷ remove c.args.held.items 0) (sym c.in-Some.ensures)
+    ∙ ap (λ (xs : List StoreView). c.in-Some.backup.store ∷ xs) (sym c.remove.ensures.items)

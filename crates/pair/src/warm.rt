@@ -1,0 +1,143 @@
+//! A pair whose first keeper is warm, and the primary that goes live from it once the pair is at its end.
+
+ghost use Rattle.std.specs.Prelude.{◌≡◌, ◌+◌, ◌∷◌, IfOk, IfSome, IsTrue, length, map};
+ghost use Rattle.ft_types.specs.declared.names.TheConstants.{KEEPER_LIMIT};
+ghost use Rattle.scripts.specs.Script.{AreOffered};
+ghost use Rattle.log_streams.specs.Primary.{IsRunOf};
+ghost use Rattle.primary.specs.Outputs.{outputs_in};
+ghost use Rattle.pair.specs.Released.{IsPartOf};
+ghost use Rattle.pair.specs.Warm.{GoesOn, HasGoneLive};
+
+use crate::holding::Held;
+use crate::threads::{PairEnd, run_kept};
+use fragment_codec::FIRST_TERM;
+use ft_types::{KEEPER_LIMIT, Keeper, Memory};
+use go_live::{Live, LiveFault};
+use guest_image::Image;
+use hart_replay::ReplayFault;
+use log_join::Store;
+use log_streams::PairOrders;
+use output_gate::Output;
+use page_book::{Book, Recording};
+use scripts::Offered;
+use std::alloc::Global;
+use std::result::Result;
+use std::sync::Wait;
+use std::thread::Threads;
+use warm_backup::Backup;
+use warm_live::go_live_warm;
+
+/// What became of a pair whose first keeper was warm.
+#[derive(Drop)]
+pub struct WarmEnd {
+    /// What went out, by hart and number.
+    pub released: Vec<Output>,
+    /// How many outputs did not go out.
+    pub kept: usize,
+    /// The primary's book.
+    pub book: Book<Recording>,
+    /// The primary of the next term.
+    pub live: Live,
+    /// How many steps were replayed when it went live.
+    pub steps: u64,
+}
+
+/// The term behind the pair's.
+pub(crate) const NEXT_TERM: u32 = FIRST_TERM + 1;
+
+/// Whether the images are the same.
+fn is_same(one: &Image, other: &Image) -> bool
+    ensures { IsTrue result → one.now ≡ other.now }
+{
+    one.harts() == other.harts() && one.pages() == other.pages() && one.words() == other.words()
+}
+
+/// What these keepers hold, the first of whom has number 1, with their numbers.
+fn stores_of<'a>(alloc: Global, held: &'a [Held]) -> Result<Vec<(Keeper, &'a Store)>, Memory>
+    ensures { IfOk result (λ stores. map (λ s. s.1.now) stores.items ≡ held.now) }
+{
+    let mut stores = Vec::new(alloc);
+    stores.reserve(held.len())?;
+    let mut number = 0;
+    for one in held {
+        number = (number + 1) % KEEPER_LIMIT;
+        stores.push_reserved((Keeper::new(number), one.store()));
+    }
+    Ok(stores)
+}
+
+/// The first keeper's backup, and what the others hold.
+fn first_of(held: Vec<Held>) -> Option<(Backup, Vec<Held>)>
+    ensures { IfSome result (λ r. held.items ≡ r.0.store ∷ r.1.items) }
+{
+    let mut held = held;
+    if held.is_empty() {
+        return None;
+    }
+    match held.remove(0).into_backup() {
+        Some(backup) => Some((backup, held)),
+        None => None,
+    }
+}
+
+/// The primary of the next term, from the first keeper's machine and what the others hold, and how many steps were replayed for it.
+fn revive(
+    alloc: Global,
+    image: &Image,
+    held: Vec<Held>,
+    orders: &PairOrders,
+) -> Result<(Live, u64), LiveFault>
+    ensures { IfOk result (λ r. GoesOn image.now held.items r.0) }
+{
+    let Some((mut backup, others)) = first_of(held) else {
+        return Err(LiveFault::TooFewStores);
+    };
+    if !is_same(backup.image(), image) {
+        return Err(LiveFault::Replay(ReplayFault::OtherGuest));
+    }
+    let stores = stores_of(alloc, &others)?;
+    let (keepers, need) = (orders.keepers(), orders.need());
+    let live = go_live_warm(
+        alloc,
+        &mut backup,
+        Keeper::new(0),
+        stores.as_slice(),
+        keepers,
+        need,
+        NEXT_TERM,
+    )?;
+    Ok((live, backup.last_steps()))
+}
+
+/// Runs a pair as `run_pair` does, whose first keeper is warm. At its end a primary of the next term goes live from that keeper's
+/// machine and what the others hold.
+pub fn run_pair_warm<R: Threads + Wait + Sync>(
+    rt: &R,
+    alloc: Global,
+    image: &Image,
+    script: &[Offered],
+    orders: &PairOrders,
+) -> Result<WarmEnd, LiveFault>
+    requires { AreOffered image.now.harts script.now }
+    ensures run { IfOk result (λ end. IsRunOf image.now script.now orders.now.budget end.book) }
+    // The new primary goes live from stores on whose way as many keepers as are needed had each output inside a position.
+    ensures live { IfOk result (λ end. HasGoneLive image.now orders.now.quorum.need end.released.items end.live) }
+    ensures part { IfOk result (λ end. IsPartOf end.released.items (outputs_in end.book.machine)) }
+    ensures kept { IfOk result (λ end. length end.released.items + end.kept ≡ length (outputs_in end.book.machine)) }
+{
+    let PairEnd {
+        released,
+        early: _,
+        kept,
+        book,
+        stores,
+    } = run_kept(rt, alloc, image, script, orders, true)?;
+    let (live, steps) = revive(alloc, image, stores, orders)?;
+    Ok(WarmEnd {
+        released,
+        kept,
+        book,
+        live,
+        steps,
+    })
+}
