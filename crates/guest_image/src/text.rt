@@ -1,7 +1,8 @@
 //! The text of a machine.
 
-ghost use Rattle.std.specs.Prelude.{◌≡◌, ℕ, ◌+◌, ◌*◌, ◌^◌, ◌<◌, ◌≤◌, ◌++◌, length, drop};
+ghost use Rattle.std.specs.Prelude.{◌≡◌, ℕ, ◌+◌, ◌*◌, ◌/◌, ◌%◌, ◌^◌, ◌<◌, ◌≤◌, ◌∷◌, ◌++◌, length, drop, codes, decimal};
 ghost use Rattle.ft_types.specs.Devices.{Writes};
+ghost use Rattle.ft_types.specs.Text.{line, word};
 ghost use Rattle.guest_image.specs.Text.{numbered, status, spaced, hart_line, csr_line, device_line, register_line, output_line, count_line, rung_name};
 ghost use Rattle.guest_image.specs.Text.{heard_name, hart_lines, bell_lines, hart_tables, hart_text, ram_line};
 ghost use Rattle.guest_image.specs.Machine.{words_of};
@@ -14,8 +15,11 @@ use rv32_hart::{HartState, PAGE_WORDS, RAM_BASE};
 /// How many bytes are written at once.
 const BLOCK: usize = 4096;
 
-/// How many lines of outputs are written at once: each has at most 65 bytes.
-const BLOCK_LINES: usize = 63;
+/// How many lines of outputs are written at once: each has at most 65 bytes, and all have numbers of the same hundreds.
+const BLOCK_LINES: usize = 50;
+
+/// A line of an output has at most so many bytes before the last two digits of its number.
+const HEAD: usize = 24;
 
 fn status_text(halted: bool) -> &'static [u8]
     ensures text { result.now ≡ status halted }
@@ -87,7 +91,66 @@ fn write_register<W: Sink>(number: usize, value: u32, out: &mut W) -> Result<(),
     text.write(out)
 }
 
-// Pieces of 1 and of 4 bytes take one instruction each.
+/// Puts three bytes so that they end at `end`, and says where they start. One by one: what is put beside each other becomes one store,
+/// where a piece of more than one byte is first asked whether it lies in the block.
+#[inline(always)]
+fn put_three_before(block: &mut [u8], end: usize, first: u8, second: u8, third: u8) -> usize
+    requires room { 3 ≤ end }
+    requires end { end ≤ length block.old }
+    ensures start { result + 3 ≡ end }
+    ensures written { drop result block.new ≡ first ∷ second ∷ third ∷ drop end block.old }
+{
+    block[end - 2] = second;
+    block[end - 1] = third;
+    block[end - 3] = first;
+    end - 3
+}
+
+/// Puts the two digits of a number so that they end at `end`, and says where they start.
+#[inline(always)]
+fn put_pair_before(block: &mut [u8], end: usize, number: usize) -> usize
+    requires number { number < 100 }
+    requires room { 2 ≤ end }
+    requires end { end ≤ length block.old }
+    ensures start { result + 2 ≡ end }
+    ensures written { drop result block.new ≡ (48 + number / 10) ∷ (48 + number % 10) ∷ drop end block.old }
+{
+    block[end - 2] = b'0' + (number / 10) as u8;
+    block[end - 1] = b'0' + (number % 10) as u8;
+    end - 2
+}
+
+/// Puts what is behind an index of the head so that it ends at `end`, and says where it starts. All of the head is put, which takes fewer
+/// instructions.
+#[inline(always)]
+fn put_head_before(block: &mut [u8], end: usize, head: &[u8; HEAD], from: usize) -> usize
+    requires from { from ≤ HEAD }
+    requires room { HEAD ≤ end }
+    requires end { end ≤ length block.old }
+    ensures start { result + HEAD ≡ end + from }
+    ensures written { drop result block.new ≡ drop from head.now ++ drop end block.old }
+{
+    let start = put_before(block, end, head);
+    start + from
+}
+
+/// Puts what the line of an output has behind its number.
+#[inline(always)]
+fn put_rest_before(block: &mut [u8], end: usize, output: (u64, u32)) -> usize
+    requires room { 41 ≤ end }
+    requires end { end ≤ length block.old }
+    ensures start { (result ≤ end) × (end ≤ result + 41) }
+    ensures written { drop result block.new ≡ codes " step " ++ decimal output.0 ++ codes " word " ++ line (word output.1) ++ drop end block.old }
+{
+    let mut at = put_before(block, end, b"\n");
+    at = put_word_before(block, at, output.1);
+    at = put_three_before(block, at, b'r', b'd', b' ');
+    at = put_three_before(block, at, b' ', b'w', b'o');
+    at = put_number_before(block, at, output.0);
+    at = put_three_before(block, at, b'e', b'p', b' ');
+    put_three_before(block, at, b' ', b's', b't')
+}
+
 #[inline(always)]
 #[tactic(auto, unfolding(crate::specs::Text::output_line))]
 fn put_output_before(block: &mut [u8], end: usize, number: usize, output: (u64, u32)) -> usize
@@ -96,21 +159,37 @@ fn put_output_before(block: &mut [u8], end: usize, number: usize, output: (u64, 
     ensures start { (result ≤ end) × (end ≤ result + 65) }
     ensures written { drop result block.new ≡ output_line number output ++ drop end block.old }
 {
-    let mut at = put_before(block, end, b"\n");
-    at = put_word_before(block, at, output.1);
-    at = put_before(block, at, b" ");
-    at = put_before(block, at, b"d");
-    at = put_before(block, at, b" wor");
-    at = put_number_before(block, at, output.0);
-    at = put_before(block, at, b" ");
-    at = put_before(block, at, b"p");
-    at = put_before(block, at, b" ste");
+    let mut at = put_rest_before(block, end, output);
     at = put_number_before(block, at, number as u64);
     put_before(block, at, b"out ")
 }
 
+/// The same of a number of so many hundreds, before whose last two digits the head stands.
+#[inline(always)]
+fn put_later_before(
+    block: &mut [u8],
+    end: usize,
+    head: &[u8; HEAD],
+    from: usize,
+    hundreds: usize,
+    number: usize,
+    output: (u64, u32),
+) -> usize
+    requires room { 67 ≤ end }
+    requires end { end ≤ length block.old }
+    requires from { from ≤ HEAD }
+    requires number { (100 ≤ number) × (number / 100 ≡ hundreds) }
+    requires head { drop from head.now ≡ codes "out " ++ decimal hundreds }
+    ensures start { (result ≤ end) × (end ≤ result + 67) }
+    ensures written { drop result block.new ≡ output_line number output ++ drop end block.old }
+{
+    let mut at = put_rest_before(block, end, output);
+    at = put_pair_before(block, at, number - hundreds * 100);
+    put_head_before(block, at, head, from)
+}
+
 /// Puts the lines of outputs, of which the first has this number, at the end of the block, and says where they start.
-fn put_outputs(block: &mut [u8], first: usize, outputs: &[(u64, u32)]) -> usize
+fn put_first_outputs(block: &mut [u8], first: usize, outputs: &[(u64, u32)]) -> usize
     requires few { length outputs.now ≤ BLOCK_LINES }
     requires numbers { first + length outputs.now < 2 ^ 64 }
     requires block { length block.old ≡ BLOCK }
@@ -126,6 +205,55 @@ fn put_outputs(block: &mut [u8], first: usize, outputs: &[(u64, u32)]) -> usize
         start = put_output_before(block, start, number, outputs[left]);
     }
     start
+}
+
+/// What the lines of outputs with numbers of so many hundreds have before the last two digits, at the end of the head, and where it starts.
+fn put_head(head: &mut [u8; HEAD], hundreds: usize) -> usize
+    ensures start { result ≤ HEAD }
+    ensures text { drop result head.new ≡ codes "out " ++ decimal hundreds }
+{
+    let at = put_number_before(head, HEAD, hundreds as u64);
+    put_before(head, at, b"out ")
+}
+
+/// The same of later outputs, whose numbers have the same hundreds.
+fn put_later_outputs(block: &mut [u8], first: usize, outputs: &[(u64, u32)]) -> usize
+    requires later { 100 ≤ first }
+    requires same { first % 100 + length outputs.now ≤ 100 }
+    requires few { length outputs.now ≤ BLOCK_LINES }
+    requires numbers { first + length outputs.now < 2 ^ 64 }
+    requires block { length block.old ≡ BLOCK }
+    ensures start { result ≤ BLOCK }
+    ensures lines { drop result block.new ≡ numbered output_line first outputs.now }
+{
+    let mut head = [0; HEAD];
+    let hundreds = first / 100;
+    let from = put_head(&mut head, hundreds);
+    let mut start = BLOCK;
+    let mut left = outputs.len();
+    let mut number = first + left;
+    while left > 0 {
+        left -= 1;
+        number -= 1;
+        start = put_later_before(block, start, &head, from, hundreds, number, outputs[left]);
+    }
+    start
+}
+
+/// The same, whatever the first one's number is.
+fn put_outputs(block: &mut [u8], first: usize, outputs: &[(u64, u32)]) -> usize
+    requires same { first % 100 + length outputs.now ≤ 100 }
+    requires few { length outputs.now ≤ BLOCK_LINES }
+    requires numbers { first + length outputs.now < 2 ^ 64 }
+    requires block { length block.old ≡ BLOCK }
+    ensures start { result ≤ BLOCK }
+    ensures lines { drop result block.new ≡ numbered output_line first outputs.now }
+{
+    if first < 100 {
+        put_first_outputs(block, first, outputs)
+    } else {
+        put_later_outputs(block, first, outputs)
+    }
 }
 
 #[tactic(auto, unfolding(crate::specs::Text::count_line))]
@@ -178,7 +306,7 @@ fn write_outputs<W: Sink>(outputs: &[(u64, u32)], out: &mut W) -> Result<(), Fai
     let mut block = [0; BLOCK];
     let mut first = 0;
     while first < outputs.len() {
-        let count = (outputs.len() - first).min(BLOCK_LINES);
+        let count = (outputs.len() - first).min(BLOCK_LINES - first % BLOCK_LINES);
         let start = put_outputs(&mut block, first, &outputs[first..first + count]);
         write_all(out, &block[start..])?;
         first += count;

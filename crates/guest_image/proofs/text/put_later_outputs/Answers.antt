@@ -1,7 +1,7 @@
 use Rattle.std.proofs.Common.{◌+◌, length, sym, refl, ◌∙◌, ap, arith}
 use Rattle.std.proofs.lemmas.List.{drop_all}
 use Rattle.guest_image.specs.Text.{numbered, output_line}
-use Rattle.guest_image.proofs.text.put_outputs.Goals as goal
+use Rattle.guest_image.proofs.text.put_later_outputs.Goals as goal
 
 pub loop-left-init : goal.loop-left-init
 loop-left-init c =
