@@ -34,11 +34,11 @@ a=$(per_round threads_run)
 b=$(per_round threads_replay)
 awk "BEGIN { printf \"on threads: run %d, replay %d instructions, ratio %.3f\n\", $a, $b, $b / $a }"
 
-# What two more rounds over a log that is cut so often cost, each.
-per_cut_round() {
-    few=$(count "$program" "$1" "$2" 1 ${3:+"$3"})
-    many=$(count "$program" "$1" "$2" 3 ${3:+"$3"})
-    echo $(((many - few) / 2))
+# What one call of a function costs over a log that is cut so often. Its frames are made before it, and what it gives is compared and
+# dropped behind it.
+call() {
+    valgrind --tool=callgrind --callgrind-out-file=/dev/null --toggle-collect="replaying_bench::following::$1*" \
+        "$program" "$2" "$3" 1 ${4:+"$4"} 2>&1 | awk '/Collected/ { print $4 }'
 }
 
 # What finding positions and plans costs in one of two more rounds of a follower of a log that is cut so often.
@@ -51,11 +51,16 @@ inside() {
 }
 
 for cuts in 125 250 500 "250 often"; do
-    a=$(per_cut_round whole $cuts)
-    b=$(per_cut_round follow $cuts)
+    set -- $cuts
+    a=$(call replay_whole whole $cuts)
+    b=$(call follow follow $cuts)
     c=$(inside $cuts)
-    d=$(per_cut_round backup $cuts)
-    echo "cut $cuts: replay of the whole $a, follower $b, of which planning $c instructions, ratio beside planning $(awk "BEGIN { printf \"%.3f\", ($b - $c) / $a }"), backup $d, ratio $(awk "BEGIN { printf \"%.3f\", $d / $a }")"
+    d=$(call keep_warm backup $cuts)
+    e=$(call replay_frames anew $cuts)
+    echo "cut $cuts: replay of the whole $a, from its frames $e, follower $b, of which planning $c instructions, ratio beside planning $(awk "BEGIN { printf \"%.3f\", ($b - $c) / $a }"), backup $d, ratio $(awk "BEGIN { printf \"%.3f, from the frames %.3f\", $d / $a, $d / $e }")"
+    for part in whole anew backup; do
+        "$program" $part "$1" 12 ${2:+"$2"}
+    done
 done
 
 a=$(per_round parts)

@@ -75,12 +75,26 @@ fn goes_alike(alloc: Global, image: &Image, rows: &[Row]) -> Result<bool, Fail> 
     Ok(true)
 }
 
+/// Whether a backup to which all of these rows come at once stands as a follower of them does.
+fn joins_alike(alloc: Global, image: &Image, rows: &[Row]) -> Result<bool, Fail> {
+    let mut both = Both::new(alloc, image)?;
+    for (comes, _) in rows {
+        let _put = both.store.put(frame_of(alloc, image.guest(), *comes)?)?;
+    }
+    if both.backup.join(alloc, &both.store).is_err() {
+        return Ok(false);
+    }
+    let alike = both.backup.store().clashes() == both.store.clashes();
+    Ok(both.advance(alloc) && alike)
+}
+
 #[test]
 fn where_backups_stand(rt: HostRuntime) -> Result<(), Fail> {
     let image = image_of(rt.alloc(), HALTS)?;
     let mut right = true;
     for rows in &STORES {
         right = right && goes_alike(rt.alloc(), &image, rows)?;
+        right = right && joins_alike(rt.alloc(), &image, rows)?;
     }
     assert!(rt; right);
     Ok(())
