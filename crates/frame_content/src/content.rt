@@ -2,7 +2,7 @@
 
 ghost use Rattle.std.specs.Prelude.{◌≡◌, IfOk};
 ghost use Rattle.frame_content.specs.Tests.{same_opening, same_fragment};
-ghost use Rattle.frame_content.specs.machinery.Contents.{same_frame, holds, clashes, joined};
+ghost use Rattle.frame_content.specs.machinery.Contents.{same_frame, one, holds, clashes, joined};
 
 use fragment_codec::{Fragment, Frame, Opening};
 use ft_types::{Memory, is_same_guest};
@@ -11,7 +11,7 @@ use std::alloc::Global;
 /// One frame, or unequal ones.
 #[derive(Drop)]
 pub enum Content {
-    One(Frame),
+    One(Box<Frame>),
     Clash,
 }
 
@@ -47,6 +47,13 @@ fn is_same(frame: &Frame, other: &Frame) -> bool
 }
 
 impl Content {
+    /// This frame alone.
+    pub fn of(alloc: Global, frame: Frame) -> Result<Content, Memory>
+        ensures { IfOk result (λ c. c ≡ one frame) }
+    {
+        Ok(Content::One(Box::new(alloc, frame)?))
+    }
+
     /// Whether it is this frame alone.
     pub fn is(&self, frame: &Frame) -> bool
         ensures { result ≡ holds self.now frame.now }
@@ -69,7 +76,7 @@ impl Content {
         ensures { IfOk result (λ c. c ≡ self.now) }
     {
         match self {
-            Content::One(frame) => Ok(Content::One(frame.copy(alloc)?)),
+            Content::One(frame) => Content::of(alloc, frame.copy(alloc)?),
             Content::Clash => Ok(Content::Clash),
         }
     }

@@ -45,7 +45,7 @@ fn at_key<'s>(store: &'s Store, frame: &Frame) -> Found<'s>
 fn is_same(alloc: Global, there: &Frame, frame: &Frame) -> Result<bool, Memory>
     ensures { IfOk result (λ same. same ≡ same_frame there.now frame.now) }
 {
-    Ok(Content::One(there.copy(alloc)?).is(frame))
+    Ok(Content::of(alloc, there.copy(alloc)?)?.is(frame))
 }
 
 /// The answer to a frame at whose key this was found.
