@@ -28,7 +28,7 @@ new_free : (c : Option Content) (f : Frame) → put_answer c f ≡ New → c ≡
 new_free None f e = refl
 new_free (Some Clashed) f e = absurd (cc e)
 new_free (Some (OneFrame g)) f e =
-    absurd (elim (same_frame g.value f) as (λ b. cond b Same Clashes ≡ New → ⊥) [ true ↦ λ h. cc h | false ↦ λ h. cc h ] e)
+    absurd (elim (same_frame g f) as (λ b. cond b Same Clashes ≡ New → ⊥) [ true ↦ λ h. cc h | false ↦ λ h. cc h ] e)
 
 module _ (guest : GuestParts) (s : Shelves) (f : FragmentParts) (fits : Fits guest s) (new : answer_to (view_of guest s) (Log f) ≡ New) where
   -- a new fragment is of the store's guest

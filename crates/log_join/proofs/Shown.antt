@@ -48,12 +48,12 @@ module _ {X : Type 0} (part : Frame → Option X) (P : X → Type 0) where
   pub fits_taken : (c : Option Content) (f : Frame) (x : X) → FitsAt part P c → part f ≡ Some x → P x → FitsAt part P (Some (taken c f))
   fits_taken None f x h is p = (x, is, p)
   fits_taken (Some Clashed) f x h is p = tt
-  fits_taken (Some (OneFrame g)) f x h is p = elim (same_frame g.value f) as (λ b. FitsAt part P (Some (cond b (OneFrame g) Clashed))) [ true ↦ h | false ↦ tt ]
+  fits_taken (Some (OneFrame g)) f x h is p = elim (same_frame g f) as (λ b. FitsAt part P (Some (cond b (OneFrame g) Clashed))) [ true ↦ h | false ↦ tt ]
 
   fits_joined : (c d : Content) → FitsAt part P (Some c) → FitsAt part P (Some (joined c d))
   fits_joined Clashed d h = tt
   fits_joined (OneFrame f) Clashed h = tt
-  fits_joined (OneFrame f) (OneFrame g) h = elim (same_frame f.value g.value) as (λ b. FitsAt part P (Some (cond b (OneFrame f) Clashed))) [ true ↦ h | false ↦ tt ]
+  fits_joined (OneFrame f) (OneFrame g) h = elim (same_frame f g) as (λ b. FitsAt part P (Some (cond b (OneFrame f) Clashed))) [ true ↦ h | false ↦ tt ]
 
   pub fits_met : (c d : Option Content) → FitsAt part P c → FitsAt part P d → FitsAt part P (met c d)
   fits_met None None h k = tt
@@ -68,7 +68,7 @@ module _ {X : Type 0} (part : Frame → Option X) (P : X → Type 0) where
     taken_cell None f x h is = ap (λ v. cell_of (Some v)) is
     taken_cell (Some Clashed) f x h is = refl
     taken_cell (Some (OneFrame g)) f x (y, own, p) is =
-        ap (λ b. cell part (Some (cond b (OneFrame g) Clashed))) (agrees.as_parts g.value f y x own is)
+        ap (λ b. cell part (Some (cond b (OneFrame g) Clashed))) (agrees.as_parts g f y x own is)
         ∙ elim (same y x) as (λ b. cell part (Some (cond b (OneFrame g) Clashed)) ≡ cond b (One y) Clash) [
           | true ↦ ap (λ v. cell_of (Some v)) own
           | false ↦
@@ -80,13 +80,13 @@ module _ {X : Type 0} (part : Frame → Option X) (P : X → Type 0) where
     answer_is None f x h is = refl
     answer_is (Some Clashed) f x h is = refl
     answer_is (Some (OneFrame g)) f x (y, own, p) is =
-        ap (λ b. cond b Same Clashes) (agrees.as_parts g.value f y x own is) ∙ sym (ap (λ v. answer same (cell_of (Some v)) x) own)
+        ap (λ b. cond b Same Clashes) (agrees.as_parts g f y x own is) ∙ sym (ap (λ v. answer same (cell_of (Some v)) x) own)
 
     joined_cell : (c d : Content) → FitsAt part P (Some c) → FitsAt part P (Some d) → cell part (Some (joined c d)) ≡ join_cell same (cell part (Some c))
         (cell part (Some d))
     joined_cell Clashed d h k = refl
     joined_cell (OneFrame f) Clashed (x, is, p) k = sym (ap (λ v. join_cell same (cell_of (Some v)) Clash) is)
-    joined_cell (OneFrame f) (OneFrame g) h (y, own, q) = taken_cell (Some (OneFrame f)) g.value y h own ∙
+    joined_cell (OneFrame f) (OneFrame g) h (y, own, q) = taken_cell (Some (OneFrame f)) g y h own ∙
         sym (ap (λ v. join_cell same (cell part (Some (OneFrame f))) (cell_of (Some v))) own)
 
     itself : (c : Content) → FitsAt part P (Some c) → join_cell same (cell part (Some c)) (cell part (Some c)) ≡ cell part (Some c)

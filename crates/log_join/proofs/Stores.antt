@@ -102,7 +102,7 @@ same_taken : (c : Option Content) (f : Frame) → put_answer c f ≡ Same → So
 same_taken None f e = absurd (cc e)
 same_taken (Some Clashed) f e = absurd (cc e)
 same_taken (Some (OneFrame g)) f e =
-    elim (same_frame g.value f) as (λ b. cond b Same Clashes ≡ Same → Some (cond b (OneFrame g) Clashed) ≡ Some (OneFrame g)) [
+    elim (same_frame g f) as (λ b. cond b Same Clashes ≡ Same → Some (cond b (OneFrame g) Clashed) ≡ Some (OneFrame g)) [
       | true ↦ λ _. refl
       | false ↦ λ h. absurd
           (cc h)
@@ -111,7 +111,7 @@ same_taken (Some (OneFrame g)) f e =
 never_other : (c : Option Content) (f : Frame) → put_answer c f ≢ OtherGuest
 never_other None f e = cc e
 never_other (Some Clashed) f e = cc e
-never_other (Some (OneFrame g)) f e = elim (same_frame g.value f) as (λ b. cond b Same Clashes ≡ OtherGuest → ⊥) [ true ↦ λ h. cc h | false ↦ λ h. cc h ] e
+never_other (Some (OneFrame g)) f e = elim (same_frame g f) as (λ b. cond b Same Clashes ≡ OtherGuest → ⊥) [ true ↦ λ h. cc h | false ↦ λ h. cc h ] e
 
 -- what `put_at` did at a key
 pub record IsTaken {K : Type 0} (cmp : K → K → Ordering) (m n : BTreeMap K Content) (k : K) (f : Frame) (result : Result Put Memory) : Type 0 where

@@ -17,7 +17,7 @@ use std::collections::BTreeMap;
 /// The openings by term, and the fragments by key.
 #[derive(Drop)]
 pub(crate) struct Shelves {
-    /// What each content is kept in.
+    /// What each frame is kept in.
     pub(crate) alloc: Global,
     pub(crate) openings: BTreeMap<Term, Content>,
     pub(crate) fragments: BTreeMap<Place, Content>,
@@ -107,8 +107,8 @@ impl Shelves {
     {
         let mut keys = Vec::new(alloc);
         for (_, content) in &self.fragments {
-            if let Content::One(frame) = content {
-                if let Frame::Log(fragment) = &**frame {
+            if let Content::One(kept) = content {
+                if let Frame::Log(fragment) = kept.frame() {
                     keys.push(fragment.key())?;
                 }
             }

@@ -54,7 +54,7 @@ fn found(content: Option<&Content>) -> Found<'_>
 {
     match content {
         None => Found::Absent,
-        Some(Content::One(frame)) => Found::One(&**frame),
+        Some(Content::One(kept)) => Found::One(kept.frame()),
         Some(Content::Clash) => Found::Clash,
     }
 }

@@ -11,13 +11,9 @@ same_frame (Log a) (Log b) = same_fragment a b
 same_frame (Opening a) (Opening b) = same_opening a b
 same_frame a b = false
 
--- a frame alone
-abbrev pub one : Frame → Content
-one x = One (record { value = x })
-
 -- the content is this frame alone
 abbrev pub holds : Content → Frame → Bool
-holds (One x) y = same_frame x.value y
+holds (One x) y = same_frame x y
 holds Clash y = false
 
 abbrev pub clashes : Content → Bool
@@ -26,5 +22,5 @@ clashes Clash = true
 
 -- two contents of one key, joined
 abbrev pub joined : Content → Content → Content
-joined (One x) (One y) = if same_frame x.value y.value then One x else Clash
+joined (One x) (One y) = if same_frame x y then One x else Clash
 joined a b = Clash

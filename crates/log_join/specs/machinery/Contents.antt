@@ -19,7 +19,7 @@ use Rattle.frame_content.specs.declared.content.Content.{Content}
 use Rattle.frame_content.specs.declared.content.Content.TheVariants.{One, Clash}
 use Rattle.log_join.specs.declared.place.Place.{Place}
 use Rattle.log_join.specs.declared.shelves.Shelves.{Shelves}
-use Rattle.frame_content.specs.machinery.Contents.{one, holds, joined}
+use Rattle.frame_content.specs.machinery.Contents.{holds, joined}
 use Rattle.log_join.specs.Stores.{StoreView, key_cmp, IsOpeningOf, IsFragmentOf}
 
 -- ---- joins
@@ -40,8 +40,8 @@ met here there = marked (copied (is_some there && not (is_some here)) here there
 
 -- what becomes of a content when a frame comes
 abbrev pub taken : Option Content → Frame → Content
-taken None frame = one frame
-taken (Some a) frame = joined a (one frame)
+taken None frame = One frame
+taken (Some a) frame = joined a (One frame)
 
 -- the answer to a frame
 abbrev pub put_answer : Option Content → Frame → Put
@@ -64,7 +64,7 @@ fragment_part (Opening o) = None
 
 -- a content as the value of a finite map, which is None where contents clash
 abbrev pub content_of : {X : Type 0} → (Frame → Option X) → Content → Option X
-content_of part (One frame) = part frame.value
+content_of part (One frame) = part frame
 content_of part Clash = None
 
 abbrev pub key_of : Place → Key
@@ -94,7 +94,7 @@ listed key (e ∷ es) = if is_one (Some e.1) then key e.0 ∷ listed key es else
 abbrev pub FitsAt : {X : Type 0} → (Frame → Option X) → (X → Type 0) → Option Content → Type 0
 FitsAt part P None = Unit {0}
 FitsAt part P (Some Clash) = Unit {0}
-FitsAt {X} part P (Some (One frame)) = (x : X) × (part frame.value ≡ Some x) × P x
+FitsAt {X} part P (Some (One frame)) = (x : X) × (part frame ≡ Some x) × P x
 
 abbrev pub place_cmp : Place → Place → Ordering
 place_cmp a b = key_cmp (key_of a) (key_of b)
@@ -114,7 +114,7 @@ view_of guest s = record {
 -- what was found tells what is there
 abbrev pub TellsContent : Found → Option Content → Type 0
 TellsContent FindsNone content = content ≡ None
-TellsContent (FindsOne frame) content = content ≡ Some (one frame.now)
+TellsContent (FindsOne frame) content = content ≡ Some (One frame.now)
 TellsContent FindsClash content = content ≡ Some Clash
 
 -- nothing stands at these keys
