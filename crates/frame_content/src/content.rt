@@ -4,6 +4,7 @@ ghost use Rattle.std.specs.Prelude.{◌≡◌, IfOk};
 ghost use Rattle.frame_content.specs.Tests.{same_opening, same_fragment};
 ghost use Rattle.frame_content.specs.machinery.Contents.{same_frame, holds, clashes, joined};
 
+use crate::kept::Kept;
 use fragment_codec::{Fragment, Frame, Opening};
 use ft_types::{Memory, is_same_guest};
 use std::alloc::Global;
@@ -11,7 +12,7 @@ use std::alloc::Global;
 /// One frame, or unequal ones.
 #[derive(Drop)]
 pub enum Content {
-    One(Frame),
+    One(Kept),
     Clash,
 }
 
@@ -52,7 +53,7 @@ impl Content {
         ensures { result ≡ holds self.now frame.now }
     {
         match self {
-            Content::One(there) => is_same(there, frame),
+            Content::One(there) => is_same(there.frame(), frame),
             Content::Clash => false,
         }
     }
@@ -69,7 +70,7 @@ impl Content {
         ensures { IfOk result (λ c. c ≡ self.now) }
     {
         match self {
-            Content::One(frame) => Ok(Content::One(frame.copy(alloc)?)),
+            Content::One(kept) => Ok(Content::One(Kept::new(alloc, kept.frame().copy(alloc)?)?)),
             Content::Clash => Ok(Content::Clash),
         }
     }
@@ -79,7 +80,7 @@ impl Content {
         ensures { self.new ≡ joined self.old other.now }
     {
         let stays = match other {
-            Content::One(frame) => self.is(frame),
+            Content::One(kept) => self.is(kept.frame()),
             Content::Clash => false,
         };
         if !stays {

@@ -2,5 +2,7 @@
 #![tactic(auto)]
 
 mod content;
+mod kept;
 
 pub use content::{Content, is_same_fragment, is_same_opening};
+pub use kept::Kept;

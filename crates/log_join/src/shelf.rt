@@ -8,13 +8,14 @@ ghost use Rattle.frame_content.specs.machinery.Contents.{clashes};
 
 use crate::answers::Put;
 use fragment_codec::Frame;
-use frame_content::Content;
+use frame_content::{Content, Kept};
 use ft_types::Memory;
 use std::alloc::Global;
 use std::collections::BTreeMap;
 
 /// Takes a frame at its key.
 pub(crate) fn put_at<K: Ord + Drop>(
+    alloc: Global,
     shelf: &mut BTreeMap<K, Content>,
     key: K,
     frame: Frame,
@@ -26,7 +27,7 @@ pub(crate) fn put_at<K: Ord + Drop>(
     ensures memory { OnErr result (get K.cmp shelf.old key ≡ None) }
 {
     let (put, content) = match shelf.get(&key) {
-        None => (Put::New, Content::One(frame)),
+        None => (Put::New, Content::One(Kept::new(alloc, frame)?)),
         Some(there) if there.is(&frame) => return Ok(Put::Same),
         Some(_) => (Put::Clash, Content::Clash),
     };
@@ -36,6 +37,7 @@ pub(crate) fn put_at<K: Ord + Drop>(
 
 /// Takes a frame at its key, at which nothing is.
 pub(crate) fn put_first<K: Ord + Drop>(
+    alloc: Global,
     shelf: &mut BTreeMap<K, Content>,
     key: K,
     frame: Frame,
@@ -44,7 +46,7 @@ pub(crate) fn put_first<K: Ord + Drop>(
     ensures taken { OnOk result ((q : K) → get K.cmp shelf.new q ≡ (if eq_by_cmp K.cmp key q then Some (taken None frame) else get K.cmp shelf.old q)) }
     ensures err { OnErr result ((q : K) → get K.cmp shelf.new q ≡ get K.cmp shelf.old q) }
 {
-    shelf.insert(key, Content::One(frame))?;
+    shelf.insert(key, Content::One(Kept::new(alloc, frame)?))?;
     Ok(())
 }
 

@@ -17,6 +17,8 @@ use std::collections::BTreeMap;
 /// The openings by term, and the fragments by key.
 #[derive(Drop)]
 pub(crate) struct Shelves {
+    /// What each frame is kept in.
+    pub(crate) alloc: Global,
     pub(crate) openings: BTreeMap<Term, Content>,
     pub(crate) fragments: BTreeMap<Place, Content>,
 }
@@ -27,6 +29,7 @@ impl Shelves {
         ensures fragments { result.fragments.entries ≡ [] }
     {
         Shelves {
+            alloc,
             openings: BTreeMap::new(alloc),
             fragments: BTreeMap::new(alloc),
         }
@@ -104,8 +107,10 @@ impl Shelves {
     {
         let mut keys = Vec::new(alloc);
         for (_, content) in &self.fragments {
-            if let Content::One(Frame::Log(fragment)) = content {
-                keys.push(fragment.key())?;
+            if let Content::One(kept) = content {
+                if let Frame::Log(fragment) = kept.frame() {
+                    keys.push(fragment.key())?;
+                }
             }
         }
         Ok(keys)

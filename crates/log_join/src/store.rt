@@ -54,7 +54,7 @@ fn found(content: Option<&Content>) -> Found<'_>
 {
     match content {
         None => Found::Absent,
-        Some(Content::One(frame)) => Found::One(frame),
+        Some(Content::One(kept)) => Found::One(kept.frame()),
         Some(Content::Clash) => Found::Clash,
     }
 }
@@ -98,7 +98,9 @@ impl Store {
             return Ok(Put::OtherGuest);
         }
         let term = opening.term();
-        put_at(&mut self.shelves.openings, term, Frame::Opening(opening))
+        let alloc = self.shelves.alloc;
+        let frame = Frame::Opening(opening);
+        put_at(alloc, &mut self.shelves.openings, term, frame)
     }
 
     fn put_fragment(&mut self, fragment: Fragment) -> Result<Put, Memory>
@@ -110,7 +112,9 @@ impl Store {
             return Ok(Put::OtherGuest);
         }
         let place = Place::from(fragment.key());
-        put_at(&mut self.shelves.fragments, place, Frame::Log(fragment))
+        let alloc = self.shelves.alloc;
+        let frame = Frame::Log(fragment);
+        put_at(alloc, &mut self.shelves.fragments, place, frame)
     }
 
     /// Takes a frame.
@@ -142,7 +146,9 @@ impl Store {
         // proof: a fragment keeps the rules by type.
         let _rules = fragment.records();
         let place = Place::from(fragment.key());
-        put_first(&mut self.shelves.fragments, place, Frame::Log(fragment))
+        let alloc = self.shelves.alloc;
+        let frame = Frame::Log(fragment);
+        put_first(alloc, &mut self.shelves.fragments, place, frame)
     }
 
     /// Joins another store to this one.

@@ -8,7 +8,7 @@ ghost use Rattle.stations.specs.machinery.Admitting.{TellsKey, answer_at};
 ghost use Rattle.stations.specs.Logs.{IsOf};
 
 use fragment_codec::Frame;
-use frame_content::Content;
+use frame_content::{Content, Kept};
 use ft_types::{Guest, Memory, is_same_guest};
 use log_join::{Found, Put, Store};
 use std::alloc::Global;
@@ -45,7 +45,7 @@ fn at_key<'s>(store: &'s Store, frame: &Frame) -> Found<'s>
 fn is_same(alloc: Global, there: &Frame, frame: &Frame) -> Result<bool, Memory>
     ensures { IfOk result (λ same. same ≡ same_frame there.now frame.now) }
 {
-    Ok(Content::One(there.copy(alloc)?).is(frame))
+    Ok(Content::One(Kept::new(alloc, there.copy(alloc)?)?).is(frame))
 }
 
 /// The answer to a frame at whose key this was found.
