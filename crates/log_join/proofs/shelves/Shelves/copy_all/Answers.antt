@@ -7,7 +7,7 @@ use Rattle.log_join.proofs.shelves.Shelves.copy_all.Goals as goal
 
 pub returns-then-is_err-clause-err : goal.returns-then-is_err-clause-err
 returns-then-is_err-clause-err c =
-    let new : Shelves = record { openings = c.remove_at.new.shelf; fragments = c.remove_at-then-is_err.new.shelf } in
+    let new : Shelves = record c.copy_some-copied.new.self { openings = c.remove_at.new.shelf; fragments = c.remove_at-then-is_err.new.shelf } in
     let kept : IsKept c.args.self.now new = record {
       terms = λ t. undone (is_among nat_cmp c.args.terms.now t) _ _ _ (c.remove_at.ensures t) (c.requires.free_terms t)
           (c.copy_some-copied.ensures.other_terms t);
