@@ -7,6 +7,7 @@ mod files;
 mod host;
 mod listening;
 mod posting;
+mod unread;
 
 pub use events::{Door, Event, Gone, Receiver, Sender, Taker, Waiting, bring, row};
 pub use faults::{Fault, Frames, FramesFault, NamedFile, file_fault, name_at, refuse, tell};

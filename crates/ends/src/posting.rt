@@ -3,6 +3,7 @@
 use crate::events::{Door, Event, Taker, bring};
 use crate::faults::{Fault, NamedFile};
 use crate::host::Host;
+use crate::unread::{HasRoom, Unread};
 use crossbeam_channel::{Receiver, SendError, Sender, TrySendError, bounded, unbounded};
 use ft_types::Memory;
 use std::alloc::{AllocError, Global};
@@ -21,10 +22,6 @@ const GAP: u64 = 100;
 
 /// How many pieces wait for an output that keeps the last one, at the most.
 const ROOM: usize = 512;
-
-/// How many bytes a FIFO holds at the least, however they came there: it has two pages or more (pipe(7) of Linux, "Pipe capacity"), and the first of
-/// them may have been read in part.
-const ROOM_BYTES: usize = 4096;
 
 /// With what of the pieces before a new connection begins.
 #[derive(Clone, Copy)]
@@ -201,10 +198,8 @@ pub struct Post {
     left: u64,
     /// How many of them whoever reads is known to have read.
     read: u64,
-    /// How many bytes the others have.
-    unread: usize,
-    /// How many bytes the last one has.
-    last: usize,
+    /// The others.
+    unread: Unread,
 }
 
 impl Post {
@@ -219,20 +214,24 @@ impl Post {
     /// Has a piece written.
     fn leave<R: Wait>(&mut self, rt: &R, piece: &Piece) -> Result<(), Memory> {
         let piece = Arc::try_clone(piece)?;
-        self.last = piece.len();
-        self.unread = self.unread.saturating_add(self.last);
-        match self.write_now(rt, piece)? {
+        self.unread.add(piece.len());
+        let Some(room) = self.unread.room() else {
+            return self.order(rt, Order::Write(piece));
+        };
+        match self.write_now(rt, piece, room)? {
             Some(piece) => self.order(rt, Order::Write(piece)),
             None => Ok(()),
         }
     }
 
-    /// Writes a piece at once, where there is room for it beside what whoever reads has not read yet, so that no thread has to be woken. Otherwise it
-    /// comes back.
-    fn write_now<R: Wait>(&mut self, rt: &R, piece: Piece) -> Result<Option<Piece>, Memory> {
-        if self.unread > ROOM_BYTES {
-            return Ok(Some(piece));
-        }
+    /// Writes a piece at once, for which there is room beside what whoever reads has not read yet, so that no thread has to be woken. It comes back where the
+    /// thread writes, where pieces wait for it, and where none of this connection is known to be read.
+    fn write_now<R: Wait>(
+        &mut self,
+        rt: &R,
+        piece: Piece,
+        _room: HasRoom,
+    ) -> Result<Option<Piece>, Memory> {
         let Some(mut connection) = self.connection.try_lock() else {
             return Ok(Some(piece));
         };
@@ -252,13 +251,13 @@ impl Post {
     /// Notes that whoever reads has read all that was left so far.
     pub fn note_read(&mut self) {
         self.read = self.left;
-        self.unread = 0;
+        self.unread.clear();
     }
 
     /// Notes that whoever reads has read all that was left before the last.
     pub fn note_read_before(&mut self) {
         self.read = self.read.max(self.left.saturating_sub(1));
-        self.unread = self.unread.min(self.last);
+        self.unread.clear_before();
     }
 
     /// Has the connection begin anew.
@@ -303,8 +302,7 @@ fn begin_post<H: Host, T: Taker<H>>(
         connection: Arc::try_clone(&connection)?,
         left: 0,
         read: 0,
-        unread: 0,
-        last: 0,
+        unread: Unread::new(),
     };
     let output = Output {
         number,
