@@ -120,6 +120,14 @@ impl Tracked {
         Ok(put)
     }
 
+    /// Takes a piece of a term that is not opened. Not inlined, since a function clears its locals when it begins, and a frame is large.
+    #[inline(never)]
+    fn put_unopened(&mut self, alloc: Global, fragment: Fragment) -> Result<Put, Memory>
+        ensures { Takes self.old (frame_of_specs.Log fragment) result self.new }
+    {
+        self.put_anew(alloc, Frame::Log(fragment))
+    }
+
     /// Takes a piece at a key at which nothing was.
     fn put_new(&mut self, alloc: Global, fragment: Fragment) -> Result<Put, Memory>
         requires { answer_to self.old (frame_of_specs.Log fragment) ≡ Put.New }
@@ -147,7 +155,7 @@ impl Tracked {
                     fragment,
                 )
             }
-            None => self.put_anew(alloc, Frame::Log(fragment)),
+            None => self.put_unopened(alloc, fragment),
         }
     }
 
