@@ -12,13 +12,14 @@ use Rattle.log_join.specs.Cells.{One}
 use Rattle.log_join.specs.Stores.{StoreView, IsStore, opening_at}
 use Rattle.closed_cut.specs.Position.{pieces_of, Goes}
 use Rattle.tracked_position.specs.machinery.Cuts.{edges_in, Meets, GoesOver, ComeTo, IsLimited, IsCutOf, IsHigh, IsGreatestCut}
-use Rattle.tracked_position.specs.machinery.Walks.{cursor_at, IsMetFrom, IsOver, IsPassed, AreOver}
+use Rattle.tracked_position.specs.machinery.Walks.{cursor_at, GoesTo, IsAhead, IsMetFrom, IsOver, IsPassed, AreOver}
 use Rattle.tracked_position.specs.declared.walk.Cursor.{Cursor}
+use Rattle.tracked_position.specs.declared.walk.Ahead.{Ahead}
 use Rattle.tracked_position.specs.declared.walk.Ahead.TheVariants.{Unseen}
 use Rattle.interleaving.specs.Lists as theory
 use Rattle.ft_types.specs.Guests.{GuestParts}
 use Rattle.tracked_position.proofs.Stops.{over_on, over_more}
-use Rattle.tracked_position.proofs.Walks.{goes_nowhere, goes_over_one}
+use Rattle.tracked_position.proofs.Walks.{goes_nowhere, goes_over_one, goes_seen}
 use Rattle.tracked_position.specs.machinery.Waits.{IsHeld, Free, Behind, IsWaiting, room, limited_to}
 use Rattle.std.specs.Option.{option_map}
 use Rattle.tracked_position.proofs.Cuts.{own, rises, no_pieces, set_limited, limited_is, limited_le, limited_bound}
@@ -217,16 +218,19 @@ unseen_over s term base cut cursors at less wide are =
 
 -- one goes past a piece whose edges are met
 pub passed_over : (s : StoreView) → IsStore s → (term : ℕ) (base cut : ℕ → ℕ) (cursors : List Cursor) (at to : ℕ) (piece : FragmentParts) → at < HART_LIMIT →
-    length cursors ≡ HART_ROW → IsPassed (pieces_of s term at) cut (cursor_at cursors at).place (cursor_at cursors at).end to true piece → AreOver s term base cut cursors →
-    AreOver s term base cut (set cursors at (record { place = (cursor_at cursors at).place + 1; end = to; ahead = Unseen }))
-passed_over s rules term base cut cursors at to piece less wide passed are =
+    length cursors ≡ HART_ROW → IsPassed (pieces_of s term at) cut (cursor_at cursors at).place (cursor_at cursors at).end to true piece → (ahead : Ahead) →
+    IsAhead (pieces_of s term at) cut (record { place = (cursor_at cursors at).place + 1; end = to; ahead = ahead }) ahead → AreOver s term base cut cursors →
+    AreOver s term base cut (set cursors at (record { place = (cursor_at cursors at).place + 1; end = to; ahead = ahead }))
+passed_over s rules term base cut cursors at to piece less wide passed ahead seen are =
     let here = cursor_at cursors at in
     let pieces = pieces_of s term at in
     let goes = goes_over_one pieces cut (2 ^ 48) here here piece (goes_nowhere pieces cut (2 ^ 48) here) passed.one passed.from_is (passed.meets refl) in
-    set_over s term base cut cut cursors at (record { place = here.place + 1; end = to; ahead = Unseen }) (omega arith) (λ h. le_of_eq refl) are
-    (rw (sym passed.to_is)
-    (over_on pieces (base at) cut (2 ^ 48) here (record { place = here.place + 1; end = piece.to; ahead = Unseen })
-    (λ place x e one has. (own s rules term at place x e one has).count) (are at less) goes tt))
+    let to_is : piece.to ≡ to = passed.to_is in
+    set_over s term base cut cut cursors at (record { place = here.place + 1; end = to; ahead = ahead }) (omega arith) (λ h. le_of_eq refl) are
+    (over_on pieces (base at) cut (2 ^ 48) here (record { place = here.place + 1; end = to; ahead = ahead })
+    (λ place x e one has. (own s rules term at place x e one has).count) (are at less)
+    (subst (λ n. GoesTo pieces cut (2 ^ 48) here (record { place = here.place + 1; end = n; ahead = ahead })) to_is
+    (goes_seen pieces cut (record { place = here.place + 1; end = piece.to; ahead = Unseen }) here ahead goes)) seen)
 
 pub more_over : (s : StoreView) (term : ℕ) (base cut more : ℕ → ℕ) (cursors : List Cursor) → theory.IsWithin cut more → AreOver s term base cut cursors →
     AreOver s term base more cursors

@@ -1,5 +1,5 @@
 -- A frame at a key at which something came.
-use Rattle.std.proofs.Common.{◌≡◌, ◌≢◌, refl, sym, ap, subst, ◌∙◌, Bool, true, false, cond, List}
+use Rattle.std.proofs.Common.{◌≡◌, ◌≢◌, refl, sym, ap, ◌∙◌, Bool, true, false, cond}
 use Rattle.std.specs.Prelude.{Option, Some, Result, Ok, Err, IfOk, OnErr}
 use Rattle.std.specs.Ordering.{eq_by_cmp}
 use Rattle.std.specs.declared.cmp.Ordering.{Ordering}
@@ -17,9 +17,7 @@ use Rattle.frame_content.specs.Tests.{same_guest, same_opening, same_fragment}
 use Rattle.log_join.specs.Stores.{StoreView, opening_at, fragment_at, IsJoin, alone}
 use Rattle.log_join.specs.Answers.{answer, answer_to}
 use Rattle.log_join.proofs.Joins.{keys_total, keys_exact, join_absent, one_store}
-use Rattle.ft_types.specs.declared.position.Position.{Position}
-use Rattle.tracked_position.specs.declared.walk.Cursor.{Cursor}
-use Rattle.tracked_position.specs.machinery.Keeping.{IsTracked, IsClashAt, IsOneAt}
+use Rattle.tracked_position.specs.machinery.Keeping.{IsClashAt, IsOneAt}
 
 -- ---- where unequal contents came already
 
@@ -38,7 +36,7 @@ cell_stays {K} {X} {R} total exact same m k q x clash =
       | false ↦ λ t. ap (λ c. join_cell same here (cell_of c)) (finite.get-empty R q) ∙ join_absent same here
     ] refl
 
-nothing_more : {K X : Type 0} {R : K → K → Ordering} (same : X → X → Bool) (m : finite.FinMap R (Option X)) (q : K) →
+pub nothing_more : {K X : Type 0} {R : K → K → Ordering} (same : X → X → Bool) (m : finite.FinMap R (Option X)) (q : K) →
     join_cell same (cell_of (finite.get m q)) (cell_of (finite.get (finite.empty {X = Option X} {R = R}) q)) ≡ cell_of (finite.get m q)
 nothing_more {K} {X} {R} same m q = ap (λ c. join_cell same (cell_of (finite.get m q)) (cell_of c)) (finite.get-empty R q) ∙ join_absent same _
 
@@ -53,14 +51,12 @@ clash_stays store new (Log f) clash join =
     (λ t. join.openings t ∙ nothing_more same_opening store.openings t)
     (λ k. join.fragments k ∙ cell_stays keys_total keys_exact same_fragment store.fragments f.key k f clash)
 
--- and the position is the store's still
-pub stays_tracked : (old new : StoreView) (frame : Frame) (result : Result Put Memory) (p : Position) (cursors : List Cursor) →
-    answer_to old frame ≡ Clashes → IsClashAt old frame → IfOk result (λ q. q ≡ answer_to old frame) →
-    IfOk result (λ q. q ≢ OtherGuest → IsJoin old (alone frame) new) → OnErr result (new ≡ old) → IsTracked old p cursors → IsTracked new p cursors
-stays_tracked old new frame (Ok q) p cursors is clash answer joined err tracked =
-    subst (λ s. IsTracked s p cursors)
-    (sym (clash_stays old new frame clash (joined (λ other. let e : Clashes ≡ OtherGuest = sym is ∙ (sym answer ∙ other) in cc)))) tracked
-stays_tracked old new frame (Err e) p cursors is clash answer joined err tracked = subst (λ s. IsTracked s p cursors) (sym err) tracked
+-- be it refused or not
+pub put_stays : (old new : StoreView) (frame : Frame) (result : Result Put Memory) → answer_to old frame ≡ Clashes → IsClashAt old frame →
+    IfOk result (λ q. q ≡ answer_to old frame) → IfOk result (λ q. q ≢ OtherGuest → IsJoin old (alone frame) new) → OnErr result (new ≡ old) → new ≡ old
+put_stays old new frame (Ok q) is clash answer joined err =
+    clash_stays old new frame clash (joined (λ other. let e : Clashes ≡ OtherGuest = sym is ∙ (sym answer ∙ other) in cc))
+put_stays old new frame (Err e) is clash answer joined err = err
 
 -- ---- where they do not
 

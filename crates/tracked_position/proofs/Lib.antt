@@ -8,3 +8,4 @@ mod Positions
 mod Legs
 mod Keeping
 mod Clashes
+mod Later

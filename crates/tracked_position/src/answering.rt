@@ -3,8 +3,9 @@
 ghost use Rattle.std.specs.Prelude.{◌≡◌, ◌↔◌, IsTrue};
 ghost use Rattle.log_join.specs.Answers.{answer_to};
 ghost use Rattle.fragment_codec.specs.declared.frame.Frame.{Frame as frame_of_specs};
-ghost use Rattle.tracked_position.specs.machinery.Keeping.{IsClashAt};
+ghost use Rattle.tracked_position.specs.machinery.Keeping.{AreBeyond, IsClashAt};
 
+use crate::beyond::Beyond;
 use fragment_codec::{Fragment, Frame, Opening};
 use frame_content::{is_same_fragment, is_same_opening};
 use ft_types::is_same_guest;
@@ -43,6 +44,19 @@ pub(crate) fn answer_of(store: &Store, frame: &Frame) -> Put
     match frame {
         Frame::Log(fragment) => answer_to_fragment(store, fragment),
         Frame::Opening(opening) => answer_to_opening(store, opening),
+    }
+}
+
+/// Whether the frame is one of the store's guest, and it is known that nothing came at its key.
+pub(crate) fn is_beyond(store: &Store, beyond: &Beyond, frame: &Frame) -> bool
+    requires { AreBeyond store.now beyond.now }
+    ensures { IsTrue result → answer_to store.now frame.now ≡ Put.New }
+{
+    match frame {
+        Frame::Log(fragment) => {
+            is_same_guest(&fragment.guest(), &store.guest()) && beyond.has(fragment.key())
+        }
+        Frame::Opening(_) => false,
     }
 }
 

@@ -2,6 +2,7 @@
 #![tactic(auto)]
 
 mod answering;
+mod beyond;
 mod held;
 mod lowering;
 mod raising;

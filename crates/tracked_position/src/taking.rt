@@ -1,6 +1,6 @@
 //! A piece that comes at a key at which nothing was.
 
-ghost use Rattle.std.specs.Prelude.{◌≡◌, ◌≢◌, ◌<◌, ℕ, List, Contains, Option, Some, None, false, length, IfSome, IfNone, IsTrue};
+ghost use Rattle.std.specs.Prelude.{◌≡◌, ◌≢◌, ◌<◌, ◌+◌, ℕ, List, Contains, Option, Some, None, false, if◌then◌else◌, length, IfSome, IfNone, IsTrue};
 ghost use Rattle.std.specs.List.{filter_map};
 ghost use Rattle.std.specs.Option.{option_map};
 ghost use Rattle.edge_log.specs.declared.Edge.{Edge as edge_of_specs};
@@ -9,7 +9,7 @@ ghost use Rattle.ft_types.specs.Counts.{count_at};
 ghost use Rattle.fragment_codec.specs.Facts.{edge_in};
 ghost use Rattle.fragment_codec.specs.Rules.{FragmentParts, OpeningParts};
 ghost use Rattle.fragment_codec.specs.declared.frame.Frame.{Frame as frame_of_specs};
-ghost use Rattle.log_join.specs.Cells.{One};
+ghost use Rattle.log_join.specs.Cells.{Absent, One};
 ghost use Rattle.log_join.specs.Stores.{StoreView, opening_at, IsStore};
 ghost use Rattle.log_join.specs.Answers.{answer_to};
 ghost use Rattle.closed_cut.specs.Chain.{Sound};
@@ -17,8 +17,9 @@ ghost use Rattle.closed_cut.specs.Position.{base_of, pieces_of, InChain, Stops};
 ghost use Rattle.tracked_position.specs.machinery.Cuts.{IsCutOf, Meets};
 ghost use Rattle.tracked_position.specs.machinery.Walks.{cursor_at, AreOver, IsApart, IsPassed};
 ghost use Rattle.tracked_position.specs.machinery.Legs.{IsChild, IsNext};
-ghost use Rattle.tracked_position.specs.machinery.Keeping.{Takes, IsTracked};
+ghost use Rattle.tracked_position.specs.machinery.Keeping.{AreBeyond, Takes, IsTracked};
 
+use crate::beyond::Beyond;
 use crate::raising::reach;
 use crate::starting::start;
 use crate::walk::{Ahead, Cursor, least_unmet};
@@ -56,6 +57,15 @@ fn base_of_next(next: Option<&Opening>) -> Option<Counts>
     }
 }
 
+/// Sets the walks to the base of a term, where it is opened. Not inlined, since a function clears its locals when it begins, and a term
+/// seldom begins.
+#[inline(never)]
+fn begin(store: &Store, term: Term, cursors: &mut [Cursor; HART_ROW])
+    ensures { (o : OpeningParts) (cut : ℕ → ℕ) → opening_at store.now term ≡ One o → AreOver store.now term (base_of o) cut cursors.new }
+{
+    *cursors = start(store, term);
+}
+
 /// Goes on from a cut of an opened term as far as the store reaches, in that term and in those that come after it in the
 /// chain of the top. Gives the term in which that ends.
 fn go_on(
@@ -90,7 +100,7 @@ fn go_on(
         }
         now = next;
         *counts = next.base();
-        *cursors = start(store, next.term());
+        begin(store, next.term(), cursors);
     }
 }
 
@@ -99,17 +109,22 @@ pub(crate) fn take_elsewhere(
     store: &mut Store,
     position: &Position,
     cursors: &[Cursor; HART_ROW],
+    beyond: &mut Beyond,
     fragment: Fragment,
 ) -> Result<Put, Memory>
     requires new { answer_to store.old (frame_of_specs.Log fragment) ≡ Put.New }
     requires tracked { IsTracked store.old position.now cursors.now }
+    requires beyond { AreBeyond store.old beyond.old }
     requires elsewhere { fragment.key.term ≢ position.now.term }
     ensures takes { Takes store.old (frame_of_specs.Log fragment) result store.new }
     ensures tracked { IsTracked store.new position.now cursors.now }
+    ensures beyond { AreBeyond store.new beyond.new }
 {
+    let key = fragment.key();
     store.put_new(fragment)?;
     // proof: a store's guest keeps the rules.
     let _rules = store.guest();
+    beyond.add(key);
     Ok(Put::New)
 }
 
@@ -144,10 +159,19 @@ fn are_met(records: &[Record], cut: &Counts) -> bool
     least_unmet(records, COUNT_LIMIT, cut).is_none()
 }
 
+/// What is ahead of a walk, of which it may be known that it ends.
+fn behind_it(last: bool) -> Ahead
+    ensures { result ≡ (if last then Ahead.End else Ahead.Unseen) }
+{
+    if last { Ahead::End } else { Ahead::Unseen }
+}
+
 /// Goes past a piece that came, without a look at the store, where it is the one with which its hart's walk goes on and its edges are met.
-fn pass(cursors: &mut [Cursor; HART_ROW], key: &Key, from: Count, to: Count, met: bool)
+/// Whether nothing came behind it is told.
+fn pass(cursors: &mut [Cursor; HART_ROW], key: &Key, from: Count, to: Count, met: bool, last: bool)
     ensures { (store : StoreView) (term : ℕ) (base cut : ℕ → ℕ) (piece : FragmentParts) → IsStore store →
-        IsPassed (pieces_of store term key.now.hart) cut key.now.place from to met piece → AreOver store term base cut cursors.old → AreOver store term base cut cursors.new }
+        IsPassed (pieces_of store term key.now.hart) cut key.now.place from to met piece →
+        (IsTrue last → pieces_of store term key.now.hart (key.now.place + 1) ≡ Absent) → AreOver store term base cut cursors.old → AreOver store term base cut cursors.new }
 {
     let index = key.hart.index();
     let cursor = cursors[index];
@@ -157,7 +181,7 @@ fn pass(cursors: &mut [Cursor; HART_ROW], key: &Key, from: Count, to: Count, met
     cursors[index] = Cursor {
         place: cursor.place + 1,
         end: to,
-        ahead: Ahead::Unseen,
+        ahead: behind_it(last),
     };
 }
 
@@ -166,15 +190,18 @@ pub(crate) fn take_here(
     store: &mut Store,
     position: &mut Position,
     cursors: &mut [Cursor; HART_ROW],
+    beyond: &mut Beyond,
     opening: &Opening,
     fragment: Fragment,
 ) -> Result<Put, Memory>
     requires new { answer_to store.old (frame_of_specs.Log fragment) ≡ Put.New }
     requires tracked { IsTracked store.old position.old cursors.old }
+    requires beyond { AreBeyond store.old beyond.old }
     requires opening { opening_at store.old position.old.term ≡ One opening.now }
     requires here { fragment.key.term ≡ position.old.term }
     ensures takes { Takes store.old (frame_of_specs.Log fragment) result store.new }
     ensures tracked { IsTracked store.new position.new cursors.new }
+    ensures beyond { AreBeyond store.new beyond.new }
 {
     let key = fragment.key();
     let from = fragment.from();
@@ -183,10 +210,11 @@ pub(crate) fn take_here(
     store.put_new(fragment)?;
     // proof: a store's guest keeps the rules.
     let _rules = store.guest();
+    let last = beyond.add(key);
     if !may_go_on(cursors, key, from) {
         return Ok(Put::New);
     }
-    pass(cursors, &key, from, to, met);
+    pass(cursors, &key, from, to, met, last);
     position.term = go_on(store, position.top, opening, cursors, &mut position.counts);
     Ok(Put::New)
 }

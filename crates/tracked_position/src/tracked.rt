@@ -7,12 +7,13 @@ ghost use Rattle.log_join.specs.Answers.{answer_to};
 ghost use Rattle.closed_cut.specs.Position.{IsPosition};
 ghost use Rattle.tracked_position.specs.machinery.Keeping.{Takes, IsOneAt, MayGrow};
 
-use crate::answering::{answer_of, is_clash_at};
+use crate::answering::{answer_of, is_beyond, is_clash_at};
+use crate::beyond::Beyond;
 use crate::starting::{start, unseen};
 use crate::taking::{take_elsewhere, take_here};
 use crate::walk::Cursor;
 use closed_cut::{Position, opening_of, position};
-use fragment_codec::{Fragment, Frame};
+use fragment_codec::{Fragment, Frame, Opening};
 use ft_types::{Counts, Guest, HART_ROW, Memory, is_same_guest};
 use log_join::{Put, Store, StoreFault};
 use std::alloc::Global;
@@ -25,6 +26,7 @@ pub struct Tracked {
     store: Store,
     position: Position,
     cursors: [Cursor; HART_ROW],
+    beyond: Beyond,
 }
 
 impl Drop for Tracked {
@@ -33,6 +35,7 @@ impl Drop for Tracked {
             store: _,
             position: _,
             cursors: _,
+            beyond: _,
         } = self;
     }
 }
@@ -44,11 +47,11 @@ impl Model for Tracked {
 
     ghost coded = { coded_store };
 
-    ghost use Rattle.tracked_position.specs.machinery.Keeping.{IsTracked};
+    ghost use Rattle.tracked_position.specs.machinery.Keeping.{AreBeyond, IsTracked};
 
     ghost view = { λ t. t.store };
 
-    ghost invariant = { λ t. IsTracked t.store t.position t.cursors };
+    ghost invariant = { λ t. IsTracked t.store t.position t.cursors × AreBeyond t.store t.beyond };
 }
 
 impl Tracked {
@@ -64,6 +67,7 @@ impl Tracked {
                 top: 0,
             },
             cursors: unseen(),
+            beyond: Beyond::unknown(),
         }
     }
 
@@ -92,6 +96,7 @@ impl Tracked {
             store,
             position,
             cursors,
+            beyond: Beyond::unknown(),
         })
     }
 
@@ -105,6 +110,7 @@ impl Tracked {
     }
 
     /// Takes a frame into a copy, whose position is found anew.
+    #[inline(never)]
     fn put_anew(&mut self, alloc: Global, frame: Frame) -> Result<Put, Memory>
         ensures { Takes self.old frame result self.new }
     {
@@ -114,6 +120,14 @@ impl Tracked {
         Ok(put)
     }
 
+    /// Takes a piece of a term that is not opened. Not inlined, since a function clears its locals when it begins, and a frame is large.
+    #[inline(never)]
+    fn put_unopened(&mut self, alloc: Global, fragment: Fragment) -> Result<Put, Memory>
+        ensures { Takes self.old (frame_of_specs.Log fragment) result self.new }
+    {
+        self.put_anew(alloc, Frame::Log(fragment))
+    }
+
     /// Takes a piece at a key at which nothing was.
     fn put_new(&mut self, alloc: Global, fragment: Fragment) -> Result<Put, Memory>
         requires { answer_to self.old (frame_of_specs.Log fragment) ≡ Put.New }
@@ -121,7 +135,13 @@ impl Tracked {
     {
         let term = fragment.key().term;
         if term != self.position.term {
-            return take_elsewhere(&mut self.store, &self.position, &self.cursors, fragment);
+            return take_elsewhere(
+                &mut self.store,
+                &self.position,
+                &self.cursors,
+                &mut self.beyond,
+                fragment,
+            );
         }
         match opening_of(&self.store, term) {
             Some(opening) => {
@@ -130,15 +150,17 @@ impl Tracked {
                     &mut self.store,
                     &mut self.position,
                     &mut self.cursors,
+                    &mut self.beyond,
                     &opening,
                     fragment,
                 )
             }
-            None => self.put_anew(alloc, Frame::Log(fragment)),
+            None => self.put_unopened(alloc, fragment),
         }
     }
 
     /// Takes a frame that clashes. Where what came at its key does so already, nothing changes.
+    #[inline(never)]
     fn put_clashing(&mut self, alloc: Global, frame: Frame) -> Result<Put, Memory>
         requires { answer_to self.old frame ≡ Put.Clash }
         ensures takes { Takes self.old frame result self.new }
@@ -148,6 +170,31 @@ impl Tracked {
             return self.store.put(frame);
         }
         self.put_anew(alloc, frame)
+    }
+
+    /// Takes an opening of a term at which nothing was. Where none came of it or of a later one, it is known that nothing came in it.
+    #[inline(never)]
+    fn put_opening(&mut self, alloc: Global, opening: Opening) -> Result<Put, Memory>
+        requires { answer_to self.old (frame_of_specs.Opening opening) ≡ Put.New }
+        ensures { Takes self.old (frame_of_specs.Opening opening) result self.new }
+    {
+        let term = opening.term();
+        let last = self.store.last_term();
+        let put = self.put_anew(alloc, Frame::Opening(opening))?;
+        if last < term {
+            self.beyond = Beyond::nothing_in(term);
+        }
+        Ok(put)
+    }
+
+    /// The answer to a frame, without a look at the store where it is known that nothing came at its key.
+    fn answer(&self, frame: &Frame) -> Put
+        ensures { result ≡ answer_to self.now frame.now }
+    {
+        if is_beyond(&self.store, &self.beyond, frame) {
+            return Put::New;
+        }
+        answer_of(&self.store, frame)
     }
 
     /// Takes a frame.
@@ -164,10 +211,10 @@ impl Tracked {
         ensures memory { OnErr result (MayGrow self.old frame) }
         ensures err { OnErr result (self.new ≡ self.old) }
     {
-        match answer_of(&self.store, &frame) {
+        match self.answer(&frame) {
             Put::New => match frame {
                 Frame::Log(fragment) => self.put_new(alloc, fragment),
-                Frame::Opening(opening) => self.put_anew(alloc, Frame::Opening(opening)),
+                Frame::Opening(opening) => self.put_opening(alloc, opening),
             },
             Put::Same | Put::OtherGuest => self.store.put(frame),
             Put::Clash => self.put_clashing(alloc, frame),

@@ -90,7 +90,7 @@ loop-next-preserved c =
       in_chain = child.in_chain;
       harts = ap length same;
       cut = λ limit after. rw same (leg_start s c.requires.rules c.args.top next child.opens c.requires.sound limit after);
-      over = rw c.term-in-loop-next.ensures at c.start.ensures.over next (count_at c.base-in-loop-next.result) child.opens;
+      over = rw c.term-in-loop-next.ensures at c.begin.ensures next (count_at c.base-in-loop-next.result) child.opens;
       on =
           λ to cut stops.
           c.loop-next.invariant.on to cut

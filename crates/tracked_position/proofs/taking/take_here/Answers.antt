@@ -1,14 +1,15 @@
-use Rattle.std.proofs.Common.{◌≡◌, ℕ, List, Option, ◌∙◌, refl, sym, ap, subst}
+use Rattle.std.proofs.Common.{◌≡◌, ℕ, ◌+◌, List, Option, ◌∙◌, refl, sym, ap, subst}
 use Rattle.ft_types.specs.Guests.{GuestParts}
 use Rattle.std.specs.Option.{option_map}
 use Rattle.ft_types.specs.Counts.{count_at}
-use Rattle.log_join.specs.Cells.{One}
+use Rattle.fragment_codec.specs.declared.types.Key.{Key}
+use Rattle.log_join.specs.Cells.{Absent, One}
 use Rattle.log_join.specs.Stores.{StoreView, opening_at}
 use Rattle.closed_cut.specs.Position.{base_of, pieces_of, InChain, Stops}
 use Rattle.tracked_position.specs.machinery.Cuts.{IsCutOf}
 use Rattle.tracked_position.specs.machinery.Walks.{AreOver}
 use Rattle.tracked_position.specs.machinery.Legs.{IsNext}
-use Rattle.tracked_position.specs.machinery.Keeping.{IsTracked}
+use Rattle.tracked_position.specs.machinery.Keeping.{AreBeyond, IsTracked}
 use Rattle.tracked_position.proofs.Growth.{HasOneMore, one_more}
 use Rattle.tracked_position.proofs.Keeping.{over_more, cut_here, chain_here, sound_here, tracked_here, tracked_moved, tracked_apart}
 use Rattle.tracked_position.proofs.taking.take_here.Goals as goal
@@ -76,7 +77,11 @@ go_on-position-requires-clause-over c =
       from_is = sym c.from-from.ensures;
       to_is = sym c.to-to.ensures;
       meets = λ is. rw c.records.ensures.records at c.are_met-met.ensures is;
-    }) before)
+    })
+    (λ is.
+    subst (λ t. pieces_of new t c.key-key.result.hart (c.key-key.result.place + 1) ≡ Absent) (ap (λ (k : Key). k.term) c.key-key.ensures ∙ c.requires.here)
+    (c.add-last.ensures.last is new
+    (c.add-last.ensures.kept old new (λ k not. more.others k (λ is. not (is ∙ sym c.key-key.ensures))) c.requires.beyond))) before)
 
 pub returns-in_err-put_new-clause-tracked : goal.returns-in_err-put_new-clause-tracked
 returns-in_err-put_new-clause-tracked c =
@@ -112,3 +117,19 @@ go_on-position-requires-clause-harts c =
     let fits = c.requires.tracked.rules.openings c.args.position.now.term c.args.opening.now c.requires.opening in
     let same = ap (λ (g : GuestParts). g.harts) fits.same_guest in
     c.requires.tracked.harts ∙ sym (fits.rules.base ∙ same)
+
+pub returns-clause-beyond : goal.returns-clause-beyond
+returns-clause-beyond c =
+    let more : HasOneMore c.args.store.now c.put_new.new.self c.args.fragment =
+    one_more c.args.store.now c.put_new.new.self c.args.fragment c.requires.new c.in_ok-put_new.ensures.joined in
+    c.add-last.ensures.kept c.args.store.now c.put_new.new.self (λ k not. more.others k (λ is. not (is ∙ sym c.key-key.ensures))) c.requires.beyond
+
+pub returns-then-not-may_go_on-clause-beyond : goal.returns-then-not-may_go_on-clause-beyond
+returns-then-not-may_go_on-clause-beyond c =
+    let more : HasOneMore c.args.store.now c.put_new.new.self c.args.fragment =
+    one_more c.args.store.now c.put_new.new.self c.args.fragment c.requires.new c.in_ok-put_new.ensures.joined in
+    c.add-last.ensures.kept c.args.store.now c.put_new.new.self (λ k not. more.others k (λ is. not (is ∙ sym c.key-key.ensures))) c.requires.beyond
+
+pub returns-in_err-put_new-clause-beyond : goal.returns-in_err-put_new-clause-beyond
+returns-in_err-put_new-clause-beyond c =
+    subst (λ (s : StoreView). AreBeyond s c.args.beyond.now) (sym c.in_err-put_new.ensures.err) c.requires.beyond
