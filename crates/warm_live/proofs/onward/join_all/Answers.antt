@@ -33,7 +33,7 @@ pub returns-in-Err-clause-some : goal.returns-in-Err-clause-some
 returns-in-Err-clause-some c = (
   c.loop-store.store-index,
   subst (λ (b : BackupView). AreJoinedTo c.args.backup.now.store (take c.loop-store.store-index (map (λ s. s.1.now) c.args.stores.now)) b.store)
-  (sym c.in-Err.ensures.err) c.loop-store.invariant.joined,
+      (sym c.in-Err.ensures.err) c.loop-store.invariant.joined,
 )
 
 pub returns-in-Err-clause-rest : goal.returns-in-Err-clause-rest
