@@ -9,3 +9,4 @@ pub mod Leading
 pub mod NotesAlone
 pub mod Taken
 pub mod Limits
+pub mod Lines

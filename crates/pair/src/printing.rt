@@ -1,6 +1,6 @@
 //! What a pair prints.
 
-ghost use Rattle.std.specs.Prelude.{◌++◌};
+ghost use Rattle.std.specs.Prelude.{◌≡◌, ◌+◌, ◌≤◌, ◌++◌, length, drop};
 ghost use Rattle.std.specs.List.{flat_map};
 ghost use Rattle.ft_types.specs.Devices.{Writes};
 ghost use Rattle.guest_image.specs.Text.{machine_text};
@@ -8,34 +8,68 @@ ghost use Rattle.pair.specs.Printing.{output_line, kept_line, live_line, pair_te
 
 use crate::threads::PairEnd;
 use crate::warm::WarmEnd;
-use ft_types::{Failed, LineBuffer, Sink};
+use ft_types::{
+    Failed, LineBuffer, Sink, put_before, put_number_before, put_word_before, write_all,
+};
 use guest_image::Machine;
-use log_streams::write_long_line;
 use output_gate::Output;
 
-/// Writes the line of an output that went out.
-fn write_output<W: Sink>(output: &Output, out: &mut W) -> Result<(), Failed>
-    ensures { Writes result (W.bytes out.old) (W.bytes out.new) (W.failures out.old) (W.failures out.new) (output_line output.now) }
+/// How many bytes are written at once.
+const BLOCK: usize = 4096;
+
+/// How many lines of outputs are written at once: each has at most 103 bytes.
+const BLOCK_LINES: usize = 39;
+
+/// Puts the line of an output that went out so that it ends at `end`, and says where it starts.
+#[inline(always)]
+#[tactic(auto, unfolding(crate::specs::Printing::output_line))]
+fn put_output_before(block: &mut [u8], end: usize, output: &Output) -> usize
+    requires room { 103 ≤ end }
+    requires end { end ≤ length block.old }
+    ensures start { (result ≤ end) × (end ≤ result + 103) }
+    ensures written { drop result block.new ≡ output_line output.now ++ drop end block.old }
 {
-    let mut front = LineBuffer::new();
-    front.push(b"released hart ");
-    front.push_number(u64::from(output.hart.number()));
-    front.push(b" number ");
-    front.push_number(output.number);
-    let mut back = LineBuffer::new();
-    back.push(b" step ");
-    back.push_number(output.step);
-    back.push(b" word ");
-    back.push_word(output.word);
-    write_long_line(front, back, out)
+    let mut at = put_before(block, end, b"\n");
+    at = put_word_before(block, at, output.word);
+    at = put_before(block, at, b" word ");
+    at = put_number_before(block, at, output.step);
+    at = put_before(block, at, b" step ");
+    at = put_number_before(block, at, output.number);
+    at = put_before(block, at, b" number ");
+    at = put_number_before(block, at, u64::from(output.hart.number()));
+    put_before(block, at, b"released hart ")
+}
+
+/// Puts the lines of outputs at the end of the block, and says where they start.
+fn put_outputs(block: &mut [u8], outputs: &[Output]) -> usize
+    requires few { length outputs.now ≤ BLOCK_LINES }
+    requires block { length block.old ≡ BLOCK }
+    ensures start { result ≤ BLOCK }
+    ensures lines { drop result block.new ≡ flat_map output_line outputs.now }
+{
+    let mut start = BLOCK;
+    let mut left = outputs.len();
+    while left > 0 {
+        left -= 1;
+        start = put_output_before(block, start, &outputs[left]);
+    }
+    start
 }
 
 /// Writes what went out, by hart and number.
 fn write_outputs<W: Sink>(outputs: &[Output], out: &mut W) -> Result<(), Failed>
     ensures { Writes result (W.bytes out.old) (W.bytes out.new) (W.failures out.old) (W.failures out.new) (flat_map output_line outputs.now) }
 {
-    for output in outputs {
-        write_output(output, out)?;
+    if outputs.is_empty() {
+        return Ok(());
+    }
+    let mut block = [0; BLOCK];
+    let mut first = 0;
+    while first < outputs.len() {
+        let count = (outputs.len() - first).min(BLOCK_LINES);
+        let start = put_outputs(&mut block, &outputs[first..first + count]);
+        write_all(out, &block[start..])?;
+        first += count;
     }
     Ok(())
 }
