@@ -69,25 +69,33 @@ def answers(live, hops, disk, memory, count):
 
 
 def answers_on(live, hops, where, folder, is_disk, count, on):
-    """The same of the logs of one folder: in turn by the pair and by what hands bytes on, part by part, so that all rows have the same minutes."""
+    """The same of the logs of one folder: in turn by pairs whose keepers acknowledge by a path each and all by one, and by what hands bytes on, part by part, so
+    that all rows have the same minutes."""
     os.makedirs(folder)
-    pair = Pair(live, IMAGE, f"{folder}/answers", on=on)
-    pair.lead()
-    asked(hops, pair.folder, 0, 200, 1)
-    before = os.path.getsize(pair.at("log.0"))
-    times, hopped, part = [], {synced: [] for synced in (True, False)[1 - is_disk :]}, count // PARTS
+    pairs = {name: Pair(live, IMAGE, f"{folder}/{name}", on=on, by_one=name == "one") for name in ("each", "one")}
+    for pair in pairs.values():
+        pair.lead()
+        asked(hops, pair.folder, 0, 200, 1)
+    log = pairs["each"].at("log.0")
+    before = os.path.getsize(log)
+    times, hopped, part = {name: [] for name in pairs}, {synced: [] for synced in (True, False)[1 - is_disk :]}, count // PARTS
     for number in range(PARTS):
-        times += asked(hops, pair.folder, 200 + number * part, part, 1)[0]
-        size = (os.path.getsize(pair.at("log.0")) - before) // len(times)
+        for name, pair in pairs.items():
+            times[name] += asked(hops, pair.folder, 200 + number * part, part, 1)[0]
+        size = (os.path.getsize(log) - before) // len(times["each"])
         for synced, ways in hopped.items():
             ways += plain(hops, f"{folder}/plain.{synced}.{number}", part, size, synced, on)[0]
-    pair.stop()
+    for pair in pairs.values():
+        pair.stop()
     said = f"logs {where}, {'each process on a processor of its own' if on else 'processes anywhere'}"
-    told(f"live, {said}", times)
+    acknowledged = {"each": "acknowledgements by a path each", "one": "acknowledgements by one path"}
+    for name in pairs:
+        told(f"live, {said}, {acknowledged[name]}", times[name])
     for synced, ways in hopped.items():
         told(f"hops in C, {size} bytes a request, {said}, {'synced' if synced else 'unsynced'}", ways)
-    alike = hopped[is_disk]  # in memory it costs nothing to bring a log to disk
-    print(f"{said}: {statistics.median(times) / statistics.median(alike):.2f} times the hops", flush=True)
+    alike = statistics.median(hopped[is_disk])  # in memory it costs nothing to bring a log to disk
+    for name in pairs:
+        print(f"{said}, {acknowledged[name]}: {statistics.median(times[name]) / alike:.2f} times the hops", flush=True)
 
 
 def rates(live, hops, disk, count):

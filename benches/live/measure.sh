@@ -3,7 +3,8 @@
 # and a client in C (hops.c), a row each:
 # - from request to answer, one under way: the median and what 99 of 100 are below, with the keepers' logs on disk and in memory, where bringing them to disk costs
 #   nothing; and the same over a primary and keepers in plain C that hand as many bytes on and know no guest, with and without fdatasync, in turn with the pair;
-#   of processes that run where the system has them run, and, where there are four processors, of each on one of its own;
+#   of processes that run where the system has them run, and, where there are four processors, of each on one of its own; keepers acknowledge by a path each, and in
+#   another pair all by one;
 # - how many requests a second with 1, 8 and 64 under way, logs on disk;
 # - how many steps a second a primary records of a guest that counts, beside `workbench run`;
 # - from kill -9 of the primary to the next answer, with 10,000 requests behind it: handing two logs over, going live, and all that keepers are sent once more.

@@ -22,14 +22,16 @@ def places():
 
 class Pair:
     """Keepers that run, each with a log, and the primary that leads, if one does. `around` has, for the name of a process, what its environment has more,
-    and `on` the processor on which it runs."""
+    and `on` the processor on which it runs. Keepers acknowledge by a path each, or all by one."""
 
-    def __init__(self, live, image, folder, around=None, is_told=False, on=None):
+    def __init__(self, live, image, folder, around=None, is_told=False, on=None, by_one=False):
         self.live, self.image, self.folder, self.around, self.is_told = os.path.abspath(live), os.path.abspath(image), folder, around or {}, is_told
         self.on = on or {}
+        self.acks = [f"acks.{0 if by_one else k}" for k in range(KEEPERS)]
         self.primary, self.term = None, 0
         os.makedirs(folder)
-        for name in ["in", "out"] + [f"{kind}.{k}" for kind in ("frames", "acks") for k in range(KEEPERS)]:
+        self.frames = [f"frames.{k}" for k in range(KEEPERS)]
+        for name in ["in", "out", *self.frames, *sorted(set(self.acks))]:
             os.mkfifo(self.at(name))
         self.keepers = [None] * KEEPERS
         for k in range(KEEPERS):
@@ -61,7 +63,7 @@ class Pair:
         told = [f"told.{k}"] * self.is_told
         for name in told:
             open(self.at(name), "ab").close()
-        self.keepers[k] = self.start(f"keeper.{k}", "keeper", self.image, str(k), f"log.{k}", "from", f"frames.{k}", "to", f"acks.{k}", *told)
+        self.keepers[k] = self.start(f"keeper.{k}", "keeper", self.image, str(k), f"log.{k}", "from", self.frames[k], "to", self.acks[k], *told)
 
     def hand(self, k):
         """Has keeper K's log handed over to the term: the status."""
@@ -73,8 +75,7 @@ class Pair:
         self.term += 1
         if any([self.hand(k) for k in keepers]):
             return False
-        ends = lambda kind: [f"{kind}.{k}" for k in range(KEEPERS)]
-        words = ["primary", self.image, str(self.term), str(KEEPERS), str(NEED), "in", "in", "out", "out", "to", *ends("frames"), "from", *ends("acks")]
+        words = ["primary", self.image, str(self.term), str(KEEPERS), str(NEED), "in", "in", "out", "out", "to", *self.frames, "from", *sorted(set(self.acks))]
         self.primary = self.start("primary", *words, "with", *[f"handed.{k}" for k in keepers])
         return True
 

@@ -47,9 +47,15 @@ stop() { if runs "$1"; then { kill -9 "$1" && wait "$1"; } 2> /dev/null; fi; }
 # ask SEED FOLDER NAME: writes `many` random requests of the guest, and its answers to them, each as the client prints it.
 ask() { awk -v seed="$1" -v many="$many" -v words="$2/$3.words" -v answers="$2/$3.wanted" -f "$top/samples/live/$guest.awk"; }
 
+# Keepers acknowledge by a path each, or, with ACKS=one, all by one.
+acks=${ACKS:-each}
+
+# path K: the number of the path by which keeper K acknowledges.
+path() { if [ "$acks" = one ]; then echo 0; else echo "$1"; fi; }
+
 # keep FOLDER K: starts keeper K, whose process is then `started`.
 keep() {
-    "$live" keeper "$image" "$2" "$1/log.$2" from "$1/frames.$2.a" "$1/frames.$2.b" to "$1/acks.$2.a" "$1/acks.$2.b" 2>> "$1/faults.$2" &
+    "$live" keeper "$image" "$2" "$1/log.$2" from "$1/frames.$2.a" "$1/frames.$2.b" to "$1/acks.$(path "$2").a" "$1/acks.$(path "$2").b" 2>> "$1/faults.$2" &
     started=$!
 }
 

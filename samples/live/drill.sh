@@ -5,8 +5,8 @@
 # gives to requests that are taken in order, each once, and the machine to which the keepers' logs lead must have those outputs and no others. Then PAUSES rounds, as many by
 # themselves, in which the primary is paused (SIGSTOP), two keepers hand over, and it goes on (SIGCONT) beside the next one, each with a client of its own: no number may
 # have two words. And one round in which copies of the logs are handed over, so that no keeper is fenced off: there they must contradict, or the rounds
-# before show nothing. LIVE and WORKBENCH are the built programs, by themselves those that `rt run` leaves. The last line is 'N passed, N failed'. Needs
-# bash and mkfifo.
+# before show nothing. With ACKS=one keepers acknowledge by one path, and not by one each. LIVE and WORKBENCH are the built programs, by themselves those that
+# `rt run` leaves. The last line is 'N passed, N failed'. Needs bash and mkfifo.
 . "$(dirname "$0")/common.sh"
 rounds=${3:-10}
 RANDOM=${4:-1}
@@ -18,9 +18,10 @@ if [ "$guest" = lua ]; then image=$top/guests/out/-O2/lua.image; fi
 
 # lead FOLDER TERM SITE: a primary of the term, from what was handed over; its process is then `started`.
 lead() {
-    local at=$1 s=$3
+    local at=$1 s=$3 k from=("$1/acks.0.$3")
+    if [ "$acks" = each ]; then for k in 1 2; do from+=("$at/acks.$k.$s"); done; fi
     "$live" primary "$image" "$2" 3 2 in "$at/in.$s" out "$at/out.$s" to "$at/frames.0.$s" "$at/frames.1.$s" "$at/frames.2.$s" \
-        from "$at/acks.0.$s" "$at/acks.1.$s" "$at/acks.2.$s" with "${handed[@]}" 2>> "$at/faults.primary" &
+        from "${from[@]}" with "${handed[@]}" 2>> "$at/faults.primary" &
     started=$!
 }
 
