@@ -103,7 +103,7 @@ fn load_from_device(core: &mut HartCore, kind: LoadKind, rd: Reg, address: u32)
 }
 
 #[inline(always)]
-pub(crate) fn is_aligned(kind: LoadKind, address: u32) -> bool
+fn is_aligned(kind: LoadKind, address: u32) -> bool
     ensures { result ≡ (address % load_width kind == 0) }
 {
     match kind {
@@ -182,7 +182,7 @@ fn store_to_ram<P: Pages>(
 }
 
 #[inline(always)]
-pub(crate) fn is_store_aligned(kind: StoreKind, address: u32) -> bool
+fn is_store_aligned(kind: StoreKind, address: u32) -> bool
     ensures { result ≡ (address % store_width kind == 0) }
 {
     match kind {
