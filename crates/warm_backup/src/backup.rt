@@ -98,6 +98,13 @@ fn tells_on(piece: bool, put: Put) -> bool
     }
 }
 
+/// Goes to a position.
+fn go_there(position: &mut Position, end: &Position)
+    ensures { position.new ≡ end.now }
+{
+    *position = *end;
+}
+
 impl Backup {
     /// A backup of an image to which nothing came: its machine is at boot.
     pub fn new(alloc: Global, image: &Image) -> Result<Backup, Memory>
@@ -249,7 +256,7 @@ impl Backup {
             end,
         )?;
         self.last_steps = steps;
-        self.position = *end;
+        go_there(&mut self.position, end);
         Ok(())
     }
 }

@@ -14,7 +14,7 @@ ghost use Rattle.warm_backup.specs.machinery.Growing.{cursor_at, HasFacts, Walks
 
 use closed_cut::piece_from;
 use fragment_codec::{Fragment, Key};
-use ft_types::{Count, Counts, HART_ROW, Hart, Memory, Term};
+use ft_types::{Count, Counts, HART_LIMIT, HART_ROW, Hart, Memory, Term};
 use hart_replay::{PlannedLeg, add_edges, add_inputs, add_notes};
 use log_join::Store;
 use page_book::Leg;
@@ -192,22 +192,25 @@ pub(crate) fn rules_of(leg: &PlannedLeg)
     ensures log { IsLog leg.now.edges.start leg.now.edges.rows }
     ensures rows { length leg.now.inputs ≡ HART_ROW }
 {
-    // proof: each of these calls tells of its log.
-    let _rules = leg.edges.next(Hart::new(0), 0);
-    let _rows = leg.inputs.of_hart(Hart::new(0));
+    // proof: each of these calls tells of its log. Few guests have the last hart, so that its row is short.
+    let _rules = leg.edges.next(Hart::new(HART_LIMIT - 1), 0);
+    let _rows = leg.inputs.of_hart(Hart::new(HART_LIMIT - 1));
 }
 
-/// Raises the ends of a leg to these counts, and adds what the store tells up to there, also to what is to be done of it.
+/// Raises the ends of a leg, at which these counts are now, to the others, and adds what the store tells up to there, also to what is to
+/// be done of it.
 pub(crate) fn grow(
     store: &Store,
     leg: &mut PlannedLeg,
     rest: &mut Leg,
     cursors: &mut [Cursor; HART_ROW],
+    now: &Counts,
     ends: &Counts,
 ) -> Result<(), Memory>
     requires rules { IsStore store.now }
     requires facts { HasFacts store.now leg.old }
     requires walks { (hart : ℕ) → hart < length leg.old.base → Walks store.now leg.old hart (cursor_at cursors.old hart) }
+    requires now { now.now ≡ leg.old.ends }
     requires to { IsNext store.now leg.old ends.now }
     requires fresh { IsFresh leg.old rest.old }
     ensures facts { OnOk result (HasFacts store.now leg.new) }
@@ -220,13 +223,12 @@ pub(crate) fn grow(
     ensures rest_ends { rest.new.ends ≡ rest.old.ends }
     ensures grows { Grows leg.old leg.new }
 {
-    let now = leg.ends;
     for number in 0..ends.harts() {
         let hart = Hart::new(number);
         let end = ends.get(hart);
         if leg.ends.get(hart) < end {
             let cursor = &mut cursors[hart.index()];
-            grow_hart(store, leg, rest, cursor, hart, end, &now)?;
+            grow_hart(store, leg, rest, cursor, hart, end, now)?;
         }
     }
     rules_of(leg);

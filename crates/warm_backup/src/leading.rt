@@ -7,6 +7,7 @@ ghost use Rattle.hart_replay.specs.Leading.{AreAtEnds, ComesShort, IsHeld};
 ghost use Rattle.warm_backup.specs.machinery.Leading.{AreHeld, IsLater, IsLed, IsNearer};
 
 use ft_types::{Count, Counts, HART_ROW, Hart, LEASE_STEPS, Memory};
+use guest_image::Machine;
 use hart_replay::{ReplayFault, has_come_to};
 use lease_rounds::{PageMask, go_for};
 use page_book::{Book, Keep, Replaying};
@@ -77,6 +78,20 @@ fn lead_all(
     Ok(())
 }
 
+/// Whether each hart has come to its end.
+fn are_at_ends(machine: &Machine, ends: &Counts) -> bool
+    requires { length ends.now ≡ length machine.now.harts }
+    ensures { IsTrue result → AreAtEnds machine.now ends.now }
+{
+    for number in 0..ends.harts() {
+        let hart = Hart::new(number);
+        if machine.hart(hart).count() < ends.get(hart) {
+            return false;
+        }
+    }
+    true
+}
+
 /// Lets the harts go on until none can. Refused where one has not come to its end then.
 pub(crate) fn lead_to(
     alloc: Global,
@@ -98,5 +113,8 @@ pub(crate) fn lead_to(
     // proof: the journal leads to the machine.
     let _machine = book.machine();
     led?;
+    if are_at_ends(book.machine(), ends) {
+        return Ok(());
+    }
     has_come_to(book.machine(), &book.counts(), ends)
 }

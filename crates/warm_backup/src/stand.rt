@@ -245,6 +245,6 @@ pub(crate) fn go_to(
         // Never: at boot there is no leg to go on with.
         return Ok(0);
     };
-    work.go_on(alloc, store, &end.counts)?;
+    work.go_on(alloc, store, &position.counts, &end.counts)?;
     Ok(steps_to(true, &position.counts, &end.counts))
 }

@@ -214,8 +214,15 @@ impl Work {
 
     /// Lets the leg grow to these counts, and its book, with nothing done, come there. Refused, the leg has what it had below its old
     /// ends, and maybe more from there on, and the book may have come some way.
-    fn take_steps(&mut self, alloc: Global, store: &Store, ends: &Counts) -> Result<(), ReplayFault>
+    fn take_steps(
+        &mut self,
+        alloc: Global,
+        store: &Store,
+        now: &Counts,
+        ends: &Counts,
+    ) -> Result<(), ReplayFault>
         requires rules { IsStore store.now }
+        requires now { now.now ≡ self.old.leg.ends }
         requires ready { IsReady self.old }
         requires facts { IsUpToDate store.now self.old }
         requires to { IsNext store.now self.old.leg ends.now }
@@ -231,6 +238,7 @@ impl Work {
             &mut self.leg,
             &mut self.rest,
             &mut self.cursors,
+            now,
             ends,
         )?;
         self.book.swap_leg(&mut self.rest);
@@ -238,15 +246,17 @@ impl Work {
         lead_to(alloc, &mut self.book, ends, &mut self.usual)
     }
 
-    /// Goes on to these counts, to which the leg need only grow. Refused it stands where it stood, and its leg, cut where it ended, is
+    /// Goes on from the counts at which it stands to the others, to which the leg need only grow. Refused it stands where it stood, and its leg, cut where it ended, is
     /// what it was.
     pub(crate) fn go_on(
         &mut self,
         alloc: Global,
         store: &Store,
+        now: &Counts,
         ends: &Counts,
     ) -> Result<(), ReplayFault>
         requires rules { IsStore store.now }
+        requires now { now.now ≡ self.old.leg.ends }
         requires settled { IsSettled self.old self.old.leg.ends }
         requires at { IsAtEnds self.old }
         requires straight { self.old.astray ≡ false }
@@ -261,11 +271,11 @@ impl Work {
         ensures anew { OnErr result ((self.new ≡ self.old) ⊎ ((self.new.astray ≡ true) × (self.new.lasts ≡ false))) }
         ensures fault { IfErr result (λ fault. IsRefused store.now ends.now self.old fault) }
     {
-        self.book.begin_again()?;
         let marks = self.leg.marks;
+        self.book.begin_again()?;
         self.astray = true;
         self.lasts = false;
-        if let Err(fault) = self.take_steps(alloc, store, ends) {
+        if let Err(fault) = self.take_steps(alloc, store, now, ends) {
             self.leg.marks = marks;
             return Err(fault);
         }

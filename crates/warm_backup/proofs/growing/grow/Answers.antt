@@ -44,7 +44,7 @@ loop-number-preserved c =
           (raises_at store ends was before number c.loop-number.cursors c.loop-number.leg c.loop-number.rest so_far c.new-hart.result w.index.result
           c.get-end.result same (w.index.ensures.value ∙ same) c.get-end.ensures.value (omega (arith, less, many, harts, ends_of, base, same))
           (omega (arith, less, many, within, same)) w.grow_hart.new.leg w.grow_hart.new.rest w.grow_hart.new.cursor w.in_ok-grow_hart.ensures.facts
-          w.in_ok-grow_hart.ensures.walks w.in_ok-grow_hart.ensures.ends w.in_ok-grow_hart.ensures.taken w.grow_hart.ensures.rest_ends
+          w.in_ok-grow_hart.ensures.walks w.in_ok-grow_hart.ensures.ends (rw c.requires.now at w.in_ok-grow_hart.ensures.taken) w.grow_hart.ensures.rest_ends
           w.grow_hart.ensures.grows)
       | else-get-end w ↦
           let over = w.if-get-end.false in

@@ -38,5 +38,6 @@ returns-clause-history c =
     let end = c.position-end.result.now in
     let same = c.store.ensures ∙ ap (λ (b : BackupView). b.store) c.self.view_is in
     λ history rules honest.
-    replays_history image (legs_of c.go_to.new.front.items stand end.counts) (Ok (machine_of stand)) c.in_ok-steps.ensures.kept.keeps.led tt history
-    c.args.self.now.store end rules honest (rw same at c.in_ok-steps.ensures.planned)
+    rw c.go_there.ensures
+    (replays_history image (legs_of c.go_to.new.front.items stand end.counts) (Ok (machine_of stand)) c.in_ok-steps.ensures.kept.keeps.led tt history
+    c.args.self.now.store end rules honest (rw same at c.in_ok-steps.ensures.planned))
