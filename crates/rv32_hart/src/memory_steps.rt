@@ -182,7 +182,7 @@ fn store_to_ram<P: Pages>(
 }
 
 #[inline(always)]
-fn is_store_aligned(kind: StoreKind, address: u32) -> bool
+pub(crate) fn is_store_aligned(kind: StoreKind, address: u32) -> bool
     ensures { result ≡ (address % store_width kind == 0) }
 {
     match kind {

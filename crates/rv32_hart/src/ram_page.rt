@@ -1,4 +1,4 @@
-//! The page of an address in RAM, where the address is a multiple of a width: one test tells of both.
+//! The page of an address in RAM that a load or a store uses: one test tells that there is one and that the address is aligned.
 ghost use Rattle.std.specs.Prelude.{◌≡◌, ◌+◌, ◌*◌, ◌/◌, ◌%◌, ◌^◌, ◌<◌, ◌≤◌, length, IfSome};
 ghost use Rattle.rv32_hart.specs.Access.{load_width, store_width};
 ghost use Rattle.rv32_hart.specs.machinery.QuickSteps.{IsPageAt};
