@@ -2,7 +2,7 @@
 """programs.py PROGRAM [COUNT [SEED [FIRST]]]: runs COUNT guests, 20,000 by itself, whose instructions fall by chance, and compares what quick runs on threads came to
 with what each step by itself comes to.
 
-A guest has one to four harts and one body for all of them, which goes round: arithmetic, loads and stores of each width, some of which are misaligned or reach no
+A guest has one to four harts and one body for all of them, which goes round, in one page or across the end of one: arithmetic, loads and stores of each width, some of which are misaligned or reach no
 page, atomic memory operations, branches and jumps within the body, also into the second of two instructions that compilers write together, stores into the body's
 own words, of other words of the body or of what a register has, traps (ECALL, EBREAK, illegal words) and a handler that goes on behind them, outputs, bells and words
 that come in. `run` records it on a thread for each hart by forms that were decoded before; `audit` takes its log step by step, decoding each word anew and asking for each
@@ -102,12 +102,13 @@ def pair(chance, free, near):
     return [over, *two] if over else two  # some are jumped into from right before them
 
 
-def words_of(chance, length, steady):
-    """Some words of the body: one, or some that belong together. Those of a steady body lead back to its beginning again and again."""
+def words_of(chance, length, steady, begin):
+    """Some words of the body, which begins so many bytes behind the code page: one, or some that belong together. Those of a steady body lead back to its beginning again and
+    again."""
     free = lambda: chance.choice(FREE)
     to = chance.choice([0, *FREE, *FREE])
     kind = chance.randrange(28)
-    inside = lambda: 4 * (HANDLER + FRONT + chance.randrange(length))  # a place of the body in its page
+    inside = lambda: begin + 4 * chance.randrange(length)  # a place of the body, from the code page on
     near = lambda: 4 * chance.randrange(1 if steady else -6, 12)
     if kind < 7:
         return [arithmetic(chance, free, to)]
@@ -136,7 +137,7 @@ def words_of(chance, length, steady):
             return [taken, s_type(other, 6, CODE, 2)]
         if how == 1:
             return [taken, i_type(other, CODE, 0, 7, 0x13), r_type(chance.choice([4, 0x40]), 6, 7, 2, to, 0x2F)]
-        other = chance.choice([max(one - 4, 4 * (HANDLER + FRONT)), inside()])
+        other = chance.choice([max(one - 4, begin), inside()])
         return [taken, i_type(other, CODE, 2, 7, 0x03), s_type(other, 6, CODE, 2), s_type(one, 7, CODE, 2)]
     if kind == 20 and chance.randrange(8 if steady else 1) == 0:
         return [s_type(inside(), free(), CODE, chance.choice([0, 1, 2]))]  # what a register has, stored over a word of the body
@@ -161,22 +162,30 @@ def image_of(chance, plain):
         0,
         0,
     ]
+    across = chance.randrange(3) == 0  # the body lies across the end of the first page, and the code page is the second one
+    before = chance.randrange(1, length) if across else 0  # so many of its words are in the first one
     start = j_type(4 * HANDLER, 0)
     front = [
-        u_type(BASE + 0x1000 >> 12, DATA, 0x37),
-        u_type(BASE >> 12, CODE, 0x37),
+        u_type(BASE + (0x2000 if across else 0x1000) >> 12, DATA, 0x37),
+        u_type(BASE + (0x1000 if across else 0) >> 12, CODE, 0x37),
         u_type(0xF0000, DEVICES, 0x37),
         i_type(0xF14, 0, 2, HART, 0x73),  # csrrs x3, mhartid, x0
-        i_type(4, CODE, 0, 14, 0x13),
+        u_type(BASE >> 12, 14, 0x37),
+        i_type(4, 14, 0, 14, 0x13),
         i_type(0x305, 14, 1, 0, 0x73),  # csrrw x0, mtvec, x14: the handler, behind the first word
-        *(arithmetic(chance, lambda: chance.choice(FREE), chance.choice(FREE)) for _ in range(FRONT - 6)),
+        *(arithmetic(chance, lambda: chance.choice(FREE), chance.choice(FREE)) for _ in range(FRONT - 7)),
     ]
+    begin = -4 * before if across else 4 * (HANDLER + FRONT)
     body, steady = [], plain or chance.randrange(2)
     while len(body) < length:
-        body += words_of(chance, length, steady)
+        body += words_of(chance, length, steady, begin)
     back = j_type(-4 * len(body), 0)
-    words = [start, *handler[: HANDLER - 1], *front, *body, back]
-    return f"harts {harts}\npages {chance.choice([2, 2, 3])}\n" + "".join(f"{word:08x}\n" for word in words), harts
+    words = [start, *handler[: HANDLER - 1], *front]
+    if across:
+        on = 1024 - before
+        words += [j_type(4 * (on - len(words)), 0), *[0] * (on - len(words) - 1)]
+    words += [*body, back]
+    return f"harts {harts}\npages {chance.choice([2, 2, 3]) + across}\n" + "".join(f"{word:08x}\n" for word in words), harts
 
 
 def script_of(chance, harts):

@@ -23,7 +23,7 @@ use crate::unheard::desk_of;
 use crate::yielding::{is_at_hand, yield_right};
 use crew_pages::PageRight;
 use edge_log::{Edge, EdgeLog};
-use ft_types::{Count, Counts, HART_LIMIT, HART_ROW, Hart, HartSet, Memory};
+use ft_types::{Count, Counts, HART_LIMIT, HART_ROW, Hart, HartSet, Memory, boxed};
 use guest_image::Machine;
 use hart_lease::{Asked, Lease, Lent, OpenLease, Taken};
 use input_log::{Desk, Input, InputLog, Note, NoteLog, Offered, WaitingBell};
@@ -66,13 +66,6 @@ impl Model for Recording {
     ghost Value = { RecordingView };
 
     ghost view = { λ r. record { limits = r.limits; rights = r.rights.items; edges = r.edges.value; inputs = r.inputs.value; notes = r.notes; due = r.due.value; desk = r.desk.value } };
-}
-
-/// A value in memory of its own, so that a book is small where it goes from hand to hand.
-fn boxed<T: Drop>(alloc: Global, value: T) -> Result<Box<T>, Memory>
-    ensures { IfOk result (λ own. own.value ≡ value) }
-{
-    Ok(Box::new(alloc, value)?)
 }
 
 impl Recording {

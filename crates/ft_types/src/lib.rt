@@ -2,6 +2,7 @@
 //! that are read and written; the lines, numbers and words of text files.
 #![tactic(auto)]
 
+mod boxes;
 mod counts;
 mod device;
 mod errors;
@@ -16,6 +17,7 @@ mod sets;
 mod text;
 mod text_before;
 
+pub use boxes::boxed;
 pub use counts::{Counts, same_counts};
 pub use device::{Sink, Source, write_all};
 pub use errors::{Failed, Memory};

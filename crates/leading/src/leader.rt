@@ -24,7 +24,7 @@ use crate::waiting::only_waits;
 use fenced_keeper::Given;
 use fenced_live::GivenFault;
 use fragment_codec::Frame;
-use ft_types::{Count, Counts, Hart, Memory, Position, Quorum, Term};
+use ft_types::{Count, Counts, Hart, Memory, Position, Quorum, Term, boxed};
 use go_live::LiveFault;
 use guest_image::{Image, Machine};
 use lease_rounds::has_run;
@@ -78,13 +78,6 @@ impl Model for Leader {
         × ((hart : ℕ) → mark_at l.gate.value.gate hart ≡ count_at l.marks hart) };
 }
 
-/// A primary, in a box.
-fn boxed(alloc: Global, primary: Primary) -> Result<Box<Primary>, Memory>
-    ensures { IfOk result (λ p. p.value ≡ primary) }
-{
-    Ok(Box::new(alloc, primary)?)
-}
-
 /// A primary and a gate, each in a box.
 fn boxed_both(
     alloc: Global,
@@ -94,7 +87,7 @@ fn boxed_both(
     ensures { IfOk result (λ r. (r.0.value ≡ primary) × (r.1.value ≡ gate)) }
 {
     let primary = boxed(alloc, primary)?;
-    let gate = Box::new(alloc, gate)?;
+    let gate = boxed(alloc, gate)?;
     Ok((primary, gate))
 }
 

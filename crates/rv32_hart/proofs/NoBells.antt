@@ -1,11 +1,10 @@
 -- A hart at the start has neither rung nor heard a bell.
-use Rattle.std.proofs.Common.{◌≡◌, ◌≤◌, ℕ, zero, suc, length, replicate, refl, sym, ◌∙◌, arith, slice_index}
+use Rattle.std.proofs.Common.{◌≡◌, ◌≤◌, ℕ, zero, suc, replicate, refl, sym, ◌∙◌, arith, slice_index}
 use Rattle.std.specs.Prelude.{sum}
 use Rattle.std.proofs.lemmas.List.{length-replicate}
 use Rattle.std.proofs.lemmas.List.Folds.{sum_by-replicate}
-use Rattle.ft_types.specs.declared.names.TheConstants.{HART_LIMIT, HART_ROW}
-use Rattle.rv32_hart.specs.declared.registers.Csrs.{Csrs}
-use Rattle.rv32_hart.specs.machinery.Kept.{IsKept, IsCounted}
+use Rattle.ft_types.specs.declared.names.TheConstants.{HART_ROW}
+use Rattle.rv32_hart.specs.machinery.Kept.{IsCounted}
 
 none_at : (n hart : ℕ) → slice_index (replicate n 0) hart ≡ 0
 none_at zero hart = refl

@@ -13,6 +13,7 @@ mod place;
 mod quick_form;
 mod quick_step;
 mod quiet_run;
+mod ram_page;
 mod registers;
 mod second;
 mod state;

@@ -103,7 +103,7 @@ fn load_from_device(core: &mut HartCore, kind: LoadKind, rd: Reg, address: u32)
 }
 
 #[inline(always)]
-pub(crate) fn is_aligned(kind: LoadKind, address: u32) -> bool
+fn is_aligned(kind: LoadKind, address: u32) -> bool
     ensures { result ≡ (address % load_width kind == 0) }
 {
     match kind {

@@ -15,7 +15,7 @@ use crate::files::KeeperFiles;
 use crate::log_front::{LogFront, read_frames};
 use crate::written::WrittenFrame;
 use fragment_codec::{FIRST_TERM, Frame};
-use ft_types::{Guest, Memory, Position, Term};
+use ft_types::{Guest, Memory, Position, Term, boxed};
 use log_join::{Put, Store};
 use std::alloc::Global;
 use std::marker::Model;
@@ -45,13 +45,6 @@ fn hold(alloc: Global, guest: Guest, frames: Vec<Frame>) -> Result<Tracked, LogF
         put_logged(alloc, &mut held, frame)?;
     }
     Ok(held)
-}
-
-/// A store, in a box.
-fn boxed(alloc: Global, held: Tracked) -> Result<Box<Tracked>, Memory>
-    ensures { IfOk result (λ b. b.value ≡ held) }
-{
-    Ok(Box::new(alloc, held)?)
 }
 
 /// Adds bytes for which there is room.

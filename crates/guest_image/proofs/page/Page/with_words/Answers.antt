@@ -8,4 +8,4 @@ loop-i-preserved c =
     c.put_word.ensures.rest c.put_word.ensures.length c.loop-i.invariant
 
 pub returns : goal.returns
-returns c = c.in_ok-bytes.ensures.items ∙ page_is c.args.words.now c.loop-i.bytes c.loop-i.i (omega arith) (omega arith) c.loop-i.invariant
+returns c = c.in_ok-bytes.ensures.ok ∙ page_is c.args.words.now c.loop-i.bytes c.loop-i.i (omega arith) (omega arith) c.loop-i.invariant
