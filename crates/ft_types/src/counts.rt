@@ -148,6 +148,18 @@ impl Counts {
         self.row[hart.index()] = count;
     }
 
+    /// Becomes the other counts. Where both are of as many harts, no more is moved than theirs.
+    pub fn copy_from(&mut self, other: &Counts)
+        ensures { self.new ≡ other.now }
+    {
+        if self.harts != other.harts {
+            *self = *other;
+            return;
+        }
+        let harts = self.harts as usize;
+        self.row[..harts].copy_from_slice(&other.row[..harts]);
+    }
+
     /// Hart by hart, the smaller count.
     pub fn meet(self, other: Counts) -> Counts
         requires { length self ≡ length other }

@@ -12,7 +12,7 @@ use crate::plans::PlannedLeg;
 use closed_cut::piece_from;
 use edge_log::EdgeLog;
 use fragment_codec::{Fragment, Key, Record};
-use ft_types::{Count, Counts, Hart, Memory};
+use ft_types::{Count, Counts, HART_LIMIT, Hart, Memory};
 use input_log::{Input, InputLog};
 use log_join::Store;
 use std::option::Option;
@@ -42,8 +42,8 @@ pub fn add_edges(
     // What it said of the steps before stays said.
     ensures later { (settled : ℕ → ℕ) → settled piece.now.key.hart ≤ max from piece.now.from → AddsLater edges.old settled edges.new }
 {
-    // proof: a log keeps the rules by type.
-    let _rules = edges.next(piece.key().hart, 0);
+    // proof: a log keeps the rules by type. Few guests have the last hart, so that its row is short.
+    let _rules = edges.next(Hart::new(HART_LIMIT - 1), 0);
     for record in piece.records() {
         if let Record::Edge(edge) = record {
             if is_between(edge.at, from, end) && met.count_of(edge.other) < edge.after {

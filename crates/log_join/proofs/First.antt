@@ -13,11 +13,11 @@ use Rattle.frame_content.specs.declared.content.Content.TheVariants.{One as OneF
 use Rattle.frame_content.specs.Tests.{same_guest, same_fragment}
 use Rattle.frame_content.specs.machinery.Contents.{same_frame}
 use Rattle.log_join.specs.declared.answers.Put.TheVariants.{New, Same, Clash as Clashes, OtherGuest}
-use Rattle.log_join.specs.declared.place.Place.{Place}
 use Rattle.log_join.specs.declared.shelves.Shelves.{Shelves}
 use Rattle.log_join.specs.Stores.{IsFragmentOf, IsJoin, alone, fragment_at}
 use Rattle.log_join.specs.Answers.{answer, answer_to}
-use Rattle.log_join.specs.machinery.Contents.{Fits, view_of, taken, put_answer, fragment_part, key_of, place_of, place_cmp}
+use Rattle.log_join.specs.machinery.Contents.{Fits, view_of, taken, put_answer, fragment_part}
+use Rattle.log_join.specs.machinery.Places.{Place, key_of, place_of, place_cmp}
 use Rattle.log_join.proofs.Told.{guests_told}
 use Rattle.log_join.proofs.Joins.{keys_total}
 use Rattle.log_join.proofs.Shown.{answer_is, cell_shown}

@@ -23,13 +23,13 @@ use Rattle.log_join.specs.declared.answers.Found.{Found}
 use Rattle.log_join.specs.declared.answers.Found.TheVariants.{Absent as FindsNone, One as FindsOne, Clash as FindsClash}
 use Rattle.frame_content.specs.declared.content.Content.{Content}
 use Rattle.frame_content.specs.declared.content.Content.TheVariants.{One as OneFrame, Clash as Clashed}
-use Rattle.log_join.specs.declared.place.Place.{Place}
 use Rattle.log_join.specs.declared.shelves.Shelves.{Shelves}
 use Rattle.log_join.specs.Cells.{Absent, join_cell, cell_of}
 use Rattle.frame_content.specs.Tests.{same_guest, same_opening, same_fragment}
 use Rattle.log_join.specs.Stores.{StoreView, key_cmp, opening_at, fragment_at, IsOpeningOf, IsFragmentOf, IsStore, IsJoin, IsLastTerm, nothing}
 use Rattle.log_join.specs.Answers.{answer, Puts, TellsOpening, TellsFragment}
-use Rattle.log_join.specs.machinery.Contents.{taken, put_answer, shown, opening_part, fragment_part, key_of, place_of, place_cmp, TellsContent, FitsAt}
+use Rattle.log_join.specs.machinery.Contents.{taken, put_answer, shown, opening_part, fragment_part, TellsContent, FitsAt}
+use Rattle.log_join.specs.machinery.Places.{Place, key_of, place_of, place_cmp}
 use Rattle.frame_content.specs.machinery.Contents.{same_frame}
 use Rattle.log_join.specs.machinery.Contents.{Fits, view_of, IsKept, IsMet}
 use Rattle.log_join.proofs.Told.{guests_told, openings_told, fragments_told}

@@ -1,3 +1,4 @@
 -- Files that need no belief: contracts of private functions and the views of types name them, and only proofs use what they say.
 pub mod Codes
 pub mod Contents
+pub mod Places

@@ -3,8 +3,8 @@
 ghost use Rattle.std.specs.Prelude.{◌≡◌, ◌≤◌, ◌⊎◌, ℕ, false, [], IsSome, IfOk, OnOk, OnErr};
 ghost use Rattle.std.specs.Ordering.{nat_cmp};
 ghost use Rattle.std.specs.BTreeMap.{get, IsOrdered};
-ghost use Rattle.log_join.specs.declared.place.Place.{Place as place_of_specs};
-ghost use Rattle.log_join.specs.machinery.Contents.{is_among, listed, key_of, fragment_part, FitsAt, place_cmp, AreFree, AreCopied, IsKept, IsMet};
+ghost use Rattle.log_join.specs.machinery.Places.{Place as place_of_specs, key_of, place_cmp};
+ghost use Rattle.log_join.specs.machinery.Contents.{is_among, listed, fragment_part, FitsAt, AreFree, AreCopied, IsKept, IsMet};
 
 use crate::place::Place;
 use crate::shelf::{copy_at, mark_clashes, missing_keys, remove_at};
@@ -134,7 +134,7 @@ impl Shelves {
     {
         match self.fragments.last_key_value() {
             None => 0,
-            Some((place, _)) => place.term,
+            Some((place, _)) => place.term(),
         }
     }
 }

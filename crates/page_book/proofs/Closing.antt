@@ -1,7 +1,7 @@
 -- Open leases that are ended one after the other.
 use Rattle.std.proofs.Common.{◌≡◌, ◌<◌, ◌≤◌, ◌+◌, ◌∙◌, ap, sym, subst, ℕ, zero, suc, List, length, replicate, slice_set, Option, None, refl, arith, inl, inr}
 use Rattle.std.proofs.Common.{length-set}
-use Rattle.std.proofs.lemmas.Bool.{cases_eq}
+use Rattle.std.proofs.lemmas.Bool.{cases_eq, cases_lt}
 use Rattle.std.proofs.lemmas.List.{ext_get_or, get_or-replicate, get_or-set_same, get_or-set_other, length-replicate}
 use Rattle.hart_lease.specs.OpenLeases.{OpenView, open_at}
 use Rattle.guest_image.specs.Machine.{MachineState}
@@ -33,6 +33,18 @@ closed_all leases n many =
     (λ i below.
     let within : i < n = omega (arith, length-closed leases n) in
     closed_first leases n i (omega arith) within ∙ sym (get_or-replicate n i None None within))
+
+-- and after those of the harts that alone have one
+pub closed_known : (leases : List (Option OpenView)) (n rows : ℕ) → length leases ≡ rows → n ≤ rows →
+    ((hart : ℕ) → n ≤ hart → open_at leases hart ≡ None) → closed n leases ≡ replicate rows None
+closed_known leases n rows many few known =
+    ext_get_or None (closed n leases) (replicate rows None) (length-closed leases n ∙ (many ∙ sym (length-replicate {A = Option OpenView} rows None)))
+    (λ i below.
+    let within : i < rows = omega (arith, length-closed leases n) in
+    elim (cases_lt i n) [
+      | inl less ↦ closed_first leases n i (omega arith) less ∙ sym (get_or-replicate rows i None None within)
+      | inr over ↦ closed_later leases n i over ∙ (known i over ∙ sym (get_or-replicate rows i None None within))
+    ])
 
 -- one lease more is ended
 pub closes_more : {M : Type 0} → (ends : Ending M) (b s a : BookView M) (n h : ℕ) → h ≡ n → s ≡ record b { leases = closed n b.leases; mode = s.mode } →

@@ -1,6 +1,8 @@
 //! What a lease that is given a page gets.
 
 ghost use Rattle.std.specs.Prelude.{◌≡◌, ◌<◌, ◌≤◌, ◌++◌, ℕ, List, length, replicate, None, Some, IfOk, IfSome, OnOk, OnErr};
+ghost use Rattle.ft_types.specs.declared.names.TheConstants.{HART_LIMIT};
+ghost use Rattle.hart_lease.specs.OpenLeases.{open_at};
 ghost use Rattle.page_book.specs.machinery.Words.{base_at, edges_after, given_more, OpenView, with_page};
 
 use edge_log::Edge;
@@ -44,11 +46,13 @@ fn close(lease: &mut Option<OpenLease>)
     }
 }
 
-/// Closes every open lease.
-pub(crate) fn close_all(leases: &mut [Option<OpenLease>; HART_ROW])
+/// Closes every open lease. Only so many harts have one.
+pub(crate) fn close_all(leases: &mut [Option<OpenLease>; HART_ROW], harts: u8)
+    requires limit { harts ≤ HART_LIMIT }
+    requires known { (hart : ℕ) → harts ≤ hart → open_at leases.old hart ≡ None }
     ensures { leases.new ≡ replicate HART_ROW None }
 {
-    for place in 0..HART_ROW {
+    for place in 0..usize::from(harts) {
         close(&mut leases[place]);
     }
 }

@@ -38,7 +38,7 @@ impl Book<Replaying> {
     {
         self.start.catch_up(&self.machine)?;
         self.journal.clear();
-        close_all(&mut self.leases);
+        close_all(&mut self.leases, self.machine.harts());
         Ok(())
     }
 

@@ -1,6 +1,7 @@
 //! Whether each hart that waits, waits at last for one that goes no further anyhow.
 
-ghost use Rattle.std.specs.Prelude.{◌≡◌, ◌↔◌, ℕ, true, false, All, IsTrue, slice_index_or};
+ghost use Rattle.std.specs.Prelude.{◌≡◌, ◌↔◌, ◌≤◌, ℕ, true, false, None, All, IsTrue, slice_index_or};
+ghost use Rattle.ft_types.specs.declared.names.TheConstants.{HART_LIMIT};
 ghost use Rattle.tracked_position.specs.machinery.Waits.{IsHeld};
 
 use ft_types::{HART_ROW, Hart};
@@ -31,11 +32,13 @@ fn hold_more(waits: &[Option<Hart>; HART_ROW], held: &mut [bool; HART_ROW]) -> b
     more
 }
 
-/// Whether none waits.
-fn is_none_waiting(waits: &[Option<Hart>; HART_ROW]) -> bool
+/// Whether none waits of so many harts, the only ones that do.
+fn is_none_waiting(waits: &[Option<Hart>; HART_ROW], harts: u8) -> bool
+    requires limit { harts ≤ HART_LIMIT }
+    requires rest { (hart : ℕ) → harts ≤ hart → slice_index_or waits.now hart None ≡ None }
     ensures { IsTrue result → (hart : ℕ) → IsHeld waits.now hart }
 {
-    for index in 0..HART_ROW {
+    for index in 0..usize::from(harts) {
         if waits[index].is_some() {
             return false;
         }
@@ -50,11 +53,13 @@ fn no_flags() -> [bool; HART_ROW]
     [false; HART_ROW]
 }
 
-/// Whether the chain of those for whom it waits ends, for each hart: none then waits for itself in a circle.
-pub(crate) fn all_held(waits: &[Option<Hart>; HART_ROW]) -> bool
+/// Whether the chain of those for whom it waits ends, for each hart: none then waits for itself in a circle. Only of so many does one wait.
+pub(crate) fn all_held(waits: &[Option<Hart>; HART_ROW], harts: u8) -> bool
+    requires limit { harts ≤ HART_LIMIT }
+    requires rest { (hart : ℕ) → harts ≤ hart → slice_index_or waits.now hart None ≡ None }
     ensures { IsTrue result → (hart : ℕ) → IsHeld waits.now hart }
 {
-    if is_none_waiting(waits) {
+    if is_none_waiting(waits, harts) {
         return true;
     }
     let mut held = no_flags();

@@ -26,7 +26,7 @@ struct Raised {
     waits: Option<Hart>,
 }
 
-/// Whether some count rose, and for which hart each then waits.
+/// Whether some count rose while some hart waits, and for which hart each then waits.
 #[derive(Clone, Copy)]
 struct Swept {
     rose: bool,
@@ -77,6 +77,8 @@ fn raise_hart(
     ensures less { result.rose ≡ true → room cut.new < room cut.old }
     ensures waits { result.rose ≡ false → IsWaiting store.now opening.now.term (base_of opening.now) (option_map count_at limit.now) (count_at
         cut.old) hart result.waits }
+    ensures ended { result.waits ≡ None → IsWaiting store.now opening.now.term (base_of opening.now) (option_map count_at limit.now) (count_at
+        cut.new) hart None }
 {
     let here = cut.get(hart);
     if is_at_end(cursor, here) {
@@ -126,8 +128,10 @@ fn sweep(
     ensures waits { result.rose ≡ false → (hart : ℕ) → IsWaiting store.now opening.now.term (base_of opening.now) (option_map count_at limit.now)
         (count_at cut.new) hart
         (slice_index_or result.waits hart None) }
+    ensures rest { (hart : ℕ) → length cut.old ≤ hart → slice_index_or result.waits hart None ≡ None }
 {
     let mut rose = false;
+    let mut waiting = false;
     let mut waits = no_waits();
     for number in 0..cut.harts() {
         let hart = Hart::new(number);
@@ -135,7 +139,9 @@ fn sweep(
         let raised = raise_hart(store, opening, limit, hart, cursor, cut);
         waits[hart.index()] = raised.waits;
         rose = rose || raised.rose;
+        waiting = waiting || raised.waits.is_some();
     }
+    let rose = rose && waiting;
     Swept { rose, waits }
 }
 
@@ -158,6 +164,7 @@ fn raise(
     ensures over { AreOver store.now opening.now.term (base_of opening.now) (count_at cut.new) cursors.new }
     ensures waits { (hart : ℕ) → IsWaiting store.now opening.now.term (base_of opening.now) (option_map count_at limit.now) (count_at cut.new) hart
         (slice_index_or result hart None) }
+    ensures rest { (hart : ℕ) → length cut.old ≤ hart → slice_index_or result hart None ≡ None }
 {
     loop {
         let swept = sweep(store, opening, limit, cursors, cut);
@@ -186,7 +193,7 @@ pub(crate) fn reach(
     ensures over { AreOver store.now opening.now.term (base_of opening.now) (count_at cut.new) cursors.new }
 {
     let waits = raise(store, opening, limit, cursors, cut);
-    if !all_held(&waits) {
+    if !all_held(&waits, cut.harts()) {
         lower(store, opening, limit, cursors, cut);
     }
 }

@@ -102,7 +102,9 @@ fn tells_on(piece: bool, put: Put) -> bool
 fn go_there(position: &mut Position, end: &Position)
     ensures { position.new ≡ end.now }
 {
-    *position = *end;
+    position.term = end.term;
+    position.counts.copy_from(&end.counts);
+    position.top = end.top;
 }
 
 impl Backup {

@@ -34,6 +34,8 @@ pub(crate) struct Work {
     /// What it is to obey next.
     rest: Box<Leg>,
     cursors: [Cursor; HART_ROW],
+    /// What its leg's marks were before it grew last.
+    marks: Counts,
     /// The pages that each hart's leases took lately.
     usual: [PageMask; HART_ROW],
     /// How many advances ago that was forgotten.
@@ -51,6 +53,7 @@ impl Drop for Work {
             book: _,
             rest: _,
             cursors: _,
+            marks: _,
             usual: _,
             advances: _,
             astray: _,
@@ -109,7 +112,7 @@ fn make_ready(alloc: Global, rest: &mut Leg, leg: &PlannedLeg, ends: &Counts)
     if !is_nothing(rest, leg.base.harts()) {
         *rest = nothing_from(alloc, leg.ends);
     }
-    rest.ends = *ends;
+    rest.ends.copy_from(ends);
 }
 
 /// Whether none of these counts is above the other one.
@@ -149,6 +152,7 @@ impl Work {
             book,
             rest,
             cursors: cursors_at(&leg.base),
+            marks: leg.marks,
             usual: no_pages(),
             advances: 0,
             astray: false,
@@ -230,7 +234,7 @@ impl Work {
         ensures grows { Grows self.old.leg self.new.leg }
         ensures start { self.new.book.start ≡ self.old.book.start }
         ensures fault { IfErr result (λ fault. IsRefused store.now ends.now self.old fault) }
-        ensures others { (self.new.astray ≡ self.old.astray) × (self.new.lasts ≡ self.old.lasts) }
+        ensures others { (self.new.astray ≡ self.old.astray) × (self.new.lasts ≡ self.old.lasts) × (self.new.marks ≡ self.old.marks) }
     {
         make_ready(alloc, &mut self.rest, &self.leg, ends);
         grow(
@@ -271,12 +275,12 @@ impl Work {
         ensures anew { OnErr result ((self.new ≡ self.old) ⊎ ((self.new.astray ≡ true) × (self.new.lasts ≡ false))) }
         ensures fault { IfErr result (λ fault. IsRefused store.now ends.now self.old fault) }
     {
-        let marks = self.leg.marks;
         self.book.begin_again()?;
+        self.marks.copy_from(&self.leg.marks);
         self.astray = true;
         self.lasts = false;
         if let Err(fault) = self.take_steps(alloc, store, now, ends) {
-            self.leg.marks = marks;
+            self.leg.marks = self.marks;
             return Err(fault);
         }
         self.astray = false;

@@ -7,7 +7,6 @@ use Rattle.std.specs.declared.cmp.Ordering.{Ordering}
 use Rattle.std.specs.BTreeMap.{BTreeMap, get}
 use Rattle.std.specs.FinMap as finite
 use Rattle.ft_types.specs.Guests.{GuestParts}
-use Rattle.fragment_codec.specs.declared.types.Key.{Key}
 use Rattle.fragment_codec.specs.declared.frame.Frame.{Frame}
 use Rattle.fragment_codec.specs.declared.frame.Frame.TheVariants.{Log, Opening}
 use Rattle.fragment_codec.specs.Rules.{FragmentParts, OpeningParts}
@@ -17,10 +16,10 @@ use Rattle.log_join.specs.declared.answers.Found.{Found}
 use Rattle.log_join.specs.declared.answers.Found.TheVariants.{Absent as FindsNone, One as FindsOne, Clash as FindsClash}
 use Rattle.frame_content.specs.declared.content.Content.{Content}
 use Rattle.frame_content.specs.declared.content.Content.TheVariants.{One, Clash}
-use Rattle.log_join.specs.declared.place.Place.{Place}
 use Rattle.log_join.specs.declared.shelves.Shelves.{Shelves}
 use Rattle.frame_content.specs.machinery.Contents.{holds, joined}
 use Rattle.log_join.specs.Stores.{StoreView, key_cmp, IsOpeningOf, IsFragmentOf}
+use Rattle.log_join.specs.machinery.Places.{Place, key_of, place_cmp}
 
 -- ---- joins
 
@@ -67,12 +66,6 @@ abbrev pub content_of : {X : Type 0} → (Frame → Option X) → Content → Op
 content_of part (One frame) = part frame
 content_of part Clash = None
 
-abbrev pub key_of : Place → Key
-key_of p = record { term = p.term; hart = p.hart; place = p.place }
-
-abbrev pub place_of : Key → Place
-place_of k = record { term = k.term; hart = k.hart; place = k.place }
-
 -- the finite map that a map of contents is seen as
 abbrev pub shown : {K L X : Type 0} → (cmp : L → L → Ordering) → (K → L) → (Frame → Option X) → BTreeMap K Content → finite.FinMap cmp (Option X)
 shown {K} {L} {X} cmp key part m = finite.from_entries (map {B = L × Option X} (λ e. (key e.0, content_of part e.1)) m.entries)
@@ -95,9 +88,6 @@ abbrev pub FitsAt : {X : Type 0} → (Frame → Option X) → (X → Type 0) →
 FitsAt part P None = Unit {0}
 FitsAt part P (Some Clash) = Unit {0}
 FitsAt {X} part P (Some (One frame)) = (x : X) × (part frame ≡ Some x) × P x
-
-abbrev pub place_cmp : Place → Place → Ordering
-place_cmp a b = key_cmp (key_of a) (key_of b)
 
 -- each opening and each fragment stands at its key
 pub record Fits (guest : GuestParts) (s : Shelves) : Type 0 where

@@ -20,5 +20,7 @@ invariant-loop-number l =
       less : l.rose ≡ true → room l.cut < room l.initial.cut;
       waits : l.rose ≡ false → (hart : ℕ) → hart < l.number →
           IsWaiting l.store l.opening.term (base_of l.opening) (option_map count_at l.limit) (count_at l.initial.cut) hart (get_or l.waits hart None);
+      free : l.waiting ≡ false → (hart : ℕ) → hart < l.number →
+          (get_or l.waits hart None ≡ None) × IsWaiting l.store l.opening.term (base_of l.opening) (option_map count_at l.limit) (count_at l.cut) hart None;
       rest : (hart : ℕ) → l.number ≤ hart → get_or l.waits hart None ≡ None;
     }

@@ -1,6 +1,7 @@
 use Rattle.std.specs.Ordering.{nat_cmp}
 use Rattle.log_join.specs.declared.shelves.Shelves.{Shelves}
-use Rattle.log_join.specs.machinery.Contents.{is_among, place_cmp, IsKept}
+use Rattle.log_join.specs.machinery.Contents.{is_among, IsKept}
+use Rattle.log_join.specs.machinery.Places.{place_cmp}
 use Rattle.log_join.proofs.Maps.{undone}
 use Rattle.log_join.proofs.Stores.{though_err}
 use Rattle.log_join.proofs.shelves.Shelves.copy_all.Goals as goal

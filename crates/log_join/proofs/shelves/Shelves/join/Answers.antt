@@ -1,7 +1,8 @@
 use Rattle.std.proofs.Common.{◌∙◌, sym, ap}
 use Rattle.std.specs.Ordering.{nat_cmp}
 use Rattle.std.specs.BTreeMap.{get}
-use Rattle.log_join.specs.machinery.Contents.{is_among, place_cmp, marked, copied}
+use Rattle.log_join.specs.machinery.Contents.{is_among, marked, copied}
+use Rattle.log_join.specs.machinery.Places.{place_cmp}
 use Rattle.log_join.proofs.Maps.{is_free}
 use Rattle.log_join.proofs.shelves.Shelves.join.Goals as goal
 

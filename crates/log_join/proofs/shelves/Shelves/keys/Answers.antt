@@ -4,8 +4,8 @@ use Rattle.std.specs.List.{AllByRecursion}
 use Rattle.std.specs.BTreeMap.{get}
 use Rattle.std.proofs.lemmas.List.Elements.{recursion_from_All}
 use Rattle.frame_content.specs.declared.content.Content.{Content}
-use Rattle.log_join.specs.declared.place.Place.{Place}
-use Rattle.log_join.specs.machinery.Contents.{listed, key_of, fragment_part, place_cmp, FitsAt}
+use Rattle.log_join.specs.machinery.Contents.{listed, fragment_part, FitsAt}
+use Rattle.log_join.specs.machinery.Places.{Place, key_of, place_cmp}
 use Rattle.log_join.proofs.Shown.{entries_fit}
 use Rattle.log_join.proofs.shelves.Shelves.keys.Goals as goal
 

@@ -1,7 +1,8 @@
 use Rattle.std.proofs.Common.{◌≡◌, ◌++◌}
 use Rattle.std.specs.Prelude.{Some}
 use Rattle.std.specs.List.{AllByRecursion}
-use Rattle.log_join.specs.machinery.Contents.{listed, key_of, fragment_part, FitsAt}
+use Rattle.log_join.specs.machinery.Contents.{listed, fragment_part, FitsAt}
+use Rattle.log_join.specs.machinery.Places.{key_of}
 use Rattle.log_join.proofs.shelves.Shelves.keys.Given as goal
 
 -- the keys so far and those that are left are all, and what is left stands at its keys

@@ -1,9 +1,9 @@
 use Rattle.std.proofs.Common.{◌∙◌, ap, ℕ, ◌+◌}
 use Rattle.std.specs.Cmp.{nat_cmp_total}
 use Rattle.std.proofs.lemmas.Map.Lookups.{exact_unsigned}
-use Rattle.log_join.specs.declared.place.Place.{Place}
 use Rattle.log_join.specs.Stores.{clashes_of, IsOpeningOf, IsFragmentOf}
-use Rattle.log_join.specs.machinery.Contents.{opening_part, fragment_part, key_of}
+use Rattle.log_join.specs.machinery.Contents.{opening_part, fragment_part}
+use Rattle.log_join.specs.machinery.Places.{Place, key_of}
 use Rattle.log_join.proofs.Joins.{keys_total, keys_exact}
 use Rattle.log_join.proofs.Stores.{places_total}
 use Rattle.log_join.proofs.Listed.{clashes_shown}

@@ -6,7 +6,8 @@ use Rattle.frame_content.specs.declared.content.Content.{Content}
 use Rattle.log_join.specs.Cells.{Cell}
 use Rattle.log_join.specs.Stores.{IsStore, IsFragmentOf, fragment_at}
 use Rattle.log_join.specs.Answers.{TellsFragment}
-use Rattle.log_join.specs.machinery.Contents.{TellsContent, fragment_part, key_of, place_of, place_cmp}
+use Rattle.log_join.specs.machinery.Contents.{TellsContent, fragment_part}
+use Rattle.log_join.specs.machinery.Places.{key_of, place_of, place_cmp}
 use Rattle.log_join.proofs.Joins.{keys_total}
 use Rattle.log_join.proofs.Shown.{cell_shown}
 use Rattle.log_join.proofs.Stores.{is_store, tells_fragment}

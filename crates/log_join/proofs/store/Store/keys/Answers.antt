@@ -3,7 +3,8 @@ use Rattle.std.specs.BTreeMap.{get}
 use Rattle.std.proofs.lemmas.Result.{IfOk-weaker}
 use Rattle.fragment_codec.specs.declared.types.Key.{Key}
 use Rattle.log_join.specs.Stores.{StoreView, key_cmp, AreKeys, IsFragmentOf}
-use Rattle.log_join.specs.machinery.Contents.{fragment_part, listed, key_of, place_of, place_cmp, view_of}
+use Rattle.log_join.specs.machinery.Contents.{fragment_part, listed, view_of}
+use Rattle.log_join.specs.machinery.Places.{key_of, place_of, place_cmp}
 use Rattle.log_join.proofs.Joins.{keys_total, keys_exact}
 use Rattle.log_join.proofs.Shown.{fits_weaker}
 use Rattle.log_join.proofs.Stores.{places_total}

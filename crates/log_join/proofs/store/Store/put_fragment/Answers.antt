@@ -1,9 +1,9 @@
 use Rattle.std.proofs.Common.{◌∙◌, sym, ap, subst, refl}
 use Rattle.fragment_codec.specs.declared.frame.Frame.TheVariants.{Log}
-use Rattle.log_join.specs.declared.place.Place.{Place}
 use Rattle.log_join.specs.Stores.{StoreView}
 use Rattle.log_join.specs.Answers.{Puts}
-use Rattle.log_join.specs.machinery.Contents.{view_of, place_of, place_cmp}
+use Rattle.log_join.specs.machinery.Contents.{view_of}
+use Rattle.log_join.specs.machinery.Places.{Place, place_of, place_cmp}
 use Rattle.log_join.proofs.Told.{guests_told}
 use Rattle.log_join.proofs.Stores.{IsTaken, puts_fragment, fragment_fits}
 use Rattle.log_join.proofs.store.Store.put_fragment.Goals as goal

@@ -4,10 +4,10 @@ use Rattle.std.specs.Ordering.{eq_by_cmp}
 use Rattle.std.specs.BTreeMap.{get}
 use Rattle.fragment_codec.specs.declared.frame.Frame.TheVariants.{Log}
 use Rattle.log_join.specs.declared.answers.Put.TheVariants.{New}
-use Rattle.log_join.specs.declared.place.Place.{Place}
 use Rattle.log_join.specs.Answers.{answer_to}
 use Rattle.log_join.specs.Stores.{StoreView, IsJoin, alone}
-use Rattle.log_join.specs.machinery.Contents.{view_of, place_of, place_cmp, taken}
+use Rattle.log_join.specs.machinery.Contents.{view_of, taken}
+use Rattle.log_join.specs.machinery.Places.{Place, place_of, place_cmp}
 use Rattle.log_join.proofs.First.{own_guest, none_there, first_joined, first_kept, first_fits}
 use Rattle.log_join.proofs.store.Store.put_new.Goals as goal
 

@@ -1,4 +1,4 @@
-use Rattle.std.proofs.Common.{sym}
+use Rattle.std.proofs.Common.{sym, subst, ◌≤◌}
 use Rattle.book_modes.specs.machinery.Words.{edges_of, heard_in}
 use Rattle.page_book.proofs.Again.{begun_anew, journal_goes_on}
 use Rattle.page_book.proofs.replaying.Book+Replaying.begin_again.Goals as goal
@@ -10,6 +10,10 @@ pub catch_up-requires-clause-steps : goal.catch_up-requires-clause-steps
 catch_up-requires-clause-steps c =
     let i = c.self.inside in
     journal_goes_on (heard_in i.mode.inputs) i.start i.machine i.journal.items c.self.invariant.run
+
+pub close_all-requires-clause-known : goal.close_all-requires-clause-known
+close_all-requires-clause-known c h le =
+    rw c.deref_mut.ensures.value (c.self.invariant.known h (subst (λ n. n ≤ h) c.harts.ensures.value le))
 
 pub invariant_of-self-2 : goal.invariant_of-self-2
 invariant_of-self-2 c =

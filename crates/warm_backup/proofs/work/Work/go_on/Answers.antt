@@ -10,7 +10,7 @@ returns-in-Err-clause-cut c =
     let old = c.args.self.now.leg in
     let new = c.take_steps.new.self.leg in
     let grows = c.take_steps.ensures.grows in
-    rw (grows.term, grows.base, edges_same old new grows, inputs_same old new grows) refl
+    rw (grows.term, grows.base, edges_same old new grows, inputs_same old new grows, c.take_steps.ensures.others.2, c.copy_from.ensures) refl
 
 pub returns-in-Err-clause-fault : goal.returns-in-Err-clause-fault
 returns-in-Err-clause-fault c =

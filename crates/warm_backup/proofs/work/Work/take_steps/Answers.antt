@@ -27,6 +27,7 @@ returns-clause-gone c =
       book = c.lead_to.new.book;
       rest = w.rest;
       cursors = w.cursors;
+      marks = w.marks;
       usual = c.lead_to.new.usual;
       advances = w.advances;
       astray = w.astray;
