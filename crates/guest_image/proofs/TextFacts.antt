@@ -1,5 +1,5 @@
 -- Texts that are written piece by piece.
-use Rattle.std.proofs.Common.{◌≡◌, ℕ, zero, suc, ◌+◌, ◌-◌, ◌*◌, ◌/◌, ◌%◌, ◌^◌, ◌<◌, ◌≤◌, List, [], ◌∷◌, ◌++◌, length, get_or, take, drop, Option, Result, Ok, Err}
+use Rattle.std.proofs.Common.{◌≡◌, ℕ, zero, suc, ◌+◌, ◌-◌, ◌*◌, ◌%◌, ◌^◌, ◌<◌, ◌≤◌, List, [], ◌∷◌, ◌++◌, length, get_or, take, drop, Option, Result, Ok, Err}
 use Rattle.std.proofs.Common.{refl, ap, subst, sym, ◌∙◌, arith, append_assoc, add-one, drop-cons, length-drop, length-take, drop-drop, set, length-set}
 use Rattle.std.proofs.lemmas.List.{take-append-drop, take_all, drop-set}
 use Rattle.ft_types.proofs.Texts.{two_put}
@@ -10,10 +10,7 @@ use Rattle.std.proofs.lemmas.Grind.{common_steps}
 use Rattle.ft_types.specs.Devices.{Writes, IsOneMore}
 use Rattle.ft_types.proofs.Writings.{IsLeft, left_step, left_fails, appends_then}
 use Rattle.guest_image.specs.Machine.{words_of, ram_words}
-use Rattle.itoa.proofs.Decimal.{decimal_pair, pair}
-use Rattle.std.specs.Prelude.{codes, decimal}
-use Rattle.ft_types.specs.Text.{line, word}
-use Rattle.guest_image.specs.Text.{numbered, ram_line, output_line}
+use Rattle.guest_image.specs.Text.{numbered, ram_line}
 
 module _ {Writer : Type 0} (bytes : Writer → Option (List ℕ)) (failures : Writer → ℕ) where
   -- a call wrote the whole text
@@ -165,22 +162,3 @@ three_put bytes at next last end a b c n l e h =
     let two : drop next behind ≡ b ∷ c ∷ drop end bytes = two_put bytes next last end b c (omega arith) (omega arith) h in
     drop-set behind at a (omega (arith, length-set (set bytes next b) last c, length-set bytes next b))
     ∙ ap (λ (rest : List ℕ). a ∷ rest) (subst (λ (k : ℕ). drop k behind ≡ b ∷ c ∷ drop end bytes) n two)
-
--- pieces of a line, joined in another order
-joined_line : (a d p s n w x e rest : List ℕ) → (a ++ d) ++ (p ++ ((((s ++ n) ++ w) ++ (x ++ e)) ++ rest)) ≡
-    ((((((a ++ (d ++ p)) ++ s) ++ n) ++ w) ++ x) ++ e) ++ rest
-joined_line a d p s n w x e rest = grind (arith, common_steps)
-
--- the line of an output, of whose number the last two digits stand apart
-pub later_line : (number hundreds low : ℕ) (output : ℕ × ℕ) (head rest : List ℕ) → 100 ≤ number → number < 2 ^ 64 → number / 100 ≡ hundreds →
-    low ≡ number % 100 → head ≡ codes "out " ++ decimal hundreds →
-    head ++ (48 + low / 10) ∷ (48 + low % 10) ∷ (codes " step " ++ decimal output.0 ++ codes " word " ++ line (word output.1) ++ rest) ≡
-    output_line number output ++ rest
-unfolding output_line
-later_line number hundreds low output head rest lo hi h l is =
-    let behind : List ℕ = codes " step " ++ decimal output.0 ++ codes " word " ++ line (word output.1) ++ rest in
-    let digits : decimal number ≡ decimal hundreds ++ pair low = decimal_pair number lo hi
-    ∙ ap (λ (k : ℕ). decimal k ++ pair (number % 100)) h ∙ ap (λ (k : ℕ). decimal hundreds ++ pair k) (sym l) in
-    ap (λ (t : List ℕ). t ++ (pair low ++ behind)) is
-    ∙ joined_line (codes "out ") (decimal hundreds) (pair low) (codes " step ") (decimal output.0) (codes " word ") (word output.1) (10 ∷ []) rest
-    ∙ ap (λ (t : List ℕ). line (codes "out " ++ t ++ codes " step " ++ decimal output.0 ++ codes " word " ++ word output.1) ++ rest) (sym digits)

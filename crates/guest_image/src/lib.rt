@@ -3,6 +3,7 @@
 
 mod decoded_page;
 mod fault;
+mod front;
 mod image;
 mod lines;
 mod machine;
