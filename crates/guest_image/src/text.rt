@@ -12,11 +12,11 @@ use crate::front::{Front, Fronts};
 use ft_types::{Failed, LineBuffer, PAGE_LIMIT, Sink, put_before, put_word_before, write_all};
 use rv32_hart::{HartState, PAGE_WORDS, RAM_BASE};
 
-/// How many bytes are written at once.
-const BLOCK: usize = 4096;
+/// How many bytes are written at once: most blocks of lines are longer than what a buffered writer holds back, which then copies none.
+const BLOCK: usize = 20480;
 
 /// How many lines of outputs are written at once: each has at most 69 bytes.
-const BLOCK_LINES: usize = 50;
+const BLOCK_LINES: usize = 296;
 
 fn status_text(halted: bool) -> &'static [u8]
     ensures text { result.now ≡ status halted }

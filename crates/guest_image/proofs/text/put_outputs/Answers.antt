@@ -12,6 +12,6 @@ loop-left-init c =
       omega arith,
       omega arith,
       c.requires.fronts,
-      drop_all 4096 c.args.block.now (omega arith)
+      drop_all 20480 c.args.block.now (omega arith)
           ∙ sym (ap (numbered output_line (c.args.first + length outputs)) (drop_all (length outputs) outputs (omega arith))),
     )

@@ -5,8 +5,8 @@ use Rattle.guest_image.proofs.text.put_outputs.Given as goal
 
 abbrev pub invariant-loop-left : goal.invariant-loop-left
 invariant-loop-left l =
-    (l.left ≤ length l.outputs) × (l.number ≡ l.first + l.left) × (length l.block ≡ 4096)
-    × (l.start ≤ 4096) × (4096 ≤ l.start + 69 * (length l.outputs - l.left))
+    (l.left ≤ length l.outputs) × (l.number ≡ l.first + l.left) × (length l.block ≡ 20480)
+    × (l.start ≤ 20480) × (20480 ≤ l.start + 69 * (length l.outputs - l.left))
     × AreFronts l.fronts
     × (drop l.start l.block ≡ numbered output_line l.number (drop l.left l.outputs))
 
