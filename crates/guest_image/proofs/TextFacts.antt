@@ -6,7 +6,7 @@ use Rattle.ft_types.proofs.Texts.{two_put}
 use Rattle.std.specs.Int.{from_le_bytes, w32}
 use Rattle.std.specs.Io.KnownBytes.{Appends}
 use Rattle.std.specs.List.{flat_map}
-use Rattle.std.proofs.lemmas.Grind.{common_steps}
+use Rattle.std.proofs.lemmas.Grind.{common_steps, flat_map-append}
 use Rattle.ft_types.specs.Devices.{Writes, IsOneMore}
 use Rattle.ft_types.proofs.Writings.{IsLeft, left_step, left_fails, appends_then}
 use Rattle.guest_image.specs.Machine.{words_of, ram_words}
@@ -139,16 +139,28 @@ ram_at i pages page d h is size =
     (λ (k : ℕ). numbered ram_line (i * 1024) (words_of page) ++ numbered ram_line k (ram_words (drop (i + 1) pages)))
     place
 
--- the first n of a rest come first of it
+-- the text of the first n of a rest comes first of the rest's
+pub first_parts : {A : Type 0} (all behind : List A → List ℕ) (i n : ℕ) (xs : List A) (text : List ℕ) →
+    ((front rest : List A) → length front ≡ n → all (front ++ rest) ≡ all front ++ behind rest) → i + n ≤ length xs →
+    text ≡ all (take (i + n - i) (drop i xs)) → all (drop i xs) ≡ text ++ behind (drop (i + n) xs)
+first_parts {A = A} all behind i n xs text parts h is =
+    let count : i + n - i ≡ n = omega arith in
+    let first : text ≡ all (take n (drop i xs)) = is ∙ ap (λ (k : ℕ). all (take k (drop i xs))) count in
+    let some : length (take n (drop i xs)) ≡ n = omega (arith, length-drop i xs, length-take n (drop i xs)) in
+    ap all (sym (take-append-drop n (drop i xs)))
+    ∙ parts (take n (drop i xs)) (drop n (drop i xs)) some
+    ∙ rw (first, drop-drop) refl
+
+-- lines that are numbered from i on
 pub numbered_parts : {A : Type 0} (t : ℕ → A → List ℕ) (i n : ℕ) (xs : List A) (text : List ℕ) → i + n ≤ length xs →
     text ≡ numbered t i (take (i + n - i) (drop i xs)) → numbered t i (drop i xs) ≡ text ++ numbered t (i + n) (drop (i + n) xs)
-numbered_parts {A = A} t i n xs text h is =
-    let count : i + n - i ≡ n = omega arith in
-    let first : text ≡ numbered t i (take n (drop i xs)) = is ∙ ap (λ (k : ℕ). numbered t i (take k (drop i xs))) count in
-    let some : length (take n (drop i xs)) ≡ n = omega (arith, length-drop i xs, length-take n (drop i xs)) in
-    ap (λ (ys : List A). numbered t i ys) (sym (take-append-drop n (drop i xs)))
-    ∙ numbered-append t i (take n (drop i xs)) (drop n (drop i xs))
-    ∙ rw (first, some, drop-drop) refl
+numbered_parts {A = A} t i n xs text = first_parts (numbered t i) (numbered t (i + n)) i n xs text
+    (λ front rest some. numbered-append t i front rest ∙ ap (λ (k : ℕ). numbered t i front ++ numbered t (i + k) rest) some)
+
+-- lines that are not
+pub flat_parts : {A : Type 0} (t : A → List ℕ) (i n : ℕ) (xs : List A) (text : List ℕ) → i + n ≤ length xs →
+    text ≡ flat_map t (take (i + n - i) (drop i xs)) → flat_map t (drop i xs) ≡ text ++ flat_map t (drop (i + n) xs)
+flat_parts t i n xs text = first_parts (flat_map t) (flat_map t) i n xs text (λ front rest some. flat_map-append t front rest)
 
 -- what is taken whole
 pub taken_whole : (n start : ℕ) (block text : List ℕ) → length block ≤ n → drop start block ≡ text → take (n - start) (drop start block) ≡ text

@@ -103,9 +103,9 @@ fn put_three_before(block: &mut [u8], end: usize, first: u8, second: u8, third: 
     end - 3
 }
 
-/// Puts what the line of an output has behind its step.
+/// Puts what the line of an output has behind its step so that it ends at `end`, and says where it starts.
 #[inline(always)]
-fn put_word_line_before(block: &mut [u8], end: usize, value: u32) -> usize
+pub fn put_word_line_before(block: &mut [u8], end: usize, value: u32) -> usize
     requires room { 15 ≤ end }
     requires end { end ≤ length block.old }
     ensures start { result + 15 ≡ end }
