@@ -1,6 +1,6 @@
 //! Numbers put before a place in bytes: of numbers of the same hundreds only the last two digits are formed each time.
 
-ghost use Rattle.std.specs.Prelude.{◌≡◌, ◌+◌, ◌*◌, ◌/◌, ◌%◌, ◌<◌, ◌≤◌, ◌∷◌, ◌++◌, ◌↔◌, length, drop, decimal, IsTrue};
+ghost use Rattle.std.specs.Prelude.{◌≡◌, ◌+◌, ◌*◌, ◌/◌, ◌%◌, ◌<◌, ◌≤◌, ◌∷◌, ◌++◌, length, drop, decimal, IsTrue};
 ghost use Rattle.guest_image.specs.machinery.Fronts.{IsFront, AreFronts};
 
 use ft_types::{put_before, put_number_before};
@@ -63,15 +63,6 @@ impl Front {
         self.first = hundreds * 100;
     }
 
-    /// Whether it has the front of a number.
-    #[inline(always)]
-    fn has(&self, number: u64) -> bool
-        requires { IsFront self.now }
-        ensures { IsTrue result ↔ ((self.now.first ≤ number) × (number < self.now.first + 100)) }
-    {
-        number.wrapping_sub(self.first) < 100
-    }
-
     /// Becomes the front of a number. Whether one has been formed: numbers without hundreds and the greatest have none.
     #[cold]
     fn follow(&mut self, number: u64) -> bool
@@ -94,7 +85,7 @@ impl Front {
         ensures front { IsFront self.new }
         ensures ready { IsTrue result → (self.new.first ≤ number) × (number < self.new.first + 100) }
     {
-        if self.has(number) {
+        if number.wrapping_sub(self.first) < 100 {
             return true;
         }
         self.follow(number)
