@@ -3,6 +3,7 @@ pub mod OneFault
 pub mod BootFacts
 pub mod CarriedForms
 pub mod DecodedFacts
+pub mod FrontFacts
 pub mod MachineFacts
 pub mod RamFacts
 pub mod TextFacts

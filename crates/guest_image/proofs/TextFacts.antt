@@ -1,19 +1,16 @@
 -- Texts that are written piece by piece.
-use Rattle.std.proofs.Common.{◌≡◌, ℕ, zero, suc, ◌+◌, ◌-◌, ◌*◌, ◌/◌, ◌%◌, ◌^◌, ◌<◌, ◌≤◌, List, [], ◌∷◌, ◌++◌, length, get_or, take, drop, Option, Result, Ok, Err}
+use Rattle.std.proofs.Common.{◌≡◌, ℕ, zero, suc, ◌+◌, ◌-◌, ◌*◌, ◌%◌, ◌^◌, ◌<◌, ◌≤◌, List, [], ◌∷◌, ◌++◌, length, get_or, take, drop, Option, Result, Ok, Err}
 use Rattle.std.proofs.Common.{refl, ap, subst, sym, ◌∙◌, arith, append_assoc, add-one, drop-cons, length-drop, length-take, drop-drop, set, length-set}
 use Rattle.std.proofs.lemmas.List.{take-append-drop, take_all, drop-set}
 use Rattle.ft_types.proofs.Texts.{two_put}
 use Rattle.std.specs.Int.{from_le_bytes, w32}
 use Rattle.std.specs.Io.KnownBytes.{Appends}
 use Rattle.std.specs.List.{flat_map}
-use Rattle.std.proofs.lemmas.Grind.{common_steps}
+use Rattle.std.proofs.lemmas.Grind.{common_steps, flat_map-append}
 use Rattle.ft_types.specs.Devices.{Writes, IsOneMore}
 use Rattle.ft_types.proofs.Writings.{IsLeft, left_step, left_fails, appends_then}
 use Rattle.guest_image.specs.Machine.{words_of, ram_words}
-use Rattle.itoa.proofs.Decimal.{decimal_pair, pair}
-use Rattle.std.specs.Prelude.{codes, decimal}
-use Rattle.ft_types.specs.Text.{line, word}
-use Rattle.guest_image.specs.Text.{numbered, ram_line, output_line}
+use Rattle.guest_image.specs.Text.{numbered, ram_line}
 
 module _ {Writer : Type 0} (bytes : Writer → Option (List ℕ)) (failures : Writer → ℕ) where
   -- a call wrote the whole text
@@ -142,16 +139,28 @@ ram_at i pages page d h is size =
     (λ (k : ℕ). numbered ram_line (i * 1024) (words_of page) ++ numbered ram_line k (ram_words (drop (i + 1) pages)))
     place
 
--- the first n of a rest come first of it
+-- the text of the first n of a rest comes first of the rest's
+pub first_parts : {A : Type 0} (all behind : List A → List ℕ) (i n : ℕ) (xs : List A) (text : List ℕ) →
+    ((front rest : List A) → length front ≡ n → all (front ++ rest) ≡ all front ++ behind rest) → i + n ≤ length xs →
+    text ≡ all (take (i + n - i) (drop i xs)) → all (drop i xs) ≡ text ++ behind (drop (i + n) xs)
+first_parts {A = A} all behind i n xs text parts h is =
+    let count : i + n - i ≡ n = omega arith in
+    let first : text ≡ all (take n (drop i xs)) = is ∙ ap (λ (k : ℕ). all (take k (drop i xs))) count in
+    let some : length (take n (drop i xs)) ≡ n = omega (arith, length-drop i xs, length-take n (drop i xs)) in
+    ap all (sym (take-append-drop n (drop i xs)))
+    ∙ parts (take n (drop i xs)) (drop n (drop i xs)) some
+    ∙ rw (first, drop-drop) refl
+
+-- lines that are numbered from i on
 pub numbered_parts : {A : Type 0} (t : ℕ → A → List ℕ) (i n : ℕ) (xs : List A) (text : List ℕ) → i + n ≤ length xs →
     text ≡ numbered t i (take (i + n - i) (drop i xs)) → numbered t i (drop i xs) ≡ text ++ numbered t (i + n) (drop (i + n) xs)
-numbered_parts {A = A} t i n xs text h is =
-    let count : i + n - i ≡ n = omega arith in
-    let first : text ≡ numbered t i (take n (drop i xs)) = is ∙ ap (λ (k : ℕ). numbered t i (take k (drop i xs))) count in
-    let some : length (take n (drop i xs)) ≡ n = omega (arith, length-drop i xs, length-take n (drop i xs)) in
-    ap (λ (ys : List A). numbered t i ys) (sym (take-append-drop n (drop i xs)))
-    ∙ numbered-append t i (take n (drop i xs)) (drop n (drop i xs))
-    ∙ rw (first, some, drop-drop) refl
+numbered_parts {A = A} t i n xs text = first_parts (numbered t i) (numbered t (i + n)) i n xs text
+    (λ front rest some. numbered-append t i front rest ∙ ap (λ (k : ℕ). numbered t i front ++ numbered t (i + k) rest) some)
+
+-- lines that are not
+pub flat_parts : {A : Type 0} (t : A → List ℕ) (i n : ℕ) (xs : List A) (text : List ℕ) → i + n ≤ length xs →
+    text ≡ flat_map t (take (i + n - i) (drop i xs)) → flat_map t (drop i xs) ≡ text ++ flat_map t (drop (i + n) xs)
+flat_parts t i n xs text = first_parts (flat_map t) (flat_map t) i n xs text (λ front rest some. flat_map-append t front rest)
 
 -- what is taken whole
 pub taken_whole : (n start : ℕ) (block text : List ℕ) → length block ≤ n → drop start block ≡ text → take (n - start) (drop start block) ≡ text
@@ -165,22 +174,3 @@ three_put bytes at next last end a b c n l e h =
     let two : drop next behind ≡ b ∷ c ∷ drop end bytes = two_put bytes next last end b c (omega arith) (omega arith) h in
     drop-set behind at a (omega (arith, length-set (set bytes next b) last c, length-set bytes next b))
     ∙ ap (λ (rest : List ℕ). a ∷ rest) (subst (λ (k : ℕ). drop k behind ≡ b ∷ c ∷ drop end bytes) n two)
-
--- pieces of a line, joined in another order
-joined_line : (a d p s n w x e rest : List ℕ) → (a ++ d) ++ (p ++ ((((s ++ n) ++ w) ++ (x ++ e)) ++ rest)) ≡
-    ((((((a ++ (d ++ p)) ++ s) ++ n) ++ w) ++ x) ++ e) ++ rest
-joined_line a d p s n w x e rest = grind (arith, common_steps)
-
--- the line of an output, of whose number the last two digits stand apart
-pub later_line : (number hundreds low : ℕ) (output : ℕ × ℕ) (head rest : List ℕ) → 100 ≤ number → number < 2 ^ 64 → number / 100 ≡ hundreds →
-    low ≡ number % 100 → head ≡ codes "out " ++ decimal hundreds →
-    head ++ (48 + low / 10) ∷ (48 + low % 10) ∷ (codes " step " ++ decimal output.0 ++ codes " word " ++ line (word output.1) ++ rest) ≡
-    output_line number output ++ rest
-unfolding output_line
-later_line number hundreds low output head rest lo hi h l is =
-    let behind : List ℕ = codes " step " ++ decimal output.0 ++ codes " word " ++ line (word output.1) ++ rest in
-    let digits : decimal number ≡ decimal hundreds ++ pair low = decimal_pair number lo hi
-    ∙ ap (λ (k : ℕ). decimal k ++ pair (number % 100)) h ∙ ap (λ (k : ℕ). decimal hundreds ++ pair k) (sym l) in
-    ap (λ (t : List ℕ). t ++ (pair low ++ behind)) is
-    ∙ joined_line (codes "out ") (decimal hundreds) (pair low) (codes " step ") (decimal output.0) (codes " word ") (word output.1) (10 ∷ []) rest
-    ∙ ap (λ (t : List ℕ). line (codes "out " ++ t ++ codes " step " ++ decimal output.0 ++ codes " word " ++ word output.1) ++ rest) (sym digits)

@@ -3,6 +3,7 @@
 
 mod decoded_page;
 mod fault;
+mod front;
 mod image;
 mod lines;
 mod machine;
@@ -15,3 +16,4 @@ pub use fault::ImageFault;
 pub use image::{Image, read_image};
 pub use machine::Machine;
 pub use page::Page;
+pub use text::put_word_line_before;

@@ -1,25 +1,22 @@
 //! The text of a machine.
 
-ghost use Rattle.std.specs.Prelude.{◌≡◌, ℕ, ◌+◌, ◌*◌, ◌/◌, ◌%◌, ◌^◌, ◌<◌, ◌≤◌, ◌∷◌, ◌++◌, length, drop, codes, decimal};
+ghost use Rattle.std.specs.Prelude.{◌≡◌, ℕ, ◌+◌, ◌*◌, ◌^◌, ◌<◌, ◌≤◌, ◌∷◌, ◌++◌, length, drop, codes, decimal};
 ghost use Rattle.ft_types.specs.Devices.{Writes};
 ghost use Rattle.ft_types.specs.Text.{line, word};
 ghost use Rattle.guest_image.specs.Text.{numbered, status, spaced, hart_line, csr_line, device_line, register_line, output_line, count_line, rung_name};
 ghost use Rattle.guest_image.specs.Text.{heard_name, hart_lines, bell_lines, hart_tables, hart_text, ram_line};
 ghost use Rattle.guest_image.specs.Machine.{words_of};
+ghost use Rattle.guest_image.specs.machinery.Fronts.{IsFront, AreFronts};
 
-use ft_types::{
-    Failed, LineBuffer, PAGE_LIMIT, Sink, put_before, put_number_before, put_word_before, write_all,
-};
+use crate::front::{Front, Fronts};
+use ft_types::{Failed, LineBuffer, PAGE_LIMIT, Sink, put_before, put_word_before, write_all};
 use rv32_hart::{HartState, PAGE_WORDS, RAM_BASE};
 
-/// How many bytes are written at once.
-const BLOCK: usize = 4096;
+/// How many bytes are written at once: most blocks of lines are longer than what a buffered writer holds back, which then copies none.
+const BLOCK: usize = 20480;
 
-/// How many lines of outputs are written at once: each has at most 65 bytes, and all have numbers of the same hundreds.
-const BLOCK_LINES: usize = 50;
-
-/// A line of an output has at most so many bytes before the last two digits of its number.
-const HEAD: usize = 24;
+/// How many lines of outputs are written at once: each has at most 69 bytes.
+const BLOCK_LINES: usize = 296;
 
 fn status_text(halted: bool) -> &'static [u8]
     ensures text { result.now ≡ status halted }
@@ -106,93 +103,79 @@ fn put_three_before(block: &mut [u8], end: usize, first: u8, second: u8, third: 
     end - 3
 }
 
-/// Puts the two digits of a number so that they end at `end`, and says where they start.
+/// Puts what the line of an output has behind its step so that it ends at `end`, and says where it starts.
 #[inline(always)]
-fn put_pair_before(block: &mut [u8], end: usize, number: usize) -> usize
-    requires number { number < 100 }
-    requires room { 2 ≤ end }
+pub fn put_word_line_before(block: &mut [u8], end: usize, value: u32) -> usize
+    requires room { 15 ≤ end }
     requires end { end ≤ length block.old }
-    ensures start { result + 2 ≡ end }
-    ensures written { drop result block.new ≡ (48 + number / 10) ∷ (48 + number % 10) ∷ drop end block.old }
-{
-    block[end - 2] = b'0' + (number / 10) as u8;
-    block[end - 1] = b'0' + (number % 10) as u8;
-    end - 2
-}
-
-/// Puts what is behind an index of the head so that it ends at `end`, and says where it starts. All of the head is put, which takes fewer
-/// instructions.
-#[inline(always)]
-fn put_head_before(block: &mut [u8], end: usize, head: &[u8; HEAD], from: usize) -> usize
-    requires from { from ≤ HEAD }
-    requires room { HEAD ≤ end }
-    requires end { end ≤ length block.old }
-    ensures start { result + HEAD ≡ end + from }
-    ensures written { drop result block.new ≡ drop from head.now ++ drop end block.old }
-{
-    let start = put_before(block, end, head);
-    start + from
-}
-
-/// Puts what the line of an output has behind its number.
-#[inline(always)]
-fn put_rest_before(block: &mut [u8], end: usize, output: (u64, u32)) -> usize
-    requires room { 41 ≤ end }
-    requires end { end ≤ length block.old }
-    ensures start { (result ≤ end) × (end ≤ result + 41) }
-    ensures written { drop result block.new ≡ codes " step " ++ decimal output.0 ++ codes " word " ++ line (word output.1) ++ drop end block.old }
+    ensures start { result + 15 ≡ end }
+    ensures written { drop result block.new ≡ codes " word " ++ line (word value) ++ drop end block.old }
 {
     let mut at = put_before(block, end, b"\n");
-    at = put_word_before(block, at, output.1);
+    at = put_word_before(block, at, value);
     at = put_three_before(block, at, b'r', b'd', b' ');
-    at = put_three_before(block, at, b' ', b'w', b'o');
-    at = put_number_before(block, at, output.0);
+    put_three_before(block, at, b' ', b'w', b'o')
+}
+
+/// Puts the step of an output.
+#[inline(always)]
+fn put_step_before(block: &mut [u8], end: usize, steps: &mut Front, step: u64) -> usize
+    requires steps { IsFront steps.old }
+    requires room { 28 ≤ end }
+    requires end { end ≤ length block.old }
+    ensures steps { IsFront steps.new }
+    ensures start { (result ≤ end) × (end ≤ result + 28) }
+    ensures written { drop result block.new ≡ codes " step " ++ decimal step ++ drop end block.old }
+{
+    let mut at = steps.put(block, end, step);
     at = put_three_before(block, at, b'e', b'p', b' ');
     put_three_before(block, at, b' ', b's', b't')
 }
 
+/// Puts the number of an output, with which its line begins.
 #[inline(always)]
-#[tactic(auto, unfolding(crate::specs::Text::output_line))]
-fn put_output_before(block: &mut [u8], end: usize, number: usize, output: (u64, u32)) -> usize
-    requires room { 65 ≤ end }
+fn put_out_before(block: &mut [u8], end: usize, numbers: &mut Front, number: usize) -> usize
+    requires numbers { IsFront numbers.old }
+    requires room { 26 ≤ end }
     requires end { end ≤ length block.old }
-    ensures start { (result ≤ end) × (end ≤ result + 65) }
-    ensures written { drop result block.new ≡ output_line number output ++ drop end block.old }
+    ensures numbers { IsFront numbers.new }
+    ensures start { (result ≤ end) × (end ≤ result + 26) }
+    ensures written { drop result block.new ≡ codes "out " ++ decimal number ++ drop end block.old }
 {
-    let mut at = put_rest_before(block, end, output);
-    at = put_number_before(block, at, number as u64);
-    put_before(block, at, b"out ")
+    let mut at = numbers.put(block, end, number as u64);
+    at = put_three_before(block, at, b'u', b't', b' ');
+    put_before(block, at, b"o")
 }
 
-/// The same of a number of so many hundreds, before whose last two digits the head stands.
+/// Puts the line of an output so that it ends at `end`, and says where it starts.
 #[inline(always)]
-fn put_later_before(
+#[tactic(auto, unfolding(crate::specs::Text::output_line))]
+fn put_output_before(
     block: &mut [u8],
     end: usize,
-    head: &[u8; HEAD],
-    from: usize,
-    hundreds: usize,
+    fronts: &mut Fronts,
     number: usize,
     output: (u64, u32),
 ) -> usize
-    requires room { 67 ≤ end }
+    requires fronts { AreFronts fronts.old }
+    requires room { 69 ≤ end }
     requires end { end ≤ length block.old }
-    requires from { from ≤ HEAD }
-    requires number { (100 ≤ number) × (number / 100 ≡ hundreds) }
-    requires head { drop from head.now ≡ codes "out " ++ decimal hundreds }
-    ensures start { (result ≤ end) × (end ≤ result + 67) }
+    ensures fronts { AreFronts fronts.new }
+    ensures start { (result ≤ end) × (end ≤ result + 69) }
     ensures written { drop result block.new ≡ output_line number output ++ drop end block.old }
 {
-    let mut at = put_rest_before(block, end, output);
-    at = put_pair_before(block, at, number - hundreds * 100);
-    put_head_before(block, at, head, from)
+    let mut at = put_word_line_before(block, end, output.1);
+    at = put_step_before(block, at, &mut fronts.step, output.0);
+    put_out_before(block, at, &mut fronts.number, number)
 }
 
 /// Puts the lines of outputs, of which the first has this number, at the end of the block, and says where they start.
-fn put_first_outputs(block: &mut [u8], first: usize, outputs: &[(u64, u32)]) -> usize
+fn put_outputs(block: &mut [u8], fronts: &mut Fronts, first: usize, outputs: &[(u64, u32)]) -> usize
+    requires fronts { AreFronts fronts.old }
     requires few { length outputs.now ≤ BLOCK_LINES }
     requires numbers { first + length outputs.now < 2 ^ 64 }
     requires block { length block.old ≡ BLOCK }
+    ensures fronts { AreFronts fronts.new }
     ensures start { result ≤ BLOCK }
     ensures lines { drop result block.new ≡ numbered output_line first outputs.now }
 {
@@ -202,58 +185,9 @@ fn put_first_outputs(block: &mut [u8], first: usize, outputs: &[(u64, u32)]) -> 
     while left > 0 {
         left -= 1;
         number -= 1;
-        start = put_output_before(block, start, number, outputs[left]);
+        start = put_output_before(block, start, fronts, number, outputs[left]);
     }
     start
-}
-
-/// What the lines of outputs with numbers of so many hundreds have before the last two digits, at the end of the head, and where it starts.
-fn put_head(head: &mut [u8; HEAD], hundreds: usize) -> usize
-    ensures start { result ≤ HEAD }
-    ensures text { drop result head.new ≡ codes "out " ++ decimal hundreds }
-{
-    let at = put_number_before(head, HEAD, hundreds as u64);
-    put_before(head, at, b"out ")
-}
-
-/// The same of later outputs, whose numbers have the same hundreds.
-fn put_later_outputs(block: &mut [u8], first: usize, outputs: &[(u64, u32)]) -> usize
-    requires later { 100 ≤ first }
-    requires same { first % 100 + length outputs.now ≤ 100 }
-    requires few { length outputs.now ≤ BLOCK_LINES }
-    requires numbers { first + length outputs.now < 2 ^ 64 }
-    requires block { length block.old ≡ BLOCK }
-    ensures start { result ≤ BLOCK }
-    ensures lines { drop result block.new ≡ numbered output_line first outputs.now }
-{
-    let mut head = [0; HEAD];
-    let hundreds = first / 100;
-    let from = put_head(&mut head, hundreds);
-    let mut start = BLOCK;
-    let mut left = outputs.len();
-    let mut number = first + left;
-    while left > 0 {
-        left -= 1;
-        number -= 1;
-        start = put_later_before(block, start, &head, from, hundreds, number, outputs[left]);
-    }
-    start
-}
-
-/// The same, whatever the first one's number is.
-fn put_outputs(block: &mut [u8], first: usize, outputs: &[(u64, u32)]) -> usize
-    requires same { first % 100 + length outputs.now ≤ 100 }
-    requires few { length outputs.now ≤ BLOCK_LINES }
-    requires numbers { first + length outputs.now < 2 ^ 64 }
-    requires block { length block.old ≡ BLOCK }
-    ensures start { result ≤ BLOCK }
-    ensures lines { drop result block.new ≡ numbered output_line first outputs.now }
-{
-    if first < 100 {
-        put_first_outputs(block, first, outputs)
-    } else {
-        put_later_outputs(block, first, outputs)
-    }
 }
 
 #[tactic(auto, unfolding(crate::specs::Text::count_line))]
@@ -304,10 +238,16 @@ fn write_outputs<W: Sink>(outputs: &[(u64, u32)], out: &mut W) -> Result<(), Fai
         return Ok(());
     }
     let mut block = [0; BLOCK];
+    let mut fronts = Fronts::new();
     let mut first = 0;
     while first < outputs.len() {
-        let count = (outputs.len() - first).min(BLOCK_LINES - first % BLOCK_LINES);
-        let start = put_outputs(&mut block, first, &outputs[first..first + count]);
+        let count = (outputs.len() - first).min(BLOCK_LINES);
+        let start = put_outputs(
+            &mut block,
+            &mut fronts,
+            first,
+            &outputs[first..first + count],
+        );
         write_all(out, &block[start..])?;
         first += count;
     }

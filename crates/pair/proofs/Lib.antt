@@ -9,4 +9,3 @@ pub mod Leading
 pub mod NotesAlone
 pub mod Taken
 pub mod Limits
-pub mod Lines

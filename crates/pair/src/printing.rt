@@ -8,10 +8,8 @@ ghost use Rattle.pair.specs.Printing.{output_line, kept_line, live_line, pair_te
 
 use crate::threads::PairEnd;
 use crate::warm::WarmEnd;
-use ft_types::{
-    Failed, LineBuffer, Sink, put_before, put_number_before, put_word_before, write_all,
-};
-use guest_image::Machine;
+use ft_types::{Failed, LineBuffer, Sink, put_before, put_number_before, write_all};
+use guest_image::{Machine, put_word_line_before};
 use output_gate::Output;
 
 /// How many bytes are written at once.
@@ -29,9 +27,7 @@ fn put_output_before(block: &mut [u8], end: usize, output: &Output) -> usize
     ensures start { (result ≤ end) × (end ≤ result + 103) }
     ensures written { drop result block.new ≡ output_line output.now ++ drop end block.old }
 {
-    let mut at = put_before(block, end, b"\n");
-    at = put_word_before(block, at, output.word);
-    at = put_before(block, at, b" word ");
+    let mut at = put_word_line_before(block, end, output.word);
     at = put_number_before(block, at, output.step);
     at = put_before(block, at, b" step ");
     at = put_number_before(block, at, output.number);

@@ -12,13 +12,13 @@ returns-in_err-write_all g c =
     let outputs = c.args.outputs.now in
     let start = c.put_outputs-start.result in
     let block = c.put_outputs-start.new.block in
-    let text = take (4096 - start) (drop start block) in
+    let text = take (20480 - start) (drop start block) in
     stops g.W.Sink.bytes g.W.Sink.failures c.from_residual.result p.0 c.args.out.now c.loop-first.out
     c.write_all.new.out (numbered output_line 0 outputs) (numbered output_line first (drop first outputs))
     text (numbered output_line (first + count) (drop (first + count) outputs)) p.1
     (numbered_parts output_line first count outputs text (omega arith)
-    (taken_whole 4096 start block _ (omega arith) c.put_outputs-start.ensures.lines))
-    c.loop-first.invariant.1 c.in_err-write_all.ensures
+    (taken_whole 20480 start block _ (omega arith) c.put_outputs-start.ensures.lines))
+    c.loop-first.invariant.2 c.in_err-write_all.ensures
 
 pub loop-first-preserved : goal.loop-first-preserved
 loop-first-preserved g c =
@@ -27,12 +27,13 @@ loop-first-preserved g c =
     let outputs = c.args.outputs.now in
     let start = c.put_outputs-start.result in
     let block = c.put_outputs-start.new.block in
-    let text = take (4096 - start) (drop start block) in (
+    let text = take (20480 - start) (drop start block) in (
       omega arith,
+      c.put_outputs-start.ensures.fronts,
       goes_on g.W.Sink.bytes g.W.Sink.failures c.args.out.now c.loop-first.out c.write_all.new.out
           (numbered output_line 0 outputs) (numbered output_line first (drop first outputs)) text
           (numbered output_line (first + count) (drop (first + count) outputs))
           (numbered_parts output_line first count outputs text (omega arith)
-          (taken_whole 4096 start block _ (omega arith) c.put_outputs-start.ensures.lines))
-          c.loop-first.invariant.1 c.in_ok-write_all.ensures,
+          (taken_whole 20480 start block _ (omega arith) c.put_outputs-start.ensures.lines))
+          c.loop-first.invariant.2 c.in_ok-write_all.ensures,
     )

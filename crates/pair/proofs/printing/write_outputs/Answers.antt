@@ -1,9 +1,8 @@
 use Rattle.std.proofs.Common.{arith, ◌+◌, ◌-◌, drop, take}
 use Rattle.std.specs.List.{flat_map}
 use Rattle.std.proofs.lemmas.Result.{err_from_is_err_and}
-use Rattle.guest_image.proofs.TextFacts.{goes_on, stops, taken_whole}
+use Rattle.guest_image.proofs.TextFacts.{goes_on, stops, flat_parts, taken_whole}
 use Rattle.pair.specs.Printing.{output_line}
-use Rattle.pair.proofs.Lines.{flat_parts}
 use Rattle.pair.proofs.printing.write_outputs.Goals as goal
 
 pub returns-in_err-write_all : goal.returns-in_err-write_all

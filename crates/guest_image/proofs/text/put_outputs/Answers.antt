@@ -1,7 +1,7 @@
 use Rattle.std.proofs.Common.{◌+◌, length, sym, refl, ◌∙◌, ap, arith}
 use Rattle.std.proofs.lemmas.List.{drop_all}
 use Rattle.guest_image.specs.Text.{numbered, output_line}
-use Rattle.guest_image.proofs.text.put_later_outputs.Goals as goal
+use Rattle.guest_image.proofs.text.put_outputs.Goals as goal
 
 pub loop-left-init : goal.loop-left-init
 loop-left-init c =
@@ -11,6 +11,7 @@ loop-left-init c =
       c.requires.block,
       omega arith,
       omega arith,
-      drop_all 4096 c.args.block.now (omega arith)
+      c.requires.fronts,
+      drop_all 20480 c.args.block.now (omega arith)
           ∙ sym (ap (numbered output_line (c.args.first + length outputs)) (drop_all (length outputs) outputs (omega arith))),
     )
