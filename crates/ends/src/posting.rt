@@ -214,8 +214,7 @@ impl Post {
     /// Has a piece written.
     fn leave<R: Wait>(&mut self, rt: &R, piece: &Piece) -> Result<(), Memory> {
         let piece = Arc::try_clone(piece)?;
-        self.unread.add(piece.len());
-        let Some(room) = self.unread.room() else {
+        let Some(room) = self.unread.add(piece.len()) else {
             return self.order(rt, Order::Write(piece));
         };
         match self.write_now(rt, piece, room)? {
