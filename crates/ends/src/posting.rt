@@ -1,5 +1,7 @@
 //! A thread for each output: it opens the path and writes the pieces that are left for it. Where nobody reads any more it opens the path again.
 
+ghost use Rattle.std.specs.Prelude.{◌≡◌, length};
+
 use crate::events::{Door, Event, Taker, bring};
 use crate::faults::{Fault, NamedFile};
 use crate::host::Host;
@@ -230,7 +232,9 @@ impl Post {
         rt: &R,
         piece: Piece,
         _room: HasRoom,
-    ) -> Result<Option<Piece>, Memory> {
+    ) -> Result<Option<Piece>, Memory>
+        requires { length piece.value.items ≡ _room.size }
+    {
         let Some(mut connection) = self.connection.try_lock() else {
             return Ok(Some(piece));
         };

@@ -1,6 +1,6 @@
 //! How much of what was left for an output is not known to be read.
 
-ghost use Rattle.std.specs.Prelude.{◌≤◌, ℕ, List, [], ◌∷◌, ◌++◌, ◌↔◌, IsSome};
+ghost use Rattle.std.specs.Prelude.{◌≡◌, ◌≤◌, ℕ, List, [], ◌∷◌, ◌++◌, ◌↔◌, IfSome, IsSome};
 ghost use Rattle.std.specs.List.{sum};
 ghost use Rattle.ends.specs.machinery.Unread.{Counts};
 
@@ -10,10 +10,10 @@ use std::option::Option;
 /// them may have been read in part.
 const ROOM_BYTES: usize = 4096;
 
-/// A FIFO has room for the piece that was counted last and for all else that is not known to be read. Whoever has none of these writes nothing at once.
+/// A FIFO has room for a piece of this size, which was counted, and for all else that is not known to be read. Whoever has none of these writes nothing at once.
 #[derive(Drop)]
 pub(crate) struct HasRoom {
-    _told: (),
+    size: usize,
 }
 
 /// How many bytes the pieces have that whoever reads is not known to have read.
@@ -36,11 +36,12 @@ impl Unread {
     pub(crate) fn add(&mut self, size: usize) -> Option<HasRoom>
         ensures counts { (sizes : List ℕ) → Counts sizes self.old → Counts (sizes ++ (size ∷ [])) self.new }
         ensures room { (sizes : List ℕ) → Counts sizes self.old → IsSome result ↔ (sum (sizes ++ (size ∷ [])) ≤ 4096) }
+        ensures size { IfSome result (λ room. room.size ≡ size) }
     {
         self.bytes = self.bytes.saturating_add(size);
         self.last = size;
         if self.bytes <= ROOM_BYTES {
-            Some(HasRoom { _told: () })
+            Some(HasRoom { size })
         } else {
             None
         }
