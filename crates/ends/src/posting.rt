@@ -1,5 +1,7 @@
 //! A thread for each output: it opens the path and writes the pieces that are left for it. Where nobody reads any more it opens the path again.
 
+ghost use Rattle.std.specs.Prelude.{◌≡◌, length};
+
 use crate::events::{Door, Event, Taker, bring};
 use crate::faults::{Fault, NamedFile};
 use crate::host::Host;
@@ -214,8 +216,7 @@ impl Post {
     /// Has a piece written.
     fn leave<R: Wait>(&mut self, rt: &R, piece: &Piece) -> Result<(), Memory> {
         let piece = Arc::try_clone(piece)?;
-        self.unread.add(piece.len());
-        let Some(room) = self.unread.room() else {
+        let Some(room) = self.unread.add(piece.len()) else {
             return self.order(rt, Order::Write(piece));
         };
         match self.write_now(rt, piece, room)? {
@@ -231,7 +232,9 @@ impl Post {
         rt: &R,
         piece: Piece,
         _room: HasRoom,
-    ) -> Result<Option<Piece>, Memory> {
+    ) -> Result<Option<Piece>, Memory>
+        requires { length piece.value.items ≡ _room.size }
+    {
         let Some(mut connection) = self.connection.try_lock() else {
             return Ok(Some(piece));
         };

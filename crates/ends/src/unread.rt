@@ -1,8 +1,8 @@
 //! How much of what was left for an output is not known to be read.
 
-ghost use Rattle.std.specs.Prelude.{◌≤◌, ℕ, List, [], ◌∷◌, ◌++◌, IfSome};
+ghost use Rattle.std.specs.Prelude.{◌≡◌, ◌≤◌, ℕ, List, [], ◌∷◌, ◌++◌, ◌↔◌, IfSome, IsSome};
 ghost use Rattle.std.specs.List.{sum};
-ghost use Rattle.ends.specs.machinery.Unread.{Covers};
+ghost use Rattle.ends.specs.machinery.Unread.{Counts};
 
 use std::option::Option;
 
@@ -10,10 +10,10 @@ use std::option::Option;
 /// them may have been read in part.
 const ROOM_BYTES: usize = 4096;
 
-/// A FIFO has room for all that is not known to be read. Whoever has none of these writes nothing at once.
+/// A FIFO has room for a piece of this size, which was counted, and for all else that is not known to be read. Whoever has none of these writes nothing at once.
 #[derive(Drop)]
 pub(crate) struct HasRoom {
-    _told: (),
+    size: usize,
 }
 
 /// How many bytes the pieces have that whoever reads is not known to have read.
@@ -27,41 +27,38 @@ pub(crate) struct Unread {
 impl Unread {
     /// Nothing was left.
     pub(crate) fn new() -> Unread
-        ensures { Covers [] result }
+        ensures { Counts [] result }
     {
         Unread { bytes: 0, last: 0 }
     }
 
-    /// One more piece, of so many bytes, is left.
-    pub(crate) fn add(&mut self, size: usize)
-        ensures { (sizes : List ℕ) → Covers sizes self.old → Covers (sizes ++ (size ∷ [])) self.new }
+    /// One more piece, of so many bytes, is left. Whether a FIFO has room for all of them, this one among them.
+    pub(crate) fn add(&mut self, size: usize) -> Option<HasRoom>
+        ensures counts { (sizes : List ℕ) → Counts sizes self.old → Counts (sizes ++ (size ∷ [])) self.new }
+        ensures room { (sizes : List ℕ) → Counts sizes self.old → IsSome result ↔ (sum (sizes ++ (size ∷ [])) ≤ 4096) }
+        ensures size { IfSome result (λ room. room.size ≡ size) }
     {
         self.bytes = self.bytes.saturating_add(size);
         self.last = size;
+        if self.bytes <= ROOM_BYTES {
+            Some(HasRoom { size })
+        } else {
+            None
+        }
     }
 
     /// All were read.
     pub(crate) fn clear(&mut self)
-        ensures { Covers [] self.new }
+        ensures { Counts [] self.new }
     {
         *self = Unread::new();
     }
 
     /// All were read but the last.
     pub(crate) fn clear_before(&mut self)
-        ensures { (sizes : List ℕ) (size : ℕ) → Covers (sizes ++ (size ∷ [])) self.old → Covers (size ∷ []) self.new }
+        ensures last { (sizes : List ℕ) (size : ℕ) → Counts (sizes ++ (size ∷ [])) self.old → Counts (size ∷ []) self.new }
+        ensures none { Counts [] self.old → Counts [] self.new }
     {
         self.bytes = self.bytes.min(self.last);
-    }
-
-    /// Whether a FIFO has room for all of them.
-    pub(crate) fn room(&self) -> Option<HasRoom>
-        ensures { IfSome result (λ _. (sizes : List ℕ) → Covers sizes self.now → sum sizes ≤ 4096) }
-    {
-        if self.bytes <= ROOM_BYTES {
-            Some(HasRoom { _told: () })
-        } else {
-            None
-        }
     }
 }

@@ -1,12 +1,12 @@
 //! A pair whose first keeper is warm, and the primary that goes live from it once the pair is at its end.
 
-ghost use Rattle.std.specs.Prelude.{◌≡◌, ◌+◌, ◌∷◌, IfOk, IfSome, IsTrue, length, map};
+ghost use Rattle.std.specs.Prelude.{◌≡◌, ◌+◌, ◌∷◌, IfOk, IfSome, IsTrue, OnOk, length, map};
 ghost use Rattle.ft_types.specs.declared.names.TheConstants.{KEEPER_LIMIT};
 ghost use Rattle.scripts.specs.Script.{AreOffered};
 ghost use Rattle.log_streams.specs.Primary.{IsRunOf};
 ghost use Rattle.primary.specs.Outputs.{outputs_in};
 ghost use Rattle.pair.specs.Released.{IsPartOf};
-ghost use Rattle.pair.specs.Warm.{GoesOn, HasGoneLive};
+ghost use Rattle.pair.specs.Warm.{GoesOn, HasGoneLive, HasReplayed, IsPlannedUpTo};
 
 use crate::holding::Held;
 use crate::threads::{PairEnd, run_kept};
@@ -80,6 +80,15 @@ fn first_of(held: Vec<Held>) -> Option<(Backup, Vec<Held>)>
     }
 }
 
+/// The backup goes to where its own store leads. Where it has kept up it is there.
+fn keep_up(alloc: Global, backup: &mut Backup) -> Result<(), ReplayFault>
+    ensures image { backup.new.image ≡ backup.old.image }
+    ensures store { backup.new.store ≡ backup.old.store }
+    ensures planned { OnOk result (IsPlannedUpTo backup.new.store backup.new.position backup.new.legs) }
+{
+    backup.advance(alloc)
+}
+
 /// The primary of the next term, from the first keeper's machine and what the others hold, and how many steps were replayed for it.
 fn revive(
     alloc: Global,
@@ -87,7 +96,8 @@ fn revive(
     held: Vec<Held>,
     orders: &PairOrders,
 ) -> Result<(Live, u64), LiveFault>
-    ensures { IfOk result (λ r. GoesOn image.now held.items r.0) }
+    ensures live { IfOk result (λ r. GoesOn image.now held.items r.0) }
+    ensures steps { IfOk result (λ r. HasReplayed image.now held.items r.0 r.1) }
 {
     let Some((mut backup, others)) = first_of(held) else {
         return Err(LiveFault::TooFewStores);
@@ -95,6 +105,7 @@ fn revive(
     if !is_same(backup.image(), image) {
         return Err(LiveFault::Replay(ReplayFault::OtherGuest));
     }
+    keep_up(alloc, &mut backup)?;
     let stores = stores_of(alloc, &others)?;
     let (keepers, need) = (orders.keepers(), orders.need());
     let live = go_live_warm(
@@ -120,8 +131,9 @@ pub fn run_pair_warm<R: Threads + Wait + Sync>(
 ) -> Result<WarmEnd, LiveFault>
     requires { AreOffered image.now.harts script.now }
     ensures run { IfOk result (λ end. IsRunOf image.now script.now orders.now.budget end.book) }
-    // The new primary goes live from stores on whose way as many keepers as are needed had each output inside a position.
-    ensures live { IfOk result (λ end. HasGoneLive image.now orders.now.quorum.need end.released.items end.live) }
+    // The new primary goes live from stores on whose way as many keepers as are needed had each output inside a position. Replayed were the steps from where the
+    // first store leads to on, where what is planned of it begins what is planned of all, else all.
+    ensures live { IfOk result (λ end. HasGoneLive image.now orders.now.quorum.need end.released.items end.live end.steps) }
     ensures part { IfOk result (λ end. IsPartOf end.released.items (outputs_in end.book.machine)) }
     ensures kept { IfOk result (λ end. length end.released.items + end.kept ≡ length (outputs_in end.book.machine)) }
 {

@@ -8,6 +8,7 @@ ghost use Rattle.book_modes.specs.Silences.{unheard_bells};
 ghost use Rattle.ft_types.specs.Counts.{count_at};
 ghost use Rattle.hart_lease.specs.Runs.{counts_of};
 ghost use Rattle.book_modes.specs.Recordings.{IsUnused};
+ghost use Rattle.closed_cut.specs.Position.{IsPosition};
 ghost use Rattle.guest_image.specs.Image.{guest_of};
 ghost use Rattle.go_live.specs.Joined.{AreJoined, AreJoinedTo};
 ghost use Rattle.go_live.specs.Quorums.{distinct, AreEnough, IsNew, IsOld};
@@ -15,6 +16,7 @@ ghost use Rattle.primary.specs.Outputs.{outputs_in};
 ghost use Rattle.go_live.specs.Faults.{IfReplay};
 ghost use Rattle.hart_replay.specs.GoingOn.{GoOnFrom};
 ghost use Rattle.hart_replay.specs.Images.{GuestHistory};
+ghost use Rattle.hart_replay.specs.Laws.{ArePlanned};
 ghost use Rattle.go_live.specs.Histories.{AreOfHistory, IsOfHistory, MakesLonger};
 ghost use Rattle.go_live.specs.Lives.{IsAtPosition, LeadNowhere};
 ghost use Rattle.primary.specs.Primaries.{BeginsFrom};
@@ -61,6 +63,8 @@ pub fn go_live_warm(
         backup.new.last_steps ≡ sum backup.new.position.counts - sum backup.old.position.counts) }
     ensures steps_anew { OnOk result ((GoOnFrom backup.old.legs backup.new.legs → ⊥) → backup.new.last_steps ≡ sum backup.new.position.counts) }
     ensures joined { OnOk result (AreJoined (guest_of backup.old.image) (backup.old.store ∷ map (λ s. s.1.now) stores.now) backup.new.store) }
+    ensures reached { OnOk result (IsPosition backup.new.store backup.new.position) }
+    ensures planned { OnOk result (ArePlanned backup.new.store backup.new.position backup.new.legs) }
     ensures image { backup.new.image ≡ backup.old.image }
 
     // The faults, each exactly where it is due, in this order. Memory may be refused once the first two are looked at.
