@@ -80,7 +80,8 @@ def arithmetic(chance, free, to):
 
 
 def pair(chance, free, near):
-    """Two words that have one form where the second follows the first: the second may fault, and either may be jumped to or stored over."""
+    """Two words that have one form where the second follows the first, and in a case one more that is taken with them: the second may fault, and each may be jumped
+    to or stored over."""
     to, one, other = free(), free(), free()
     load = i_type(chance.randrange(256), DATA, 4, to, 0x03)  # LBU
     on = i_type(chance.getrandbits(12), to, 0, to, 0x13)  # ADDI to itself
@@ -91,6 +92,7 @@ def pair(chance, free, near):
             [i_type(chance.getrandbits(12), one, 7, to, 0x13), i_type(chance.randrange(32), to, 1, other, 0x13)],
             [load, i_type(chance.randrange(32), to, 5, other, 0x13)],
             [load, on],
+            [load, on, i_type(chance.getrandbits(12), one, 0, chance.choice([one, other]), 0x13)],
             [on, r_type(0, other, to, 4, one, 0x33)],
             [r_type(0, chance.choice([0, other]), DATA, 0, to, 0x33), i_type(chance.choice([0, 4, 2]), to, 2, other, 0x03)],
             [i_type(chance.getrandbits(12), one, 0, to, 0x13), i_type(chance.randrange(256), chance.choice([DATA, to]), 4, other, 0x03)],
