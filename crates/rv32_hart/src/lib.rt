@@ -20,6 +20,7 @@ mod state;
 mod step;
 mod steps;
 mod turn;
+mod word_form;
 
 pub use code::{Code, CodedPages};
 pub use decoder::{Anew, Decode, Decoder};
