@@ -2,13 +2,13 @@
 """programs.py PROGRAM [COUNT [SEED [FIRST]]]: runs COUNT guests, 20,000 by itself, whose instructions fall by chance, and compares what quick runs on threads came to
 with what each step by itself comes to.
 
-A guest has one to four harts and one body for all of them, which goes round, in one page or across the end of one: arithmetic, loads and stores of each width, some of which are misaligned or reach no
-page, atomic memory operations, branches and jumps within the body, also into the second of two instructions that compilers write together, stores into the body's
-own words, of other words of the body or of what a register has, traps (ECALL, EBREAK, illegal words) and a handler that goes on behind them, outputs, bells and words
+A guest has one to four harts and one body for all of them, which goes round, in one page or across the end of one: arithmetic, loads and stores of each width,
+some of which are misaligned or reach no page, atomic memory operations, branches and jumps within the body, also into the second of two instructions that compilers
+write together, stores into the body's own words, of other words of the body or of what a register has, traps (ECALL, EBREAK, illegal words) and a handler that goes on behind them, outputs, bells and words
 that come in. `run` records it on a thread for each hart by forms that were decoded before; `audit` takes its log step by step, decoding each word anew and asking for each
 page; `replay` takes it by quick runs again. All three must print one text. Each fourth guest has one hart, to which nothing comes in: plain.py takes its steps too, and the
 text must say of count, place, registers, outputs and memory what it comes to; by it are told how often a pair was met whole, how often its second word was jumped to or faulted,
-and how often one of its words was stored over, and none of these may be nought in a hundred guests. Each guest is made from SEED (by itself by chance, and printed) and its number, from
+how often one of its words was stored over, and how often an addition came behind the load of a byte and an addition; none of these may be nought in a hundred guests. Each guest is made from SEED (by itself by chance, and printed) and its number, from
 FIRST on, and so can be made again. A guest that differs is printed, and its files are kept in the temporary folder.
 """
 
