@@ -231,6 +231,7 @@ impl Post {
         &mut self,
         rt: &R,
         piece: Piece,
+        // proof: the clause asks for it, and nothing else.
         _room: HasRoom,
     ) -> Result<Option<Piece>, Memory>
         requires { length piece.value.items ≡ _room.size }

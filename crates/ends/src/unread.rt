@@ -13,6 +13,7 @@ const ROOM_BYTES: usize = 4096;
 /// A FIFO has room for a piece of this size, which was counted, and for all else that is not known to be read. Whoever has none of these writes nothing at once.
 #[derive(Drop)]
 pub(crate) struct HasRoom {
+    // proof: clauses alone read it.
     size: usize,
 }
 
