@@ -209,26 +209,28 @@ not_number_digit text i h none n p =
 
 -- ---- writing a word
 
-are_pairs : ℕ → Bool
-are_pairs zero = true
-are_pairs (suc p) = (eqb (get_or PAIRS (p * 2) 0) (hex_digit (p / 16)) && eqb (get_or PAIRS (p * 2 + 1) 0) (hex_digit (p % 16))) && are_pairs p
+-- whether a table has both digits of each number below another one, by a base
+unfoldable pub are_pairs : List ℕ → ℕ → (ℕ → ℕ) → ℕ → Bool
+are_pairs table base digit zero = true
+are_pairs table base digit (suc p) = (eqb (get_or table (p * 2) 0) (digit (p / base)) && eqb (get_or table (p * 2 + 1) 0) (digit (p % base))) && are_pairs table base digit p
 
-pairs_below : (n p : ℕ) → T (are_pairs n) → p < n → (get_or PAIRS (p * 2) 0 ≡ hex_digit (p / 16)) × (get_or PAIRS (p * 2 + 1) 0 ≡ hex_digit (p % 16))
+pub pairs_below : (table : List ℕ) (base : ℕ) (digit : ℕ → ℕ) (n p : ℕ) → T (are_pairs table base digit n) → p < n →
+    (get_or table (p * 2) 0 ≡ digit (p / base)) × (get_or table (p * 2 + 1) 0 ≡ digit (p % base))
 unfolding are_pairs
-pairs_below zero p t h = absurd (omega arith)
-pairs_below (suc n) p t h =
+pairs_below table base digit zero p t h = absurd (omega arith)
+pairs_below table base digit (suc n) p t h =
     elim (cases_lt p n) [
-      | inl lt ↦ pairs_below n p (and_r _ (are_pairs n) t) lt
+      | inl lt ↦ pairs_below table base digit n p (and_r _ (are_pairs table base digit n) t) lt
       | inr le ↦
           let e : p ≡ n = omega arith in
-          let a = and_l _ (are_pairs n) t in
+          let a = and_l _ (are_pairs table base digit n) t in
           rw e (eqb→eq _ _ (and_l _ _ a), eqb→eq _ _ (and_r _ _ a))
     ]
 
 -- the table's two digits of a byte
 pub pairs_at : (p : ℕ) → p < 256 → (get_or PAIRS (p * 2) 0 ≡ hex_digit (p / 16)) × (get_or PAIRS (p * 2 + 1) 0 ≡ hex_digit (p % 16))
 unfolding are_pairs
-pairs_at p h = pairs_below 256 p tt h
+pairs_at p h = pairs_below PAIRS 16 hex_digit 256 p tt h
 
 -- the two digits of a byte
 abbrev pub pair : ℕ → List ℕ

@@ -1,4 +1,4 @@
-use Rattle.std.proofs.Common.{◌≡◌, ◌+◌, ◌*◌, ◌/◌, ◌++◌, ap, sym, ◌∙◌, arith, List, ℕ, drop, append-nil}
+use Rattle.std.proofs.Common.{◌≡◌, ◌*◌, ◌/◌, ◌++◌, ap, sym, ◌∙◌, arith, List, ℕ, append-nil}
 use Rattle.std.specs.Prelude.{decimal}
 use Rattle.std.proofs.lemmas.List.{drop_all}
 use Rattle.guest_image.proofs.front.Front.begin.Goals as goal

@@ -1,4 +1,4 @@
-use Rattle.std.proofs.Common.{◌+◌, ◌-◌, ◌++◌, drop, ap, ◌∙◌, arith, List, ℕ, refl}
+use Rattle.std.proofs.Common.{◌-◌, ◌++◌, drop, ap, ◌∙◌, arith, List, ℕ, refl}
 use Rattle.guest_image.proofs.FrontFacts.{front_number}
 use Rattle.guest_image.proofs.front.Front.put.Goals as goal
 
