@@ -189,6 +189,24 @@ fi
 
 # Three keepers over FIFOs: one is killed and begins again, two hand their logs over behind a fence, in some twenty seconds. Then primaries and clients
 # too: primaries are killed and paused.
+# keeps BUILD: a keeper over a log that is there says where it begins again and acknowledges it, and ends where its input does. rt's runner can't be asked for this:
+# its programs may not open /dev/stdout.
+keeps() {
+    rm -rf "$work/kept"
+    cp -R "$top/crates/live/data" "$work/kept"
+    if (cd "$work/kept" && "$1" keeper load_store.image 0 load_store.log from /dev/null to /dev/stdout) > "$work/told" 2> "$work/refused" &&
+        printf 'again 0 e3e11754\nack 1 0 6 e034cebb\n' | cmp -s - "$work/told" &&
+        cmp -s "$top/crates/live/data/load_store.log" "$work/kept/load_store.log"; then
+        pass
+    else
+        cat "$work/refused" >> "$work/told"
+        fail "a keeper over a log that is there, by $1" < "$work/told"
+    fi
+}
+
+for build in "$live" "$live.by-rattle"; do
+    if [ -x "$build" ]; then keeps "$build"; fi
+done
 if [ ! -x "$live" ]; then
     echo "left out samples/live, since there is no $live"
 elif ! command -v bash > /dev/null; then
