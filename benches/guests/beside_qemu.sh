@@ -1,12 +1,14 @@
 #!/bin/sh
-# beside_qemu.sh [PROGRAM]: how many nanoseconds of user time an instruction of each guest takes when we record it, and by QEMU with
+# beside_qemu.sh [PROGRAM [ROUNDS]]: how many nanoseconds of user time an instruction of each guest takes when we record it, and by QEMU with
 # `-icount shift=0`: the time of many instructions less that of few, so that starting falls away, ours and QEMU's turn by turn. For each the
-# median of five such differences, with the least and the most. PROGRAM is a built threads_bench, by itself one that is built here. Needs rt,
-# python3, qemu-system-riscv32 and gcc-riscv64-unknown-elf. Works in a folder of its own, which it removes.
+# median of so many such differences (15), with the least and the most; and the same of the rounds' ratios, ours for one of QEMU. PROGRAM is a
+# built threads_bench, by itself one that is built here. Needs rt, python3, qemu-system-riscv32 and gcc-riscv64-unknown-elf. Works in a folder of
+# its own, which it removes.
 set -eu
 here=$(cd "$(dirname "$0")" && pwd)
 . "$here/../workspace.sh"
 
+rounds=${2:-15}
 if [ $# -gt 0 ]; then
     program=$1
 else
@@ -47,24 +49,25 @@ each() {
     echo "$few $many" | awk '{ printf "%.2f\n", ($4 - $2) / ($3 - $1) }'
 }
 
-# middle: the median of the numbers, one a line, with the least and the most.
+# middle DIGITS: the median of the numbers, one a line, with the least and the most.
 middle() {
-    sort -n | awk '{ at[NR] = $1 } END { if (NR) printf "%.1f (%.1f to %.1f)", at[int((NR + 1) / 2)], at[1], at[NR] }'
+    sort -n | awk -v d="$1" '{ at[NR] = $1 } END { if (NR) printf "%.*f (%.*f to %.*f)", d, at[int((NR + 1) / 2)], d, at[1], d, at[NR] }'
 }
 
 # row GUEST OURS FEW MANY: a row of the table, with so many instructions by QEMU, and 20,000,000 to 120,000,000 of the image OURS.
 row() {
     : > "$work/ours"
     : > "$work/qemu"
-    for _run in 1 2 3 4 5; do
+    for _round in $(seq "$rounds"); do
         each ours "$2" 20000000 120000000 >> "$work/ours"
         each qemu "$1" "$3" "$4" >> "$work/qemu"
     done
-    printf '%-16s %-22s %-26s\n' "$1" "$(middle < "$work/ours")" "$(middle < "$work/qemu")"
+    paste "$work/ours" "$work/qemu" | awk '{ print $1 / $2 }' > "$work/ratios"
+    printf '%-16s %-22s %-26s %s\n' "$1" "$(middle 1 < "$work/ours")" "$(middle 1 < "$work/qemu")" "$(middle 2 < "$work/ratios")"
 }
 
 echo "$(sed -n 's/^model name.*: //p' /proc/cpuinfo | sort | uniq -c | sed 's/^ *//'); load $(cut -d ' ' -f 1-3 /proc/loadavg)"
-printf '%-16s %-22s %-26s\n' guest recorded 'QEMU, -icount shift=0'
+printf '%-16s %-22s %-26s %s\n' guest recorded 'QEMU, -icount shift=0' 'recorded for one of QEMU'
 row mixture mixture 20000000 320000000
 row dhrystone_apart dhrystone_apart 20000000 220000000
 row dhrystone_mixed dhrystone_mixed 5000000 45000000
