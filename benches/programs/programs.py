@@ -89,12 +89,12 @@ def pair(chance, free, near):
     two = chance.choice(
         [
             [r_type(0, other, one, 4, to, 0x33), branch],
-            [i_type(chance.getrandbits(12), one, 7, to, 0x13), i_type(chance.randrange(32), to, 1, other, 0x13)],
+            [i_type(chance.getrandbits(12), one, 7, to, 0x13), i_type(chance.randrange(32), chance.choice([to, to, one]), 1, other, 0x13)],
             [load, i_type(chance.randrange(32), to, 5, other, 0x13)],
             [load, on],
             [load, on, i_type(chance.getrandbits(12), one, 0, chance.choice([one, other]), 0x13)],
             [on, r_type(0, other, to, 4, one, 0x33)],
-            [r_type(0, chance.choice([0, other]), DATA, 0, to, 0x33), i_type(chance.choice([0, 4, 2]), to, 2, other, 0x03)],
+            [r_type(0, chance.choice([0, other]), DATA, 0, to, 0x33), i_type(chance.choice([0, 4, 2]), chance.choice([to, to, DATA]), 2, other, 0x03)],
             [i_type(chance.getrandbits(12), one, 0, to, 0x13), i_type(chance.randrange(256), chance.choice([DATA, to]), 4, other, 0x03)],
             [b_type(near(), other, one, 0), i_type(chance.getrandbits(12), one, 0, to, 0x13)],
             [s_type(chance.randrange(256), to, DATA, 0), branch],

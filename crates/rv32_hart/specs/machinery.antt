@@ -5,3 +5,4 @@ pub mod CountedSteps
 pub mod Local
 pub mod QuickForms
 pub mod QuickSteps
+pub mod PairedForms

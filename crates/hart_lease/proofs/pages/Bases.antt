@@ -1,7 +1,7 @@
 -- Pages that were taken to write, as they were lent.
 use Rattle.std.proofs.Common.{◌≡◌, ◌≢◌, ◌∙◌, ◌<◌, ◌⊎◌, inl, inr, ℕ, List, Option, None, Some, length, slice_set, slice_index_or, sym, ap, get_or-set_same}
 use Rattle.std.proofs.Common.{get_or-set_other, zero, suc, replicate, refl}
-use Rattle.rv32_hart.proofs.KnownForms.{same_or_other}
+use Rattle.rv32_hart.proofs.QuietRuns.{same_or_other}
 use Rattle.ft_types.specs.declared.names.Want.TheVariants.{Read, Write}
 use Rattle.hart_lease.specs.declared.taken.Taken.{Taken}
 use Rattle.hart_lease.specs.Taken.{taken_at, taking, right_of_taken, HaveBases}
