@@ -3,7 +3,8 @@
 ghost use Rattle.std.specs.Prelude.{◌≡◌, ◌≤◌, List, length, Option, Some, None};
 ghost use Rattle.fragment_codec.specs.Rules.{OpeningParts, IsFragment, IsOpening};
 ghost use Rattle.std.specs.Int.{w16, w32, w64};
-ghost use Rattle.fragment_codec.specs.machinery.Reading.{Gives, Makes, number_at, byte_at, digest_at, guest_at, input_of, edge_at, heard_at, note_at, record_at, many, place_at, rest_of};
+ghost use Rattle.fragment_codec.specs.machinery.Reading.{Gives, Makes, behind, number_at, byte_at, digest_at, guest_at, input_of, edge_at, heard_at, note_at, record_at, many, place_at, rest_of};
+ghost use Rattle.fragment_codec.specs.declared.types.Record.TheVariants.{Edge as EdgeRecord, Input as InputRecord, Note as NoteRecord};
 ghost use Rattle.fragment_codec.specs.machinery.Reading.{log_of, opening_of, stand_at, is_span, harts_limit};
 
 use crate::frame::{Fragment, Opening, is_short};
@@ -128,13 +129,8 @@ fn read_stand(version: u8, from: Count, bytes: &[u8]) -> Result<(Count, &[u8]), 
 }
 
 #[tactic(auto, unfolding(crate::specs::machinery::Reading::edge_at))]
-fn read_edge(
-    version: u8,
-    from: Count,
-    hart: Hart,
-    bytes: &[u8],
-) -> Result<(Record, &[u8]), BodyError>
-    ensures { Gives (λ x. (x.0, x.1.now)) result (edge_at version from hart bytes.now) }
+fn read_edge(version: u8, from: Count, hart: Hart, bytes: &[u8]) -> Result<(Edge, &[u8]), BodyError>
+    ensures { Gives (λ x. (EdgeRecord x.0, x.1.now)) result (edge_at version from hart bytes.now) }
 {
     let (at, rest) = read_stand(version, from, bytes)?;
     let (other, rest) = u8_at(rest)?;
@@ -146,46 +142,66 @@ fn read_edge(
             other: Hart::new(other),
             after,
         };
-        Ok((Record::Edge(edge), rest))
+        Ok((edge, rest))
     } else {
         Err(BodyError::Broken)
     }
 }
 
 #[tactic(auto, unfolding(crate::specs::machinery::Reading::heard_at))]
-fn read_heard(version: u8, from: Count, bytes: &[u8]) -> Result<(Record, &[u8]), BodyError>
-    ensures { Gives (λ x. (x.0, x.1.now)) result (heard_at version from bytes.now) }
+fn read_heard(version: u8, from: Count, bytes: &[u8]) -> Result<(Count, Input, &[u8]), BodyError>
+    ensures { Gives (λ x. (InputRecord x.0 x.1, x.2.now)) result (heard_at version from bytes.now) }
 {
     let (at, rest) = read_stand(version, from, bytes)?;
     let (kind, rest) = u8_at(rest)?;
     let (value, rest) = u32_at(rest)?;
     let input = make_input(kind, value)?;
-    Ok((Record::Input(at, input), rest))
+    Ok((at, input, rest))
 }
 
 #[tactic(auto, unfolding(crate::specs::machinery::Reading::note_at))]
-fn read_note(version: u8, from: Count, bytes: &[u8]) -> Result<(Record, &[u8]), BodyError>
-    ensures { Gives (λ x. (x.0, x.1.now)) result (note_at version from bytes.now) }
+fn read_note(version: u8, from: Count, bytes: &[u8]) -> Result<(Count, u64, &[u8]), BodyError>
+    ensures { Gives (λ x. (NoteRecord x.0 x.1, x.2.now)) result (note_at version from bytes.now) }
 {
     let (at, rest) = read_stand(version, from, bytes)?;
     let (number, rest) = u64_at(rest)?;
-    Ok((Record::Note(at, number), rest))
+    Ok((at, number, rest))
 }
 
+/// Puts the record that stands here behind others, and hands out the bytes after it. Each kind is put where it was read, so that its parts are stored as they are.
 #[tactic(auto, unfolding(crate::specs::machinery::Reading::record_at))]
-fn read_record(
+fn read_record<'a>(
     version: u8,
     from: Count,
     hart: Hart,
-    bytes: &[u8],
-) -> Result<(Record, &[u8]), BodyError>
-    ensures { Gives (λ x. (x.0, x.1.now)) result (record_at version from hart bytes.now) }
+    bytes: &'a [u8],
+    records: &mut Vec<Record>,
+) -> Result<&'a [u8], BodyError>
+    ensures { Gives (λ x. (records.new.items, x.now)) result (behind records.old.items (record_at version from hart bytes.now)) }
 {
     let (kind, rest) = u8_at(bytes)?;
     match kind {
-        1 => read_edge(version, from, hart, rest),
-        2 => read_heard(version, from, rest),
-        3 if version != FIRST_VERSION => read_note(version, from, rest),
+        1 => match read_edge(version, from, hart, rest) {
+            Ok((edge, rest)) => {
+                records.push(Record::Edge(edge))?;
+                Ok(rest)
+            }
+            Err(error) => Err(error),
+        },
+        2 => match read_heard(version, from, rest) {
+            Ok((at, input, rest)) => {
+                records.push(Record::Input(at, input))?;
+                Ok(rest)
+            }
+            Err(error) => Err(error),
+        },
+        3 if version != FIRST_VERSION => match read_note(version, from, rest) {
+            Ok((at, number, rest)) => {
+                records.push(Record::Note(at, number))?;
+                Ok(rest)
+            }
+            Err(error) => Err(error),
+        },
         _ => Err(BodyError::Broken),
     }
 }
@@ -203,13 +219,7 @@ fn read_records(
     let mut records = Vec::new(alloc);
     let mut rest = bytes;
     for _ in 0..count {
-        match read_record(version, from, hart, rest) {
-            Ok((record, after)) => {
-                records.push(record)?;
-                rest = after;
-            }
-            Err(error) => return Err(error),
-        }
+        rest = read_record(version, from, hart, rest, &mut records)?;
     }
     Ok((records, rest))
 }

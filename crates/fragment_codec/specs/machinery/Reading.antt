@@ -1,5 +1,5 @@
 -- Reading a body from left to right: private words, which the laws in proofs/ tie to the spelling.
-use Rattle.std.specs.Prelude.{◌≡◌, ℕ, zero, suc, ◌+◌, ◌-◌, ◌^◌, Bool, ◌||◌, ◌&&◌, List, [], ◌∷◌, length, take, drop, Option, Some, None, Result, Ok, Err, nat_lt, ◌==◌}
+use Rattle.std.specs.Prelude.{◌≡◌, ℕ, zero, suc, ◌+◌, ◌-◌, ◌^◌, Bool, ◌||◌, ◌&&◌, List, [], ◌∷◌, ◌++◌, length, take, drop, Option, Some, None, Result, Ok, Err, nat_lt, ◌==◌}
 use Rattle.std.specs.Prelude.{if◌then◌else◌}
 use Rattle.std.specs.Int.{Width, w16, w32, w64, byte_len, from_le_bytes}
 use Rattle.ft_types.specs.declared.names.TheConstants.{HART_LIMIT}
@@ -92,6 +92,10 @@ record_at version from hart bytes = do
       else if kind.0 == 2 then heard_at version from kind.1
       else if kind.0 == 3 then (if version == FIRST_VERSION then None else note_at version from kind.1)
       else None
+
+-- what was read before, with one more behind it
+abbrev pub behind : {X : Type 0} → List X → Option (X × List ℕ) → Option (List X × List ℕ)
+behind before read = read >>= λ x. Some (before ++ x.0 ∷ [], x.1)
 
 -- so many of one kind, one after the other
 unfoldable pub many : {X : Type 0} → (List ℕ → Option (X × List ℕ)) → ℕ → List ℕ → Option (List X × List ℕ)
