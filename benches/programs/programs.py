@@ -95,7 +95,7 @@ def pair(chance, free, near):
             [load, on, i_type(chance.getrandbits(12), one, 0, chance.choice([one, other]), 0x13)],
             [on, r_type(0, other, to, 4, one, 0x33)],
             [r_type(0, chance.choice([0, other]), DATA, 0, to, 0x33), i_type(chance.choice([0, 4, 2]), chance.choice([to, to, DATA]), 2, other, 0x03)],
-            [i_type(chance.getrandbits(12), one, 0, to, 0x13), i_type(chance.randrange(256), chance.choice([DATA, to]), 4, other, 0x03)],
+            [i_type(chance.choice([0, 4]), DATA, 2, to, 0x03), i_type(chance.choice([0, 4, 2]), chance.choice([DATA, DATA, to]), 2, other, 0x03)],
             [b_type(near(), other, one, 0), i_type(chance.getrandbits(12), one, 0, to, 0x13)],
             [s_type(chance.randrange(256), to, DATA, 0), branch],
         ]
