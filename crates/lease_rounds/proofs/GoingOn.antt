@@ -92,7 +92,16 @@ module _ {M : Type 0} (g : Ghosts M) where
     pub state_after : Hart
     state_after = (whole_in on.leads.filled.machine on.leads.lease).present
 
-    harts_are : d.machine.harts ≡ slice_set b.machine.harts hart state_after
+    -- but for these, it is the lease's
+    pub after_rung : state_after.rung ≡ on.leads.lease.present.rung
+    unfolding state_after
+    after_rung = refl
+
+    pub after_count : state_after.count ≡ on.leads.lease.present.count
+    unfolding state_after
+    after_count = refl
+
+    pub harts_are : d.machine.harts ≡ slice_set b.machine.harts hart state_after
     unfolding state_after
     harts_are =
         ap (λ (m : MachineState). m.harts) on.leads.back.machine

@@ -78,7 +78,7 @@ module _ (r : RecordingView) (hart : ℕ) (now : ℕ → ℕ) (new : RecordingVi
 
 -- ---- its lease comes back
 
-cleared : (due : List DueView) (hart : ℕ) → due_at (slice_set due hart nothing_due) hart ≡ nothing_due
+pub cleared : (due : List DueView) (hart : ℕ) → due_at (slice_set due hart nothing_due) hart ≡ nothing_due
 cleared [] hart = refl
 cleared (d ∷ due) zero = refl
 cleared (d ∷ due) (suc hart) = cleared due hart

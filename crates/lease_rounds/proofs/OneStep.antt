@@ -1,10 +1,11 @@
 -- One step: a lease whose stop is one above its hart's count.
-use Rattle.std.proofs.Common.{◌≡◌, ℕ, zero, suc, ◌+◌, ◌<◌, ◌≤◌, List, [], ◌∷◌, ◌++◌, map, length, nat_lt, slice_get, slice_set, Option, None, Some, Bool, true, false}
+use Rattle.std.proofs.Common.{◌≡◌, ◌≢◌, ℕ, zero, suc, ◌+◌, ◌-◌, ◌<◌, ◌≤◌, List, [], ◌∷◌, ◌++◌, map, drop, replicate, length, nat_lt, slice_get, slice_index}
+use Rattle.std.proofs.Common.{slice_set, Option, None, Some, Bool, true, false}
 use Rattle.std.proofs.Common.{Result, Ok, Err, refl, sym, ap, subst, ◌∙◌, inl, inr, arith, if◌then◌else◌}
 use Rattle.std.proofs.lemmas.Grind.{common_steps}
 use Rattle.std.specs.Result.{IfOk, OnErr}
 use Rattle.std.proofs.lemmas.Bool.{cases_lt}
-use Rattle.std.proofs.lemmas.List.{get_or-set_same}
+use Rattle.std.proofs.lemmas.List.{get_or-set_same, get_or-set_other}
 use Rattle.interleaving.specs.Lists.{put}
 use Rattle.interleaving.proofs.Put.{put_same}
 use Rattle.crew_pages.specs.declared.right.PageRight.{PageRight}
@@ -12,31 +13,36 @@ use Rattle.crew_pages.specs.Rights.{Right, Shared, Exclusive, give_up, holds, no
 use Rattle.lease_ledger.specs.Calls.{kept, Nothing}
 use Rattle.rv32_hart.specs.Hart.{Hart}
 use Rattle.ft_types.specs.Counts.{count_at}
+use Rattle.ft_types.specs.declared.names.TheConstants.{INPUT_LIMIT}
 use Rattle.ft_types.specs.declared.errors.Memory.{Memory}
 use Rattle.guest_image.specs.Machine.{MachineState}
 use Rattle.hart_lease.specs.declared.stretch.Stretch.{Stretch}
-use Rattle.hart_lease.specs.Leases.{LeaseView}
+use Rattle.hart_lease.specs.Leases.{LeaseView, bells_rung}
 use Rattle.hart_lease.specs.Runs.{added, counts_of, steps_taken}
 use Rattle.hart_lease.proofs.steps.LackedRights.{step_counts}
+use Rattle.hart_lease.proofs.journals.GoingOn.{get-set_here}
 use Rattle.book_modes.specs.declared.keep.Keep.TheVariants as told
 use Rattle.input_log.specs.declared.Input.{Input}
 use Rattle.input_log.specs.declared.offered.Offer.{Offer}
 use Rattle.input_log.specs.Inputs.{inputs_of}
 use Rattle.input_log.specs.Offers.{AreKept}
-use Rattle.input_log.specs.Waiting.{bells_of, others_of, going}
+use Rattle.input_log.specs.Waiting.{bells_of, others_of, going, others_staying, room_beside}
 use Rattle.book_modes.specs.Dues.{DueView, nothing_due, due_at, due_from, is_silent}
-use Rattle.book_modes.specs.Recordings.{RecordingView, IsFilled, LogsInputs, offers_at, right_at, right_stored}
+use Rattle.book_modes.specs.Recordings.{RecordingView, IsFilled, LogsInputs, due_after, offers_at, right_at, right_stored}
+use Rattle.book_modes.specs.Silences.{rung_by, bell_from}
 use Rattle.page_book.specs.Books.{BookView}
 use Rattle.page_book.specs.Tellings.{TellsOn}
 use Rattle.page_book.proofs.Tellings.{notes_kept, tells_the_same}
 use Rattle.lease_rounds.specs.Leading.{IsIdle, IsHeld, GoesOn, GivesUp, Goes, HasNotGone}
 use Rattle.lease_rounds.proofs.Filling.{HasFilled, has_filled}
 use Rattle.lease_rounds.proofs.Lending.{hart_at}
-use Rattle.lease_rounds.proofs.GoingOn.{HasGoneOn, count_is, from, stop, went_far, has_gone_on, lease_filled, own, harts_stay}
+use Rattle.lease_rounds.proofs.GoingOn.{HasGoneOn, count_is, from, stop, went_far, has_gone_on, lease_filled, own, harts_stay, harts_are, state_after}
+use Rattle.lease_rounds.proofs.GoingOn.{after_rung, after_count}
 use Rattle.lease_rounds.specs.Running.{KeepsOffered, offers, recording}
 use Rattle.lease_rounds.proofs.Leasing.{KeepsRest, ahead, continues, filled_keeps, keeps_rest, notes, offered}
-use Rattle.lease_rounds.proofs.Offered.{filled_offered, offered_itself}
-use Rattle.lease_rounds.specs.Steps.{AreWithin, inputs_next, IsGiven, HasStepped, HoldsNothing, IsUnmoved, Runs}
+use Rattle.lease_rounds.proofs.Offered.{cleared, filled_offered, offered_itself}
+use Rattle.lease_rounds.specs.Steps.{AreWithin, inputs_next, bells_left, others_left, bells_between, IsGiven, IsDue, Waits, HasStepped, HoldsNothing, IsUnmoved}
+use Rattle.lease_rounds.specs.Steps.{Runs}
 
 -- ---- a book that has not moved
 
@@ -134,6 +140,39 @@ filled_due r hart count new true is t =
     ∙ ap (λ (d : DueView). d.inputs)
     (get_or-set_same r.due hart (due_from hart count (bells_of r.desk hart) (others_of r.desk hart)) nothing_due t.row)
     ∙ sym (ap (λ (b : Bool). if b then going count (bells_of r.desk hart) (others_of r.desk hart) else (due_at r.due hart).inputs) is)
+
+-- what a hart that is lent at this count leaves of what is due to others and of what waits
+record Leaves (r : RecordingView) (hart count : ℕ) (new : RecordingView) : Type 0 where
+  due : (other : ℕ) → other ≢ hart → due_at new.due other ≡ due_at r.due other
+  bells : bells_of new.desk hart ≡ bells_left r hart
+  others : others_of new.desk hart ≡ others_left r hart count
+  bells_of_others : (other : ℕ) → other ≢ hart → bells_of new.desk other ≡ bells_of r.desk other
+  others_of_others : (other : ℕ) → other ≢ hart → others_of new.desk other ≡ others_of r.desk other
+
+filled_leaves : (r : RecordingView) (hart count : ℕ) (new : RecordingView) (silent : Bool) → is_silent (due_at r.due hart).inputs ≡ silent →
+    IsFilled silent r hart count new → Leaves r hart count new
+filled_leaves r hart count new false is same =
+    subst (Leaves r hart count) (sym same)
+    (record {
+      due = λ other ne. refl;
+      bells = sym (ap (λ (b : Bool). if b then drop INPUT_LIMIT (bells_of r.desk hart) else bells_of r.desk hart) is);
+      others = sym
+          (ap (λ (b : Bool). if b then others_staying count (room_beside (bells_of r.desk hart)) (others_of r.desk hart) else others_of r.desk hart) is);
+      bells_of_others = λ other ne. refl;
+      others_of_others = λ other ne. refl;
+    })
+filled_leaves r hart count new true is t =
+    record {
+      due = λ other ne.
+          ap (λ (ds : List DueView). due_at ds other) t.due
+          ∙ get_or-set_other r.due hart other (due_from hart count (bells_of r.desk hart) (others_of r.desk hart)) nothing_due ne;
+      bells = t.bells ∙ sym (ap (λ (b : Bool). if b then drop INPUT_LIMIT (bells_of r.desk hart) else bells_of r.desk hart) is);
+      others = t.others
+          ∙ sym
+          (ap (λ (b : Bool). if b then others_staying count (room_beside (bells_of r.desk hart)) (others_of r.desk hart) else others_of r.desk hart) is);
+      bells_of_others = t.bells_of_others;
+      others_of_others = t.others_of_others;
+    }
 
 -- ---- rights
 
@@ -256,6 +295,65 @@ module _ (hart : ℕ) (b : BookView RecordingView) (once : List ℕ) (d : BookVi
               added.others other (λ e. ne (e ∙ own_hart)) ∙ ap (λ (log : List (List (ℕ × Input))). inputs_of log other) was;
         }
 
+    -- what the lease was given of the desk, and to whom anything is due
+    lent_waits : Leaves b.mode hart (counts_of b.machine hart) on.leads.filled.mode
+    lent_waits =
+        let rest : KeepsRest on.opened on.leads.filled = keeps_rest on.opened on.lease on.leads.filled on.leads.lease on.leads.fills in
+        let left = filled_leaves low.mode hart (counts_of b.machine hart) on.opened.mode (is_silent (due_at b.mode.due hart).inputs) refl on.lends.mode.filled in
+        subst (Leaves b.mode hart (counts_of b.machine hart)) (sym rest.mode)
+        (record {
+          due = left.due;
+          bells = left.bells;
+          others = left.others;
+          bells_of_others = left.bells_of_others;
+          others_of_others = left.others_of_others;
+        })
+
+    own_hart : on.leads.lease.hart ≡ hart
+    own_hart = (lease_filled recording told.Nothing hart low d on).hart ∙ own recording told.Nothing hart low d on
+
+    -- what the lease rang, its hart rang
+    rang : (target : ℕ) → bells_rung on.leads.lease target ≡ bells_between b.machine d.machine hart target
+    rang target =
+        let after : Hart = state_after recording told.Nothing hart low d on in
+        let there : slice_get d.machine.harts hart ≡ Some after =
+        ap (λ (hs : List Hart). slice_get hs hart) (harts_are recording told.Nothing hart low d on) ∙ get-set_here b.machine.harts hart after on.lends.state on.lends.there in
+        let now : rung_by (slice_get d.machine.harts hart) target ≡ slice_index on.leads.lease.present.rung target =
+        ap (λ (o : Option Hart). rung_by o target) there
+        ∙ ap (λ (row : List ℕ). slice_index row target) (after_rung recording told.Nothing hart low d on) in
+        let was : rung_by (slice_get b.machine.harts hart) target ≡ slice_index on.leads.lease.base.rung target =
+        ap (λ (o : Option Hart). rung_by o target) on.lends.there
+        ∙ sym
+        (ap (λ (h : Hart). slice_index h.rung target) (lease_filled recording told.Nothing hart low d on).base
+        ∙ ap (λ (x : LeaseView). slice_index x.base.rung target) on.lends.lent) in
+        let count : counts_of d.machine hart ≡ on.leads.lease.present.count =
+        ap steps_taken there ∙ after_count recording told.Nothing hart low d on in
+        λ i. replicate (sym now i - sym was i) (bell_from (own_hart i) (sym count i))
+
+    is_due : IsDue hart b d
+    is_due =
+        let due : d.mode.due ≡ slice_set on.leads.filled.mode.due hart nothing_due =
+        on.leads.back.mode.due
+        ∙ ap (λ (n : ℕ). due_after n on.leads.filled.mode.due on.leads.lease.hart) steps_one
+        ∙ ap (λ (h : ℕ). slice_set on.leads.filled.mode.due h nothing_due) own_hart in
+        record {
+          own = ap (λ (ds : List DueView). due_at ds hart) due ∙ cleared on.leads.filled.mode.due hart;
+          others = λ other ne.
+              ap (λ (ds : List DueView). due_at ds other) due
+              ∙ get_or-set_other on.leads.filled.mode.due hart other nothing_due nothing_due ne
+              ∙ lent_waits.due other ne;
+        }
+
+    waits : Waits hart b d
+    waits =
+        let rung = on.leads.back.mode.desk in
+        record {
+          bells = rung.bells hart ∙ (λ i. lent_waits.bells i ++ rang hart i);
+          others = rung.others hart ∙ lent_waits.others;
+          bells_of_others = λ other ne. rung.bells other ∙ (λ i. lent_waits.bells_of_others other ne i ++ rang other i);
+          others_of_others = λ other ne. rung.others other ∙ lent_waits.others_of_others other ne;
+        }
+
     has_stepped : (limits : List ℕ) → limits ≡ b.mode.limits → HasStepped hart b (limited d limits)
     has_stepped limits same =
         let p = continues told.Nothing hart low d on gone.start in
@@ -267,6 +365,14 @@ module _ (hart : ℕ) (b : BookView RecordingView) (once : List ℕ) (d : BookVi
           notes = notes told.Nothing hart low d on;
           limits = same;
           given = record { own = is_given.own; others = is_given.others };
+          due = record { own = is_due.own; others = is_due.others };
+          desk =
+              record {
+                bells = waits.bells;
+                others = waits.others;
+                bells_of_others = waits.bells_of_others;
+                others_of_others = waits.others_of_others;
+              };
           offered = offered told.Nothing hart low d on (λ other. (counts_go other).0);
         }
 

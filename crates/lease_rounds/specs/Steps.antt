@@ -1,13 +1,18 @@
 -- One step of a primary's hart.
-use Rattle.std.specs.Prelude.{◌≡◌, ◌≢◌, ◌≤◌, ◌++◌, ℕ, List, map, slice_get, false, Option, None, Some, if◌then◌else◌}
+use Rattle.std.specs.Prelude.{◌≡◌, ◌≢◌, ◌≤◌, ◌-◌, ◌++◌, ℕ, List, map, drop, replicate, slice_get, false, Option, None, Some, if◌then◌else◌}
 use Rattle.rv32_hart.specs.Hart.{Hart}
+use Rattle.guest_image.specs.Machine.{MachineState}
 use Rattle.ft_types.specs.Counts.{count_at}
+use Rattle.ft_types.specs.declared.names.TheConstants.{INPUT_LIMIT}
 use Rattle.hart_lease.specs.Runs.{added, counts_of}
 use Rattle.crew_pages.specs.Rights.{holds}
 use Rattle.input_log.specs.declared.Input.{Input}
+use Rattle.input_log.specs.declared.WaitingBell.{WaitingBell}
+use Rattle.input_log.specs.declared.WaitingInput.{WaitingInput}
 use Rattle.input_log.specs.Inputs.{inputs_of}
-use Rattle.input_log.specs.Waiting.{bells_of, others_of, going}
-use Rattle.book_modes.specs.Dues.{due_at, is_silent}
+use Rattle.input_log.specs.Waiting.{bells_of, others_of, going, others_staying, room_beside}
+use Rattle.book_modes.specs.Dues.{due_at, is_silent, nothing_due}
+use Rattle.book_modes.specs.Silences.{rung_by, bell_from}
 use Rattle.book_modes.specs.Recordings.{RecordingView, right_at}
 use Rattle.page_book.specs.Books.{BookView, refusal}
 use Rattle.page_book.specs.declared.answers.BookFault.{BookFault}
@@ -36,6 +41,34 @@ pub record IsGiven (hart : ℕ) (b c : BookView RecordingView) : Type 0 where
       ≡ inputs_of b.mode.inputs hart ++ map (λ input. (counts_of b.machine hart, input)) (inputs_next b.mode hart (counts_of b.machine hart))
   pub others : (other : ℕ) → other ≢ hart → inputs_of c.mode.inputs other ≡ inputs_of b.mode.inputs other
 
+-- what is due then: nothing to the hart, and to each other one what was
+pub record IsDue (hart : ℕ) (b c : BookView RecordingView) : Type 0 where
+  pub own : due_at c.mode.due hart ≡ nothing_due
+  pub others : (other : ℕ) → other ≢ hart → due_at c.mode.due other ≡ due_at b.mode.due other
+
+-- the bells, and the other inputs, that still wait for the hart once its step at this count has what it is given
+abbrev pub bells_left : RecordingView → ℕ → List WaitingBell
+bells_left r hart = if is_silent (due_at r.due hart).inputs then drop INPUT_LIMIT (bells_of r.desk hart) else bells_of r.desk hart
+
+abbrev pub others_left : RecordingView → ℕ → ℕ → List WaitingInput
+others_left r hart count =
+    if is_silent (due_at r.due hart).inputs
+    then others_staying count (room_beside (bells_of r.desk hart)) (others_of r.desk hart)
+    else others_of r.desk hart
+
+-- the bell that the hart rang for the target between these machines, if it rang one
+abbrev pub bells_between : MachineState → MachineState → ℕ → ℕ → List WaitingBell
+bells_between m n hart target =
+    replicate (rung_by (slice_get n.harts hart) target - rung_by (slice_get m.harts hart) target) (bell_from hart (counts_of n hart))
+
+-- what waits then: what was there, less what the hart was given, and behind it the bell that the hart rang
+pub record Waits (hart : ℕ) (b c : BookView RecordingView) : Type 0 where
+  pub bells : bells_of c.mode.desk hart ≡ bells_left b.mode hart ++ bells_between b.machine c.machine hart hart
+  pub others : others_of c.mode.desk hart ≡ others_left b.mode hart (counts_of b.machine hart)
+  pub bells_of_others : (other : ℕ) → other ≢ hart →
+      bells_of c.mode.desk other ≡ bells_of b.mode.desk other ++ bells_between b.machine c.machine hart other
+  pub others_of_others : (other : ℕ) → other ≢ hart → others_of c.mode.desk other ≡ others_of b.mode.desk other
+
 -- the hart took one step, which is settled: the second book goes on from the first
 pub record HasStepped (hart : ℕ) (b c : BookView RecordingView) : Type 0 where
   pub idle : IsIdle c
@@ -45,6 +78,8 @@ pub record HasStepped (hart : ℕ) (b c : BookView RecordingView) : Type 0 where
   pub notes : c.mode.notes ≡ b.mode.notes
   pub limits : c.mode.limits ≡ b.mode.limits
   pub given : IsGiven hart b c
+  pub due : IsDue hart b c
+  pub desk : Waits hart b c
   pub offered : KeepsOffered b c
 
 -- the hart has no right to any page
