@@ -73,8 +73,8 @@ module _ (v : WorldView) (is : IsWorld v) where
         subst (λ (q : RunningView). IsWorld (record v { running = slice_set v.running n q; released = now })) (sym same)
         (record {
           parts =
-              with_running v is.parts n r (record r { gate = g }) v.sent now at (ap (λ (x : TermGateView). x.gate.keepers) (sym gates ∙ goes.gate))
-              (ap (λ (x : TermGateView). x.gate.need) (sym gates ∙ goes.gate)) refl (offered (rising v is.tied n r at (is.parts.led n r at))) (is.parts.led n r at);
+              with_running v is.parts n r (record r { gate = g }) v.sent now at (ap (λ (x : TermGateView). x.gate.keepers) (sym gates ∙ goes.lets.gate))
+              (ap (λ (x : TermGateView). x.gate.need) (sym gates ∙ goes.lets.gate)) refl (offered (rising v is.tied n r at (is.parts.led n r at))) (is.parts.led n r at);
           tied =
               subst (λ (x : TermGateView). IsTied (record v { running = slice_set v.running n (record r { gate = x }); released = now })) gates
               (lets_go v is.tied n r at (is.parts.led n r at) s now (is.parts.keepers_of n r at) (is.parts.need_of n r at) goes);

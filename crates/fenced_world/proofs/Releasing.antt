@@ -133,9 +133,9 @@ module _ (v : WorldView) (is : IsTied v) (n : ℕ) (r : RunningView) (at : slice
   pub lets_go : (s : RunningView) (now : List Released) → r.gate.gate.keepers ≡ v.keepers → r.gate.gate.need ≡ v.need → LetsGo r v.released s now →
       IsTied (record v { running = slice_set v.running n (record r { gate = s.gate }); released = now })
   lets_go s now keepers need goes =
-      released (held_outputs r.gate.gate.need s.gate.gate.noted goes.offered.gate.lines) s.gate now (ap (λ (g : TermGateView). g.acked) goes.gate)
-      (goes.out ∙ ap (λ os. v.released ++ released_in r.primary.opening.term os) goes.held)
-      (subst (λ k. Each (IsGoing k v.need r.gate r.primary.book.machine) (held_outputs r.gate.gate.need s.gate.gate.noted goes.offered.gate.lines)) keepers
-      (subst (λ m. Each (IsGoing r.gate.gate.keepers m r.gate r.primary.book.machine) (held_outputs r.gate.gate.need s.gate.gate.noted goes.offered.gate.lines)) need
-      (going r.gate.gate.need r.gate goes.offered.gate s.gate.gate.noted r.primary.book.machine goes.acked
-      (all_stay goes.offered.gate r.primary.book.machine goes.all))))
+      released (held_outputs r.gate.gate.need s.gate.gate.noted goes.lets.offered.gate.lines) s.gate now (ap (λ (g : TermGateView). g.acked) goes.lets.gate)
+      (goes.lets.out ∙ ap (λ os. v.released ++ released_in r.primary.opening.term os) goes.lets.held)
+      (subst (λ k. Each (IsGoing k v.need r.gate r.primary.book.machine) (held_outputs r.gate.gate.need s.gate.gate.noted goes.lets.offered.gate.lines)) keepers
+      (subst (λ m. Each (IsGoing r.gate.gate.keepers m r.gate r.primary.book.machine) (held_outputs r.gate.gate.need s.gate.gate.noted goes.lets.offered.gate.lines)) need
+      (going r.gate.gate.need r.gate goes.lets.offered.gate s.gate.gate.noted r.primary.book.machine goes.lets.acked
+      (all_stay goes.lets.offered.gate r.primary.book.machine goes.lets.all))))
