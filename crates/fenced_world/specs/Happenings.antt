@@ -1,5 +1,5 @@
 -- What each event does to the world.
-use Rattle.std.specs.Prelude.{ℕ, ◌≡◌, ◌≢◌, ◌<◌, ◌≤◌, ◌⊎◌, ◌++◌, ◌∷◌, [], List, false, length, slice_get, slice_set, Some, None, All, IsSome}
+use Rattle.std.specs.Prelude.{ℕ, ◌≡◌, ◌≢◌, ◌<◌, ◌≤◌, ◌⊎◌, ◌++◌, ◌∷◌, [], List, false, length, slice_get, slice_set, Some, None, All, Contains, IsSome}
 use Rattle.input_log.specs.declared.Input.{Input}
 use Rattle.input_log.specs.Inputs.{is_bell}
 use Rattle.ft_types.specs.declared.position.Position.{Position}
@@ -177,11 +177,12 @@ pub record HasAcknowledged (v : WorldView) (keeper : ℕ) (w : WorldView) : Type
 
 -- ---- a grant
 
--- fences may have been raised to the term, and nothing else is changed
-pub record HasRaised (v : WorldView) (term : ℕ) (w : WorldView) : Type 0 where
+-- fences of the named keepers that were not above the term may have been raised to it, and nothing else is changed
+pub record HasRaised (v : WorldView) (term : ℕ) (named : List ℕ) (w : WorldView) : Type 0 where
   pub many : length w.held ≡ length v.held
   pub lost : (k : ℕ) → kept_at v.held k ≡ None → kept_at w.held k ≡ None
-  pub each : (k : ℕ) (x : KeptView) → kept_at v.held k ≡ Some x → (y : KeptView) × (kept_at w.held k ≡ Some y) × MayRaise term x y
+  pub each : (k : ℕ) (x : KeptView) → kept_at v.held k ≡ Some x →
+      (y : KeptView) × (kept_at w.held k ≡ Some y) × ((y ≡ x) ⊎ (Contains named k × (x.fence ≤ term) × MayRaise term x y))
   pub rest : w ≡ record v { held = w.held }
 
 -- the fences of the named keepers were raised to the term, and its primary went live from what these gave
@@ -189,7 +190,7 @@ pub record Grants (v : WorldView) (term : ℕ) (named : List ℕ) (w : WorldView
   pub there : All (λ k. kept_at v.held k ≢ None) named
   pub new : IsNotGranted v term
   pub between : WorldView
-  pub raised : HasRaised v term between
+  pub raised : HasRaised v term named between
   pub first : RunningView
   pub live : GoesLiveFrom between term named first
   pub rest : w ≡ record between { running = v.running ++ first ∷ []; sent = v.sent ++ Opening first.primary.opening ∷ [] }

@@ -379,7 +379,7 @@ impl FencedWorld {
 
     /// Each of these keepers raises its fence to the term.
     fn raise_all(&mut self, term: Term, keepers: &[u64]) -> Result<(), Memory>
-        ensures raised { HasRaised self.old term self.new }
+        ensures raised { HasRaised self.old term keepers.now self.new }
         ensures all { OnOk result (All (λ k. IsAtTerm self.new.held term k) keepers.now) }
     {
         for keeper in keepers {
@@ -409,7 +409,7 @@ impl FencedWorld {
     fn grant(&mut self, alloc: Global, term: Term, keepers: &[u64]) -> Result<(), FencedFault>
         ensures happens { OnOk result (Grants self.old term keepers.now self.new) }
         ensures refused { IfErr result (λ f. RefusesGrant self.old term keepers.now f) }
-        ensures left { IfErr result (λ f. IsLeftByGrant self.old term f self.new) }
+        ensures left { IfErr result (λ f. IsLeftByGrant self.old term keepers.now f self.new) }
         ensures image { self.new.image ≡ self.old.image }
     {
         if let Some(fault) = self.why_not_granted(term, keepers) {
