@@ -81,5 +81,7 @@ module _ (v : WorldView) (is : IsTied v) where
         by = held.by;
         enough = held.enough;
         inside = λ k x p below chosen at position.
-            let both = held.inside k x.store p chosen (is.standing k x at).has position in inside out p both.0 both.1;
+            let both = held.inside k x.store p chosen (inl (is.standing k x at).has) position in inside out p both.0 both.1;
+        written = λ k x p below chosen at position.
+            let both = held.inside k x.place.store p chosen (inr (is.standing k x at).wrote) position in inside out p both.0 both.1;
       }

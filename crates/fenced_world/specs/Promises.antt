@@ -38,13 +38,15 @@ abbrev pub IsInside : WorldView → Released → Position → Type 0
 IsInside w r p =
     ((p.term ≡ r.term) ⊎ IsInChain w r.term r.output.hart r.output.step p.term) × (r.output.step < count_at p.counts r.output.hart)
 
--- `need` keepers have the output inside the position of whatever store they have, unless they are
+-- `need` keepers have the output inside the position of whatever store they have, and of what they wrote down, unless they are
 -- lost
 pub record IsHeld (w : WorldView) (r : Released) : Type 0 where
   pub by : ℕ → Bool
   pub enough : w.need ≤ how_many w.keepers by
   pub inside : (keeper : ℕ) (x : KeptView) (p : Position) → keeper < w.keepers → by keeper ≡ true → kept_at w.held keeper ≡ Some x →
       IsPosition x.store p → IsInside w r p
+  pub written : (keeper : ℕ) (x : KeptView) (p : Position) → keeper < w.keepers → by keeper ≡ true → kept_at w.held keeper ≡ Some x →
+      IsPosition x.place.store p → IsInside w r p
 
 -- what went out has one step and word for each hart and number, over all terms
 abbrev pub IsOne : WorldView → Type 0
