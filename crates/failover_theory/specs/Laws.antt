@@ -96,7 +96,7 @@ module _ {Book Fact : Type 0} (recorder : Recorder Book Fact) where
   abbrev pub Reaches : Type 0
   Reaches =
       (guest : GuestParts) → IsGuest guest → (boot b : Book) (o : Output) → IsBoot recorder boot → GoesTo recorder boot b →
-      slice_get (recorder.outputs b 0) 0 ≡ Some o → o.step ≡ 0 → 0 < recorder.counts b 0 → ((e : Edge) → Contains (recorder.edges b) e → ⊥) →
+      slice_get (recorder.outputs b 0) 0 ≡ Some o → o.step < recorder.counts b 0 → o.step < 2 ^ 31 → ((e : Edge) → Contains (recorder.edges b) e → ⊥) →
       CanLive recorder →
       (w : World Book) × Comes recorder guest (record { keepers = 1; need = 1 }) w × (w.now ≡ 2) × ((r : Released) × Contains w.released r × (r.output ≡ o))
 
