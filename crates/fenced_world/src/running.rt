@@ -136,6 +136,7 @@ impl Running {
           gate = record self.old.gate { acked = slice_set self.old.gate.acked keeper position.now.counts };
         }) }
         ensures term { OnOk result (position.now.term ≡ self.old.primary.opening.term) }
+        ensures no_lower { OnOk result ((hart : ℕ) → hart < self.old.gate.harts → acked_at self.old.gate keeper hart ≤ slice_index position.now.counts hart) }
         ensures other_term { (result ≡ Err AckFault.OtherTerm) ↔ (position.now.term ≢ self.old.primary.opening.term) }
         ensures lower { IfErr result (λ fault. fault ≡ AckFault.Lower →
             (hart : ℕ) × (slice_index position.now.counts hart < acked_at self.old.gate keeper hart)) }

@@ -1,7 +1,8 @@
-use Rattle.std.proofs.Common.{◌≡◌, length, slice_get, slice_set, Some, Err, OnOk, IfErr, refl, sym, ap, subst, ◌∙◌, arith}
+use Rattle.std.proofs.Common.{◌≡◌, ℕ, ◌<◌, ◌≤◌, length, slice_get, slice_index, slice_set, Some, Err, OnOk, IfErr, refl, sym, ap, subst, ◌∙◌, arith}
 use Rattle.std.proofs.lemmas.Result.{err_from_is_err_and}
 use Rattle.ft_types.specs.Guests.{GuestParts}
 use Rattle.ft_types.specs.declared.position.Position.{Position}
+use Rattle.term_gate.specs.TermGates.{acked_at}
 use Rattle.fenced_world.specs.declared.event.FencedEvent.TheVariants as on
 use Rattle.fenced_world.specs.declared.fault.FencedFault.TheVariants.{Ack}
 use Rattle.fenced_world.specs.Keepers.{KeptView, kept_at}
@@ -149,9 +150,14 @@ returns-clause-happens c =
               there = found.0;
               of_term = found.1;
               after = c.acknowledge.new.self;
-              deed =
-                  b.in-Ok.ensures.acked
-                  ∙ ap (λ k. let q : RunningView = record r { gate = record r.gate { acked = slice_set r.gate.acked k p.counts } } in q) c.new.ensures;
+              deed = record {
+                no_lower =
+                    subst (λ k. (hart : ℕ) → hart < r.gate.harts → acked_at r.gate k hart ≤ slice_index p.counts hart) c.new.ensures
+                    b.in-Ok.ensures.no_lower;
+                rest =
+                    b.in-Ok.ensures.acked
+                    ∙ ap (λ k. let q : RunningView = record r { gate = record r.gate { acked = slice_set r.gate.acked k p.counts } } in q) c.new.ensures;
+              };
               rest = refl;
             };
             rest = refl;
