@@ -154,6 +154,7 @@ impl Running {
         requires offered { AreOffered self.old.gate.gate self.old.primary.book.machine }
         ensures rest { self.new ≡ record self.old { gate = record self.old.gate { gate = self.new.gate.gate } } }
         ensures offered { AreRising self.old.primary.book.machine → AreOffered self.new.gate.gate self.old.primary.book.machine }
+        ensures harts { length self.old.primary.book.machine.harts ≡ self.old.gate.harts }
         ensures goes { OnOk result (LetsGo self.old released.old.items self.new released.new.items) }
         ensures was { OnErr result (IsAsItWas self.old.gate self.new.gate) }
         ensures none { OnErr result (released.new.items ≡ released.old.items) }

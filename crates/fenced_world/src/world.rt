@@ -124,7 +124,7 @@ impl FencedWorld {
 
         // Over all that happened to the world: a hart's output of a number has one step and one word, whatever terms let it out; the
         // machine of each primary of its term or a later one has it; each later term has it inside its chain, and below its base;
-        // and enough keepers hold it.
+        // and enough keepers acknowledged it at the gate of its term, each of which holds it.
         ensures one { IsOne self.now }
         ensures has { IsOfMachines self.now }
         ensures kept { IsKept self.now }

@@ -113,7 +113,7 @@ invariant_of-self c =
     let r : RunningView = c.index_mut.result.now in
     let found = at_found v.running c.as_slice-2.result.now p.term c.in-Some-find.number r c.as_slice-2.ensures.value c.in-Some-find.ensures.some c.index_mut.ensures.value in
     acked_world v c.self.invariant c.in-Some-find.number r found.0 c.args.keeper x p there c.in_ok-position.ensures.ok found.1 c.acknowledge.new.self
-    c.new.result c.new.ensures c.acknowledge.result c.acknowledge.ensures.acked c.acknowledge.ensures.kept
+    c.new.result c.new.ensures c.acknowledge.result c.acknowledge.ensures.acked c.acknowledge.ensures.no_lower c.acknowledge.ensures.kept
 
 pub returns-clause-happens : goal.returns-clause-happens
 returns-clause-happens c =
