@@ -1,5 +1,5 @@
 -- Pieces of a hart's log, in the words of the theory.
-use Rattle.std.proofs.Common.{◌≡◌, inl, inr, ℕ, ◌+◌, ◌<◌, ◌≤◌, Bool, true, false, cond, List, [], ◌∷◌, ◌++◌, length, map, Contains, filter, nat_lt, Some, refl, sym, ap, subst, ◌∙◌, arith, length-append}
+use Rattle.std.proofs.Common.{◌≡◌, inl, inr, ℕ, ◌+◌, ◌<◌, ◌≤◌, ◌&&◌, Bool, true, false, cond, List, [], ◌∷◌, ◌++◌, length, map, Contains, filter, nat_lt, Some, refl, sym, ap, subst, ◌∙◌, arith, length-append}
 use Rattle.log_join.specs.Families.{end_of}
 use Rattle.std.specs.Prelude.{nat_le}
 use Rattle.std.specs.List.{filter_map}
@@ -20,9 +20,13 @@ use Rattle.closed_cut.specs.Position.{edges_of, base_of}
 use Rattle.closed_cut.proofs.Lowerings.{found, contains_map}
 use Rattle.fenced_theory.specs.Recorders.{Recorder}
 use Rattle.failover_theory.specs.Notes.{HasNotes, notes_in}
-use Rattle.fenced_theory.proofs.Apply.{both}
 use Rattle.failover_theory.specs.Worlds.{Quorum, sealed, Seal, Then}
 use Rattle.failover_theory.specs.Sealings.{with_piece, PiecesAreCuts, SealsPieces}
+
+both : (a b : Bool) → (a && b) ≡ true → record { 0 : a ≡ true; 1 : b ≡ true }
+both true true e = (refl, refl)
+both true false e = cc
+both false b e = cc
 
 pub in_filter : {A : Type 0} (P : A → Bool) (xs : List A) (x : A) → Contains (filter P xs) x → record { 0 : Contains xs x; 1 : P x ≡ true }
 in_filter P [] x (k, below, is) = absurd (omega arith)

@@ -15,9 +15,9 @@ use Rattle.fenced_theory.proofs.Giving.{HasStep, has_grows, position_has}
 use Rattle.fenced_theory.proofs.Invariant.{Invariant as FencedInvariant}
 use Rattle.fenced_theory.proofs.Events.{always as always_fenced, failover as fenced_failover}
 use Rattle.failover_theory.specs.Worlds.{World, Comes}
-use Rattle.failover_theory.specs.Laws.{Failover, NeverLower, AckedInside}
+use Rattle.failover_theory.specs.Laws.{beside, Failover, NeverLower, AckedInside}
 use Rattle.failover_theory.proofs.Noting.{AreNoted, keeps_granted}
-use Rattle.failover_theory.proofs.Stopped.{IsFenced, fenced, beside}
+use Rattle.failover_theory.proofs.Stopped.{IsFenced, fenced}
 use Rattle.failover_theory.proofs.Noted.{noted}
 
 -- what is above read of each world
@@ -44,6 +44,7 @@ module _ {Book Fact : Type 0} (recorder : Recorder Book Fact) (guest : GuestPart
       let law = fenced_failover recorder guest quorum (beside w f.keepers) f.comes in
       let n : AreNoted w.terms w.notes w.marks w.released = noted recorder guest quorum c in
       record {
+        keepers = f.keepers;
         fenced = law;
         current = λ r p has is. let i = v.released r has in law.has r w.now p has is (f.last r.term i.past i.is);
         noted = λ u hart note k has less. n.out u hart note k has less;

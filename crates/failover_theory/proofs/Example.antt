@@ -42,7 +42,7 @@ module _ {Book Fact : Type 0} (recorder : Recorder Book Fact) (guest : GuestPart
   abbrev at : Position
   at = (sample.found recorder guest g).0
 
-  stands : record { 0 : at.term ≡ 1; 1 : 0 < count_at at.counts 0 }
+  stands : record { 0 : at.term ≡ 1; 1 : g.output.step < count_at at.counts 0 }
   stands = sample.stands recorder guest g
 
   abbrev w1 : World Book
@@ -81,10 +81,7 @@ module _ {Book Fact : Type 0} (recorder : Recorder Book Fact) (guest : GuestPart
   w6 = record w5 { released = released ∷ [] }
 
   enough : 1 ≤ how_many 1 (λ keeper. nat_lt g.output.step (w5.acked keeper 0))
-  enough =
-      let zero : g.output.step ≡ 0 = g.at_0 in
-      let less : g.output.step < count_at at.counts 0 = let a : 0 < count_at at.counts 0 = stands.1 in omega arith in
-      rw (lt-ltb g.output.step (count_at at.counts 0) less) (omega arith)
+  enough = rw (lt-ltb g.output.step (count_at at.counts 0) stands.1) (omega arith)
 
   abbrev w7 : World Book
   w7 = record w6 { runs = false }
@@ -136,7 +133,7 @@ module _ {Book Fact : Type 0} (recorder : Recorder Book Fact) (guest : GuestPart
   reached = (w8, comes8, refl, (released, here released [], refl))
 
 pub reaches : {Book Fact : Type 0} (recorder : Recorder Book Fact) → Reaches recorder
-reaches recorder guest rules boot b o boots goes out at_0 one no_edges lives =
+reaches recorder guest rules boot b o boots goes out inside early no_edges lives =
     reached recorder guest
     (record {
       rules = rules;
@@ -146,8 +143,8 @@ reaches recorder guest rules boot b o boots goes out at_0 one no_edges lives =
       boots = boots;
       goes = goes;
       out = out;
-      at_0 = at_0;
-      one = one;
+      early = early;
+      inside = inside;
       no_edges = no_edges;
       lives = lives;
     })

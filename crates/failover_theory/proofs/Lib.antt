@@ -4,5 +4,4 @@ pub mod Stopped
 pub mod Noted
 pub mod Events
 pub mod Ruled
-pub mod Apply
 pub mod Example

@@ -23,8 +23,9 @@ use Rattle.fenced_theory.proofs.Invariant.{Invariant}
 use Rattle.fenced_theory.proofs.Events.{always}
 use Rattle.failover_theory.specs.Notes.{HasNotes, IsMark}
 use Rattle.failover_theory.specs.Worlds.{World, WentOut, Happens, Idle, Step, Seal, Deliver, Join, Acknowledge, Release, Note, Stop, Lose, Grant, Comes, Begins, Then}
+use Rattle.failover_theory.specs.Laws.{beside}
 use Rattle.failover_theory.proofs.Noting.{AreNoted, noted_put, keeps_granted, noted_releases, noted_more, told_in, told_out}
-use Rattle.failover_theory.proofs.Stopped.{IsFenced, fenced, beside}
+use Rattle.failover_theory.proofs.Stopped.{IsFenced, fenced}
 
 module _ {Book Fact : Type 0} (recorder : Recorder Book Fact) (terms : ℕ → Option (Past Book)) (family : IsFamily recorder terms) (s : StoreView)
     (honest : HonestStore terms s) where

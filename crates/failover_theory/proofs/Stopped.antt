@@ -16,27 +16,7 @@ use Rattle.fenced_theory.proofs.Onward.{put_cases}
 use Rattle.fenced_theory.proofs.Acking.{raised, raised_keeps, raised_reaches}
 use Rattle.fenced_theory.proofs.Events.{always}
 use Rattle.failover_theory.specs.Worlds.{World, Happens, Idle, Step, Seal, Deliver, Join, Acknowledge, Release, Note, Stop, Lose, Grant, Comes, Begins, Then}
-use Rattle.failover_theory.specs.Laws.{StoppingIsFenced}
-
--- what keepers have beside a world whose primaries stop
-pub record Keepers : Type 0 where
-  pub saved : ℕ → Option StoreView
-  pub fence : ℕ → ℕ
-  pub given : ℕ → ℕ → Option StoreView
-  pub acked : ℕ → ℕ → ℕ → ℕ
-
-abbrev pub beside : {Book : Type 0} → World Book → Keepers → fences.World Book
-beside w k =
-    record {
-      terms = w.terms;
-      sent = w.sent;
-      stores = w.stores;
-      saved = k.saved;
-      fence = k.fence;
-      given = k.given;
-      acked = k.acked;
-      released = w.released;
-    }
+use Rattle.failover_theory.specs.Laws.{Keepers, beside, StoppingIsFenced}
 
 -- a term above all that were granted is new to each store
 pub new_above : {Book : Type 0} (terms : ℕ → Option (Past Book)) (now : ℕ) → ((term : ℕ) (p : Past Book) → terms term ≡ Some p → term ≤ now) →

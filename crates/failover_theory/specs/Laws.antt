@@ -1,5 +1,5 @@
 -- The theorems of worlds whose primaries stop, and that each of these worlds is one with fences.
-use Rattle.std.specs.Prelude.{ℕ, ◌≡◌, ◌<◌, ◌≤◌, ◌^◌, Bool, true, Contains, Some}
+use Rattle.std.specs.Prelude.{ℕ, ◌≡◌, ◌<◌, ◌≤◌, ◌^◌, Bool, true, Contains, Option, Some}
 use Rattle.log_join.specs.Families.{Past}
 use Rattle.std.specs.Prelude.{slice_get}
 use Rattle.ft_types.specs.Counts.{count_at}
@@ -23,10 +23,33 @@ pub record CanGo {Book : Type 0} (quorum : Quorum) (guest : GuestParts) (w : Wor
   pub is : IsPosition all position
   pub opening : (u : ℕ) → w.now < u → u < 2 ^ 32 → IsOpening (new_opening guest u position)
 
+-- what keepers with fences have more
+pub record Keepers : Type 0 where
+  pub saved : ℕ → Option StoreView
+  pub fence : ℕ → ℕ
+  pub given : ℕ → ℕ → Option StoreView
+  pub acked : ℕ → ℕ → ℕ → ℕ
+
+-- the world with fences that has the same terms, frames, stores and outputs
+abbrev pub beside : {Book : Type 0} → World Book → Keepers → fences.World Book
+beside w k =
+    record {
+      terms = w.terms;
+      sent = w.sent;
+      stores = w.stores;
+      saved = k.saved;
+      fence = k.fence;
+      given = k.given;
+      acked = k.acked;
+      released = w.released;
+    }
+
 module _ {Book Fact : Type 0} (recorder : Recorder Book Fact) where
   pub record IsFailover (quorum : Quorum) (w : World Book) : Type 0 where
-    -- frames and stores are honest; what was released is held, has one step and word for its hart and number, and each greater term keeps it
-    pub fenced : IsFencedFailover recorder quorum w.terms w.sent w.stores w.released
+    -- in the world with fences beside it frames and stores are honest; what was released is held, has one step and word for its hart and
+    -- number, and each greater term keeps it
+    pub keepers : Keepers
+    pub fenced : IsFencedFailover recorder quorum (beside w keepers)
     -- what was released is of the machine of the term granted last
     pub current : (r : Released) (p : Past Book) → Contains w.released r → w.terms w.now ≡ Some p →
         slice_get (recorder.outputs p.told r.hart) r.number ≡ Some r.output
@@ -73,7 +96,7 @@ module _ {Book Fact : Type 0} (recorder : Recorder Book Fact) where
   abbrev pub Reaches : Type 0
   Reaches =
       (guest : GuestParts) → IsGuest guest → (boot b : Book) (o : Output) → IsBoot recorder boot → GoesTo recorder boot b →
-      slice_get (recorder.outputs b 0) 0 ≡ Some o → o.step ≡ 0 → 0 < recorder.counts b 0 → ((e : Edge) → Contains (recorder.edges b) e → ⊥) →
+      slice_get (recorder.outputs b 0) 0 ≡ Some o → o.step < recorder.counts b 0 → o.step < 2 ^ 31 → ((e : Edge) → Contains (recorder.edges b) e → ⊥) →
       CanLive recorder →
       (w : World Book) × Comes recorder guest (record { keepers = 1; need = 1 }) w × (w.now ≡ 2) × ((r : Released) × Contains w.released r × (r.output ≡ o))
 

@@ -5,13 +5,11 @@ ghost use Rattle.ft_types.specs.Guests.{GuestParts};
 ghost use Rattle.fenced_theory.specs.Recorders.{Recorder};
 ghost use Rattle.failover_theory.specs.Worlds.{Quorum};
 ghost use Rattle.failover_theory.specs.Laws.{Failover, NeverLower, AckedInside, StoresAreRight, CanGrant, Reaches, StoppingIsFenced};
-ghost use Rattle.failover_theory.specs.Happenings.{AfterEvents};
 ghost use Rattle.failover_theory.specs.Sealings.{PiecesAreCuts, SealsPieces};
 
 /// Whatever is lost, late or repeated, no released output is lost or changed by a failover.
-pub fn failover<Book, Fact, Input>()
+pub fn failover<Book, Fact>()
     ensures kept { (recorder : Recorder Book Fact) (guest : GuestParts) (quorum : Quorum) → Failover recorder guest quorum }
-    ensures events { (recorder : Recorder Book Fact) (guest : GuestParts) (quorum : Quorum) → AfterEvents recorder guest Input quorum }
     ensures never_lower { (recorder : Recorder Book Fact) (guest : GuestParts) (quorum : Quorum) → NeverLower recorder guest quorum }
     ensures acked_inside { (recorder : Recorder Book Fact) (guest : GuestParts) (quorum : Quorum) → AckedInside recorder guest quorum }
     ensures stores { (recorder : Recorder Book Fact) (guest : GuestParts) (quorum : Quorum) → StoresAreRight recorder guest quorum }

@@ -67,6 +67,7 @@ module _ (v : WorldView) (p : Primary) (g : TermGateView) (now : List Released) 
           offered = goes.offered;
           more = goes.more;
           all = goes.all;
+          passed = goes.passed;
           acked = goes.acked;
           lines = λ hart less. lines hart;
           gate = goes.gate;

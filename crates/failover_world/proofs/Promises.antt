@@ -18,7 +18,8 @@ use Rattle.log_join.proofs.Families.{granted_opening}
 use Rattle.book_recorder.specs.TermBooks.{outputs_of}
 use Rattle.fenced_theory.specs.Recorders.{Output as TheoryOutput}
 use Rattle.fenced_theory.specs.Families.{Keeps, Here as IsHere, Above as IsAbove, IsInside}
-use Rattle.failover_theory.specs.Laws.{IsFailover}
+use Rattle.fenced_theory.specs.Laws.{has_acked}
+use Rattle.failover_theory.specs.Laws.{beside, IsFailover}
 use Rattle.failover_theory.specs.Worlds as theory
 use Rattle.failover_theory.proofs.Events.{failover, acked_inside}
 use Rattle.failover_theory.proofs.Ruled.{ruled}
@@ -138,9 +139,9 @@ module _ (v : WorldView) (is : IsTied v) where
     are_held r has =
         let held = laws.fenced.held (theory_released r) (is.went_out r has) in
         record {
-          by = held.by;
+          by = has_acked (beside (theory_world v.image.pages is.are_theory (guest_of v.image) v is.terms is.notes is.marks is.out) laws.keepers) (theory_released r);
           enough = held.enough;
           inside = λ keeper s p below chosen at position.
-              let both = held.inside keeper s p chosen (there_too v.stores keeper s (Some (nothing (guest_of v.image))) at) position in
+              let both = held.inside keeper s p chosen (inl (there_too v.stores keeper s (Some (nothing (guest_of v.image))) at)) position in
               inside r p both.0 both.1;
         }

@@ -1,7 +1,7 @@
 -- What going live gives, and why it is refused, in the world.
 use Rattle.std.proofs.Common.{◌≡◌, ◌≢◌, ◌⊎◌, inl, inr, ℕ, ◌+◌, ◌-◌, ◌<◌, ◌≤◌, true, false, List, [], ◌∷◌, ◌++◌, length, map, replicate, take, refl, sym, ap, subst, ◌∙◌, arith}
 use Rattle.std.specs.Prelude.{All}
-use Rattle.std.specs.List.{Any}
+use Rattle.std.specs.List.{Any, AllByRecursion}
 use Rattle.std.proofs.lemmas.List.{length-replicate}
 use Rattle.ft_types.specs.Counts.{count_at}
 use Rattle.guest_image.specs.Image.{ImageContents, guest_of}
@@ -10,6 +10,7 @@ use Rattle.hart_lease.specs.Runs.{counts_of}
 use Rattle.fragment_codec.specs.declared.frame.Frame.{Frame}
 use Rattle.fragment_codec.specs.declared.frame.Frame.TheVariants.{Opening}
 use Rattle.ft_types.specs.Guests.{IsGuest}
+use Rattle.ft_types.specs.declared.output.Output.{Output}
 use Rattle.fragment_codec.specs.Rules.{OpeningParts, IsOpening}
 use Rattle.log_join.specs.Stores.{StoreView}
 use Rattle.page_book.specs.Books.{BookView}
@@ -17,7 +18,8 @@ use Rattle.book_modes.specs.Recordings.{RecordingView, IsUnused}
 use Rattle.hart_replay.specs.Images.{GuestHistory}
 use Rattle.hart_replay.specs.Primaries.{IsPrimary}
 use Rattle.hart_replay.specs.declared.fault.ReplayFault.TheVariants.{OtherGuest}
-use Rattle.output_gate.specs.Gates.{LineView, GateView, fresh_line, offered_in, noted_at, line_of, offered_of}
+use Rattle.output_gate.specs.Gates.{LineView, GateView, fresh_line, offered_in, noted_at, line_of, mark_at, offered_of}
+use Rattle.output_gate.specs.Orders.{ArePassedBelow}
 use Rattle.term_gate.specs.TermGates.{TermGateView}
 use Rattle.go_live.specs.declared.fault.LiveFault.{LiveFault}
 use Rattle.go_live.specs.declared.fault.LiveFault.TheVariants.{TooFewStores, TermNotNew, Replay, Memory as NoLive}
@@ -138,10 +140,16 @@ none_offered g m marks none hart =
     let empty : offered_of g hart ≡ [] = ap offered_in (none hart) in
     empty ∙ sym (ap (λ os. take (length os) (numbered hart (said_at m hart))) empty)
 
+-- such a gate passes nothing over
+pub none_passed : (g : GateView) (marks : ℕ → ℕ) → ((hart : ℕ) → line_of g hart ≡ fresh_line (marks hart)) → ArePassedBelow g
+none_passed g marks none hart less =
+    subst (AllByRecursion (λ (o : Output). o.number < mark_at g hart)) (sym (ap (λ (l : LineView). l.passed) (none hart))) tt
+
 pub fresh : (old new : TermGateView) (term keepers need harts : ℕ) (marks : List ℕ) → old.harts ≡ harts → old.gate.term ≡ term → old.gate.keepers ≡ keepers →
     old.gate.need ≡ need → old.acked ≡ replicate keepers (replicate harts 0) → ((keeper hart : ℕ) → noted_at old.gate keeper hart ≡ 0) →
-    ((hart : ℕ) → line_of old.gate hart ≡ fresh_line (count_at marks hart)) → OffersMore old new → IsFresh new term keepers need harts marks
-fresh old new term keepers need harts marks of_harts of_term of_keepers of_need acked noted none more =
+    ((hart : ℕ) → line_of old.gate hart ≡ fresh_line (count_at marks hart)) → OffersMore old new → ArePassedBelow new.gate →
+    IsFresh new term keepers need harts marks
+fresh old new term keepers need harts marks of_harts of_term of_keepers of_need acked noted none more passed =
     record {
       of_harts = ap (λ (g : TermGateView). g.harts) more.rest ∙ of_harts;
       of_term = ap (λ (g : TermGateView). g.gate.term) more.rest ∙ of_term;
@@ -151,6 +159,28 @@ fresh old new term keepers need harts marks of_harts of_term of_keepers of_need 
       noted = λ keeper hart. ap (λ (g : TermGateView). noted_at g.gate keeper hart) more.rest ∙ noted keeper hart;
       gone = λ hart. (more.lines hart).gone ∙ ap (λ (l : LineView). l.gone) (none hart);
       marked = λ hart. (more.lines hart).mark ∙ ap (λ (l : LineView). l.mark) (none hart);
+      passed = passed;
+    }
+
+abbrev no_acks : ℕ → ℕ → List (List ℕ)
+no_acks keepers harts = replicate keepers (replicate harts 0)
+
+-- a gate with no marks to which nothing was offered
+pub unmarked : (g : TermGateView) (keepers need harts n : ℕ) (zero : List ℕ) → n ≡ harts → zero ≡ [] → g.harts ≡ n →
+    (g.gate.term ≡ 1) × (g.gate.keepers ≡ keepers) × (g.gate.need ≡ need) → g.acked ≡ no_acks keepers n →
+    ((keeper hart : ℕ) → noted_at g.gate keeper hart ≡ 0) → ((hart : ℕ) → line_of g.gate hart ≡ fresh_line (count_at zero hart)) →
+    IsFresh g 1 keepers need harts []
+unmarked g keepers need harts n zero same none of_harts parts acked noted lines =
+    record {
+      of_harts = of_harts ∙ same;
+      of_term = parts.0;
+      of_keepers = parts.1;
+      of_need = parts.2;
+      acked = acked ∙ ap (no_acks keepers) same;
+      noted = noted;
+      gone = λ hart. ap (λ (l : LineView). l.gone) (lines hart);
+      marked = λ hart. ap (λ (l : LineView). l.mark) (lines hart) ∙ ap (λ (row : List ℕ). count_at row hart) none;
+      passed = none_passed g.gate (count_at zero) lines;
     }
 
 -- ---- the parts of the new world

@@ -13,6 +13,7 @@ use Rattle.log_join.specs.Stores.{StoreView, IsJoin, alone}
 use Rattle.closed_cut.specs.Position.{IsPosition}
 use Rattle.ft_types.specs.declared.position.Position.{Position}
 use Rattle.output_gate.specs.Gates.{noted_at, mark_at, gone_of, line_of, held_outputs, after_release}
+use Rattle.output_gate.specs.Orders.{ArePassedBelow}
 use Rattle.term_gate.specs.TermGates.{TermGateView, AreAcked}
 use Rattle.go_live.specs.Quorums.{AreEnough, IsNew}
 use Rattle.go_live.specs.Lives.{IsAtPosition}
@@ -82,6 +83,7 @@ pub record Releases (v : WorldView) (w : WorldView) : Type 0 where
   pub offered : TermGateView
   pub more : OffersMore v.gate offered
   pub all : AreAllOffered offered.gate v.primary.book.machine
+  pub passed : ArePassedBelow offered.gate
   pub acked : AreAcked v.gate w.gate.gate.noted
   pub lines : (hart : ℕ) → hart < HART_LIMIT → line_of w.gate.gate hart ≡ after_release v.need w.gate.gate.noted (line_of offered.gate hart)
   pub gate : w.gate ≡ record v.gate { gate = record v.gate.gate { noted = w.gate.gate.noted; lines = w.gate.gate.lines } }
@@ -111,7 +113,8 @@ if_named named keeper (Some store) = if list_any (λ n. n == keeper) named then 
 abbrev pub stores_of : List (Option StoreView) → List ℕ → List (ℕ × StoreView)
 stores_of stores named = flat_map (λ s. if_named named s.0 s.1) (enumerate_from 0 stores)
 
--- no keeper has acknowledged anything, none is noted, and nothing went out; outputs with numbers below the marks will not
+-- no keeper has acknowledged anything, none is noted, and nothing went out; outputs with numbers below the marks will not, and
+-- only such are passed over
 pub record IsFresh (g : TermGateView) (term keepers need harts : ℕ) (marks : List ℕ) : Type 0 where
   pub of_harts : g.harts ≡ harts
   pub of_term : g.gate.term ≡ term
@@ -121,6 +124,7 @@ pub record IsFresh (g : TermGateView) (term keepers need harts : ℕ) (marks : L
   pub noted : (keeper hart : ℕ) → noted_at g.gate keeper hart ≡ 0
   pub gone : (hart : ℕ) → gone_of g.gate hart ≡ []
   pub marked : (hart : ℕ) → mark_at g.gate hart ≡ count_at marks hart
+  pub passed : ArePassedBelow g.gate
 
 -- the primary begins where the stores of these keepers lead to, with its gate, which passes over what is noted there
 pub record GoesLive (v : WorldView) (term : ℕ) (named : List ℕ) (p : Primary) (g : TermGateView) : Type 0 where

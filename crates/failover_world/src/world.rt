@@ -390,6 +390,8 @@ impl World {
         let harts = self.image.harts();
         let mut gate = TermGate::new(alloc, term, harts, self.keepers, self.need, &marks)?;
         offer_all(&mut gate, primary.book.machine())?;
+        // proof: what a gate passes over is below its marks.
+        gate.offered(Hart::new(0));
         Ok((primary, gate))
     }
 

@@ -13,6 +13,7 @@ module _ {Book Fact : Type 0} (recorder : Recorder Book Fact) (guest : GuestPart
         join = λ other theirs joined at is. Join number other store theirs joined s.has at is;
         save = Save number store s.has;
         begin = Restart number written s.wrote;
+        begin_above = λ kept le. (Fence number kept store s.has (subst (λ f. f ≤ kept) (sym s.fenced) le), Restart number written s.wrote);
         give = λ term le. Fence number term store s.has (subst (λ f. f ≤ term) (sym s.fenced) le);
         acknowledged = λ p a. Acknowledge number written p s.wrote a.is (subst (λ f. f ≤ p.term) (sym s.fenced) a.above);
       }

@@ -281,10 +281,10 @@ module _ {Hart Page Input : Type 0} (system : System Hart Page Input) (outs : Ou
       ap (filter (λ o. nat_lt o.step (cut hart))) (sym a.later.is)
       )
 
-  from_low : (b : Book system outs) (cut : ℕ → ℕ) → ((h : ℕ) → b.log.start h ≤ cut h) → (h : ℕ) → counts system b.from h ≤ cut h
+  pub from_low : (b : Book system outs) (cut : ℕ → ℕ) → ((h : ℕ) → b.log.start h ≤ cut h) → (h : ℕ) → counts system b.from h ≤ cut h
   from_low b cut lo h = subst (λ n. n ≤ cut h) (b.honest.start h) (lo h)
 
-  from_high : (b : Book system outs) (cut : ℕ → ℕ) → ((h : ℕ) → cut h ≤ b.log.end h) → (h : ℕ) → cut h ≤ counts system (machine b) h
+  pub from_high : (b : Book system outs) (cut : ℕ → ℕ) → ((h : ℕ) → cut h ≤ b.log.end h) → (h : ℕ) → cut h ≤ counts system (machine b) h
   from_high b cut hi h = subst (λ n. cut h ≤ n) (b.honest.end h) (hi h)
 
   goes_old : (b c : Book system outs) → RunsOn system outs b c → (hart number : ℕ) (o : Output) → slice_get (outs.outputs ((machine b).harts hart)) number ≡ Some o →

@@ -1,5 +1,5 @@
 -- Term 1 takes a step that puts out a word, seals it, and a store gets the piece: where that store's position stands.
-use Rattle.std.proofs.Common.{◌≡◌, inl, inr, ℕ, ◌<◌, ◌≤◌, cond, [], ◌∷◌, ◌++◌, Contains, Option, Some, None, refl, sym, ap, subst, ◌∙◌, arith}
+use Rattle.std.proofs.Common.{◌≡◌, inl, inr, ℕ, ◌+◌, ◌<◌, ◌≤◌, ◌^◌, cond, [], ◌∷◌, ◌++◌, Contains, Option, Some, None, refl, sym, ap, subst, ◌∙◌, arith}
 use Rattle.std.specs.Prelude.{slice_get}
 use Rattle.std.proofs.lemmas.List.Elements.{Contains-append_right}
 use Rattle.std.specs.declared.cmp.Ordering.{Ordering}
@@ -44,7 +44,7 @@ one_there {K} {X} {R} total k x =
     (map.get-insert total map.empty k (Some x) k ∙
     ap (λ b. cond b (Some (Some x)) (map.get (map.empty {X = Option X} {R = R}) k)) ((eq_by_cmp_equiv total).refl k))
 
--- a book that puts out a word in its first step, of a guest
+-- a book of a guest that puts out a word, and has no edge
 pub record Sample {Book Fact : Type 0} (recorder : Recorder Book Fact) (guest : GuestParts) : Type 0 where
   pub rules : IsGuest guest
   pub boot : Book
@@ -53,8 +53,8 @@ pub record Sample {Book Fact : Type 0} (recorder : Recorder Book Fact) (guest : 
   pub boots : IsBoot recorder boot
   pub goes : GoesTo recorder boot told
   pub out : slice_get (recorder.outputs told 0) 0 ≡ Some output
-  pub at_0 : output.step ≡ 0
-  pub one : 0 < recorder.counts told 0
+  pub early : output.step < 2 ^ 31
+  pub inside : output.step < recorder.counts told 0
   pub no_edges : (e : Edge) → Contains (recorder.edges told) e → ⊥
   pub lives : CanLive recorder
 
@@ -67,7 +67,7 @@ module _ {Book Fact : Type 0} (recorder : Recorder Book Fact) (guest : GuestPart
   start = first_term guest g.boot
 
   abbrev pub x : FragmentParts
-  x = record { guest = guest; key = record { term = 1; hart = 0; place = 0 }; from = 0; to = 1; records = [] }
+  x = record { guest = guest; key = record { term = 1; hart = 0; place = 0 }; from = 0; to = g.output.step + 1; records = [] }
 
   abbrev pub p : Past Book
   p = record start { told = g.told }
@@ -99,8 +99,8 @@ module _ {Book Fact : Type 0} (recorder : Recorder Book Fact) (guest : GuestPart
               guest = rules;
               key = let some : 1 ≤ guest.harts = rules.some in record { hart = omega arith; granted = omega arith; term = omega arith; place = omega arith };
               some = omega arith;
-              end = omega arith;
-              short = λ more. omega arith;
+              end = let early : g.output.step < 2 ^ 31 = g.early in omega arith;
+              short = λ more. let early : g.output.step < 2 ^ 31 = g.early in omega arith;
               noted = λ is. absurd cc;
               records = record { limit = omega arith; each = tt; order = tt; inputs = λ count. omega arith };
             };
@@ -109,7 +109,7 @@ module _ {Book Fact : Type 0} (recorder : Recorder Book Fact) (guest : GuestPart
       }
 
   pub cut_x : IsCutFrom recorder g.told 0 x
-  cut_x = record { rises = omega arith; settled = g.one; has = λ e has. absurd (g.no_edges e has); only = λ e (k, below, is). absurd (omega arith) }
+  cut_x = record { rises = omega arith; settled = let inside : g.output.step < recorder.counts g.told 0 = g.inside in omega arith; has = λ e has. absurd (g.no_edges e has); only = λ e (k, below, is). absurd (omega arith) }
 
   pub comes2 : Comes recorder guest quorum w2
   comes2 = Then (Then (Begins g.boot g.boots) (Step 1 start g.told refl g.goes)) (Seal 1 p 0 x refl x_rules (sym (base_0 0)) cut_x)
@@ -158,7 +158,7 @@ module _ {Book Fact : Type 0} (recorder : Recorder Book Fact) (guest : GuestPart
   is_q = put_same w1.terms 1 1 (Some q) refl
 
   cut : ℕ → ℕ
-  cut = put (λ hart. 0) 0 1
+  cut = put (λ hart. 0) 0 (g.output.step + 1)
 
   covered : Covered recorder w2.terms s2 1 cut
   unfolding cut
@@ -171,19 +171,19 @@ module _ {Book Fact : Type 0} (recorder : Recorder Book Fact) (guest : GuestPart
         settled =
             λ hart.
             elim (same_or_not 0 hart) [
-              | inl e ↦ let f : cut hart ≡ 1 = put_same (λ hart. 0) 0 hart 1 e in
-                  let some : 0 < recorder.counts g.told 0 = g.one in
+              | inl e ↦ let f : cut hart ≡ g.output.step + 1 = put_same (λ hart. 0) 0 hart (g.output.step + 1) e in
+                  let some : g.output.step < recorder.counts g.told 0 = g.inside in
                   let h : recorder.counts g.told 0 ≡ recorder.counts g.told hart = ap (recorder.counts g.told) e in omega arith
-              | inr ne ↦ let f : cut hart ≡ 0 = put_other (λ hart. 0) 0 hart 1 ne in omega arith
+              | inr ne ↦ let f : cut hart ≡ 0 = put_other (λ hart. 0) 0 hart (g.output.step + 1) ne in omega arith
             ];
         goes =
             λ hart.
             elim (same_or_not 0 hart) [
               | inl e ↦
-                  let f : cut hart ≡ 1 = put_same (λ hart. 0) 0 hart 1 e in
+                  let f : cut hart ≡ g.output.step + 1 = put_same (λ hart. 0) 0 hart (g.output.step + 1) e in
                   subst (λ h. (place : ℕ) × (end : ℕ) × Goes (pieces_of s2 1 h) (base_of start.opening h) place end × (cut hart ≤ end)) e
-                  (1, 1, (x, sym (base_0 0), holds, refl), omega arith)
-              | inr ne ↦ let f : cut hart ≡ 0 = put_other (λ hart. 0) 0 hart 1 ne in (0, base_of start.opening hart, refl, omega arith)
+                  (1, g.output.step + 1, (x, sym (base_0 0), holds, refl), omega arith)
+              | inr ne ↦ let f : cut hart ≡ 0 = put_other (λ hart. 0) 0 hart (g.output.step + 1) ne in (0, base_of start.opening hart, refl, omega arith)
             ];
         closed = λ e has. absurd (g.no_edges e has);
       }
@@ -191,15 +191,15 @@ module _ {Book Fact : Type 0} (recorder : Recorder Book Fact) (guest : GuestPart
   backed : Backed recorder w2.terms s2 1 cut
   backed = record { root = 1; past = q; is = is_q; first = refl; opens = opens; leads = There refl covered }
 
-  has_step : HasStep recorder w2.terms s2 1 0 0
+  has_step : HasStep recorder w2.terms s2 1 0 g.output.step
   unfolding cut
   has_step = record { cut = cut; backed = backed; inside = omega arith }
 
-  no_other : {u : ℕ} → Keeps w2.terms 1 0 0 u → ⊥
+  no_other : {u : ℕ} → Keeps w2.terms 1 0 g.output.step u → ⊥
   no_other (Here {u = u} r is parent below) =
-      let a : u ≡ 1 = only_first u r is in let b : 1 < u = keeps_less recorder w2.terms before.family 1 0 0 (Here r is parent below) in omega arith
+      let a : u ≡ 1 = only_first u r is in let b : 1 < u = keeps_less recorder w2.terms before.family 1 0 g.output.step (Here r is parent below) in omega arith
   no_other (Above {u = u} r is k) =
-      let a : u ≡ 1 = only_first u r is in let b : 1 < u = keeps_less recorder w2.terms before.family 1 0 0 (Above r is k) in omega arith
+      let a : u ≡ 1 = only_first u r is in let b : 1 < u = keeps_less recorder w2.terms before.family 1 0 g.output.step (Above r is k) in omega arith
 
   abbrev Found : Type 0
   Found = (a : Position) × IsPosition s2 a
@@ -210,11 +210,11 @@ module _ {Book Fact : Type 0} (recorder : Recorder Book Fact) (guest : GuestPart
       let store = honest_is_store guest w2.terms s2 (ruled recorder guest quorum g.rules comes2).terms h2.honest (j2.1.guest ∙ j1.1.guest) in
       let (a, is, many, counts) = there s2 store in (a, is)
 
-  pub stands : record { 0 : found.0.term ≡ 1; 1 : 0 < count_at found.0.counts 0 }
+  pub stands : record { 0 : found.0.term ≡ 1; 1 : g.output.step < count_at found.0.counts 0 }
   stands =
       elim
       (
-      position_has recorder w2.terms before.family s2 h2.honest found.0 1 0 0 found.1 has_step
+      position_has recorder w2.terms before.family s2 h2.honest found.0 1 0 g.output.step found.1 has_step
       (λ top t is_t one_t less. let a : top ≡ 1 = only_first top t is_t in absurd (omega arith))) [
         | inl (here, inside) ↦ (here, inside)
         | inr k ↦ absurd (no_other k)

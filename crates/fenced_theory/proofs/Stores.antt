@@ -1,5 +1,5 @@
 -- Joins of honest stores, and of the stores of chosen keepers; two majorities share one.
-use Rattle.std.proofs.Common.{◌≡◌, ◌⊎◌, inl, inr, ℕ, zero, suc, ◌+◌, ◌<◌, Bool, true, false, cond, List, [], ◌∷◌, filter, nat_lt, Option, Some, None, refl, sym, ap, subst, ◌∙◌, arith, lt-ltb}
+use Rattle.std.proofs.Common.{◌≡◌, ◌⊎◌, inl, inr, ℕ, zero, suc, ◌+◌, ◌<◌, ◌≤◌, Bool, true, false, cond, List, [], ◌∷◌, filter, nat_lt, Option, Some, None, refl, sym, ap, subst, ◌∙◌, arith, lt-ltb}
 use Rattle.log_join.specs.Families.{Past, HonestStore, Below}
 use Rattle.log_join.specs.FamilyLaws.{IsHonestJoin}
 use Rattle.std.specs.Prelude.{slice_get}
@@ -60,6 +60,17 @@ module _ {Book : Type 0} (terms : ℕ → Option (Past Book)) where
               | inr last ↦ let k : keeper ≡ n = omega arith in (r, ap stores k ∙ there, both.left)
             ];
       }
+
+-- where each that is chosen is chosen there too, no fewer are
+pub more_chosen : (n : ℕ) (f g : ℕ → Bool) → ((k : ℕ) → f k ≡ true → g k ≡ true) → how_many n f ≤ how_many n g
+more_chosen zero f g also = omega arith
+more_chosen (suc n) f g also = by (f n) refl (g n) refl (more_chosen n f g also)
+  where
+    by : (a : Bool) → f n ≡ a → (b : Bool) → g n ≡ b → how_many n f ≤ how_many n g → cond a 1 0 + how_many n f ≤ cond b 1 0 + how_many n g
+    by true e true d le = omega (arith, le)
+    by true e false d le = let no : true ≡ false = sym (also n e) ∙ d in cc
+    by false e true d le = omega (arith, le)
+    by false e false d le = omega (arith, le)
 
 -- two sets that together have more than n of the numbers below n share one
 pub shared : (n : ℕ) (f g : ℕ → Bool) → n < how_many n f + how_many n g → (k : ℕ) × (k < n) × (f k ≡ true) × (g k ≡ true)

@@ -1,5 +1,5 @@
 -- A keeper acknowledges, or is refused.
-use Rattle.std.proofs.Common.{◌≡◌, ◌≢◌, ℕ, ◌<◌, slice_get, slice_set, slice_index, Some, Result, Ok, Err, OnOk, OnErr, refl, sym, ap, subst, ◌∙◌}
+use Rattle.std.proofs.Common.{◌≡◌, ◌≢◌, ℕ, ◌<◌, ◌≤◌, slice_get, slice_set, slice_index, Some, Result, Ok, Err, OnOk, OnErr, refl, sym, ap, subst, ◌∙◌}
 use Rattle.ft_types.specs.declared.position.Position.{Position}
 use Rattle.ack_core.specs.declared.board.AckFault.{AckFault}
 use Rattle.ack_core.specs.declared.board.AckFault.TheVariants.{Lower, OtherTerm}
@@ -29,11 +29,12 @@ acked_by r k p = record r { gate = record r.gate { acked = slice_set r.gate.acke
 
 pub acked_world : (v : WorldView) (is : IsWorld v) (n : ℕ) (r : RunningView) → slice_get v.running n ≡ Some r → (k : ℕ) (x : KeptView) (p : Position) →
     kept_at v.held k ≡ Some x → Acknowledges x.place.store x.fence p → r.primary.opening.term ≡ p.term → (s : RunningView) (own : ℕ) → own ≡ k →
-    (result : Result Unit AckFault) → OnOk result (s ≡ acked_by r own p) → OnErr result (s ≡ r) → IsWorld (record v { running = slice_set v.running n s })
-acked_world v is n r at k x p there may of_term s own same (Ok u) done kept =
+    (result : Result Unit AckFault) → OnOk result (s ≡ acked_by r own p) →
+    OnOk result ((hart : ℕ) → hart < r.gate.harts → acked_at r.gate own hart ≤ slice_index p.counts hart) → OnErr result (s ≡ r) → IsWorld (record v { running = slice_set v.running n s })
+acked_world v is n r at k x p there may of_term s own same (Ok u) done no_lower kept =
     subst (λ (q : RunningView). IsWorld (record v { running = slice_set v.running n q })) (sym (done ∙ ap (λ j. acked_by r j p) same))
-    (acked v is n r at k x p there may of_term)
-acked_world v is n r at k x p there may of_term s own same (Err e) done kept =
+    (acked v is n r at k x p there may of_term (subst (λ j. (hart : ℕ) → hart < r.gate.harts → acked_at r.gate j hart ≤ slice_index p.counts hart) same no_lower))
+acked_world v is n r at k x p there may of_term s own same (Err e) done no_lower kept =
     subst (λ rs. IsWorld (record v { running = rs })) (sym (ap (slice_set v.running n) kept ∙ set_own v.running n r at)) is
 
 pub ack_refused : (v : WorldView) (k : ℕ) (x : KeptView) → kept_at v.held k ≡ Some x → (p : Position) → Acknowledges x.place.store x.fence p →

@@ -102,6 +102,7 @@ module _ (v : WorldView) (r : RunningView) (is : IsFirst v r) where
         offered = λ n q at. subst (λ (q : RunningView). AreOffered q.gate.gate q.primary.book.machine) (it n q at).1 is.offered;
         led = λ n q at. subst IsLed (it n q at).1 (begun_led r is.booted.begins);
         harts_of = λ n q at. ap (λ (q : RunningView). q.gate.harts) (sym (it n q at).1) ∙ is.fresh.of_harts;
+        let_out = λ out has. absurd (none_in out (subst (λ (rs : List Released). Contains rs out) is.released has));
       }
 
   -- ---- in the theory

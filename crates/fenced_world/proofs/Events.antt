@@ -1,12 +1,13 @@
 -- Each event makes a world of a world.
-use Rattle.std.proofs.Common.{◌≡◌, ℕ, ◌≤◌, List, [], ◌∷◌, ◌++◌, slice_get, slice_set, Some, None, refl, sym, ap, subst, ◌∙◌, arith}
+use Rattle.std.proofs.Common.{◌≡◌, inl, inr, ℕ, ◌<◌, ◌≤◌, List, [], ◌∷◌, ◌++◌, length, slice_get, slice_set, Some, None, refl, sym, ap, subst, ◌∙◌, arith}
+use Rattle.ft_types.specs.Counts.{count_at}
 use Rattle.ft_types.specs.Guests.{GuestParts}
 use Rattle.ft_types.specs.declared.position.Position.{Position}
 use Rattle.guest_image.specs.Image.{guest_of}
 use Rattle.fragment_codec.specs.declared.frame.Frame.{Frame}
 use Rattle.fragment_codec.specs.declared.frame.Frame.TheVariants.{Opening}
 use Rattle.log_pieces.specs.Pieces.{IsCut, book_log}
-use Rattle.term_gate.specs.TermGates.{TermGateView}
+use Rattle.term_gate.specs.TermGates.{TermGateView, acked_at}
 use Rattle.fenced_keeper.specs.Keepers.{Acknowledges}
 use Rattle.primary.specs.declared.released.Released.{Released}
 use Rattle.primary.specs.Gating.{AreOffered, AreRising}
@@ -25,7 +26,8 @@ use Rattle.fenced_world.proofs.Terms.{goes_on}
 use Rattle.fenced_world.proofs.Sealing.{sealed}
 use Rattle.fenced_world.proofs.Guests.{opening_of}
 use Rattle.fenced_world.proofs.Acking.{acknowledged}
-use Rattle.fenced_world.proofs.Releasing.{lets_go, noted}
+use Rattle.fenced_world.proofs.Releasing.{lets_go, let_out, noted}
+use Rattle.fenced_world.proofs.Backed.{regated, acked_more}
 use Rattle.primary.proofs.Waiting.{all_stay}
 use Rattle.fenced_world.proofs.Onward.{rising, still_offered}
 use Rattle.fenced_world.proofs.Granting.{granted}
@@ -40,7 +42,8 @@ module _ (v : WorldView) (is : IsWorld v) where
         (record {
           parts =
               with_running v is.parts n r (with_book r s.primary.book) v.sent v.released at refl refl refl
-              (still_offered v is.tied n r at s.primary.book on r.gate.gate (is.parts.offered n r at)) on.after;
+              (still_offered v is.tied n r at s.primary.book on r.gate.gate (is.parts.offered n r at)) on.after refl (λ o backed. backed)
+              (λ out has. inl has);
           tied = goes_on v is.tied n r at s.primary.book on;
         })
 
@@ -59,22 +62,27 @@ module _ (v : WorldView) (is : IsWorld v) where
         (record {
           parts =
               with_running v is.parts n r (record r { primary = record r.primary { sealed = s.primary.sealed } }) (v.sent ++ frames) v.released at
-              refl refl refl (is.parts.offered n r at) (is.parts.led n r at);
+              refl refl refl (is.parts.offered n r at) (is.parts.led n r at) refl (λ o backed. backed) (λ out has. inl has);
           tied = sealed v is.tied n r at s.primary.sealed frames cut;
         }))
 
     -- what the gate was told, or let go
     pub released : (s : RunningView) (now : List Released) → s ≡ record r { gate = record r.gate { gate = s.gate.gate } } →
-        (AreRising r.primary.book.machine → AreOffered s.gate.gate r.primary.book.machine) → LetsGo r v.released s now →
-        IsWorld (record v { running = slice_set v.running n s; released = now })
-    released s now same offered goes =
+        (AreRising r.primary.book.machine → AreOffered s.gate.gate r.primary.book.machine) → length r.primary.book.machine.harts ≡ r.gate.harts →
+        LetsGo r v.released s now → IsWorld (record v { running = slice_set v.running n s; released = now })
+    released s now same offered harts goes =
         let g : TermGateView = record r.gate { gate = s.gate.gate } in
         let gates : s.gate ≡ g = ap (λ (q : RunningView). q.gate) same in
         subst (λ (q : RunningView). IsWorld (record v { running = slice_set v.running n q; released = now })) (sym same)
         (record {
           parts =
-              with_running v is.parts n r (record r { gate = g }) v.sent now at (ap (λ (x : TermGateView). x.gate.keepers) (sym gates ∙ goes.gate))
-              (ap (λ (x : TermGateView). x.gate.need) (sym gates ∙ goes.gate)) refl (offered (rising v is.tied n r at (is.parts.led n r at))) (is.parts.led n r at);
+              with_running v is.parts n r (record r { gate = g }) v.sent now at (ap (λ (x : TermGateView). x.gate.keepers) (sym gates ∙ goes.lets.gate))
+              (ap (λ (x : TermGateView). x.gate.need) (sym gates ∙ goes.lets.gate)) refl (offered (rising v is.tied n r at (is.parts.led n r at))) (is.parts.led n r at) refl
+              (regated v.keepers v.need r.gate g refl refl)
+              (λ out has. elim (let_out v is.tied n r at (is.parts.led n r at) s now (is.parts.keepers_of n r at) (is.parts.need_of n r at) goes harts out has) [
+                | inl was ↦ inl was
+                | inr (of_term, backed) ↦ inr (of_term, regated v.keepers v.need r.gate g refl refl out.output backed)
+              ]);
           tied =
               subst (λ (x : TermGateView). IsTied (record v { running = slice_set v.running n (record r { gate = x }); released = now })) gates
               (lets_go v is.tied n r at (is.parts.led n r at) s now (is.parts.keepers_of n r at) (is.parts.need_of n r at) goes);
@@ -89,17 +97,19 @@ module _ (v : WorldView) (is : IsWorld v) where
         subst (λ (q : RunningView). IsWorld (record v { running = slice_set v.running n q })) (sym same)
         (record {
           parts =
-              with_running v is.parts n r (record r { gate = g }) v.sent v.released at keepers need refl (offered (rising v is.tied n r at (is.parts.led n r at))) (is.parts.led n r at);
+              with_running v is.parts n r (record r { gate = g }) v.sent v.released at keepers need refl (offered (rising v is.tied n r at (is.parts.led n r at))) (is.parts.led n r at) refl
+              (regated v.keepers v.need r.gate g refl refl) (λ out has. inl has);
           tied = noted v is.tied n r at (is.parts.led n r at) g refl;
         })
 
     pub acked : (k : ℕ) (x : KeptView) (p : Position) → kept_at v.held k ≡ Some x → Acknowledges x.place.store x.fence p → r.primary.opening.term ≡ p.term →
+        ((hart : ℕ) → hart < r.gate.harts → acked_at r.gate k hart ≤ count_at p.counts hart) →
         IsWorld (record v { running = slice_set v.running n (record r { gate = record r.gate { acked = slice_set r.gate.acked k p.counts } }) })
-    acked k x p there may of_term =
+    acked k x p there may of_term no_lower =
         record {
           parts =
               with_running v is.parts n r (record r { gate = record r.gate { acked = slice_set r.gate.acked k p.counts } }) v.sent v.released at
-              refl refl refl (is.parts.offered n r at) (is.parts.led n r at);
+              refl refl refl (is.parts.offered n r at) (is.parts.led n r at) refl (acked_more v.keepers v.need r.gate k p.counts no_lower) (λ out has. inl has);
           tied = acknowledged v is.tied k x there p may n r at of_term;
         }
 

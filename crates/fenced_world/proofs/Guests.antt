@@ -11,7 +11,7 @@ use Rattle.log_join.specs.Answers.{answer, answer_to}
 use Rattle.log_join.specs.Stores.{StoreView, IsStore, IsOpeningOf, opening_at, fragment_at}
 use Rattle.log_join.proofs.Told.{guests_told}
 use Rattle.log_join.proofs.Families.{granted_opening, granted_piece}
-use Rattle.fenced_theory.specs.Laws.{IsLawful, AreStores}
+use Rattle.fenced_theory.specs.Laws.{IsFailover, AreStores}
 use Rattle.fenced_theory.proofs.Invariant.{Invariant}
 use Rattle.fenced_theory.proofs.Events.{always, failover}
 use Rattle.fenced_theory.proofs.Ruled.{IsOfRules, ruled}
@@ -51,7 +51,7 @@ module _ (v : WorldView) (is : IsTied v) where
   pub kept : Invariant is.is_recorder.recorder (quorum_of v) is.world
   kept = always is.is_recorder.recorder (guest_of v.image) (quorum_of v) is.comes
 
-  pub laws : IsLawful is.is_recorder.recorder (quorum_of v) is.world
+  pub laws : IsFailover is.is_recorder.recorder (quorum_of v) is.world
   laws = failover is.is_recorder.recorder (guest_of v.image) (quorum_of v) is.world is.comes
 
   module _ (guest : IsGuest (guest_of v.image)) where

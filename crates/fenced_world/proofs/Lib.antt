@@ -13,6 +13,7 @@ pub mod Granting
 pub mod Beginning
 pub mod Sound
 pub mod Raising
+pub mod Backed
 pub mod Parts
 pub mod Events
 pub mod Found

@@ -1,7 +1,7 @@
 -- Keepers raise their fences to a term, and give it their stores: why it is refused, and what is left.
 use Rattle.std.proofs.Common.{◌≡◌, ◌⊎◌, inl, inr, ℕ, suc, ◌+◌, ◌==◌, ◌||◌, Bool, true, false, if◌then◌else◌, List, [], ◌∷◌, ◌++◌, slice_get, Option, Some, None, refl, sym, ap, subst, ◌∙◌, arith}
 use Rattle.std.specs.Global.{Vec}
-use Rattle.std.specs.Prelude.{All, IfSome, IfNone}
+use Rattle.std.specs.Prelude.{All, Contains, IfSome, IfNone}
 use Rattle.std.specs.Option.{is_some}
 use Rattle.std.specs.List.{list_any, Any}
 use Rattle.std.proofs.lemmas.Bool.Decides.{eqb_tells}
@@ -33,17 +33,17 @@ use Rattle.fenced_world.proofs.Lists.{some_same}
 use Rattle.fenced_world.proofs.Guests.{kept, store_of}
 use Rattle.fenced_world.proofs.Honest.{store_honest}
 use Rattle.fenced_world.proofs.Giving.{each_gift, all_told}
-use Rattle.fenced_world.proofs.Raising.{GiveAlike, gifts_alike, raised_more, did_raise, may_have, set_there, set_elsewhere}
+use Rattle.fenced_world.proofs.Raising.{GiveAlike, are_raised, gifts_alike, raised_more, did_raise, may_have, set_there, set_elsewhere}
 
 -- ---- fences are raised one after the other
 
-module _ (term : ℕ) (v w u : WorldView) (k : ℕ) (was : HasRaised v term w) where
-  pub raised_on : DoesKeeper w k (Raises term) u → HasRaised v term u
-  raised_on does = raised_more term v w u k (Raises term) (did_raise term) was does
+module _ (term : ℕ) (named : List ℕ) (v w u : WorldView) (k : ℕ) (chosen : Contains named k) (was : HasRaised v term named w) where
+  pub raised_on : DoesKeeper w k (Raises term) u → HasRaised v term named u
+  raised_on does = raised_more term named v w u k (Raises term) chosen (λ x y d. (d.above, did_raise term x y d)) was does
 
-  pub left_raised : (u ≡ w) ⊎ DoesKeeper w k (MayHaveRaised term) u → HasRaised v term u
-  left_raised (inl same) = subst (HasRaised v term) (sym same) was
-  left_raised (inr does) = raised_more term v w u k (MayHaveRaised term) (may_have term) was does
+  pub left_raised : (u ≡ w) ⊎ DoesKeeper w k (MayHaveRaised term) u → HasRaised v term named u
+  left_raised (inl same) = subst (HasRaised v term named) (sym same) was
+  left_raised (inr does) = raised_more term named v w u k (MayHaveRaised term) chosen (λ x y d. (d.above, may_have term x y d)) was does
 
 -- the one that raised its fence is at the term, and the others still are
 pub at_term_now : (term : ℕ) (w u : WorldView) (k : ℕ) → DoesKeeper w k (Raises term) u → IsAtTerm u.held term k
@@ -128,12 +128,11 @@ module _ (v : WorldView) (is : IsWorld v) (named : List ℕ) where
 
 -- ---- a grant
 
-alike : (v w : WorldView) (term : ℕ) (named : List ℕ) → HasRaised v term w → GiveAlike (gifts_of v.held named) (gifts_of w.held named)
-alike v w term named was =
-    gifts_alike term named 0 v.held w.held (record { many = was.many; lost = was.lost; each = was.each })
+alike : (v w : WorldView) (term : ℕ) (named : List ℕ) → HasRaised v term named w → GiveAlike (gifts_of v.held named) (gifts_of w.held named)
+alike v w term named was = gifts_alike term named 0 v.held w.held (are_raised term named v w was)
 
 -- what bars a term from going live once fences are raised did so before
-pub barred : (v w : WorldView) (term : ℕ) (named : List ℕ) → HasRaised v term w → (fault : LiveFault) → CannotGoLive w term named fault →
+pub barred : (v w : WorldView) (term : ℕ) (named : List ℕ) → HasRaised v term named w → (fault : LiveFault) → CannotGoLive w term named fault →
     CannotGoLive v term named fault
 barred v w term named was TooFewStores due = λ enough.
     due
@@ -148,7 +147,7 @@ barred v w term named was (Replay fault) due = due
 barred v w term named was NoLive due = due
 
 -- so only memory is refused then
-pub grant_lacks : (v w : WorldView) (term : ℕ) (named : List ℕ) → HasRaised v term w → RefusesGrant v term named Memory → (f : FencedFault) →
+pub grant_lacks : (v w : WorldView) (term : ℕ) (named : List ℕ) → HasRaised v term named w → RefusesGrant v term named Memory → (f : FencedFault) →
     RefusesLive w term named f → f ≡ Memory
 grant_lacks v w term named was may NoPrimary due = absurd due
 grant_lacks v w term named was may NoKeeper due = absurd due
@@ -183,8 +182,8 @@ abbrev pub begun : WorldView → List RunningView → List Frame → WorldView
 begun v running sent = record v { running = running; sent = sent }
 
 -- fences that were raised grant nothing
-pub still_new : (v w : WorldView) (term : ℕ) → HasRaised v term w → IsNotGranted v term → IsNotGranted w term
-still_new v w term was new n r at = new n r (ap (λ (x : WorldView). slice_get x.running n) (sym was.rest) ∙ at)
+pub still_new : (v w : WorldView) (term : ℕ) (named : List ℕ) → HasRaised v term named w → IsNotGranted v term → IsNotGranted w term
+still_new v w term named was new n r at = new n r (ap (λ (x : WorldView). slice_get x.running n) (sym was.rest) ∙ at)
 
 -- ---- what is found
 

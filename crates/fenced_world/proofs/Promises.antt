@@ -1,12 +1,14 @@
 -- What holds of the outputs that went out, by the theory of fencing.
-use Rattle.std.proofs.Common.{◌≡◌, ℕ, ◌<◌, List, slice_get, Some, inl, inr, sym, ap, subst, ◌∙◌}
+use Rattle.std.proofs.Common.{◌≡◌, ℕ, ◌<◌, true, List, Contains, slice_get, Some, inl, inr, sym, ap, subst, ◌∙◌, arith, lt-ltb}
 use Rattle.ft_types.specs.Counts.{count_at}
 use Rattle.hart_lease.specs.Runs.{LeadsTo}
 use Rattle.book_modes.specs.Recordings.{heard_by}
 use Rattle.fragment_codec.specs.Rules.{OpeningParts}
 use Rattle.log_join.specs.Families.{Past}
 use Rattle.ft_types.specs.declared.position.Position.{Position}
+use Rattle.fenced_theory.specs.Laws.{has_acked}
 use Rattle.fenced_theory.specs.Families.{Keeps, Here as IsHere, Above as IsAbove, IsInside}
+use Rattle.term_gate.specs.TermGates.{acked_at}
 use Rattle.primary.specs.declared.released.Released.{Released}
 use Rattle.failover_world.specs.machinery.Tied.{TermBook, Books, told_as, theory_released}
 use Rattle.failover_world.proofs.Promises.{untold}
@@ -15,7 +17,7 @@ use Rattle.failover_world.proofs.Onward.{from_theory}
 use Rattle.fenced_world.specs.Running.{RunningView}
 use Rattle.fenced_world.specs.Worlds.{WorldView}
 use Rattle.fenced_world.specs.Promises.{IsInChain, Here, Above, IsInside as IsInsideHere, IsOne, IsOfMachines, IsKept, IsWithin, AreHeld}
-use Rattle.fenced_world.specs.machinery.Tied.{IsTied}
+use Rattle.fenced_world.specs.machinery.Tied.{IsTied, IsLetOut}
 use Rattle.fenced_world.proofs.Lists.{some_same}
 use Rattle.fenced_world.proofs.Terms.{there_now, past_now, own}
 use Rattle.fenced_world.proofs.Guests.{laws}
@@ -74,12 +76,26 @@ module _ (v : WorldView) (is : IsTied v) where
   inside out p (inl (same, below)) less = (inl same, less)
   inside out p (inr keeps) less = (inr (in_chain out.term out.output.hart out.output.step keeps), less)
 
-  pub are_held : AreHeld v
-  are_held out has =
+  -- what the gate knows was acknowledged, was
+  was_acked : (out : Released) (k : ℕ) (let_out : IsLetOut v.keepers v.need v.running out) → out.output.step < acked_at let_out.primary.gate k out.output.hart →
+      has_acked is.world (theory_released out) k ≡ true
+  was_acked out k let_out above =
+      let known = is.acked let_out.number let_out.primary let_out.at k out.output.hart in
+      lt-ltb out.output.step (is.world.acked out.term k out.output.hart)
+      (subst (λ t. out.output.step < is.world.acked t k out.output.hart) let_out.of_term (omega (arith, above, known)))
+
+  pub are_held : ((out : Released) → Contains v.released out → IsLetOut v.keepers v.need v.running out) → AreHeld v
+  are_held let_out out has =
+      let here = let_out out has in
       let held = (laws v is).held (theory_released out) (is.went_out out has) in
       record {
-        by = held.by;
-        enough = held.enough;
-        inside = λ k x p below chosen at position.
-            let both = held.inside k x.store p chosen (is.standing k x at).has position in inside out p both.0 both.1;
+        number = here.number;
+        primary = here.primary;
+        there = here.at;
+        of_term = here.of_term;
+        enough = here.backed.enough;
+        inside = λ k x p above at position.
+            let both = held.inside k x.store p (was_acked out k here above) (inl (is.standing k x at).has) position in inside out p both.0 both.1;
+        written = λ k x p above at position.
+            let both = held.inside k x.place.store p (was_acked out k here above) (inr (is.standing k x at).wrote) position in inside out p both.0 both.1;
       }

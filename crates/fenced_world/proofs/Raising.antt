@@ -1,5 +1,5 @@
 -- Keepers that may raise their fences to a term: what they would give stays what it is.
-use Rattle.std.proofs.Common.{◌≡◌, ◌⊎◌, inl, inr, ℕ, zero, suc, ◌+◌, ◌==◌, Bool, true, false, List, [], ◌∷◌, ◌++◌, length, length-set, get_or, slice_set, Option, Some, None, if◌then◌else◌, refl, sym, ap, subst, ◌∙◌, arith}
+use Rattle.std.proofs.Common.{◌≡◌, ◌⊎◌, inl, inr, ℕ, zero, suc, ◌+◌, ◌<◌, ◌≤◌, ◌==◌, Bool, true, false, List, [], ◌∷◌, ◌++◌, length, length-set, Contains, get_or, slice_set, Option, Some, None, if◌then◌else◌, refl, sym, ap, subst, ◌∙◌, arith}
 use Rattle.std.specs.List.{list_any}
 use Rattle.interleaving.proofs.Put.{same_or_not}
 use Rattle.fenced_world.specs.Keepers.{KeptView, kept_at, Gift, given_by, gifts_from}
@@ -53,8 +53,30 @@ gifts_alike term named n (Some a ∷ held) (Some b ∷ more) are =
 may_not : (term : ℕ) (x : KeptView) → MayRaise term x x
 may_not term x = record { own = refl; store = refl; fence = inl refl; written = refl; written_fence = inl refl; saved = refl }
 
-pub not_raised : (term : ℕ) (v : WorldView) → HasRaised v term v
-not_raised term v = record { many = refl; lost = λ k none. none; each = λ k x there. (x, there, may_not term x); rest = refl }
+pub not_raised : (term : ℕ) (named : List ℕ) (v : WorldView) → HasRaised v term named v
+not_raised term named v = record { many = refl; lost = λ k none. none; each = λ k x there. (x, there, inl refl); rest = refl }
+
+-- a keeper as it was, or its fence may be raised
+pub are_raised : (term : ℕ) (named : List ℕ) (v w : WorldView) → HasRaised v term named w → AreRaised term v.held w.held
+are_raised term named v w was =
+    record {
+      many = was.many;
+      lost = was.lost;
+      each = λ k x there. let (y, at, how) = was.each k x there in (
+        y,
+        at,
+        elim how [ inl same ↦ subst (MayRaise term x) (sym same) (may_not term x) | inr more ↦ more.2 ],
+      );
+    }
+
+-- the number at a place is named
+pub named_at : (named : List ℕ) (place : ℕ) → place < length named → Contains named (get_or named place 0)
+named_at named place below = (place, below, at named place below)
+  where
+    at : (xs : List ℕ) (n : ℕ) → n < length xs → get_or xs n (get_or xs n 0) ≡ get_or xs n 0
+    at [] n below = absurd (omega (arith, below))
+    at (x ∷ xs) zero below = refl
+    at (x ∷ xs) (suc n) below = at xs n (omega (arith, below))
 
 either_of : {A : Type 0} (a b c : A) (t : A) → (b ≡ a) ⊎ (b ≡ t) → (c ≡ b) ⊎ (c ≡ t) → (c ≡ a) ⊎ (c ≡ t)
 either_of a b c t one (inr two) = inr two
@@ -92,10 +114,19 @@ set_elsewhere (z ∷ xs) zero (suc j) y ne = refl
 set_elsewhere (z ∷ xs) (suc k) zero y ne = refl
 set_elsewhere (z ∷ xs) (suc k) (suc j) y ne = set_elsewhere xs k j y (λ e. ne (ap suc e))
 
--- one keeper more may have raised its fence
-pub raised_more : (term : ℕ) (v w u : WorldView) (k : ℕ) (M : KeptView → KeptView → Type 0) → ((x y : KeptView) → M x y → MayRaise term x y) →
-    HasRaised v term w → DoesKeeper w k M u → HasRaised v term u
-raised_more term v w u k M may was does =
+-- the keeper as it was, or with its fence raised where it is named
+abbrev MayBe : ℕ → List ℕ → ℕ → KeptView → KeptView → Type 0
+MayBe term named k x y = (y ≡ x) ⊎ (Contains named k × (x.fence ≤ term) × MayRaise term x y)
+
+on_top : (term : ℕ) (named : List ℕ) (k : ℕ) (x y z : KeptView) → MayBe term named k x y → (y.fence ≤ term) × MayRaise term y z →
+    (x.fence ≤ term) × MayRaise term x z
+on_top term named k x y z (inl same) deed = subst (λ (b : KeptView). (b.fence ≤ term) × MayRaise term b z) same deed
+on_top term named k x y z (inr (chosen, le, one)) (le_too, two) = (le, raises_on term x y z one two)
+
+-- one keeper more that is named may have raised its fence
+pub raised_more : (term : ℕ) (named : List ℕ) (v w u : WorldView) (k : ℕ) (M : KeptView → KeptView → Type 0) → Contains named k →
+    ((x y : KeptView) → M x y → (x.fence ≤ term) × MayRaise term x y) → HasRaised v term named w → DoesKeeper w k M u → HasRaised v term named u
+raised_more term named v w u k M chosen may was does =
     let held : u.held ≡ slice_set w.held k (Some does.after) = ap (λ (x : WorldView). x.held) does.rest in
     record {
       many = ap length held ∙ length-set w.held k (Some does.after) ∙ was.many;
@@ -111,15 +142,18 @@ raised_more term v w u k M may was does =
           ∙ ap (λ xs. let y : WorldView = record v { held = xs } in y) (sym held);
     }
   where
-    of : (j : ℕ) (x : KeptView) → (y : KeptView) × (kept_at w.held j ≡ Some y) × MayRaise term x y →
-        kept_at u.held j ≡ kept_at (slice_set w.held k (Some does.after)) j → (z : KeptView) × (kept_at u.held j ≡ Some z) × MayRaise term x z
-    of j x (y, there, raise) at =
+    of : (j : ℕ) (x : KeptView) → (y : KeptView) × (kept_at w.held j ≡ Some y) × MayBe term named j x y →
+        kept_at u.held j ≡ kept_at (slice_set w.held k (Some does.after)) j → (z : KeptView) × (kept_at u.held j ≡ Some z) × MayBe term named j x z
+    of j x (y, there, how) at =
         elim (same_or_not k j) [
           | inl same ↦
-              let own : does.before ≡ y = some_same does.there (ap (kept_at w.held) same ∙ there) in (
+              let own : does.before ≡ y = some_same does.there (ap (kept_at w.held) same ∙ there) in
+              let deed : (y.fence ≤ term) × MayRaise term y does.after =
+              subst (λ (b : KeptView). (b.fence ≤ term) × MayRaise term b does.after) own (may does.before does.after does.deed) in
+              let (le, raise) = on_top term named j x y does.after how deed in (
                 does.after,
                 at ∙ ap (kept_at (slice_set w.held k (Some does.after))) (sym same) ∙ set_there w.held k does.before (Some does.after) does.there,
-                raises_on term x y does.after raise (subst (λ (b : KeptView). MayRaise term b does.after) own (may does.before does.after does.deed)),
+                inr (subst (Contains named) same chosen, le, raise),
               )
-          | inr other ↦ (y, at ∙ set_elsewhere w.held k j (Some does.after) other ∙ there, raise)
+          | inr other ↦ (y, at ∙ set_elsewhere w.held k j (Some does.after) other ∙ there, how)
         ]

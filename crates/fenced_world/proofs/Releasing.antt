@@ -1,5 +1,5 @@
 -- The world stays one that comes in the theory: outputs of a term go out, whatever terms were granted since.
-use Rattle.std.proofs.Common.{◌≡◌, ◌⊎◌, inl, inr, ℕ, zero, suc, ◌≤◌, List, [], ◌∷◌, ◌++◌, map, slice_get, slice_set, Contains, Option, Some, None, sym, ap, subst, ◌∙◌, append-nil, arith}
+use Rattle.std.proofs.Common.{◌≡◌, ◌⊎◌, inl, inr, ℕ, zero, suc, ◌≤◌, List, [], ◌∷◌, ◌++◌, length, map, slice_get, slice_set, Contains, Option, Some, None, sym, ap, subst, ◌∙◌, append-nil, arith}
 use Rattle.std.proofs.lemmas.List.Elements.{Contains-append_right}
 use Rattle.interleaving.specs.Lists.{Each}
 use Rattle.interleaving.proofs.Cuts.{here_or_later, here}
@@ -22,10 +22,11 @@ use Rattle.failover_world.proofs.Going.{IsGoing, going}
 use Rattle.failover_world.proofs.Releasing.{book_outputs}
 use Rattle.fenced_world.specs.Running.{RunningView, LetsGo}
 use Rattle.fenced_world.specs.Worlds.{WorldView}
-use Rattle.fenced_world.specs.machinery.Tied.{IsTied, quorum_of}
+use Rattle.fenced_world.specs.machinery.Tied.{IsTied, IsBacked, quorum_of}
 use Rattle.fenced_world.proofs.Lists.{set_cases}
 use Rattle.fenced_world.proofs.Terms.{own, past_now, there_now}
 use Rattle.fenced_world.proofs.Acking.{gate_changed}
+use Rattle.fenced_world.proofs.Backed.{goes_backed, each_out}
 
 mapped : {A B : Type 0} (f : A → B) (xs : List A) (n : ℕ) (x : A) → slice_get xs n ≡ Some x → slice_get (map f xs) n ≡ Some (f x)
 mapped f [] n x is = absurd cc
@@ -130,12 +131,31 @@ module _ (v : WorldView) (is : IsTied v) (n : ℕ) (r : RunningView) (at : slice
   noted gate same = released [] gate v.released same (sym (append-nil v.released)) tt
 
   -- what the gate lets go
-  pub lets_go : (s : RunningView) (now : List Released) → r.gate.gate.keepers ≡ v.keepers → r.gate.gate.need ≡ v.need → LetsGo r v.released s now →
-      IsTied (record v { running = slice_set v.running n (record r { gate = s.gate }); released = now })
-  lets_go s now keepers need goes =
-      released (held_outputs r.gate.gate.need s.gate.gate.noted goes.offered.gate.lines) s.gate now (ap (λ (g : TermGateView). g.acked) goes.gate)
-      (goes.out ∙ ap (λ os. v.released ++ released_in r.primary.opening.term os) goes.held)
-      (subst (λ k. Each (IsGoing k v.need r.gate r.primary.book.machine) (held_outputs r.gate.gate.need s.gate.gate.noted goes.offered.gate.lines)) keepers
-      (subst (λ m. Each (IsGoing r.gate.gate.keepers m r.gate r.primary.book.machine) (held_outputs r.gate.gate.need s.gate.gate.noted goes.offered.gate.lines)) need
-      (going r.gate.gate.need r.gate goes.offered.gate s.gate.gate.noted r.primary.book.machine goes.acked
-      (all_stay goes.offered.gate r.primary.book.machine goes.all))))
+  module _ (s : RunningView) (now : List Released) (keepers : r.gate.gate.keepers ≡ v.keepers) (need : r.gate.gate.need ≡ v.need)
+      (goes : LetsGo r v.released s now) where
+    abbrev out : List Output
+    out = held_outputs r.gate.gate.need s.gate.gate.noted goes.lets.offered.gate.lines
+
+    gone : now ≡ v.released ++ released_in r.primary.opening.term out
+    gone = goes.lets.out ∙ ap (λ os. v.released ++ released_in r.primary.opening.term os) goes.lets.held
+
+    all_going : Each (IsGoing v.keepers v.need r.gate r.primary.book.machine) out
+    all_going =
+        subst (λ k. Each (IsGoing k v.need r.gate r.primary.book.machine) out) keepers
+        (subst (λ m. Each (IsGoing r.gate.gate.keepers m r.gate r.primary.book.machine) out) need
+        (going r.gate.gate.need r.gate goes.lets.offered.gate s.gate.gate.noted r.primary.book.machine goes.lets.acked
+        (all_stay goes.lets.offered.gate r.primary.book.machine goes.lets.all)))
+
+    pub lets_go : IsTied (record v { running = slice_set v.running n (record r { gate = s.gate }); released = now })
+    lets_go = released out s.gate now (ap (λ (g : TermGateView). g.acked) goes.lets.gate) gone all_going
+
+    -- whatever went out did so before, or is backed at the gate
+    pub let_out : length r.primary.book.machine.harts ≡ r.gate.harts → (x : Released) → Contains now x →
+        Contains v.released x ⊎ ((r.primary.opening.term ≡ x.term) × IsBacked v.keepers v.need r.gate x.output)
+    let_out harts x has =
+        elim (split v.released (released_in r.primary.opening.term out) x (subst (λ rs. Contains rs x) gone has)) [
+          | inl was ↦ inl was
+          | inr new ↦
+              let (of_term, goes_out) = each_out (IsGoing v.keepers v.need r.gate r.primary.book.machine) r.primary.opening.term out all_going x new in
+              inr (of_term, goes_backed v.keepers v.need r.gate r.primary.book.machine harts x.output goes_out)
+        ]

@@ -1,5 +1,5 @@
 -- What each event does to the world.
-use Rattle.std.specs.Prelude.{ℕ, ◌≡◌, ◌≢◌, ◌<◌, ◌≤◌, ◌⊎◌, ◌++◌, ◌∷◌, [], List, false, length, slice_get, slice_set, Some, None, All, IsSome}
+use Rattle.std.specs.Prelude.{ℕ, ◌≡◌, ◌≢◌, ◌<◌, ◌≤◌, ◌⊎◌, ◌++◌, ◌∷◌, [], List, false, length, slice_get, slice_index, slice_set, Some, None, All, Contains, IsSome}
 use Rattle.input_log.specs.declared.Input.{Input}
 use Rattle.input_log.specs.Inputs.{is_bell}
 use Rattle.ft_types.specs.declared.position.Position.{Position}
@@ -10,6 +10,7 @@ use Rattle.fragment_codec.specs.declared.frame.Frame.TheVariants.{Opening}
 use Rattle.log_pieces.specs.Pieces.{IsCut, book_log}
 use Rattle.log_join.specs.Stores.{IsJoin, alone}
 use Rattle.lease_rounds.specs.Steps.{HasStepped, HoldsNothing}
+use Rattle.term_gate.specs.TermGates.{acked_at}
 use Rattle.primary.specs.Primaries.{IsBooted}
 use Rattle.failover_world.specs.Happenings.{IsFresh}
 use Rattle.fenced_keeper.specs.Keepers.{Acknowledges}
@@ -72,9 +73,10 @@ pub record Seals (frames : List Frame) (r s : RunningView) : Type 0 where
   pub cut : IsCut (book_log r.primary.opening.guest r.primary.opening.term r.primary.book) r.gate.harts r.primary.sealed frames s.primary.sealed
   pub sealed : s ≡ record r { primary = record r.primary { sealed = s.primary.sealed } }
 
--- the counts of the position are what the keeper acknowledged last
-abbrev pub IsAcked : ℕ → Position → RunningView → RunningView → Type 0
-IsAcked keeper p r s = s ≡ record r { gate = record r.gate { acked = slice_set r.gate.acked keeper p.counts } }
+-- the counts of the position, none of them lower than before, are what the keeper acknowledged last
+pub record IsAcked (keeper : ℕ) (p : Position) (r s : RunningView) : Type 0 where
+  pub no_lower : (hart : ℕ) → hart < r.gate.harts → acked_at r.gate keeper hart ≤ slice_index p.counts hart
+  pub rest : s ≡ record r { gate = record r.gate { acked = slice_set r.gate.acked keeper p.counts } }
 
 abbrev pub TakesStep : WorldView → ℕ → ℕ → WorldView → Type 0
 TakesStep v term hart w = Does v term (Steps hart) w.running × (w ≡ record v { running = w.running })
@@ -177,11 +179,12 @@ pub record HasAcknowledged (v : WorldView) (keeper : ℕ) (w : WorldView) : Type
 
 -- ---- a grant
 
--- fences may have been raised to the term, and nothing else is changed
-pub record HasRaised (v : WorldView) (term : ℕ) (w : WorldView) : Type 0 where
+-- fences of the named keepers that were not above the term may have been raised to it, and nothing else is changed
+pub record HasRaised (v : WorldView) (term : ℕ) (named : List ℕ) (w : WorldView) : Type 0 where
   pub many : length w.held ≡ length v.held
   pub lost : (k : ℕ) → kept_at v.held k ≡ None → kept_at w.held k ≡ None
-  pub each : (k : ℕ) (x : KeptView) → kept_at v.held k ≡ Some x → (y : KeptView) × (kept_at w.held k ≡ Some y) × MayRaise term x y
+  pub each : (k : ℕ) (x : KeptView) → kept_at v.held k ≡ Some x →
+      (y : KeptView) × (kept_at w.held k ≡ Some y) × ((y ≡ x) ⊎ (Contains named k × (x.fence ≤ term) × MayRaise term x y))
   pub rest : w ≡ record v { held = w.held }
 
 -- the fences of the named keepers were raised to the term, and its primary went live from what these gave
@@ -189,7 +192,7 @@ pub record Grants (v : WorldView) (term : ℕ) (named : List ℕ) (w : WorldView
   pub there : All (λ k. kept_at v.held k ≢ None) named
   pub new : IsNotGranted v term
   pub between : WorldView
-  pub raised : HasRaised v term between
+  pub raised : HasRaised v term named between
   pub first : RunningView
   pub live : GoesLiveFrom between term named first
   pub rest : w ≡ record between { running = v.running ++ first ∷ []; sent = v.sent ++ Opening first.primary.opening ∷ [] }

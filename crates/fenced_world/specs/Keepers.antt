@@ -1,5 +1,5 @@
 -- Keepers whose places are in memory, and what they give.
-use Rattle.std.specs.Prelude.{ℕ, ◌≡◌, ◌<◌, ◌==◌, List, [], ◌∷◌, Option, Some, None, slice_index_or, if◌then◌else◌}
+use Rattle.std.specs.Prelude.{ℕ, ◌≡◌, ◌<◌, ◌==◌, List, [], ◌∷◌, Option, Some, None, IsSome, slice_index_or, if◌then◌else◌}
 use Rattle.std.specs.List.{list_any, flat_map, enumerate_from}
 use Rattle.ft_types.specs.Guests.{GuestParts}
 use Rattle.log_join.specs.Stores.{StoreView, nothing}
@@ -25,6 +25,7 @@ pub record IsNewKeeper (guest : GuestParts) (number : ℕ) (x : KeptView) : Type
   pub written : x.place.store ≡ nothing guest
   pub fence : x.fence ≡ 1
   pub written_fence : x.place.fence ≡ 1
+  pub known : IsSome x.saved
 
 -- a keeper's store, given to a term
 pub record Gift : Type 0 where

@@ -1,5 +1,5 @@
 -- What holds of the frames that were sent, and of the outputs that went out.
-use Rattle.std.specs.Prelude.{ℕ, ◌≡◌, ◌<◌, ◌≤◌, ◌⊎◌, true, Bool, Contains, slice_get, Some}
+use Rattle.std.specs.Prelude.{ℕ, ◌≡◌, ◌<◌, ◌≤◌, ◌⊎◌, Contains, nat_lt, slice_get, Some}
 use Rattle.ft_types.specs.Counts.{count_at}
 use Rattle.fragment_codec.specs.declared.frame.Frame.{Frame}
 use Rattle.log_join.specs.Families.{OfFamily, HonestStore}
@@ -7,6 +7,7 @@ use Rattle.closed_cut.specs.Position.{IsPosition}
 use Rattle.ft_types.specs.declared.position.Position.{Position}
 use Rattle.hart_replay.specs.Images.{GuestTerm, GuestHistory, IsHistoryOf}
 use Rattle.fenced_theory.specs.Lists.{how_many}
+use Rattle.term_gate.specs.TermGates.{acked_at}
 use Rattle.primary.specs.declared.released.Released.{Released}
 use Rattle.primary.specs.Outputs.{said_at}
 use Rattle.failover_world.specs.Promises.{IsItsTerm}
@@ -38,13 +39,18 @@ abbrev pub IsInside : WorldView → Released → Position → Type 0
 IsInside w r p =
     ((p.term ≡ r.term) ⊎ IsInChain w r.term r.output.hart r.output.step p.term) × (r.output.step < count_at p.counts r.output.hart)
 
--- `need` keepers have the output inside the position of whatever store they have, unless they are
--- lost
+-- At the gate of its term `need` keepers acknowledged more than its step, and each of these has it inside the position of whatever
+-- store it has, and of what it wrote down, unless it is lost.
 pub record IsHeld (w : WorldView) (r : Released) : Type 0 where
-  pub by : ℕ → Bool
-  pub enough : w.need ≤ how_many w.keepers by
-  pub inside : (keeper : ℕ) (x : KeptView) (p : Position) → keeper < w.keepers → by keeper ≡ true → kept_at w.held keeper ≡ Some x →
-      IsPosition x.store p → IsInside w r p
+  pub number : ℕ
+  pub primary : RunningView
+  pub there : slice_get w.running number ≡ Some primary
+  pub of_term : primary.primary.opening.term ≡ r.term
+  pub enough : w.need ≤ how_many w.keepers (λ keeper. nat_lt r.output.step (acked_at primary.gate keeper r.output.hart))
+  pub inside : (keeper : ℕ) (x : KeptView) (p : Position) → r.output.step < acked_at primary.gate keeper r.output.hart →
+      kept_at w.held keeper ≡ Some x → IsPosition x.store p → IsInside w r p
+  pub written : (keeper : ℕ) (x : KeptView) (p : Position) → r.output.step < acked_at primary.gate keeper r.output.hart →
+      kept_at w.held keeper ≡ Some x → IsPosition x.place.store p → IsInside w r p
 
 -- what went out has one step and word for each hart and number, over all terms
 abbrev pub IsOne : WorldView → Type 0

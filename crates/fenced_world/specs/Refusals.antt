@@ -193,6 +193,7 @@ pub record MayHaveSaved (x y : KeptView) : Type 0 where
 
 -- the place failed: the fence may be written down or not, and is not raised
 pub record MayHaveRaised (term : ℕ) (x y : KeptView) : Type 0 where
+  pub above : x.fence ≤ term
   pub own : y.number ≡ x.number
   pub store : y.store ≡ x.store
   pub fence : y.fence ≡ x.fence
@@ -201,9 +202,9 @@ pub record MayHaveRaised (term : ℕ) (x y : KeptView) : Type 0 where
   pub saved : y.saved ≡ x.saved
   pub failures : IsOneMore x.place.failures y.place.failures
 
--- Nothing happened, but that fences may have been raised to a term that is not granted for want of memory.
-abbrev pub IsLeftByGrant : WorldView → ℕ → FencedFault → WorldView → Type 0
-IsLeftByGrant v term fault w = (w ≡ v) ⊎ ((fault ≡ Memory) × HasRaised v term w)
+-- Nothing happened, but that fences of the named keepers may have been raised to a term that is not granted for want of memory.
+abbrev pub IsLeftByGrant : WorldView → ℕ → List ℕ → FencedFault → WorldView → Type 0
+IsLeftByGrant v term named fault w = (w ≡ v) ⊎ ((fault ≡ Memory) × HasRaised v term named w)
 
 -- Nothing happened, but what a want of memory may leave. A keeper to which it is refused as it comes back is lost.
 abbrev pub IsLeft : WorldView → FencedEvent → FencedFault → WorldView → Type 0
@@ -212,5 +213,5 @@ IsLeft v (on.Release term) fault w = (w ≡ v) ⊎ ((fault ≡ Memory) × Does v
 IsLeft v (on.Save keeper) fault w = (w ≡ v) ⊎ ((fault ≡ Memory) × DoesKeeper v keeper MayHaveSaved w)
 IsLeft v (on.Fence keeper term) fault w = (w ≡ v) ⊎ ((fault ≡ Memory) × DoesKeeper v keeper (MayHaveRaised term) w)
 IsLeft v (on.Restart keeper) fault w = (w ≡ v) ⊎ ((fault ≡ Memory) × Loses v keeper w)
-IsLeft v (on.Grant term keepers) fault w = IsLeftByGrant v term fault w
+IsLeft v (on.Grant term keepers) fault w = IsLeftByGrant v term keepers.items fault w
 IsLeft v _ fault w = w ≡ v

@@ -34,6 +34,7 @@ abbrev pub with_book : RunningView → BookView RecordingView → RunningView
 with_book r book = record r { primary = record r.primary { book = book } }
 
 -- All outputs of the primary's machine were offered, and those went out that waited and whose step enough keepers have
--- acknowledged.
-abbrev pub LetsGo : RunningView → List Released → RunningView → List Released → Type 0
-LetsGo r was s now = LetGo r.primary.opening.term r.primary.book.machine r.gate was s.gate now
+-- acknowledged; nothing was done to the primary.
+pub record LetsGo (r : RunningView) (was : List Released) (s : RunningView) (now : List Released) : Type 0 where
+  pub lets : LetGo r.primary.opening.term r.primary.book.machine r.gate was s.gate now
+  pub rest : s ≡ record r { gate = s.gate }

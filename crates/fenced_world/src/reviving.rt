@@ -8,7 +8,7 @@ ghost use Rattle.fenced_world.specs.Keepers.{gift_of};
 use crate::running::Running;
 use fenced_keeper::Given;
 use fenced_live::{GivenFault, go_live_given};
-use ft_types::Term;
+use ft_types::{Hart, Term};
 use go_live::{Live, LiveFault};
 use guest_image::Image;
 use primary::{Primary, offer_all};
@@ -37,7 +37,10 @@ pub(crate) fn revived(
     let Ok(mut gate) = TermGate::new(alloc, term, harts, keepers, need, &marks) else {
         return Err(GivenFault::Live(LiveFault::Memory));
     };
-    if offer_all(&mut gate, primary.book.machine()).is_err() {
+    let all = offer_all(&mut gate, primary.book.machine());
+    // proof: what a gate passes over is below its marks.
+    gate.offered(Hart::new(0));
+    if all.is_err() {
         return Err(GivenFault::Live(LiveFault::Memory));
     }
     Ok(Running { primary, gate })

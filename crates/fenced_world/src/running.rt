@@ -136,6 +136,7 @@ impl Running {
           gate = record self.old.gate { acked = slice_set self.old.gate.acked keeper position.now.counts };
         }) }
         ensures term { OnOk result (position.now.term ≡ self.old.primary.opening.term) }
+        ensures no_lower { OnOk result ((hart : ℕ) → hart < self.old.gate.harts → acked_at self.old.gate keeper hart ≤ slice_index position.now.counts hart) }
         ensures other_term { (result ≡ Err AckFault.OtherTerm) ↔ (position.now.term ≢ self.old.primary.opening.term) }
         ensures lower { IfErr result (λ fault. fault ≡ AckFault.Lower →
             (hart : ℕ) × (slice_index position.now.counts hart < acked_at self.old.gate keeper hart)) }
@@ -153,6 +154,7 @@ impl Running {
         requires offered { AreOffered self.old.gate.gate self.old.primary.book.machine }
         ensures rest { self.new ≡ record self.old { gate = record self.old.gate { gate = self.new.gate.gate } } }
         ensures offered { AreRising self.old.primary.book.machine → AreOffered self.new.gate.gate self.old.primary.book.machine }
+        ensures harts { length self.old.primary.book.machine.harts ≡ self.old.gate.harts }
         ensures goes { OnOk result (LetsGo self.old released.old.items self.new released.new.items) }
         ensures was { OnErr result (IsAsItWas self.old.gate self.new.gate) }
         ensures none { OnErr result (released.new.items ≡ released.old.items) }

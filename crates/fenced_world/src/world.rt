@@ -124,7 +124,7 @@ impl FencedWorld {
 
         // Over all that happened to the world: a hart's output of a number has one step and one word, whatever terms let it out; the
         // machine of each primary of its term or a later one has it; each later term has it inside its chain, and below its base;
-        // and enough keepers hold it.
+        // and enough keepers acknowledged it at the gate of its term, each of which holds it.
         ensures one { IsOne self.now }
         ensures has { IsOfMachines self.now }
         ensures kept { IsKept self.now }
@@ -379,7 +379,7 @@ impl FencedWorld {
 
     /// Each of these keepers raises its fence to the term.
     fn raise_all(&mut self, term: Term, keepers: &[u64]) -> Result<(), Memory>
-        ensures raised { HasRaised self.old term self.new }
+        ensures raised { HasRaised self.old term keepers.now self.new }
         ensures all { OnOk result (All (λ k. IsAtTerm self.new.held term k) keepers.now) }
     {
         for keeper in keepers {
@@ -409,7 +409,7 @@ impl FencedWorld {
     fn grant(&mut self, alloc: Global, term: Term, keepers: &[u64]) -> Result<(), FencedFault>
         ensures happens { OnOk result (Grants self.old term keepers.now self.new) }
         ensures refused { IfErr result (λ f. RefusesGrant self.old term keepers.now f) }
-        ensures left { IfErr result (λ f. IsLeftByGrant self.old term f self.new) }
+        ensures left { IfErr result (λ f. IsLeftByGrant self.old term keepers.now f self.new) }
         ensures image { self.new.image ≡ self.old.image }
     {
         if let Some(fault) = self.why_not_granted(term, keepers) {

@@ -1,7 +1,8 @@
 -- What ties the world to the theory of fencing. Machinery: nothing here needs to be believed.
-use Rattle.std.specs.Prelude.{ℕ, ◌≡◌, ◌<◌, ◌≤◌, List, length, Contains, slice_get, Option, Some}
+use Rattle.std.specs.Prelude.{ℕ, ◌≡◌, ◌<◌, ◌≤◌, List, length, Contains, nat_lt, slice_get, Option, Some}
 use Rattle.ft_types.specs.declared.names.TheConstants.{KEEPER_LIMIT}
 use Rattle.ft_types.specs.Guests.{IsGuest}
+use Rattle.ft_types.specs.declared.output.Output.{Output}
 use Rattle.interleaving.specs.Stored.{system_of}
 use Rattle.rv32_hart.specs.Hardware.{hardware}
 use Rattle.guest_image.specs.Image.{guest_of}
@@ -12,11 +13,12 @@ use Rattle.log_join.specs.Families.{Past, Family}
 use Rattle.hart_replay.specs.Images.{GuestTerm, IsHistoryOf, boot_of}
 use Rattle.hart_replay.specs.Primaries.{term_of as history_of, IsTermOfBook, IsSealedTo}
 use Rattle.book_recorder.specs.TermBooks.{IsTermBook, AreTheory}
+use Rattle.fenced_theory.specs.Lists.{how_many}
 use Rattle.fenced_theory.specs.Machines.{IsRecorder}
 use Rattle.fenced_theory.specs.Worlds.{Quorum, Released as TheoryReleased}
 use Rattle.fenced_theory.specs.Worlds as theory
 use Rattle.fenced_keeper.specs.Following.{Stands}
-use Rattle.term_gate.specs.TermGates.{acked_at}
+use Rattle.term_gate.specs.TermGates.{TermGateView, acked_at}
 use Rattle.primary.specs.declared.granted.Primary.{Primary}
 use Rattle.primary.specs.declared.released.Released.{Released}
 use Rattle.primary.specs.Gating.{AreOffered}
@@ -85,6 +87,19 @@ pub record IsTied (v : WorldView) : Type 0 where
   pub went_out : WentOut v.released world.released
   pub is_history : IsHistoryOf v.image (history terms)
 
+-- so many keepers acknowledged more than the output's step at the gate, for a hart that it has
+pub record IsBacked (keepers need : ℕ) (g : TermGateView) (o : Output) : Type 0 where
+  pub in_row : o.hart < g.harts
+  pub enough : need ≤ how_many keepers (λ keeper. nat_lt o.step (acked_at g keeper o.hart))
+
+-- the primary of its term stands among them, and its gate has it backed
+pub record IsLetOut (keepers need : ℕ) (running : List RunningView) (out : Released) : Type 0 where
+  pub number : ℕ
+  pub primary : RunningView
+  pub at : slice_get running number ≡ Some primary
+  pub of_term : primary.primary.opening.term ≡ out.term
+  pub backed : IsBacked keepers need primary.gate out.output
+
 -- the parts of the world fit together
 pub record AreParts (v : WorldView) : Type 0 where
   pub guest : IsGuest (guest_of v.image)
@@ -98,6 +113,7 @@ pub record AreParts (v : WorldView) : Type 0 where
   pub led : (n : ℕ) (r : RunningView) → slice_get v.running n ≡ Some r →
       LeadsTo (heard_by r.primary.book.mode) r.primary.book.start r.primary.book.journal r.primary.book.machine
   pub harts_of : (n : ℕ) (r : RunningView) → slice_get v.running n ≡ Some r → r.gate.harts ≡ v.image.harts
+  pub let_out : (out : Released) → Contains v.released out → IsLetOut v.keepers v.need v.running out
 
 pub record IsWorld (v : WorldView) : Type 0 where
   pub parts : AreParts v

@@ -13,6 +13,7 @@ loop-number-preserved c =
       written = c.in-Ok.ensures.place.0 ∙ c.new-place.ensures.store;
       fence = c.in-Ok.ensures.fence ∙ c.new-place.ensures.fence;
       written_fence = c.in-Ok.ensures.place.1 ∙ c.new-place.ensures.fence;
+      known = c.in-Ok.ensures.known;
     } in
     one_more_row (IsNewKeeper c.args.guest) c.loop-number.held.items c.push.new.self.items c.loop-number.number x many c.in_ok-push.ensures.items
     c.loop-number.invariant.1 new

@@ -40,7 +40,7 @@ module _ (c : goal.Else-is_err) where
   p = c.going_on-primary.result
 
   abbrev running : RunningView
-  running = record { primary = p; gate = c.offer_all.new.gate }
+  running = record { primary = p; gate = c.offer_all-all.new.gate }
 
   at : IsAtPosition c.args.image.now (stores_in (map gift_of c.args.given.now)) c.args.term c.in_ok-live.live.book.start c.in_ok-live.live.opening
       c.in_ok-live.live.marks
@@ -64,14 +64,14 @@ module _ (c : goal.Else-is_err) where
         unused = unused_so c.args.image.now stores c.args.term live.book.start live.opening live.marks at p opens start c.going_on-primary.ensures.unused;
         uncut = uncut_so c.args.image.now stores c.args.term live.book.start live.opening live.marks at p opens start c.going_on-primary.ensures.uncut;
         fresh =
-            fresh c.in-Ok.gate c.offer_all.new.gate c.args.term c.args.keepers c.args.need c.args.image.now.harts live.marks
+            fresh c.in-Ok.gate c.offer_all-all.new.gate c.args.term c.args.keepers c.args.need c.args.image.now.harts live.marks
             (c.in-Ok.ensures.harts ∙ c.harts-harts.ensures.value) c.in-Ok.ensures.parts.0 c.in-Ok.ensures.parts.1 c.in-Ok.ensures.parts.2
             (c.in-Ok.ensures.acked ∙ ap (λ n. replicate c.args.keepers (replicate n 0)) c.harts-harts.ensures.value) c.in-Ok.ensures.noted c.in-Ok.ensures.lines
-            c.offer_all.ensures.more;
+            c.offer_all-all.ensures.more c.offered.ensures.passed;
         offered =
-            subst (AreAllOffered c.offer_all.new.gate.gate) c.machine.ensures.value
-            (on_ok c.offer_all.result (AreAllOffered c.offer_all.new.gate.gate c.machine.result.now) (sym c.is_err.ensures.value ∙ c.if-is_err.false)
-            c.offer_all.ensures.all);
+            subst (AreAllOffered c.offer_all-all.new.gate.gate) c.machine.ensures.value
+            (on_ok c.offer_all-all.result (AreAllOffered c.offer_all-all.new.gate.gate c.machine.result.now) (sym c.is_err.ensures.value ∙ c.if-is_err.false)
+            c.offer_all-all.ensures.all);
       }
 
 pub invariant_of-result : goal.invariant_of-result

@@ -10,6 +10,7 @@ use Rattle.log_join.specs.Stores.{nothing}
 use Rattle.primary.specs.Primaries.{IsBooted}
 use Rattle.failover_world.specs.Worlds.{WorldView}
 use Rattle.failover_world.proofs.Beginning.{first_world}
+use Rattle.failover_world.proofs.Reviving.{unmarked}
 use Rattle.failover_world.proofs.world.World.new.Goals as goal
 
 pub invariant_of-result : goal.invariant_of-result
@@ -51,3 +52,9 @@ invariant_of-result c =
       acked = c.in_ok-gate.ensures.acked ∙ ap (λ (n : ℕ). let zero : ℕ = 0 in replicate c.args.keepers (replicate n zero)) harts;
       lines = λ hart. c.in_ok-gate.ensures.lines hart ∙ ap (λ (row : List ℕ). fresh_line (count_at row hart)) c.zero.ensures;
     })
+
+pub returns-clause-gate : goal.returns-clause-gate
+returns-clause-gate c =
+    let made = c.in_ok-gate.ensures in
+    unmarked c.in_ok-gate.gate c.args.keepers c.args.need c.args.image.now.harts c.harts.result c.zero.result c.harts.ensures.value c.zero.ensures made.harts
+    made.parts made.acked made.noted made.lines

@@ -157,6 +157,6 @@ returns-clause-goes c =
           fresh c.in_ok-gate.gate c.offer_all.new.gate c.args.term v.keepers v.need v.image.harts live.marks (c.in_ok-gate.ensures.harts ∙ c.harts-harts.ensures.value)
           c.in_ok-gate.ensures.parts.0 c.in_ok-gate.ensures.parts.1 c.in_ok-gate.ensures.parts.2
           (c.in_ok-gate.ensures.acked ∙ ap (λ n. replicate v.keepers (replicate n 0)) c.harts-harts.ensures.value) c.in_ok-gate.ensures.noted c.in_ok-gate.ensures.lines
-          c.offer_all.ensures.more;
+          c.offer_all.ensures.more c.offered.ensures.passed;
       offered = subst (AreAllOffered c.offer_all.new.gate.gate) c.machine.ensures.value c.in_ok-offer_all.ensures.all;
     })

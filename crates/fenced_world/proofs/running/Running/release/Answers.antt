@@ -1,4 +1,4 @@
-use Rattle.std.proofs.Common.{◌≡◌, sym, ap, subst, ◌∙◌}
+use Rattle.std.proofs.Common.{◌≡◌, refl, sym, ap, subst, ◌∙◌}
 use Rattle.guest_image.specs.Machine.{MachineState}
 use Rattle.primary.specs.Gating.{AreOffered, AreRising, LetGo, IsAsItWas}
 use Rattle.primary.proofs.Gates.{left_if}
@@ -63,6 +63,10 @@ returns-clause-goes c =
     let s : RunningView = record r { gate = c.release_outputs.new.gate } in
     let now = c.release_outputs.new.released.items in
     subst (λ (q : RunningView). LetsGo q c.args.released.now.items s now) c.self.view_is
-    (subst (λ t. LetGo t r.primary.book.machine r.gate c.args.released.now.items s.gate now) c.term-term.ensures
-    (subst (λ (m : MachineState). LetGo c.term-term.result m r.gate c.args.released.now.items s.gate now) c.machine.ensures.value
-    c.in_ok-release_outputs.ensures.goes.0))
+    (record {
+      lets =
+          subst (λ t. LetGo t r.primary.book.machine r.gate c.args.released.now.items s.gate now) c.term-term.ensures
+          (subst (λ (m : MachineState). LetGo c.term-term.result m r.gate c.args.released.now.items s.gate now) c.machine.ensures.value
+          c.in_ok-release_outputs.ensures.goes.0);
+      rest = refl;
+    })

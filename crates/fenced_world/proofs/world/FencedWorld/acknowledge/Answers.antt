@@ -1,7 +1,8 @@
-use Rattle.std.proofs.Common.{◌≡◌, length, slice_get, slice_set, Some, Err, OnOk, IfErr, refl, sym, ap, subst, ◌∙◌, arith}
+use Rattle.std.proofs.Common.{◌≡◌, ℕ, ◌<◌, ◌≤◌, length, slice_get, slice_index, slice_set, Some, Err, OnOk, IfErr, refl, sym, ap, subst, ◌∙◌, arith}
 use Rattle.std.proofs.lemmas.Result.{err_from_is_err_and}
 use Rattle.ft_types.specs.Guests.{GuestParts}
 use Rattle.ft_types.specs.declared.position.Position.{Position}
+use Rattle.term_gate.specs.TermGates.{acked_at}
 use Rattle.fenced_world.specs.declared.event.FencedEvent.TheVariants as on
 use Rattle.fenced_world.specs.declared.fault.FencedFault.TheVariants.{Ack}
 use Rattle.fenced_world.specs.Keepers.{KeptView, kept_at}
@@ -112,7 +113,7 @@ invariant_of-self c =
     let r : RunningView = c.index_mut.result.now in
     let found = at_found v.running c.as_slice-2.result.now p.term c.in-Some-find.number r c.as_slice-2.ensures.value c.in-Some-find.ensures.some c.index_mut.ensures.value in
     acked_world v c.self.invariant c.in-Some-find.number r found.0 c.args.keeper x p there c.in_ok-position.ensures.ok found.1 c.acknowledge.new.self
-    c.new.result c.new.ensures c.acknowledge.result c.acknowledge.ensures.acked c.acknowledge.ensures.kept
+    c.new.result c.new.ensures c.acknowledge.result c.acknowledge.ensures.acked c.acknowledge.ensures.no_lower c.acknowledge.ensures.kept
 
 pub returns-clause-happens : goal.returns-clause-happens
 returns-clause-happens c =
@@ -149,9 +150,14 @@ returns-clause-happens c =
               there = found.0;
               of_term = found.1;
               after = c.acknowledge.new.self;
-              deed =
-                  b.in-Ok.ensures.acked
-                  ∙ ap (λ k. let q : RunningView = record r { gate = record r.gate { acked = slice_set r.gate.acked k p.counts } } in q) c.new.ensures;
+              deed = record {
+                no_lower =
+                    subst (λ k. (hart : ℕ) → hart < r.gate.harts → acked_at r.gate k hart ≤ slice_index p.counts hart) c.new.ensures
+                    b.in-Ok.ensures.no_lower;
+                rest =
+                    b.in-Ok.ensures.acked
+                    ∙ ap (λ k. let q : RunningView = record r { gate = record r.gate { acked = slice_set r.gate.acked k p.counts } } in q) c.new.ensures;
+              };
               rest = refl;
             };
             rest = refl;

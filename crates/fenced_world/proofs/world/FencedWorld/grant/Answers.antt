@@ -44,8 +44,8 @@ invariant_of-self-2 c =
     let first : RunningView = c.in_ok-first.first in
     let from : GoesLiveFrom v c.args.term c.args.keepers.now first =
     subst (λ (w : WorldView). GoesLiveFrom w c.args.term c.args.keepers.now first) (sym c.self.view_is) c.in_ok-first.ensures.goes in
-    let was : HasRaised c.args.self.now c.args.term v =
-    subst (HasRaised c.args.self.now c.args.term) (sym c.self.view_is) c.raise_all.ensures.raised in
+    let was : HasRaised c.args.self.now c.args.term c.args.keepers.now v =
+    subst (HasRaised c.args.self.now c.args.term c.args.keepers.now) (sym c.self.view_is) c.raise_all.ensures.raised in
     let running : c.push_reserved-2.new.self.items ≡ v.running ++ first ∷ [] =
     c.push_reserved-2.ensures.items ∙ ap (λ (rs : List RunningView). rs ++ first ∷ []) c.reserve.ensures.items in
     let sent : c.push_reserved.new.self.items ≡ v.sent ++ Opening first.primary.opening ∷ [] =
@@ -56,7 +56,7 @@ invariant_of-self-2 c =
     ≡ begun v (v.running ++ first ∷ []) (v.sent ++ Opening first.primary.opening ∷ []) =
     ap (λ rs. begun v rs c.push_reserved.new.self.items) running ∙ ap (begun v (v.running ++ first ∷ [])) sent in
     subst IsWorld (sym now)
-    (went_live v c.self.invariant c.args.term c.args.keepers.now first (still_new c.args.self.now v c.args.term was c.in_default.ensures.none.1.new) from)
+    (went_live v c.self.invariant c.args.term c.args.keepers.now first (still_new c.args.self.now v c.args.term c.args.keepers.now was c.in_default.ensures.none.1.new) from)
 
 pub returns-clause-happens : goal.returns-clause-happens
 returns-clause-happens c =
@@ -72,8 +72,8 @@ returns-clause-happens c =
     let first : RunningView = c.in_ok-first.first in
     let from : GoesLiveFrom v c.args.term c.args.keepers.now first =
     subst (λ (w : WorldView). GoesLiveFrom w c.args.term c.args.keepers.now first) (sym c.self.view_is) c.in_ok-first.ensures.goes in
-    let was : HasRaised c.args.self.now c.args.term v =
-    subst (HasRaised c.args.self.now c.args.term) (sym c.self.view_is) c.raise_all.ensures.raised in
+    let was : HasRaised c.args.self.now c.args.term c.args.keepers.now v =
+    subst (HasRaised c.args.self.now c.args.term c.args.keepers.now) (sym c.self.view_is) c.raise_all.ensures.raised in
     let running : c.push_reserved-2.new.self.items ≡ v.running ++ first ∷ [] =
     c.push_reserved-2.ensures.items ∙ ap (λ (rs : List RunningView). rs ++ first ∷ []) c.reserve.ensures.items in
     let sent : c.push_reserved.new.self.items ≡ v.sent ++ Opening first.primary.opening ∷ [] =

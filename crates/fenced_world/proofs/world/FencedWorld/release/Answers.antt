@@ -59,7 +59,7 @@ invariant_of-self-2 c =
     let r : RunningView = c.index_mut.result.now in
     let found = at_found v.running c.as_slice.result.now c.args.term c.in-Some.number r c.as_slice.ensures.value c.in-Some.ensures.some c.index_mut.ensures.value in
     released v c.self.invariant c.in-Some.number r found.0 c.release.new.self c.release.new.released.items c.release.ensures.rest c.release.ensures.offered
-    c.in_ok-release.ensures.goes
+    c.release.ensures.harts c.in_ok-release.ensures.goes
 
 pub returns-in_err-release-clause-refused : goal.returns-in_err-release-clause-refused
 returns-in_err-release-clause-refused c =

@@ -22,4 +22,4 @@ returns-clause-within c =
 
 pub returns-clause-held : goal.returns-clause-held
 returns-clause-held c =
-    let is : IsWorld c.args.self.now = subst (λ (v : WorldView). IsWorld v) c.self.view_is c.self.invariant in are_held c.args.self.now is.tied
+    let is : IsWorld c.args.self.now = subst (λ (v : WorldView). IsWorld v) c.self.view_is c.self.invariant in are_held c.args.self.now is.tied is.parts.let_out
