@@ -1,5 +1,5 @@
 -- How many numbers below a limit are in a list; sets that have the numbers of a list; lists that share one.
-use Rattle.std.proofs.Common.{◌≡◌, ℕ, zero, suc, ◌+◌, ◌<◌, ◌≤◌, ◌||◌, Bool, true, false, if◌then◌else◌, List, [], ◌∷◌, ◌++◌, length, Contains, get_or}
+use Rattle.std.proofs.Common.{◌≡◌, ℕ, zero, suc, ◌+◌, ◌<◌, ◌≤◌, ◌||◌, Bool, true, false, if◌then◌else◌, List, [], ◌∷◌, ◌++◌, length, Contains, get_or, take, count_by, ◌↔◌, ◌-◌}
 use Rattle.std.proofs.Common.{slice_set, slice_index_or, refl, sym, ap, subst, ◌∙◌, arith, inl, inr}
 use Rattle.std.specs.Prelude.{◌==◌}
 use Rattle.std.specs.List.{list_any, Any}
@@ -7,7 +7,8 @@ use Rattle.std.proofs.lemmas.Bool.{cases_lt}
 use Rattle.std.proofs.lemmas.Bool.Decides.{eqb_tells}
 use Rattle.std.proofs.lemmas.List.{get_or-set_same, get_or-set_other, length-set}
 use Rattle.std.proofs.lemmas.List.Folds.{list_any-append, Any-from_list_any}
-use Rattle.go_live.specs.Quorums.{distinct_below, ShareOne, AreMembers}
+use Rattle.std.proofs.lemmas.List.Sums.{count_by_more_yes, count_by_more_no}
+use Rattle.go_live.specs.Quorums.{distinct_below, AreEnough, ShareOne, AreMembers}
 
 abbrev is_in : List ℕ → ℕ → Bool
 is_in ns n = list_any (λ m. m == n) ns
@@ -61,10 +62,6 @@ one_below (suc k) n ns less =
 pub none_below : (limit : ℕ) → distinct_below limit [] ≡ 0
 none_below zero = refl
 none_below (suc k) = none_below k
-
--- one number further
-pub next_below : (n : ℕ) (ns : List ℕ) → distinct_below (n + 1) ns ≡ (if is_in ns n then distinct_below n ns + 1 else distinct_below n ns)
-next_below n ns = ap (λ (k : ℕ). distinct_below k ns) (let e : n + 1 ≡ suc n = omega arith in e)
 
 -- they are no more than the list is long
 pub within_length : (limit : ℕ) (ns : List ℕ) → distinct_below limit ns ≤ length ns
@@ -133,6 +130,31 @@ none_of false h = refl
 
 pub members_none : (set : List Bool) → length set ≡ 5 → ((n : ℕ) → get_or set n false ≡ true → ⊥) → HasThese [] set
 members_none set sized none = record { sized = sized; members = λ n. none_of (get_or set n false) (none n) }
+
+-- the members below a limit are so many
+pub counted_below : (set : List Bool) (ns : List ℕ) → AreMembers set ns → (n : ℕ) → n ≤ length set →
+    count_by (λ member. member) (take n set) ≡ distinct_below n ns
+counted_below set ns are zero le = refl
+counted_below set ns are (suc n) le =
+    ap (λ (k : ℕ). count_by (λ member. member) (take k set)) (let e : suc n ≡ n + 1 = omega arith in e)
+    ∙ of (get_or set n false) refl (omega (arith, le)) (counted_below set ns are n (omega (arith, le)))
+  where
+    of : (b : Bool) → get_or set n false ≡ b → n < length set → count_by (λ member. member) (take n set) ≡ distinct_below n ns →
+        count_by (λ member. member) (take (n + 1) set) ≡ distinct_below (suc n) ns
+    of true is less rest =
+        count_by_more_yes (λ member. member) set n false less is
+        ∙ ap (λ (many : ℕ). many + 1) rest
+        ∙ ap (λ (b : Bool). if b then distinct_below n ns + 1 else distinct_below n ns) (sym is ∙ are n)
+    of false is less rest =
+        count_by_more_no (λ member. member) set n false less is
+        ∙ rest
+        ∙ ap (λ (b : Bool). if b then distinct_below n ns + 1 else distinct_below n ns) (sym is ∙ are n)
+
+-- so those who are enough by the set are enough by the list
+pub enough_by : (set : List Bool) (ns : List ℕ) (keepers need : ℕ) → AreMembers set ns → length set ≡ 5 → keepers ≤ 5 → {P : Type 0} →
+    (P ↔ (keepers - need + 1 ≤ count_by (λ member. member) (take keepers set))) → P ↔ AreEnough keepers need ns
+enough_by set ns keepers need are sized limit {P} is =
+    subst (λ (many : ℕ). P ↔ (keepers - need + 1 ≤ many)) (counted_below set ns are keepers (omega (arith, sized, limit))) is
 
 -- ---- lists that share one
 

@@ -1,6 +1,6 @@
 //! Whether keepers, terms and stores are those that a primary may go live with.
 
-ghost use Rattle.std.specs.Prelude.{◌≡◌, ◌≢◌, ◌≤◌, ◌↔◌, ℕ, List, map, IsTrue, All};
+ghost use Rattle.std.specs.Prelude.{◌≡◌, ◌≢◌, ◌≤◌, ◌-◌, ◌+◌, ◌↔◌, map, take, count_by, IsTrue, All};
 ghost use Rattle.std.specs.List.{Any};
 ghost use Rattle.ft_types.specs.declared.names.TheConstants.{KEEPER_LIMIT};
 ghost use Rattle.go_live.specs.Quorums.{AreEnough, AreMembers, IsNew, IsOld};
@@ -23,7 +23,7 @@ pub fn keepers_of(stores: &[(Keeper, &Store)]) -> KeeperSet
 /// Whether more of the keepers, which have the numbers below `keepers`, are in the set than can be left out where `need` hold an output.
 pub fn suffice(set: KeeperSet, keepers: u8, need: u8) -> bool
     requires { (need ≤ keepers) × (keepers ≤ KEEPER_LIMIT) }
-    ensures { (here : List ℕ) → AreMembers set here → (IsTrue result ↔ AreEnough keepers need here) }
+    ensures { IsTrue result ↔ (keepers - need + 1 ≤ count_by (λ member. member) (take keepers set)) }
 {
     let mut here = 0;
     for number in 0..keepers {
