@@ -165,6 +165,9 @@ is 'torn acknowledgements, and those of another guest, term, keeper or number of
 seal "$image" 'ack 1 1 999999 999999' > acks.1
 sleep 0.5
 is 'nor does one keeper' "$((asked - 1))" "$(wc -l < answers)"
+seal "$image" 'ack 1 0 999999 999999' > acks.0
+sleep 0.5
+is 'nor do two who acknowledge what was never sent' "$((asked - 1))" "$(wc -l < answers)"
 for k in 0 1 2; do keep "$k"; done
 has answers "number $((asked - 1)) word a0070000"
 is 'keepers that are back do' "number $((asked - 1)) word a0070000" "$(tail -n 1 answers)"
@@ -216,7 +219,7 @@ refuses() {
     local what=$1 line=$2
     shift 2
     : > none
-    "$live" primary "$image" 7 1 1 in none out none to none from none with "$@" 2> err
+    "$live" primary "$image" 7 2 2 in none out none to none from none with "$@" 2> err
     is "$what: status" 1 "$?"
     is "$what: line" "$line" "$(cat err)"
 }
@@ -244,6 +247,15 @@ refuses 'frames of one key' 'fault handed 0 clash' handed
 as_handed 0 clash > handed
 as_handed 1 clash.too > handed.too
 refuses 'frames of one key in two logs' 'fault handed clash' handed handed.too
+as_handed 2 clash > handed.too
+refuses 'a log of one that is no keeper' 'fault handed keeper' handed handed.too
+
+# Two keepers that both must hold an answer: one of them is enough for nobody, so that no two lead one term by one log each.
+as_handed 1 clash > handed.too
+refuses 'one of two keepers' 'fault live 1' handed
+refuses 'the other one' 'fault live 1' handed.too
+"$live" primary "$image" 7 2 2 in none out told to sent from none with handed handed.too 2> err
+is 'both of them' '0 ' "$? $(cat err)"
 seal "$image" "handed 7 0 $(wc -c < log.0)" | tr 7 8 | cat - log.0 > handed
 refuses 'a seal that is not its own' 'fault handed 0 line' handed
 

@@ -7,7 +7,7 @@ use fenced_live::{GivenFault, go_live_given};
 use fixtures::{HALTS, TWO_LOOPS, edge, hart, image_of, key, opening_of, piece_of};
 use fragment_codec::{Frame, Record};
 use ft_types::{Count, Counts, Guest, Keeper, Memory, Term};
-use go_live::{Live, LiveFault, go_live, live_histories};
+use go_live::{Live, LiveFault, enough_meet_any, go_live, live_histories, most_meet_most};
 use guest_image::Image;
 use hart_replay::ReplayFault;
 use log_join::Store;
@@ -103,7 +103,7 @@ const OTHER: Kept = (
     &[Part::Opens(1, 0, &[0, 0]), Part::Did(1, 9, None)],
 );
 
-static ROWS: [Row; 12] = [
+static ROWS: [Row; 14] = [
     (
         "joined stores end",
         TWO_LOOPS,
@@ -173,6 +173,24 @@ static ROWS: [Row; 12] = [
         [4, 3],
         2,
         [SECOND, SECOND],
+        2,
+        Comes::TooFew,
+    ),
+    (
+        "numbers that are no keeper's",
+        TWO_LOOPS,
+        [3, 2],
+        3,
+        [SECOND, (4, TWO_LOOPS, &[])],
+        2,
+        Comes::TooFew,
+    ),
+    (
+        "one that is a keeper's, and one that is none",
+        TWO_LOOPS,
+        [3, 2],
+        3,
+        [FIRST, SECOND],
         2,
         Comes::TooFew,
     ),
@@ -464,5 +482,7 @@ fn faults_by_number(rt: HostRuntime) {
 #[test]
 fn the_laws_hold() {
     live_histories();
+    enough_meet_any();
+    most_meet_most();
     books_tell_on();
 }

@@ -73,6 +73,8 @@ pub enum FramesFault {
     Torn,
     /// They were handed over for another term.
     Term,
+    /// They were handed over by a number that is no keeper's.
+    Keeper,
 }
 
 impl FramesFault {
@@ -85,6 +87,7 @@ impl FramesFault {
             FramesFault::Length => " length",
             FramesFault::Torn => " torn",
             FramesFault::Term => " term",
+            FramesFault::Keeper => " keeper",
         }
     }
 

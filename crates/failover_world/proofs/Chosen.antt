@@ -15,7 +15,8 @@ use Rattle.hart_replay.specs.Primaries.{term_of as history_of}
 use Rattle.fenced_theory.specs.Lists.{how_many}
 use Rattle.failover_theory.specs.Worlds as theory
 use Rattle.failover_theory.proofs.Events.{always}
-use Rattle.go_live.specs.Quorums.{distinct, AreEnough}
+use Rattle.go_live.specs.Quorums.{distinct_below, AreEnough}
+use Rattle.go_live.proofs.Distinct.{within_length}
 use Rattle.go_live.specs.Joined.{AreJoinedTo, AreJoined}
 use Rattle.go_live.specs.Histories.{AreOfHistory}
 use Rattle.failover_world.specs.Worlds.{WorldView, store_at, term_of}
@@ -190,20 +191,12 @@ module _ (v : WorldView) (is : IsTied v) where
             (how_many m (chosen_of v.stores named)) (how_many n (chosen_of v.stores named)) rest_counted
             (next_count n (chosen_of v.stores named) false (ap (picks named n) (at 0 n (omega arith)) ∙ is_named))
 
-    fewer : (ns : List ℕ) → distinct ns ≤ length ns
-    fewer [] = omega arith
-    fewer (n ∷ ns) = of (list_any (λ m. m == n) ns) (fewer ns)
-      where
-        of : (b : Bool) → distinct ns ≤ length ns → (if b then distinct ns else distinct ns + 1) ≤ suc (length ns)
-        of true less = omega (arith, less)
-        of false less = omega (arith, less)
-
     over : (keepers need some many all : ℕ) → keepers - need + 1 ≤ some → some ≤ many → many + 0 ≡ all → keepers < need + all
     over keepers need some many all one two three = omega (arith, one, two, three)
 
     pub enough : AreEnough v.keepers v.need (map (λ s. s.0) (stores_of v.stores named)) →
         v.keepers < v.need + how_many (length v.stores) (chosen_of v.stores named)
     enough are =
-        over v.keepers v.need (distinct (map (λ s. s.0) (stores_of v.stores named))) (length (map (λ s. s.0) (stores_of v.stores named)))
-        (how_many (length v.stores) (chosen_of v.stores named)) are (fewer (map (λ s. s.0) (stores_of v.stores named)))
+        over v.keepers v.need (distinct_below v.keepers (map (λ s. s.0) (stores_of v.stores named))) (length (map (λ s. s.0) (stores_of v.stores named)))
+        (how_many (length v.stores) (chosen_of v.stores named)) are (within_length v.keepers (map (λ s. s.0) (stores_of v.stores named)))
         (count_from v.stores 0 (length v.stores) (λ k m is_so. ap (store_at v.stores) (let e : m ≡ k = omega (arith, is_so) in e)) (omega arith))

@@ -9,7 +9,8 @@ use Rattle.std.proofs.lemmas.Option.{slice_get-get_or}
 use Rattle.log_join.specs.Stores.{StoreView, IsLastTerm}
 use Rattle.go_live.specs.declared.fault.LiveFault.{LiveFault}
 use Rattle.go_live.specs.declared.fault.LiveFault.TheVariants.{TooFewStores, TermNotNew, Replay, Memory as NoLive}
-use Rattle.go_live.specs.Quorums.{distinct, AreEnough, HasTerm, IsNew, IsOld}
+use Rattle.go_live.specs.Quorums.{distinct_below, AreEnough, HasTerm, IsNew, IsOld}
+use Rattle.go_live.proofs.Distinct.{none_below, one_below}
 use Rattle.go_live.proofs.Newness.{is_later, not_both}
 use Rattle.failover_world.specs.Worlds.{WorldView, term_of}
 use Rattle.failover_world.specs.Happenings.{if_named, stores_of}
@@ -48,18 +49,22 @@ none_before named k (Some x ∷ stores) n less =
     ]
     of false rest = rest
 
-each_once : (named : List ℕ) (k : ℕ) (stores : List (Option StoreView)) →
-    distinct (map (λ s. s.0) (named_from k stores named)) ≡ length (named_from k stores named)
-each_once named k [] = refl
-each_once named k (None ∷ stores) = each_once named (k + 1) stores
-each_once named k (Some x ∷ stores) =
-    of (list_any (λ m. m == k) named) (none_before named (k + 1) stores k (omega arith)) (each_once named (k + 1) stores)
+each_once : (named : List ℕ) (limit k : ℕ) (stores : List (Option StoreView)) → k + length stores ≤ limit →
+    distinct_below limit (map (λ s. s.0) (named_from k stores named)) ≡ length (named_from k stores named)
+each_once named limit k [] within = none_below limit
+each_once named limit k (None ∷ stores) within = each_once named limit (k + 1) stores (omega (arith, within))
+each_once named limit k (Some x ∷ stores) within =
+    of (list_any (λ m. m == k) named) (none_before named (k + 1) stores k (omega arith)) (each_once named limit (k + 1) stores (omega (arith, within)))
   where
     of : (b : Bool) → list_any (λ m. m == k) (map (λ s. s.0) (named_from (k + 1) stores named)) ≡ false →
-        distinct (map (λ s. s.0) (named_from (k + 1) stores named)) ≡ length (named_from (k + 1) stores named) →
-        distinct (map (λ s. s.0) ((if b then (k, x) ∷ [] else []) ++ named_from (k + 1) stores named)) ≡
+        distinct_below limit (map (λ s. s.0) (named_from (k + 1) stores named)) ≡ length (named_from (k + 1) stores named) →
+        distinct_below limit (map (λ s. s.0) ((if b then (k, x) ∷ [] else []) ++ named_from (k + 1) stores named)) ≡
         length ((if b then (k, x) ∷ [] else []) ++ named_from (k + 1) stores named)
-    of true none rest = rw none (omega (arith, rest))
+    of true none rest =
+        let others = map (λ s. s.0) (named_from (k + 1) stores named) in
+        one_below limit k others (omega (arith, within))
+        ∙ ap (λ (b : Bool). if b then distinct_below limit others else distinct_below limit others + 1) none
+        ∙ (let e : distinct_below limit others + 1 ≡ suc (length (named_from (k + 1) stores named)) = omega (arith, rest) in e)
     of false none rest = rest
 
 -- ---- what is told of them
@@ -146,16 +151,20 @@ pub told_of : (v : WorldView) (named : List ℕ) (stores : List (Option StoreVie
 told_of v named stores many last are length_is new old =
     subst (λ xs. AreTold (stores_of xs named) many last) are (record { length_is = length_is; new = new; old = old })
 
-module _ (v : WorldView) (term : ℕ) (named : List ℕ) (many last : ℕ) (told : AreTold (stores_of v.stores named) many last) where
+module _ (v : WorldView) (term : ℕ) (named : List ℕ) (many last : ℕ) (told : AreTold (stores_of v.stores named) many last)
+    (all : length v.stores ≡ v.keepers) where
+  each : distinct_below v.keepers (map (λ s. s.0) (stores_of v.stores named)) ≡ length (stores_of v.stores named)
+  each = each_once named v.keepers 0 v.stores (omega (arith, all))
+
   pub too_few : many ≤ v.keepers - v.need → CannotGoLive v term named TooFewStores
   too_few few = λ enough.
-      let each = each_once named 0 v.stores in
+      let once = each in
       let length_is = told.length_is in
-      let are : v.keepers - v.need + 1 ≤ distinct (map (λ s. s.0) (stores_of v.stores named)) = enough in
-      omega (arith, few, each, length_is, are)
+      let are : v.keepers - v.need + 1 ≤ distinct_below v.keepers (map (λ s. s.0) (stores_of v.stores named)) = enough in
+      omega (arith, few, once, length_is, are)
 
   are_enough : v.keepers - v.need < many → AreEnough v.keepers v.need (map (λ s. s.0) (stores_of v.stores named))
-  are_enough most = let each = each_once named 0 v.stores in let length_is = told.length_is in omega (arith, most, each, length_is)
+  are_enough most = let once = each in let length_is = told.length_is in omega (arith, most, once, length_is)
 
   pub not_new : v.keepers - v.need < many → (term ≤ term_of v) ⊎ (term ≤ last) → CannotGoLive v term named TermNotNew
   not_new most (inl earlier) = (are_enough most, inl earlier)

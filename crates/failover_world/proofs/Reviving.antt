@@ -25,7 +25,7 @@ use Rattle.go_live.specs.declared.fault.LiveFault.{LiveFault}
 use Rattle.go_live.specs.declared.fault.LiveFault.TheVariants.{TooFewStores, TermNotNew, Replay, Memory as NoLive}
 use Rattle.go_live.specs.Faults.{IfReplay}
 use Rattle.primary.specs.Outputs.{numbered, said_at}
-use Rattle.go_live.specs.Quorums.{distinct, AreEnough, IsNew, IsOld}
+use Rattle.go_live.specs.Quorums.{distinct_below, AreEnough, IsNew, IsOld}
 use Rattle.go_live.specs.Lives.{IsAtPosition}
 use Rattle.primary.specs.Primaries.{no_limits, IsUncut}
 use Rattle.primary.proofs.Greatest.{in_limits}
@@ -111,13 +111,13 @@ module _ (v : WorldView) (is : IsTied v) (guest : IsGuest (guest_of v.image)) wh
 
   pub cannot : (term asked : ℕ) (named keepers : List ℕ) (stores : List StoreView) (fault : LiveFault) →
       keepers ≡ map (λ s. s.0) (stores_of v.stores named) → stores ≡ map (λ s. s.1) (stores_of v.stores named) → IsAsked v term asked →
-      (fault ≡ TooFewStores → distinct keepers < v.keepers - v.need + 1) →
+      (fault ≡ TooFewStores → distinct_below v.keepers keepers < v.keepers - v.need + 1) →
       (fault ≡ TermNotNew → AreEnough v.keepers v.need keepers × IsOld stores asked) →
       (fault ≡ Replay OtherGuest → Any (λ s. s.guest ≢ guest_of v.image) stores) →
       IfReplay fault (λ f. (h : GuestHistory) → AreOfHistory v.image h stores → f ≡ OtherGuest) → fault ≢ NoLive → CannotGoLive v term named fault
   cannot term asked named keepers stores TooFewStores are_keepers are asks few old other ends known = λ enough.
       let less = few refl in
-      let many : v.keepers - v.need + 1 ≤ distinct keepers = subst (AreEnough v.keepers v.need) (sym are_keepers) enough in
+      let many : v.keepers - v.need + 1 ≤ distinct_below v.keepers keepers = subst (AreEnough v.keepers v.need) (sym are_keepers) enough in
       omega (arith, less, many)
   cannot term asked named keepers stores TermNotNew are_keepers are asks few old other ends known = (
     subst (AreEnough v.keepers v.need) are_keepers (old refl).0,

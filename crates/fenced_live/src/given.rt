@@ -1,12 +1,14 @@
 //! What is looked at in given stores before anything grows, and the stores themselves.
 
-ghost use Rattle.std.specs.Prelude.{◌≡◌, ◌≢◌, ◌<◌, ◌≤◌, ◌-◌, ◌+◌, ◌↔◌, map, IsTrue, IfOk, All};
+ghost use Rattle.std.specs.Prelude.{◌≡◌, ◌≢◌, ◌≤◌, ◌↔◌, map, IsTrue, IfOk, All};
 ghost use Rattle.std.specs.List.{Any};
-ghost use Rattle.go_live.specs.Quorums.{distinct, AreEnough, IsNew, IsOld};
+ghost use Rattle.ft_types.specs.declared.names.TheConstants.{KEEPER_LIMIT};
+ghost use Rattle.go_live.specs.Quorums.{AreEnough, AreMembers, IsNew, IsOld};
 ghost use Rattle.frame_content.specs.Tests.{same_guest};
 
 use fenced_keeper::Given;
 use ft_types::{Guest, Keeper, KeeperSet, Memory, Term};
+use go_live::suffice;
 use log_join::Store;
 use std::alloc::Global;
 use std::result::Result;
@@ -24,23 +26,23 @@ pub(crate) fn are_to(given: &[Given<'_>], term: Term) -> bool
     true
 }
 
-/// How many keepers gave their stores.
-fn givers(given: &[Given<'_>]) -> usize
-    ensures { result ≡ distinct (map (λ g. g.keeper) given.now) }
+/// The keepers that gave their stores.
+fn givers(given: &[Given<'_>]) -> KeeperSet
+    ensures { AreMembers result (map (λ g. g.keeper) given.now) }
 {
     let mut keepers = KeeperSet::new();
     for one in given {
         keepers = keepers.with(one.keeper);
     }
-    keepers.len()
+    keepers
 }
 
 /// Whether more keepers gave their stores than can be left out where `need` hold an output.
 pub(crate) fn are_enough(given: &[Given<'_>], keepers: u8, need: u8) -> bool
-    requires { need ≤ keepers }
+    requires { (need ≤ keepers) × (keepers ≤ KEEPER_LIMIT) }
     ensures { IsTrue result ↔ AreEnough keepers need (map (λ g. g.keeper) given.now) }
 {
-    givers(given) > usize::from(keepers - need)
+    suffice(givers(given), keepers, need)
 }
 
 /// Whether the term is not 0, and greater than that of every key in the stores.

@@ -9,7 +9,7 @@ ghost use Rattle.ft_types.specs.Counts.{count_at};
 ghost use Rattle.hart_lease.specs.Runs.{counts_of};
 ghost use Rattle.book_modes.specs.Recordings.{IsUnused};
 ghost use Rattle.guest_image.specs.Image.{guest_of};
-ghost use Rattle.go_live.specs.Quorums.{distinct, AreEnough, IsNew, IsOld};
+ghost use Rattle.go_live.specs.Quorums.{distinct_below, AreEnough, IsNew, IsOld};
 ghost use Rattle.primary.specs.Outputs.{outputs_in};
 ghost use Rattle.hart_replay.specs.Images.{GuestHistory};
 ghost use Rattle.go_live.specs.Histories.{AreOfHistory, IsOfHistory, MakesLonger};
@@ -55,7 +55,7 @@ pub fn go_live_given(
 
     // The other faults, each exactly where it is due, in this order. Memory may be refused once the first two are looked at.
     ensures too_few { (result ≡ Err (GivenFault.Live LiveFault.TooFewStores))
-        ↔ (AreTo given.now term × (distinct (map (λ g. g.keeper) given.now) < keepers - need + 1)) }
+        ↔ (AreTo given.now term × (distinct_below keepers (map (λ g. g.keeper) given.now) < keepers - need + 1)) }
     ensures not_new { (result ≡ Err (GivenFault.Live LiveFault.TermNotNew))
         ↔ (AreTo given.now term × AreEnough keepers need (map (λ g. g.keeper) given.now) × IsOld (map (λ g. g.store.now) given.now) term) }
     ensures other_guest { (result ≡ Err (GivenFault.Live (LiveFault.Replay ReplayFault.OtherGuest)))

@@ -9,7 +9,7 @@ use Rattle.hart_replay.specs.Images.{GuestHistory}
 use Rattle.hart_replay.specs.Primaries.{IsPrimary}
 use Rattle.hart_replay.specs.declared.fault.ReplayFault.TheVariants.{OtherGuest}
 use Rattle.go_live.specs.declared.fault.LiveFault.TheVariants.{TooFewStores, TermNotNew, Replay, Memory}
-use Rattle.go_live.specs.Quorums.{distinct, AreEnough, IsOld}
+use Rattle.go_live.specs.Quorums.{distinct_below, AreEnough, IsOld}
 use Rattle.go_live.specs.Histories.{AreOfHistory, IsOfHistory, MakesLonger}
 use Rattle.primary.specs.declared.granted.Primary.{Primary}
 use Rattle.fenced_keeper.specs.declared.keeper.Given.{Given}
@@ -52,7 +52,7 @@ begins image term given p start opening same opens primary rules is_history long
 
 pub cannot : (image : ImageContents) (keepers need term : ℕ) (given : List Given) (fault : GivenFault) →
     (fault ≡ OtherTerm → Any (λ g. g.term ≢ term) given) →
-    (fault ≡ Live TooFewStores → distinct (map (λ g. g.keeper) given) < keepers - need + 1) →
+    (fault ≡ Live TooFewStores → distinct_below keepers (map (λ g. g.keeper) given) < keepers - need + 1) →
     (fault ≡ Live TermNotNew → AreEnough keepers need (map (λ g. g.keeper) given) × IsOld (map (λ g. g.store.now) given) term) →
     (fault ≡ Live (Replay OtherGuest) → Any (λ s. s.guest ≢ guest_of image) (map (λ g. g.store.now) given)) →
     IfReplay fault (λ f. (h : GuestHistory) → AreOfHistory image h (map (λ g. g.store.now) given) → f ≡ OtherGuest) →
@@ -60,7 +60,7 @@ pub cannot : (image : ImageContents) (keepers need term : ℕ) (given : List Giv
 cannot image keepers need term given OtherTerm other few old foreign ends = any_mapped gift_of (λ g. g.term ≢ term) given (other refl)
 cannot image keepers need term given (Live TooFewStores) other few old foreign ends = λ enough.
     let less = few refl in
-    let many : keepers - need + 1 ≤ distinct (map (λ g. g.keeper) given) = subst (AreEnough keepers need) (sym (given_givers given)) enough in
+    let many : keepers - need + 1 ≤ distinct_below keepers (map (λ g. g.keeper) given) = subst (AreEnough keepers need) (sym (given_givers given)) enough in
     omega (arith, less, many)
 cannot image keepers need term given (Live TermNotNew) other few old foreign ends =
     let both = old refl in

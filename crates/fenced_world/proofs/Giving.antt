@@ -13,7 +13,8 @@ use Rattle.fenced_theory.specs.Worlds.{Joined, NoneYet, Skip, Take}
 use Rattle.fenced_theory.proofs.Stores.{see, see_bool}
 use Rattle.failover_world.proofs.Guests.{either_side}
 use Rattle.fenced_theory.specs.Worlds as theory
-use Rattle.go_live.specs.Quorums.{distinct, AreEnough}
+use Rattle.go_live.specs.Quorums.{distinct_below, AreEnough}
+use Rattle.go_live.proofs.Distinct.{within_length}
 use Rattle.go_live.specs.Joined.{AreJoinedTo, AreJoined}
 use Rattle.fenced_world.specs.Keepers.{KeptView, kept_at, Gift, given_by, gifts_from, gifts_of}
 use Rattle.fenced_world.specs.Reviving.{stores_in, givers_in}
@@ -262,20 +263,12 @@ module _ (held : List (Option KeptView)) (named : List ℕ) where
           (how_many n (chosen_of held named)) rest_counted
           (next_count n (chosen_of held named) false (ap (picks named n) (at 0 n (omega arith)) ∙ is_named))
 
-  fewer : (ns : List ℕ) → distinct ns ≤ length ns
-  fewer [] = omega arith
-  fewer (n ∷ ns) = of (list_any (λ m. m == n) ns) (fewer ns)
-    where
-      of : (b : Bool) → distinct ns ≤ length ns → (if b then distinct ns else distinct ns + 1) ≤ suc (length ns)
-      of true less = omega (arith, less)
-      of false less = omega (arith, less)
-
   over : (keepers need some many all : ℕ) → keepers - need + 1 ≤ some → some ≤ many → many + 0 ≡ all → keepers < need + all
   over keepers need some many all one two three = omega (arith, one, two, three)
 
   pub enough : (keepers need : ℕ) → AreEnough keepers need (givers_in (gifts_of held named)) →
       keepers < need + how_many (length held) (chosen_of held named)
   enough keepers need are =
-      over keepers need (distinct (givers_in (gifts_of held named))) (length (givers_in (gifts_of held named)))
-      (how_many (length held) (chosen_of held named)) are (fewer (givers_in (gifts_of held named)))
+      over keepers need (distinct_below keepers (givers_in (gifts_of held named))) (length (givers_in (gifts_of held named)))
+      (how_many (length held) (chosen_of held named)) are (within_length keepers (givers_in (gifts_of held named)))
       (count_from held 0 (length held) (λ k m is_so. ap (kept_at held) (let e : m ≡ k = omega (arith, is_so) in e)) (omega arith))

@@ -8,7 +8,8 @@ use Rattle.std.proofs.lemmas.Option.{slice_get-get_or}
 use Rattle.log_join.specs.Stores.{StoreView, IsLastTerm}
 use Rattle.go_live.specs.declared.fault.LiveFault.{LiveFault}
 use Rattle.go_live.specs.declared.fault.LiveFault.TheVariants.{TooFewStores, TermNotNew, Replay, Memory as NoLive}
-use Rattle.go_live.specs.Quorums.{distinct, AreEnough, HasTerm, IsNew, IsOld}
+use Rattle.go_live.specs.Quorums.{distinct_below, AreEnough, HasTerm, IsNew, IsOld}
+use Rattle.go_live.proofs.Distinct.{none_below, one_below}
 use Rattle.go_live.proofs.Newness.{not_both}
 use Rattle.primary.proofs.Rows.{take_next}
 use Rattle.failover_world.proofs.Rows.{take_length, enumerate_more, flat_more}
@@ -57,21 +58,25 @@ none_before named k (Some x ∷ held) n are less =
     ]
     of false own rest = rest
 
-each_once : (named : List ℕ) (k : ℕ) (held : List (Option KeptView)) → Numbered k held →
-    distinct (givers_in (gifts_from k held named)) ≡ length (gifts_from k held named)
-each_once named k [] are = refl
-each_once named k (None ∷ held) are = each_once named (k + 1) held (rest_numbered None held k are)
-each_once named k (Some x ∷ held) are =
-    of (list_any (λ m. m == k) named)
+each_once : (named : List ℕ) (limit k : ℕ) (held : List (Option KeptView)) → Numbered k held → k + length held ≤ limit →
+    distinct_below limit (givers_in (gifts_from k held named)) ≡ length (gifts_from k held named)
+each_once named limit k [] are within = none_below limit
+each_once named limit k (None ∷ held) are within = each_once named limit (k + 1) held (rest_numbered None held k are) (omega (arith, within))
+each_once named limit k (Some x ∷ held) are within =
+    of (list_any (λ m. m == k) named) (are 0 x refl)
     (none_before named (k + 1) held x.number (rest_numbered (Some x) held k are) (let own = are 0 x refl in omega (arith, own)))
-    (each_once named (k + 1) held (rest_numbered (Some x) held k are))
+    (each_once named limit (k + 1) held (rest_numbered (Some x) held k are) (omega (arith, within)))
   where
-    of : (b : Bool) → list_any (λ m. m == x.number) (givers_in (gifts_from (k + 1) held named)) ≡ false →
-        distinct (givers_in (gifts_from (k + 1) held named)) ≡ length (gifts_from (k + 1) held named) →
-        distinct (givers_in ((if b then given_by x ∷ [] else []) ++ gifts_from (k + 1) held named)) ≡
+    of : (b : Bool) → x.number ≡ 0 + k → list_any (λ m. m == x.number) (givers_in (gifts_from (k + 1) held named)) ≡ false →
+        distinct_below limit (givers_in (gifts_from (k + 1) held named)) ≡ length (gifts_from (k + 1) held named) →
+        distinct_below limit (givers_in ((if b then given_by x ∷ [] else []) ++ gifts_from (k + 1) held named)) ≡
         length ((if b then given_by x ∷ [] else []) ++ gifts_from (k + 1) held named)
-    of true none rest = rw none (omega (arith, rest))
-    of false none rest = rest
+    of true own none rest =
+        let others = givers_in (gifts_from (k + 1) held named) in
+        one_below limit x.number others (omega (arith, own, within))
+        ∙ ap (λ (b : Bool). if b then distinct_below limit others else distinct_below limit others + 1) none
+        ∙ (let e : distinct_below limit others + 1 ≡ suc (length (gifts_from (k + 1) held named)) = omega (arith, rest) in e)
+    of false own none rest = rest
 
 -- ---- what is told of them
 
@@ -104,13 +109,15 @@ older stores term less le (inr (k, s, within, is, (other, upto, has))) = inr (k,
 -- ---- faults of a grant
 
 module _ (v : WorldView) (parts : AreParts v) (term : ℕ) (named : List ℕ) (many last : ℕ) (many_is : many ≡ length (gifts_of v.held named)) where
-  each : distinct (givers_in (gifts_of v.held named)) ≡ length (gifts_of v.held named)
-  each = each_once named 0 v.held (λ j x at. let own = parts.numbers j x at in omega (arith, own))
+  each : distinct_below v.keepers (givers_in (gifts_of v.held named)) ≡ length (gifts_of v.held named)
+  each =
+      each_once named v.keepers 0 v.held (λ j x at. let own = parts.numbers j x at in omega (arith, own))
+      (let all = parts.many in omega (arith, all))
 
   pub too_few : many ≤ v.keepers - v.need → CannotGoLive v term named TooFewStores
   too_few few = λ enough.
       let once = each in
-      let are : v.keepers - v.need + 1 ≤ distinct (givers_in (gifts_of v.held named)) = enough in
+      let are : v.keepers - v.need + 1 ≤ distinct_below v.keepers (givers_in (gifts_of v.held named)) = enough in
       omega (arith, few, once, many_is, are)
 
   are_enough : v.keepers - v.need < many → AreEnough v.keepers v.need (givers_in (gifts_of v.held named))

@@ -8,6 +8,6 @@ mod live;
 mod quorum;
 
 pub use fault::LiveFault;
-pub use laws::live_histories;
+pub use laws::{enough_meet_any, live_histories, most_meet_most};
 pub use live::{Live, begin, go_live, opening_of};
-pub use quorum::{are_of, is_new, keepers_of};
+pub use quorum::{are_of, is_new, keepers_of, suffice};

@@ -9,7 +9,7 @@ ghost use Rattle.ft_types.specs.Counts.{count_at};
 ghost use Rattle.hart_lease.specs.Runs.{counts_of};
 ghost use Rattle.book_modes.specs.Recordings.{IsUnused};
 ghost use Rattle.guest_image.specs.Image.{guest_of};
-ghost use Rattle.go_live.specs.Quorums.{distinct, AreEnough, IsNew, IsOld};
+ghost use Rattle.go_live.specs.Quorums.{distinct_below, AreEnough, IsNew, IsOld};
 ghost use Rattle.primary.specs.Outputs.{outputs_in};
 ghost use Rattle.go_live.specs.Faults.{IfReplay};
 ghost use Rattle.hart_replay.specs.Images.{GuestHistory};
@@ -128,7 +128,7 @@ pub fn go_live(
     ensures outputs { IfOk result (λ live. live.outputs.items ≡ outputs_in live.book.start) }
 
     // The faults, each exactly where it is due, in this order. Memory may be refused once the first two are looked at.
-    ensures too_few { (result ≡ Err LiveFault.TooFewStores) ↔ (distinct (map (λ s. s.0) stores.now) < keepers - need + 1) }
+    ensures too_few { (result ≡ Err LiveFault.TooFewStores) ↔ (distinct_below keepers (map (λ s. s.0) stores.now) < keepers - need + 1) }
     ensures not_new { (result ≡ Err LiveFault.TermNotNew)
         ↔ (AreEnough keepers need (map (λ s. s.0) stores.now) × IsOld (map (λ s. s.1.now) stores.now) term) }
     ensures other_guest { (result ≡ Err (LiveFault.Replay ReplayFault.OtherGuest))

@@ -1,30 +1,45 @@
 //! Whether keepers, terms and stores are those that a primary may go live with.
 
-ghost use Rattle.std.specs.Prelude.{◌≡◌, ◌≢◌, ◌<◌, ◌≤◌, ◌-◌, ◌+◌, ◌↔◌, map, IsTrue, All};
+ghost use Rattle.std.specs.Prelude.{◌≡◌, ◌≢◌, ◌≤◌, ◌-◌, ◌+◌, ◌↔◌, map, take, count_by, IsTrue, All};
 ghost use Rattle.std.specs.List.{Any};
-ghost use Rattle.go_live.specs.Quorums.{distinct, AreEnough, IsNew, IsOld};
+ghost use Rattle.ft_types.specs.declared.names.TheConstants.{KEEPER_LIMIT};
+ghost use Rattle.go_live.specs.Quorums.{AreEnough, AreMembers, IsNew, IsOld};
 ghost use Rattle.frame_content.specs.Tests.{same_guest};
 
 use ft_types::{Guest, Keeper, KeeperSet, Term};
 use log_join::Store;
 
-/// Of how many keepers the stores are.
-pub fn keepers_of(stores: &[(Keeper, &Store)]) -> usize
-    ensures { result ≡ distinct (map (λ s. s.0) stores.now) }
+/// The keepers whose stores these are.
+pub fn keepers_of(stores: &[(Keeper, &Store)]) -> KeeperSet
+    ensures { AreMembers result (map (λ s. s.0) stores.now) }
 {
     let mut keepers = KeeperSet::new();
     for (keeper, _) in stores {
         keepers = keepers.with(*keeper);
     }
-    keepers.len()
+    keepers
+}
+
+/// Whether more of the keepers, which have the numbers below `keepers`, are in the set than can be left out where `need` hold an output.
+pub fn suffice(set: KeeperSet, keepers: u8, need: u8) -> bool
+    requires { (need ≤ keepers) × (keepers ≤ KEEPER_LIMIT) }
+    ensures { IsTrue result ↔ (keepers - need + 1 ≤ count_by (λ member. member) (take keepers set)) }
+{
+    let mut here = 0;
+    for number in 0..keepers {
+        if set.contains(Keeper::new(number)) {
+            here += 1;
+        }
+    }
+    here > keepers - need
 }
 
 /// Whether the stores are of more keepers than can be left out where `need` hold an output.
 pub(crate) fn are_enough(stores: &[(Keeper, &Store)], keepers: u8, need: u8) -> bool
-    requires { need ≤ keepers }
+    requires { (need ≤ keepers) × (keepers ≤ KEEPER_LIMIT) }
     ensures { IsTrue result ↔ AreEnough keepers need (map (λ s. s.0) stores.now) }
 {
-    keepers_of(stores) > usize::from(keepers - need)
+    suffice(keepers_of(stores), keepers, need)
 }
 
 /// Whether the term is not 0, and greater than that of every key in the stores.

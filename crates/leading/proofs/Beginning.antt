@@ -1,5 +1,5 @@
 -- A primary that goes live, and its gate.
-use Rattle.std.proofs.Common.{◌≡◌, ◌≢◌, ℕ, ◌+◌, ◌-◌, ◌<◌, ◌≤◌, List, map, replicate, length, sym, ap, subst, ◌∙◌, refl, arith}
+use Rattle.std.proofs.Common.{◌≡◌, ◌≢◌, ◌↔◌, ℕ, ◌+◌, ◌-◌, ◌<◌, ◌≤◌, List, map, replicate, length, sym, ap, subst, ◌∙◌, refl, arith}
 use Rattle.std.specs.List.{Any}
 use Rattle.ft_types.specs.Counts.{count_at}
 use Rattle.ft_types.specs.declared.quorum.Quorum.{Quorum}
@@ -15,7 +15,7 @@ use Rattle.hart_replay.specs.declared.fault.ReplayFault.TheVariants.{OtherGuest}
 use Rattle.output_gate.specs.Gates.{LineView, fresh_line, noted_at, line_of}
 use Rattle.term_gate.specs.TermGates.{TermGateView}
 use Rattle.go_live.specs.declared.fault.LiveFault.TheVariants.{TooFewStores, TermNotNew, Replay, Memory}
-use Rattle.go_live.specs.Quorums.{distinct, AreEnough, IsOld}
+use Rattle.go_live.specs.Quorums.{distinct_below, AreEnough, MostOf, IsOld}
 use Rattle.go_live.specs.Lives.{IsAtPosition, LeadNowhere}
 use Rattle.go_live.specs.Histories.{AreOfHistory, IsOfHistory, MakesLonger}
 use Rattle.go_live.proofs.Places.{has_harts}
@@ -29,7 +29,7 @@ use Rattle.fenced_keeper.specs.declared.keeper.Given.{Given}
 use Rattle.fenced_live.specs.Given.{IfReplay}
 use Rattle.fenced_live.specs.declared.fault.GivenFault.{GivenFault}
 use Rattle.fenced_live.specs.declared.fault.GivenFault.TheVariants.{OtherTerm, Live}
-use Rattle.leading.specs.Beginning.{GoesLive, CannotGoLive, stores_in, givers_in}
+use Rattle.leading.specs.Beginning.{GoesLive, CannotBegin, stores_in, givers_in}
 use Rattle.leading.specs.Leaders.{IsNewGate, IsSound, AreTidy}
 use Rattle.leading.proofs.Outset.{outcome_tidy}
 
@@ -84,29 +84,32 @@ new_gate old new term keepers need harts marks of_harts of_term of_keepers of_ne
       marked = λ hart. (more.lines hart).mark ∙ ap (λ (l : LineView). l.mark) (none hart);
     }
 
-pub cannot : (image : ImageContents) (quorum : Quorum) (keepers need term : ℕ) (given : List Given) (fault : GivenFault) → keepers ≡ quorum.keepers →
-    need ≡ quorum.need → (fault ≡ OtherTerm → Any (λ g. g.term ≢ term) given) →
-    (fault ≡ Live TooFewStores → distinct (map (λ g. g.keeper) given) < keepers - need + 1) →
-    (fault ≡ Live TermNotNew → AreEnough keepers need (map (λ g. g.keeper) given) × IsOld (map (λ g. g.store.now) given) term) →
+-- what going live says of a fault, where those are enough for the one need who are enough for the other and most
+pub cannot : (image : ImageContents) (quorum : Quorum) (keepers need fewer term : ℕ) (given : List Given) (fault : GivenFault) →
+    keepers ≡ quorum.keepers → need ≡ quorum.need →
+    (AreEnough keepers fewer (givers_in given) ↔ (AreEnough keepers need (givers_in given) × MostOf keepers (givers_in given))) →
+    (fault ≡ OtherTerm → Any (λ g. g.term ≢ term) given) →
+    (fault ≡ Live TooFewStores → distinct_below keepers (map (λ g. g.keeper) given) < keepers - fewer + 1) →
+    (fault ≡ Live TermNotNew → AreEnough keepers fewer (map (λ g. g.keeper) given) × IsOld (map (λ g. g.store.now) given) term) →
     (fault ≡ Live (Replay OtherGuest) → Any (λ s. s.guest ≢ guest_of image) (map (λ g. g.store.now) given)) →
     IfReplay fault (λ f. f ≢ OtherGuest → LeadNowhere image (map (λ g. g.store.now) given) f) →
     IfReplay fault (λ f. (h : GuestHistory) → AreOfHistory image h (map (λ g. g.store.now) given) → f ≡ OtherGuest) →
-    CannotGoLive image quorum term given fault
-cannot image quorum keepers need term given OtherTerm k n other few old foreign nowhere ends = other refl
-cannot image quorum keepers need term given (Live TooFewStores) k n other few old foreign nowhere ends = λ enough.
-    let less : distinct (map (λ g. g.keeper) given) < keepers - need + 1 = few refl in
-    let many : quorum.keepers - quorum.need + 1 ≤ distinct (map (λ g. g.keeper) given) = enough in
-    let same : keepers - need + 1 ≡ quorum.keepers - quorum.need + 1 = ap (λ x. x - need + 1) k ∙ ap (λ x. quorum.keepers - x + 1) n in
-    omega (arith, less, many, same)
-cannot image quorum keepers need term given (Live TermNotNew) k n other few old foreign nowhere ends =
-    let both = old refl in
-    (subst (λ x. AreEnough x quorum.need (givers_in given)) k (subst (λ x. AreEnough keepers x (givers_in given)) n both.0), both.1)
-cannot image quorum keepers need term given (Live (Replay fault)) k n other few old foreign nowhere ends = (
+    CannotBegin image quorum term given fault
+cannot image quorum keepers need fewer term given OtherTerm refl refl both other few old foreign nowhere ends = other refl
+cannot image quorum keepers need fewer term given (Live TooFewStores) refl refl both other few old foreign nowhere ends = λ (enough, most).
+    let less = few refl in
+    let many : keepers - fewer + 1 ≤ distinct_below keepers (givers_in given) = both.1 (enough, most) in
+    omega (arith, less, many)
+cannot image quorum keepers need fewer term given (Live TermNotNew) refl refl both other few old foreign nowhere ends =
+    let (enough, is) = old refl in
+    let (all, most) = both.0 enough in
+    (all, most, is)
+cannot image quorum keepers need fewer term given (Live (Replay fault)) refl refl both other few old foreign nowhere ends = (
   λ same. foreign (ap (λ f. Live (Replay f)) same),
   nowhere,
   ends,
 )
-cannot image quorum keepers need term given (Live Memory) k n other few old foreign nowhere ends = tt
+cannot image quorum keepers need fewer term given (Live Memory) refl refl both other few old foreign nowhere ends = tt
 
 -- the parts fit together as it begins
 pub begins_sound : (image : ImageContents) (quorum : Quorum) (term : ℕ) (given : List Given) (p : Primary) (g : TermGateView) (queues : List QueueView) →

@@ -14,3 +14,4 @@ pub mod Within
 pub mod Sound
 pub mod Releasing
 pub mod Round
+pub mod Most

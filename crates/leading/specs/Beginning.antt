@@ -1,5 +1,5 @@
 -- A primary that goes live from stores that keepers gave to its term.
-use Rattle.std.specs.Prelude.{ℕ, ◌≡◌, ◌≢◌, List, map, All}
+use Rattle.std.specs.Prelude.{ℕ, ◌≡◌, ◌≢◌, ◌<◌, ◌≤◌, List, map, All}
 use Rattle.std.specs.List.{Any}
 use Rattle.ft_types.specs.declared.quorum.Quorum.{Quorum}
 use Rattle.guest_image.specs.Image.{ImageContents, guest_of}
@@ -10,7 +10,7 @@ use Rattle.hart_replay.specs.Images.{GuestHistory}
 use Rattle.hart_replay.specs.Primaries.{IsPrimary}
 use Rattle.hart_replay.specs.declared.fault.ReplayFault.TheVariants.{OtherGuest}
 use Rattle.go_live.specs.declared.fault.LiveFault.TheVariants.{TooFewStores, TermNotNew, Replay, Memory}
-use Rattle.go_live.specs.Quorums.{AreEnough, IsNew, IsOld}
+use Rattle.go_live.specs.Quorums.{AreEnough, MostOf, IsNew, IsOld}
 use Rattle.go_live.specs.Lives.{IsAtPosition, LeadNowhere}
 use Rattle.go_live.specs.Histories.{AreOfHistory, IsOfHistory, MakesLonger}
 use Rattle.term_gate.specs.TermGates.{TermGateView}
@@ -21,6 +21,8 @@ use Rattle.fenced_keeper.specs.declared.keeper.Given.{Given}
 use Rattle.fenced_live.specs.Given.{AreTo}
 use Rattle.fenced_live.specs.declared.fault.GivenFault.{GivenFault}
 use Rattle.fenced_live.specs.declared.fault.GivenFault.TheVariants.{OtherTerm, Live}
+use Rattle.leading.specs.declared.fault.LeadFault.{LeadFault}
+use Rattle.leading.specs.declared.fault.LeadFault.TheVariants.{NoKeeper, NotLive}
 use Rattle.leading.specs.Leaders.{IsNewGate}
 
 abbrev pub stores_in : List Given → List StoreView
@@ -29,11 +31,17 @@ stores_in given = map (λ g. g.store.now) given
 abbrev pub givers_in : List Given → List ℕ
 givers_in given = map (λ g. g.keeper) given
 
+-- each giver is one of the keepers
+abbrev pub AreMembers : Quorum → List Given → Type 0
+AreMembers quorum given = All (λ g. g.keeper < quorum.keepers) given
+
 -- The primary begins where the stores that were given to the term lead to, with a gate at which all outputs of its machine were offered,
 -- and which passes over those that are noted there. It makes each history longer whose frames the stores have.
 pub record GoesLive (image : ImageContents) (quorum : Quorum) (term : ℕ) (given : List Given) (p : Primary) (g : TermGateView) : Type 0 where
+  pub members : AreMembers quorum given
   pub own : AreTo given term
   pub enough : AreEnough quorum.keepers quorum.need (givers_in given)
+  pub most : MostOf quorum.keepers (givers_in given)
   pub new : IsNew (stores_in given) term
   pub same_guest : All (λ s. s.guest ≡ guest_of image) (stores_in given)
   pub marks : List ℕ
@@ -48,15 +56,21 @@ pub record GoesLive (image : ImageContents) (quorum : Quorum) (term : ℕ) (give
   pub is_history : (h : GuestHistory) → AreOfHistory image h (stores_in given) → IsOfHistory image h p.book.start p.opening
   pub longer : (h : GuestHistory) → AreOfHistory image h (stores_in given) → MakesLonger image h term p.book.start p.opening
 
--- A store was given to another term, the stores are of too few keepers, the term is not new to them, or one is of another guest; or else
--- their log leads nowhere, which frames of one history never do; or memory was refused.
-abbrev pub CannotGoLive : ImageContents → Quorum → ℕ → List Given → GivenFault → Type 0
-CannotGoLive image quorum term given OtherTerm = Any (λ g. g.term ≢ term) given
-CannotGoLive image quorum term given (Live TooFewStores) = AreEnough quorum.keepers quorum.need (givers_in given) → ⊥
-CannotGoLive image quorum term given (Live TermNotNew) =
-    AreEnough quorum.keepers quorum.need (givers_in given) × IsOld (stores_in given) term
-CannotGoLive image quorum term given (Live (Replay fault)) =
+-- A store was given to another term, the stores are of too few keepers or of no more than half, the term is not new to them, or one is of
+-- another guest; or else their log leads nowhere, which frames of one history never do; or memory was refused.
+abbrev pub CannotBegin : ImageContents → Quorum → ℕ → List Given → GivenFault → Type 0
+CannotBegin image quorum term given OtherTerm = Any (λ g. g.term ≢ term) given
+CannotBegin image quorum term given (Live TooFewStores) =
+    AreEnough quorum.keepers quorum.need (givers_in given) × MostOf quorum.keepers (givers_in given) → ⊥
+CannotBegin image quorum term given (Live TermNotNew) =
+    AreEnough quorum.keepers quorum.need (givers_in given) × MostOf quorum.keepers (givers_in given) × IsOld (stores_in given) term
+CannotBegin image quorum term given (Live (Replay fault)) =
     ((fault ≡ OtherGuest) → Any (λ s. s.guest ≢ guest_of image) (stores_in given)) ×
     (fault ≢ OtherGuest → LeadNowhere image (stores_in given) fault) ×
     ((h : GuestHistory) → AreOfHistory image h (stores_in given) → fault ≡ OtherGuest)
-CannotGoLive image quorum term given (Live Memory) = Unit {0}
+CannotBegin image quorum term given (Live Memory) = Unit {0}
+
+-- a giver is none of the keepers; or all are, and no primary begins there
+abbrev pub CannotGoLive : ImageContents → Quorum → ℕ → List Given → LeadFault → Type 0
+CannotGoLive image quorum term given NoKeeper = Any (λ g. quorum.keepers ≤ g.keeper) given
+CannotGoLive image quorum term given (NotLive fault) = AreMembers quorum given × CannotBegin image quorum term given fault

@@ -2,7 +2,9 @@
 use Rattle.std.specs.Prelude.{◌≡◌, ◌≤◌, ◌<◌, ◌⊎◌, ℕ, List, [], Option, length, slice_index, slice_set}
 use Rattle.interleaving.specs.Lists.{Each}
 use Rattle.input_log.specs.declared.Input.TheVariants.{Timer as TimerInput, Word as WordInput}
+use Rattle.ft_types.specs.Counts.{count_at}
 use Rattle.book_modes.specs.Recordings.{HasRoomed}
+use Rattle.log_pieces.specs.Pieces.{SealedView}
 use Rattle.output_gate.specs.Gates.{mark_at}
 use Rattle.term_gate.specs.TermGates.{TermGateView, acked_at}
 use Rattle.primary.specs.Gating.{LetGo, IsAsItWas}
@@ -42,16 +44,18 @@ Hears old (From hart number) new answers =
 
 -- ---- acknowledgements
 
--- it is of the gate's term, of one of its keepers and of all harts, and below none of what its keeper acknowledged
-pub record IsCounted (g : TermGateView) (a : Acknowledgement) : Type 0 where
+-- it is of the gate's term, of one of its keepers and of all harts, of nothing that was not cut to be sent, and below none of what its
+-- keeper acknowledged
+pub record IsCounted (sealed : SealedView) (g : TermGateView) (a : Acknowledgement) : Type 0 where
   pub term : a.term ≡ g.gate.term
   pub keeper : a.keeper < g.gate.keepers
   pub harts : length a.counts ≡ g.harts
+  pub sent : (hart : ℕ) → hart < g.harts → slice_index a.counts hart ≤ count_at sealed.reached hart
   pub no_lower : (hart : ℕ) → hart < g.harts → acked_at g a.keeper hart ≤ slice_index a.counts hart
 
 -- it is what its keeper acknowledged now, where it counts, and else changes nothing
-abbrev pub Notes : TermGateView → Acknowledgement → TermGateView → Type 0
-Notes g a h = (IsCounted g a × (h ≡ record g { acked = slice_set g.acked a.keeper a.counts })) ⊎ ((IsCounted g a → ⊥) × (h ≡ g))
+abbrev pub Notes : SealedView → TermGateView → Acknowledgement → TermGateView → Type 0
+Notes sealed g a h = (IsCounted sealed g a × (h ≡ record g { acked = slice_set g.acked a.keeper a.counts })) ⊎ ((IsCounted sealed g a → ⊥) × (h ≡ g))
 
 -- All outputs of the machine were offered at this gate, those went out that waited and whose step enough keepers acknowledged in the
 -- term, and the book notes that they did.
@@ -69,4 +73,4 @@ pub record LetsNothingGo (old : LeaderView) (noted : TermGateView) (new : Leader
 
 -- once the acknowledgement was noted
 abbrev pub WithNoted : LeaderView → Acknowledgement → (TermGateView → Type 0) → Type 0
-WithNoted old a P = (noted : TermGateView) × Notes old.gate a noted × P noted
+WithNoted old a P = (noted : TermGateView) × Notes old.primary.sealed old.gate a noted × P noted

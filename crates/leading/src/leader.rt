@@ -16,8 +16,10 @@ ghost use Rattle.leading.specs.Leaders.{BeginBehind, queue_at};
 ghost use Rattle.leading.specs.Rounds.{IsRound, next_of};
 ghost use Rattle.leading.specs.Telling.{told_again};
 
+use crate::fault::LeadFault;
 use crate::inputs::{Spacing, hand_all, has_input, queues_of};
 use crate::rounds::go_on;
+use crate::sent::is_of_sent;
 use crate::starting::started;
 use crate::telling::tell_again;
 use crate::waiting::only_waits;
@@ -92,15 +94,15 @@ fn boxed_both(
 }
 
 impl Leader {
-    /// The primary of a new term, from stores that were given to it, and the frame by which the term begins, which is sent to the
-    /// keepers before all others.
+    /// The primary of a new term, from stores that more than half of its keepers gave to it, and the frame by which the term begins, which
+    /// is sent to the keepers before all others.
     pub fn go_live(
         alloc: Global,
         image: &Image,
         given: &[Given<'_>],
         quorum: Quorum,
         term: Term,
-    ) -> Result<(Leader, Frame), GivenFault>
+    ) -> Result<(Leader, Frame), LeadFault>
         ensures live { IfOk result (λ r. GoesLive image.now quorum term given.now r.0.primary r.0.gate) }
         ensures opening { IfOk result (λ r. r.1 ≡ OpeningFrame r.0.primary.opening) }
         ensures queues { IfOk result (λ r. BeginBehind r.0.primary.book.start r.0.queues) }
@@ -109,11 +111,11 @@ impl Leader {
     {
         let (primary, gate, marks) = started(alloc, image, given, quorum, term)?;
         let Ok(queues) = queues_of(alloc, primary.book.machine()) else {
-            return Err(GivenFault::Live(LiveFault::Memory));
+            return Err(LeadFault::NotLive(GivenFault::Live(LiveFault::Memory)));
         };
         let opening = primary.opening.copy();
         let Ok((primary, gate)) = boxed_both(alloc, primary, gate) else {
-            return Err(GivenFault::Live(LiveFault::Memory));
+            return Err(LeadFault::NotLive(GivenFault::Live(LiveFault::Memory)));
         };
         let leader = Leader {
             primary,
@@ -255,9 +257,10 @@ impl Leader {
             .release(alloc, &mut self.gate, &mut self.released)
     }
 
-    /// Has a keeper's acknowledgement noted. One of another term, below what the keeper acknowledged, or of no keeper is none.
+    /// Has a keeper's acknowledgement noted. One of another term, below what the keeper acknowledged, above what was sent, or of no keeper
+    /// is none.
     fn note(&mut self, acknowledgement: &Acknowledgement)
-        ensures notes { Notes self.old.gate acknowledgement.now self.new.gate }
+        ensures notes { Notes self.old.primary.sealed self.old.gate acknowledgement.now self.new.gate }
         ensures rest { self.new ≡ record self.old { gate = self.new.gate } }
     {
         let Acknowledgement {
@@ -267,6 +270,7 @@ impl Leader {
         } = *acknowledgement;
         if keeper.number() < self.quorum.keepers()
             && usize::from(counts.harts()) == self.queues.len()
+            && is_of_sent(&self.primary.sealed, &counts)
         {
             let position = Position {
                 term,

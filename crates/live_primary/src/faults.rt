@@ -4,7 +4,7 @@ use ends::{Fault, Frames, FramesFault};
 use fenced_live::GivenFault;
 use go_live::LiveFault;
 use guest_image::ImageFault;
-use leading::HandedFault;
+use leading::{HandedFault, LeadFault};
 use log_join::StoreFault;
 
 pub(crate) fn image_fault(fault: ImageFault) -> Fault {
@@ -42,11 +42,14 @@ pub(crate) fn store_fault(fault: StoreFault) -> Fault {
     }
 }
 
-/// Why no primary goes live from what was handed over.
-pub(crate) fn given_fault(fault: GivenFault) -> Fault {
+/// Why no primary leads a term with what was handed over.
+pub(crate) fn lead_fault(fault: LeadFault) -> Fault {
     match fault {
-        GivenFault::OtherTerm => Fault::Frames(Frames::AllHanded, FramesFault::Term),
-        GivenFault::Live(LiveFault::Memory) => Fault::Memory,
-        GivenFault::Live(fault) => Fault::Live(fault.number()),
+        LeadFault::NoKeeper => Fault::Frames(Frames::AllHanded, FramesFault::Keeper),
+        LeadFault::NotLive(GivenFault::OtherTerm) => {
+            Fault::Frames(Frames::AllHanded, FramesFault::Term)
+        }
+        LeadFault::NotLive(GivenFault::Live(LiveFault::Memory)) => Fault::Memory,
+        LeadFault::NotLive(GivenFault::Live(fault)) => Fault::Live(fault.number()),
     }
 }

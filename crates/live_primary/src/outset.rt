@@ -7,7 +7,7 @@ ghost use Rattle.log_join.specs.Stores.{clashes_of};
 ghost use Rattle.log_streams.specs.Stores.{IsStoreText};
 ghost use Rattle.go_live.specs.Joined.{AreJoined};
 
-use crate::faults::{clash, given_fault, handed_fault, image_fault, store_fault};
+use crate::faults::{clash, handed_fault, image_fault, lead_fault, store_fault};
 use ends::{Fault, Host, NamedFile, Paths, file_fault, read_file, remove_file};
 use fenced_keeper::Given;
 use fragment_codec::Frame;
@@ -162,7 +162,7 @@ fn go_live(
     let given = given_of(alloc, logs)?;
     match Leader::go_live(alloc, image, &given, words.quorum, words.term) {
         Ok(live) => Ok(live),
-        Err(fault) => Err(given_fault(fault)),
+        Err(fault) => Err(lead_fault(fault)),
     }
 }
 

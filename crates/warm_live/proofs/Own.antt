@@ -1,10 +1,10 @@
 -- A store of one's own, before those of others.
-use Rattle.std.proofs.Common.{◌≡◌, ◌<◌, ◌≤◌, ◌+◌, ℕ, zero, suc, Bool, List, ◌∷◌, if◌then◌else◌, refl, subst, arith, inl, inr}
-use Rattle.std.specs.Prelude.{All, ◌==◌}
-use Rattle.std.specs.List.{Any, list_any}
+use Rattle.std.proofs.Common.{◌<◌, ◌≤◌, ℕ, zero, suc, List, ◌∷◌, refl, subst, arith, inl, inr}
+use Rattle.std.specs.Prelude.{All}
+use Rattle.std.specs.List.{Any}
 use Rattle.std.proofs.lemmas.List.Elements.{All-cons}
 use Rattle.log_join.specs.Stores.{StoreView, IsLastTerm}
-use Rattle.go_live.specs.Quorums.{distinct, HasTerm, IsNew, IsOld}
+use Rattle.go_live.specs.Quorums.{HasTerm, IsNew, IsOld}
 use Rattle.go_live.proofs.Newness.{is_later, is_earlier}
 
 -- what holds of some of the others
@@ -14,11 +14,6 @@ any_other P x xs (k, y, within, is, holds) = (suc k, y, omega (arith, within), i
 -- what holds of each is not refuted by one
 pub never_any : {X : Type 0} (P : X → Type 0) (xs : List X) → All P xs → Any (λ x. P x → ⊥) xs → ⊥
 never_any P xs all (k, y, within, is, fails) = fails (subst P is (all k y within))
-
--- how many keepers there are with one's own
-pub with_own : (own : ℕ) (others : List ℕ) (is : Bool) → is ≡ list_any (λ m. m == own) others →
-    distinct (own ∷ others) ≡ (if is then distinct others else distinct others + 1)
-with_own own others is e = rw e refl
 
 -- a term that is not later than all of one's own
 pub old_here : (own : StoreView) (stores : List StoreView) (last term : ℕ) → IsLastTerm own last → term ≤ last → IsOld (own ∷ stores) term

@@ -1,41 +1,24 @@
 //! Whether keepers, terms and stores are those that a primary may go live with, where one of them is its own.
 
-ghost use Rattle.std.specs.Prelude.{◌≡◌, ◌≢◌, ◌==◌, ◌<◌, ◌≤◌, ◌-◌, ◌+◌, ◌⊎◌, ◌↔◌, ◌∷◌, map, Err, All, IfErr, IsTrue, OnOk};
-ghost use Rattle.std.specs.List.{list_any, Any};
+ghost use Rattle.std.specs.Prelude.{◌≡◌, ◌≢◌, ◌<◌, ◌≤◌, ◌-◌, ◌+◌, ◌⊎◌, ◌↔◌, ◌∷◌, map, Err, All, IfErr, IsTrue, OnOk};
+ghost use Rattle.std.specs.List.{Any};
 ghost use Rattle.ft_types.specs.declared.names.TheConstants.{KEEPER_LIMIT};
 ghost use Rattle.guest_image.specs.Image.{guest_of};
-ghost use Rattle.go_live.specs.Quorums.{distinct, AreEnough, IsNew, IsOld};
+ghost use Rattle.go_live.specs.Quorums.{distinct_below, AreEnough, IsNew, IsOld};
 
 use ft_types::{Keeper, Term};
-use go_live::{LiveFault, are_of, is_new, keepers_of};
+use go_live::{LiveFault, are_of, is_new, keepers_of, suffice};
 use hart_replay::ReplayFault;
 use log_join::Store;
 use std::result::Result;
 use warm_backup::Backup;
 
-/// Whether one of the stores is this keeper's.
-fn is_among(own: Keeper, stores: &[(Keeper, &Store)]) -> bool
-    ensures { result ≡ list_any (λ m. m == own) (map (λ s. s.0) stores.now) }
-{
-    for (keeper, _) in stores {
-        if *keeper == own {
-            return true;
-        }
-    }
-    false
-}
-
 /// Whether the stores and this keeper's are of more keepers than can be left out where `need` hold an output.
 fn are_enough(own: Keeper, stores: &[(Keeper, &Store)], keepers: u8, need: u8) -> bool
-    requires { need ≤ keepers }
+    requires { (need ≤ keepers) × (keepers ≤ KEEPER_LIMIT) }
     ensures { IsTrue result ↔ AreEnough keepers need (own ∷ map (λ s. s.0) stores.now) }
 {
-    let others = keepers_of(stores);
-    let left_out = usize::from(keepers - need);
-    if is_among(own, stores) {
-        return others > left_out;
-    }
-    others >= left_out
+    suffice(keepers_of(stores).with(own), keepers, need)
 }
 
 /// Whether the term is not 0, and greater than that of every key in this store and the others.
@@ -59,7 +42,7 @@ pub(crate) fn may_go(
     term: Term,
 ) -> Result<(), LiveFault>
     requires quorum { (0 < need) × (need ≤ keepers) × (keepers ≤ KEEPER_LIMIT) }
-    ensures too_few { (result ≡ Err LiveFault.TooFewStores) ↔ (distinct (own ∷ map (λ s. s.0) stores.now) < keepers - need + 1) }
+    ensures too_few { (result ≡ Err LiveFault.TooFewStores) ↔ (distinct_below keepers (own ∷ map (λ s. s.0) stores.now) < keepers - need + 1) }
     ensures not_new { (result ≡ Err LiveFault.TermNotNew)
         ↔ (AreEnough keepers need (own ∷ map (λ s. s.0) stores.now) × IsOld (backup.now.store ∷ map (λ s. s.1.now) stores.now) term) }
     ensures other_guest { (result ≡ Err (LiveFault.Replay ReplayFault.OtherGuest))

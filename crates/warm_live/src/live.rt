@@ -11,7 +11,7 @@ ghost use Rattle.book_modes.specs.Recordings.{IsUnused};
 ghost use Rattle.closed_cut.specs.Position.{IsPosition};
 ghost use Rattle.guest_image.specs.Image.{guest_of};
 ghost use Rattle.go_live.specs.Joined.{AreJoined, AreJoinedTo};
-ghost use Rattle.go_live.specs.Quorums.{distinct, AreEnough, IsNew, IsOld};
+ghost use Rattle.go_live.specs.Quorums.{distinct_below, AreEnough, IsNew, IsOld};
 ghost use Rattle.primary.specs.Outputs.{outputs_in};
 ghost use Rattle.go_live.specs.Faults.{IfReplay};
 ghost use Rattle.hart_replay.specs.GoingOn.{GoOnFrom};
@@ -68,7 +68,7 @@ pub fn go_live_warm(
     ensures image { backup.new.image ≡ backup.old.image }
 
     // The faults, each exactly where it is due, in this order. Memory may be refused once the first two are looked at.
-    ensures too_few { (result ≡ Err LiveFault.TooFewStores) ↔ (distinct (own ∷ map (λ s. s.0) stores.now) < keepers - need + 1) }
+    ensures too_few { (result ≡ Err LiveFault.TooFewStores) ↔ (distinct_below keepers (own ∷ map (λ s. s.0) stores.now) < keepers - need + 1) }
     ensures not_new { (result ≡ Err LiveFault.TermNotNew)
         ↔ (AreEnough keepers need (own ∷ map (λ s. s.0) stores.now) × IsOld (backup.old.store ∷ map (λ s. s.1.now) stores.now) term) }
     ensures other_guest { (result ≡ Err (LiveFault.Replay ReplayFault.OtherGuest))

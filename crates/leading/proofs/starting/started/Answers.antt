@@ -1,8 +1,10 @@
-use Rattle.std.proofs.Common.{◌≡◌, replicate, Err, sym, ap, subst, ◌∙◌}
+use Rattle.std.proofs.Common.{◌≡◌, ◌<◌, ◌≤◌, replicate, Err, refl, sym, ap, subst, ◌∙◌}
+use Rattle.std.specs.Prelude.{All}
+use Rattle.std.specs.List.{Any}
 use Rattle.std.proofs.lemmas.Result.{err_from_is_err_and}
 use Rattle.ft_types.specs.Counts.{count_at}
 use Rattle.fragment_codec.specs.Rules.{IsOpening}
-use Rattle.go_live.specs.Quorums.{AreEnough}
+use Rattle.go_live.specs.Quorums.{AreEnough, MostOf}
 use Rattle.primary.specs.Gating.{AreAllOffered}
 use Rattle.primary.proofs.Gates.{on_ok}
 use Rattle.leading.specs.Beginning.{GoesLive, CannotGoLive, stores_in, givers_in}
@@ -12,16 +14,23 @@ use Rattle.leading.proofs.Offering.{none_offered}
 use Rattle.leading.proofs.starting.started.Goals as goal
 use Rattle.leading.proofs.starting.started.Goals.{Else-is_err}
 
+-- the keepers are those of the quorum
+pub returns-then-not-are_keepers-clause-refused : goal.returns-then-not-are_keepers-clause-refused
+returns-then-not-are_keepers-clause-refused c =
+    subst (λ k. Any (λ g. k ≤ g.keeper) c.args.given.now) c.keepers-keepers.ensures.value (c.if-not-are_keepers.ensures.some (λ e. cc))
+
 pub returns-in_err-live-clause-refused : goal.returns-in_err-live-clause-refused
 returns-in_err-live-clause-refused c =
     let e = err_from_is_err_and c.from_residual.result c.from_residual.ensures.1 in
     rw (e.1)
-    (subst (λ f. CannotGoLive c.args.image.now c.args.quorum c.args.term c.args.given.now f) (sym e.2)
-    (cannot c.args.image.now c.args.quorum c.keepers-keepers.result c.need-need.result c.args.term c.args.given.now c.in_err-live.field-0.0
-    c.keepers-keepers.ensures.value c.need-need.ensures.value
-    (λ same. c.in_err-live.ensures.other_term.0 (ap Err same)) (λ same. (c.in_err-live.ensures.too_few.0 (ap Err same)).1)
-    (λ same. let old = c.in_err-live.ensures.not_new.0 (ap Err same) in (old.1, old.2)) (λ same. (c.in_err-live.ensures.other_guest.0 (ap Err same)).3)
-    c.in_err-live.ensures.replay c.in_err-live.ensures.history_ends))
+    (subst (λ f. CannotGoLive c.args.image.now c.args.quorum c.args.term c.args.given.now f) (sym e.2) (
+      subst (λ k. All (λ g. g.keeper < k) c.args.given.now) c.keepers-keepers.ensures.value (c.if-not-are_keepers.ensures.all refl),
+      cannot c.args.image.now c.args.quorum c.keepers-keepers.result c.need-need.result c.need_with_most.result c.args.term c.args.given.now
+          c.in_err-live.field-0.0 c.keepers-keepers.ensures.value c.need-need.ensures.value (c.need_with_most.ensures.both (givers_in c.args.given.now))
+          (λ same. c.in_err-live.ensures.other_term.0 (ap Err same)) (λ same. (c.in_err-live.ensures.too_few.0 (ap Err same)).1)
+          (λ same. let old = c.in_err-live.ensures.not_new.0 (ap Err same) in (old.1, old.2)) (λ same. (c.in_err-live.ensures.other_guest.0 (ap Err same)).3)
+          c.in_err-live.ensures.replay c.in_err-live.ensures.history_ends,
+    ))
 
 pub going_on-primary-requires-clause-harts : goal.going_on-primary-requires-clause-harts
 going_on-primary-requires-clause-harts c =
@@ -52,13 +61,16 @@ module _ (c : Else-is_err) where
       let stores = stores_in c.args.given.now in
       let live = c.in_ok-live.live in
       let says = c.in_ok-live.ensures in
+      let both = (c.need_with_most.ensures.both (givers_in c.args.given.now)).0 says.enough in
       let p = c.going_on-primary.result in
       let opens = c.going_on-primary.ensures.opening in
       let start = c.going_on-primary.ensures.start in
       record {
+        members = subst (λ k. All (λ g. g.keeper < k) c.args.given.now) c.keepers-keepers.ensures.value (c.if-not-are_keepers.ensures.all refl);
         own = says.given;
         enough = subst (λ k. AreEnough k c.args.quorum.need (givers_in c.args.given.now)) c.keepers-keepers.ensures.value
-            (subst (λ n. AreEnough c.keepers-keepers.result n (givers_in c.args.given.now)) c.need-need.ensures.value says.enough);
+            (subst (λ n. AreEnough c.keepers-keepers.result n (givers_in c.args.given.now)) c.need-need.ensures.value both.0);
+        most = subst (λ k. MostOf k (givers_in c.args.given.now)) c.keepers-keepers.ensures.value both.1;
         new = says.new;
         same_guest = says.own;
         marks = live.marks;
