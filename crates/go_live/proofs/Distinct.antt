@@ -172,15 +172,16 @@ contained ns n e =
 pub shared : (n : ℕ) (ones others : List ℕ) → n < distinct_below n ones + distinct_below n others → ShareOne n ones others
 shared zero ones others more = absurd (omega (arith, more))
 shared (suc n) ones others more =
-    of (is_in ones n) refl (is_in others n) refl more
+    of (λ rest. wider (shared n ones others rest)) (is_in ones n) refl (is_in others n) refl more
   where
-    wider : n < distinct_below n ones + distinct_below n others → ShareOne (suc n) ones others
-    wider rest = let (k, less, here, there) = shared n ones others rest in (k, omega (arith, less), here, there)
+    wider : ShareOne n ones others → ShareOne (suc n) ones others
+    wider (k, less, here, there) = (k, omega (arith, less), here, there)
 
-    of : (a : Bool) → is_in ones n ≡ a → (b : Bool) → is_in others n ≡ b →
+    of : (n < distinct_below n ones + distinct_below n others → ShareOne (suc n) ones others) →
+        (a : Bool) → is_in ones n ≡ a → (b : Bool) → is_in others n ≡ b →
         suc n < (if a then distinct_below n ones + 1 else distinct_below n ones) + (if b then distinct_below n others + 1 else distinct_below n others) →
         ShareOne (suc n) ones others
-    of true here true there m = (n, omega arith, contained ones n here, contained others n there)
-    of true here false there m = wider (omega (arith, m))
-    of false here true there m = wider (omega (arith, m))
-    of false here false there m = wider (omega (arith, m))
+    of next true here true there m = (n, omega arith, contained ones n here, contained others n there)
+    of next true here false there m = next (omega (arith, m))
+    of next false here true there m = next (omega (arith, m))
+    of next false here false there m = next (omega (arith, m))
