@@ -254,6 +254,8 @@ refuses 'a log of one that is no keeper' 'fault handed keeper' handed handed.too
 as_handed 1 clash > handed.too
 refuses 'one of two keepers' 'fault live 1' handed
 refuses 'the other one' 'fault live 1' handed.too
+: > told
+: > sent
 "$live" primary "$image" 7 2 2 in none out told to sent from none with handed handed.too 2> err
 is 'both of them' '0 ' "$? $(cat err)"
 seal "$image" "handed 7 0 $(wc -c < log.0)" | tr 7 8 | cat - log.0 > handed
