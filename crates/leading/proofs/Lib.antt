@@ -14,3 +14,5 @@ pub mod Within
 pub mod Sound
 pub mod Releasing
 pub mod Round
+pub mod Waiting
+pub mod Counting

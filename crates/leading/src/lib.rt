@@ -3,6 +3,7 @@
 #![tactic(auto)]
 
 mod handed;
+mod heard;
 mod inputs;
 mod leader;
 mod rounds;
@@ -11,5 +12,7 @@ mod telling;
 mod waiting;
 
 pub use handed::{HandedFault, HandedLog, read_handed_log};
+pub use heard::Heard;
 pub use inputs::Spacing;
 pub use leader::Leader;
+pub use requests::Came;
