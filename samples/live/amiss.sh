@@ -71,6 +71,9 @@ has() {
     done
 }
 
+# rss PROCESS: how many KB of memory it has.
+rss() { awk '/^VmRSS/ { print $2 }' "/proc/$1/status"; }
+
 # seal IMAGE TEXT: the line of a text under the seal of the image's guest.
 seal() {
     local digest
@@ -141,6 +144,28 @@ client=$!
 sleep 0.1
 stop "$client"
 ask 'a client that is gone'
+
+# What is asked again and brings nothing new leads to no round: the logs stay as they are.
+sleep 0.5
+before=$(cat log.? | wc -c)
+for _ in $(seq 300); do printf '0 word 01070009 0\n0 word 01070009 999\n0 from 0\n'; done > in
+sleep 0.5
+is 'what is asked again' "$before" "$(cat log.? | wc -c)"
+ask 'and then a new request'
+
+# More than a hart has room for is passed over: the primary grows by less than 20,000 KB, and goes on.
+before=$(rss "$primary")
+timeout 3 sh -c "yes '1 word 00000001' > in"
+is 'a flood of words' yes "$([ $(($(rss "$primary") - before)) -lt 20000 ] && echo yes)"
+ask 'and then the next request'
+
+# Nothing more is taken: the client ends by that.
+mkfifo in.full out.full
+(exec "$live" client words 8 300 to in.full from out.full > /dev/null 2> refused.full) &
+client=$!
+cat in.full > /dev/null &
+printf '1 full\n0  full\n0 full\n' > out.full
+ends 'a client whose words are taken no more' "$client" 'fault full' refused.full
 
 # Lines of keepers: without them nothing goes out, but by an acknowledgement of this guest, term and seal.
 for k in 0 1 2; do stop "${keeper[$k]}"; done

@@ -4,7 +4,7 @@ use fenced_keeper::Given;
 use fragment_codec::{Frame, write_frame};
 use ft_types::{Count, Guest, Hart, Keeper, Memory, MemorySink, Output, Quorum, Term};
 use guest_image::{Image, read_image};
-use leading::{HandedLog, Leader, Spacing, read_handed_log};
+use leading::{Came, HandedLog, Heard, Leader, Spacing, read_handed_log};
 use std::alloc::Global;
 use wire::{Acknowledgement, Handed, Request, handed_line};
 
@@ -153,8 +153,11 @@ fn hears(
     request: &Request,
     told: &[Said],
 ) -> Result<bool, Memory> {
+    let Heard::Told(answers) = leader.hear(alloc, request)? else {
+        return Ok(false);
+    };
     let mut rest = told;
-    for answer in leader.hear(alloc, request)?.as_slice() {
+    for answer in answers.as_slice() {
         match behind(&answer.output, rest) {
             Some(left) => rest = left,
             None => return Ok(false),
@@ -163,17 +166,20 @@ fn hears(
     Ok(rest.is_empty())
 }
 
-/// Whether a word for hart 0, by its number, is answered so.
+/// Whether this becomes of a word for hart 0, by its number.
 fn hears_word(
     alloc: Global,
     leader: &mut Leader,
     word: u32,
     number: Count,
-    told: &[Said],
+    wanted: Came,
 ) -> Result<bool, Memory> {
     let number = Some(number);
     let hart = Hart::new(0);
-    hears(alloc, leader, &Request::Word { hart, word, number }, told)
+    match leader.hear(alloc, &Request::Word { hart, word, number })? {
+        Heard::Came(came) => Ok(came == wanted),
+        _ => Ok(false),
+    }
 }
 
 /// Whether these outputs of hart 0 are told again where those from a number on are asked for.
@@ -194,8 +200,8 @@ fn keeps(leader: &Leader, kept: usize, term: Term) -> bool {
 
 /// What happens to a primary.
 enum Deed {
-    /// A word comes for hart 0, by its number.
-    Word(u32, Count),
+    /// A word comes for hart 0, by its number, and this becomes of it.
+    Word(u32, Count, Came),
     /// Its outputs from a number on are asked for.
     Again(Count),
     /// A keeper acknowledges all that the primary has, in a term.
@@ -214,7 +220,7 @@ type Row = (Deed, &'static [Said]);
 /// Whether what happens to a primary has this told.
 fn does(alloc: Global, leader: &mut Leader, (deed, told): &Row) -> Result<bool, Memory> {
     match *deed {
-        Deed::Word(word, number) => hears_word(alloc, leader, word, number, told),
+        Deed::Word(word, number, came) => hears_word(alloc, leader, word, number, came),
         Deed::Again(number) => tells_again(alloc, leader, number, told),
         Deed::Held(keeper, term) => lets_go(alloc, leader, keeper, term, told),
         Deed::Keeps(kept, term) => Ok(keeps(&*leader, kept, term)),
@@ -242,11 +248,11 @@ fn go_so(alloc: Global, leader: Leader, log: &mut Vec<u8>, rows: &[Row]) -> Resu
 /// Words that come twice or too early are given once and in order; two of three keepers let their outputs out, in the primary's term. They
 /// are told again, and the next round's frames note that they went out.
 static FIRST: [Row; 15] = [
-    (Deed::Word(70, 0), &[]),
-    (Deed::Word(70, 0), &[]),
-    (Deed::Word(72, 2), &[]),
-    (Deed::Word(71, 1), &[]),
-    (Deed::Word(72, 2), &[]),
+    (Deed::Word(70, 0, Came::Taken), &[]),
+    (Deed::Word(70, 0, Came::Repeat), &[]),
+    (Deed::Word(72, 2, Came::Ahead), &[]),
+    (Deed::Word(71, 1, Came::Taken), &[]),
+    (Deed::Word(72, 2, Came::Taken), &[]),
     (Deed::Round, &[]),
     (Deed::Round, &[]),
     (Deed::Round, &[]),
@@ -261,9 +267,9 @@ static FIRST: [Row; 15] = [
 
 /// The next primary tells them too, and lets out only what is new.
 static SECOND: [Row; 10] = [
-    (Deed::Word(72, 2), &[]),
-    (Deed::Word(74, 4), &[]),
-    (Deed::Word(73, 3), &[]),
+    (Deed::Word(72, 2, Came::Repeat), &[]),
+    (Deed::Word(74, 4, Came::Ahead), &[]),
+    (Deed::Word(73, 3, Came::Taken), &[]),
     (Deed::Again(1), &[(1, 71), (2, 72)]),
     (Deed::Round, &[]),
     (Deed::Round, &[]),

@@ -122,6 +122,8 @@ pub enum Fault {
     BadWord(u64),
     /// Another answer came for the word of a number that had one.
     Contradiction,
+    /// The hart is given no more words.
+    Full,
     /// All inputs are at their end, and the answer of this number is missing.
     Unanswered(usize),
     /// The clock can't be read.
@@ -156,6 +158,7 @@ impl Fault {
             Fault::Live(_) => "live",
             Fault::BadWord(_) => "words line",
             Fault::Contradiction => "contradiction",
+            Fault::Full => "full",
             Fault::Unanswered(_) => "unanswered",
             Fault::Clock => "clock",
             Fault::Write => "write",

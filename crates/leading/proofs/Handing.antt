@@ -7,9 +7,11 @@ use Rattle.rv32_hart.specs.Hart.{Hart}
 use Rattle.book_modes.specs.Recordings.{RecordingView, IsOffered}
 use Rattle.requests.specs.Queues.{QueueView, front, handed_on}
 use Rattle.std.specs.Prelude.{slice_set}
+use Rattle.std.specs.Option.{is_some}
+use Rattle.guest_image.specs.Machine.{MachineState}
 use Rattle.leading.specs.declared.inputs.Spacing.{Spacing}
 use Rattle.leading.specs.Leaders.{queue_at}
-use Rattle.leading.specs.Rounds.{Hands, may_take, next_of, spacing_of}
+use Rattle.leading.specs.Rounds.{Hands, NoneIsHanded, may_take, next_of, spacing_of}
 use Rattle.leading.proofs.Queueing.{set_same, set_other}
 
 -- what a queue says is next, where the hart was given so many words
@@ -99,3 +101,10 @@ hands_more g harts n old qs q p b c d inside there done queues desk own others h
           hands_same g (next_of h (queue_at old hart)) hart h.count (queue_at old hart) (queue_at qs hart) (queue_at old hart) (queue_at (slice_set qs n p) hart) b c b d
           refl (set_other qs n hart p other) refl (others hart other) (done hart h (omega (arith, lt, other)) at)
     ]
+
+-- ---- whether one is handed
+
+pub one_is_handed : (machine : MachineState) (queues : List QueueView) (n : ℕ) (h : Hart) (q : QueueView) (r : Option Input) →
+    slice_get machine.harts n ≡ Some h → q ≡ queue_at queues n → r ≡ next_of h q → is_some r ≡ true → NoneIsHanded machine queues → ⊥
+one_is_handed machine queues n h q None there same is yes none = let no : false ≡ true = yes in cc
+one_is_handed machine queues n h q (Some i) there same is yes none = let no : Some i ≡ None = is ∙ ap (next_of h) same ∙ none n h there in cc

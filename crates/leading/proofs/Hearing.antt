@@ -1,29 +1,31 @@
 -- What a primary hears.
-use Rattle.std.proofs.Common.{◌≡◌, ℕ, ◌≤◌, List, Option, Some, None, length, slice_set, Result, Ok, Err, IfOk, OnOk, OnErr, refl, sym, ap, subst, ◌∙◌}
+use Rattle.std.proofs.Common.{◌≡◌, ◌≤◌, List, Result, Ok, Err, IfOk, OnOk, OnErr, refl, sym, ap, subst, ◌∙◌}
 use Rattle.input_log.specs.declared.Input.{Input}
-use Rattle.input_log.specs.declared.Input.TheVariants.{Word}
-use Rattle.requests.specs.Numbered.{came_of}
-use Rattle.requests.specs.Queues.{QueueView, came, with_input}
+use Rattle.requests.specs.Queues.{QueueView, with_input}
 use Rattle.requests.specs.declared.queue.Came.{Came}
-use Rattle.requests.specs.declared.queue.Came.TheVariants.{Taken, Repeat, Ahead, Full}
-use Rattle.leading.specs.Hearing.{LetsGo, LetsNothingGo, put_as, put_word, with_queue}
-use Rattle.leading.specs.Leaders.{LeaderView, queue_at}
-use Rattle.leading.proofs.Queueing.{set_none}
+use Rattle.requests.specs.declared.queue.Came.TheVariants.{Taken, Repeat, Ahead, Full, Busy}
+use Rattle.leading.specs.Hearing.{LetsGo, LetsNothingGo, put_as}
+use Rattle.leading.specs.Leaders.{LeaderView}
 
 -- ---- words
 
--- what became of a word is what its number says
-pub put_is : {E : Type 0} (old new : QueueView) (word : ℕ) (number : Option ℕ) (r : Result Came E) → IfOk r (λ c. c ≡ came_of (came old) number) →
-    (r ≡ Ok Taken → new ≡ with_input old (Word word)) → ((r ≡ Ok Taken → ⊥) → new ≡ old) → OnOk r (new ≡ put_word old word number)
-put_is old new word number (Err e) answer taken stays = tt
-put_is old new word number (Ok Taken) answer taken stays = taken refl ∙ ap (put_as old word) answer
-put_is old new word number (Ok Repeat) answer taken stays = stays (λ no. absurd cc) ∙ ap (put_as old word) answer
-put_is old new word number (Ok Ahead) answer taken stays = stays (λ no. absurd cc) ∙ ap (put_as old word) answer
-put_is old new word number (Ok Full) answer taken stays = stays (λ no. absurd cc) ∙ ap (put_as old word) answer
+-- the queue is what this became of an input makes of it
+pub put_is : {E : Type 0} (old new : QueueView) (input : Input) (r : Result Came E) → (r ≡ Ok Taken → new ≡ with_input old input) →
+    ((r ≡ Ok Taken → ⊥) → new ≡ old) → IfOk r (λ came. new ≡ put_as old input came)
+put_is old new input (Err e) taken stays = tt
+put_is old new input (Ok Taken) taken stays = taken refl
+put_is old new input (Ok Repeat) taken stays = stays (λ no. absurd cc)
+put_is old new input (Ok Ahead) taken stays = stays (λ no. absurd cc)
+put_is old new input (Ok Full) taken stays = stays (λ no. absurd cc)
+put_is old new input (Ok Busy) taken stays = stays (λ no. absurd cc)
 
--- where there is no such hart, nothing changes
-pub no_hart : (old : LeaderView) (hart : ℕ) (queue : QueueView) → length old.queues ≤ hart → old ≡ with_queue old hart queue
-no_hart old hart queue le = ap (λ (qs : List QueueView). let x : LeaderView = record old { queues = qs } in x) (sym (set_none old.queues hart queue le))
+-- no word is handed on by that
+pub put_keeps : (old : QueueView) (input : Input) (came : Came) → (put_as old input came).handed ≡ old.handed
+put_keeps old input Taken = refl
+put_keeps old input Repeat = refl
+put_keeps old input Ahead = refl
+put_keeps old input Full = refl
+put_keeps old input Busy = refl
 
 -- ---- acknowledgements
 

@@ -17,7 +17,7 @@ use Rattle.primary.proofs.Waiting.{all_stay}
 use Rattle.requests.specs.Queues.{QueueView}
 use Rattle.leading.specs.Telling.{IsOut}
 use Rattle.leading.specs.Hearing.{LetsGo, LetsNothingGo}
-use Rattle.leading.specs.Leaders.{LeaderView, IsSound}
+use Rattle.leading.specs.Leaders.{AreHandedOn, LeaderView, IsSound}
 use Rattle.leading.proofs.Offering.{rising}
 use Rattle.leading.proofs.Sound.{sound_gate, sound_notes}
 
@@ -79,6 +79,17 @@ pub marks_stay : {U E : Type 0} (term : ℕ) (m : MachineState) (g h : TermGateV
     (hart : ℕ) → mark_at h.gate hart ≡ mark_at g.gate hart
 marks_stay term m g h was now b c (Ok u) (lets, notes) none hart = ap (λ (l : LineView). l.mark) (lets.lines hart) ∙ (lets.more.lines hart).mark
 marks_stay term m g h was now b c (Err e) none stays hart = (stays.lines hart).mark
+
+-- what is noted is no word
+pub noted_handed : {U E : Type 0} (term : ℕ) (m : MachineState) (g h : TermGateView) (queues : List QueueView) (was now : List Released)
+    (b c : BookView RecordingView) (r : Result U E) → OnOk r ((goes : LetGo term m g was h now) × NotesAll goes.given b c) →
+    OnErr r (HasRoomed b.mode c.mode) → OnErr r (c ≡ record b { mode = c.mode }) → AreHandedOn b queues → AreHandedOn c queues
+noted_handed term m g h queues was now b c (Ok u) (lets, notes) room book all =
+    subst (λ (x : BookView RecordingView). AreHandedOn x queues) (sym notes.rest) all
+noted_handed term m g h queues was now b c (Err e) none room book all =
+    let rest : c ≡ record b { mode = record b.mode { notes = c.mode.notes } } =
+    book ∙ ap (λ (mode : RecordingView). let x : BookView RecordingView = record b { mode = mode } in x) room.rest in
+    subst (λ (x : BookView RecordingView). AreHandedOn x queues) (sym rest) all
 
 pub released_sound : {U E : Type 0} (p q : Primary) (g h : TermGateView) (queues : List QueueView) (was now : List Released) (r : Result U E) →
     OnOk r ((goes : LetGo p.opening.term p.book.machine g was h now) × NotesAll goes.given p.book q.book) →

@@ -1,6 +1,7 @@
 -- What a primary hears.
-use Rattle.std.specs.Prelude.{◌≡◌, ◌≤◌, ◌<◌, ◌⊎◌, ℕ, List, [], Option, length, slice_index, slice_set}
+use Rattle.std.specs.Prelude.{◌≡◌, ◌≤◌, ◌<◌, ◌⊎◌, ⊥, ℕ, List, length, slice_index, slice_set}
 use Rattle.interleaving.specs.Lists.{Each}
+use Rattle.input_log.specs.declared.Input.{Input}
 use Rattle.input_log.specs.declared.Input.TheVariants.{Timer as TimerInput, Word as WordInput}
 use Rattle.ft_types.specs.Counts.{count_at}
 use Rattle.book_modes.specs.Recordings.{HasRoomed}
@@ -13,10 +14,11 @@ use Rattle.wire.specs.declared.acknowledgements.Acknowledgement.{Acknowledgement
 use Rattle.wire.specs.declared.answers.Answer.{Answer}
 use Rattle.wire.specs.declared.requests.Request.{Request}
 use Rattle.wire.specs.declared.requests.Request.TheVariants.{Timer, Word, From}
-use Rattle.requests.specs.Numbered.{came_of}
-use Rattle.requests.specs.Queues.{QueueView, came, with_input}
+use Rattle.requests.specs.Queues.{QueueView, at_room, comes_of, with_input}
 use Rattle.requests.specs.declared.queue.Came.{Came}
 use Rattle.requests.specs.declared.queue.Came.TheVariants.{Taken}
+use Rattle.leading.specs.declared.heard.Heard.{Heard}
+use Rattle.leading.specs.declared.heard.Heard.TheVariants as heard
 use Rattle.leading.specs.Telling.{IsOut, told_again}
 use Rattle.leading.specs.Leaders.{LeaderView, queue_at}
 
@@ -26,21 +28,30 @@ use Rattle.leading.specs.Leaders.{LeaderView, queue_at}
 abbrev pub with_queue : LeaderView → ℕ → QueueView → LeaderView
 with_queue leader hart queue = record leader { queues = slice_set leader.queues hart queue }
 
--- the queue, once this became of a word
-abbrev pub put_as : QueueView → ℕ → Came → QueueView
-put_as queue word Taken = with_input queue (WordInput word)
-put_as queue word came = queue
+-- the queue, once this became of an input
+abbrev pub put_as : QueueView → Input → Came → QueueView
+put_as queue input Taken = with_input queue input
+put_as queue input came = queue
 
--- the queue, once a word was asked for by this number, or by none
-abbrev pub put_word : QueueView → ℕ → Option ℕ → QueueView
-put_word queue word number = put_as queue word (came_of (came queue) number)
+-- An input came for a hart: the hart's queue takes it or not, as it becomes of it there, which is told. Where there is no such hart, that is told.
+abbrev pub Comes : LeaderView → ℕ → Input → (QueueView → Came) → LeaderView → Heard → Type 0
+Comes old hart input becomes new heard.NoHart = (length old.queues ≤ hart) × (new ≡ old)
+Comes old hart input becomes new (heard.Came came) =
+    (hart < length old.queues) × (came ≡ becomes (queue_at old.queues hart)) ×
+    (new ≡ with_queue old hart (put_as (queue_at old.queues hart) input came))
+Comes old hart input becomes new (heard.Told answers) = ⊥
 
--- what a request does, and what is told at once
-abbrev pub Hears : LeaderView → Request → LeaderView → List Answer → Type 0
-Hears old (Timer hart) new answers = (answers ≡ []) × (new ≡ with_queue old hart (with_input (queue_at old.queues hart) TimerInput))
-Hears old (Word hart word number) new answers = (answers ≡ []) × (new ≡ with_queue old hart (put_word (queue_at old.queues hart) word number))
-Hears old (From hart number) new answers =
-    (answers ≡ told_again old.primary.opening.term old.primary.book.machine (mark_at old.gate.gate hart) old.released hart number) × (new ≡ old)
+-- these outputs are told
+abbrev pub Tells : List Answer → Heard → Type 0
+Tells answers (heard.Told told) = told.items ≡ answers
+Tells answers other = ⊥
+
+-- what a request does, and what is told of it at once
+abbrev pub Hears : LeaderView → Request → LeaderView → Heard → Type 0
+Hears old (Timer hart) new told = Comes old hart TimerInput (λ q. at_room (length q.waiting) Taken) new told
+Hears old (Word hart word number) new told = Comes old hart (WordInput word) (λ q. comes_of q number) new told
+Hears old (From hart number) new told =
+    Tells (told_again old.primary.opening.term old.primary.book.machine (mark_at old.gate.gate hart) old.released hart number) told × (new ≡ old)
 
 -- ---- acknowledgements
 

@@ -1,11 +1,13 @@
 -- A primary that leads: its book and its gate, the inputs that wait for its harts, and what went out.
-use Rattle.std.specs.Prelude.{◌≡◌, ◌<◌, ◌≤◌, ℕ, List, [], All, length, replicate, slice_get, slice_index_or, Some}
+use Rattle.std.specs.Prelude.{◌≡◌, ◌<◌, ◌≤◌, ◌+◌, ℕ, List, [], All, length, map, replicate, slice_get, slice_index_or, Some}
 use Rattle.interleaving.specs.Lists.{Each, EachPair}
 use Rattle.ft_types.specs.Counts.{count_at}
 use Rattle.hart_lease.specs.Runs.{counts_of}
 use Rattle.rv32_hart.specs.Hart.{Hart}
 use Rattle.guest_image.specs.Machine.{MachineState}
-use Rattle.lease_rounds.specs.Running.{IsIdle}
+use Rattle.book_modes.specs.Recordings.{RecordingView}
+use Rattle.page_book.specs.Books.{BookView}
+use Rattle.lease_rounds.specs.Running.{IsIdle, offers}
 use Rattle.lease_rounds.specs.Steps.{AreWithin}
 use Rattle.output_gate.specs.Gates.{GateView, noted_at, gone_of, mark_at}
 use Rattle.term_gate.specs.TermGates.{TermGateView}
@@ -13,7 +15,7 @@ use Rattle.primary.specs.declared.granted.Primary.{Primary}
 use Rattle.primary.specs.declared.released.Released.{Released}
 use Rattle.primary.specs.Gating.{AreOffered}
 use Rattle.primary.specs.Outputs.{said_at}
-use Rattle.requests.specs.Queues.{QueueView}
+use Rattle.requests.specs.Queues.{QueueView, words_in}
 
 pub record LeaderView : Type 0 where
   pub primary : Primary  -- the opening of its term, its book, and how far its log is cut
@@ -33,6 +35,16 @@ abbrev pub BeginBehind : MachineState → List QueueView → Type 0
 BeginBehind machine queues =
     (hart : ℕ) (h : Hart) → slice_get machine.harts hart ≡ Some h →
     queue_at queues hart ≡ record { handed = h.received.input_sequence; waiting = [] }
+
+-- the words among all inputs that the book was offered for the hart, in their order: those that its log gives it, and those that wait there for it
+abbrev pub words_of : BookView RecordingView → ℕ → List ℕ
+words_of b hart = words_in (map (λ o. o.input) (offers b hart))
+
+-- Each hart's queue counts as handed on the words that the hart had been given where the term began, and those that the book was offered for it since.
+abbrev pub AreHandedOn : BookView RecordingView → List QueueView → Type 0
+AreHandedOn b queues =
+    (hart : ℕ) (h : Hart) → slice_get b.start.harts hart ≡ Some h →
+    (queue_at queues hart).handed ≡ h.received.input_sequence + length (words_of b hart)
 
 -- a gate of a term at which nothing is acknowledged and through which nothing went out, with these marks
 pub record IsNewGate (g : TermGateView) (term keepers need harts : ℕ) (marks : List ℕ) : Type 0 where

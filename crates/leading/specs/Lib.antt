@@ -4,3 +4,4 @@ pub mod Leaders
 pub mod Beginning
 pub mod Hearing
 pub mod Rounds
+pub mod Waiting

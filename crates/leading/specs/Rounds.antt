@@ -3,6 +3,7 @@ use Rattle.std.specs.Prelude.{ℕ, ◌≡◌, ◌≤◌, ◌⊎◌, ◌+◌, ◌
 use Rattle.ft_types.specs.declared.names.TheConstants.{COUNT_LIMIT, LEASE_STEPS}
 use Rattle.input_log.specs.declared.Input.{Input}
 use Rattle.input_log.specs.Waiting.{bells_of, others_of}
+use Rattle.guest_image.specs.Machine.{MachineState}
 use Rattle.rv32_hart.specs.Hart.{Hart}
 use Rattle.hart_lease.specs.declared.stretch.Stretch.{Stretch}
 use Rattle.hart_lease.specs.Runs.{LeadsTo, counts_of}
@@ -27,6 +28,10 @@ may_take h = not h.halted && (bit_and h.received.mip (2 ^ 11) == 0)
 -- the input that the hart is handed next: the front of its queue, once it was given all words that were handed on
 abbrev pub next_of : Hart → QueueView → Option Input
 next_of h q = if may_take h then (if h.received.input_sequence == q.handed then front q.waiting else None) else None
+
+-- no hart is handed an input
+abbrev pub NoneIsHanded : MachineState → List QueueView → Type 0
+NoneIsHanded machine queues = (hart : ℕ) (h : Hart) → slice_get machine.harts hart ≡ Some h → next_of h (queue_at queues hart) ≡ None
 
 -- how many steps go by before the hart is given it, at the least
 abbrev pub spacing_of : Spacing → ℕ

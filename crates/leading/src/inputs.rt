@@ -1,12 +1,12 @@
 //! Inputs that go from the queues to the machine.
 
-ghost use Rattle.std.specs.Prelude.{◌≡◌, ◌≢◌, ◌<◌, ◌≤◌, ℕ, false, None, Some, length, slice_get, IfOk, IfSome, IfNone, OnOk, OnErr};
+ghost use Rattle.std.specs.Prelude.{◌≡◌, ◌≢◌, ◌<◌, ◌↔◌, ℕ, false, None, Some, length, slice_get, IfOk, IfSome, IfNone, OnOk, OnErr};
 ghost use Rattle.input_log.specs.Inputs.{is_bell};
 ghost use Rattle.input_log.specs.Waiting.{bells_of, others_of};
 ghost use Rattle.rv32_hart.specs.Hart.{Hart as HartRecord};
 ghost use Rattle.primary.specs.Primaries.{GoesOn};
 ghost use Rattle.leading.specs.Leaders.{BeginBehind, queue_at};
-ghost use Rattle.leading.specs.Rounds.{Hands, may_take, next_of, spacing_of};
+ghost use Rattle.leading.specs.Rounds.{Hands, NoneIsHanded, may_take, next_of, spacing_of};
 
 use ft_types::{Hart, Memory};
 use guest_image::Machine;
@@ -76,12 +76,13 @@ fn next_input(state: &HartState, queue: &Queue) -> Option<Input>
 /// Whether a hart would be handed an input.
 pub(crate) fn has_input(machine: &Machine, queues: &[Queue]) -> bool
     requires { length queues.now ≡ length machine.now.harts }
-    ensures { result ≡ false → (hart : ℕ) (h : HartRecord) → hart < length queues.now → slice_get machine.now.harts hart ≡ Some h →
-        next_of h (queue_at queues.now hart) ≡ None }
+    ensures { (result ≡ false) ↔ NoneIsHanded machine.now queues.now }
 {
     for number in 0..machine.harts() {
         let hart = Hart::new(number);
-        if next_input(machine.hart(hart), &queues[hart.index()]).is_some() {
+        let state = machine.hart(hart);
+        let queue = &queues[hart.index()];
+        if next_input(state, queue).is_some() {
             return true;
         }
     }

@@ -1,22 +1,24 @@
 //! A primary of a term that leads.
 
-ghost use Rattle.std.specs.Prelude.{◌≡◌, ◌≤◌, ◌+◌, ℕ, [], true, false, None, Some, Ok, length, slice_get, IfOk, IfErr, OnOk, OnErr};
+ghost use Rattle.std.specs.Prelude.{◌≡◌, ◌≤◌, ◌+◌, ◌↔◌, ℕ, [], false, length, IfOk, IfErr, IsTrue, OnOk, OnErr};
 ghost use Rattle.ft_types.specs.Counts.{count_at};
 ghost use Rattle.hart_lease.specs.Runs.{counts_of};
-ghost use Rattle.rv32_hart.specs.Hart.{Hart as HartRecord};
 ghost use Rattle.fragment_codec.specs.declared.frame.Frame.TheVariants.{Opening as OpeningFrame};
 ghost use Rattle.log_pieces.specs.Pieces.{IsCut, book_log};
 ghost use Rattle.output_gate.specs.Gates.{kept_count, mark_at};
-ghost use Rattle.input_log.specs.declared.Input.TheVariants.{Timer as TimerInput};
+ghost use Rattle.input_log.specs.declared.Input.TheVariants.{Timer as TimerInput, Word as WordInput};
 ghost use Rattle.primary.specs.Gating.{AreAllOffered, OffersMore};
-ghost use Rattle.requests.specs.Queues.{with_input};
+ghost use Rattle.requests.specs.Queues.{at_room, comes_of};
+ghost use Rattle.requests.specs.declared.queue.Came.TheVariants.{Taken as WasTaken};
 ghost use Rattle.leading.specs.Beginning.{GoesLive, CannotGoLive};
-ghost use Rattle.leading.specs.Hearing.{Hears, LetsGo, LetsNothingGo, Notes, WithNoted, put_word, with_queue};
-ghost use Rattle.leading.specs.Leaders.{BeginBehind, queue_at};
-ghost use Rattle.leading.specs.Rounds.{IsRound, next_of};
+ghost use Rattle.leading.specs.Hearing.{Comes, Hears, LetsGo, LetsNothingGo, Notes, WithNoted};
+ghost use Rattle.leading.specs.Leaders.{AreHandedOn, BeginBehind};
+ghost use Rattle.leading.specs.Rounds.{IsRound, NoneIsHanded};
 ghost use Rattle.leading.specs.Telling.{told_again};
+ghost use Rattle.leading.specs.Waiting.{OnlyWaits};
 
 use crate::fault::LeadFault;
+use crate::heard::Heard;
 use crate::inputs::{Spacing, hand_all, has_input, queues_of};
 use crate::rounds::go_on;
 use crate::sent::is_of_sent;
@@ -31,7 +33,7 @@ use go_live::LiveFault;
 use guest_image::{Image, Machine};
 use lease_rounds::has_run;
 use primary::{Primary, Released, offer_all};
-use requests::{Came, Queue};
+use requests::Queue;
 use std::alloc::Global;
 use std::marker::Model;
 use std::result::Result;
@@ -70,14 +72,15 @@ impl Model for Leader {
     ghost use Rattle.std.specs.Prelude.{◌≡◌, ℕ};
     ghost use Rattle.ft_types.specs.Counts.{count_at};
     ghost use Rattle.output_gate.specs.Gates.{mark_at};
-    ghost use Rattle.leading.specs.Leaders.{LeaderView, IsSound};
+    ghost use Rattle.leading.specs.Leaders.{AreHandedOn, LeaderView, IsSound};
 
     ghost Value = { LeaderView };
 
     ghost view = { λ l. record { primary = l.primary.value; gate = l.gate.value; queues = l.queues.items; released = l.released.items } };
 
     ghost invariant = { λ l. IsSound l.primary.value l.gate.value l.queues.items × (l.gate.value.gate.keepers ≡ l.quorum.keepers)
-        × ((hart : ℕ) → mark_at l.gate.value.gate hart ≡ count_at l.marks hart) };
+        × ((hart : ℕ) → mark_at l.gate.value.gate hart ≡ count_at l.marks hart)
+        × AreHandedOn l.primary.value.book l.queues.items };
 }
 
 /// A primary and a gate, each in a box.
@@ -164,19 +167,20 @@ impl Leader {
         self.gate.kept()
     }
 
-    /// Whether a hart could be handed an input in the next round.
+    /// Whether a hart is handed an input in the next round.
     pub fn may_hand(&self) -> bool
-        ensures { result ≡ false → (hart : ℕ) (h : HartRecord) → slice_get self.now.primary.book.machine.harts hart ≡ Some h →
-            next_of h (queue_at self.now.queues hart) ≡ None }
+        ensures handed { (result ≡ false) ↔ NoneIsHanded self.now.primary.book.machine self.now.queues }
+        // Whatever was called before.
+        ensures counted { AreHandedOn self.now.primary.book self.now.queues }
     {
         has_input(self.primary.book.machine(), &self.queues)
     }
 
-    /// Whether rounds would change nothing but counts until an input comes: no hart could be handed one, and all of them only wait, which
+    /// Whether rounds would change nothing but counts until an input comes: no hart is handed one, and all of them only wait, which
     /// few steps of a copy of each show. It steers rounds alone, and costs no more as the past grows.
     pub fn only_waits(&self, alloc: Global) -> Result<bool, Memory>
-        ensures { result ≡ Ok true → (hart : ℕ) (h : HartRecord) → slice_get self.now.primary.book.machine.harts hart ≡ Some h →
-            next_of h (queue_at self.now.queues hart) ≡ None }
+        ensures { IfOk result (λ waits. IsTrue waits
+            ↔ (NoneIsHanded self.now.primary.book.machine self.now.queues × OnlyWaits self.now.primary.book.machine)) }
     {
         if self.may_hand() {
             return Ok(false);
@@ -184,29 +188,30 @@ impl Leader {
         only_waits(alloc, self.machine())
     }
 
-    /// Takes a word that is asked for, where its hart is there.
-    fn take_word(&mut self, hart: Hart, word: u32, number: Option<Count>) -> Result<(), Memory>
-        ensures ok { OnOk result (self.new ≡ with_queue self.old hart (put_word (queue_at self.old.queues hart) word number)) }
+    /// Takes a word that is asked for, where its hart is there and has room for it.
+    fn take_word(&mut self, hart: Hart, word: u32, number: Option<Count>) -> Result<Heard, Memory>
+        ensures ok { IfOk result (λ heard. Comes self.old hart (WordInput word) (λ q. comes_of q number) self.new heard) }
         ensures err { OnErr result (self.new ≡ self.old) }
     {
         if hart.index() >= self.queues.len() {
-            return Ok(());
+            return Ok(Heard::NoHart);
         }
         let queue = &mut self.queues[hart.index()];
-        let _came: Came = queue.put_word(word, number)?;
-        Ok(())
+        let came = queue.put_word(word, number)?;
+        Ok(Heard::Came(came))
     }
 
-    /// Takes the timer's interrupt for a hart, where it is there.
-    fn take_timer(&mut self, hart: Hart) -> Result<(), Memory>
-        ensures ok { OnOk result (self.new ≡ with_queue self.old hart (with_input (queue_at self.old.queues hart) TimerInput)) }
+    /// Takes the timer's interrupt for a hart, where it is there and has room for it.
+    fn take_timer(&mut self, hart: Hart) -> Result<Heard, Memory>
+        ensures ok { IfOk result (λ heard. Comes self.old hart TimerInput (λ q. at_room (length q.waiting) WasTaken) self.new heard) }
         ensures err { OnErr result (self.new ≡ self.old) }
     {
         if hart.index() >= self.queues.len() {
-            return Ok(());
+            return Ok(Heard::NoHart);
         }
         let queue = &mut self.queues[hart.index()];
-        queue.put_timer()
+        let came = queue.put_timer()?;
+        Ok(Heard::Came(came))
     }
 
     /// What is told once more: the outputs of a hart, from this number on, that are known to be out.
@@ -230,17 +235,19 @@ impl Leader {
         )
     }
 
-    /// Takes a request. What is told at once: outputs that are known to be out.
-    pub fn hear(&mut self, alloc: Global, request: &Request) -> Result<Vec<Answer>, Memory>
-        ensures hears { IfOk result (λ answers. Hears self.old request.now self.new answers.items) }
+    /// Takes a request. What comes of it is told; one that is refused, and want of memory, change nothing.
+    pub fn hear(&mut self, alloc: Global, request: &Request) -> Result<Heard, Memory>
+        ensures hears { IfOk result (λ heard. Hears self.old request.now self.new heard) }
         ensures err { OnErr result (self.new ≡ self.old) }
     {
         match request {
-            Request::Timer(hart) => self.take_timer(*hart)?,
-            Request::Word { hart, word, number } => self.take_word(*hart, *word, *number)?,
-            Request::From { hart, number } => return self.tell_again(alloc, *hart, *number),
+            Request::Timer(hart) => self.take_timer(*hart),
+            Request::Word { hart, word, number } => self.take_word(*hart, *word, *number),
+            Request::From { hart, number } => {
+                let answers = self.tell_again(alloc, *hart, *number)?;
+                Ok(Heard::Told(answers))
+            }
         }
-        Ok(Vec::new(alloc))
     }
 
     /// All outputs are offered at the gate, those go out whose step enough keepers acknowledged, and the book notes that they did.

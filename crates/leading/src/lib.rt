@@ -4,6 +4,7 @@
 
 mod fault;
 mod handed;
+mod heard;
 mod inputs;
 mod leader;
 mod rounds;
@@ -14,5 +15,7 @@ mod waiting;
 
 pub use fault::LeadFault;
 pub use handed::{HandedFault, HandedLog, read_handed_log};
+pub use heard::Heard;
 pub use inputs::Spacing;
 pub use leader::Leader;
+pub use requests::Came;

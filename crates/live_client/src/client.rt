@@ -9,14 +9,14 @@ use ends::{
     Door, Event, Fault, Host, Keeps, NamedFile, Post, Receiver, Waiting, begin_posts, file_fault,
     leave_all, listen_all, read_file, row, tell,
 };
-use ft_types::{Hart, Memory};
+use ft_types::{HART_LIMIT, Hart, Memory};
 use live_words::ClientWords;
 use std::alloc::Global;
 use std::io;
 use std::io::Write;
 use std::sync::Arc;
 use std::time::{Duration, Instant};
-use wire::{LineText, Request, request_line};
+use wire::{LineText, Request, read_full, request_line};
 
 /// How many pieces of answers wait at the most.
 const ROOM: usize = 512;
@@ -152,8 +152,11 @@ impl Client {
         }
     }
 
-    /// Hears an answer.
+    /// Hears an answer, or that no more words are taken.
     fn hear<H: Host>(&mut self, rt: &H, line: &LineText) -> Result<(), Fault> {
+        if read_full(HART_LIMIT, line.as_slice()) == Some(Hart::new(0)) {
+            return Err(Fault::Full);
+        }
         match self.talk.hear(line.as_slice()) {
             Heard::New => {
                 self.last = now(rt)?;

@@ -9,7 +9,7 @@ use crate::outset::{Outset, frame_bytes, set_out};
 use crate::pace::{FIRST_ROUND, LONE_ROUND, SHORT_ROUNDS, is_sent, next_blind, next_round};
 use ends::{Door, Event, Fault, Host, Receiver, refuse, row};
 use ft_types::{Count, Guest, Memory};
-use leading::{Leader, Spacing};
+use leading::{Came, Heard, Leader, Spacing};
 use live_words::PrimaryWords;
 use primary::Released;
 use std::alloc::Global;
@@ -83,6 +83,30 @@ fn tell_new<R: AllocGlobal + Wait>(
     Ok(())
 }
 
+/// Tells what comes of a request: outputs that are known to be out, or that its hart is given no more words. Whether something was taken: behind
+/// all else rounds would bring nothing new.
+fn tell_of<R: AllocGlobal + Wait>(
+    rt: &R,
+    office: &mut Office,
+    request: &Request,
+    heard: &Heard,
+) -> Result<bool, Memory> {
+    match heard {
+        Heard::Told(answers) => {
+            for answer in answers {
+                office.tell(rt, answer)?;
+            }
+            Ok(false)
+        }
+        Heard::Came(Came::Taken) => Ok(true),
+        Heard::Came(Came::Full) => {
+            office.tell_full(rt, request.hart())?;
+            Ok(false)
+        }
+        _ => Ok(false),
+    }
+}
+
 /// Takes the line of a client.
 fn take_request<R: AllocGlobal + Wait>(
     rt: &R,
@@ -99,8 +123,9 @@ fn take_request<R: AllocGlobal + Wait>(
     {
         return Ok(());
     }
-    for answer in &leader.hear(rt.alloc(), &request)? {
-        office.tell(rt, answer)?;
+    let heard = leader.hear(rt.alloc(), &request)?;
+    if !tell_of(rt, office, &request, &heard)? {
+        return Ok(());
     }
     duty.steps = if leader.kept() > 0 {
         FIRST_ROUND

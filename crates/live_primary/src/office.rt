@@ -6,7 +6,7 @@ use live_words::PrimaryWords;
 use std::alloc::Global;
 use std::sync::Wait;
 use std::thread::JoinHandle;
-use wire::{Acknowledgement, Answer, answer_line};
+use wire::{Acknowledgement, Answer, answer_line, full_line};
 
 /// The inputs and outputs of a primary.
 #[derive(Drop)]
@@ -146,6 +146,16 @@ impl Office {
     ) -> Result<(), Memory> {
         self.note(&answer.output);
         let bytes = answer_line(answer).as_slice().to_vec(rt.alloc())?;
+        leave_all(rt, &mut self.answers, bytes)
+    }
+
+    /// Tells that a hart is given no more words.
+    pub(crate) fn tell_full<R: AllocGlobal + Wait>(
+        &mut self,
+        rt: &R,
+        hart: Hart,
+    ) -> Result<(), Memory> {
+        let bytes = full_line(hart).as_slice().to_vec(rt.alloc())?;
         leave_all(rt, &mut self.answers, bytes)
     }
 

@@ -1,7 +1,9 @@
 //! The task that the words are.
 
-ghost use Rattle.std.specs.Prelude.{◌<◌, IfOk};
+ghost use Rattle.std.specs.Prelude.{◌≡◌, ◌<◌, ◌++◌, ◌∷◌, [], IfOk};
+ghost use Rattle.ft_types.specs.Text.{IsNumber};
 ghost use Rattle.live_words.specs.Usable.{IsUsable};
+ghost use Rattle.live_words.specs.Words.{AsksFor, Asks, Hands, Keeps, Leads};
 
 use crate::forms::FORMS;
 use crate::tasks::{ClientWords, HandWords, KeeperWords, PrimaryWords, Task};
@@ -11,14 +13,18 @@ use std::result::Result;
 use word_forms::{Words, WordsFault, read_form};
 
 /// The last of these rows, which is taken away.
-fn last_of<'a>(rows: &mut Vec<Vec<&'a str>>) -> Result<Vec<&'a str>, WordsFault> {
+fn last_of<'a>(rows: &mut Vec<Vec<&'a str>>) -> Result<Vec<&'a str>, WordsFault>
+    ensures { IfOk result (λ row. rows.old.items ≡ rows.new.items ++ row ∷ []) }
+{
     match rows.pop() {
         Some(row) => Ok(row),
         None => Err(WordsFault::Usage),
     }
 }
 
-fn number(word: &str) -> Result<u64, WordsFault> {
+fn number(word: &str) -> Result<u64, WordsFault>
+    ensures { IfOk result (λ n. IsNumber word.now n) }
+{
     match read_number(word.as_bytes()) {
         Some(number) => Ok(number),
         None => Err(WordsFault::Usage),
@@ -27,7 +33,8 @@ fn number(word: &str) -> Result<u64, WordsFault> {
 
 /// The number that the word is, 1 at least.
 fn some_number(word: &str) -> Result<u64, WordsFault>
-    ensures { IfOk result (λ n. 0 < n) }
+    ensures some { IfOk result (λ n. 0 < n) }
+    ensures own { IfOk result (λ n. IsNumber word.now n) }
 {
     match read_number(word.as_bytes()) {
         Some(number) if number > 0 => Ok(number),
@@ -35,7 +42,9 @@ fn some_number(word: &str) -> Result<u64, WordsFault>
     }
 }
 
-fn keeper(word: &str) -> Result<Keeper, WordsFault> {
+fn keeper(word: &str) -> Result<Keeper, WordsFault>
+    ensures { IfOk result (λ k. IsNumber word.now k) }
+{
     match read_number(word.as_bytes()) {
         Some(number) if number < u64::from(KEEPER_LIMIT) => Ok(Keeper::new(number as u8)),
         _ => Err(WordsFault::Usage),
@@ -44,7 +53,8 @@ fn keeper(word: &str) -> Result<Keeper, WordsFault> {
 
 /// The term, which is granted: 1 at least.
 fn term(word: &str) -> Result<Term, WordsFault>
-    ensures { IfOk result (λ t. 0 < t) }
+    ensures some { IfOk result (λ t. 0 < t) }
+    ensures own { IfOk result (λ t. IsNumber word.now t) }
 {
     match u32::try_from(some_number(word)?) {
         Ok(term) => Ok(term),
@@ -52,17 +62,26 @@ fn term(word: &str) -> Result<Term, WordsFault>
     }
 }
 
-fn quorum(keepers: &str, need: &str) -> Result<Quorum, WordsFault> {
+fn quorum(keepers: &str, need: &str) -> Result<Quorum, WordsFault>
+    ensures keepers { IfOk result (λ q. IsNumber keepers.now q.keepers) }
+    ensures need { IfOk result (λ q. IsNumber need.now q.need) }
+{
     match Quorum::new(number(keepers)?, number(need)?) {
         Some(quorum) => Ok(quorum),
         None => Err(WordsFault::Usage),
     }
 }
 
-fn keeping_of<'a>(words: &[&'a str], mut rows: Vec<Vec<&'a str>>) -> Result<Task<'a>, WordsFault>
-    ensures { IfOk result IsUsable }
+fn keeping_of<'a>(words: Words<'a>) -> Result<Task<'a>, WordsFault>
+    ensures usable { IfOk result IsUsable }
+    ensures which { IfOk result (λ task. Keeps words task) }
 {
-    let [image, number, log] = *words else {
+    let Words {
+        name: _,
+        words,
+        mut rows,
+    } = words;
+    let [image, number, log] = *words.as_slice() else {
         return Err(WordsFault::Usage);
     };
     let keeper = keeper(number)?;
@@ -77,10 +96,16 @@ fn keeping_of<'a>(words: &[&'a str], mut rows: Vec<Vec<&'a str>>) -> Result<Task
     }))
 }
 
-fn handing_of<'a>(words: &[&'a str]) -> Result<Task<'a>, WordsFault>
-    ensures { IfOk result IsUsable }
+fn handing_of<'a>(words: Words<'a>) -> Result<Task<'a>, WordsFault>
+    ensures usable { IfOk result IsUsable }
+    ensures which { IfOk result (λ task. Hands words task) }
 {
-    let [image, number, log, granted] = *words else {
+    let Words {
+        name: _,
+        words,
+        rows: _,
+    } = words;
+    let [image, number, log, granted] = *words.as_slice() else {
         return Err(WordsFault::Usage);
     };
     Ok(Task::Hand(HandWords {
@@ -91,10 +116,16 @@ fn handing_of<'a>(words: &[&'a str]) -> Result<Task<'a>, WordsFault>
     }))
 }
 
-fn leading_of<'a>(words: &[&'a str], mut rows: Vec<Vec<&'a str>>) -> Result<Task<'a>, WordsFault>
-    ensures { IfOk result IsUsable }
+fn leading_of<'a>(words: Words<'a>) -> Result<Task<'a>, WordsFault>
+    ensures usable { IfOk result IsUsable }
+    ensures which { IfOk result (λ task. Leads words task) }
 {
-    let [image, granted, keepers, need] = *words else {
+    let Words {
+        name: _,
+        words,
+        mut rows,
+    } = words;
+    let [image, granted, keepers, need] = *words.as_slice() else {
         return Err(WordsFault::Usage);
     };
     let term = term(granted)?;
@@ -116,10 +147,16 @@ fn leading_of<'a>(words: &[&'a str], mut rows: Vec<Vec<&'a str>>) -> Result<Task
     }))
 }
 
-fn asking_of<'a>(words: &[&'a str], mut rows: Vec<Vec<&'a str>>) -> Result<Task<'a>, WordsFault>
-    ensures { IfOk result IsUsable }
+fn asking_of<'a>(words: Words<'a>) -> Result<Task<'a>, WordsFault>
+    ensures usable { IfOk result IsUsable }
+    ensures which { IfOk result (λ task. Asks words task) }
 {
-    let [file, asked, waited] = *words else {
+    let Words {
+        name: _,
+        words,
+        mut rows,
+    } = words;
+    let [file, asked, waited] = *words.as_slice() else {
         return Err(WordsFault::Usage);
     };
     let window = some_number(asked)?;
@@ -135,19 +172,16 @@ fn asking_of<'a>(words: &[&'a str], mut rows: Vec<Vec<&'a str>>) -> Result<Task<
     }))
 }
 
-/// The task of a form with these words, and with these paths behind them.
-fn task_of<'a>(
-    name: &str,
-    words: &[&'a str],
-    rows: Vec<Vec<&'a str>>,
-) -> Result<Task<'a>, WordsFault>
-    ensures { IfOk result IsUsable }
+/// The task of these words.
+fn task_of<'a>(words: Words<'a>) -> Result<Task<'a>, WordsFault>
+    ensures usable { IfOk result IsUsable }
+    ensures which { IfOk result (λ task. AsksFor words task) }
 {
-    match name {
-        "keeper" => keeping_of(words, rows),
+    match words.name {
+        "keeper" => keeping_of(words),
         "hand" => handing_of(words),
-        "primary" => leading_of(words, rows),
-        "client" => asking_of(words, rows),
+        "primary" => leading_of(words),
+        "client" => asking_of(words),
         _ => Err(WordsFault::Usage),
     }
 }
@@ -157,6 +191,5 @@ fn task_of<'a>(
 pub fn read_task<'a>(alloc: Global, words: &'a [String]) -> Result<Task<'a>, WordsFault>
     ensures { IfOk result IsUsable }
 {
-    let Words { name, words, rows } = read_form(alloc, "live", &FORMS, words)?;
-    task_of(name, &words, rows)
+    task_of(read_form(alloc, "live", &FORMS, words)?)
 }

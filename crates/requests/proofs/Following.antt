@@ -1,13 +1,15 @@
 -- A queue follows the words of its hart.
-use Rattle.std.proofs.Common.{◌≡◌, ◌+◌, ◌≤◌, ◌⊎◌, ℕ, List, [], ◌∷◌, ◌++◌, length, map, refl, sym, ap, subst, ◌∙◌, inl, inr, false, length-append, arith}
+use Rattle.std.proofs.Common.{◌≡◌, ◌+◌, ◌<◌, ◌≤◌, ◌⊎◌, ℕ, Bool, true, List, [], ◌∷◌, ◌++◌, length, map, refl, sym, ap, subst, ◌∙◌, inl, inr, false, length-append, arith}
 use Rattle.std.proofs.lemmas.List.{length-take-le, length-map, map-append, append-nil}
 use Rattle.input_log.specs.declared.Input.{Input}
 use Rattle.input_log.specs.declared.Input.TheVariants.{Timer, Word, Bell}
 use Rattle.input_log.specs.Inputs.{is_bell}
 use Rattle.requests.specs.declared.queue.Came.{Came}
-use Rattle.requests.specs.declared.queue.Came.TheVariants.{Taken, Repeat, Ahead, Full}
+use Rattle.requests.specs.declared.queue.Came.TheVariants.{Taken, Repeat, Ahead, Full, Busy}
 use Rattle.requests.specs.Numbered.{Asked, Words, Asks, HandsOn, GoesOnAt, came_of, taken, with_asked, first_handed, after}
-use Rattle.requests.specs.Queues.{QueueView, words_in, came, with_input, handed_on, AreNoBells, IsQueueOf}
+use Rattle.std.specs.Prelude.{if◌then◌else◌, nat_lt}
+use Rattle.requests.specs.declared.queue.TheConstants.{QUEUE_ROOM}
+use Rattle.requests.specs.Queues.{QueueView, words_in, came, comes_of, at_room, with_input, handed_on, AreNoBells, IsQueueOf, after_asked}
 
 pub words_in-append : (inputs more : List Input) → words_in (inputs ++ more) ≡ words_in inputs ++ words_in more
 words_in-append [] more = refl
@@ -26,6 +28,11 @@ timer_length inputs = ap length (words_in-append inputs (Timer ∷ [])) ∙ leng
 pub no_bell_more : (inputs : List Input) (input : Input) → is_bell input ≡ false → AreNoBells inputs → AreNoBells (inputs ++ input ∷ [])
 no_bell_more [] input is all = (is, tt)
 no_bell_more (first ∷ inputs) input is all = (all.0, no_bell_more inputs input is all.1)
+
+-- one more has room
+pub one_within : (inputs : List Input) (input : Input) (waiting : ℕ) → waiting ≡ length inputs → waiting < QUEUE_ROOM →
+    length (inputs ++ input ∷ []) ≤ QUEUE_ROOM
+one_within inputs input waiting so_many room = omega (arith, so_many, room, length-append inputs (input ∷ []))
 
 -- as many words came as the hart's
 came_is : (words : Words) (q : QueueView) → IsQueueOf words q → came q ≡ length (taken words)
@@ -58,12 +65,36 @@ with_followed words q new a Taken put stays of =
 with_followed words q new a Repeat put stays of = subst (IsQueueOf words) (sym (stays (λ e. cc))) of
 with_followed words q new a Ahead put stays of = subst (IsQueueOf words) (sym (stays (λ e. cc))) of
 with_followed words q new a Full put stays of = subst (IsQueueOf words) (sym (stays (λ e. cc))) of
+with_followed words q new a Busy put stays of = subst (IsQueueOf words) (sym (stays (λ e. cc))) of
 
-pub asked_followed : (words : Words) (q new : QueueView) (a : Asked) (c : Came) → c ≡ came_of (came q) a.number →
-    (c ≡ Taken → new ≡ with_input q (Word a.word)) → ((c ≡ Taken → ⊥) → new ≡ q) → IsQueueOf words q → IsQueueOf (after words (Asks a)) new
-asked_followed words q new a c is put stays of =
-    let at : c ≡ came_of (length (taken words)) a.number = is ∙ ap (λ (n : ℕ). came_of n a.number) (came_is words q of) in
-    subst (λ (d : Came). IsQueueOf (with_asked words a d) new) at (with_followed words q new a c put stays of)
+-- where there was room, what becomes of a word is what its number says
+by_number : (waiting : ℕ) (x c : Came) → c ≡ at_room waiting x → (c ≡ Busy → ⊥) → c ≡ x
+by_number waiting Taken c is room = has_room (nat_lt waiting QUEUE_ROOM) is
+  where
+    has_room : (b : Bool) → c ≡ (if b then Taken else Busy) → c ≡ Taken
+    has_room true is = is
+    has_room false is = absurd (room is)
+by_number waiting Repeat c is room = is
+by_number waiting Ahead c is room = is
+by_number waiting Full c is room = is
+by_number waiting Busy c is room = is
+
+pub asked_followed : (words : Words) (q new : QueueView) (a : Asked) (c : Came) → c ≡ comes_of q a.number →
+    (c ≡ Taken → new ≡ with_input q (Word a.word)) → ((c ≡ Taken → ⊥) → new ≡ q) → IsQueueOf words q → IsQueueOf (after_asked words a c) new
+asked_followed words q new a c is put stays of = by c is (with_followed words q new a c put stays of)
+  where
+    at : (c : Came) → c ≡ comes_of q a.number → (c ≡ Busy → ⊥) → IsQueueOf (with_asked words a c) new → IsQueueOf (after words (Asks a)) new
+    at c is room of' =
+        let numbered : c ≡ came_of (length (taken words)) a.number =
+        by_number (length q.waiting) (came_of (came q) a.number) c is room ∙ ap (λ (n : ℕ). came_of n a.number) (came_is words q of) in
+        subst (λ (d : Came). IsQueueOf (with_asked words a d) new) numbered of'
+
+    by : (c : Came) → c ≡ comes_of q a.number → IsQueueOf (with_asked words a c) new → IsQueueOf (after_asked words a c) new
+    by Busy is followed = followed
+    by Taken is followed = at Taken is (λ e. cc) followed
+    by Repeat is followed = at Repeat is (λ e. cc) followed
+    by Ahead is followed = at Ahead is (λ e. cc) followed
+    by Full is followed = at Full is (λ e. cc) followed
 
 -- ---- the timer's interrupt
 

@@ -5,7 +5,7 @@ use Rattle.std.specs.List.{AllByRecursion}
 use Rattle.std.proofs.lemmas.Bool.{ltb-false, le-ltb, lt-ltb, cases_lt}
 use Rattle.requests.specs.declared.queue.TheConstants.{WORD_LIMIT}
 use Rattle.requests.specs.declared.queue.Came.{Came}
-use Rattle.requests.specs.declared.queue.Came.TheVariants.{Taken, Repeat, Ahead, Full}
+use Rattle.requests.specs.declared.queue.Came.TheVariants.{Taken, Repeat, Ahead, Full, Busy}
 use Rattle.requests.specs.Numbered.{Asked, Words, Happening, Asks, HandsOn, GoesOnAt, room_for, came_of, taken, none, with_asked, first_handed, after, all_after}
 use Rattle.requests.specs.Numbered.{EachAt, IsInPlace, AllInPlace, AsksByNumber, IsWordOf, ExactlyOnce, NoneIsMissing}
 
@@ -50,6 +50,7 @@ with_stays P words a Taken is each =
 with_stays P words a Repeat is each = each
 with_stays P words a Ahead is each = each
 with_stays P words a Full is each = each
+with_stays P words a Busy is each = each
 
 handed_stays : (P : ℕ → Asked → Type 0) (handed waiting : List Asked) → EachAt P 0 (handed ++ waiting) → EachAt P 0 (taken (first_handed handed waiting))
 handed_stays P handed [] each = each
@@ -110,6 +111,7 @@ with_grows words a Taken = omega (
 with_grows words a Repeat = omega arith
 with_grows words a Ahead = omega arith
 with_grows words a Full = omega arith
+with_grows words a Busy = omega arith
 
 with_one : (words : Words) (a : Asked) (c : Came) → c ≡ Taken → suc (length (taken words)) ≤ length (taken (with_asked words a c))
 with_one words a Taken e = omega (
@@ -121,6 +123,7 @@ with_one words a Taken e = omega (
 with_one words a Repeat e = absurd cc
 with_one words a Ahead e = absurd cc
 with_one words a Full e = absurd cc
+with_one words a Busy e = absurd cc
 
 -- the next number is taken
 next_taken : (came n : ℕ) → n ≤ came → came ≤ n → n < WORD_LIMIT → came_of came (Some n) ≡ Taken

@@ -8,4 +8,4 @@ mod queue;
 
 pub use asker::{Asker, Heard};
 pub use laws::words_in_their_places;
-pub use queue::{Came, Queue, WORD_LIMIT};
+pub use queue::{Came, QUEUE_ROOM, Queue, WORD_LIMIT};

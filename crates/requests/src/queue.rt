@@ -3,8 +3,8 @@
 ghost use Rattle.std.specs.Prelude.{◌≡◌, ◌≤◌, ◌<◌, ◌⊎◌, ℕ, [], false, Ok, None, length, IfOk, IfSome, OnOk, OnErr};
 ghost use Rattle.input_log.specs.Inputs.{is_bell};
 ghost use Rattle.input_log.specs.declared.Input.TheVariants.{Timer, Word};
-ghost use Rattle.requests.specs.Numbered.{Words, Asks, HandsOn, GoesOnAt, after, came_of};
-ghost use Rattle.requests.specs.Queues.{IsQueueOf, came, front, handed_on, with_input};
+ghost use Rattle.requests.specs.Numbered.{Words, HandsOn, GoesOnAt, after, came_of};
+ghost use Rattle.requests.specs.Queues.{IsQueueOf, after_asked, at_room, came, comes_of, front, handed_on, with_input};
 ghost use Rattle.requests.specs.declared.queue.Came.TheVariants.{Taken as WasTaken};
 
 use ft_types::{Count, Memory};
@@ -18,7 +18,11 @@ use std::result::Result;
 /// The number of words that a hart is given at the most: so many are told apart by INSEQ, which goes round behind them.
 pub const WORD_LIMIT: u32 = u32::MAX;
 
-/// What became of a word that was asked for.
+/// The number of inputs that wait for a hart at the most, timer's interrupts among them: twice as many as the shortest lines in a piece of
+/// 4,096 bytes that a client writes at once.
+pub const QUEUE_ROOM: usize = 1_024;
+
+/// What became of a word that was asked for, or of the timer's interrupt.
 #[derive(Clone, Copy, PartialEq, Eq)]
 pub enum Came {
     /// It waits now, behind all that came before it.
@@ -29,12 +33,27 @@ pub enum Came {
     Ahead,
     /// `WORD_LIMIT` words came.
     Full,
+    /// `QUEUE_ROOM` inputs wait. Its client is to ask for it again.
+    Busy,
 }
 
-/// What becomes of a word with this number, or with none, where so many came before it.
-fn answer(came: u32, number: Option<Count>) -> Came
-    ensures answer { result ≡ came_of came number }
-    ensures room { result ≡ WasTaken → came < WORD_LIMIT }
+/// What becomes of an input that would be taken, where so many wait.
+fn room_for(waiting: usize) -> Came
+    ensures answer { result ≡ at_room waiting WasTaken }
+    ensures room { result ≡ WasTaken → waiting < QUEUE_ROOM }
+{
+    if waiting < QUEUE_ROOM {
+        Came::Taken
+    } else {
+        Came::Busy
+    }
+}
+
+/// What becomes of a word with this number, or with none, where so many came before it, and so many inputs wait.
+fn answer(came: u32, waiting: usize, number: Option<Count>) -> Came
+    ensures answer { result ≡ at_room waiting (came_of came number) }
+    ensures limit { result ≡ WasTaken → came < WORD_LIMIT }
+    ensures room { result ≡ WasTaken → waiting < QUEUE_ROOM }
 {
     if let Some(number) = number {
         if number < u64::from(came) {
@@ -45,7 +64,7 @@ fn answer(came: u32, number: Option<Count>) -> Came
         }
     }
     if came < WORD_LIMIT {
-        Came::Taken
+        room_for(waiting)
     } else {
         Came::Full
     }
@@ -65,14 +84,16 @@ pub struct Queue {
 }
 
 impl Model for Queue {
-    ghost use Rattle.std.specs.Prelude.{◌≡◌, ◌+◌, length};
+    ghost use Rattle.std.specs.Prelude.{◌≡◌, ◌+◌, ◌≤◌, length};
     ghost use Rattle.requests.specs.Queues.{QueueView, words_in, AreNoBells};
+    ghost use Rattle.requests.specs.declared.queue.TheConstants.{QUEUE_ROOM};
 
     ghost Value = { QueueView };
 
     ghost view = { λ q. record { handed = q.handed; waiting = q.waiting.items } };
 
-    ghost invariant = { λ q. (q.came ≡ q.handed + length (words_in q.waiting.items)) × AreNoBells q.waiting.items };
+    ghost invariant = { λ q. (q.came ≡ q.handed + length (words_in q.waiting.items)) × AreNoBells q.waiting.items
+        × (length q.waiting.items ≤ QUEUE_ROOM) };
 }
 
 impl Queue {
@@ -93,6 +114,8 @@ impl Queue {
     pub fn words(&self) -> u32
         ensures value { result ≡ came self.now }
         ensures limit { result ≤ WORD_LIMIT }
+        // Whatever was asked, no more wait.
+        ensures room { length self.now.waiting ≤ QUEUE_ROOM }
     {
         self.came
     }
@@ -106,16 +129,16 @@ impl Queue {
 
     /// Takes a word where it is the next one by its number, or has none.
     pub fn put_word(&mut self, word: u32, number: Option<Count>) -> Result<Came, Memory>
-        ensures answer { IfOk result (λ c. c ≡ came_of (came self.old) number) }
+        ensures answer { IfOk result (λ c. c ≡ comes_of self.old number) }
         ensures taken { result ≡ Ok WasTaken → self.new ≡ with_input self.old (Word word) }
         // A word that is not taken changes nothing, nor does want of memory.
         ensures stays { (result ≡ Ok WasTaken → ⊥) → self.new ≡ self.old }
         // Memory is wanted for a word alone that would be taken.
-        ensures memory { OnErr result (came_of (came self.old) number ≡ WasTaken) }
+        ensures memory { OnErr result (comes_of self.old number ≡ WasTaken) }
         ensures follows { (words : Words) → IsQueueOf words self.old →
-            OnOk result (IsQueueOf (after words (Asks (record { word = word; number = number }))) self.new) }
+            IfOk result (λ c. IsQueueOf (after_asked words (record { word = word; number = number }) c) self.new) }
     {
-        let answer = answer(self.came, number);
+        let answer = answer(self.came, self.waiting.len(), number);
         if let Came::Taken = answer {
             self.waiting.push_back(Input::Word(word))?;
             self.came += 1;
@@ -123,14 +146,21 @@ impl Queue {
         Ok(answer)
     }
 
-    /// Takes the timer's interrupt.
-    pub fn put_timer(&mut self) -> Result<(), Memory>
-        ensures taken { OnOk result (self.new ≡ with_input self.old Timer) }
-        ensures stays { OnErr result (self.new ≡ self.old) }
+    /// Takes the timer's interrupt, where there is room for it.
+    pub fn put_timer(&mut self) -> Result<Came, Memory>
+        ensures answer { IfOk result (λ c. c ≡ at_room (length self.old.waiting) WasTaken) }
+        ensures taken { result ≡ Ok WasTaken → self.new ≡ with_input self.old Timer }
+        // One that is not taken changes nothing, nor does want of memory.
+        ensures stays { (result ≡ Ok WasTaken → ⊥) → self.new ≡ self.old }
+        // Memory is wanted for one alone that would be taken.
+        ensures memory { OnErr result (at_room (length self.old.waiting) WasTaken ≡ WasTaken) }
         ensures follows { (words : Words) → IsQueueOf words self.old → IsQueueOf words self.new }
     {
-        self.waiting.push_back(Input::Timer)?;
-        Ok(())
+        let room = room_for(self.waiting.len());
+        if let Came::Taken = room {
+            self.waiting.push_back(Input::Timer)?;
+        }
+        Ok(room)
     }
 
     /// What the machine may be handed next, where it gave the hart so many words: the front, once the hart was given all that were handed

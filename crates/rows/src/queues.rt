@@ -6,7 +6,7 @@ use crate::tables::{all_right, number, row, word};
 use asking::{Heard, Talk, WordsFault, read_words, told_line};
 use ft_types::{Count, Hart, Memory, Output, read_number, read_word};
 use input_log::Input;
-use requests::{Asker, Came, Queue, WORD_LIMIT};
+use requests::{Asker, Came, QUEUE_ROOM, Queue, WORD_LIMIT};
 use std::alloc::Global;
 use wire::{Answer, Request, request_line};
 
@@ -24,12 +24,22 @@ fn takes(queue: &mut Queue, word: u32, number: Option<Count>) -> Result<&'static
         Came::Repeat => "repeat",
         Came::Ahead => "ahead",
         Came::Full => "full",
+        Came::Busy => "busy",
     })
 }
 
 fn timer(queue: &mut Queue) -> Result<bool, Memory> {
-    queue.put_timer()?;
-    Ok(true)
+    Ok(queue.put_timer()? == Came::Taken)
+}
+
+/// How many of the timer's interrupts a queue takes before it has no room for one.
+fn timers_taken(queue: &mut Queue) -> Result<usize, Memory> {
+    for taken in 0..=QUEUE_ROOM {
+        if queue.put_timer()? == Came::Busy {
+            return Ok(taken);
+        }
+    }
+    Ok(usize::MAX)
 }
 
 /// Whether the queue offers this, where each word is given before the next is asked for.
@@ -55,6 +65,7 @@ fn does(queue: &mut Queue, asked: &str, answer: &str) -> Result<bool, Memory> {
         "timer" => timer(queue),
         "next" => Ok(gives(queue, answer)),
         "words" => Ok(has(queue, answer)),
+        "timers" => Ok(timers_taken(queue)? as u64 == number(answer)),
         _ => {
             let (word, number) = numbered(asked);
             Ok(takes(queue, word, number)? == answer)
@@ -108,10 +119,25 @@ static FULL: &str = "\
 00000001 4294967296|ahead
 ";
 
+/// Behind seven words, where one waits and then as much as there is room for.
+static BUSY: &str = "\
+00000070 7|taken
+timers|1023
+00000080 8|busy
+00000080|busy
+00000070 7|repeat
+00000090 9|ahead
+next|00000070
+00000080 8|taken
+00000090 9|busy
+words|9
+";
+
 #[test]
 fn words_by_number(rt: HostRuntime) -> Result<(), Memory> {
     all_right(&rt, first_wrong(rt.alloc(), 7, ASKED)?);
     all_right(&rt, first_wrong(rt.alloc(), WORD_LIMIT, FULL)?);
+    all_right(&rt, first_wrong(rt.alloc(), 7, BUSY)?);
     Ok(())
 }
 

@@ -7,7 +7,7 @@ use Rattle.ft_types.specs.Text.{word}
 use Rattle.ft_types.proofs.Texts.{word_same}
 use Rattle.wire.specs.Fields.{ArePlain, spelling, fields_of}
 use Rattle.wire.specs.Values.{IsHart}
-use Rattle.wire.specs.Requests.{IsRequest, number_fields, request_fields}
+use Rattle.wire.specs.Requests.{IsRequest, full_fields, number_fields, request_fields}
 use Rattle.wire.specs.declared.requests.Request.{Request}
 use Rattle.wire.specs.declared.requests.Request.TheVariants.{Timer, Word, From}
 use Rattle.wire.proofs.Plain.{decimal_plain, word_plain, name_plain}
@@ -75,3 +75,11 @@ request_same harts (From h m) (From k n) p q e =
     let hart : h ≡ k = hart_same harts h k p.0 q.0 parts.0 in
     let number : m ≡ n = decimal_injective m n (omega (arith, p.1)) (omega (arith, q.1)) texts in
     rw (hart, number) refl
+
+-- ---- a hart that is given no more words
+
+pub full_back : (harts h : ℕ) → IsHart harts h → fields_of (spelling (full_fields h)) ≡ full_fields h
+full_back harts h p = spelled (decimal h) (codes "full" ∷ []) (decimal_plain h (omega (arith, p.1))) (name_plain (codes "full") refl, tt)
+
+pub full_same : (harts h k : ℕ) → IsHart harts h → IsHart harts k → full_fields h ≡ full_fields k → h ≡ k
+full_same harts h k p q e = hart_same harts h k p q (names_are _ _ _ _ _ _ e).0

@@ -7,6 +7,12 @@ use Rattle.wire.specs.Values.{IsHart}
 use Rattle.wire.specs.declared.requests.Request.{Request}
 use Rattle.wire.specs.declared.requests.Request.TheVariants.{Timer, Word, From}
 
+-- the hart of which something is asked
+abbrev pub hart_of : Request → ℕ
+hart_of (Timer hart) = hart
+hart_of (Word hart w number) = hart
+hart_of (From hart number) = hart
+
 -- of a hart of a guest with so many harts
 abbrev pub IsRequest : ℕ → Request → Type 0
 IsRequest harts (Timer hart) = IsHart harts hart
@@ -33,3 +39,19 @@ request_text r = spelling (request_fields r)
 
 abbrev pub SaysRequest : ℕ → List ℕ → Request → Type 0
 SaysRequest harts text r = IsRequest harts r × (text ≡ request_text r)
+
+-- ---- a hart that is given no more words
+
+-- H full
+abbrev pub full_fields : ℕ → List (List ℕ)
+full_fields hart = decimal hart ∷ codes "full" ∷ []
+
+-- the fields say it of this hart
+abbrev pub HasFull : ℕ → List (List ℕ) → ℕ → Type 0
+HasFull harts fields hart = IsHart harts hart × (fields ≡ full_fields hart)
+
+abbrev pub full_text : ℕ → List ℕ
+full_text hart = spelling (full_fields hart)
+
+abbrev pub SaysFull : ℕ → List ℕ → ℕ → Type 0
+SaysFull harts text hart = IsHart harts hart × (text ≡ full_text hart)

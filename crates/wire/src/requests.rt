@@ -4,7 +4,7 @@
 ghost use Rattle.std.specs.Prelude.{◌≡◌, ◌↔◌, ℕ, ◌∷◌, List, Option, IfSome, IfNone, Some, codes, decimal};
 ghost use Rattle.ft_types.specs.Counts.{IsCount};
 ghost use Rattle.ft_types.specs.Text.{line};
-ghost use Rattle.wire.specs.Requests.{HasRequest, SaysRequest, number_fields, request_text};
+ghost use Rattle.wire.specs.Requests.{HasRequest, SaysRequest, hart_of, number_fields, request_text};
 ghost use Rattle.wire.specs.Values.{IsHart};
 ghost use Rattle.wire.specs.declared.requests.Request.{Request as request_of_specs};
 
@@ -28,6 +28,17 @@ pub enum Request {
         hart: Hart,
         number: Count,
     },
+}
+
+impl Request {
+    /// The hart of which something is asked.
+    pub fn hart(&self) -> Hart
+        ensures { result ≡ hart_of self.now }
+    {
+        match self {
+            Request::Timer(hart) | Request::Word { hart, .. } | Request::From { hart, .. } => *hart,
+        }
+    }
 }
 
 /// The line of a request.

@@ -5,7 +5,7 @@ use Rattle.primary.specs.declared.released.Released.{Released}
 use Rattle.requests.specs.Queues.{QueueView}
 use Rattle.leading.specs.Hearing.{LetsGo, LetsNothingGo}
 use Rattle.leading.specs.Leaders.{LeaderView}
-use Rattle.leading.proofs.Releasing.{goes, stays, marks_stay, released_sound}
+use Rattle.leading.proofs.Releasing.{goes, stays, marks_stay, noted_handed, released_sound}
 use Rattle.leading.proofs.leader.Leader.release.Goals as goal
 
 pub release-requires : goal.release-requires
@@ -23,6 +23,8 @@ invariant_of-self c =
       λ hart.
           marks_stay p.opening.term p.book.machine g h c.self.inside.released.items c.release.new.released.items p.book c.release.new.self.book c.release.result
           does.goes does.was hart ∙ c.self.invariant.2 hart,
+      noted_handed p.opening.term p.book.machine g h c.self.inside.queues.items c.self.inside.released.items c.release.new.released.items p.book
+          c.release.new.self.book c.release.result does.goes does.room does.book c.self.invariant.3,
     )
 
 abbrev view_of : Primary → TermGateView → List QueueView → List Released → LeaderView

@@ -7,6 +7,7 @@ use Rattle.primary.specs.declared.granted.Primary.{Primary}
 use Rattle.primary.specs.Gating.{AreOffered, AreAllOffered}
 use Rattle.leading.specs.Leaders.{LeaderView}
 use Rattle.leading.specs.Rounds.{IsRound}
+use Rattle.leading.proofs.Counting.{gone_on_handed, hands_handed}
 use Rattle.leading.proofs.Round.{offered, sound}
 use Rattle.leading.proofs.leader.Leader.round.Goals as goal
 
@@ -31,6 +32,12 @@ invariant_of-result c =
           all given.many,
       ap (λ (x : TermGateView). x.gate.keepers) more.rest ∙ c.self.invariant.1,
       λ hart. (more.lines hart).mark ∙ c.self.invariant.2 hart,
+      gone_on_handed c.hand_all.new.primary.book c.in_ok-led.led.book c.hand_all.new.queues.items led.on.on.start led.on.offered
+          (hands_handed c.args.spacing c.self.inside.primary.value.book c.hand_all.new.primary.book c.self.inside.queues.items c.hand_all.new.queues.items
+          (rw c.into_inner-primary.ensures at c.has_run.ensures).harts
+          (ap (λ (x : Primary). x.book) given.rest
+          ∙ ap (λ (m : RecordingView). let x : BookView RecordingView = record c.self.inside.primary.value.book { mode = m } in x) given.waiting)
+          given.hands c.self.invariant.3),
     )
 
 pub returns-clause-round : goal.returns-clause-round

@@ -1,3 +1,6 @@
+use Rattle.std.proofs.Common.{sym, subst}
+use Rattle.primary.specs.declared.granted.Primary.{Primary}
+use Rattle.leading.specs.Leaders.{AreHandedOn}
 use Rattle.leading.proofs.Sound.{sound_sealed}
 use Rattle.leading.proofs.leader.Leader.seal.Goals as goal
 
@@ -8,4 +11,5 @@ invariant_of-self-2 c =
           cut.cut.1 c.self.invariant.0,
       c.self.invariant.1,
       c.self.invariant.2,
+      subst (λ (x : Primary). AreHandedOn x.book c.self.inside.queues.items) (sym cut.rest) c.self.invariant.3,
     )
