@@ -245,6 +245,13 @@ elif [ -x "$live" ] && command -v bash > /dev/null; then
         echo "left out processes in two network namespaces, since there is no socat or no right to make them"
     fi
     drills 'what goes amiss between processes' amiss.sh
+    if ! command -v cc > /dev/null; then
+        echo "left out samples/live/power.sh, since no C compiler is installed"
+    elif bash "$top/samples/live/power.sh" "$live" 2 > "$work/drills" 2>&1; then
+        pass
+    else
+        fail 'processes whose power fails' < "$work/drills"
+    fi
 fi
 
 # Each row of refused file calls with three of them, and what is changed by chance for five seconds.

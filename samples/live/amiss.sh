@@ -213,6 +213,10 @@ ends 'a keeper whose disk is full' "${keeper[2]}" 'fault file log.2' faults.2
 : > faults.2
 ask 'two keepers are left'
 keep 2
+ends 'a keeper whose disk was full begins no more' "${keeper[2]}" 'fault log failed' faults.2
+: > faults.2
+rm log.2.failed
+keep 2
 
 # The other end of a primary's FIFOs is gone: keepers go on.
 stop "$primary"
@@ -229,7 +233,7 @@ is 'keepers and primaries have no fault' '' "$(cat faults.*)"
 for k in 0 1 2; do cp "log.$k" "before.$k"; done
 { head -n -1 words; echo 03080001; } > other.words
 lead 2 .b copy.1 copy.2
-(exec timeout 20 "$live" client other.words 8 300 to in.b from out.b > other.answers 2> /dev/null) &
+"$live" client other.words 8 300 to in.b from out.b > other.answers 2> /dev/null &
 client=$!
 for k in 0 1 2; do ends "two primaries of one term, keeper $k" "${keeper[$k]}" 'fault input 1 clash' "faults.$k"; done
 stop "$client"
@@ -238,6 +242,89 @@ for k in 0 1 2; do
     if cmp -s -n "$(wc -c < "before.$k")" "before.$k" "log.$k"; then pass; else fail "log $k keeps what it had" < /dev/null; fi
 done
 is 'the logs have no clash' 'clashes 0' "$("$workbench" join "$image" joined log.0 log.1 log.2 | grep -o 'clashes.*')"
+
+# A keeper's log, its fences and their names. runs_on K LOG FRAMES: starts keeper K over LOG and FRAMES, which are open for writing as 7; it acknowledges into acks.LOG.
+runs_on() {
+    mkfifo "$3"
+    : > "acks.$2"
+    "$live" keeper "$image" "$1" "$2" from "$3" to "acks.$2" 2> "faults.$2" &
+    holder=$!
+    exec 7> "$3"
+    has "acks.$2" 'again.*'
+}
+# says WHAT STATUS LINE WORDS..: the status and the line of fault of a program that reads nothing.
+says() {
+    local what=$1 status=$2 line=$3
+    shift 3
+    "$live" "$@" > said 2> err < /dev/null
+    is "$what: status" "$status" "$?"
+    is "$what: line" "$line" "$(cat err)"
+}
+printf '0 5 word 01070011\n' > script
+"$workbench" run "$image" script 1000 frames.own > /dev/null
+
+# By another name the log is the same file, and its fences are.
+cp frames.own own
+ln -s own alias
+says 'a log that is handed over by a link' 0 '' hand "$image" 0 alias 8
+says 'it is fenced off by its own name' 1 'fault fence 8' hand "$image" 0 own 8
+: > acks.alias
+says 'a keeper over a link' 0 '' keeper "$image" 0 alias from frames.own to acks.alias
+is 'it acknowledges nothing behind the fence' 1 "$(wc -l < acks.alias)"
+ln -s nowhere dangling
+for word in "hand $image 0 dangling 1" "keeper $image 0 dangling from frames.own to acks.alias"; do says 'a link to no file' 1 'fault log link' $word; done
+ln own second
+for word in "hand $image 0 own 9" "hand $image 0 second 9" "keeper $image 0 own from frames.own to acks.alias"; do
+    says 'a log with two names' 1 'fault log link' $word
+done
+rm second
+
+# A log that is renamed under its keeper, and one that is gone.
+for how in 'mv renamed renamed.1' 'rm renamed'; do
+    : > renamed
+    rm -f renamed.in
+    runs_on 0 renamed renamed.in
+    cp renamed copied
+    $how
+    mv copied renamed
+    cat frames.own >&7
+    ends "$how" "$holder" 'fault log moved' faults.renamed
+    is "$how: nothing is acknowledged" 1 "$(wc -l < acks.renamed)"
+    exec 7>&-
+done
+
+# A file of fences that is gone lowers no fence that a keeper saw.
+runs_on 0 fenced fenced.in
+says 'the log of a keeper that runs' 0 '' hand "$image" 0 fenced 8
+cat frames.own >&7
+for _ in $(seq 200); do
+    if [ "$(wc -c < fenced)" = "$(wc -c < frames.own)" ]; then break; fi
+    sleep 0.05
+done
+sleep 0.2
+rm fenced.fences
+cat frames.own >&7
+sleep 0.5
+if runs "$holder"; then pass; else fail 'its keeper goes on' < faults.fenced; fi
+is 'it acknowledges nothing' 1 "$(wc -l < acks.fenced)"
+exec 7>&-
+stop "$holder"
+
+# A disk that does not take what was added, once.
+if command -v cc > /dev/null; then
+    cc -O1 -shared -fPIC -o refuse.so "$top/benches/live/refuse_calls.c" -ldl
+    : > acks.refused
+    # the first call is for the folder, the second for the log
+    LD_PRELOAD=$work/refuse.so CALLS_OF=sync CALLS_AS=once CALLS_AT=2 says 'a log that is not brought to disk' 1 'fault file refused' \
+        keeper "$image" 0 refused from frames.own to acks.refused
+    is 'nothing is acknowledged' 1 "$(wc -l < acks.refused)"
+    says 'its keeper begins no more' 1 'fault log failed' keeper "$image" 0 refused from frames.own to acks.refused
+    says 'and it is not handed over' 1 'fault log failed' hand "$image" 0 refused 1
+    LD_PRELOAD=$work/refuse.so CALLS_OF=sync CALLS_AS=once CALLS_AT=3 says 'a fence that is not brought to disk' 1 'fault file unfenced.fences' hand "$image" 0 unfenced 1
+    says 'its log is not handed over' 1 'fault log failed' hand "$image" 0 unfenced 2
+else
+    echo 'left out a disk that does not take what was added, since no C compiler is installed'
+fi
 
 # Logs that are handed over and are none. refuses WHAT LINE FILES..: the fault that it is.
 refuses() {

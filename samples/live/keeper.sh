@@ -297,6 +297,9 @@ is 'standard output that is full' 'fault write' "$(cat "$work/err")"
     exec "$live" keeper "$image" 0 "$work/new.6" from "$work/run.log" to /dev/null
 ) 2> "$work/err"
 is 'a disk that is full' "fault file $work/new.6" "$(cat "$work/err")"
+refuses 'a log that failed' 1 'fault log failed' keeper "$image" 0 "$work/new.6" from "$work/run.log" to "$work/acks"
+refuses 'a log that failed, handed over' 1 'fault log failed' hand "$image" 0 "$work/new.6" 1
+rm "$work/new.6.failed"
 refuses 'its log begins again' 0 '' keeper "$image" 0 "$work/new.6" from "$work/run.log" to "$work/acks"
 if cmp -s "$work/run.log" "$work/new.6"; then pass; else fail 'it comes to the end' < /dev/null; fi
 

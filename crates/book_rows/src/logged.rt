@@ -1,14 +1,14 @@
 //! A keeper over a log in memory: what it acknowledges, what it comes back with, and what is handed over behind a fence.
 
-ghost use Rattle.std.specs.Prelude.{None};
+ghost use Rattle.std.specs.Prelude.{⊤};
 
 use crate::bytes::{FIRST_WORD, OPENING as OPENING_BYTES, WORD};
 use crate::come::{Come, frame_of, guest_of};
 use fixtures::guest_with;
 use ft_types::{Count, Guest, Term};
 use stations::{
-    FenceFault, FencedLog, FilesFault, KeeperFiles, KeeperStation, WrittenFeed, WrittenFrame,
-    fence_off, hand_over, handshake, is_of, read_frames,
+    FenceFault, FencedLog, FilesFault, HandedOver, KeeperFiles, KeeperStation, WrittenFeed,
+    WrittenFrame, fence_off, handshake, is_of, read_frames,
 };
 use std::alloc::Global;
 use std::result::Result;
@@ -22,7 +22,7 @@ struct Shelf {
 }
 
 impl KeeperFiles for Shelf {
-    ghost acts = { λ _. None };
+    ghost acts = { λ _ _. ⊤ };
 
     fn read_log(&mut self, alloc: Global) -> Result<Vec<u8>, FilesFault> {
         match Vec::from_slice(alloc, &self.log) {
@@ -92,26 +92,31 @@ fn keep(alloc: Global, shelf: &mut Shelf, comes: &[Come]) -> Result<Told, Fail> 
     log(alloc, station, shelf)
 }
 
-/// How many bytes of how many frames are handed over to a term; none where it is fenced off for a later one.
-fn hand(alloc: Global, shelf: &mut Shelf, term: Term) -> Result<Option<(usize, usize)>, Fail> {
+/// What is left of a log, and how many bytes of how many frames were handed over; none where it is fenced off for a later term.
+type Handed = (Shelf, Option<(usize, usize)>);
+
+/// A log is handed over to a term.
+fn hand(alloc: Global, shelf: Shelf, term: Term) -> Result<Handed, Fail> {
     match fence_off(alloc, shelf, term) {
-        Ok(fenced) => Ok(Some(handed(alloc, shelf, fenced)?)),
-        Err(FenceFault::Fenced(_)) => Ok(None),
-        Err(FenceFault::Files(_)) => Err("the fence is put")?,
+        Ok(fenced) => handed(alloc, fenced),
+        Err(refused) => match refused.fault {
+            FenceFault::Fenced(_) => Ok((refused.files, None)),
+            FenceFault::Files(_) => Err("the fence is put")?,
+        },
     }
 }
 
 /// How many bytes of how many frames of the guest are handed over.
-fn handed(alloc: Global, shelf: &mut Shelf, fenced: FencedLog) -> Result<(usize, usize), Fail> {
-    let Ok(bytes) = hand_over(alloc, &guest_of(1), fenced, shelf) else {
+fn handed(alloc: Global, fenced: FencedLog<Shelf>) -> Result<Handed, Fail> {
+    let Ok(HandedOver { files, frames, .. }) = fenced.hand_over(alloc, &guest_of(1)) else {
         return Err("the log is handed over".into());
     };
-    let front = read_frames(alloc, &bytes)?;
+    let front = read_frames(alloc, &frames)?;
     let mut own = 0usize;
     for frame in &front.frames {
         own = own.saturating_add(usize::from(is_of(frame, &guest_of(1))));
     }
-    Ok((front.size, own))
+    Ok((files, Some((front.size, own))))
 }
 
 const OPENING: Come = Come::Opening(1, 0, &[0]);
@@ -151,21 +156,48 @@ fn are_acknowledged(alloc: Global, shelf: &mut Shelf, rows: &[Row]) -> Result<bo
 }
 
 /// Whether rows are acknowledged before a log is handed over, once, and behind that.
-fn is_handed_once(alloc: Global, shelf: &mut Shelf) -> Result<bool, Fail> {
-    let before = are_acknowledged(alloc, shelf, &BEFORE)?;
+fn is_handed_once(alloc: Global, mut shelf: Shelf) -> Result<bool, Fail> {
+    let before = are_acknowledged(alloc, &mut shelf, &BEFORE)?;
     let size = shelf.log.len().saturating_sub(1);
-    let once = hand(alloc, shelf, 2)? == Some((size, 3)) && hand(alloc, shelf, 2)?.is_none();
-    Ok(before && once && are_acknowledged(alloc, shelf, &BEHIND)?)
+    let (shelf, once) = hand(alloc, shelf, 2)?;
+    let (mut shelf, again) = hand(alloc, shelf, 2)?;
+    let is_once = once == Some((size, 3)) && again.is_none();
+    Ok(before && is_once && are_acknowledged(alloc, &mut shelf, &BEHIND)?)
+}
+
+/// Whether a keeper that saw the fence 2 acknowledges nothing of term 1, also where its file of fences is gone.
+fn is_remembered(alloc: Global, shelf: &mut Shelf) -> Result<bool, Fail> {
+    shelf.fence = 2;
+    let mut station = begin(alloc, shelf)?;
+    for fence in [2, 0] {
+        shelf.fence = fence;
+        let Ok((next, position)) = station.log_and_acknowledge(alloc, shelf) else {
+            return Err("the log takes it".into());
+        };
+        if position.is_some() {
+            return Ok(false);
+        }
+        station = next;
+    }
+    Ok(true)
+}
+
+/// A log of no bytes, and no fence.
+fn empty_shelf(alloc: Global) -> Shelf {
+    Shelf {
+        log: Vec::new(alloc),
+        fence: 0,
+    }
 }
 
 #[test]
 fn what_a_log_keeps_is_handed_over(rt: HostRuntime) -> Result<(), Fail> {
     handshake();
-    let mut shelf = Shelf {
-        log: Vec::new(rt.alloc()),
-        fence: 0,
-    };
-    assert!(rt; is_handed_once(rt.alloc(), &mut shelf)?);
+    let shelf = empty_shelf(rt.alloc());
+    assert!(rt; is_handed_once(rt.alloc(), shelf)?);
+    let mut shelf = empty_shelf(rt.alloc());
+    assert!(rt; are_acknowledged(rt.alloc(), &mut shelf, &BEFORE)?);
+    assert!(rt; is_remembered(rt.alloc(), &mut shelf)?);
     Ok(())
 }
 
@@ -191,10 +223,7 @@ fn take_stream(
 
 /// The log of a keeper of the stream's guest, to which it comes in pieces of so many bytes.
 fn log_of(alloc: Global, guest: Guest, stream: &[u8], size: usize) -> Result<Vec<u8>, Fail> {
-    let mut shelf = Shelf {
-        log: Vec::new(alloc),
-        fence: 0,
-    };
+    let mut shelf = empty_shelf(alloc);
     let Ok(mut station) = KeeperStation::begin(alloc, guest, &mut shelf) else {
         return Err("an empty log is a keeper's".into());
     };

@@ -112,6 +112,12 @@ pub enum Fault {
     Image(u8),
     /// Another keeper has the log.
     Locked,
+    /// The log could not be added to or brought to disk before.
+    Failed,
+    /// The log is a link to no file, or has two names.
+    Link,
+    /// Another file has the log's name.
+    Moved,
     /// What is wrong with the frames that are there.
     Frames(Frames, FramesFault),
     /// The log was handed over to this term, which is not below the one that asks.
@@ -153,6 +159,9 @@ impl Fault {
             Fault::ImageLine(_) => "image 1 line",
             Fault::Image(_) => "image",
             Fault::Locked => "log locked",
+            Fault::Failed => "log failed",
+            Fault::Link => "log link",
+            Fault::Moved => "log moved",
             Fault::Frames(frames, _) => frames.words(),
             Fault::Fenced(_) => "fence",
             Fault::Live(_) => "live",

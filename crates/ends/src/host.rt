@@ -1,6 +1,6 @@
 //! What the programs ask of the system.
 
-use std::fs::{File, OpenOptions};
+use std::fs::{File, Metadata, OpenOptions};
 use std::io::{Eprint, Print};
 use std::sync::Wait;
 use std::thread::Threads;
@@ -15,8 +15,17 @@ pub trait Paths {
     /// Opens a file that is there, to which is added.
     fn open_to_add(&self, path: &str) -> io::Result<File>;
 
-    /// Opens a file to which is added, and makes it where it is not there.
-    fn make_to_add(&self, path: &str) -> io::Result<File>;
+    /// Opens a file to be read and added to, and makes it where it is not there.
+    fn make_to_keep(&self, path: &str) -> io::Result<File>;
+
+    /// Makes a file of a name that is not there.
+    fn make_new(&self, path: &str) -> io::Result<File>;
+
+    /// What has a name: of a link the link.
+    fn look_at(&self, path: &str) -> io::Result<Metadata>;
+
+    /// The name of a file without links.
+    fn real_name(&self, path: &str) -> io::Result<String>;
 
     /// Removes a file.
     fn remove(&self, path: &str) -> io::Result<()>;
@@ -31,11 +40,27 @@ impl Paths for HostRuntime {
         OpenOptions::new().append(true).open(self, path)
     }
 
-    fn make_to_add(&self, path: &str) -> io::Result<File> {
+    fn make_to_keep(&self, path: &str) -> io::Result<File> {
         OpenOptions::new()
+            .read(true)
             .append(true)
             .create(true)
             .open(self, path)
+    }
+
+    fn make_new(&self, path: &str) -> io::Result<File> {
+        OpenOptions::new()
+            .write(true)
+            .create_new(true)
+            .open(self, path)
+    }
+
+    fn look_at(&self, path: &str) -> io::Result<Metadata> {
+        fs::symlink_metadata(self, path)
+    }
+
+    fn real_name(&self, path: &str) -> io::Result<String> {
+        Ok(fs::canonicalize(self, path)?.into_string())
     }
 
     fn remove(&self, path: &str) -> io::Result<()> {

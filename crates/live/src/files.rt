@@ -1,208 +1,211 @@
-//! The files of a keeper. What they hold outside is in no contract.
+//! The disk of a keeper: one call of the system for each that is asked for. What it holds outside is in no contract.
 
-ghost use Rattle.std.specs.Prelude.{None};
+ghost use Rattle.std.specs.Prelude.{⊤};
 
 use ends::{Fault, NamedFile, Paths, file_fault, read_file, sync_folder};
-use ft_types::{Guest, Term};
-use stations::{FilesFault, KeeperFiles};
+use keeper_files::{Disk, DiskFiles, Identity, Known, Part};
 use std::alloc::{AllocError, Global};
-use std::fs::{File, TryLockError};
+use std::fs::{File, Metadata, TryLockError};
 use std::io;
-use std::io::Write;
-use wire::{fence_entry, last_fence};
+use std::io::{Read, Seek, SeekFrom, Write};
+use std::os::unix::fs::MetadataExt;
 
-/// The fault of a file with which this went wrong.
-fn fault_of(error: &io::Error, file: FilesFault) -> FilesFault {
-    match error.kind() {
-        io::ErrorKind::OutOfMemory => FilesFault::Memory,
-        _ => file,
+/// The name of a file beside a log.
+fn beside(alloc: Global, log: &str, ending: &str) -> Result<String, AllocError> {
+    let mut name = String::from_str(alloc, log)?;
+    name.push_str(ending)?;
+    Ok(name)
+}
+
+/// The name that is given to a log that is not there, unless that is a link to no file.
+fn new_name<R: Paths + AllocGlobal>(rt: &R, log: &str) -> Result<String, Fault> {
+    match rt.look_at(log) {
+        Ok(found) if found.is_symlink() => Err(Fault::Link),
+        _ => Ok(String::from_str(rt.alloc(), log)?),
     }
 }
 
-/// What came of a change of a file.
-fn changed(done: io::Result<()>, file: FilesFault) -> Result<(), FilesFault> {
-    match done {
-        Ok(()) => Ok(()),
-        Err(error) => Err(fault_of(&error, file)),
-    }
-}
-
-/// The bytes of a file, none where there is no file.
-fn read_if_there<R: Paths + AllocGlobal>(rt: &R, name: &str) -> io::Result<Vec<u8>> {
-    match read_file(rt, name) {
-        Err(error) if error.kind() == io::ErrorKind::NotFound => Ok(Vec::new(rt.alloc())),
-        read => read,
-    }
-}
-
-/// A file to which is added, which is made where it is not there.
-fn open_to_add<R: Paths + AllocGlobal>(rt: &R, name: &str) -> io::Result<File> {
-    let file = rt.make_to_add(name)?;
-    sync_folder(rt, name)?;
-    Ok(file)
-}
-
-/// Takes the lock on a log, which no other keeper has.
-fn lock(log: &File) -> Result<(), Fault> {
-    match log.try_lock() {
-        Ok(()) => Ok(()),
-        Err(TryLockError::WouldBlock) => Err(Fault::Locked),
-        Err(TryLockError::Error(error)) => Err(file_fault(&error, NamedFile::Log)),
-    }
-}
-
-/// The log of a keeper that runs.
-fn open_log<R: Paths + AllocGlobal>(rt: &R, name: &str) -> Result<File, Fault> {
-    match open_to_add(rt, name) {
-        Ok(file) => {
-            lock(&file)?;
-            Ok(file)
-        }
+/// The name of a log without links, by which its fences lie beside the file itself.
+fn real_name<R: Paths + AllocGlobal>(rt: &R, log: &str) -> Result<String, Fault> {
+    match rt.real_name(log) {
+        Ok(name) => Ok(name),
+        Err(error) if error.kind() == io::ErrorKind::NotFound => new_name(rt, log),
         Err(error) => Err(file_fault(&error, NamedFile::Log)),
     }
 }
 
-/// A file to which is added, of which no other process has the lock.
-fn open_locked<R: Paths + AllocGlobal>(rt: &R, name: &str) -> io::Result<File> {
-    let file = open_to_add(rt, name)?;
-    file.lock()?;
-    Ok(file)
-}
-
-/// The fences where a log is handed over.
-fn open_fences<R: Paths + AllocGlobal>(rt: &R, name: &str) -> Result<File, Fault> {
-    match open_locked(rt, name) {
-        Ok(file) => Ok(file),
-        Err(error) => Err(file_fault(&error, NamedFile::Fences)),
+fn identity_of(file: &Metadata) -> Identity {
+    Identity {
+        device: file.dev(),
+        inode: file.ino(),
+        links: file.nlink(),
     }
 }
 
-/// The name of the fences beside a log.
-fn fences_of(alloc: Global, log: &str) -> Result<String, AllocError> {
-    let mut fences = String::from_str(alloc, log)?;
-    fences.push_str(".fences")?;
-    Ok(fences)
+/// An open file, or the error that it is not.
+fn open_file(file: &mut Option<File>) -> io::Result<&mut File> {
+    match file {
+        Some(file) => Ok(file),
+        None => Err(io::Error::from(io::ErrorKind::NotFound)),
+    }
 }
 
-/// The files of one keeper: the log, which is open to add where the keeper runs, and the fences, which are where its log is handed over.
+/// The names of a keeper's files, and those that are open.
 #[derive(Drop)]
-pub struct LogFiles {
-    guest: Guest,
+pub struct Places {
     log: String,
     fences: String,
+    mark: String,
     open_log: Option<File>,
     open_fences: Option<File>,
 }
 
-impl LogFiles {
-    /// The files of a keeper that runs. No other keeper has its log.
-    pub fn of_keeper<R: Paths + AllocGlobal>(
-        rt: &R,
-        guest: Guest,
-        log: &str,
-    ) -> Result<LogFiles, Fault> {
-        let name = String::from_str(rt.alloc(), log)?;
-        let fences = fences_of(rt.alloc(), log)?;
-        let file = open_log(rt, log)?;
-        Ok(LogFiles {
-            guest,
-            log: name,
+impl Places {
+    /// The names beside a log, none of which is open.
+    pub fn of<R: Paths + AllocGlobal>(rt: &R, log: &str) -> Result<Places, Fault> {
+        let log = real_name(rt, log)?;
+        let fences = beside(rt.alloc(), log.as_str(), ".fences")?;
+        let mark = beside(rt.alloc(), log.as_str(), ".failed")?;
+        Ok(Places {
+            log,
             fences,
-            open_log: Some(file),
+            mark,
+            open_log: None,
             open_fences: None,
         })
     }
 
-    /// The files of a keeper whose log is handed over. Whoever else hands it over waits meanwhile.
-    pub fn of_hand<R: Paths + AllocGlobal>(
-        rt: &R,
-        guest: Guest,
-        log: &str,
-    ) -> Result<LogFiles, Fault> {
-        let name = String::from_str(rt.alloc(), log)?;
-        let fences = fences_of(rt.alloc(), log)?;
-        let file = open_fences(rt, fences.as_str())?;
-        Ok(LogFiles {
-            guest,
-            log: name,
-            fences,
-            open_log: None,
-            open_fences: Some(file),
-        })
+    fn name(&self, part: Part) -> &str {
+        match part {
+            Part::Log => self.log.as_str(),
+            Part::Fences => self.fences.as_str(),
+        }
     }
 
-    /// With what opens them again.
-    pub fn on<R: Paths + AllocGlobal + Copy>(self, rt: &R) -> HostFiles<R> {
-        HostFiles {
-            rt: *rt,
-            files: self,
+    fn file(&mut self, part: Part) -> &mut Option<File> {
+        match part {
+            Part::Log => &mut self.open_log,
+            Part::Fences => &mut self.open_fences,
+        }
+    }
+
+    fn log(&mut self) -> io::Result<&mut File> {
+        open_file(&mut self.open_log)
+    }
+}
+
+/// Those files, with what opens them.
+#[derive(Drop)]
+pub struct HostDisk<R: Paths + AllocGlobal + Copy> {
+    rt: R,
+    places: Places,
+}
+
+impl<R: Paths + AllocGlobal + Copy> HostDisk<R> {
+    /// Files of these names.
+    pub fn new(rt: &R, places: Places) -> HostDisk<R> {
+        HostDisk { rt: *rt, places }
+    }
+}
+
+impl<R: Paths + AllocGlobal + Copy> Disk for HostDisk<R> {
+    ghost deeds = { λ _ _. ⊤ };
+
+    fn open(&mut self, part: Part) -> io::Result<()> {
+        let file = self.rt.make_to_keep(self.places.name(part))?;
+        *self.places.file(part) = Some(file);
+        Ok(())
+    }
+
+    fn sync_folder(&mut self) -> io::Result<()> {
+        sync_folder(&self.rt, self.places.log.as_str())
+    }
+
+    fn try_lock_log(&mut self) -> io::Result<bool> {
+        match self.places.log()?.try_lock() {
+            Ok(()) => Ok(true),
+            Err(TryLockError::WouldBlock) => Ok(false),
+            Err(TryLockError::Error(error)) => Err(error),
+        }
+    }
+
+    fn lock_fences(&mut self) -> io::Result<()> {
+        open_file(&mut self.places.open_fences)?.lock()
+    }
+
+    fn own_identity(&mut self) -> io::Result<Identity> {
+        Ok(identity_of(&self.places.log()?.metadata()?))
+    }
+
+    fn named_identity(&mut self) -> io::Result<Identity> {
+        Ok(identity_of(&self.rt.look_at(self.places.log.as_str())?))
+    }
+
+    fn is_marked(&mut self) -> io::Result<bool> {
+        match self.rt.look_at(self.places.mark.as_str()) {
+            Ok(_) => Ok(true),
+            Err(error) if error.kind() == io::ErrorKind::NotFound => Ok(false),
+            Err(error) => Err(error),
+        }
+    }
+
+    fn mark(&mut self) -> io::Result<()> {
+        self.rt.make_new(self.places.mark.as_str())?.sync_all()
+    }
+
+    fn read_log(&mut self, alloc: Global) -> io::Result<Vec<u8>> {
+        let mut bytes = Vec::new(alloc);
+        let log = self.places.log()?;
+        log.seek(SeekFrom::Start(0))?;
+        log.read_to_end(&mut bytes)?;
+        Ok(bytes)
+    }
+
+    fn read_fences(&mut self, alloc: Global) -> io::Result<Vec<u8>> {
+        match read_file(&self.rt, self.places.fences.as_str()) {
+            Err(error) if error.kind() == io::ErrorKind::NotFound => Ok(Vec::new(alloc)),
+            read => read,
+        }
+    }
+
+    fn cut(&mut self, size: usize) -> io::Result<()> {
+        self.places.log()?.set_len(size as u64)
+    }
+
+    fn append(&mut self, part: Part, bytes: &[u8]) -> io::Result<()> {
+        open_file(self.places.file(part))?.write_all(bytes)
+    }
+
+    fn sync(&mut self, part: Part) -> io::Result<()> {
+        match part {
+            Part::Log => self.places.log()?.sync_data(),
+            Part::Fences => open_file(&mut self.places.open_fences)?.sync_all(),
         }
     }
 }
 
 /// The files of a keeper, with what opens them.
+pub type HostFiles<R> = DiskFiles<HostDisk<R>>;
+
+/// The open files of a keeper, while nothing is done with them.
 #[derive(Drop)]
-pub struct HostFiles<R: Paths + AllocGlobal + Copy> {
-    rt: R,
-    files: LogFiles,
+pub struct LogFiles {
+    places: Places,
+    known: Known,
 }
 
-impl<R: Paths + AllocGlobal + Copy> HostFiles<R> {
-    /// The files alone.
-    pub fn off(self) -> LogFiles {
-        self.files
-    }
-}
-
-/// Writes a piece to an open file, and brings it to disk.
-fn add_synced(file: &mut File, piece: &[u8]) -> io::Result<()> {
-    file.write_all(piece)?;
-    file.sync_all()
-}
-
-impl<R: Paths + AllocGlobal + Copy> KeeperFiles for HostFiles<R> {
-    ghost acts = { λ _. None };
-
-    fn read_log(&mut self, _alloc: Global) -> Result<Vec<u8>, FilesFault> {
-        match read_if_there(&self.rt, self.files.log.as_str()) {
-            Ok(bytes) => Ok(bytes),
-            Err(error) => Err(fault_of(&error, FilesFault::Log)),
+impl LogFiles {
+    /// Files with which nothing is done for now.
+    pub fn of<R: Paths + AllocGlobal + Copy>(files: HostFiles<R>) -> LogFiles {
+        let (disk, known) = files.into_parts();
+        LogFiles {
+            places: disk.places,
+            known,
         }
     }
 
-    fn cut(&mut self, size: usize) -> Result<(), FilesFault> {
-        match &self.files.open_log {
-            Some(file) => changed(file.set_len(size as u64), FilesFault::Log),
-            None => Err(FilesFault::Log),
-        }
-    }
-
-    fn add(&mut self, bytes: &[u8]) -> Result<(), FilesFault> {
-        match &mut self.files.open_log {
-            Some(file) => changed(file.write_all(bytes), FilesFault::Log),
-            None => Err(FilesFault::Log),
-        }
-    }
-
-    fn sync(&mut self) -> Result<(), FilesFault> {
-        match &self.files.open_log {
-            Some(file) => changed(file.sync_data(), FilesFault::Log),
-            None => Err(FilesFault::Log),
-        }
-    }
-
-    fn last_fence(&mut self, _alloc: Global) -> Result<Term, FilesFault> {
-        match read_if_there(&self.rt, self.files.fences.as_str()) {
-            Ok(bytes) => Ok(last_fence(&self.files.guest, &bytes)),
-            Err(error) => Err(fault_of(&error, FilesFault::Fences)),
-        }
-    }
-
-    fn add_fence(&mut self, term: Term) -> Result<(), FilesFault> {
-        let entry = fence_entry(&self.files.guest, term);
-        match &mut self.files.open_fences {
-            Some(file) => changed(add_synced(file, entry.as_slice()), FilesFault::Fences),
-            None => Err(FilesFault::Fences),
-        }
+    /// With what opens them again.
+    pub fn on<R: Paths + AllocGlobal + Copy>(self, rt: &R) -> HostFiles<R> {
+        DiskFiles::from_parts(HostDisk::new(rt, self.places), self.known)
     }
 }

@@ -1,15 +1,17 @@
 //! `keeper IMAGE K LOG from FRAMES.. to ACKS..`: frames come in, new ones go to the log, and then the position is acknowledged.
 
-ghost use Rattle.std.specs.Prelude.{◌≡◌, ◌≤◌, true, false, IfOk};
+ghost use Rattle.std.specs.Prelude.{◌≡◌, ◌≢◌, ◌≤◌, true, false, IfOk, IfErr, OnOk};
+ghost use Rattle.log_join.specs.Answers.{answer_to};
 
 use crate::desk::Desk;
 use crate::events::Event;
-use crate::faults::{files_fault, log_fault};
-use crate::files::{HostFiles, LogFiles};
+use crate::faults::{files_fault, log_fault, open_fault};
+use crate::files::{HostDisk, HostFiles, LogFiles, Places};
 use crate::listening::listen_all;
 use crate::posting::{Post, begin_posts, posts};
 use ends::{Door, Fault, Frames, FramesFault, Host, Paths, Receiver, row, tell};
 use ft_types::{Guest, Keeper, Position};
+use keeper_files::open_for_keeper;
 use live_primary::read_image_file;
 use live_words::KeeperWords;
 use log_join::Put;
@@ -53,16 +55,15 @@ impl Keeping {
         self.passed = true;
     }
 
-    /// Takes a frame of the input with this number.
-    fn take_frame(
-        &mut self,
-        alloc: Global,
-        input: usize,
-        frame: WrittenFrame,
-    ) -> Result<(), Fault> {
-        match self.station.take(alloc, frame)? {
-            Put::Clash => Err(Fault::Frames(Frames::Input(input), FramesFault::Clash)),
-            _ => Ok(()),
+    /// Takes a frame of the input with this number. One that clashes ends the keeper.
+    fn take_frame(&mut self, alloc: Global, input: usize, frame: WrittenFrame) -> Result<(), Fault>
+        ensures taken { OnOk result (answer_to self.old.station.store frame ≢ Put.Clash) }
+        ensures clash { IfErr result (λ f. f ≢ Fault.Memory → f ≡ Fault.Frames (Frames.Input input) FramesFault.Clash) }
+    {
+        match self.station.take(alloc, frame) {
+            Ok(Put::Clash) => Err(Fault::Frames(Frames::Input(input), FramesFault::Clash)),
+            Ok(_) => Ok(()),
+            Err(_) => Err(Fault::Memory),
         }
     }
 
@@ -99,18 +100,23 @@ impl Keeping {
         Ok(came)
     }
 
+    /// This keeper's acknowledgement of a position.
+    fn acknowledgement_of(&self, position: &Position) -> Acknowledgement
+        ensures { result ≡ record { term = position.now.term; keeper = self.now.keeper; counts = position.now.counts } }
+    {
+        Acknowledgement {
+            term: position.term,
+            keeper: self.keeper,
+            counts: position.counts,
+        }
+    }
+
     /// Leaves a position to be acknowledged on all outputs.
     fn acknowledge<R: Wait>(&self, rt: &R, outputs: &[Post], position: Option<Position>) {
         if let Some(position) = position {
+            let acknowledgement = self.acknowledgement_of(&position);
             for output in outputs {
-                output.leave(
-                    rt,
-                    Acknowledgement {
-                        term: position.term,
-                        keeper: self.keeper,
-                        counts: position.counts,
-                    },
-                );
+                output.leave(rt, acknowledgement);
             }
         }
     }
@@ -132,7 +138,7 @@ impl Keeping {
         let keeping = Keeping {
             keeper,
             station,
-            files: files.off(),
+            files: LogFiles::of(files),
             open,
             passed,
         };
@@ -170,6 +176,14 @@ impl Keeping {
     }
 }
 
+/// The files of a keeper that runs.
+fn open<H: Host>(rt: &H, guest: Guest, log: &str) -> Result<HostFiles<H>, Fault> {
+    match open_for_keeper(HostDisk::new(rt, Places::of(rt, log)?), guest) {
+        Ok(files) => Ok(files),
+        Err(fault) => Err(open_fault(fault)),
+    }
+}
+
 /// A keeper that begins from its log.
 fn begin<H: Host>(rt: &H, guest: Guest, files: &mut HostFiles<H>) -> Result<KeeperStation, Fault> {
     match KeeperStation::begin(rt.alloc(), guest, files) {
@@ -183,7 +197,7 @@ pub fn keep<H: Host>(rt: &H, words: &KeeperWords<'_>) -> Result<u8, Fault>
     ensures { IfOk result (λ status. status ≤ 1) }
 {
     let guest = read_image_file(rt, words.image)?.guest();
-    let mut files = LogFiles::of_keeper(rt, guest, words.log)?.on(rt);
+    let mut files = open(rt, guest, words.log)?;
     let station = begin(rt, guest, &mut files)?;
     let (to, events) = row(rt.alloc(), ROOM)?;
     let outputs = posts(rt.alloc(), guest, words.keeper, words.outputs.len())?;
@@ -194,7 +208,7 @@ pub fn keep<H: Host>(rt: &H, words: &KeeperWords<'_>) -> Result<u8, Fault>
     let keeping = Keeping {
         keeper: words.keeper,
         station,
-        files: files.off(),
+        files: LogFiles::of(files),
         open: words.inputs.len(),
         passed: false,
     };

@@ -1,5 +1,5 @@
 -- What is done with a keeper's files: its log, and the fences beside it.
-use Rattle.std.specs.Prelude.{◌≡◌, ℕ, List, ◌++◌, Option, None, Some}
+use Rattle.std.specs.Prelude.{ℕ, List, ◌++◌}
 use Rattle.stations.specs.declared.faults.FilesFault.{FilesFault}
 
 pub data Act : Type 0 where
@@ -11,8 +11,6 @@ pub data Act : Type 0 where
   Fenced : (term : ℕ) → Act  -- the fence was added, and was on disk
   Failed : (fault : FilesFault) → Act  -- what was asked of the files failed with this fault
 
--- of files that tell what was done with them, these acts were the next
-abbrev pub Does : Option (List Act) → Option (List Act) → List Act → Type 0
-Does None new acts = Unit {0}
-Does (Some done) None acts = ⊥
-Does (Some done) (Some more) acts = more ≡ done ++ acts
+-- Whatever was done before, these were done next. `old` and `new` say which lists may be all that was done; files that tell nothing say so of each.
+abbrev pub Does : {A : Type 0} → (List A → Type 0) → (List A → Type 0) → List A → Type 0
+Does {A} old new next = (done : List A) → old done → new (done ++ next)

@@ -12,7 +12,7 @@ use Rattle.stations.specs.declared.faults.LogFault.{LogFault}
 use Rattle.stations.specs.declared.faults.LogFault.TheVariants.{Files, Frame as FrameAt, OtherGuest, Clash}
 
 -- the log was read; these are all its frames, which are of the guest, and less than a whole one stood behind them
-pub record IsHanded (guest : GuestParts) (old new : Option (List Act)) (handed : List ℕ) : Type 0 where
+pub record IsHanded (guest : GuestParts) (old new : List Act → Type 0) (handed : List ℕ) : Type 0 where
   pub rest : List ℕ
   pub acts : Does old new (SawLog (handed ++ rest) ∷ [])
   pub frames : List Frame
@@ -22,14 +22,14 @@ pub record IsHanded (guest : GuestParts) (old new : Option (List Act)) (handed :
 
 -- why a log is not fenced off: a term that is not above the last fence gets none; or the fences failed as they were read, or as this one was added,
 -- which may be there then
-abbrev pub IsNotFenced : ℕ → Option (List Act) → Option (List Act) → FenceFault → Type 0
+abbrev pub IsNotFenced : ℕ → (List Act → Type 0) → (List Act → Type 0) → FenceFault → Type 0
 IsNotFenced term old new (WasFenced last) = (term ≤ last) × Does old new (SawFence last ∷ [])
 IsNotFenced term old new (FilesOfFence fault) =
     Does old new (Failed fault ∷ []) ⊎ ((last : ℕ) × (last < term) ×
     (Does old new (SawFence last ∷ Failed fault ∷ []) ⊎ Does old new (SawFence last ∷ Fenced term ∷ Failed fault ∷ [])))
 
 -- why nothing is handed over: the log failed or memory was refused, the first fault of the log, or a frame of another guest
-abbrev pub IsNotHanded : GuestParts → Option (List Act) → Option (List Act) → LogFault → Type 0
+abbrev pub IsNotHanded : GuestParts → (List Act → Type 0) → (List Act → Type 0) → LogFault → Type 0
 IsNotHanded guest old new (Files fault) = HasNoLog old new fault
 IsNotHanded guest old new (FrameAt fault) =
     (log : List ℕ) × (frames : List Frame) × (size : ℕ) × Does old new (SawLog log ∷ []) × IsFrontOf log frames size (Some fault)

@@ -1,5 +1,5 @@
 -- What several processes do with one log and its fences, which all of them see in one order, and what a crash of their machine leaves.
-use Rattle.std.specs.Prelude.{◌≡◌, ◌<◌, max, ℕ, List, [], ◌∷◌, ◌++◌, take, None}
+use Rattle.std.specs.Prelude.{◌≡◌, ◌≤◌, ◌<◌, max, ℕ, List, [], ◌∷◌, ◌++◌, take, None}
 use Rattle.fragment_codec.specs.declared.frame.Frame.{Frame}
 use Rattle.fragment_codec.specs.Streams.{Splits}
 use Rattle.stations.specs.Acts.{Act, SawLog, CutTo, Added, Synced, SawFence, Fenced, Failed}
@@ -34,10 +34,11 @@ all_after files (next ∷ happenings) = all_after (after files next) happenings
 abbrev pub IsBeginning : List ℕ → List ℕ → Type 0
 IsBeginning xs ys = (rest : List ℕ) × (ys ≡ xs ++ rest)
 
--- who reads sees what is there; who cuts leaves all frames at the log's front; and a crash leaves what was on disk
+-- who reads sees what is there, and may see a fence that is not on disk yet; who cuts leaves all frames at the log's front; and a crash leaves what was
+-- on disk
 abbrev pub IsTrue : Files → Happening → Type 0
 IsTrue files (Did (SawLog bytes)) = bytes ≡ files.log
-IsTrue files (Did (SawFence fence)) = fence ≡ files.fence
+IsTrue files (Did (SawFence fence)) = files.fence ≤ fence
 IsTrue files (Did (CutTo size)) = (frames : List Frame) × IsFrontOf files.log frames size None
 IsTrue files (Did (Added bytes)) = Unit {0}
 IsTrue files (Did Synced) = Unit {0}

@@ -25,5 +25,5 @@ abbrev pub IsOf : GuestParts → Frame → Type 0
 IsOf guest frame = guest_of frame ≡ guest
 
 -- the log is not there to be judged: reading it failed, or it was read, and memory was refused
-abbrev pub HasNoLog : Option (List Act) → Option (List Act) → FilesFault → Type 0
+abbrev pub HasNoLog : (List Act → Type 0) → (List Act → Type 0) → FilesFault → Type 0
 HasNoLog old new fault = Does old new (Failed fault ∷ []) ⊎ ((log : List ℕ) × (fault ≡ NoMemory) × Does old new (SawLog log ∷ []))

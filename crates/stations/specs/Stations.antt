@@ -21,6 +21,7 @@ use Rattle.stations.specs.declared.faults.LogFault.TheVariants.{Files, Frame as 
 pub record StationView : Type 0 where
   pub store : StoreView
   pub fresh : List ℕ  -- the bytes of those of its frames that are not in the log yet
+  pub seen : ℕ  -- the greatest fence that it saw, 0 where it saw none
 
 -- the log and what is to be added to it are whole frames, and the store is the join of these
 pub record IsOnLog (log : List ℕ) (station : StationView) : Type 0 where
@@ -34,7 +35,7 @@ logging fresh fence = Added fresh ∷ Synced ∷ SawFence fence ∷ []
 
 -- why nothing was acknowledged: adding failed, and a beginning of what is fresh was added, and no more; or all of it was, and then the log was not brought
 -- to disk or the fences were not read
-abbrev pub IsNotLogged : List ℕ → Option (List Act) → Option (List Act) → FilesFault → Type 0
+abbrev pub IsNotLogged : List ℕ → (List Act → Type 0) → (List Act → Type 0) → FilesFault → Type 0
 IsNotLogged fresh old new fault =
     ((front : List ℕ) × (rest : List ℕ) × (fresh ≡ front ++ rest) × Does old new (Added front ∷ Failed fault ∷ [])) ⊎
     (Does old new (Added fresh ∷ Failed fault ∷ []) ⊎ Does old new (Added fresh ∷ Synced ∷ Failed fault ∷ []))
@@ -45,7 +46,7 @@ Answers store fence None = (p : Position) × IsPosition store p × (p.term < max
 Answers store fence (Some p) = Acknowledges store (max 1 fence) p
 
 -- the log was read, and cut behind its frames; the keeper has these and no others
-pub record IsBegun (guest : GuestParts) (old new : Option (List Act)) (station : StationView) : Type 0 where
+pub record IsBegun (guest : GuestParts) (old new : List Act → Type 0) (station : StationView) : Type 0 where
   pub log : List ℕ
   pub frames : List Frame
   pub size : ℕ
@@ -54,6 +55,7 @@ pub record IsBegun (guest : GuestParts) (old new : Option (List Act)) (station :
   pub same_guest : station.store.guest ≡ guest
   pub on_log : IsOnLog (take size log) station
   pub nothing_fresh : station.fresh ≡ []
+  pub nothing_seen : station.seen ≡ 0
 
 -- one of the frames met a store of those before it so
 pub record IsMet (guest : GuestParts) (frames : List Frame) (put : Put) : Type 0 where
@@ -66,7 +68,7 @@ pub record IsMet (guest : GuestParts) (frames : List Frame) (put : Put) : Type 0
   pub answer : answer_to store frame ≡ put
 
 -- why no keeper begins: the log failed or memory was refused, the first fault of the log, or how one of its frames met those before it
-abbrev pub IsNoKeepers : GuestParts → Option (List Act) → Option (List Act) → LogFault → Type 0
+abbrev pub IsNoKeepers : GuestParts → (List Act → Type 0) → (List Act → Type 0) → LogFault → Type 0
 IsNoKeepers guest old new (Files fault) = HasNoLog old new fault ⊎ ((log : List ℕ) × Does old new (SawLog log ∷ Failed fault ∷ []))
 IsNoKeepers guest old new (FrameAt fault) =
     (log : List ℕ) × (frames : List Frame) × (size : ℕ) × Does old new (SawLog log ∷ []) × IsFrontOf log frames size (Some fault)

@@ -15,6 +15,8 @@ pub enum FilesFault {
     Log,
     /// The fences could not be read, written or brought to disk.
     Fences,
+    /// Another file has the log's name.
+    Moved,
     /// A growth was refused.
     Memory,
 }

@@ -1,6 +1,6 @@
 //! The files of a keeper.
 
-ghost use Rattle.std.specs.Prelude.{◌≡◌, ◌++◌, ◌⊎◌, ℕ, List, [], ◌∷◌, Option, IfOk, IfErr, OnOk};
+ghost use Rattle.std.specs.Prelude.{◌≡◌, ◌++◌, ◌⊎◌, ℕ, List, [], ◌∷◌, IfOk, IfErr, OnOk};
 ghost use Rattle.stations.specs.Acts.{Act, SawLog, CutTo, Added, Synced, SawFence, Fenced, Failed, Does};
 
 use crate::faults::FilesFault;
@@ -10,8 +10,9 @@ use std::result::Result;
 
 /// A keeper's log and the fences beside it. They outlive the process, and other processes read both and add fences.
 pub trait KeeperFiles {
-    // What this process did with them so far, in its order, where they tell it. Whoever answers a fault has failed as the last that was done.
-    ghost acts: { Self → Option (List Act) };
+    // Which acts may be all that this process did with them, in its order: files that tell nothing say so of any. Whoever answers a fault has failed as
+    // the last that was done.
+    ghost acts: { Self → List Act → Type 0 };
 
     /// Reads the log.
     fn read_log(&mut self, alloc: Global) -> Result<Vec<u8>, FilesFault>
@@ -34,7 +35,7 @@ pub trait KeeperFiles {
         ensures ok { OnOk result (Does (acts self.old) (acts self.new) (Synced ∷ [])) }
         ensures failed { IfErr result (λ fault. Does (acts self.old) (acts self.new) (Failed fault ∷ [])) };
 
-    /// Reads the last fence, 0 where there is none.
+    /// Reads the last fence, 0 where there is none, where the log is the file of its name still.
     fn last_fence(&mut self, alloc: Global) -> Result<Term, FilesFault>
         ensures ok { IfOk result (λ fence. Does (acts self.old) (acts self.new) (SawFence fence ∷ [])) }
         ensures failed { IfErr result (λ fault. Does (acts self.old) (acts self.new) (Failed fault ∷ [])) };

@@ -1,6 +1,6 @@
 //! A log is fenced off for a term, and then handed to it.
 
-ghost use Rattle.std.specs.Prelude.{◌≡◌, ◌<◌, ℕ, [], ◌∷◌, IfOk, IfErr, IsTrue, ◌↔◌};
+ghost use Rattle.std.specs.Prelude.{◌≡◌, ◌<◌, ℕ, [], ◌∷◌, IfOk, IfErr, OnOk, IsTrue, ◌↔◌};
 ghost use Rattle.std.specs.List.{AllByRecursion};
 ghost use Rattle.stations.specs.Acts.{SawFence, Fenced, Does};
 ghost use Rattle.stations.specs.Handing.{IsHanded, IsNotFenced, IsNotHanded};
@@ -15,30 +15,36 @@ use ft_types::{Guest, Term};
 use std::alloc::Global;
 use std::result::Result;
 
+/// Files that refused what was asked of them, and why.
+#[derive(Drop)]
+pub struct Refused<F: KeeperFiles + Drop, E: Drop> {
+    /// The files.
+    pub files: F,
+    /// Why.
+    pub fault: E,
+}
+
 /// A log that is fenced off for a term: behind it nothing of an earlier one is acknowledged. `fence_off` alone makes it, and it is handed over once.
 #[derive(Drop)]
-pub struct FencedLog {
+pub struct FencedLog<F: KeeperFiles + Drop> {
+    files: F,
     term: Term,
 }
 
-impl FencedLog {
-    /// The term.
-    pub fn term(&self) -> Term
-        ensures { result ≡ self.now.term }
-    {
-        self.term
-    }
+/// A log that was handed over.
+#[derive(Drop)]
+pub struct HandedOver<F: KeeperFiles + Drop> {
+    /// The term to which it was handed over, and for which it was fenced off.
+    pub term: Term,
+    /// All its whole frames, as bytes.
+    pub frames: Vec<u8>,
+    /// The files.
+    pub files: F,
 }
 
-/// Fences a log off for a term that is above the last fence. The fence is on disk behind this.
-pub fn fence_off<F: KeeperFiles>(
-    alloc: Global,
-    files: &mut F,
-    term: Term,
-) -> Result<FencedLog, FenceFault>
-    ensures term { IfOk result (λ fenced. fenced.term ≡ term) }
-    ensures fenced { IfOk result (λ _. (last : ℕ) × (last < term) × Does (F.acts files.old) (F.acts files.new) (SawFence last ∷ Fenced term ∷ [])) }
-    // A term that is not above the last fence gets none; any other is refused only where the files failed.
+/// Puts a fence for a term that is above the last fence.
+fn put_fence<F: KeeperFiles>(alloc: Global, files: &mut F, term: Term) -> Result<(), FenceFault>
+    ensures fenced { OnOk result ((last : ℕ) × (last < term) × Does (F.acts files.old) (F.acts files.new) (SawFence last ∷ Fenced term ∷ [])) }
     ensures refused { IfErr result (λ f. IsNotFenced term (F.acts files.old) (F.acts files.new) f) }
 {
     let last = files.last_fence(alloc)?;
@@ -46,7 +52,24 @@ pub fn fence_off<F: KeeperFiles>(
         return Err(FenceFault::Fenced(last));
     }
     files.add_fence(term)?;
-    Ok(FencedLog { term })
+    Ok(())
+}
+
+/// Fences a log off for a term that is above the last fence. The fence is on disk behind this.
+pub fn fence_off<F: KeeperFiles + Drop>(
+    alloc: Global,
+    mut files: F,
+    term: Term,
+) -> Result<FencedLog<F>, Refused<F, FenceFault>>
+    ensures term { IfOk result (λ fenced. fenced.term ≡ term) }
+    ensures fenced { IfOk result (λ fenced. (last : ℕ) × (last < term) × Does (F.acts files) (F.acts fenced.files) (SawFence last ∷ Fenced term ∷ [])) }
+    // A term that is not above the last fence gets none; any other is refused only where the files failed.
+    ensures refused { IfErr result (λ r. IsNotFenced term (F.acts files) (F.acts r.files) r.fault) }
+{
+    match put_fence(alloc, &mut files, term) {
+        Ok(()) => Ok(FencedLog { files, term }),
+        Err(fault) => Err(Refused { files, fault }),
+    }
 }
 
 /// Whether the frames are of the guest.
@@ -56,11 +79,10 @@ fn are_own(guest: &Guest, frames: &[Frame]) -> bool
     frames.iter().all(|frame| is_of(frame, guest))
 }
 
-/// Hands a log over behind its fence: all whole frames that it has, as bytes. It has all that was acknowledged behind an earlier fence.
-pub fn hand_over<F: KeeperFiles>(
+/// Reads the whole frames of a log of this guest, as bytes.
+fn read_own<F: KeeperFiles>(
     alloc: Global,
     guest: &Guest,
-    _fenced: FencedLog,
     files: &mut F,
 ) -> Result<Vec<u8>, LogFault>
     ensures handed { IfOk result (λ handed. IsHanded guest.now (F.acts files.old) (F.acts files.new) handed.items) }
@@ -80,4 +102,27 @@ pub fn hand_over<F: KeeperFiles>(
     }
     log.truncate(size);
     Ok(log)
+}
+
+impl<F: KeeperFiles + Drop> FencedLog<F> {
+    /// Hands the log over to its term: all whole frames that it has. It has all that was acknowledged behind an earlier fence.
+    pub fn hand_over(
+        self,
+        alloc: Global,
+        guest: &Guest,
+    ) -> Result<HandedOver<F>, Refused<F, LogFault>>
+        ensures term { IfOk result (λ h. h.term ≡ self.term) }
+        ensures handed { IfOk result (λ h. IsHanded guest.now (F.acts self.files) (F.acts h.files) h.frames.items) }
+        ensures fault { IfErr result (λ r. IsNotHanded guest.now (F.acts self.files) (F.acts r.files) r.fault) }
+    {
+        let FencedLog { mut files, term } = self;
+        match read_own(alloc, guest, &mut files) {
+            Ok(frames) => Ok(HandedOver {
+                term,
+                frames,
+                files,
+            }),
+            Err(fault) => Err(Refused { files, fault }),
+        }
+    }
 }

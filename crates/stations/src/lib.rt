@@ -15,7 +15,7 @@ mod written_feed;
 pub use admitting::is_of;
 pub use faults::{FenceFault, FilesFault, LogFault};
 pub use files::KeeperFiles;
-pub use handing::{FencedLog, fence_off, hand_over};
+pub use handing::{FencedLog, HandedOver, Refused, fence_off};
 pub use laws::handshake;
 pub use log_front::{LogFront, read_frames};
 pub use station::KeeperStation;

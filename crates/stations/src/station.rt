@@ -1,6 +1,6 @@
 //! A keeper over its log.
 
-ghost use Rattle.std.specs.Prelude.{◌≡◌, ◌≢◌, ◌≤◌, ◌+◌, ◌++◌, ◌∷◌, ℕ, List, [], length, vec_len, vec_capacity, Ok, None, IfOk, IfErr, OnOk, OnErr, IfSome};
+ghost use Rattle.std.specs.Prelude.{◌≡◌, ◌≢◌, ◌≤◌, ◌+◌, ◌++◌, ◌∷◌, ℕ, List, [], length, vec_len, vec_capacity, max, Ok, None, IfOk, IfErr, OnOk, OnErr, IfSome};
 ghost use Rattle.fragment_codec.specs.declared.frame.Frame.{Frame as LogFrame};
 ghost use Rattle.fragment_codec.specs.Streams.{spelling, Splits};
 ghost use Rattle.log_join.specs.Answers.{answer_to};
@@ -67,11 +67,12 @@ fn acknowledged(held: &Tracked, fence: Term) -> Option<Position>
     Some(*position)
 }
 
-/// A keeper over its log: the store of its frames, and the bytes of those that are not in the log yet.
+/// A keeper over its log: the store of its frames, the bytes of those that are not in the log yet, and the greatest fence that it saw.
 #[derive(Drop)]
 pub struct KeeperStation {
     held: Box<Tracked>,
     fresh: Vec<u8>,
+    seen: Term,
 }
 
 impl Model for KeeperStation {
@@ -84,7 +85,7 @@ impl Model for KeeperStation {
 
     ghost coded = { Prim.hlevel (codes, coded_store) };
 
-    ghost view = { λ s. record { store = s.held.value; fresh = s.fresh.items } };
+    ghost view = { λ s. record { store = s.held.value; fresh = s.fresh.items; seen = s.seen } };
 }
 
 impl KeeperStation {
@@ -113,6 +114,7 @@ impl KeeperStation {
         Ok(KeeperStation {
             held,
             fresh: Vec::new(alloc),
+            seen: 0,
         })
     }
 
@@ -129,6 +131,7 @@ impl KeeperStation {
         ensures joined { OnOk result (IsJoin self.old.store (alone frame) self.new.store) }
         ensures fresh { OnOk result (self.new.fresh ≡ self.old.fresh ++ spelling frame) }
         ensures one { OnOk result (Splits (spelling frame) (frame ∷ []) []) }
+        ensures seen { self.new.seen ≡ self.old.seen }
         ensures err { OnErr result (self.new ≡ self.old) }
     {
         let (frame, bytes) = frame.into_parts();
@@ -147,6 +150,7 @@ impl KeeperStation {
         ensures fresh { result ≡ Ok Put.New → self.new.fresh ≡ self.old.fresh ++ spelling frame }
         ensures stays { IfOk result (λ p. p ≢ Put.New → self.new ≡ self.old) }
         ensures err { OnErr result (self.new ≡ self.old) }
+        ensures seen { self.new.seen ≡ self.old.seen }
         // So it stays the keeper of its log.
         ensures log { (log : List ℕ) → IsOnLog log self.old → IsOnLog log self.new }
     {
@@ -157,28 +161,33 @@ impl KeeperStation {
         Ok(put)
     }
 
-    /// Adds to the log what is fresh, brings the log to disk, and then reads the fence: what may be acknowledged behind that. Where a file fails the
-    /// keeper is gone, and is to begin again.
+    /// Adds to the log what is fresh, brings the log to disk, and then reads the fence: what may be acknowledged behind that, and behind each fence that
+    /// was seen before. Where a file fails the keeper is gone, and is to begin again.
     pub fn log_and_acknowledge<F: KeeperFiles>(
         self,
         alloc: Global,
         files: &mut F,
     ) -> Result<(KeeperStation, Option<Position>), FilesFault>
-        // In this order; and what is acknowledged is the position of the store.
-        ensures acts { IfOk result (λ r. (fence : ℕ) × Does (F.acts files.old) (F.acts files.new) (logging self.fresh fence) × Answers self.store fence r.1) }
+        // In this order; what is acknowledged is the position of the store; and no fence is forgotten.
+        ensures acts { IfOk result (λ r. (fence : ℕ) × Does (F.acts files.old) (F.acts files.new) (logging self.fresh fence) × (r.0.seen ≡ max self.seen fence) × Answers self.store r.0.seen r.1) }
         ensures harts { IfOk result (λ r. IfSome r.1 (λ p. length p.counts ≡ self.store.guest.harts)) }
         // All its frames are in the log now.
-        ensures store { IfOk result (λ r. r.0 ≡ record { store = self.store; fresh = [] }) }
+        ensures store { IfOk result (λ r. r.0 ≡ record { store = self.store; fresh = []; seen = r.0.seen }) }
         ensures log { IfOk result (λ r. (log : List ℕ) → IsOnLog log self → IsOnLog (log ++ self.fresh) r.0) }
         // At a fault the files failed, behind a beginning of what is fresh or all of it, and nothing else was added.
         ensures failed { IfErr result (λ f. IsNotLogged self.fresh (F.acts files.old) (F.acts files.new) f) }
     {
-        let KeeperStation { held, mut fresh } = self;
+        let KeeperStation {
+            held,
+            mut fresh,
+            seen,
+        } = self;
         files.add(&fresh)?;
         files.sync()?;
         let fence = files.last_fence(alloc)?;
+        let seen = seen.max(fence);
         fresh.clear();
-        let acknowledged = acknowledged(&held, fence);
-        Ok((KeeperStation { held, fresh }, acknowledged))
+        let acknowledged = acknowledged(&held, seen);
+        Ok((KeeperStation { held, fresh, seen }, acknowledged))
     }
 }

@@ -1,4 +1,4 @@
-use Rattle.std.proofs.Common.{ℕ, List, [], ◌∷◌, sym, subst, inr}
+use Rattle.std.proofs.Common.{ℕ, List, [], ◌∷◌, refl, sym, subst, inr}
 use Rattle.std.proofs.lemmas.Result.{err_from_is_err_and}
 use Rattle.fragment_codec.proofs.streams.Rests.{no_fault}
 use Rattle.stations.specs.Acts.{SawLog, Failed, Does}
@@ -13,8 +13,8 @@ returns-clause-begun g c =
     let saw : Does (acts c.args.files.now) (acts c.read_log.new.self) (SawLog c.deref.result.now ∷ []) =
     subst (λ (log : List ℕ). Does (acts c.args.files.now) (acts c.read_log.new.self) (SawLog log ∷ [])) (sym c.deref.ensures.value) c.in_ok-log.ensures.ok in
     rw c.in_ok-held-2.ensures (begun c.args.guest (acts c.args.files.now) (acts c.read_log.new.self) (acts c.cut.new.self) c.deref.result.now read.frames.items read.size read.fault
-    (record { store = c.in_ok-held.held; fresh = c.new.result.items }) c.in_ok-frames.ensures.front (no_fault read.fault c.in_default.not-Some)
-    c.in_ok-held.ensures.join c.new.ensures.items saw c.in_ok-cut.ensures.ok)
+    (record { store = c.in_ok-held.held; fresh = c.new.result.items; seen = 0 }) c.in_ok-frames.ensures.front (no_fault read.fault c.in_default.not-Some)
+    c.in_ok-held.ensures.join c.new.ensures.items refl saw c.in_ok-cut.ensures.ok)
 
 pub returns-in_err-cut-clause-fault : goal.returns-in_err-cut-clause-fault
 returns-in_err-cut-clause-fault g c =

@@ -1,4 +1,4 @@
-use Rattle.std.proofs.Common.{◌≡◌, ◌∙◌, ℕ, List, [], ◌∷◌, ap, subst, inr}
+use Rattle.std.proofs.Common.{◌≡◌, ◌∙◌, ℕ, max, List, [], ◌∷◌, ap, subst, inr}
 use Rattle.std.proofs.lemmas.Result.{err_from_is_err_and}
 use Rattle.log_join.specs.Stores.{StoreView}
 use Rattle.stations.specs.Acts.{Added, Synced, SawFence, Failed, Does}
@@ -20,10 +20,12 @@ pub returns-clause-acts : goal.returns-clause-acts
 returns-clause-acts g c =
     let acts = g.F.KeeperFiles.acts in
     let same : c.deref.result.now ≡ c.args.self.fresh = c.deref.ensures.value ∙ ap (λ (s : StationView). s.fresh) c.self.view_is in
-    let store : c.self.inside.held.value ≡ c.args.self.store = ap (λ (s : StationView). s.store) c.self.view_is in (
+    let store : c.self.inside.held.value ≡ c.args.self.store = ap (λ (s : StationView). s.store) c.self.view_is in
+    let seen : c.self.inside.seen ≡ c.args.self.seen = ap (λ (s : StationView). s.seen) c.self.view_is in (
       c.in_ok-fence.fence,
       subst (λ (fresh : List ℕ). Does (acts c.args.files.now) (acts c.last_fence.new.self) (Added fresh ∷ Synced ∷ SawFence c.in_ok-fence.fence ∷ [])) same
           (does_three (acts c.args.files.now) (acts c.add.new.self) (acts c.sync.new.self) (acts c.last_fence.new.self) (Added c.deref.result.now) Synced
           (SawFence c.in_ok-fence.fence) c.in_ok-add.ensures.ok c.in_ok-sync.ensures.ok c.in_ok-fence.ensures.ok),
-      subst (λ (s : StoreView). Answers s c.in_ok-fence.fence c.acknowledged-acknowledged.result) store (rw c.deref-2.ensures at c.acknowledged-acknowledged.ensures.answers),
+      c.max-seen.ensures ∙ ap (λ (n : ℕ). max n c.in_ok-fence.fence) seen,
+      subst (λ (s : StoreView). Answers s c.max-seen.result c.acknowledged-acknowledged.result) store (rw c.deref-2.ensures at c.acknowledged-acknowledged.ensures.answers),
     )

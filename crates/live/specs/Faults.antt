@@ -1,0 +1,38 @@
+-- As what the faults of a keeper's files are told.
+use Rattle.fragment_codec.specs.declared.fault.FrameFault.{FrameFault}
+use Rattle.fragment_codec.specs.Faults.{fault_number}
+use Rattle.stations.specs.declared.faults.FilesFault.{FilesFault}
+use Rattle.stations.specs.declared.faults.FilesFault.TheVariants.{Log, Fences, Moved, Memory}
+use Rattle.stations.specs.declared.faults.LogFault.{LogFault}
+use Rattle.stations.specs.declared.faults.LogFault.TheVariants.{Files, Frame, OtherGuest, Clash}
+use Rattle.stations.specs.declared.faults.FenceFault.{FenceFault}
+use Rattle.stations.specs.declared.faults.FenceFault.TheVariants.{Files as FilesOfFence, Fenced}
+use Rattle.keeper_files.specs.declared.faults.OpenFault.{OpenFault}
+use Rattle.keeper_files.specs.declared.faults.OpenFault.TheVariants.{Files as FilesOfOpen, Locked, Link, Failed}
+use Rattle.ends.specs.declared.faults.Fault.{Fault}
+use Rattle.ends.specs.declared.faults.Fault.TheVariants.{File, Frames as WithFrames, Fenced as WasFenced, Locked as IsLocked, Link as IsLink, Failed as HasFailed, Moved as HasMoved, Memory as NoMemory}
+use Rattle.ends.specs.declared.faults.Frames.TheVariants.{Log as InLog}
+use Rattle.ends.specs.declared.faults.FramesFault.TheVariants.{Frame as OfFrame, Guest as OfGuest, Clash as OfClash}
+use Rattle.ends.specs.declared.faults.NamedFile.TheVariants.{Log as TheLog, Fences as TheFences}
+
+abbrev pub told_of_files : FilesFault → Fault
+told_of_files Log = File TheLog
+told_of_files Fences = File TheFences
+told_of_files Moved = HasMoved
+told_of_files Memory = NoMemory
+
+abbrev pub told_of_log : LogFault → Fault
+told_of_log (Files fault) = told_of_files fault
+told_of_log (Frame fault) = WithFrames InLog (OfFrame (fault_number fault))
+told_of_log OtherGuest = WithFrames InLog OfGuest
+told_of_log Clash = WithFrames InLog OfClash
+
+abbrev pub told_of_fence : FenceFault → Fault
+told_of_fence (FilesOfFence fault) = told_of_files fault
+told_of_fence (Fenced term) = WasFenced term
+
+abbrev pub told_of_opening : OpenFault → Fault
+told_of_opening (FilesOfOpen fault) = told_of_files fault
+told_of_opening Locked = IsLocked
+told_of_opening Link = IsLink
+told_of_opening Failed = HasFailed
