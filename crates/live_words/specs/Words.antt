@@ -1,5 +1,5 @@
 -- Which word is which.
-use Rattle.std.specs.Prelude.{◌≡◌, ◌++◌, ◌⊎◌, ⊥, ℕ, List, [], ◌∷◌, Some, IfSome, slice_get, codes}
+use Rattle.std.specs.Prelude.{◌≡◌, ◌++◌, ◌⊎◌, ℕ, List, [], ◌∷◌, Some, IfSome, slice_get, codes}
 use Rattle.ft_types.specs.Text.{IsNumber}
 use Rattle.word_forms.specs.declared.matching.Words.{Words}
 use Rattle.live_words.specs.declared.tasks.Task.{Task}

@@ -74,7 +74,7 @@ fn quorum(keepers: &str, need: &str) -> Result<Quorum, WordsFault>
 
 fn keeping_of<'a>(words: Words<'a>) -> Result<Task<'a>, WordsFault>
     ensures usable { IfOk result IsUsable }
-    ensures which { IfOk result (λ task. Keeps words task) }
+    ensures which { IfOk result (λ task. Keeps words.entry task) }
 {
     let Words {
         name: _,
@@ -98,7 +98,7 @@ fn keeping_of<'a>(words: Words<'a>) -> Result<Task<'a>, WordsFault>
 
 fn handing_of<'a>(words: Words<'a>) -> Result<Task<'a>, WordsFault>
     ensures usable { IfOk result IsUsable }
-    ensures which { IfOk result (λ task. Hands words task) }
+    ensures which { IfOk result (λ task. Hands words.entry task) }
 {
     let Words {
         name: _,
@@ -118,7 +118,7 @@ fn handing_of<'a>(words: Words<'a>) -> Result<Task<'a>, WordsFault>
 
 fn leading_of<'a>(words: Words<'a>) -> Result<Task<'a>, WordsFault>
     ensures usable { IfOk result IsUsable }
-    ensures which { IfOk result (λ task. Leads words task) }
+    ensures which { IfOk result (λ task. Leads words.entry task) }
 {
     let Words {
         name: _,
@@ -149,7 +149,7 @@ fn leading_of<'a>(words: Words<'a>) -> Result<Task<'a>, WordsFault>
 
 fn asking_of<'a>(words: Words<'a>) -> Result<Task<'a>, WordsFault>
     ensures usable { IfOk result IsUsable }
-    ensures which { IfOk result (λ task. Asks words task) }
+    ensures which { IfOk result (λ task. Asks words.entry task) }
 {
     let Words {
         name: _,
@@ -175,7 +175,7 @@ fn asking_of<'a>(words: Words<'a>) -> Result<Task<'a>, WordsFault>
 /// The task of these words.
 fn task_of<'a>(words: Words<'a>) -> Result<Task<'a>, WordsFault>
     ensures usable { IfOk result IsUsable }
-    ensures which { IfOk result (λ task. AsksFor words task) }
+    ensures which { IfOk result (λ task. AsksFor words.entry task) }
 {
     match words.name {
         "keeper" => keeping_of(words),
