@@ -56,5 +56,6 @@ invariant_of-result c =
 pub returns-clause-gate : goal.returns-clause-gate
 returns-clause-gate c =
     let made = c.in_ok-gate.ensures in
-    unmarked c.in_ok-gate.gate c.args.keepers c.args.need c.args.image.now.harts c.harts.result c.zero.result c.harts.ensures.value c.zero.ensures made.harts
-    made.parts made.acked made.noted made.lines
+    let harts : c.harts.result ≡ c.args.image.now.harts = c.harts.ensures.value ∙ ap (λ (g : GuestParts). g.harts) c.guest-guest.ensures in
+    unmarked c.in_ok-gate.gate c.args.keepers c.args.need c.args.image.now.harts c.harts.result c.zero.result harts c.zero.ensures made.harts made.parts
+    made.acked made.noted made.lines
