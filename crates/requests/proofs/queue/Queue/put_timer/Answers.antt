@@ -1,4 +1,4 @@
-use Rattle.std.proofs.Common.{List, refl, sym, subst, arith}
+use Rattle.std.proofs.Common.{List, refl, sym, subst, ◌∙◌, arith}
 use Rattle.input_log.specs.declared.Input.{Input}
 use Rattle.input_log.specs.declared.Input.TheVariants.{Timer}
 use Rattle.requests.specs.Queues.{QueueView, IsQueueOf}
@@ -9,7 +9,7 @@ pub invariant_of-self : goal.invariant_of-self
 invariant_of-self c = rw c.in_ok-push_back.ensures.items (
   omega (arith, timer_length c.self.inside.waiting.items, c.self.invariant.0),
   no_bell_more c.self.inside.waiting.items Timer refl c.self.invariant.1,
-  one_within c.self.inside.waiting.items Timer c.len.result c.len.ensures (c.in-Taken.ensures.room refl),
+  one_within c.self.inside.waiting.items Timer c.len.result (c.len.ensures ∙ c.self.inside.waiting.ok.0) (c.in-Taken.ensures.room refl),
 )
 
 pub returns-in_ok-push_back-clause-follows : goal.returns-in_ok-push_back-clause-follows
