@@ -1,6 +1,6 @@
 #!/bin/sh
 # check.sh [PROGRAM]: runs what README.md, docs/GUIDE.md and docs/FAILOVER.md print, as printed, in a fresh copy of the repository, and compares
-# the answers that they show; then runs each guest of guests/ and replays its log, looks for each name that the documents cite (tools/names), refuses
+# the answers that they show; then runs each guest of guests/ and replays its log, looks at names and lengths of the documents (tools/names), refuses
 # memory to the rows of benches/refusals, kills keepers and primaries that are processes (samples/live), refuses their file calls, and sends them
 # what is changed by chance (benches/live). PROGRAM is the built workbench, by itself the one that `.ci/run` and `rt run` leave. The last line is
 # 'N passed, N failed'. Needs rt; what needs more is left out where that is not there.
@@ -155,13 +155,13 @@ for image in "$top"/guests/images/*.image; do
     if diff "$at.text" "$at.replayed" > "$at.differs"; then pass; else fail "the replay of $guest" < "$at.differs"; fi
 done
 
-# Each name that the documents cite is there.
+# Each name that the documents cite is there, none of them is too long, and crates.txt is in its order.
 if ! command -v python3 > /dev/null; then
     echo "left out tools/names, since no python3 is installed"
 elif "$top/tools/names" > "$work/names"; then
     pass
 else
-    fail "the names that the documents cite" < "$work/names"
+    fail "names and lengths of the documents" < "$work/names"
 fi
 
 # At most 40 growths of each row are refused, in some ten seconds.

@@ -23,7 +23,7 @@ pub enum WorldFault {
     Step(BookFault),
     /// No primary goes live.
     Live(LiveFault),
-    /// The board refused the position.
+    /// The gate refused the position.
     Ack(AckFault),
     /// A growth was refused.
     Memory,

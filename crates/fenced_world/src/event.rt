@@ -25,7 +25,7 @@ pub enum FencedEvent {
     Fence { keeper: u64, term: Term },
     /// The keeper acknowledges the position of what it wrote down, in that position's term.
     Acknowledge(u64),
-    /// The term's gate is offered the outputs that it lacks, looks at every word of its board and releases what it may.
+    /// The term's gate is offered the outputs that it lacks, and releases what it may.
     Release(Term),
     /// The keeper and all that it wrote down are gone.
     Lose(u64),

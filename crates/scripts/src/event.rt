@@ -19,7 +19,7 @@ pub enum Event {
     Join { keeper: u64, other: u64 },
     /// The keeper acknowledges its store's position.
     Acknowledge(u64),
-    /// The gate is offered the outputs that it lacks, looks at every word of the board and releases what it may.
+    /// The gate is offered the outputs that it lacks, and releases what it may.
     Release,
     /// The primary stops.
     Stop,
