@@ -1,4 +1,5 @@
 pub mod Places
+pub mod GoneOut
 pub mod Offered
 pub mod Onward
 pub mod Heard
@@ -9,3 +10,5 @@ pub mod Leading
 pub mod NotesAlone
 pub mod Taken
 pub mod Limits
+pub mod Numbers
+pub mod Refusing

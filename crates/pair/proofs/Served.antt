@@ -3,7 +3,8 @@ use Rattle.std.proofs.Common.{◌≡◌, ◌<◌, ⊎_elim, ℕ, zero, suc, List
 use Rattle.std.specs.List.{Contains}
 use Rattle.std.proofs.lemmas.List.Elements.{Contains-append_cases, Contains-append_left}
 use Rattle.fragment_codec.specs.declared.frame.Frame.{Frame}
-use Rattle.log_join.specs.Stores.{StoreView}
+use Rattle.ft_types.specs.Guests.{GuestParts}
+use Rattle.log_join.specs.Stores.{StoreView, nothing}
 use Rattle.ack_core.specs.declared.board.Board.{Board}
 use Rattle.ack_core.specs.declared.board.AckFault.{AckFault}
 use Rattle.ack_core.specs.declared.seats.KeeperSeat.{KeeperSeat}
@@ -12,18 +13,33 @@ use Rattle.ack_core.specs.Lists.{StartsWith}
 use Rattle.ack_core.specs.Seats.{harts_of, keeper_of, published, heard, Publishes, Refuses, term_of}
 use Rattle.pair.specs.Keeping.{AreTaken, Tells}
 use Rattle.pair.specs.Serving.{Had, HadAll, IsServed}
+use Rattle.pair.proofs.Taken.{all_taken_guest}
 
 taken_then : (old between new : StoreView) (first second : List Frame) → AreTaken old first between → AreTaken between second new →
     AreTaken old (first ++ second) new
 taken_then old between new [] second t u = subst (λ (s : StoreView). AreTaken s second new) t u
 taken_then old between new (f ∷ fs) second t u = (t.0, t.1, taken_then t.0 between new fs second t.2 u)
 
+-- the store came of frames alone
+abbrev pub HasCome : StoreView → Type 0
+HasCome store = (frames : List Frame) × AreTaken (nothing store.guest) frames store
+
+-- and comes of more
+pub come_on : (old new : StoreView) (frames : List Frame) → HasCome old → AreTaken old frames new → HasCome new
+come_on old new frames come taken = (
+  come.0 ++ frames,
+  subst (λ (g : GuestParts). AreTaken (nothing g) (come.0 ++ frames) new) (sym (all_taken_guest old new frames taken))
+      (taken_then (nothing old.guest) old new come.0 frames come.1 taken),
+)
+
 -- what the store had, it had on the way to what it is later
 had_still : (old new : StoreView) (frames : List Frame) (term hart count : ℕ) → AreTaken old frames new → Had old term hart count → Had new term hart count
 had_still old new frames term hart count taken had = record {
+  frames = had.frames;
   before = had.before;
-  frames = had.frames ++ frames;
-  taken = taken_then had.before old new had.frames frames had.taken taken;
+  begun = subst (λ (g : GuestParts). AreTaken (nothing g) had.frames had.before) (sym (all_taken_guest old new frames taken)) had.begun;
+  more = had.more ++ frames;
+  taken = taken_then had.before old new had.more frames had.taken taken;
   position = had.position;
   is_position = had.is_position;
   of_term = had.of_term;
@@ -35,9 +51,10 @@ only_one x c zero lt e = e
 only_one x c (suc k) lt e = absurd (omega arith)
 
 -- a keeper that took frames, and then published its store's position
-pub told_on : (board : Board) (seat after : KeeperSeat) (old new : StoreView) (frames : List Frame) → HadAll board seat old → AreTaken old frames new →
-    Tells board seat new after → HadAll board after new
-told_on board seat after old new frames had taken tells hart count within there =
+pub told_on : (board : Board) (seat after : KeeperSeat) (old new : StoreView) (frames : List Frame) → HasCome old → HadAll board seat old →
+    AreTaken old frames new → Tells board seat new after → HadAll board after new
+told_on board seat after old new frames come had taken tells hart count within there =
+    let came = come_on old new frames come taken in
     let still : Contains (published seat hart) count → Had new (term_of board) hart count
     = λ was. had_still old new frames (term_of board) hart count taken (had hart count within was) in
     ⊎_elim (λ (p : Publishes board seat tells.0 after).
@@ -45,8 +62,10 @@ told_on board seat after old new frames had taken tells hart count within there 
     let more : published after hart ≡ published seat hart ++ next ∷ [] = (p.1 hart within).1 in
     ⊎_elim (λ (was : Contains (published seat hart) count). still was)
     (λ (now : Contains (next ∷ []) count). record {
+      frames = came.0;
       before = new;
-      frames = [];
+      begun = came.1;
+      more = [];
       taken = refl;
       position = tells.0;
       is_position = tells.1;

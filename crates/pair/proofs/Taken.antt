@@ -1,5 +1,5 @@
 -- Frames that a store takes, one after the other.
-use Rattle.std.proofs.Common.{◌≡◌, List, [], ◌∷◌, ◌++◌, ap, inl, inr, ⊎_elim, refl, subst, sym}
+use Rattle.std.proofs.Common.{◌≡◌, List, [], ◌∷◌, ◌++◌, ◌∙◌, ap, inl, inr, ⊎_elim, refl, subst, sym}
 use Rattle.fragment_codec.specs.declared.frame.Frame.{Frame}
 use Rattle.log_join.specs.Stores.{StoreView, IsJoin, alone}
 use Rattle.log_join.specs.Answers.{answer_to}
@@ -25,3 +25,8 @@ taken_more old between new (f ∷ fs) frame t last = (t.0, t.1, taken_more t.0 b
 pub taken_guest : (old : StoreView) (frame : Frame) (new : StoreView) → IsTaken old frame new → new.guest ≡ old.guest
 taken_guest old frame new t = ⊎_elim (λ (j : IsJoin old (alone frame) new). j.guest)
     (λ (k : (answer_to old frame ≡ OtherGuest) × (new ≡ old)). ap (λ (s : StoreView). s.guest) k.1) t
+
+-- and so does one that takes many
+pub all_taken_guest : (old new : StoreView) (frames : List Frame) → AreTaken old frames new → new.guest ≡ old.guest
+all_taken_guest old new [] t = ap (λ (s : StoreView). s.guest) t
+all_taken_guest old new (f ∷ fs) t = all_taken_guest t.0 new fs t.2 ∙ taken_guest old f t.0 t.1

@@ -5,6 +5,7 @@ use Rattle.ack_core.specs.declared.board.Board.{Board}
 use Rattle.ack_core.specs.declared.seats.KeeperSeat.{KeeperSeat}
 use Rattle.ack_core.specs.Seats.{harts_of, keepers_of, keeper_of, published, IsKeeperOf, IsDealt}
 use Rattle.hart_lease.specs.Runs.{counts_of}
+use Rattle.log_join.specs.Stores.{nothing}
 use Rattle.output_gate.specs.Gates.{offered_of}
 use Rattle.lease_rounds.specs.Running.{IsIdle}
 use Rattle.log_streams.specs.Primary.{IsFirst}
@@ -18,10 +19,11 @@ abbrev pub AreKeepersOf : Board → List KeeperSeat → Type 0
 AreKeepersOf board seats =
     (length seats ≡ keepers_of board) × ((k : ℕ) (other : KeeperSeat) → k < length seats → IsDealt board (slice_index_or seats k other) k)
 
--- the post of one of the board's keepers, which has published nothing, and whose store is of a guest with the board's harts
+-- the post of one of the board's keepers, which has published nothing, and to whose store, of a guest with the board's harts, nothing came
 abbrev pub IsPostOf : Board → Post → Type 0
 IsPostOf board post =
     IsKeeperOf board post.seat × ((hart : ℕ) → published post.seat hart ≡ []) × (post.store.guest.harts ≡ harts_of board)
+    × (post.store ≡ nothing post.store.guest)
 
 -- the posts of the board's keepers, in their order
 abbrev pub ArePostsOf : Board → List Post → Type 0

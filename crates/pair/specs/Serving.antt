@@ -4,7 +4,7 @@ use Rattle.std.specs.List.{Contains}
 use Rattle.ft_types.specs.Counts.{count_at}
 use Rattle.ft_types.specs.declared.errors.Memory.{Memory}
 use Rattle.fragment_codec.specs.declared.frame.Frame.{Frame}
-use Rattle.log_join.specs.Stores.{StoreView}
+use Rattle.log_join.specs.Stores.{StoreView, nothing}
 use Rattle.ft_types.specs.declared.position.Position.{Position}
 use Rattle.closed_cut.specs.Position.{IsPosition}
 use Rattle.ack_core.specs.declared.board.Board.{Board}
@@ -14,11 +14,13 @@ use Rattle.ack_core.specs.Seats.{term_of, harts_of, keepers_of, keeper_of, publi
 use Rattle.ft_types.specs.declared.output.Output.{Output}
 use Rattle.pair.specs.Keeping.{AreTaken}
 
--- on the way to what it is, by the frames that it took, the store had a position of this term with this count of the hart
+-- The store came of frames alone, from nothing on. After some of them it had a position of this term with this count of the hart.
 pub record Had (store : StoreView) (term hart count : ℕ) : Type 0 where
-  pub before : StoreView
   pub frames : List Frame
-  pub taken : AreTaken before frames store
+  pub before : StoreView
+  pub begun : AreTaken (nothing store.guest) frames before
+  pub more : List Frame
+  pub taken : AreTaken before more store
   pub position : Position
   pub is_position : IsPosition before position
   pub of_term : position.term ≡ term

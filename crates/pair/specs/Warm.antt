@@ -1,6 +1,6 @@
 -- A primary that goes live at a pair's end.
-use Rattle.std.specs.Prelude.{◌≡◌, ◌-◌, ◌∷◌, ℕ, List, sum}
-use Rattle.std.specs.List.{AllByRecursion}
+use Rattle.std.specs.Prelude.{◌≡◌, ◌≢◌, ◌<◌, ◌-◌, ◌⊎◌, ◌∷◌, [], ℕ, List, Some, length, slice_get, sum}
+use Rattle.std.specs.List.{AllByRecursion, Any, Contains}
 use Rattle.ft_types.specs.declared.output.Output.{Output}
 use Rattle.ft_types.specs.declared.position.Position.{Position}
 use Rattle.log_join.specs.Stores.{StoreView}
@@ -8,12 +8,22 @@ use Rattle.closed_cut.specs.Position.{IsPosition}
 use Rattle.guest_image.specs.Image.{ImageContents, guest_of}
 use Rattle.hart_replay.specs.declared.plans.PlannedLeg.{PlannedLeg}
 use Rattle.hart_replay.specs.GoingOn.{GoOnFrom}
+use Rattle.hart_replay.specs.KeepingUp.{IsFaultOfStore}
 use Rattle.hart_replay.specs.Laws.{ArePlanned}
-use Rattle.primary.specs.Outputs.{outputs_in}
+use Rattle.hart_replay.specs.declared.fault.ReplayFault.{ReplayFault}
+use Rattle.hart_replay.specs.declared.fault.ReplayFault.TheVariants.{OtherGuest}
+use Rattle.primary.specs.Outputs.{outputs_in, said_at}
 use Rattle.primary.specs.Primaries.{BeginsFrom}
 use Rattle.go_live.specs.declared.live.Live.{Live}
+use Rattle.go_live.specs.declared.fault.LiveFault.{LiveFault}
+use Rattle.go_live.specs.declared.fault.LiveFault.TheVariants.{TooFewStores, TermNotNew}
+use Rattle.go_live.specs.Faults.{IfReplay}
 use Rattle.go_live.specs.Joined.{AreJoined}
-use Rattle.go_live.specs.Lives.{IsAtPosition}
+use Rattle.go_live.specs.Lives.{IsAtPosition, LeadNowhere}
+use Rattle.go_live.specs.Quorums.{IsOld}
+use Rattle.ft_types.specs.Counts.{count_at}
+use Rattle.guest_image.specs.Machine.{MachineState}
+use Rattle.pair.specs.Released.{HasGoneOut}
 use Rattle.pair.specs.Serving.{IsHeldOnTheWay}
 
 -- a primary of term 2 goes on where the join of these stores leads to, with the outputs of the machine there
@@ -45,9 +55,36 @@ pub record HasReplayed (image : ImageContents) (stores : List StoreView) (live :
   pub steps_on : GoOnFrom had legs → steps ≡ sum position.counts - sum stood.counts
   pub steps_anew : (GoOnFrom had legs → ⊥) → steps ≡ sum position.counts
 
--- a primary went live from stores on whose way as many as are needed had each of these outputs inside a position of term 1, and so many steps were replayed for it
-pub record HasGoneLive (image : ImageContents) (need : ℕ) (released : List Output) (live : Live) (steps : ℕ) : Type 0 where
+-- a primary went live from the stores of all keepers, on whose way as many as are needed had each of these outputs inside a position of term 1, and so many steps were replayed for it
+pub record HasGoneLive (image : ImageContents) (keepers need : ℕ) (released : List Output) (live : Live) (steps : ℕ) : Type 0 where
   pub stores : List StoreView
+  pub all : length stores ≡ keepers
   pub inside : AllByRecursion (IsHeldOnTheWay stores 1 need) released
   pub goes_on : GoesOn image stores live
   pub replayed : HasReplayed image stores live steps
+
+-- each of these outputs is the machine's, at its number
+abbrev pub AreSaid : MachineState → List Output → Type 0
+AreSaid machine released =
+    (o : Output) → Contains released o → slice_get (said_at machine o.hart) o.number ≡ Some (o.step, o.word)
+
+-- what is marked went out: a hart's outputs with numbers below its mark
+abbrev pub AreMarksOut : List ℕ → List Output → Type 0
+AreMarksOut marks released = (hart number : ℕ) → number < count_at marks hart → HasGoneOut released hart number
+
+-- the legs of the first of the stores lead to no machine, for this reason
+abbrev pub IsFaultOfFirst : ImageContents → List StoreView → ReplayFault → Type 0
+IsFaultOfFirst image [] fault = ⊥
+IsFaultOfFirst image (first ∷ others) fault = IsFaultOfStore image first fault
+
+-- what the first of the stores tells leads to no machine, one of them is of another guest, or what all of them tell leads to no machine
+abbrev pub IsReplayFault : ImageContents → List StoreView → ReplayFault → Type 0
+IsReplayFault image stores fault =
+    IsFaultOfFirst image stores fault
+    ⊎ ((fault ≡ OtherGuest → Any (λ store. store.guest ≢ guest_of image) stores) × (fault ≢ OtherGuest → LeadNowhere image stores fault))
+
+-- why no primary of term 2 goes live from the stores of all keepers, where it is not for want of memory
+pub record IsRefused (image : ImageContents) (stores : List StoreView) (fault : LiveFault) : Type 0 where
+  pub enough : fault ≢ TooFewStores
+  pub not_new : fault ≡ TermNotNew → IsOld stores 2
+  pub nowhere : IfReplay fault (λ why. IsReplayFault image stores why)

@@ -1,6 +1,6 @@
 //! A keeper's thread.
 
-ghost use Rattle.std.specs.Prelude.{IfOk};
+ghost use Rattle.std.specs.Prelude.{◌≡◌, ◌↔◌, ◌++◌, None, IfNone, IfOk, IfSome, IsTrue, OnOk};
 ghost use Rattle.ack_core.specs.Seats.{keeper_of};
 ghost use Rattle.pair.specs.Posts.{IsPostOf};
 ghost use Rattle.pair.specs.Serving.{IsServed};
@@ -31,6 +31,21 @@ struct Heard {
     ended: bool,
 }
 
+/// What the message brings goes behind the frames that came before it. Whether it is the last one.
+fn add_from(message: ToKeeper, frames: &mut Vec<Frame>) -> Result<bool, Memory>
+    ensures some { OnOk result (IfSome message (λ more. frames.new.items ≡ frames.old.items ++ more.items)) }
+    ensures none { IfNone message (frames.new ≡ frames.old) }
+    ensures last { IfOk result (λ is_last. IsTrue is_last ↔ (message ≡ None)) }
+{
+    match message {
+        Some(more) => {
+            add_all(frames, more)?;
+            Ok(false)
+        }
+        None => Ok(true),
+    }
+}
+
 /// Waits for a message to a keeper, and takes with it what is there by then.
 fn hear<R: Wait>(
     rt: &R,
@@ -41,16 +56,16 @@ fn hear<R: Wait>(
         messages: 1,
         ended: false,
     };
-    match channel.recv(rt) {
-        Ok(Some(more)) => add_all(frames, more)?,
-        Ok(None) => heard.ended = true,
-        Err(_) => return Err(Memory),
-    }
+    let Ok(first) = channel.recv(rt) else {
+        return Err(Memory);
+    };
+    heard.ended = add_from(first, frames)?;
     for _more in 0..channel.len() {
-        match channel.try_recv(rt) {
-            Ok(Some(more)) => add_all(frames, more)?,
-            Ok(None) => heard.ended = true,
-            Err(_) => break,
+        let Ok(message) = channel.try_recv(rt) else {
+            break;
+        };
+        if add_from(message, frames)? {
+            heard.ended = true;
         }
         heard.messages = heard.messages.wrapping_add(1);
     }

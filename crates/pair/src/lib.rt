@@ -4,12 +4,14 @@
 
 mod adding;
 mod apart;
+mod beside;
 mod exits;
 mod gate_thread;
 mod herald;
 mod holding;
 mod keeper_thread;
 mod keeping;
+mod known;
 mod messages;
 mod news;
 mod noting;
@@ -25,5 +27,6 @@ mod threads;
 mod warm;
 
 pub use holding::Held;
+pub use printing::{write_pair, write_warm};
 pub use threads::{OnThreads, PairEnd, run_pair};
 pub use warm::{WarmEnd, run_pair_warm};

@@ -1,8 +1,10 @@
 //! What went out is noted in the primary's log.
 
-ghost use Rattle.std.specs.Prelude.{◌≡◌, ◌<◌, Some, length, slice_get};
+ghost use Rattle.std.specs.Prelude.{◌≡◌, ◌<◌, ◌+◌, Some, IfSome, length, slice_get};
+ghost use Rattle.ft_types.specs.declared.output.Output.{Output as OutputRecord};
 ghost use Rattle.rv32_hart.specs.Hart.{Hart as HartRecord};
 ghost use Rattle.page_book.specs.Tellings.{OnlyNotes};
+ghost use Rattle.pair.specs.Released.{NotesUpTo};
 
 use crate::messages::{Went, send};
 use crossbeam_channel::{Receiver, Sender};
@@ -11,8 +13,21 @@ use guest_image::Machine;
 use output_gate::Output;
 use page_book::{Book, Recording};
 use std::alloc::Global;
+use std::option::Option;
 use std::result::Result;
 use std::sync::Wait;
+
+/// What is told of the output at this place, where the one behind it is not its hart's too: that it went out.
+fn told_of(released: &[Output], place: usize) -> Option<Went>
+    requires { place < length released.now }
+    ensures { IfSome result (λ went. (o : OutputRecord) → slice_get released.now place ≡ Some o → (went.hart ≡ o.hart) × (went.last ≡ o.number)) }
+{
+    let Output { hart, number, .. } = released[place];
+    if place + 1 < released.len() && released[place + 1].hart == hart {
+        return None;
+    }
+    Some(Went { hart, last: number })
+}
 
 /// Tells the primary which of the outputs from this place on went out, by hart and number: of each hart the last one. What finds no
 /// memory is left out.
@@ -23,9 +38,8 @@ pub(crate) fn tell_out<R: Wait>(
     from: usize,
 ) {
     for place in from..released.len() {
-        let Output { hart, number, .. } = released[place];
-        if place + 1 == released.len() || released[place + 1].hart != hart {
-            let _told = send(rt, primary, Went { hart, last: number });
+        if let Some(went) = told_of(released, place) {
+            let _told = send(rt, primary, went);
         }
     }
 }
@@ -40,7 +54,8 @@ fn outputs_of(machine: &Machine, hart: Hart) -> u64
 
 /// Notes how far a hart's outputs went out. A note for which there is no memory is left out.
 fn note(book: &mut Book<Recording>, went: Went)
-    ensures { OnlyNotes book.old book.new }
+    ensures only { OnlyNotes book.old book.new }
+    ensures told { NotesUpTo book.old went.hart (went.last + 1) book.new }
 {
     let Went { hart, last } = went;
     if hart.index() >= usize::from(book.machine().harts()) {

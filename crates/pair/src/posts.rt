@@ -3,6 +3,7 @@
 ghost use Rattle.std.specs.Prelude.{◌≡◌, IfOk};
 ghost use Rattle.ack_core.specs.Seats.{harts_of};
 ghost use Rattle.guest_image.specs.Image.{guest_of};
+ghost use Rattle.log_join.specs.Stores.{nothing};
 ghost use Rattle.pair.specs.Posts.{AreKeepersOf, ArePostsOf};
 
 use crate::holding::Held;
@@ -69,7 +70,7 @@ fn new_post(
     place: usize,
     tally: &Arc<Tally, Global>,
 ) -> Result<(Post, Sender<ToKeeper, Global>), Memory>
-    ensures { IfOk result (λ r. (r.0.seat ≡ seat) × (r.0.store.guest ≡ guest_of image.now)) }
+    ensures { IfOk result (λ r. (r.0.seat ≡ seat) × (r.0.store ≡ nothing (guest_of image.now))) }
 {
     let (sender, frames) = unbounded(alloc)?;
     let store = Held::new(alloc, image, is_warm)?;

@@ -102,7 +102,7 @@ fn write_parts<W: Sink>(
 }
 
 /// Writes what a pair came to.
-pub(crate) fn write_pair<W: Sink>(end: &PairEnd, out: &mut W) -> Result<(), Failed>
+pub fn write_pair<W: Sink>(end: &PairEnd, out: &mut W) -> Result<(), Failed>
     ensures { Writes result (W.bytes out.old) (W.bytes out.new) (W.failures out.old) (W.failures out.new) (pair_text end.now) }
 {
     write_parts(&end.released, end.kept, end.book.machine(), out)
@@ -127,7 +127,7 @@ fn write_begun<W: Sink>(steps: u64, machine: &Machine, out: &mut W) -> Result<()
 }
 
 /// Writes what a pair with a warm keeper came to, and what the new primary has.
-pub(crate) fn write_warm<W: Sink>(end: &WarmEnd, out: &mut W) -> Result<(), Failed>
+pub fn write_warm<W: Sink>(end: &WarmEnd, out: &mut W) -> Result<(), Failed>
     ensures { Writes result (W.bytes out.old) (W.bytes out.new) (W.failures out.old) (W.failures out.new) (warm_text end.now) }
 {
     write_parts(&end.released, end.kept, end.book.machine(), out)?;

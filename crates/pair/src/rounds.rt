@@ -2,7 +2,7 @@
 
 ghost use Rattle.std.specs.Prelude.{◌≡◌, length};
 ghost use Rattle.ft_types.specs.Counts.{IsWithin};
-ghost use Rattle.pair.specs.Rounds.{IsRoundFrom};
+ghost use Rattle.pair.specs.Rounds.{AreRoundsFrom};
 
 use ft_types::{Count, Counts, Hart};
 
@@ -32,27 +32,19 @@ pub(crate) fn has_gone_on(before: &Counts, now: &Counts) -> bool {
     false
 }
 
-/// Where a round ends that begins at these counts: each hart's is so many steps further, or the budget where that comes first.
-pub(crate) fn round_end(counts: Counts, budget: u32) -> Counts
+/// Where so many rounds end that begin at these counts: each hart's is so many times a round's steps further, or the budget where that comes first.
+pub(crate) fn rounds_on(counts: Counts, budget: u32, rounds: u64) -> Counts
     ensures harts { length result ≡ length counts }
-    ensures round { IsRoundFrom counts budget result }
+    ensures rounds { AreRoundsFrom counts budget rounds result }
     ensures forward { IsWithin counts result }
 {
     let mut end = counts;
+    let steps = rounds.saturating_mul(ROUND);
     for number in 0..counts.harts() {
         let hart = Hart::new(number);
         let count = counts.get(hart);
-        let goal = Count::from(budget).min(count + ROUND);
+        let goal = Count::from(budget).min(count.saturating_add(steps));
         end.set(hart, count.max(goal));
-    }
-    end
-}
-
-/// Where so many rounds end, one behind the other.
-pub(crate) fn rounds_on(counts: Counts, budget: u32, rounds: u64) -> Counts {
-    let mut end = counts;
-    for _round in 0..rounds {
-        end = round_end(end, budget);
     }
     end
 }

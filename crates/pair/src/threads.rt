@@ -8,17 +8,17 @@ ghost use Rattle.log_streams.specs.Primary.{IsRunOf};
 ghost use Rattle.primary.specs.Outputs.{outputs_in};
 ghost use Rattle.pair.specs.Leading.{HasLed};
 ghost use Rattle.pair.specs.Posts.{ArePostsOf, IsPostOf, IsWatchOf, MayLead};
-ghost use Rattle.pair.specs.Released.{IsPartOf, is_among};
+ghost use Rattle.pair.specs.Released.{AreNotesOut, IsPartOf, is_among};
 ghost use Rattle.pair.specs.Serving.{AreHad, AreServed, IsHeard, IsHeldOnTheWay, IsServed};
 
 use crate::apart::is_apart;
+use crate::beside::released_of;
 use crate::gate_thread::{GateEnd, guard};
 use crate::holding::Held;
 use crate::keeper_thread::{Served, serve};
 use crate::posts::{Post, PrimaryPost, Watch, man_posts};
 use crate::primary_thread::lead;
 use crate::printing::{write_pair, write_warm};
-use crate::released::released_in;
 use crate::settling::stores_of;
 use crate::tally::Tally;
 use crate::telling::outputs_in_all;
@@ -121,9 +121,11 @@ fn run_all<R: Threads + Wait + Sync>(
     requires primary { MayLead primary_post }
     requires harts { 0 < harts_of board.now }
     ensures led { IfOk result (λ end. HasLed primary_post.primary.book end.book) }
+    ensures stores { IfOk result (λ end. length end.stores.items ≡ keepers_of board.now) }
     ensures inside { IfOk result (λ end. AllByRecursion (IsHeldOnTheWay end.stores.items (term_of board.now) watch.gate.need) end.released.items) }
     ensures part { IfOk result (λ end. IsPartOf end.released.items (outputs_in end.book.machine)) }
     ensures kept { IfOk result (λ end. length end.released.items + end.kept ≡ length (outputs_in end.book.machine)) }
+    ensures noted { IfOk result (λ end. AreNotesOut end.book end.released.items) }
 {
     let ((gate, served), book) = thread::join(
         rt,
@@ -160,6 +162,7 @@ fn end_of(
     ensures released { IfOk result (λ end. end.released.items ≡ filter (is_among gate.released.items) (outputs_in book.machine)) }
     ensures kept { IfOk result (λ end. length end.released.items + end.kept ≡ length (outputs_in book.machine)) }
     ensures rest { IfOk result (λ end. (end.early ≡ gate.early) × (end.book ≡ book)) }
+    ensures noted { IfOk result (λ end. AreNotesOut end.book end.released.items) }
 {
     let GateEnd {
         released,
@@ -167,7 +170,7 @@ fn end_of(
         seat,
     } = gate;
     let stores = stores_of(alloc, board, seat, served)?;
-    let released = released_in(alloc, book.machine(), &released)?;
+    let released = released_of(alloc, &book, &released)?;
     let kept = outputs_in_all(book.machine()) - released.len();
     Ok(PairEnd {
         released,
@@ -190,11 +193,14 @@ pub(crate) fn run_kept<R: Threads + Wait + Sync>(
 ) -> Result<PairEnd, Memory>
     requires { AreOffered image.now.harts script.now }
     ensures run { IfOk result (λ end. IsRunOf image.now script.now orders.now.budget end.book) }
+    // Each keeper's store.
+    ensures stores { IfOk result (λ end. length end.stores.items ≡ orders.now.quorum.keepers) }
     // As many keepers as are needed had each output inside a position, on the way to the stores that they are left with.
     ensures inside { IfOk result (λ end. AllByRecursion (IsHeldOnTheWay end.stores.items 1 orders.now.quorum.need) end.released.items) }
     // What went out is a part of what the primary's machine put out, in its order, and the rest is counted.
     ensures part { IfOk result (λ end. IsPartOf end.released.items (outputs_in end.book.machine)) }
     ensures kept { IfOk result (λ end. length end.released.items + end.kept ≡ length (outputs_in end.book.machine)) }
+    ensures noted { IfOk result (λ end. AreNotesOut end.book end.released.items) }
 {
     let primary = begin_primary(alloc, image, script, orders.budget())?;
     let (board, seats, seat) = Board::new(alloc, FIRST_TERM, image.harts(), orders.keepers())?;
@@ -236,11 +242,15 @@ pub fn run_pair<R: Threads + Wait + Sync>(
 ) -> Result<PairEnd, Memory>
     requires { AreOffered image.now.harts script.now }
     ensures run { IfOk result (λ end. IsRunOf image.now script.now orders.now.budget end.book) }
+    // Each keeper's store.
+    ensures stores { IfOk result (λ end. length end.stores.items ≡ orders.now.quorum.keepers) }
     // As many keepers as are needed had each output inside a position, on the way to the stores that they are left with.
     ensures inside { IfOk result (λ end. AllByRecursion (IsHeldOnTheWay end.stores.items 1 orders.now.quorum.need) end.released.items) }
     // What went out is a part of what the primary's machine put out, in its order, and the rest is counted.
     ensures part { IfOk result (λ end. IsPartOf end.released.items (outputs_in end.book.machine)) }
     ensures kept { IfOk result (λ end. length end.released.items + end.kept ≡ length (outputs_in end.book.machine)) }
+    // What the book notes went out.
+    ensures noted { IfOk result (λ end. AreNotesOut end.book end.released.items) }
 {
     run_kept(rt, alloc, image, script, orders, false)
 }

@@ -1,4 +1,4 @@
-use Rattle.std.proofs.Common.{◌≡◌, ◌≤◌, length, filter, ap, sym, ◌∙◌, arith}
+use Rattle.std.proofs.Common.{◌≡◌, ◌≤◌, length, filter, ap, arith}
 use Rattle.guest_image.specs.Machine.{MachineState}
 use Rattle.primary.specs.Outputs.{outputs_in}
 use Rattle.pair.specs.Released.{is_among}
@@ -7,19 +7,16 @@ use Rattle.pair.proofs.threads.end_of.Goals as goal
 
 pub overflow_sub-kept : goal.overflow_sub-kept
 overflow_sub-kept c =
-    let outputs = outputs_in c.machine.result.now in
+    let outputs = outputs_in c.args.book.machine in
     let few : length (filter (is_among c.deref.result.now) outputs) ≤ length outputs = no_more (is_among c.deref.result.now) outputs in
-    let given : length c.in_ok-released.released.items ≡ length (filter (is_among c.deref.result.now) outputs) = ap length c.in_ok-released.ensures in
-    let same : length (outputs_in c.machine-2.result.now) ≡ length outputs =
-    ap (λ (m : MachineState). length (outputs_in m)) (c.machine-2.ensures.value ∙ sym c.machine.ensures.value) in
+    let given : length c.in_ok-released.released.items ≡ length (filter (is_among c.deref.result.now) outputs) = ap length c.in_ok-released.ensures.released in
+    let same : length (outputs_in c.machine.result.now) ≡ length outputs = ap (λ (m : MachineState). length (outputs_in m)) c.machine.ensures.value in
     omega (arith, few, given, same, c.len.ensures, c.outputs_in_all.ensures, c.in_ok-released.released.ok.0)
 
 pub returns-clause-kept : goal.returns-clause-kept
 returns-clause-kept c =
-    let outputs = outputs_in c.machine.result.now in
+    let outputs = outputs_in c.args.book.machine in
     let few : length (filter (is_among c.deref.result.now) outputs) ≤ length outputs = no_more (is_among c.deref.result.now) outputs in
-    let given : length c.in_ok-released.released.items ≡ length (filter (is_among c.deref.result.now) outputs) = ap length c.in_ok-released.ensures in
-    let here : length outputs ≡ length (outputs_in c.args.book.machine) = ap (λ (m : MachineState). length (outputs_in m)) c.machine.ensures.value in
-    let all : length (outputs_in c.machine-2.result.now) ≡ length (outputs_in c.args.book.machine) =
-    ap (λ (m : MachineState). length (outputs_in m)) c.machine-2.ensures.value in
-    omega (arith, few, given, here, all, c.len.ensures, c.outputs_in_all.ensures, c.in_ok-released.released.ok.0)
+    let given : length c.in_ok-released.released.items ≡ length (filter (is_among c.deref.result.now) outputs) = ap length c.in_ok-released.ensures.released in
+    let same : length (outputs_in c.machine.result.now) ≡ length outputs = ap (λ (m : MachineState). length (outputs_in m)) c.machine.ensures.value in
+    omega (arith, few, given, same, c.len.ensures, c.outputs_in_all.ensures, c.in_ok-released.released.ok.0)

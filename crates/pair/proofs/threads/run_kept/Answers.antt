@@ -1,4 +1,4 @@
-use Rattle.std.proofs.Common.{arith, ◌<◌, ◌∙◌, ℕ, ap, sym, subst}
+use Rattle.std.proofs.Common.{arith, ◌≡◌, ◌<◌, ◌∙◌, ℕ, length, ap, sym, subst}
 use Rattle.output_gate.specs.Gates.{offered_in}
 use Rattle.output_gate.specs.Looks.{IsSeen}
 use Rattle.std.specs.List.{AllByRecursion}
@@ -53,3 +53,10 @@ returns-clause-inside g c =
     if_ok c.run_all.result (λ end. AllByRecursion (IsHeldOnTheWay end.stores.items 1 c.args.orders.now.quorum.need) end.released.items) said.inside said.inside said.inside
     (λ end inside _ _. subst (λ (n : ℕ). AllByRecursion (IsHeldOnTheWay end.stores.items 1 n) end.released.items) need
     (subst (λ (t : ℕ). AllByRecursion (IsHeldOnTheWay end.stores.items t c.new-gate.result.need) end.released.items) c.in_ok-board.ensures.board.0 inside))
+
+pub returns-clause-stores : goal.returns-clause-stores
+returns-clause-stores g c =
+    let said = c.run_all.ensures in
+    let keepers = c.in_ok-board.ensures.board.2 ∙ c.keepers.ensures.value in
+    if_ok c.run_all.result (λ end. length end.stores.items ≡ c.args.orders.now.quorum.keepers) said.stores said.stores said.stores
+    (λ end count _ _. count ∙ keepers)

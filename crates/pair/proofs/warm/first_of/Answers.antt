@@ -8,8 +8,11 @@ first_rest : (xs : List StoreView) (x : StoreView) → 0 < length xs → x ≡ g
 first_rest [] x some is = absurd (omega (arith, some))
 first_rest (y ∷ xs) x some is = ap (λ (s : StoreView). s ∷ xs) (sym is)
 
-pub returns-in-Some : goal.returns-in-Some
-returns-in-Some c =
+pub returns-clause-held : goal.returns-clause-held
+returns-clause-held c =
     first_rest c.args.held.items c.remove.result (omega arith) c.remove.ensures.value
     ∙ ap (λ (s : StoreView). s ∷ remove c.args.held.items 0) (sym c.in-Some.ensures)
     ∙ ap (λ (xs : List StoreView). c.in-Some.backup.store ∷ xs) (sym c.remove.ensures.items)
+
+pub returns-clause-image : goal.returns-clause-image
+returns-clause-image c = sym c.image.ensures.value ∙ c.is_same.ensures c.if-not-is_same.false
