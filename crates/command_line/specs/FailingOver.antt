@@ -15,7 +15,7 @@ use Rattle.primary.specs.Primaries.{IsBooted}
 use Rattle.failover_world.specs.Worlds.{WorldView}
 use Rattle.failover_world.specs.Happenings.{IsFresh, Happens}
 use Rattle.failover_world.specs.Refusals.{Refuses, IsLeft}
-use Rattle.failover_world.specs.Promises.{IsOne, IsOfMachine, IsKept, AreHeld, AreAckedInside}
+use Rattle.failover_world.specs.Promises.{IsOne, IsOfMachine, IsKept, AreHeld, AreAckedInside, AreNotesReleased, NoneIsNoted}
 use Rattle.log_streams.specs.declared.faults.StreamsFault.TheVariants.{Write}
 use Rattle.command_line.specs.declared.faults.CommandFault.{CommandFault}
 use Rattle.command_line.specs.declared.faults.CommandFault.TheVariants.{World, Streams, Memory}
@@ -40,7 +40,7 @@ HappenAll v [] w = w ≡ v
 HappenAll v (event ∷ events) w = (next : WorldView) × Happens v event next × HappenAll next events w
 
 -- Those events happened that stand before the one of this line, where the first has line 1, and that one was refused for this fault and
--- changed nothing.
+-- changed no more than one that is refused may.
 pub record RefusesOne (v : WorldView) (events : List Event) (line_number : ℕ) (fault : WorldFault) (w : WorldView) : Type 0 where
   pub front : List Event
   pub event : Event
@@ -59,6 +59,8 @@ pub record KeepsPromises (w : WorldView) : Type 0 where
   pub kept : IsKept w
   pub held : AreHeld w
   pub acknowledged : AreAckedInside w
+  pub noted : AreNotesReleased w
+  pub fresh : NoneIsNoted w
 
 -- all events happened to such a world
 abbrev pub ComesTo : ImageContents → ℕ → ℕ → List Event → WorldView → Type 0

@@ -15,8 +15,8 @@ use ft_types::{Sink, Source};
 use guest_image::{Image, read_image};
 use log_join::Store;
 use log_streams::{
-    PairOrders, Pairs, Quorum, Replays, Runs, StreamsFault, cut_streams, frames_of, read_store,
-    replay_streams, run_primary, write_frames, write_size, write_store,
+    PairOrders, Pairs, Quorum, Replays, Runs, StreamsFault, cut_streams, frames_of, list_store,
+    read_store, replay_streams, run_primary, write_frames, write_list, write_size,
 };
 use page_book::{Book, Recording};
 use scripts::{Offered, read_events, read_script};
@@ -155,8 +155,9 @@ fn write_joined<F: Files, W: Sink>(
     files: &mut F,
     out: &mut W,
 ) -> Result<(), CommandFault> {
+    let list = list_store(alloc, store)?;
     let mut made = make_file(request, files)?;
-    let size = write_store(alloc, store, &mut made)?;
+    let size = write_list(store, &list, &mut made)?;
     written(write_size(&size, out))
 }
 

@@ -9,7 +9,10 @@ mod faults;
 mod files;
 mod words;
 
+pub use audits::audit_streams;
 pub use commands::{command, no_output, no_request};
+pub use failing_over::fail_over;
+pub use faults::CommandFault;
 pub use files::Files;
 pub use log_streams::{PairOrders, Pairs};
 pub use word_forms::WordsFault;

@@ -12,6 +12,7 @@ use Rattle.guest_image.specs.Image.{ImageContents, guest_of}
 use Rattle.closed_cut.specs.Chain.{IsChain}
 use Rattle.closed_cut.specs.Position.{IsPosition}
 use Rattle.ft_types.specs.declared.position.Position.{Position}
+use Rattle.log_streams.specs.declared.stores.StoreList.{StoreList}
 use Rattle.log_streams.specs.declared.stores.StoreSize.{StoreSize}
 use Rattle.log_streams.specs.declared.faults.StreamsFault.{StreamsFault}
 use Rattle.log_streams.specs.declared.faults.StreamsFault.TheVariants.{Write, Memory}
@@ -36,6 +37,11 @@ openings_text store terms = flat_map (λ term. opening_bytes (opening_at store t
 
 abbrev pub fragments_text : StoreView → List Key → List ℕ
 fragments_text store keys = flat_map (λ key. fragment_bytes (fragment_at store key)) keys
+
+-- the terms of its openings with one content, and the keys of such fragments
+pub record IsListOf (store : StoreView) (list : StoreList) : Type 0 where
+  pub are_terms : AreTerms store list.terms.items
+  pub are_keys : AreKeys store list.keys.items
 
 -- the openings with one content by rising term, and then the fragments with one content by rising key
 pub record IsStoreText (store : StoreView) (text : List ℕ) : Type 0 where

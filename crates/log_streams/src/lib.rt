@@ -22,5 +22,8 @@ pub use pairs::{PairOrders, Pairs, WarmFault};
 pub use reading::read_store;
 pub use replays::{Plainly, Replays};
 pub use runs::Runs;
-pub use stores::{StoreSize, cut_streams, write_frames, write_size, write_store};
+pub use stores::{
+    StoreList, StoreSize, cut_streams, list_store, write_frames, write_list, write_size,
+    write_store,
+};
 pub use streams::replay_streams;

@@ -8,7 +8,7 @@ ghost use Rattle.log_join.specs.Stores.{opening_at, fragment_at};
 ghost use Rattle.log_streams.specs.declared.faults.StreamsFault.TheVariants.{Write, Memory as NoMemory};
 ghost use Rattle.log_streams.specs.Streams.{OfStreams};
 ghost use Rattle.log_streams.specs.Writing.{WritesOne};
-ghost use Rattle.log_streams.specs.Stores.{opening_bytes, fragment_bytes, openings_text, fragments_text, IsStoreText, IsSizeOf, size_line};
+ghost use Rattle.log_streams.specs.Stores.{opening_bytes, fragment_bytes, openings_text, fragments_text, IsListOf, IsStoreText, IsSizeOf, size_line};
 ghost use Rattle.log_streams.specs.Stores.{chain_line, position_head, position_line, IsCutText, IsCutOf, IsCutCause};
 
 use crate::faults::StreamsFault;
@@ -16,7 +16,7 @@ use crate::lines::{write_counts_line, write_terms};
 use crate::reading::read_store;
 use closed_cut::{Position, chain, position};
 use fragment_codec::{Frame, Key, write_frame};
-use ft_types::{Failed, LineBuffer, Sink, Source, Term, write_all};
+use ft_types::{Failed, LineBuffer, Memory, Sink, Source, Term, write_all};
 use guest_image::Image;
 use log_join::{Found, Store};
 use std::alloc::Global;
@@ -30,6 +30,15 @@ pub struct StoreSize {
     pub fragments: usize,
     /// Keys with several contents.
     pub clashes: usize,
+}
+
+/// The keys of a store at which one content stands, in the order in which they are written.
+#[derive(Drop)]
+pub struct StoreList {
+    /// Of openings.
+    pub terms: Vec<Term>,
+    /// Of fragments.
+    pub keys: Vec<Key>,
 }
 
 fn write_one<W: Sink>(frame: &Frame, out: &mut W) -> Result<(), StreamsFault>
@@ -103,6 +112,36 @@ fn write_listed<W: Sink>(
     write_fragments(store, keys, out)
 }
 
+/// Lists the keys of a store at which one content stands.
+pub fn list_store(alloc: Global, store: &Store) -> Result<StoreList, Memory>
+    ensures { IfOk result (λ list. IsListOf store.now list) }
+{
+    let terms = store.terms(alloc)?;
+    let keys = store.keys(alloc)?;
+    Ok(StoreList { terms, keys })
+}
+
+/// Writes the openings, then the fragments, of a store that was listed, each by rising key. It takes no memory.
+pub fn write_list<W: Sink>(
+    store: &Store,
+    list: &StoreList,
+    out: &mut W,
+) -> Result<StoreSize, StreamsFault>
+    requires { IsListOf store.now list.now }
+    ensures written { WritesOne Write (IsStoreText store.now) result (W.bytes out.old) (W.bytes out.new) (W.failures out.old) (W.failures out.new) }
+    ensures size { IfOk result (λ size. IsSizeOf store.now size) }
+    ensures fault { IfErr result (λ fault. fault ≡ Write) }
+{
+    match write_listed(store, &list.terms, &list.keys, out) {
+        Ok(()) => Ok(StoreSize {
+            openings: list.terms.len(),
+            fragments: list.keys.len(),
+            clashes: store.clashes(),
+        }),
+        Err(_) => Err(StreamsFault::Write),
+    }
+}
+
 /// Writes the openings, then the fragments, each by rising key. A key with several contents is passed over.
 pub fn write_store<W: Sink>(
     alloc: Global,
@@ -113,16 +152,8 @@ pub fn write_store<W: Sink>(
     ensures size { IfOk result (λ size. IsSizeOf store.now size) }
     ensures fault { IfErr result (λ fault. (fault ≡ Write) ⊎ (fault ≡ NoMemory)) }
 {
-    let terms = store.terms(alloc)?;
-    let keys = store.keys(alloc)?;
-    match write_listed(store, &terms, &keys, out) {
-        Ok(()) => Ok(StoreSize {
-            openings: terms.len(),
-            fragments: keys.len(),
-            clashes: store.clashes(),
-        }),
-        Err(_) => Err(StreamsFault::Write),
-    }
+    let list = list_store(alloc, store)?;
+    write_list(store, &list, out)
 }
 
 /// Writes how many keys a store has.

@@ -52,6 +52,6 @@ returns g c =
       written = refused_told c.args.image.now c.args.quorum.keepers c.args.quorum.need c.args.events.items c.in_ok-world.world c.apply_all.new.world _ _ _ _
           c.in-Err.fault (begins_as c.args.image.now c.keepers.result c.need.result c.args.quorum.keepers c.args.quorum.need c.in_ok-world.world
           c.keepers.ensures.value c.need.ensures.value begins) c.in-Err.ensures
-          (record { one = out.one; machine = out.machine; kept = out.kept; held = out.held; acknowledged = out.acknowledged })
+          (record { one = out.one; machine = out.machine; kept = out.kept; held = out.held; acknowledged = out.acknowledged; noted = out.noted; fresh = out.fresh })
           (c.write_released-told.result, subst told out.value c.write_released-told.ensures);
     }
