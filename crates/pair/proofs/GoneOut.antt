@@ -17,7 +17,7 @@ AreFirst released many = (hart number : ℕ) → number < slice_index many hart 
 pub none_first : (n : ℕ) (released : List Output) → AreFirst released (replicate n 0)
 none_first n released hart number below =
     let none : slice_index (replicate n 0) hart ≡ 0 = ⊎_elim (λ (lt : hart < n). get_or-replicate n hart 0 0 lt)
-    (λ (le : n ≤ hart). get_or_past (replicate n 0) hart 0 (omega (arith, length-replicate n 0, le))) (cases_lt hart n) in
+    (λ (le : n ≤ hart). get_or_past (replicate n 0) hart 0 (omega (arith, length-replicate {A = ℕ} n 0, le))) (cases_lt hart n) in
     absurd (omega (arith, none, below))
 
 -- what has gone out has gone out where one more does

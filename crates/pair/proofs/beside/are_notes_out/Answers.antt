@@ -1,6 +1,7 @@
 use Rattle.std.proofs.Common.{◌≡◌, ◌<◌, ◌≤◌, ⊎_elim, ℕ, List, length, slice_index, arith, ap, subst, sym, ◌∙◌}
 use Rattle.std.specs.List.{Contains}
 use Rattle.std.proofs.lemmas.Bool.{cases_eq}
+use Rattle.guest_image.specs.Machine.{MachineState}
 use Rattle.input_log.specs.Notes.{NotesOfOne, notes_of}
 use Rattle.pair.proofs.GoneOut.{upto_more}
 use Rattle.pair.proofs.beside.are_notes_out.Goals as goal
@@ -21,5 +22,6 @@ pub returns : goal.returns
 returns c = λ yes hart number note within there below.
     let over = c.loop-number-test.false in
     let many = c.harts-number-end.ensures.value in
-    let few = c.loop-number.invariant hart note (omega (arith, over, many, within)) there in
+    let here : hart < length c.machine.result.now.harts = subst (λ (m : MachineState). hart < length m.harts) (sym c.machine.ensures.value) within in
+    let few = c.loop-number.invariant hart note (omega (arith, over, many, here)) there in
     c.first_ones-many.ensures hart number (omega (arith, few, below))

@@ -1,4 +1,4 @@
-use Rattle.std.proofs.Common.{◌≡◌, ◌<◌, ◌≤◌, ◌+◌, ◌++◌, ◌∷◌, [], ⊎_elim, ℕ, List, length, take, arith, ap, subst, sym, ◌∙◌}
+use Rattle.std.proofs.Common.{◌≡◌, ◌<◌, ◌≤◌, ◌+◌, ◌++◌, ◌∷◌, [], ⊎_elim, ℕ, List, get_or, length, take, arith, subst, sym, ◌∙◌}
 use Rattle.std.specs.List.{Contains}
 use Rattle.std.proofs.lemmas.List.{take_more, take_all}
 use Rattle.std.proofs.lemmas.List.Elements.{Contains-push_cases}
@@ -11,10 +11,10 @@ pub loop-note-preserved : goal.loop-note-preserved
 loop-note-preserved c = λ note there.
     let notes = c.args.notes.now in
     let i = c.loop-note.note-index in
-    let item = c.note-item.result in
+    let item = get_or notes i (0, 0) in
     let more : take (i + 1) notes ≡ take i notes ++ item ∷ [] =
-    take_more notes i item (omega arith) ∙ ap (λ (x : ℕ × ℕ). take i notes ++ x ∷ []) (sym c.note-item.is) in
-    let few : item.1 ≤ c.args.many = omega (arith, c.if-note-many.false) in
+    take_more notes i (0, 0) c.loop-note-test.true in
+    let few : item.1 ≤ c.args.many = c.if-note-many.false in
     ⊎_elim (λ (was : Contains (take i notes) note). c.loop-note.invariant note was)
     (λ (is : item ≡ note). subst (λ (x : ℕ × ℕ). x.1 ≤ c.args.many) is few)
     (Contains-push_cases (take i notes) item note (subst (λ (xs : List (ℕ × ℕ)). Contains xs note) more there))

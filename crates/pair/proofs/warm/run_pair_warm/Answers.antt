@@ -1,5 +1,7 @@
-use Rattle.std.proofs.Common.{inl, inr}
+use Rattle.std.proofs.Common.{List, inl, inr, subst}
 use Rattle.std.proofs.lemmas.Result.{err_from_is_err_and}
+use Rattle.ft_types.specs.declared.output.Output.{Output}
+use Rattle.pair.specs.Warm.{AreMarksOut}
 use Rattle.pair.proofs.warm.run_pair_warm.Goals as goal
 
 pub returns-clause-live : goal.returns-clause-live
@@ -10,6 +12,10 @@ returns-clause-live g c = record {
   goes_on = c.in_ok-live.ensures.live;
   replayed = c.in_ok-live.ensures.steps;
 }
+
+pub returns-clause-marks : goal.returns-clause-marks
+returns-clause-marks g c =
+    subst (λ (xs : List Output). AreMarksOut c.in_ok-live.live.marks xs) c.deref.ensures.value (c.knows.ensures.marks c.if-not-knows.false)
 
 pub returns-in_err-released-clause-refused : goal.returns-in_err-released-clause-refused
 returns-in_err-released-clause-refused g c =
