@@ -1,5 +1,5 @@
 -- Why no primary goes live from what all keepers hold.
-use Rattle.std.proofs.Common.{◌≡◌, ◌≢◌, ◌<◌, ◌≤◌, ◌+◌, ◌-◌, ◌∙◌, ◌⊎◌, ⊎_elim, ℕ, List, ◌∷◌, ap, inl, inr, refl, subst, sym, arith}
+use Rattle.std.proofs.Common.{◌≡◌, ◌≢◌, ◌<◌, ◌≤◌, ◌+◌, ◌-◌, ◌∙◌, ◌⊎◌, ⊎_elim, ℕ, suc, List, ◌∷◌, ap, inl, inr, refl, subst, sym, arith}
 use Rattle.std.specs.List.{Any, range_with_len}
 use Rattle.log_join.specs.Stores.{StoreView}
 use Rattle.guest_image.specs.Image.{ImageContents, guest_of}
@@ -10,7 +10,7 @@ use Rattle.go_live.specs.declared.fault.LiveFault.{LiveFault}
 use Rattle.go_live.specs.declared.fault.LiveFault.TheVariants.{TooFewStores, TermNotNew, Replay, Memory}
 use Rattle.go_live.specs.Faults.{IfReplay, live_fault_of}
 use Rattle.go_live.specs.Lives.{LeadNowhere}
-use Rattle.go_live.specs.Quorums.{distinct, IsOld}
+use Rattle.go_live.specs.Quorums.{distinct_below, IsOld}
 use Rattle.pair.specs.Warm.{IsRefused, IsReplayFault}
 use Rattle.pair.proofs.Numbers.{all_differ}
 
@@ -35,15 +35,17 @@ refused_keep image first others why is = ⊎_elim
 
 -- all keepers are enough
 enough_here : (numbers : List ℕ) (n keepers need : ℕ) → numbers ≡ range_with_len 1 n → n + 1 ≡ keepers → keepers ≤ 5 → 0 < need →
-    distinct (0 ∷ numbers) < keepers - need + 1 → ⊥
+    distinct_below keepers (0 ∷ numbers) < keepers - need + 1 → ⊥
 enough_here numbers n keepers need are all most some few =
-    let many : distinct (0 ∷ numbers) ≡ n + 1 = ap (λ (ns : List ℕ). distinct (0 ∷ ns)) are ∙ all_differ n (omega arith) in
+    let of : keepers ≡ suc n = omega (arith, all) in
+    let many : distinct_below keepers (0 ∷ numbers) ≡ n + 1 =
+    ap (λ (k : ℕ). distinct_below k (0 ∷ numbers)) of ∙ ap (λ (ns : List ℕ). distinct_below (suc n) (0 ∷ ns)) are ∙ all_differ n (omega arith) in
     omega (arith, many, all, some, few)
 
 -- what all of them tell is no history that a primary of term 2 goes on from
 pub refused_all : (image : ImageContents) (stores : List StoreView) (numbers : List ℕ) (n keepers need : ℕ) (fault : LiveFault) →
     numbers ≡ range_with_len 1 n → n + 1 ≡ keepers → keepers ≤ 5 → 0 < need →
-    (fault ≡ TooFewStores → distinct (0 ∷ numbers) < keepers - need + 1) → (fault ≡ TermNotNew → IsOld stores 2) →
+    (fault ≡ TooFewStores → distinct_below keepers (0 ∷ numbers) < keepers - need + 1) → (fault ≡ TermNotNew → IsOld stores 2) →
     (fault ≡ Replay OtherGuest → Any (λ store. store.guest ≢ guest_of image) stores) →
     IfReplay fault (λ why. why ≢ OtherGuest → LeadNowhere image stores why) → IsRefused image stores fault
 refused_all image stores numbers n keepers need TooFewStores are all most some few old other nowhere =

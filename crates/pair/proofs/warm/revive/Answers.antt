@@ -7,7 +7,7 @@ use Rattle.go_live.specs.Joined.{AreJoined}
 use Rattle.go_live.specs.Lives.{IsAtPosition}
 use Rattle.go_live.specs.declared.fault.LiveFault.{LiveFault}
 use Rattle.go_live.specs.Faults.{live_fault_of}
-use Rattle.go_live.specs.Quorums.{distinct}
+use Rattle.go_live.specs.Quorums.{distinct_below}
 use Rattle.pair.specs.Warm.{IsRefused}
 use Rattle.pair.proofs.Refusing.{refused_memory, refused_keep, refused_all}
 use Rattle.pair.proofs.warm.revive.Goals as goal
@@ -98,7 +98,7 @@ returns-in_err-live-clause-refused c =
     (subst (λ (ss : List StoreView). IsRefused backup.image ss fault) held
     (refused_all backup.image (backup.store ∷ map (λ s. s.1.now) c.as_slice.result.now) numbers n c.keepers-keepers.result c.need.result fault are many
     c.keepers-keepers.ensures.limit c.need.ensures.some
-    (λ e. subst (λ (k : ℕ). distinct (k ∷ numbers) < c.keepers-keepers.result - c.need.result + 1) c.new.ensures (said.too_few.0 (ap (λ (f : LiveFault). Err f) e)))
+    (λ e. subst (λ (k : ℕ). distinct_below c.keepers-keepers.result (k ∷ numbers) < c.keepers-keepers.result - c.need.result + 1) c.new.ensures (said.too_few.0 (ap (λ (f : LiveFault). Err f) e)))
     (λ e. (said.not_new.0 (ap (λ (f : LiveFault). Err f) e)).1)
     (λ e. (said.other_guest.0 (ap (λ (f : LiveFault). Err f) e)).2)
     said.replay)))
