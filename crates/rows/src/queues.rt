@@ -130,7 +130,8 @@ timers|1023
 next|00000070
 00000080 8|taken
 00000090 9|busy
-words|9
+next|timer
+00000090 9|taken
 ";
 
 #[test]
