@@ -245,6 +245,7 @@ elif [ -x "$live" ] && command -v bash > /dev/null; then
         echo "left out processes in two network namespaces, since there is no socat or no right to make them"
     fi
     drills 'what goes amiss between processes' amiss.sh
+    drills 'paths that are torn, removed, or read by nobody' paths.sh
 fi
 
 # Each row of refused file calls with three of them, and what is changed by chance for five seconds.
