@@ -252,6 +252,7 @@ elif [ -x "$live" ] && command -v bash > /dev/null; then
     else
         fail 'processes whose power fails' < "$work/drills"
     fi
+    drills 'paths that are torn, removed, or read by nobody' paths.sh
 fi
 
 # Each row of refused file calls with three of them, and what is changed by chance for five seconds.

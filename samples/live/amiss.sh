@@ -233,7 +233,7 @@ is 'keepers and primaries have no fault' '' "$(cat faults.*)"
 for k in 0 1 2; do cp "log.$k" "before.$k"; done
 { head -n -1 words; echo 03080001; } > other.words
 lead 2 .b copy.1 copy.2
-"$live" client other.words 8 300 to in.b from out.b > other.answers 2> /dev/null &
+(exec "$live" client other.words 8 300 to in.b from out.b > other.answers 2> /dev/null) &
 client=$!
 for k in 0 1 2; do ends "two primaries of one term, keeper $k" "${keeper[$k]}" 'fault input 1 clash' "faults.$k"; done
 stop "$client"

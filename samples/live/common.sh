@@ -1,4 +1,4 @@
-# What the drills of `live` share: read by drill.sh, power.sh and carried.sh, which are given LIVE and WORKBENCH, the built programs, by themselves those that
+# What the drills of `live` share: read by drill.sh, power.sh, carried.sh and paths.sh, which are given LIVE and WORKBENCH, the built programs, by themselves those that
 # `rt run` leaves. It sets `live`, `workbench`, `top` and the folder `work`, which goes at the end with all that the script started.
 set -u
 top=$(cd "$(dirname "$0")/../.." && pwd)

@@ -32,8 +32,9 @@ pub fn row<E: Drop>(alloc: Global, room: usize) -> Result<(Sender<E>, Receiver<E
 
 /// Who takes the events. A thread that has left some asks it to serve, so that what they ask for can be done by that thread, and none has to be woken for it.
 pub trait Taker<R: AllocGlobal + Wait>: Send + Sync + Drop + 'static {
-    /// Takes the events that are there, or leaves them to a thread that looks for them behind this call.
-    fn serve(&self, rt: &R);
+    /// Takes the events that are there, or leaves them to a thread that looks for them behind this call. The thread of the input with the number `by` may be
+    /// made to wait in it, since a spare one can go on in its place; any other one may not.
+    fn serve(&self, rt: &R, by: Option<usize>);
 }
 
 /// A thread of its own takes them, as they come.
@@ -41,7 +42,7 @@ pub trait Taker<R: AllocGlobal + Wait>: Send + Sync + Drop + 'static {
 pub struct Waiting;
 
 impl<R: AllocGlobal + Wait> Taker<R> for Waiting {
-    fn serve(&self, _rt: &R) {}
+    fn serve(&self, _rt: &R, _by: Option<usize>) {}
 }
 
 /// Where the thread of an input or an output leaves events.
@@ -83,7 +84,7 @@ fn leave<H: Host, E: Drop, T: Taker<H>>(rt: &H, door: &Door<E, T>, event: E) -> 
     match door.to.try_send(rt, event) {
         Ok(()) => Ok(()),
         Err(TrySendError::Full(event)) | Err(TrySendError::OutOfMemory(event)) => {
-            door.taker.serve(rt);
+            door.taker.serve(rt, None);
             send(rt, &door.to, event)
         }
         Err(TrySendError::Disconnected(_)) => Err(Gone),
@@ -96,7 +97,17 @@ pub fn bring<H: Host, E: Drop, T: Taker<H>>(
     door: &Door<E, T>,
     event: E,
 ) -> Result<(), Gone> {
+    bring_as(rt, door, event, None)
+}
+
+/// Leaves an event, and has it taken, on the thread of the input with the number `by`, which spare threads relieve.
+pub(crate) fn bring_as<H: Host, E: Drop, T: Taker<H>>(
+    rt: &H,
+    door: &Door<E, T>,
+    event: E,
+    by: Option<usize>,
+) -> Result<(), Gone> {
     leave(rt, door, event)?;
-    door.taker.serve(rt);
+    door.taker.serve(rt, by);
     Ok(())
 }

@@ -1,6 +1,8 @@
 //! The ends of a process: files, a thread for each input and each output, over files or FIFOs, and what can go wrong.
 #![tactic(auto)]
 
+mod attempts;
+mod connection;
 mod events;
 mod faults;
 mod files;
@@ -9,9 +11,11 @@ mod listening;
 mod posting;
 mod unread;
 
+pub use attempts::Attempts;
+pub use connection::{Keeps, Pen};
 pub use events::{Door, Event, Gone, Receiver, Sender, Taker, Waiting, bring, row};
 pub use faults::{Fault, Frames, FramesFault, NamedFile, file_fault, name_at, refuse, tell};
 pub use files::{is_fifo, read_file, remove_file, sync_folder};
 pub use host::{Host, Paths};
-pub use listening::listen_all;
-pub use posting::{Keeps, Post, begin_posts, leave_all};
+pub use listening::{Relief, listen_all};
+pub use posting::{Post, Writer, begin_posts, leave_all};

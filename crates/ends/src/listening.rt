@@ -1,109 +1,277 @@
-//! A thread for each input: it opens the path, reads lines to its end, and opens it again where it is a FIFO.
+//! A thread for each input: it opens the path, reads lines to its end, and opens it again where it is a FIFO. Where such a thread does not come back from
+//! what it brought, a spare one goes on in its place.
 
-use crate::events::{Door, Event, Gone, Taker, bring};
+use crate::attempts::Attempts;
+use crate::events::{Door, Event, Gone, Taker, bring_as};
 use crate::faults::{Fault, NamedFile};
 use crate::files::is_fifo;
 use crate::host::Host;
+use crossbeam_channel::{Receiver, Sender, bounded};
 use ft_types::Memory;
+use std::alloc::Global;
 use std::fs::File;
 use std::io::Read;
+use std::sync::{Arc, Mutex, Wait};
 use std::thread;
-use wire::LineFeed;
+use wire::{LineFeed, LineText};
 
 /// How many bytes are read at once.
 const PIECE: usize = 4096;
 
+/// Where an input is read, which one thread does at a time.
+#[derive(Drop)]
+struct Source {
+    /// None between connections.
+    file: Option<File>,
+    /// The file of the connection before, which stays open until the next one is: so whoever writes there meanwhile meets a reader.
+    before: Option<File>,
+    feed: LineFeed,
+    attempts: Attempts,
+    comes_again: bool,
+}
+
+/// Why nothing comes any more.
+#[derive(Clone, Copy)]
+enum Stop {
+    /// The input is at its end, for good.
+    Ended,
+    Failed(Fault),
+}
+
 /// An input.
 #[derive(Drop)]
-struct Input<T: Drop> {
+struct Input {
     number: usize,
     path: String,
+    source: Mutex<Source>,
+}
+
+/// Inputs, and where their threads are relieved.
+#[derive(Drop)]
+struct Hall<T: Drop> {
+    inputs: Vec<Input>,
     to: Door<Event, T>,
+    /// Whether there are spare threads.
+    has_spares: bool,
+    calls: Receiver<usize, Global>,
 }
 
-/// Tells that the process can't go on.
-fn fail<H: Host, T: Taker<H>>(rt: &H, input: &Input<T>, fault: Fault) -> Gone {
-    let _told = bring(rt, &input.to, Event::Failed(fault));
-    Gone
+/// By it a spare thread is called to an input.
+#[derive(Drop)]
+pub struct Relief {
+    first: usize,
+    calls: Sender<usize, Global>,
 }
 
-/// Takes the next piece of a connection.
-fn take<H: Host, T: Taker<H>>(
-    rt: &H,
-    input: &Input<T>,
-    feed: &mut LineFeed,
-    piece: &[u8],
-) -> Result<(), Gone> {
-    match feed.push(rt.alloc(), piece) {
-        Ok(lines) if lines.is_empty() => Ok(()),
-        Ok(lines) => bring(rt, &input.to, Event::Lines(input.number, lines)),
-        Err(Memory) => Err(fail(rt, input, Fault::Memory)),
+impl Relief {
+    /// Calls a spare thread to the input with this number, whose own one does not come back.
+    pub fn call<R: Wait>(&self, rt: &R, number: usize) {
+        let _left = self.calls.try_send(rt, number.saturating_sub(self.first));
     }
 }
 
-/// One connection, to its end. A line of which only a beginning came goes with it.
-fn read<H: Host, T: Taker<H>>(rt: &H, input: &Input<T>, file: &mut File) -> Result<(), Gone> {
-    let mut feed = LineFeed::new();
-    let mut piece = [0; PIECE];
-    for _ in rt.forever() {
-        let Ok(count) = file.read(&mut piece) else {
-            return Err(fail(rt, input, Fault::File(NamedFile::Input(input.number))));
+impl Source {
+    fn new() -> Source {
+        Source {
+            file: None,
+            before: None,
+            feed: LineFeed::new(),
+            attempts: Attempts::new(),
+            comes_again: false,
+        }
+    }
+
+    /// Begins a connection. A line of which only a beginning came went with the one before.
+    fn begin(&mut self, file: File) {
+        self.comes_again = is_fifo(&file);
+        self.attempts.open(self.comes_again);
+        self.feed = LineFeed::new();
+        self.file = Some(file);
+        self.before = None;
+    }
+
+    /// Ends a connection.
+    fn end(&mut self, alloc: Global) -> Result<Vec<LineText>, Stop> {
+        self.attempts.go_well();
+        self.before = self.file.take();
+        if self.comes_again {
+            Ok(Vec::new(alloc))
+        } else {
+            Err(Stop::Ended)
+        }
+    }
+
+    /// Opens the path.
+    fn open<H: Host>(&mut self, rt: &H, input: &Input) -> Result<Vec<LineText>, Stop> {
+        match rt.open(input.path.as_str()) {
+            Ok(file) => {
+                self.begin(file);
+                Ok(Vec::new(rt.alloc()))
+            }
+            Err(_) => self.fail(rt, input),
+        }
+    }
+
+    /// Opens the path, or reads a piece: the lines that ended in it.
+    fn read<H: Host>(
+        &mut self,
+        rt: &H,
+        input: &Input,
+        piece: &mut [u8],
+    ) -> Result<Vec<LineText>, Stop> {
+        let Some(file) = &mut self.file else {
+            return self.open(rt, input);
         };
-        if count == 0 {
+        match file.read(piece) {
+            Ok(0) => self.end(rt.alloc()),
+            Ok(count) => self.take(rt.alloc(), &piece[..count]),
+            Err(_) => self.fail(rt, input),
+        }
+    }
+
+    /// Takes a piece.
+    fn take(&mut self, alloc: Global, piece: &[u8]) -> Result<Vec<LineText>, Stop> {
+        self.attempts.go_well();
+        match self.feed.push(alloc, piece) {
+            Ok(lines) => Ok(lines),
+            Err(Memory) => Err(Stop::Failed(Fault::Memory)),
+        }
+    }
+
+    /// Hears that the path can't be opened, or read.
+    fn fail<H: Host>(&mut self, rt: &H, input: &Input) -> Result<Vec<LineText>, Stop> {
+        let fault = Fault::File(NamedFile::Input(input.number));
+        self.file = None;
+        self.before = None;
+        if self.attempts.fail(rt, &fault, input.path.as_str()) {
+            return Err(Stop::Failed(fault));
+        }
+        Ok(Vec::new(rt.alloc()))
+    }
+}
+
+impl<T: Drop> Hall<T> {
+    /// Has lines taken.
+    fn bring<H: Host>(&self, rt: &H, input: &Input, lines: Vec<LineText>) -> Result<(), Gone>
+    where
+        T: Taker<H>,
+    {
+        if lines.is_empty() {
             return Ok(());
         }
-        take(rt, input, &mut feed, &piece[..count])?;
-    }
-    Err(Gone)
-}
-
-/// One connection behind the other.
-fn listen_on<H: Host, T: Taker<H>>(rt: &H, input: &Input<T>) -> Result<(), Gone> {
-    for _ in rt.forever() {
-        let Ok(mut file) = rt.open(input.path.as_str()) else {
-            return Err(fail(rt, input, Fault::File(NamedFile::Input(input.number))));
+        let by = if self.has_spares {
+            Some(input.number)
+        } else {
+            None
         };
-        let comes_again = is_fifo(&file);
-        read(rt, input, &mut file)?;
-        if !comes_again {
-            return bring(rt, &input.to, Event::Ended);
-        }
+        bring_as(rt, &self.to, Event::Lines(input.number, lines), by)
     }
-    Err(Gone)
+
+    /// Tells why nothing comes any more.
+    fn stop<H: Host>(&self, rt: &H, stop: Stop) -> Gone
+    where
+        T: Taker<H>,
+    {
+        let event = match stop {
+            Stop::Ended => Event::Ended,
+            Stop::Failed(fault) => Event::Failed(fault),
+        };
+        let _told = bring_as(rt, &self.to, event, None);
+        Gone
+    }
+
+    /// Listens on an input, until another thread does so.
+    fn listen<H: Host>(&self, rt: &H, input: &Input) -> Result<(), Gone>
+    where
+        T: Taker<H>,
+    {
+        let mut piece = [0; PIECE];
+        for _ in rt.forever() {
+            let Some(mut source) = input.source.try_lock() else {
+                return Ok(());
+            };
+            let came = source.read(rt, input, &mut piece);
+            drop(source);
+            match came {
+                Ok(lines) => self.bring(rt, input, lines)?,
+                Err(stop) => return Err(self.stop(rt, stop)),
+            }
+        }
+        Err(Gone)
+    }
+
+    /// Listens on the input at a place, where there is one, and then on those to which it is called.
+    fn serve<H: Host>(&self, rt: &H, place: Option<usize>) -> Result<(), Gone>
+    where
+        T: Taker<H>,
+    {
+        let mut place = place;
+        for _ in rt.forever() {
+            if let Some(number) = place
+                && let Some(input) = self.inputs.get(number)
+            {
+                self.listen(rt, input)?;
+            }
+            match self.calls.recv(rt) {
+                Ok(number) => place = Some(number),
+                Err(_) => return Err(Gone),
+            }
+        }
+        Err(Gone)
+    }
 }
 
-/// Starts a thread that listens on the input with this number.
-fn listen<H: Host, T: Taker<H>>(
+fn inputs_of(alloc: Global, first: usize, paths: &[&str]) -> Result<Vec<Input>, Memory> {
+    let mut inputs = Vec::new(alloc);
+    for (place, path) in paths.iter().enumerate() {
+        inputs.push(Input {
+            number: first.saturating_add(place),
+            path: String::from_str(alloc, path)?,
+            source: Mutex::new(Source::new()),
+        })?;
+    }
+    Ok(inputs)
+}
+
+/// Starts a thread.
+fn start<H: Host, T: Taker<H>>(
     rt: &H,
-    number: usize,
-    path: &str,
-    to: &Door<Event, T>,
+    hall: &Arc<Hall<T>, Global>,
+    place: Option<usize>,
 ) -> Result<(), Memory> {
     let own = *rt;
-    let input = Input {
-        number,
-        path: String::from_str(rt.alloc(), path)?,
-        to: to.copy()?,
-    };
+    let hall = Arc::try_clone(hall)?;
     match thread::spawn(rt, move || {
-        let _ended = listen_on(&own, &input);
+        let _ended = hall.serve(&own, place);
     }) {
         Ok(_thread) => Ok(()),
         Err(_) => Err(Memory),
     }
 }
 
-/// Starts threads that listen on inputs, whose numbers begin with this one.
+/// Starts threads that listen on inputs, whose numbers begin with this one, and so many spare ones.
 pub fn listen_all<H: Host, T: Taker<H>>(
     rt: &H,
     first: usize,
     paths: &[&str],
+    spares: usize,
     to: &Door<Event, T>,
-) -> Result<(), Memory> {
-    let mut number = first;
-    for path in paths {
-        listen(rt, number, path, to)?;
-        number = number.saturating_add(1);
+) -> Result<Relief, Memory> {
+    let (calls, called) = bounded(rt.alloc(), 1)?;
+    let hall = Arc::new(
+        rt.alloc(),
+        Hall {
+            inputs: inputs_of(rt.alloc(), first, paths)?,
+            to: to.copy()?,
+            has_spares: spares > 0,
+            calls: called,
+        },
+    )?;
+    for place in 0..paths.len() {
+        start(rt, &hall, Some(place))?;
     }
-    Ok(())
+    for _spare in 0..spares {
+        start(rt, &hall, None)?;
+    }
+    Ok(Relief { first, calls })
 }

@@ -2,22 +2,21 @@
 
 ghost use Rattle.std.specs.Prelude.{◌≡◌, length};
 
+use crate::attempts::Attempts;
+use crate::connection::{Connection, End, Keeps, Order, Pen, Piece, is_next};
 use crate::events::{Door, Event, Taker, bring};
 use crate::faults::{Fault, NamedFile};
+use crate::files::is_fifo;
 use crate::host::Host;
 use crate::unread::{HasRoom, Unread};
-use crossbeam_channel::{Receiver, SendError, Sender, TrySendError, bounded, unbounded};
+use crossbeam_channel::{Receiver, Sender, TryRecvError, bounded, unbounded};
 use ft_types::Memory;
 use std::alloc::{AllocError, Global};
 use std::fs::File;
-use std::io::Write;
-use std::sync::{Arc, Mutex, Wait};
+use std::sync::{Arc, Mutex, MutexGuard, Wait};
+use std::thread;
 use std::thread::JoinHandle;
 use std::time::Duration;
-use std::{io, thread};
-
-/// Bytes that are written to some outputs.
-type Piece = Arc<Vec<u8>, Global>;
 
 /// How many milliseconds a connection that is to begin anew is closed, so that whoever reads sees its end.
 const GAP: u64 = 100;
@@ -25,73 +24,15 @@ const GAP: u64 = 100;
 /// How many pieces wait for an output that keeps the last one, at the most.
 const ROOM: usize = 512;
 
-/// With what of the pieces before a new connection begins.
+/// Who writes a piece.
 #[derive(Clone, Copy)]
-pub enum Keeps {
-    /// With all: whoever reads gets each piece in one connection. Pieces wait for a reader that is slow.
-    All,
-    /// With the last one. A piece for which there is no room is left out, so that nobody waits for a reader that is slow.
-    Last,
-}
-
-impl Keeps {
-    /// Leaves an order for whoever takes orders. Whether it was left.
-    fn send<R: Wait>(
-        self,
-        rt: &R,
-        to: &Sender<Order, Global>,
-        order: Order,
-    ) -> Result<bool, Memory> {
-        match self {
-            Keeps::All => match to.send(rt, order) {
-                Ok(()) => Ok(true),
-                Err(SendError::OutOfMemory(_)) => Err(Memory),
-                Err(SendError::Disconnected(_)) => Ok(false),
-            },
-            Keeps::Last => match to.try_send(rt, order) {
-                Ok(()) => Ok(true),
-                Err(TrySendError::OutOfMemory(_)) => Err(Memory),
-                Err(TrySendError::Full(_) | TrySendError::Disconnected(_)) => Ok(false),
-            },
-        }
-    }
-}
-
-/// What an output is to do.
-#[derive(Drop)]
-enum Order {
-    Write(Piece),
-    /// The connection is at its end.
-    End(End),
-}
-
-/// How a connection ended.
-#[derive(Clone, Copy)]
-enum End {
-    /// Nobody reads any more.
-    Left,
-    /// It is to begin anew.
-    Anew,
-    /// All is written.
-    Done,
-    /// Writing failed.
-    Failed,
-    /// A growth was refused.
-    Memory,
-}
-
-/// The connection of an output, which its thread shares with the one that decides.
-#[derive(Drop)]
-struct Connection {
-    keeps: Keeps,
-    /// None between connections.
-    file: Option<File>,
-    /// The pieces with which a new one begins.
-    kept: Vec<Piece>,
-    /// How many orders were carried out.
-    done: u64,
-    /// How many of them were before this connection.
-    before: u64,
+pub enum Writer {
+    /// The output's thread.
+    Thread,
+    /// Whoever leaves it, where there is room for it: whoever reads is believed that it reads.
+    Leaver,
+    /// Whoever takes the pen behind that, where there is room for it.
+    Pen,
 }
 
 /// An output.
@@ -104,89 +45,96 @@ struct Output<T: Drop> {
     to: Door<Event, T>,
 }
 
-fn write(file: &mut File, piece: &Piece) -> Result<(), End> {
-    match file.write_all(piece.as_slice()) {
-        Ok(()) => Ok(()),
-        Err(error) if error.kind() == io::ErrorKind::BrokenPipe => Err(End::Left),
-        Err(_) => Err(End::Failed),
-    }
-}
-
-impl Connection {
-    /// Begins with what is kept.
-    fn begin(&mut self, file: File) -> Result<(), End> {
-        let mut file = file;
-        self.before = self.done;
-        for piece in &self.kept {
-            write(&mut file, piece)?;
-        }
-        self.file = Some(file);
-        Ok(())
-    }
-
-    /// Keeps a piece, and writes it.
-    fn take(&mut self, piece: Piece) -> Result<(), End> {
-        let Ok(same) = Arc::try_clone(&piece) else {
-            return Err(End::Memory);
-        };
-        if let Keeps::Last = self.keeps {
-            self.kept.clear();
-        }
-        if self.kept.push(same).is_err() {
-            return Err(End::Memory);
-        }
-        match &mut self.file {
-            Some(file) => write(file, &piece),
-            None => Err(End::Left),
-        }
-    }
-
-    /// Does what is ordered.
-    fn obey(&mut self, order: Order) -> Result<(), End> {
-        self.done = self.done.wrapping_add(1);
-        match order {
-            Order::Write(piece) => self.take(piece),
-            Order::End(end) => Err(end),
-        }
-    }
-}
-
 impl<T: Drop> Output<T> {
     /// One connection, which begins with what is kept.
-    fn serve<R: Wait>(&self, rt: &R, file: File) -> Result<(), End> {
+    fn serve<R: Wait>(&self, rt: &R, file: File, attempts: &mut Attempts) -> Result<(), End> {
+        let mut old = self.orders.len();
         self.connection.lock(rt).begin(file)?;
         for _ in rt.forever() {
+            attempts.go_well();
             match self.orders.recv(rt) {
-                Ok(order) => self.connection.lock(rt).obey(order)?,
+                Ok(order) => self.connection.lock(rt).obey(order, old > 0)?,
                 Err(_) => return Err(End::Done),
             }
+            old = old.saturating_sub(1);
         }
         Ok(())
     }
-}
 
-fn fail<H: Host, T: Taker<H>>(rt: &H, output: &Output<T>, fault: Fault) {
-    let _told = bring(rt, &output.to, Event::Failed(fault));
-}
-
-/// One connection behind the other.
-fn run<H: Host, T: Taker<H>>(rt: &H, output: &Output<T>) {
-    let failed = Fault::File(NamedFile::Output(output.number));
-    for _ in rt.forever() {
-        let Ok(file) = rt.open_to_add(output.path.as_str()) else {
-            return fail(rt, output, failed);
-        };
-        let end = output.serve(rt, file);
-        output.connection.lock(rt).file = None;
-        match end {
-            Ok(()) | Err(End::Done) => return,
-            Err(End::Left) => {}
-            Err(End::Anew) => {
-                let _slept = thread::sleep(rt, Duration::from_millis(GAP));
+    /// Keeps what is ordered while there is no connection. Whether nothing will be any more.
+    fn keep_ordered<R: Wait>(&self, rt: &R) -> Result<bool, Memory> {
+        for _ in rt.forever() {
+            match self.orders.try_recv(rt) {
+                Ok(order) => {
+                    if let Err(End::Memory) = self.connection.lock(rt).obey(order, true) {
+                        return Err(Memory);
+                    }
+                }
+                Err(TryRecvError::Disconnected) => return Ok(true),
+                Err(_) => return Ok(false),
             }
-            Err(End::Failed) => return fail(rt, output, failed),
-            Err(End::Memory) => return fail(rt, output, Fault::Memory),
         }
+        Ok(true)
+    }
+
+    /// Opens the path, and serves one connection.
+    fn connect<R: Host>(&self, rt: &R, attempts: &mut Attempts) -> Result<(), End> {
+        let Ok(file) = rt.open_to_add(self.path.as_str()) else {
+            return Err(End::Failed);
+        };
+        attempts.open(is_fifo(&file));
+        let end = self.serve(rt, file, attempts);
+        self.connection.lock(rt).file = None;
+        end
+    }
+
+    /// Hears that the path can't be opened, or written. Why the process is to end by that.
+    fn fail<R: Host>(&self, rt: &R, attempts: &mut Attempts) -> Result<(), Stop> {
+        let fault = Fault::File(NamedFile::Output(self.number));
+        if attempts.fail(rt, &fault, self.path.as_str()) {
+            return Err(Stop::Failed(fault));
+        }
+        match self.keep_ordered(rt) {
+            Ok(true) => Err(Stop::Done),
+            Ok(false) => Ok(()),
+            Err(Memory) => Err(Stop::Failed(Fault::Memory)),
+        }
+    }
+
+    /// One connection behind the other, up to why there is none any more.
+    fn run<R: Host>(&self, rt: &R) -> Stop {
+        let mut attempts = Attempts::new();
+        for _ in rt.forever() {
+            let went = match self.connect(rt, &mut attempts) {
+                Ok(()) | Err(End::Done) => Err(Stop::Done),
+                Err(End::Left) => Ok(()),
+                Err(End::Anew) => {
+                    let _slept = thread::sleep(rt, Duration::from_millis(GAP));
+                    Ok(())
+                }
+                Err(End::Failed) => self.fail(rt, &mut attempts),
+                Err(End::Memory) => Err(Stop::Failed(Fault::Memory)),
+            };
+            if let Err(stop) = went {
+                return stop;
+            }
+        }
+        Stop::Done
+    }
+}
+
+/// Why an output is written no more.
+#[derive(Clone, Copy)]
+enum Stop {
+    /// All is written, or nobody can be reached to whom it could be.
+    Done,
+    /// The process can't go on.
+    Failed(Fault),
+}
+
+fn run<H: Host, T: Taker<H>>(rt: &H, output: &Output<T>) {
+    if let Stop::Failed(fault) = output.run(rt) {
+        let _told = bring(rt, &output.to, Event::Failed(fault));
     }
 }
 
@@ -205,51 +153,90 @@ pub struct Post {
 }
 
 impl Post {
-    /// Leaves an order for the thread, unless it is left out, or the thread is gone, which has said why.
-    fn order<R: Wait>(&mut self, rt: &R, order: Order) -> Result<(), Memory> {
-        if self.keeps.send(rt, &self.to, order)? {
+    /// Leaves a piece for the thread, unless it is left out, or the thread is gone, which has said why.
+    fn order<R: Wait>(&mut self, rt: &R, piece: Piece) -> Result<(), Memory> {
+        if self.keeps.send(rt, &self.to, Order::Write(piece))? {
             self.left = self.left.wrapping_add(1);
         }
         Ok(())
     }
 
-    /// Has a piece written.
-    fn leave<R: Wait>(&mut self, rt: &R, piece: &Piece) -> Result<(), Memory> {
-        let piece = Arc::try_clone(piece)?;
-        let Some(room) = self.unread.add(piece.len()) else {
-            return self.order(rt, Order::Write(piece));
+    /// Leaves word that the connection is at its end.
+    fn order_end<R: Wait>(&self, rt: &R, end: End) -> Result<(), Memory> {
+        self.keeps.send(rt, &self.to, Order::End(end))?;
+        Ok(())
+    }
+
+    /// Has a piece written, by the output's thread where there is no room for it otherwise. Whether it waits for the pen.
+    fn leave<R: Wait>(&mut self, rt: &R, piece: &Piece, by: Writer) -> Result<bool, Memory> {
+        let room = self.unread.add(piece.len());
+        let went = match (by, room) {
+            (Writer::Leaver, Some(room)) => self.write_now(rt, piece, room)?,
+            (Writer::Pen, Some(room)) => self.put_next(piece, room)?,
+            _ => false,
         };
-        match self.write_now(rt, piece, room)? {
-            Some(piece) => self.order(rt, Order::Write(piece)),
-            None => Ok(()),
+        if !went {
+            self.order(rt, Arc::try_clone(piece)?)?;
+        }
+        Ok(went && matches!(by, Writer::Pen))
+    }
+
+    /// The connection, where the next piece may be written without the output's thread: that one does not write, no piece waits for it, and one of this
+    /// connection is known to be read.
+    fn next_connection(&self) -> Option<MutexGuard<'_, Connection>> {
+        let connection = self.connection.try_lock()?;
+        let is_next = is_next(connection.done, connection.before, self.left, self.read);
+        if is_next && connection.file.is_some() {
+            Some(connection)
+        } else {
+            None
         }
     }
 
-    /// Writes a piece at once, for which there is room beside what whoever reads has not read yet, so that no thread has to be woken. It comes back where the
-    /// thread writes, where pieces wait for it, and where none of this connection is known to be read.
+    /// Writes a piece at once, for which there is room beside what whoever reads has not read yet, so that no thread has to be woken. Whether it is written.
     fn write_now<R: Wait>(
         &mut self,
         rt: &R,
-        piece: Piece,
+        piece: &Piece,
         // proof: the clause asks for it, and nothing else.
         _room: HasRoom,
-    ) -> Result<Option<Piece>, Memory>
-        requires { length piece.value.items ≡ _room.size }
+    ) -> Result<bool, Memory>
+        requires { length piece.now.value.items ≡ _room.size }
     {
-        let Some(mut connection) = self.connection.try_lock() else {
-            return Ok(Some(piece));
+        let piece = Arc::try_clone(piece)?;
+        let Some(mut connection) = self.next_connection() else {
+            return Ok(false);
         };
-        let is_next = connection.done == self.left && connection.before < self.read;
-        if !is_next || connection.file.is_none() {
-            return Ok(Some(piece));
-        }
-        let written = connection.obey(Order::Write(piece));
+        let written = connection.obey(Order::Write(piece), false);
         drop(connection);
         self.left = self.left.wrapping_add(1);
         if let Err(end) = written {
-            self.order(rt, Order::End(end))?;
+            self.order_end(rt, end)?;
         }
-        Ok(None)
+        Ok(true)
+    }
+
+    /// Puts a piece for which there is room before all that is left for the thread. Whether it stands there.
+    fn put_next(
+        &mut self,
+        piece: &Piece,
+        // proof: the clause asks for it, and nothing else.
+        _room: HasRoom,
+    ) -> Result<bool, Memory>
+        requires { length piece.now.value.items ≡ _room.size }
+    {
+        let Some(mut connection) = self.next_connection() else {
+            return Ok(false);
+        };
+        connection.put_next(piece)?;
+        drop(connection);
+        self.left = self.left.wrapping_add(1);
+        Ok(true)
+    }
+
+    /// The pen of this output.
+    pub fn pen(&self) -> Result<Pen, Memory> {
+        Pen::new(&self.to, &self.connection)
     }
 
     /// Notes that whoever reads has read all that was left so far.
@@ -266,7 +253,7 @@ impl Post {
 
     /// Has the connection begin anew.
     pub fn begin_anew<R: Wait>(&mut self, rt: &R) -> Result<(), Memory> {
-        self.order(rt, Order::End(End::Anew))
+        self.order_end(rt, End::Anew)
     }
 }
 
@@ -290,16 +277,7 @@ fn begin_post<H: Host, T: Taker<H>>(
 ) -> Result<(Post, JoinHandle<()>), Memory> {
     let own = *rt;
     let (left, orders) = orders(rt.alloc(), keeps)?;
-    let connection = Arc::new(
-        rt.alloc(),
-        Mutex::new(Connection {
-            keeps,
-            file: None,
-            kept: Vec::new(rt.alloc()),
-            done: 0,
-            before: 0,
-        }),
-    )?;
+    let connection = Arc::new(rt.alloc(), Mutex::new(Connection::new(rt.alloc(), keeps)))?;
     let post = Post {
         keeps,
         to: left,
@@ -341,15 +319,17 @@ pub fn begin_posts<H: Host, T: Taker<H>>(
     Ok(posts)
 }
 
-/// Has bytes written to these outputs.
+/// Has bytes written to these outputs. Whether some wait for the pen.
 pub fn leave_all<R: AllocGlobal + Wait>(
     rt: &R,
     posts: &mut [Post],
     bytes: Vec<u8>,
-) -> Result<(), Memory> {
+    by: Writer,
+) -> Result<bool, Memory> {
     let piece = Arc::new(rt.alloc(), bytes)?;
+    let mut waits = false;
     for post in posts {
-        post.leave(rt, &piece)?;
+        waits = post.leave(rt, &piece, by)? || waits;
     }
-    Ok(())
+    Ok(waits)
 }

@@ -8,7 +8,7 @@ use ends::{Fault, Receiver, Taker};
 use ft_types::Memory;
 use std::alloc::Global;
 use std::option::Option;
-use std::sync::Mutex;
+use std::sync::{Mutex, Wait};
 
 /// What decides, which one thread has at a time, and why nothing does any more.
 #[derive(Drop)]
@@ -64,21 +64,19 @@ impl Seat {
 
 impl<H: KeeperHost> Taker<H> for Desk {
     /// Takes the events that are there. Where another thread does so, that one looks for events behind it.
-    fn serve(&self, rt: &H) {
+    fn serve(&self, rt: &H, _by: Option<usize>) {
         for _ in rt.forever() {
-            let Some(mut seat) = self.seat.try_lock() else {
+            if !self.take(rt) {
                 return;
-            };
-            let is_over = seat.serve(rt, &self.events, &self.outputs);
-            let is_left = seat.keeping.is_none();
-            drop(seat);
+            }
+            // Whoever reads the only output may make this thread wait: what others left meanwhile is taken by the one that waits for the end.
+            if !self.events.is_empty() {
+                let _told = self.end.try_send(rt, ());
+            }
             for output in &self.outputs {
                 output.write(rt);
             }
-            if is_over {
-                let _told = self.end.try_send(rt, ());
-            }
-            if is_left || self.events.is_empty() {
+            if self.events.is_empty() {
                 return;
             }
         }
@@ -102,6 +100,27 @@ impl Desk {
         })
     }
 
+    /// Takes the events that are there, where no other thread does so. Whether there is anything to be written, and more may come.
+    fn take<H: KeeperHost>(&self, rt: &H) -> bool {
+        let Some(mut seat) = self.seat.try_lock() else {
+            return false;
+        };
+        let is_over = seat.serve(rt, &self.events, &self.outputs);
+        let is_left = seat.keeping.is_none();
+        drop(seat);
+        if is_over {
+            let _told = self.end.try_send(rt, ());
+        }
+        !is_left
+    }
+
+    /// Hears that one more input is at fault, or one less.
+    pub fn hear<R: Wait>(&self, rt: &R, is_deaf: bool) {
+        for output in &self.outputs {
+            output.hear(rt, is_deaf);
+        }
+    }
+
     /// The outputs, in their order.
     pub fn outputs(&self) -> &[Post] {
         &self.outputs
@@ -113,7 +132,11 @@ impl Desk {
         seat.keeping = Some(keeping);
         drop(seat);
         for _ in rt.forever() {
-            self.serve(rt);
+            if self.take(rt) {
+                for output in &self.outputs {
+                    output.call();
+                }
+            }
             let mut seat = self.seat.lock(rt);
             let end = seat.end()?;
             drop(seat);

@@ -204,7 +204,7 @@ pub fn keep<H: Host>(rt: &H, words: &KeeperWords<'_>) -> Result<u8, Fault>
     let desk = Arc::new(rt.alloc(), Desk::new(rt.alloc(), events, outputs)?)?;
     let to = Door::new(to, Arc::try_clone(&desk)?);
     let threads = begin_posts(rt, desk.outputs(), &words.outputs, &to)?;
-    listen_all(rt, guest, &words.inputs, &to)?;
+    listen_all(rt, guest, &words.inputs, &desk, &to)?;
     let keeping = Keeping {
         keeper: words.keeper,
         station,

@@ -1,19 +1,20 @@
 //! The threads of a client, and what it does with them.
 
-ghost use Rattle.std.specs.Prelude.{◌≤◌};
+ghost use Rattle.std.specs.Prelude.{◌≡◌, ◌≢◌, ◌≤◌, ◌↔◌, true, IfOk};
 
 use crate::names::name_in;
 use asking::{Heard, Talk, WordsFault, read_words, told_line};
 use crossbeam_channel::RecvTimeoutError;
 use ends::{
-    Door, Event, Fault, Host, Keeps, NamedFile, Post, Receiver, Waiting, begin_posts, file_fault,
-    leave_all, listen_all, read_file, row, tell,
+    Door, Event, Fault, Host, Keeps, NamedFile, Post, Receiver, Waiting, Writer, begin_posts,
+    file_fault, leave_all, listen_all, read_file, row, tell,
 };
 use ft_types::{HART_LIMIT, Hart, Memory};
 use live_words::ClientWords;
 use std::alloc::Global;
 use std::io;
 use std::io::Write;
+use std::result::Result;
 use std::sync::Arc;
 use std::time::{Duration, Instant};
 use wire::{LineText, Request, read_full, request_line};
@@ -61,6 +62,18 @@ fn now<H: Host>(rt: &H) -> Result<Instant, Fault> {
     }
 }
 
+/// Whether what was heard is a new answer. Two that differ end the client.
+fn is_new(heard: Heard) -> Result<bool, Fault>
+    ensures new { IfOk result (λ new. new ≡ true ↔ (heard ≡ Heard.New)) }
+    ensures contradiction { IfOk result (λ _. heard ≢ Heard.Contradiction) }
+{
+    match heard {
+        Heard::New => Ok(true),
+        Heard::Contradiction => Err(Fault::Contradiction),
+        Heard::Known | Heard::Foreign => Ok(false),
+    }
+}
+
 impl Client {
     /// Starts the threads of all inputs and outputs.
     fn start<H: Host>(rt: &H, words: &ClientWords<'_>) -> Result<Client, Fault> {
@@ -71,7 +84,7 @@ impl Client {
         let to = Door::new(to, Arc::new(rt.alloc(), Waiting)?);
         let mut threads = Vec::new(rt.alloc());
         let posts = begin_posts(rt, 0, &words.requests, Keeps::Last, &to, &mut threads)?;
-        listen_all(rt, 0, &words.answers, &to)?;
+        let _none = listen_all(rt, 0, &words.answers, 0, &to)?;
         Ok(Client {
             talk,
             words: many,
@@ -87,7 +100,8 @@ impl Client {
     /// Sends a request on all outputs.
     fn send<H: Host>(&mut self, rt: &H, request: &Request) -> Result<(), Memory> {
         let bytes = request_line(request).as_slice().to_vec(rt.alloc())?;
-        leave_all(rt, &mut self.posts, bytes)
+        let _waits = leave_all(rt, &mut self.posts, bytes, Writer::Thread)?;
+        Ok(())
     }
 
     /// Says that all answers so far were read, where no word is open: the next one need not wait for a thread of the primary's then.
@@ -157,14 +171,10 @@ impl Client {
         if read_full(HART_LIMIT, line.as_slice()) == Some(Hart::new(0)) {
             return Err(Fault::Full);
         }
-        match self.talk.hear(line.as_slice()) {
-            Heard::New => {
-                self.last = now(rt)?;
-                Ok(())
-            }
-            Heard::Contradiction => Err(Fault::Contradiction),
-            Heard::Known | Heard::Foreign => Ok(()),
+        if is_new(self.talk.hear(line.as_slice()))? {
+            self.last = now(rt)?;
         }
+        Ok(())
     }
 
     /// Takes an event.

@@ -2,7 +2,7 @@
 
 use crate::duty::Helm;
 use crossbeam_channel::{Receiver as TurnReceiver, Sender as TurnSender, bounded};
-use ends::{Event, Fault, Receiver, Taker};
+use ends::{Event, Fault, Pen, Receiver, Taker};
 use ft_types::Memory;
 use std::alloc::Global;
 use std::option::Option;
@@ -25,18 +25,41 @@ pub(crate) struct Bridge {
     turns: TurnReceiver<(), Global>,
 }
 
+/// What is left to do behind events that were taken.
+#[derive(Drop)]
+struct Served {
+    /// Whether the thread that leads is to be woken.
+    calls: bool,
+    /// With what answers are to be written that wait for it.
+    pen: Option<Pen>,
+}
+
 impl Watch {
-    /// Takes the events that are there, on a thread that brought some. Whether the thread that leads is to be woken.
-    fn serve<R: AllocGlobal + Wait>(&mut self, rt: &R, events: &Receiver<Event>) -> bool {
+    /// Takes the events that are there, on a thread that brought some.
+    fn serve<R: AllocGlobal + Wait>(
+        &mut self,
+        rt: &R,
+        events: &Receiver<Event>,
+        by: Option<usize>,
+    ) -> Served {
         let Some(helm) = &mut self.helm else {
-            return false;
+            return Served {
+                calls: false,
+                pen: None,
+            };
         };
-        match helm.serve(rt, events) {
-            Ok(()) => helm.calls(),
+        match helm.serve(rt, events, by) {
+            Ok(pen) => Served {
+                calls: helm.calls(),
+                pen,
+            },
             Err(fault) => {
                 self.helm = None;
                 self.fault = Some(fault);
-                true
+                Served {
+                    calls: true,
+                    pen: None,
+                }
             }
         }
     }
@@ -65,7 +88,7 @@ impl Watch {
 
 impl<R: AllocGlobal + Wait> Taker<R> for Bridge {
     /// Takes the events that are there. Where another thread has the helm, that one looks for events behind it.
-    fn serve(&self, rt: &R) {
+    fn serve(&self, rt: &R, by: Option<usize>) {
         for _ in rt.forever() {
             let Some(mut watch) = self.watch.try_lock() else {
                 return;
@@ -73,10 +96,14 @@ impl<R: AllocGlobal + Wait> Taker<R> for Bridge {
             if watch.helm.is_none() {
                 return;
             }
-            let calls = watch.serve(rt, &self.events);
+            let Served { calls, pen } = watch.serve(rt, &self.events, by);
             drop(watch);
-            if calls {
+            // Whoever reads answers may make this thread wait: what was left for it meanwhile is taken by another one.
+            if calls || pen.is_some() && !self.events.is_empty() {
                 let _left = self.turn.try_send(rt, ());
+            }
+            if let Some(pen) = pen {
+                pen.write(rt);
             }
             if self.events.is_empty() {
                 return;

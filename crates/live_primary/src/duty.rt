@@ -1,20 +1,26 @@
 //! A primary: events are taken, and rounds led, one after the other.
 
-ghost use Rattle.std.specs.Prelude.{◌≤◌};
+ghost use Rattle.std.specs.Prelude.{◌≡◌, ◌≢◌, ◌<◌, ◌≤◌, ℕ, List, drop, length, map, IfOk, IfSome, OnOk};
+ghost use Rattle.live_primary.specs.declared.duty.Said.TheVariants.{Request as SaidRequest};
+ghost use Rattle.wire.specs.declared.requests.Request.{Request as asked_for};
 
 use crate::bridge::Bridge;
 use crate::names::name_in;
 use crate::office::Office;
 use crate::outset::{Outset, frame_bytes, set_out};
 use crate::pace::{FIRST_ROUND, LONE_ROUND, SHORT_ROUNDS, is_sent, next_blind, next_round};
-use ends::{Door, Event, Fault, Host, Receiver, refuse, row};
-use ft_types::{Count, Guest, Memory};
+use ends::{Door, Event, Fault, Host, Pen, Receiver, refuse, row};
+use ft_types::{Count, Guest, Keeper, Memory, Term};
 use leading::{Came, Heard, Leader, Spacing};
 use live_words::PrimaryWords;
 use primary::Released;
 use std::alloc::Global;
+use std::option::Option;
+use std::result::Result;
 use std::sync::{Arc, Wait};
-use wire::{Answer, LineText, Request, read_acknowledgement, read_again, read_request};
+use wire::{
+    Acknowledgement, Answer, LineText, Request, read_acknowledgement, read_again, read_request,
+};
 
 /// How many events wait at the most, and are taken between two rounds.
 const ROOM: usize = 512;
@@ -58,12 +64,29 @@ pub(crate) struct Helm {
 }
 
 /// What went out behind the first so many.
-fn behind(released: &[Released], told: usize) -> &[Released] {
+fn behind(released: &[Released], told: usize) -> &[Released]
+    ensures { result.now ≡ drop told released.now }
+{
     if told <= released.len() {
         &released[told..]
     } else {
         &[]
     }
+}
+
+/// Outputs that went out, as answers of a term, in their order.
+fn answers_of(alloc: Global, term: Term, released: &[Released]) -> Result<Vec<Answer>, Memory>
+    ensures { IfOk result (λ answers. answers.items ≡ map (λ r. record { term = term; output = r.output }) released.now) }
+{
+    let mut answers = Vec::new(alloc);
+    answers.reserve(released.len())?;
+    for one in released {
+        answers.push_reserved(Answer {
+            term,
+            output: one.output,
+        });
+    }
+    Ok(answers)
 }
 
 /// Tells the outputs that went out and were not told yet.
@@ -72,14 +95,13 @@ fn tell_new<R: AllocGlobal + Wait>(
     leader: &Leader,
     duty: &mut Duty,
     office: &mut Office,
-) -> Result<(), Memory> {
-    let term = leader.term();
-    let released = leader.released();
-    for one in behind(released, duty.told) {
-        let output = one.output;
-        office.tell(rt, &Answer { term, output })?;
-    }
-    duty.told = released.len();
+) -> Result<(), Memory>
+    ensures told { duty.old.told ≤ length leader.now.released → OnOk result (duty.new.told ≡ length leader.now.released) }
+{
+    let new = behind(leader.released(), duty.told);
+    let answers = answers_of(rt.alloc(), leader.term(), new)?;
+    let many = office.tell_all(rt, &answers)?;
+    duty.told = duty.told.saturating_add(many);
     Ok(())
 }
 
@@ -93,9 +115,7 @@ fn tell_of<R: AllocGlobal + Wait>(
 ) -> Result<bool, Memory> {
     match heard {
         Heard::Told(answers) => {
-            for answer in answers {
-                office.tell(rt, answer)?;
-            }
+            let _many = office.tell_all(rt, answers)?;
             Ok(false)
         }
         Heard::Came(Came::Taken) => Ok(true),
@@ -107,24 +127,47 @@ fn tell_of<R: AllocGlobal + Wait>(
     }
 }
 
-/// Takes the line of a client.
+/// What a line says.
+#[derive(Drop)]
+enum Said {
+    /// A client wants this.
+    Request(Request),
+    /// A keeper has this.
+    Acknowledgement(Acknowledgement),
+    /// A keeper asks for all frames.
+    Again(Keeper),
+}
+
+/// What a line of the input with this number says, if anything: clients speak by the first so many, keepers by the others.
+fn read_said(guest: &Guest, requests: usize, input: usize, line: &LineText) -> Option<Said>
+    ensures client { input < requests → IfSome result (λ said. (request : asked_for) × (said ≡ SaidRequest request)) }
+    ensures keeper { requests ≤ input → IfSome result (λ said. (request : asked_for) → said ≢ SaidRequest request) }
+{
+    let line = line.as_slice();
+    if input < requests {
+        return Some(Said::Request(read_request(guest.harts(), line)?));
+    }
+    if let Some(acknowledgement) = read_acknowledgement(guest, line) {
+        return Some(Said::Acknowledgement(acknowledgement));
+    }
+    Some(Said::Again(read_again(guest, line)?))
+}
+
+/// Takes what a client wants.
 fn take_request<R: AllocGlobal + Wait>(
     rt: &R,
     leader: &mut Leader,
     duty: &mut Duty,
     office: &mut Office,
-    line: &LineText,
+    request: &Request,
 ) -> Result<(), Memory> {
-    let Some(request) = read_request(duty.guest.harts(), line.as_slice()) else {
-        return Ok(());
-    };
-    if let Request::From { hart, number } = request
+    if let Request::From { hart, number } = *request
         && office.lacks_none(hart, number)
     {
         return Ok(());
     }
-    let heard = leader.hear(rt.alloc(), &request)?;
-    if !tell_of(rt, office, &request, &heard)? {
+    let heard = leader.hear(rt.alloc(), request)?;
+    if !tell_of(rt, office, request, &heard)? {
         return Ok(());
     }
     duty.steps = if leader.kept() > 0 {
@@ -137,23 +180,35 @@ fn take_request<R: AllocGlobal + Wait>(
     Ok(())
 }
 
-/// Takes the line of a keeper.
-fn take_said<R: AllocGlobal + Wait>(
+/// Takes what a keeper has.
+fn take_acknowledgement<R: AllocGlobal + Wait>(
     rt: &R,
     leader: &mut Leader,
     duty: &mut Duty,
     office: &mut Office,
+    acknowledgement: &Acknowledgement,
+) -> Result<(), Memory> {
+    leader.acknowledge(rt.alloc(), acknowledgement)?;
+    office.hear(leader.term(), acknowledgement);
+    tell_new(rt, leader, duty, office)
+}
+
+/// Takes a line of the input with this number.
+fn take_line<R: AllocGlobal + Wait>(
+    rt: &R,
+    leader: &mut Leader,
+    duty: &mut Duty,
+    office: &mut Office,
+    input: usize,
     line: &LineText,
 ) -> Result<(), Memory> {
-    if let Some(acknowledgement) = read_acknowledgement(&duty.guest, line.as_slice()) {
-        leader.acknowledge(rt.alloc(), &acknowledgement)?;
-        office.hear(leader.term(), &acknowledgement);
-        tell_new(rt, leader, duty, office)
-    } else {
-        match read_again(&duty.guest, line.as_slice()) {
-            Some(keeper) => office.begin_anew(rt, keeper),
-            None => Ok(()),
+    match read_said(&duty.guest, office.requests, input, line) {
+        Some(Said::Request(request)) => take_request(rt, leader, duty, office, &request),
+        Some(Said::Acknowledgement(acknowledgement)) => {
+            take_acknowledgement(rt, leader, duty, office, &acknowledgement)
         }
+        Some(Said::Again(keeper)) => office.begin_anew(rt, keeper),
+        None => Ok(()),
     }
 }
 
@@ -168,11 +223,7 @@ fn take<R: AllocGlobal + Wait>(
     match event {
         Event::Lines(input, lines) => {
             for line in &lines {
-                if input < office.requests {
-                    take_request(rt, leader, duty, office, line)?;
-                } else {
-                    take_said(rt, leader, duty, office, line)?;
-                }
+                take_line(rt, leader, duty, office, input, line)?;
             }
             Ok(())
         }
@@ -257,13 +308,15 @@ impl Helm {
         Ok(())
     }
 
-    /// Takes the events that are there, leads the first rounds behind a request, and looks behind them. Rounds that go on are left to the thread that
-    /// leads.
+    /// Takes the events that are there, on the thread of this input, leads the first rounds behind a request, and looks behind them. Rounds that go on are left
+    /// to the thread that leads. With what answers are to be written that wait for it.
     pub(crate) fn serve<R: AllocGlobal + Wait>(
         &mut self,
         rt: &R,
         events: &Receiver<Event>,
-    ) -> Result<(), Fault> {
+        by: Option<usize>,
+    ) -> Result<Option<Pen>, Fault> {
+        self.office.begin(rt, by);
         self.take_all(rt, events)?;
         if let Next::Lead = self.duty.next {
             self.lead(rt)?;
@@ -271,7 +324,7 @@ impl Helm {
         if let Next::Look = self.duty.next {
             self.look(rt)?;
         }
-        Ok(())
+        Ok(self.office.end()?)
     }
 
     /// Takes events and leads rounds until they would change nothing before a request comes. What came while rounds were led is taken before it is
@@ -282,6 +335,7 @@ impl Helm {
         events: &Receiver<Event>,
     ) -> Result<(), Fault> {
         for _ in rt.forever() {
+            self.office.begin(rt, None);
             self.take_all(rt, events)?;
             match self.duty.next {
                 Next::Lead => self.lead(rt)?,
@@ -321,11 +375,12 @@ fn lead_all<H: Host>(rt: &H, words: &PrimaryWords<'_>) -> Result<(), Fault> {
         guest,
         leader,
         frames,
+        removed,
     } = set_out(rt, words)?;
     let (to, events) = row(rt.alloc(), ROOM)?;
     let bridge = Arc::new(rt.alloc(), Bridge::new(rt.alloc(), events)?)?;
     let to = Door::new(to, Arc::try_clone(&bridge)?);
-    let (office, threads) = Office::open(rt, words, frames, &to)?;
+    let (office, threads) = Office::open(rt, words, frames, removed, &to)?;
     let duty = Duty {
         guest,
         told: 0,

@@ -1,12 +1,18 @@
 //! The threads of a primary, and what they are given.
 
-use ends::{Door, Event, Host, Keeps, Post, Taker, begin_posts, leave_all, listen_all};
+ghost use Rattle.std.specs.Prelude.{◌≡◌, length, IfOk};
+
+use crate::outset::Removed;
+use ends::{
+    Door, Event, Host, Keeps, Pen, Post, Relief, Taker, Writer, begin_posts, leave_all, listen_all,
+};
 use ft_types::{Count, Counts, HART_LIMIT, Hart, Keeper, Memory, Output, Term};
 use live_words::PrimaryWords;
 use std::alloc::Global;
+use std::result::Result;
 use std::sync::Wait;
 use std::thread::JoinHandle;
-use wire::{Acknowledgement, Answer, answer_line, full_line};
+use wire::{Acknowledgement, Answer, Line, answer_line, full_line};
 
 /// The inputs and outputs of a primary.
 #[derive(Drop)]
@@ -24,7 +30,25 @@ pub(crate) struct Office {
     sent: Option<Counts>,
     /// The same of those that were sent before them.
     sent_before: Option<Counts>,
+    /// The input on whose thread events are taken, where a spare one can go on in its place.
+    by: Option<usize>,
+    /// Whether answers wait for the pen.
+    waits: bool,
+    writing: Option<Writing>,
+    relief: Relief,
 }
+
+/// The thread of an input, which writes answers.
+#[derive(Drop)]
+struct Writing {
+    input: usize,
+    pen: Pen,
+    /// How often others took events meanwhile.
+    looks: u8,
+}
+
+/// How often others take events beside a thread that writes before a spare one goes on in its place.
+const LOOKS: u8 = 16;
 
 /// Whether each hart of the first is at least where it is in the second.
 fn reaches(counts: &Counts, others: &Counts) -> bool {
@@ -61,8 +85,12 @@ impl Office {
         rt: &H,
         words: &PrimaryWords<'_>,
         frames: Vec<u8>,
+        // proof: the clause asks for it, and nothing else.
+        _removed: Removed,
         to: &Door<Event, T>,
-    ) -> Result<(Office, Vec<JoinHandle<()>>), Memory> {
+    ) -> Result<(Office, Vec<JoinHandle<()>>), Memory>
+        requires { _removed.many ≡ length words.now.handed.items }
+    {
         let mut threads = Vec::new(rt.alloc());
         let answers = begin_posts(rt, 0, &words.answers, Keeps::Last, to, &mut threads)?;
         let frames_from = answers.len();
@@ -74,17 +102,22 @@ impl Office {
             to,
             &mut threads,
         )?;
-        leave_all(rt, &mut keepers, frames)?;
-        listen_all(rt, 0, &words.requests, to)?;
-        listen_all(rt, words.requests.len(), &words.acknowledgements, to)?;
+        let _waits = leave_all(rt, &mut keepers, frames, Writer::Thread)?;
+        let requests = words.requests.len();
+        let _none = listen_all(rt, 0, &words.requests, 0, to)?;
+        let relief = listen_all(rt, requests, &words.acknowledgements, 1, to)?;
         let office = Office {
-            requests: words.requests.len(),
+            requests,
             answers,
             keepers,
             told: untold(rt.alloc(), usize::from(HART_LIMIT))?,
             last: None,
             sent: None,
             sent_before: None,
+            by: None,
+            waits: false,
+            writing: None,
+            relief,
         };
         Ok((office, threads))
     }
@@ -100,7 +133,8 @@ impl Office {
             return Ok(());
         }
         self.sent_before = self.sent.replace(counts);
-        leave_all(rt, &mut self.keepers, frames)
+        let _waits = leave_all(rt, &mut self.keepers, frames, Writer::Leaver)?;
+        Ok(())
     }
 
     /// Hears what a keeper acknowledged in this term. One that has acknowledged what was sent has read it, by a path of its own: all, or all but the last.
@@ -138,6 +172,17 @@ impl Office {
         self.last = Some(output.hart);
     }
 
+    /// Writes a line for clients.
+    fn tell_line<R: AllocGlobal + Wait>(&mut self, rt: &R, line: &Line) -> Result<(), Memory> {
+        let bytes = line.as_slice().to_vec(rt.alloc())?;
+        let by = match self.by {
+            Some(_) => Writer::Pen,
+            None => Writer::Thread,
+        };
+        self.waits = leave_all(rt, &mut self.answers, bytes, by)? || self.waits;
+        Ok(())
+    }
+
     /// Tells an answer.
     pub(crate) fn tell<R: AllocGlobal + Wait>(
         &mut self,
@@ -145,8 +190,54 @@ impl Office {
         answer: &Answer,
     ) -> Result<(), Memory> {
         self.note(&answer.output);
-        let bytes = answer_line(answer).as_slice().to_vec(rt.alloc())?;
-        leave_all(rt, &mut self.answers, bytes)
+        self.tell_line(rt, &answer_line(answer))
+    }
+
+    /// Tells answers, one behind the other. How many.
+    pub(crate) fn tell_all<R: AllocGlobal + Wait>(
+        &mut self,
+        rt: &R,
+        answers: &[Answer],
+    ) -> Result<usize, Memory>
+        ensures { IfOk result (λ many. many ≡ length answers.now) }
+    {
+        for answer in answers {
+            self.tell(rt, answer)?;
+        }
+        Ok(answers.len())
+    }
+
+    /// Begins to take events on the thread of this input, or on one that may not be made to wait. Where another one has written for long, a spare one goes on
+    /// in its place.
+    pub(crate) fn begin<R: Wait>(&mut self, rt: &R, by: Option<usize>) {
+        self.by = by;
+        let Some(writing) = &mut self.writing else {
+            return;
+        };
+        writing.looks = writing.looks.saturating_add(1);
+        let is_done = writing.pen.is_done();
+        if !is_done && writing.looks >= LOOKS {
+            self.relief.call(rt, writing.input);
+        }
+        if is_done || writing.looks >= LOOKS {
+            self.writing = None;
+        }
+    }
+
+    /// Ends that. The pen for what waits for it.
+    pub(crate) fn end(&mut self) -> Result<Option<Pen>, Memory> {
+        let by = self.by.take();
+        let waits = self.waits;
+        self.waits = false;
+        let (Some(input), Some(post), true) = (by, self.answers.first(), waits) else {
+            return Ok(None);
+        };
+        self.writing = Some(Writing {
+            input,
+            pen: post.pen()?,
+            looks: 0,
+        });
+        Ok(Some(post.pen()?))
     }
 
     /// Tells that a hart is given no more words.
@@ -155,8 +246,7 @@ impl Office {
         rt: &R,
         hart: Hart,
     ) -> Result<(), Memory> {
-        let bytes = full_line(hart).as_slice().to_vec(rt.alloc())?;
-        leave_all(rt, &mut self.answers, bytes)
+        self.tell_line(rt, &full_line(hart))
     }
 
     /// Sends all frames to a keeper once more.

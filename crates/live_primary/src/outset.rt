@@ -1,11 +1,15 @@
 //! Going live from what was handed over.
 
-ghost use Rattle.std.specs.Prelude.{◌≡◌, ◌++◌, ℕ, List, map, IfOk};
+ghost use Rattle.std.specs.Prelude.{◌≡◌, ◌++◌, ℕ, List, [], length, map, IfOk};
 ghost use Rattle.std.specs.List.{flat_map};
 ghost use Rattle.fragment_codec.specs.Streams.{spelling};
 ghost use Rattle.log_join.specs.Stores.{clashes_of};
 ghost use Rattle.log_streams.specs.Stores.{IsStoreText};
+ghost use Rattle.fragment_codec.specs.declared.frame.Frame.TheVariants.{Opening as OpeningFrame};
 ghost use Rattle.go_live.specs.Joined.{AreJoined};
+ghost use Rattle.fenced_keeper.specs.declared.keeper.Given.{Given as given_of_keeper};
+ghost use Rattle.leading.specs.Beginning.{GoesLive};
+ghost use Rattle.live_primary.specs.Outsets.{AreGivenOf, AreSentFirst, SetsOut};
 
 use crate::faults::{clash, handed_fault, image_fault, lead_fault, store_fault};
 use ends::{Fault, Host, NamedFile, Paths, file_fault, read_file, remove_file};
@@ -27,6 +31,15 @@ pub(crate) struct Outset {
     pub(crate) leader: Leader,
     /// What keepers are sent first: all frames that were handed over, and then the opening of the term.
     pub(crate) frames: Vec<u8>,
+    /// What was handed over is gone.
+    pub(crate) removed: Removed,
+}
+
+/// So many files that were handed over are gone, and that is on disk. Whoever has none of these sends nothing (`Office::open`).
+#[derive(Drop)]
+pub(crate) struct Removed {
+    // proof: clauses alone read it.
+    many: usize,
 }
 
 /// The image of these bytes.
@@ -75,13 +88,15 @@ fn handed_logs<H: Host>(rt: &H, guest: Guest, names: &[&str]) -> Result<Vec<Hand
 }
 
 /// What was handed over makes one primary: whoever is started once more by the same words finds it no more, also where the machine stopped.
-fn remove_all<H: Host>(rt: &H, names: &[&str]) -> Result<(), Fault> {
+fn remove_all<H: Host>(rt: &H, names: &[&str]) -> Result<Removed, Fault>
+    ensures { IfOk result (λ removed. removed.many ≡ length names.now) }
+{
     for number in 0..names.len() {
         if let Err(error) = remove_file(rt, names[number]) {
             return Err(file_fault(&error, NamedFile::Handed(number)));
         }
     }
-    Ok(())
+    Ok(Removed { many: names.len() })
 }
 
 /// All frames that were handed over, each once.
@@ -133,7 +148,9 @@ fn first_frames(
     guest: Guest,
     logs: &[HandedLog],
     opening: Frame,
-) -> Result<Vec<u8>, Fault> {
+) -> Result<Vec<u8>, Fault>
+    ensures { IfOk result (λ bytes. AreSentFirst guest logs.now opening bytes.items) }
+{
     let store = joined(alloc, guest, logs)?;
     Ok(sent_first(alloc, &store, opening)?)
 }
@@ -158,7 +175,11 @@ fn go_live(
     image: &Image,
     words: &PrimaryWords<'_>,
     logs: &[HandedLog],
-) -> Result<(Leader, Frame), Fault> {
+) -> Result<(Leader, Frame), Fault>
+    ensures live { IfOk result (λ r. (given : List given_of_keeper) × AreGivenOf logs.now given × GoesLive image.now words.now.quorum words.now.term given r.0.primary r.0.gate) }
+    ensures opening { IfOk result (λ r. r.1 ≡ OpeningFrame r.0.primary.opening) }
+    ensures released { IfOk result (λ r. r.0.released ≡ []) }
+{
     let given = given_of(alloc, logs)?;
     match Leader::go_live(alloc, image, &given, words.quorum, words.term) {
         Ok(live) => Ok(live),
@@ -167,17 +188,22 @@ fn go_live(
 }
 
 /// Goes live from what was handed over, and removes that.
-pub(crate) fn set_out<H: Host>(rt: &H, words: &PrimaryWords<'_>) -> Result<Outset, Fault> {
+pub(crate) fn set_out<H: Host>(rt: &H, words: &PrimaryWords<'_>) -> Result<Outset, Fault>
+    ensures live { IfOk result (λ o. SetsOut words.now.quorum words.now.term o.leader.primary o.leader.gate o.frames.items) }
+    ensures released { IfOk result (λ o. o.leader.released ≡ []) }
+    ensures removed { IfOk result (λ o. o.removed.many ≡ length words.now.handed.items) }
+{
     let alloc = rt.alloc();
     let image = read_image_file(rt, words.image)?;
     let guest = image.guest();
     let logs = handed_logs(rt, guest, &words.handed)?;
     let (leader, opening) = go_live(alloc, &image, words, &logs)?;
     let frames = first_frames(alloc, guest, &logs, opening)?;
-    remove_all(rt, &words.handed)?;
+    let removed = remove_all(rt, &words.handed)?;
     Ok(Outset {
         guest,
         leader,
         frames,
+        removed,
     })
 }
