@@ -95,21 +95,26 @@ pub cannot : (image : ImageContents) (quorum : Quorum) (keepers need fewer term 
     IfReplay fault (λ f. f ≢ OtherGuest → LeadNowhere image (map (λ g. g.store.now) given) f) →
     IfReplay fault (λ f. (h : GuestHistory) → AreOfHistory image h (map (λ g. g.store.now) given) → f ≡ OtherGuest) →
     CannotBegin image quorum term given fault
-cannot image quorum keepers need fewer term given OtherTerm refl refl both other few old foreign nowhere ends = other refl
-cannot image quorum keepers need fewer term given (Live TooFewStores) refl refl both other few old foreign nowhere ends = λ (enough, most).
+cannot image quorum keepers need fewer term given OtherTerm k n both other few old foreign nowhere ends = other refl
+cannot image quorum keepers need fewer term given (Live TooFewStores) k n both other few old foreign nowhere ends = λ holds.
     let less = few refl in
+    let enough = subst (λ x. AreEnough x need (givers_in given)) (sym k) (subst (λ x. AreEnough quorum.keepers x (givers_in given)) (sym n) holds.0) in
+    let most = subst (λ x. MostOf x (givers_in given)) (sym k) holds.1 in
     let many : keepers - fewer + 1 ≤ distinct_below keepers (givers_in given) = both.1 (enough, most) in
     omega (arith, less, many)
-cannot image quorum keepers need fewer term given (Live TermNotNew) refl refl both other few old foreign nowhere ends =
+cannot image quorum keepers need fewer term given (Live TermNotNew) k n both other few old foreign nowhere ends =
     let (enough, is) = old refl in
-    let (all, most) = both.0 enough in
-    (all, most, is)
-cannot image quorum keepers need fewer term given (Live (Replay fault)) refl refl both other few old foreign nowhere ends = (
+    let (all, most) = both.0 enough in (
+      subst (λ x. AreEnough x quorum.need (givers_in given)) k (subst (λ x. AreEnough keepers x (givers_in given)) n all),
+      subst (λ x. MostOf x (givers_in given)) k most,
+      is,
+    )
+cannot image quorum keepers need fewer term given (Live (Replay fault)) k n both other few old foreign nowhere ends = (
   λ same. foreign (ap (λ f. Live (Replay f)) same),
   nowhere,
   ends,
 )
-cannot image quorum keepers need fewer term given (Live Memory) refl refl both other few old foreign nowhere ends = tt
+cannot image quorum keepers need fewer term given (Live Memory) k n both other few old foreign nowhere ends = tt
 
 -- the parts fit together as it begins
 pub begins_sound : (image : ImageContents) (quorum : Quorum) (term : ℕ) (given : List Given) (p : Primary) (g : TermGateView) (queues : List QueueView) →

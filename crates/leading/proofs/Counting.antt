@@ -52,13 +52,14 @@ no_word (Bell hart) is e = refl
 
 words_but_bells : (os : List Offer) → words_in (map input_of (but_bells os)) ≡ words_in (map input_of os)
 words_but_bells [] = refl
-words_but_bells (o ∷ os) = by (is_bell o.input) refl
+words_but_bells (o ∷ os) = by (is_bell o.input) refl (words_but_bells os)
   where
-    by : (b : Bool) → is_bell o.input ≡ b → words_in (map input_of (if not b then o ∷ but_bells os else but_bells os)) ≡ words_in (o.input ∷ map input_of os)
-    by true e = words_but_bells os ∙ sym (no_word o.input (map input_of os) e)
-    by false e =
+    by : (b : Bool) → is_bell o.input ≡ b → words_in (map input_of (but_bells os)) ≡ words_in (map input_of os) →
+        words_in (map input_of (if not b then o ∷ but_bells os else but_bells os)) ≡ words_in (o.input ∷ map input_of os)
+    by true e rest = rest ∙ sym (no_word o.input (map input_of os) e)
+    by false e rest =
         first_and_rest o.input (map input_of (but_bells os))
-        ∙ ap (λ (ws : List ℕ). words_in (o.input ∷ []) ++ ws) (words_but_bells os)
+        ∙ ap (λ (ws : List ℕ). words_in (o.input ∷ []) ++ ws) rest
         ∙ sym (first_and_rest o.input (map input_of os))
 
 -- one input more that waits

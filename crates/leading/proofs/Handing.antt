@@ -106,5 +106,5 @@ hands_more g harts n old qs q p b c d inside there done queues desk own others h
 
 pub one_is_handed : (machine : MachineState) (queues : List QueueView) (n : ℕ) (h : Hart) (q : QueueView) (r : Option Input) →
     slice_get machine.harts n ≡ Some h → q ≡ queue_at queues n → r ≡ next_of h q → is_some r ≡ true → NoneIsHanded machine queues → ⊥
-one_is_handed machine queues n h q None there same is yes none = let no : false ≡ true = yes in cc
-one_is_handed machine queues n h q (Some i) there same is yes none = let no : Some i ≡ None = is ∙ ap (next_of h) same ∙ none n h there in cc
+one_is_handed machine queues n h q None there same is some none = let no : false ≡ true = some in cc
+one_is_handed machine queues n h q (Some i) there same is some none = let no : Some i ≡ None = is ∙ ap (next_of h) same ∙ none n h there in cc

@@ -20,12 +20,14 @@ put_is old new input (Ok Full) taken stays = stays (λ no. absurd cc)
 put_is old new input (Ok Busy) taken stays = stays (λ no. absurd cc)
 
 -- no word is handed on by that
-pub put_keeps : (old : QueueView) (input : Input) (came : Came) → (put_as old input came).handed ≡ old.handed
-put_keeps old input Taken = refl
-put_keeps old input Repeat = refl
-put_keeps old input Ahead = refl
-put_keeps old input Full = refl
-put_keeps old input Busy = refl
+pub put_keeps : {E : Type 0} (old new : QueueView) (input : Input) (r : Result Came E) → (r ≡ Ok Taken → new ≡ with_input old input) →
+    ((r ≡ Ok Taken → ⊥) → new ≡ old) → new.handed ≡ old.handed
+put_keeps old new input (Err e) taken stays = ap (λ (q : QueueView). q.handed) (stays (λ no. absurd cc))
+put_keeps old new input (Ok Taken) taken stays = ap (λ (q : QueueView). q.handed) (taken refl)
+put_keeps old new input (Ok Repeat) taken stays = ap (λ (q : QueueView). q.handed) (stays (λ no. absurd cc))
+put_keeps old new input (Ok Ahead) taken stays = ap (λ (q : QueueView). q.handed) (stays (λ no. absurd cc))
+put_keeps old new input (Ok Full) taken stays = ap (λ (q : QueueView). q.handed) (stays (λ no. absurd cc))
+put_keeps old new input (Ok Busy) taken stays = ap (λ (q : QueueView). q.handed) (stays (λ no. absurd cc))
 
 -- ---- acknowledgements
 

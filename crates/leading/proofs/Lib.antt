@@ -15,5 +15,5 @@ pub mod Sound
 pub mod Releasing
 pub mod Round
 pub mod Most
-pub mod Waiting
+pub mod GoingRound
 pub mod Counting

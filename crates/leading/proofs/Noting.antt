@@ -35,7 +35,7 @@ no_harts s g a ne = inr ((λ counted. ne counted.harts), refl)
 
 pub not_sent : (s : SealedView) (g : TermGateView) (a : Acknowledgement) →
     (((hart : ℕ) → hart < length a.counts → slice_index a.counts hart ≤ count_at s.reached hart) → ⊥) → Notes s g a g
-not_sent s g a no = inr ((λ counted. no (λ hart less. counted.sent hart (subst (λ n. hart < n) counted.harts less))), refl)
+not_sent s g a above = inr ((λ counted. above (λ hart less. counted.sent hart (subst (λ n. hart < n) counted.harts less))), refl)
 
 -- the rows of what was acknowledged alone are others
 pub noted_rest : (s : SealedView) (g : TermGateView) (a : Acknowledgement) (h : TermGateView) → Notes s g a h → h ≡ record g { acked = h.acked }

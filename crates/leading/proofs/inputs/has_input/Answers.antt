@@ -1,5 +1,6 @@
-use Rattle.std.proofs.Common.{refl, arith}
+use Rattle.std.proofs.Common.{refl, sym, ap, ◌∙◌, arith}
 use Rattle.std.proofs.lemmas.Option.{slice_get_within}
+use Rattle.leading.specs.Leaders.{queue_at}
 use Rattle.leading.proofs.Handing.{one_is_handed}
 use Rattle.leading.proofs.Queueing.{queue_there}
 use Rattle.leading.proofs.inputs.has_input.Goals as goal
@@ -8,11 +9,15 @@ pub returns-then-is_some : goal.returns-then-is_some
 returns-then-is_some c = (
   λ e. absurd (cc e),
   λ none.
-      let n = c.loop-number.number in
-      let inside = slice_get_within c.args.machine.now.harts n c.hart-state.result.now c.hart-state.ensures in
-      absurd (one_is_handed c.args.machine.now c.args.queues.now n c.hart-state.result.now c.index-queue.result.now c.next_input.result c.hart-state.ensures
-      (queue_there c.args.queues.now n c.index-queue.result.now (omega (arith, inside, c.requires)) c.index-queue.ensures.value) c.next_input.ensures.next
-      (c.is_some.ensures ∙ c.if-is_some.true) none),
+      let qs = c.args.queues.now in
+      let n = c.new-hart.result in
+      let state = c.hart-state.result.now in
+      let queue = c.index-queues-index.result in
+      let inside = slice_get_within c.args.machine.now.harts n state c.hart-state.ensures in
+      let at = c.index.ensures.value in
+      let there = queue_there qs c.index.result queue (omega (arith, inside, at, c.requires)) c.index-queues-index.is ∙ ap (queue_at qs) at in
+      absurd (one_is_handed c.args.machine.now qs n state queue c.next_input.result c.hart-state.ensures there c.next_input.ensures.next
+      (sym c.is_some.ensures ∙ c.if-is_some.true) none),
 )
 
 pub returns : goal.returns

@@ -3,7 +3,7 @@ use Rattle.std.proofs.lemmas.Bool.{cases_lt}
 use Rattle.std.proofs.lemmas.Option.{slice_get_within}
 use Rattle.hart_lease.specs.Slots.{ram_of}
 use Rattle.leading.specs.Waiting.{Waits}
-use Rattle.leading.proofs.Waiting.{hart_there}
+use Rattle.leading.proofs.GoingRound.{hart_there}
 use Rattle.leading.proofs.waiting.only_waits.Goals as goal
 
 pub loop-number-init : goal.loop-number-init

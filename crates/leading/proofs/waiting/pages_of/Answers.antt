@@ -1,5 +1,5 @@
 use Rattle.std.proofs.Common.{refl, sym, ap, ◌∙◌, arith}
-use Rattle.leading.proofs.Waiting.{all_readable, one_readable}
+use Rattle.leading.proofs.GoingRound.{all_readable, one_readable}
 use Rattle.leading.proofs.waiting.pages_of.Goals as goal
 
 pub returns : goal.returns

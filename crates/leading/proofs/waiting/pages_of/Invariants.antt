@@ -1,6 +1,6 @@
 use Rattle.std.proofs.Common.{◌≡◌, ◌<◌, ℕ, length}
 use Rattle.hart_lease.specs.Slots.{slot_at}
-use Rattle.leading.proofs.Waiting.{readable}
+use Rattle.leading.proofs.GoingRound.{readable}
 use Rattle.leading.proofs.waiting.pages_of.Given as goal
 
 abbrev pub invariant-loop-number : goal.invariant-loop-number

@@ -1,7 +1,7 @@
 use Rattle.std.proofs.Common.{slice_get, ap, ◌∙◌}
 use Rattle.rv32_hart.specs.Ram.{Ram, may_write}
 use Rattle.hart_lease.specs.Slots.{ram_of}
-use Rattle.leading.proofs.Waiting.{both_wait, none_writable, not_heard}
+use Rattle.leading.proofs.GoingRound.{both_wait, none_writable, not_heard}
 use Rattle.leading.proofs.waiting.waits.Goals as goal
 
 pub comes_round-requires : goal.comes_round-requires

@@ -1,5 +1,5 @@
 -- Harts that go round.
-use Rattle.std.proofs.Common.{◌≡◌, ◌≢◌, ◌<◌, ◌≤◌, ◌+◌, ◌-◌, ◌↔◌, ◌⊎◌, ℕ, zero, suc, List, [], ◌∷◌, true, false, Bool, Option, None, Some, length, map, slice_get, inl, inr, refl, sym, ap, subst, ◌∙◌, arith}
+use Rattle.std.proofs.Common.{◌≡◌, ◌≢◌, ◌<◌, ◌≤◌, ◌+◌, ◌-◌, ◌↔◌, ◌⊎◌, ℕ, zero, suc, List, [], ◌∷◌, true, false, Bool, Option, None, Some, Result, Ok, Err, IfOk, IsTrue, length, map, slice_get, inl, inr, refl, sym, ap, subst, ◌∙◌, arith}
 use Rattle.std.proofs.lemmas.Bool.{cases_lt}
 use Rattle.std.proofs.lemmas.Option.{slice_get_within}
 use Rattle.ft_types.specs.declared.names.TheConstants.{COUNT_LIMIT}
@@ -18,7 +18,7 @@ use Rattle.hart_lease.proofs.steps.Seen.{write_right}
 use Rattle.std.specs.Prelude.{slice_index_or, slice_set}
 use Rattle.leading.specs.declared.waiting.TheConstants.{LOOP}
 use Rattle.guest_image.specs.Machine.{MachineState}
-use Rattle.leading.specs.Waiting.{GoesRound, HasHeardAll, StandsAgain, TakesStep, TakesSteps, Waits, only_read}
+use Rattle.leading.specs.Waiting.{GoesRound, HasHeardAll, OnlyWaits, StandsAgain, TakesStep, TakesSteps, Waits, only_read}
 
 -- ---- pages that may be read alone
 
@@ -71,7 +71,7 @@ pub no_step : (r : Tick) (h k : Hart) (ram : Ram) → (r ≡ tick.Done → ⊥) 
     OnMemory r (IsOutput [] h ram) → TakesStep ram h k → ⊥
 no_step tick.Done h k ram not miss halted memory step = not refl
 no_step (tick.Miss page want) h k ram not miss halted memory step =
-    let no : None ≡ Some (page, want) = sym step.taken.granted ∙ miss.missing in cc
+    let no = sym step.taken.granted ∙ miss.missing in cc
 no_step tick.Halted h k ram not miss halted memory step = let no : true ≡ false = sym halted ∙ step.taken.running in cc
 no_step tick.Memory h k ram not miss halted memory step =
     let none = ap length step.silent in
@@ -98,6 +98,10 @@ same_end (suc n) ram h k other (mid, before, step) (mid2, before2, step2) =
 pub one_more : (n : ℕ) (ram : Ram) (h mid k : Hart) → TakesSteps n ram h mid → TakesStep ram mid k → TakesSteps (n + 1) ram h k
 one_more n ram h mid k before step =
     let up : suc n ≡ n + 1 = omega arith in subst (λ (m : ℕ). TakesSteps m ram h k) up (mid, before, step)
+
+-- by a step over pages that are the same
+pub one_further : (n : ℕ) (ram seen : Ram) (h mid k : Hart) → seen ≡ ram → TakesSteps n ram h mid → TakesStep seen mid k → TakesSteps (n + 1) ram h k
+one_further n ram seen h mid k same before step = one_more n ram h mid k before (subst (λ (r : Ram). TakesStep r mid k) same step)
 
 -- what stands at the front of more steps
 front : (n many : ℕ) (ram : Ram) (h k : Hart) → n < many → TakesSteps many ram h k →
@@ -160,14 +164,20 @@ same_hart x s h p q = let e : Some s ≡ Some h = sym p ∙ q in cc
 
 pub both_wait : (machine : MachineState) (hart : ℕ) (s h : Hart) (ram : Ram) (x : Option Hart) (b c : Bool) → x ≡ Some s → x ≡ Some h → ram ≡ only_read machine →
     b ≡ true → ((b ≡ true) ↔ HasHeardAll machine hart s) → ((c ≡ true) ↔ ((s.halted ≡ true) ⊎ GoesRound ram s)) → (c ≡ true) ↔ Waits machine hart h
-both_wait machine hart s h ram x b c there at seen yes heard round =
+both_wait machine hart s h ram x b c there at seen holds heard round =
     subst (λ (k : Hart). (c ≡ true) ↔ Waits machine hart k) (same_hart x s h there at) (
-      λ e. (heard.0 yes, subst (λ (r : Ram). (s.halted ≡ true) ⊎ GoesRound r s) seen (round.0 e)),
+      λ e. (heard.0 holds, subst (λ (r : Ram). (s.halted ≡ true) ⊎ GoesRound r s) seen (round.0 e)),
       λ waits. round.1 (subst (λ (r : Ram). (s.halted ≡ true) ⊎ GoesRound r s) (sym seen) waits.1),
     )
 
 pub not_heard : (machine : MachineState) (hart : ℕ) (s h : Hart) (x : Option Hart) (b : Bool) → x ≡ Some s → x ≡ Some h → b ≡ false →
-    ((b ≡ true) ↔ HasHeardAll machine hart s) → (false ≡ true) ↔ Waits machine hart h
-not_heard machine hart s h x b there at no heard =
-    subst (λ (k : Hart). (false ≡ true) ↔ Waits machine hart k) (same_hart x s h there at)
-    (λ e. absurd (cc e), λ waits. absurd (let yes = heard.1 waits.0 in cc))
+    ((b ≡ true) ↔ HasHeardAll machine hart s) → (b ≡ true) ↔ Waits machine hart h
+not_heard machine hart s h x b there at fails heard =
+    subst (λ (k : Hart). (b ≡ true) ↔ Waits machine hart k) (same_hart x s h there at)
+    (λ e. absurd (let both : true ≡ false = sym e ∙ fails in cc), λ waits. heard.1 waits.0)
+
+-- a machine all of whose harts wait, where nothing is handed to one
+pub only_waits : {E : Type 0} (r : Result Bool E) (N : Type 0) (m n : MachineState) → m ≡ n → N → IfOk r (λ waits. IsTrue waits ↔ OnlyWaits m) →
+    IfOk r (λ waits. IsTrue waits ↔ (N × OnlyWaits n))
+only_waits (Err e) N m n same none is = tt
+only_waits (Ok b) N m n same none is = (λ e. (none, subst OnlyWaits same (is.0 e)), λ all. is.1 (subst OnlyWaits (sym same) all.1))
