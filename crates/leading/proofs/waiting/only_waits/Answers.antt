@@ -28,7 +28,7 @@ loop-number-preserved c = record {
         let number = c.new.ensures in
         let e : hart ≡ c.new.result = omega (arith, lt, over, number) in
         subst (λ k. Waits c.args.machine.now k h) (sym e)
-            ((c.waits.ensures.waits h (ap (slice_get c.args.machine.now.harts) (sym e) ∙ at)).0 c.if-not-waits.false)
+        ((c.waits.ensures.waits h (ap (slice_get c.args.machine.now.harts) (sym e) ∙ at)).0 c.if-not-waits.false)
   ];
 }
 
