@@ -114,9 +114,8 @@ impl Keeping {
     /// Leaves a position to be acknowledged on all outputs.
     fn acknowledge<R: Wait>(&self, rt: &R, outputs: &[Post], position: Option<Position>) {
         if let Some(position) = position {
-            let acknowledgement = self.acknowledgement_of(&position);
             for output in outputs {
-                output.leave(rt, acknowledgement);
+                output.leave(rt, self.acknowledgement_of(&position));
             }
         }
     }
