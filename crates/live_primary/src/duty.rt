@@ -10,7 +10,7 @@ use crate::office::Office;
 use crate::outset::{Outset, frame_bytes, set_out};
 use crate::pace::{FIRST_ROUND, LONE_ROUND, SHORT_ROUNDS, is_sent, next_blind, next_round};
 use ends::{Door, Event, Fault, Host, Pen, Receiver, refuse, row};
-use ft_types::{Count, Guest, Keeper, Memory, Term};
+use ft_types::{Count, Guest, Memory, Term};
 use leading::{Came, Heard, Leader, Spacing};
 use live_words::PrimaryWords;
 use primary::Released;
@@ -127,15 +127,13 @@ fn tell_of<R: AllocGlobal + Wait>(
     }
 }
 
-/// What a line says.
-#[derive(Drop)]
+/// What a line says, beside that a keeper asks for all frames.
+#[derive(Clone, Copy)]
 enum Said {
     /// A client wants this.
     Request(Request),
     /// A keeper has this.
     Acknowledgement(Acknowledgement),
-    /// A keeper asks for all frames.
-    Again(Keeper),
 }
 
 /// What a line of the input with this number says, if anything: clients speak by the first so many, keepers by the others.
@@ -147,10 +145,7 @@ fn read_said(guest: &Guest, requests: usize, input: usize, line: &LineText) -> O
     if input < requests {
         return Some(Said::Request(read_request(guest.harts(), line)?));
     }
-    if let Some(acknowledgement) = read_acknowledgement(guest, line) {
-        return Some(Said::Acknowledgement(acknowledgement));
-    }
-    Some(Said::Again(read_again(guest, line)?))
+    Some(Said::Acknowledgement(read_acknowledgement(guest, line)?))
 }
 
 /// Takes what a client wants.
@@ -193,6 +188,23 @@ fn take_acknowledgement<R: AllocGlobal + Wait>(
     tell_new(rt, leader, duty, office)
 }
 
+/// Sends a keeper all frames once more, where a line of a keeper's input asks for that.
+fn take_again<R: AllocGlobal + Wait>(
+    rt: &R,
+    guest: &Guest,
+    office: &mut Office,
+    input: usize,
+    line: &LineText,
+) -> Result<(), Memory> {
+    if input < office.requests {
+        return Ok(());
+    }
+    match read_again(guest, line.as_slice()) {
+        Some(keeper) => office.begin_anew(rt, keeper),
+        None => Ok(()),
+    }
+}
+
 /// Takes a line of the input with this number.
 fn take_line<R: AllocGlobal + Wait>(
     rt: &R,
@@ -207,8 +219,7 @@ fn take_line<R: AllocGlobal + Wait>(
         Some(Said::Acknowledgement(acknowledgement)) => {
             take_acknowledgement(rt, leader, duty, office, &acknowledgement)
         }
-        Some(Said::Again(keeper)) => office.begin_anew(rt, keeper),
-        None => Ok(()),
+        None => take_again(rt, &duty.guest, office, input, line),
     }
 }
 
