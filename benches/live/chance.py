@@ -197,6 +197,13 @@ def waits(process, what):
     return what()
 
 
+def acknowledgements(image):
+    """What a keeper says that has all that the primary sent so far, again and again."""
+    while True:
+        ends = [int.from_bytes(frame[58:66], "little") for frame in frames_of(contents("frames"))[0] if frame[3] == 1]
+        yield sealed(image, b"ack 2 0 %d" % max(ends, default=0))
+
+
 def over_fifos(chance, live, guest):
     """A keeper or a primary that is sent what was changed by chance, and then what is right: what is not as it must be then."""
     image, kind = guest.image, chance.choice(["keeper", "primary"])
@@ -213,7 +220,7 @@ def over_fifos(chance, live, guest):
     else:
         words = "primary image 2 1 1 in one out out to frames from two with handed".split()
         junk = [times(chance, lines_changed, data, image) for data in (guest.requests, guest.requests, guest.acks)]
-        sent = {"one": chain(junk[:2], [b"0 word %08x\n" % SAID]), "two": chain(junk[2:], repeat(sealed(image, b"ack 2 0 %d" % (2**48 - 1))))}
+        sent = {"one": chain(junk[:2], [b"0 word %08x\n" % SAID]), "two": chain(junk[2:], acknowledgements(image))}
         done = lambda: b"word %08x\n" % SAID in contents("out")
     with open(".err", "wb") as err:
         process = subprocess.Popen([live, *words], stdin=subprocess.DEVNULL, stdout=subprocess.DEVNULL, stderr=err)

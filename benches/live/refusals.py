@@ -23,6 +23,7 @@ WORDS = [0x01070011, 0x01070012, 0x01080012, 0x03070012, 0x02070011, 0x01070012]
 SECONDS = float(os.environ.get("SECONDS_EACH", "20"))
 NAMES, KINDS, ERRORS = ["keeper.0", "hand", "primary", "client"], ["write", "sync", "open", "other"], ["full", "once"]
 # calls that there must be: what is acknowledged or handed over is on disk, a keeper cuts its log as it begins, and what was handed over goes away
+FAULTS = re.compile(r"(fault [^\n]+\n)+")
 OWED = {("keeper.0", "sync"), ("hand", "sync"), ("keeper.0", "other"), ("primary", "other")}
 
 
@@ -66,12 +67,19 @@ class Run:
             return file.read()
 
     def is_told(self, name, status):
-        """A process ended, as it may: with status 1 and a line of fault; of two that hand over both may. Nothing is refused from here on."""
+        """A process ended, as it may: with status 1 and lines of fault, as a path that fails is told before. Nothing is refused from here on."""
         if status != 1:
             self.wrong.append(f"it ended with {status}")
-        if not re.fullmatch(r"fault [^\n]+\n" + r"(fault [^\n]+\n)?" * (name == "hand"), self.pair.faults(name)):
+        if not FAULTS.fullmatch(self.pair.faults(name)):
             self.wrong.append(f"it said {self.pair.faults(name)!r}")
         self.pair.around, self.became = {}, "ended"
+
+    def is_ended(self, process):
+        """Where a path fails for good the process goes on and has told it: whoever reads that ends it. Nothing is refused from here on."""
+        if not FAULTS.fullmatch(self.pair.faults(self.name)):
+            self.wrong.append("nothing comes to an end")
+        self.pair.kill(process)
+        self.pair.around, self.became = {}, "was ended"
 
     def mends(self, k):
         """Where keeper K's log is marked as one that failed, it neither is handed over nor begins; then the mark is removed, as whoever looked at the disk would do."""
@@ -112,11 +120,13 @@ class Run:
         client = self.asks()
         meant = {"keeper.0": pair.keepers[0], "primary": pair.primary}.get(self.name, client)
         has_ended = lambda process: process.poll() is not None
-        if not waits(lambda: has_ended(client) or has_ended(meant)):
-            self.wrong.append("nothing comes to an end")
+        stands = not waits(lambda: has_ended(client) or has_ended(meant))
         before = self.printed()
-        if has_ended(meant) and (meant is not client or client.returncode != 0):
-            self.is_told(self.name, meant.returncode)
+        if stands or has_ended(meant) and (meant is not client or client.returncode != 0):
+            if stands:
+                self.is_ended(meant)
+            else:
+                self.is_told(self.name, meant.returncode)
             client = self.begins_again(client)
             if not waits(lambda: has_ended(client)):
                 self.wrong.append("the client comes to no end")
