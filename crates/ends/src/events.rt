@@ -13,6 +13,8 @@ use wire::LineText;
 pub enum Event {
     /// The input with this number brought lines, all that ended in a piece, which stand here without their line feeds.
     Lines(usize, Vec<LineText>),
+    /// The same of an input that is read no faster than its lines are taken, and where those go back to that can't be taken yet.
+    Paced(usize, Vec<LineText>, Sender<Vec<LineText>>),
     /// An input is at its end, for good.
     Ended,
     /// The process can't go on.

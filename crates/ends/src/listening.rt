@@ -2,7 +2,7 @@
 //! what it brought, a spare one goes on in its place.
 
 use crate::attempts::Attempts;
-use crate::events::{Door, Event, Gone, Taker, bring_as};
+use crate::events::{Door, Event, Gone, Taker, bring_as, row};
 use crate::faults::{Fault, NamedFile};
 use crate::files::is_fifo;
 use crate::host::Host;
@@ -13,10 +13,14 @@ use std::fs::File;
 use std::io::Read;
 use std::sync::{Arc, Mutex, Wait};
 use std::thread;
+use std::time::Duration;
 use wire::{LineFeed, LineText};
 
 /// How many bytes are read at once.
 const PIECE: usize = 4096;
+
+/// How many milliseconds go by before lines are brought again that could not be taken.
+const PAUSE: u64 = 5;
 
 /// Where an input is read, which one thread does at a time.
 #[derive(Drop)]
@@ -51,9 +55,19 @@ struct Input {
 struct Hall<T: Drop> {
     inputs: Vec<Input>,
     to: Door<Event, T>,
-    /// Whether there are spare threads.
-    has_spares: bool,
+    mode: Listening,
     calls: Receiver<usize, Global>,
+}
+
+/// How inputs are listened on.
+#[derive(Clone, Copy, PartialEq, Eq)]
+pub enum Listening {
+    /// Whoever takes what comes makes no thread wait.
+    Plain,
+    /// It may make one wait: there is a spare one.
+    Relieved,
+    /// There is a spare one, and a file, which nobody writes again, is read no faster than its lines are taken.
+    Paced,
 }
 
 /// By it a spare thread is called to an input.
@@ -151,20 +165,59 @@ impl Source {
 }
 
 impl<T: Drop> Hall<T> {
+    /// The input whose thread may be made to wait.
+    fn by(&self, input: &Input) -> Option<usize> {
+        match self.mode {
+            Listening::Plain => None,
+            Listening::Relieved | Listening::Paced => Some(input.number),
+        }
+    }
+
+    /// Has lines taken, and waits where some can't be taken yet: they are brought again.
+    fn bring_paced<H: Host>(&self, rt: &H, input: &Input, lines: Vec<LineText>) -> Result<(), Gone>
+    where
+        T: Taker<H>,
+    {
+        let mut lines = lines;
+        for _ in rt.forever() {
+            let Ok((to, back)) = row(rt.alloc(), 1) else {
+                return Err(self.stop(rt, Stop::Failed(Fault::Memory)));
+            };
+            let event = Event::Paced(input.number, lines, to);
+            bring_as(rt, &self.to, event, self.by(input))?;
+            match back.recv(rt) {
+                Ok(rest) if rest.is_empty() => return Ok(()),
+                Ok(rest) => lines = rest,
+                Err(_) => return Err(Gone),
+            }
+            let _slept = thread::sleep(rt, Duration::from_millis(PAUSE));
+        }
+        Err(Gone)
+    }
+
     /// Has lines taken.
-    fn bring<H: Host>(&self, rt: &H, input: &Input, lines: Vec<LineText>) -> Result<(), Gone>
+    fn bring<H: Host>(
+        &self,
+        rt: &H,
+        input: &Input,
+        lines: Vec<LineText>,
+        comes_again: bool,
+    ) -> Result<(), Gone>
     where
         T: Taker<H>,
     {
         if lines.is_empty() {
             return Ok(());
         }
-        let by = if self.has_spares {
-            Some(input.number)
-        } else {
-            None
-        };
-        bring_as(rt, &self.to, Event::Lines(input.number, lines), by)
+        if !comes_again && self.mode == Listening::Paced {
+            return self.bring_paced(rt, input, lines);
+        }
+        bring_as(
+            rt,
+            &self.to,
+            Event::Lines(input.number, lines),
+            self.by(input),
+        )
     }
 
     /// Tells why nothing comes any more.
@@ -191,9 +244,10 @@ impl<T: Drop> Hall<T> {
                 return Ok(());
             };
             let came = source.read(rt, input, &mut piece);
+            let comes_again = source.comes_again;
             drop(source);
             match came {
-                Ok(lines) => self.bring(rt, input, lines)?,
+                Ok(lines) => self.bring(rt, input, lines, comes_again)?,
                 Err(stop) => return Err(self.stop(rt, stop)),
             }
         }
@@ -249,12 +303,12 @@ fn start<H: Host, T: Taker<H>>(
     }
 }
 
-/// Starts threads that listen on inputs, whose numbers begin with this one, and so many spare ones.
+/// Starts threads that listen on inputs, whose numbers begin with this one.
 pub fn listen_all<H: Host, T: Taker<H>>(
     rt: &H,
     first: usize,
     paths: &[&str],
-    spares: usize,
+    mode: Listening,
     to: &Door<Event, T>,
 ) -> Result<Relief, Memory> {
     let (calls, called) = bounded(rt.alloc(), 1)?;
@@ -263,14 +317,14 @@ pub fn listen_all<H: Host, T: Taker<H>>(
         Hall {
             inputs: inputs_of(rt.alloc(), first, paths)?,
             to: to.copy()?,
-            has_spares: spares > 0,
+            mode,
             calls: called,
         },
     )?;
     for place in 0..paths.len() {
         start(rt, &hall, Some(place))?;
     }
-    for _spare in 0..spares {
+    if mode != Listening::Plain {
         start(rt, &hall, None)?;
     }
     Ok(Relief { first, calls })

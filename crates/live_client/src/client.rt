@@ -6,8 +6,8 @@ use crate::names::name_in;
 use asking::{Heard, Talk, WordsFault, read_words, told_line};
 use crossbeam_channel::RecvTimeoutError;
 use ends::{
-    Door, Event, Fault, Host, Keeps, NamedFile, Post, Receiver, Waiting, Writer, begin_posts,
-    file_fault, leave_all, listen_all, read_file, row, tell,
+    Door, Event, Fault, Host, Keeps, Listening, NamedFile, Post, Receiver, Waiting, Writer,
+    begin_posts, file_fault, leave_all, listen_all, read_file, row, tell,
 };
 use ft_types::{HART_LIMIT, Hart, Memory};
 use live_words::ClientWords;
@@ -84,7 +84,7 @@ impl Client {
         let to = Door::new(to, Arc::new(rt.alloc(), Waiting)?);
         let mut threads = Vec::new(rt.alloc());
         let posts = begin_posts(rt, 0, &words.requests, Keeps::Last, &to, &mut threads)?;
-        let _none = listen_all(rt, 0, &words.answers, 0, &to)?;
+        let _none = listen_all(rt, 0, &words.answers, Listening::Plain, &to)?;
         Ok(Client {
             talk,
             words: many,
@@ -180,7 +180,7 @@ impl Client {
     /// Takes an event.
     fn take<H: Host>(&mut self, rt: &H, event: Event) -> Result<(), Fault> {
         match event {
-            Event::Lines(_, lines) => {
+            Event::Lines(_, lines) | Event::Paced(_, lines, _) => {
                 for line in &lines {
                     self.hear(rt, line)?;
                     self.go_on(rt)?;

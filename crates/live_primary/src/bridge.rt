@@ -25,6 +25,9 @@ pub(crate) struct Bridge {
     turns: TurnReceiver<(), Global>,
 }
 
+/// How often events are taken before answers are written.
+const TAKES: u8 = 2;
+
 /// What is left to do behind events that were taken.
 #[derive(Drop)]
 struct Served {
@@ -90,14 +93,9 @@ impl<R: AllocGlobal + Wait> Taker<R> for Bridge {
     /// Takes the events that are there. Where another thread has the helm, that one looks for events behind it.
     fn serve(&self, rt: &R, by: Option<usize>) {
         for _ in rt.forever() {
-            let Some(mut watch) = self.watch.try_lock() else {
+            let Some(Served { calls, pen }) = self.take(rt, by) else {
                 return;
             };
-            if watch.helm.is_none() {
-                return;
-            }
-            let Served { calls, pen } = watch.serve(rt, &self.events, by);
-            drop(watch);
             // Whoever reads answers may make this thread wait: what was left for it meanwhile is taken by another one.
             if calls || pen.is_some() && !self.events.is_empty() {
                 let _left = self.turn.try_send(rt, ());
@@ -126,6 +124,36 @@ impl Bridge {
             turn,
             turns,
         })
+    }
+
+    /// Takes the events that are there, and those that came meanwhile, so that no thread has to be woken for them before answers are written. None where
+    /// another thread has the helm, or nobody leads any more.
+    fn take<R: AllocGlobal + Wait>(&self, rt: &R, by: Option<usize>) -> Option<Served> {
+        let mut taken: Option<Served> = None;
+        for _more in 0..TAKES {
+            let Some(mut watch) = self.watch.try_lock() else {
+                break;
+            };
+            if watch.helm.is_none() {
+                break;
+            }
+            let Served { calls, pen } = watch.serve(rt, &self.events, by);
+            drop(watch);
+            let pen = match taken {
+                Some(
+                    Served {
+                        pen: Some(held),
+                        ..
+                    },
+                ) => Some(held),
+                _ => pen,
+            };
+            taken = Some(Served { calls, pen });
+            if calls || self.events.is_empty() {
+                break;
+            }
+        }
+        taken
     }
 
     /// Leads until all inputs are at their end, and only waiting is left.

@@ -148,22 +148,22 @@ fn read_said(guest: &Guest, requests: usize, input: usize, line: &LineText) -> O
     Some(Said::Acknowledgement(read_acknowledgement(guest, line)?))
 }
 
-/// Takes what a client wants.
+/// Takes what a client wants. Whether it need not come again: its hart had room for it.
 fn take_request<R: AllocGlobal + Wait>(
     rt: &R,
     leader: &mut Leader,
     duty: &mut Duty,
     office: &mut Office,
     request: &Request,
-) -> Result<(), Memory> {
+) -> Result<bool, Memory> {
     if let Request::From { hart, number } = *request
         && office.lacks_none(hart, number)
     {
-        return Ok(());
+        return Ok(true);
     }
     let heard = leader.hear(rt.alloc(), request)?;
     if !tell_of(rt, office, request, &heard)? {
-        return Ok(());
+        return Ok(!matches!(heard, Heard::Came(Came::Busy)));
     }
     duty.steps = if leader.kept() > 0 {
         FIRST_ROUND
@@ -172,7 +172,7 @@ fn take_request<R: AllocGlobal + Wait>(
     };
     duty.blind = 0;
     duty.next = Next::Lead;
-    Ok(())
+    Ok(true)
 }
 
 /// Takes what a keeper has.
@@ -205,7 +205,7 @@ fn take_again<R: AllocGlobal + Wait>(
     }
 }
 
-/// Takes a line of the input with this number.
+/// Takes a line of the input with this number. Whether it need not come again.
 fn take_line<R: AllocGlobal + Wait>(
     rt: &R,
     leader: &mut Leader,
@@ -213,14 +213,33 @@ fn take_line<R: AllocGlobal + Wait>(
     office: &mut Office,
     input: usize,
     line: &LineText,
-) -> Result<(), Memory> {
+) -> Result<bool, Memory> {
     match read_said(&duty.guest, office.requests, input, line) {
-        Some(Said::Request(request)) => take_request(rt, leader, duty, office, &request),
+        Some(Said::Request(request)) => return take_request(rt, leader, duty, office, &request),
         Some(Said::Acknowledgement(acknowledgement)) => {
-            take_acknowledgement(rt, leader, duty, office, &acknowledgement)
+            take_acknowledgement(rt, leader, duty, office, &acknowledgement)?;
         }
-        None => take_again(rt, &duty.guest, office, input, line),
+        None => take_again(rt, &duty.guest, office, input, line)?,
     }
+    Ok(true)
+}
+
+/// Takes lines of the input with this number, up to the first for which there is no room: that one and those behind it, which are to come again.
+fn take_paced<R: AllocGlobal + Wait>(
+    rt: &R,
+    leader: &mut Leader,
+    duty: &mut Duty,
+    office: &mut Office,
+    input: usize,
+    lines: Vec<LineText>,
+) -> Result<Vec<LineText>, Memory> {
+    let mut rest = Vec::new(rt.alloc());
+    for line in lines {
+        if !rest.is_empty() || !take_line(rt, leader, duty, office, input, &line)? {
+            rest.push(line)?;
+        }
+    }
+    Ok(rest)
 }
 
 /// Takes an event.
@@ -234,8 +253,13 @@ fn take<R: AllocGlobal + Wait>(
     match event {
         Event::Lines(input, lines) => {
             for line in &lines {
-                take_line(rt, leader, duty, office, input, line)?;
+                let _comes_again = take_line(rt, leader, duty, office, input, line)?;
             }
+            Ok(())
+        }
+        Event::Paced(input, lines, back) => {
+            let rest = take_paced(rt, leader, duty, office, input, lines)?;
+            let _left = back.try_send(rt, rest);
             Ok(())
         }
         Event::Ended => {

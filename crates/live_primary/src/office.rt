@@ -4,7 +4,8 @@ ghost use Rattle.std.specs.Prelude.{◌≡◌, length, IfOk};
 
 use crate::outset::Removed;
 use ends::{
-    Door, Event, Host, Keeps, Pen, Post, Relief, Taker, Writer, begin_posts, leave_all, listen_all,
+    Door, Event, Host, Keeps, Listening, Pen, Post, Relief, Taker, Writer, begin_posts, leave_all,
+    listen_all,
 };
 use ft_types::{Count, Counts, HART_LIMIT, Hart, Keeper, Memory, Output, Term};
 use live_words::PrimaryWords;
@@ -35,7 +36,10 @@ pub(crate) struct Office {
     /// Whether answers wait for the pen.
     waits: bool,
     writing: Option<Writing>,
-    relief: Relief,
+    /// By it the thread of a client's input is relieved.
+    for_clients: Relief,
+    /// The same for a keeper's input.
+    for_keepers: Relief,
 }
 
 /// The thread of an input, which writes answers.
@@ -104,8 +108,14 @@ impl Office {
         )?;
         let _waits = leave_all(rt, &mut keepers, frames, Writer::Thread)?;
         let requests = words.requests.len();
-        let _none = listen_all(rt, 0, &words.requests, 0, to)?;
-        let relief = listen_all(rt, requests, &words.acknowledgements, 1, to)?;
+        let for_clients = listen_all(rt, 0, &words.requests, Listening::Paced, to)?;
+        let for_keepers = listen_all(
+            rt,
+            requests,
+            &words.acknowledgements,
+            Listening::Relieved,
+            to,
+        )?;
         let office = Office {
             requests,
             answers,
@@ -117,7 +127,8 @@ impl Office {
             by: None,
             waits: false,
             writing: None,
-            relief,
+            for_clients,
+            for_keepers,
         };
         Ok((office, threads))
     }
@@ -217,7 +228,11 @@ impl Office {
         writing.looks = writing.looks.saturating_add(1);
         let is_done = writing.pen.is_done();
         if !is_done && writing.looks >= LOOKS {
-            self.relief.call(rt, writing.input);
+            if writing.input < self.requests {
+                self.for_clients.call(rt, writing.input);
+            } else {
+                self.for_keepers.call(rt, writing.input);
+            }
         }
         if is_done || writing.looks >= LOOKS {
             self.writing = None;
