@@ -159,10 +159,9 @@ refuses() {
     is "$what: line" "$line" "$(cat "$work/err")"
 }
 
-# Files as inputs and outputs are read and written once, and a primary and a client end. Of a file nobody asks again, so it has no more requests than wait at the most.
+# Files as inputs and outputs are read and written once, and a primary and a client end.
 ask 1 "$work" files
-awk 'NR <= 1000 { print "0 word", $1, NR - 1 }' "$work/files.words" > "$work/requests"
-head -n 1000 "$work/files.wanted" > "$work/requests.wanted"
+awk '{ print "0 word", $1, NR - 1 }' "$work/files.words" > "$work/requests"
 for name in none frames answers log.0; do : > "$work/$name"; done
 "$live" hand "$image" 0 "$work/log.0" 1 > "$work/handed"
 cp "$work/handed" "$work/again"
@@ -172,7 +171,7 @@ is 'it tells nothing that no keeper has' 0 "$(wc -c < "$work/answers")"
 cp "$work/frames" "$work/log.1"
 for k in 0 2; do : > "$work/log.$k"; done
 outputs "$work" "$work/outputs"
-same 'its frames have each request once' "$work/requests.wanted" "$work/outputs"
+same 'its frames have each request once' "$work/files.wanted" "$work/outputs"
 refuses 'it is started once more' 1 "fault file $work/handed" primary "$image" 1 1 1 "${leads[@]}" "$work/handed"
 refuses 'a client over files' 0 '' client "$work/files.words" 4 1000 to "$work/answers" from <(sed 's/number/term 1 hart 0 number/; s/word/step 1 word/' "$work/files.wanted")
 same 'it prints the answers' "$work/files.wanted" "$work/out"
