@@ -1,5 +1,5 @@
 -- Along the legs of a plan.
-use Rattle.std.proofs.Common.{◌≡◌, ◌<◌, ◌≤◌, ◌+◌, ◌-◌, ◌++◌, ℕ, zero, suc, List, [], ◌∷◌, length, take, drop, get_or, slice_get, Option, Some, None, refl}
+use Rattle.std.proofs.Common.{◌≡◌, ◌<◌, ◌≤◌, ◌+◌, ◌-◌, ◌++◌, ℕ, zero, suc, List, [], ◌∷◌, length, map, take, drop, get_or, slice_get, Option, Some, None, refl}
 use Rattle.std.proofs.Common.{sym, ap, subst, ◌∙◌, arith, add-one, append-nil, append_assoc, length-append, drop-cons}
 use Rattle.std.proofs.Math.Seq.{get_or-append_seam}
 use Rattle.std.proofs.lemmas.List.{take_all, take_more, take-append-drop}
@@ -16,8 +16,8 @@ use Rattle.hart_replay.specs.Replays.{LegLeads, LegsLead, IsOutcome}
 use Rattle.hart_replay.specs.Leading.{IsLegFault, IsLegsFault, IsSoFar}
 use Rattle.hart_replay.proofs.walking.Outcomes.{boot_so_far, goes_far, leg_is, leg_base, leg_at_fault}
 use Rattle.hart_replay.specs.machinery.Going.{HasCome, HasComeIn, IsAt, LeadsOn, FailsOn}
-use Rattle.hart_replay.specs.GoingOn.{GoOnFrom}
-use Rattle.hart_replay.proofs.Fronts.{at_place, there, past_all, at_seam, seam_within, next_is}
+use Rattle.hart_replay.specs.GoingOn.{AreAlike, GoOnFrom, but_notes}
+use Rattle.hart_replay.proofs.Fronts.{at_place, there, past_all, at_seam, seam_within, many_alike, next_is}
 use Rattle.hart_replay.specs.KeepingUp.{KeepsUp}
 use Rattle.hart_replay.proofs.GoingOn.{begun}
 
@@ -83,6 +83,20 @@ split_last [] leg m n (next, leads, same) = (m, refl, subst (λ (x : MachineStat
 split_last (first ∷ front) leg m n (next, one, rest) =
     let (mid, led, leads) = split_last front leg next n rest in (mid, (next, one, led), leads)
 
+-- what legs note leads nowhere
+noting_leads : (legs : List PlannedLeg) (m n : MachineState) → LegsLead legs m n → LegsLead (map but_notes legs) m n
+noting_leads [] m n led = led
+noting_leads (leg ∷ legs) m n (next, leads, rest) = (next, leads, noting_leads legs next n rest)
+
+without_notes : (legs : List PlannedLeg) (m n : MachineState) → LegsLead (map but_notes legs) m n → LegsLead legs m n
+without_notes [] m n led = led
+without_notes (leg ∷ legs) m n (next, leads, rest) = (next, leads, without_notes legs next n rest)
+
+-- so legs lead where others do that are the same but for that
+alike_lead : (front same : List PlannedLeg) → AreAlike front same → (m n : MachineState) → LegsLead front m n → LegsLead same m n
+alike_lead front same alike m n led =
+    without_notes same m n (subst (λ (legs : List PlannedLeg). LegsLead legs m n) (sym alike) (noting_leads front m n led))
+
 -- ---- a plan that goes on from another
 
 module _ (image : ImageContents) (old new : List PlannedLeg) (now : MachineState) (kept : KeepsUp image old now) (plan : IsPlan (guest_of image) new)
@@ -97,43 +111,44 @@ module _ (image : ImageContents) (old new : List PlannedLeg) (now : MachineState
   so_far_old =
       along image old kept.plan on.front [] (on.last ∷ []) on.was (boot_machine image) mid (boot_so_far image old (boot_machine image) kept.plan refl) parts.1
 
-  so_far_new : IsSoFar image new (length on.front) mid
+  so_far_new : IsSoFar image new (length on.same) mid
   so_far_new =
-      along image new plan on.front [] (on.next ∷ on.back) on.is (boot_machine image) mid (boot_so_far image new (boot_machine image) plan refl) parts.1
+      along image new plan on.same [] (on.next ∷ on.back) on.is (boot_machine image) mid (boot_so_far image new (boot_machine image) plan refl)
+      (alike_lead on.front on.same on.alike (boot_machine image) mid parts.1)
 
   within_old : length on.front < length old
   within_old = subst (λ (xs : List PlannedLeg). length on.front < length xs) (sym on.was) (seam_within on.front on.last [])
 
-  within_new : length on.front < length new
-  within_new = subst (λ (xs : List PlannedLeg). length on.front < length xs) (sym on.is) (seam_within on.front on.next on.back)
+  within_new : length on.same < length new
+  within_new = subst (λ (xs : List PlannedLeg). length on.same < length xs) (sym on.is) (seam_within on.same on.next on.back)
 
   here_old : on.last ≡ get_or old (length on.front) on.last
   here_old = sym (ap (λ (xs : List PlannedLeg). get_or xs (length on.front) on.last) on.was ∙ get_or-append_seam on.front on.last [] on.last)
 
-  here_new : on.next ≡ get_or new (length on.front) on.next
-  here_new = sym (ap (λ (xs : List PlannedLeg). get_or xs (length on.front) on.next) on.is ∙ get_or-append_seam on.front on.next on.back on.next)
+  here_new : on.next ≡ get_or new (length on.same) on.next
+  here_new = sym (ap (λ (xs : List PlannedLeg). get_or xs (length on.same) on.next) on.is ∙ get_or-append_seam on.same on.next on.back on.next)
 
   come_on : HasCome on.next mid now
   come_on =
       begun on.last on.next on.begins log mid now (leg_is image old kept.plan (length on.front) mid so_far_old on.last within_old here_old)
-      (leg_is image new plan (length on.front) mid so_far_new on.next within_new here_new)
-      (leg_base image new plan (length on.front) mid so_far_new on.next within_new here_new) parts.2
+      (leg_is image new plan (length on.same) mid so_far_new on.next within_new here_new)
+      (leg_base image new plan (length on.same) mid so_far_new on.next within_new here_new) parts.2
 
-  pub goes_on_at : IsAt image new (length on.front) now
+  pub goes_on_at : IsAt image new (length on.same) now
   goes_on_at =
       record {
         found = mid;
         so_far = so_far_new;
         come =
             subst (λ (o : Option PlannedLeg). HasComeIn o mid now)
-            (sym (ap (λ (xs : List PlannedLeg). slice_get xs (length on.front)) on.is ∙ at_seam on.front on.next on.back)) come_on;
+            (sym (ap (λ (xs : List PlannedLeg). slice_get xs (length on.same)) on.is ∙ at_seam on.same on.next on.back)) come_on;
       }
 
   -- at the place of the last leg of those from which the plan goes on
-  front_at : (first : ℕ) → first + 1 ≡ length old → length on.front ≡ first
+  front_at : (first : ℕ) → first + 1 ≡ length old → length on.same ≡ first
   front_at first many =
       let all : length old ≡ length on.front + 1 = ap length on.was ∙ length-append on.front (on.last ∷ []) in
-      omega (arith, many, all)
+      omega (arith, many, all, many_alike on.front on.same on.alike)
 
   pub goes_on_from : (first : ℕ) → first + 1 ≡ length old → IsAt image new first now
   goes_on_from first many = subst (λ (n : ℕ). IsAt image new n now) (front_at first many) goes_on_at
@@ -144,9 +159,9 @@ pub follows_at : (image : ImageContents) (old new was planned : List PlannedLeg)
 follows_at image old new was planned now machine guest kept plan same on w p e leg is log =
     let all : length old ≡ length on.front + 1 = ap length on.was ∙ length-append on.front (on.last ∷ []) in
     let many : length old - 1 + 1 ≡ length old = omega (arith, all) in
-    let seam = seam_within on.front on.next on.back in
-    let long : length new ≡ length (on.front ++ on.next ∷ on.back) = ap length on.is in
-    let within : length old - 1 < length new = omega (arith, all, seam, long) in
+    let seam = seam_within on.same on.next on.back in
+    let long : length new ≡ length (on.same ++ on.next ∷ on.back) = ap length on.is in
+    let within : length old - 1 < length new = omega (arith, all, seam, long, many_alike on.front on.same on.alike) in
     let here : leg ≡ get_or new (length old - 1) leg =
     subst (λ (xs : List PlannedLeg). leg ≡ get_or xs (length old - 1) leg) p
     (subst (λ (xs : List PlannedLeg). leg ≡ get_or planned (length xs - 1) leg) w is) in

@@ -1,9 +1,9 @@
 -- Whether a plan goes on where another one ends.
-use Rattle.std.proofs.Common.{◌≡◌, ◌<◌, ◌≤◌, ◌+◌, ◌-◌, ◌++◌, ℕ, zero, suc, List, [], ◌∷◌, length, take, drop, get_or, slice_get, Option, Some, None, refl}
+use Rattle.std.proofs.Common.{◌≡◌, ◌<◌, ◌≤◌, ◌+◌, ◌-◌, ◌++◌, ℕ, zero, suc, List, [], ◌∷◌, length, map, take, drop, get_or, slice_get, Option, Some, None, refl}
 use Rattle.std.proofs.Common.{sym, ap, subst, ◌∙◌, arith, add-one, length-append, drop-cons}
-use Rattle.std.proofs.lemmas.List.{take_all, take_more, take-append-drop}
+use Rattle.std.proofs.lemmas.List.{length-map, map-append, take_all, take_more, take-append-drop}
 use Rattle.hart_replay.specs.declared.plans.PlannedLeg.{PlannedLeg}
-use Rattle.hart_replay.specs.GoingOn.{BeginsLeg, IsFront, GoOnFrom}
+use Rattle.hart_replay.specs.GoingOn.{AreAlike, BeginsLeg, IsFront, GoOnFrom, but_notes}
 
 -- ---- places of a list
 
@@ -30,13 +30,27 @@ pub seam_within : {A : Type 0} (front : List A) (x : A) (back : List A) → leng
 seam_within [] x back = omega arith
 seam_within (y ∷ front) x back = let rest = seam_within front x back in omega (arith, rest)
 
+-- ---- legs that are alike
+
+-- there are as many
+pub many_alike : (front same : List PlannedLeg) → AreAlike front same → length same ≡ length front
+many_alike front same alike = sym (length-map same but_notes) ∙ ap length alike ∙ length-map front but_notes
+
+-- one more
+pub more_alike : (front same : List PlannedLeg) (leg other : PlannedLeg) → AreAlike front same → but_notes other ≡ but_notes leg →
+    AreAlike (front ++ leg ∷ []) (same ++ other ∷ [])
+more_alike front same leg other alike one =
+    map-append but_notes same (other ∷ [])
+    ∙ (λ i. alike i ++ one i ∷ [])
+    ∙ sym (map-append but_notes front (leg ∷ []))
+
 pub next_is : (old new : List PlannedLeg) (on : GoOnFrom old new) (first : ℕ) (leg : PlannedLeg) → first + 1 ≡ length old → first < length new →
     leg ≡ get_or new first leg → on.next ≡ leg
 next_is old new on first leg many within is =
     let all : length old ≡ length on.front + 1 = ap length on.was ∙ length-append on.front (on.last ∷ []) in
-    let same : length on.front ≡ first = omega (arith, many, all) in
+    let same : length on.same ≡ first = omega (arith, many, all, many_alike on.front on.same on.alike) in
     let here : slice_get new first ≡ Some on.next =
-    ap (slice_get new) (sym same) ∙ ap (λ (xs : List PlannedLeg). slice_get xs (length on.front)) on.is ∙ at_seam on.front on.next on.back in
+    ap (slice_get new) (sym same) ∙ ap (λ (xs : List PlannedLeg). slice_get xs (length on.same)) on.is ∙ at_seam on.same on.next on.back in
     let both : Some on.next ≡ Some leg = sym here ∙ at_place new first leg within is in
     cc
 
@@ -58,20 +72,19 @@ front_of old new on =
     let same : length on.front ≡ length old - 1 = omega (arith, all) in
     let front : take (length old - 1) old ≡ on.front =
     ap (λ (n : ℕ). take n old) (sym same) ∙ ap (take (length on.front)) on.was ∙ taken_front on.front (on.last ∷ []) in
-    (on.next ∷ on.back, subst (λ (xs : List PlannedLeg). new ≡ xs ++ on.next ∷ on.back) (sym front) on.is)
+    (on.same, on.next ∷ on.back, on.is, subst (λ (xs : List PlannedLeg). AreAlike xs on.same) (sym front) on.alike)
 
 module _ (old new : List PlannedLeg) (last : ℕ) (first next : PlannedLeg) (many : last + 1 ≡ length old) (is_first : first ≡ get_or old last first)
     (within : last < length new) (is_next : next ≡ get_or new last next) where
   pub go_on_is : IsFront (take last old) new → BeginsLeg first next → GoOnFrom old new
-  go_on_is (rest, is) begins =
+  go_on_is (same, rest, is, alike) begins =
       let lt : last < length old = omega (arith, many) in
-      let front : take last new ≡ take last old =
-      ap (λ (n : ℕ). take n new) (sym (taken_many last old (omega (arith, lt))))
-      ∙ ap (take (length (take last old))) is
-      ∙ taken_front (take last old) rest in
+      let so_many : length same ≡ last = many_alike (take last old) same alike ∙ taken_many last old (omega (arith, lt)) in
+      let front : take last new ≡ same = ap (λ (n : ℕ). take n new) (sym so_many) ∙ ap (take (length same)) is ∙ taken_front same rest in
       record {
         front = take last old;
         last = first;
+        same = take last new;
         next = next;
         back = drop (last + 1) new;
         was =
@@ -80,11 +93,11 @@ module _ (old new : List PlannedLeg) (last : ℕ) (first next : PlannedLeg) (man
             ∙ ap (λ (x : PlannedLeg). take last old ++ x ∷ []) (sym is_first);
         is =
             sym (take-append-drop last new)
-            ∙ ap (λ (xs : List PlannedLeg). xs ++ drop last new) front
-            ∙ ap (λ (xs : List PlannedLeg). take last old ++ xs)
+            ∙ ap (λ (xs : List PlannedLeg). take last new ++ xs)
             (drop-cons new last next within
             ∙ ap (λ (x : PlannedLeg). x ∷ drop (suc last) new) (sym is_next)
             ∙ ap (λ (k : ℕ). next ∷ drop k new) (sym (add-one last)));
+        alike = ap (map but_notes) front ∙ alike;
         begins = begins;
       }
 
@@ -99,6 +112,49 @@ module _ (old new : List PlannedLeg) (last : ℕ) (first next : PlannedLeg) (man
       let both : Some on.last ≡ Some first = sym here ∙ at_place old last first (omega (arith, many)) is_first in
       let is : on.last ≡ first = cc in
       let follows = next_is old new on last next many within is_next in (
-        (on.next ∷ on.back, subst (λ (xs : List PlannedLeg). new ≡ xs ++ on.next ∷ on.back) (sym front) on.is),
+        (on.same, on.next ∷ on.back, on.is, subst (λ (xs : List PlannedLeg). AreAlike xs on.same) (sym front) on.alike),
         subst (λ (x : PlannedLeg). BeginsLeg x next) is (subst (λ (x : PlannedLeg). BeginsLeg on.last x) follows on.begins),
       )
+
+-- ---- one list of legs in front of another
+
+-- they are no more
+pub front_fits : (first second : List PlannedLeg) → IsFront first second → length first ≤ length second
+front_fits first second (same, rest, is, alike) =
+    let all : length second ≡ length (same ++ rest) = ap length is in
+    omega (arith, many_alike first same alike, all, length-append same rest)
+
+-- each is the one at its place, but for what it notes
+at_front : (first second : List PlannedLeg) → IsFront first second → (i : ℕ) (d e : PlannedLeg) → i < length first →
+    but_notes (get_or second i e) ≡ but_notes (get_or first i d)
+at_front [] second front i d e lt = absurd (omega (arith, lt))
+at_front (leg ∷ first) second ([], rest, is, alike) i d e lt = cc
+at_front (leg ∷ first) second (s ∷ same, rest, is, alike) zero d e lt =
+    let one : but_notes s ≡ but_notes leg = cc in ap (λ (xs : List PlannedLeg). but_notes (get_or xs zero e)) is ∙ one
+at_front (leg ∷ first) second (s ∷ same, rest, is, alike) (suc i) d e lt =
+    let others : map but_notes same ≡ map but_notes first = cc in
+    ap (λ (xs : List PlannedLeg). but_notes (get_or xs (suc i) e)) is
+    ∙ at_front first (same ++ rest) (same, rest, refl, others) i d e (omega (arith, lt))
+
+pub front_here : (first second : List PlannedLeg) → IsFront first second → (i : ℕ) (leg other : PlannedLeg) → i < length first →
+    leg ≡ get_or first i leg → other ≡ get_or second i other → but_notes other ≡ but_notes leg
+front_here first second front i leg other lt is is_other =
+    ap but_notes is_other ∙ at_front first second front i leg other lt ∙ sym (ap but_notes is)
+
+-- one place further
+pub alike_on : (first second : List PlannedLeg) (i : ℕ) (d e : PlannedLeg) → i < length first → i < length second →
+    AreAlike (take i first) (take i second) → but_notes (get_or second i e) ≡ but_notes (get_or first i d) →
+    AreAlike (take (i + 1) first) (take (i + 1) second)
+alike_on first second i d e lt within so_far one =
+    subst (λ (xs : List PlannedLeg). AreAlike xs (take (i + 1) second)) (sym (take_more first i d lt))
+    (subst (λ (xs : List PlannedLeg). AreAlike (take i first ++ get_or first i d ∷ []) xs) (sym (take_more second i e within))
+    (more_alike (take i first) (take i second) (get_or first i d) (get_or second i e) so_far one))
+
+-- up to the end of the first
+pub all_alike : (first second : List PlannedLeg) (n : ℕ) → length first ≤ n → AreAlike (take n first) (take n second) → IsFront first second
+all_alike first second n end so_far = (
+  take n second,
+  drop n second,
+  sym (take-append-drop n second),
+  subst (λ (xs : List PlannedLeg). AreAlike xs (take n second)) (take_all n first end) so_far,
+)

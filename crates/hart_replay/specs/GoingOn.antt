@@ -1,5 +1,5 @@
 -- When one plan goes on where another one ends.
-use Rattle.std.specs.Prelude.{◌≡◌, ◌<◌, ◌≤◌, ◌++◌, ◌∷◌, ℕ, List, []}
+use Rattle.std.specs.Prelude.{◌≡◌, ◌<◌, ◌≤◌, ◌++◌, ◌∷◌, ℕ, List, [], map}
 use Rattle.ft_types.specs.declared.names.TheConstants.{HART_LIMIT}
 use Rattle.ft_types.specs.Counts.{count_at}
 use Rattle.edge_log.specs.EdgeLog.{AddsLater}
@@ -15,16 +15,26 @@ pub record BeginsLeg (leg later : PlannedLeg) : Type 0 where
   pub edges : AddsLater leg.edges (count_at leg.ends) later.edges
   pub inputs : (hart : ℕ) → hart < HART_LIMIT → HearsMore (inputs_of leg.inputs hart) (count_at leg.ends hart) (inputs_of later.inputs hart)
 
--- the first legs begin the second
-abbrev pub IsFront : List PlannedLeg → List PlannedLeg → Type 0
-IsFront first second = (rest : List PlannedLeg) × (second ≡ first ++ rest)
+-- a leg but for what it notes, of which a replay takes no account
+abbrev pub but_notes : PlannedLeg → PlannedLeg
+but_notes leg = record leg { marks = [] }
 
--- the second legs go on from the first: all of these but the last are theirs too, and the last begins their next
+-- the legs are the same, but for what they note
+abbrev pub AreAlike : List PlannedLeg → List PlannedLeg → Type 0
+AreAlike first second = map but_notes second ≡ map but_notes first
+
+-- the first legs begin the second, but for what they note
+abbrev pub IsFront : List PlannedLeg → List PlannedLeg → Type 0
+IsFront first second = (same : List PlannedLeg) × (rest : List PlannedLeg) × (second ≡ same ++ rest) × AreAlike first same
+
+-- the second legs go on from the first: all of these but the last are theirs too, but for what they note, and the last begins their next
 pub record GoOnFrom (old new : List PlannedLeg) : Type 0 where
   pub front : List PlannedLeg
   pub last : PlannedLeg
+  pub same : List PlannedLeg
   pub next : PlannedLeg
   pub back : List PlannedLeg
   pub was : old ≡ front ++ last ∷ []
-  pub is : new ≡ front ++ next ∷ back
+  pub is : new ≡ same ++ next ∷ back
+  pub alike : AreAlike front same
   pub begins : BeginsLeg last next

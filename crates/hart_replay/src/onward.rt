@@ -3,24 +3,23 @@
 ghost use Rattle.std.specs.Prelude.{◌≡◌, ◌↔◌, ◌<◌, ◌≤◌, ℕ, IsTrue};
 ghost use Rattle.ft_types.specs.Counts.{count_at};
 ghost use Rattle.input_log.specs.Inputs.{HearsMore, inputs_of};
-ghost use Rattle.hart_replay.specs.GoingOn.{BeginsLeg, GoOnFrom, IsFront};
+ghost use Rattle.hart_replay.specs.GoingOn.{BeginsLeg, GoOnFrom, IsFront, but_notes};
 
 use crate::plans::PlannedLeg;
 use ft_types::{HART_LIMIT, Hart, same_counts};
 
-/// Whether the legs are equal.
+/// Whether the legs are equal, but for what they note.
 fn same_leg(leg: &PlannedLeg, other: &PlannedLeg) -> bool
-    ensures { IsTrue result ↔ (leg.now ≡ other.now) }
+    ensures { IsTrue result ↔ (but_notes other.now ≡ but_notes leg.now) }
 {
     leg.term == other.term
         && same_counts(leg.base.as_slice(), other.base.as_slice())
         && same_counts(leg.ends.as_slice(), other.ends.as_slice())
-        && same_counts(leg.marks.as_slice(), other.marks.as_slice())
         && leg.edges.same(&other.edges)
         && leg.inputs.same(&other.inputs)
 }
 
-/// Whether the first legs begin the second.
+/// Whether the first legs begin the second, but for what they note.
 pub fn begin_legs(first: &[PlannedLeg], second: &[PlannedLeg]) -> bool
     ensures { IsTrue result ↔ IsFront first.now second.now }
 {

@@ -177,16 +177,20 @@ impl Client {
         Ok(())
     }
 
+    /// Hears lines, one behind the other.
+    fn hear_all<H: Host>(&mut self, rt: &H, lines: &[LineText]) -> Result<(), Fault> {
+        for line in lines {
+            self.hear(rt, line)?;
+            self.go_on(rt)?;
+        }
+        Ok(())
+    }
+
     /// Takes an event.
     fn take<H: Host>(&mut self, rt: &H, event: Event) -> Result<(), Fault> {
         match event {
-            Event::Lines(_, lines) | Event::Paced(_, lines, _) => {
-                for line in &lines {
-                    self.hear(rt, line)?;
-                    self.go_on(rt)?;
-                }
-                Ok(())
-            }
+            Event::Lines(_, lines) => self.hear_all(rt, &lines),
+            Event::Paced(_, lines, _) => self.hear_all(rt, &lines),
             Event::Ended => {
                 self.open = self.open.saturating_sub(1);
                 Ok(())

@@ -105,7 +105,7 @@ module _ (image : ImageContents) (store : StoreView) (rules : IsStore store) (fr
 
   module _ (new : Work) (gone : HasGone store end.counts old new) (is_settled : IsSettled new end.counts) (is_straight : new.astray ≡ false) where
     abbrev legs_on : GoOnFrom (front ++ old.leg ∷ []) (front ++ new.leg ∷ [])
-    legs_on = record { front = front; last = old.leg; next = new.leg; back = []; was = refl; is = refl; begins = gone.begins }
+    legs_on = record { front = front; last = old.leg; same = front; next = new.leg; back = []; was = refl; is = refl; alike = refl; begins = gone.begins }
 
     new_leg : IsLeg image.harts new.leg
     new_leg = is_leg new.leg gone.facts.facts gone.begins gone.ends

@@ -10,7 +10,7 @@ use Rattle.hart_replay.specs.Plans.{IsPlan}
 use Rattle.hart_replay.specs.Replays.{IsOutcome}
 use Rattle.hart_replay.specs.machinery.Going.{IsAt, LeadsOn}
 use Rattle.hart_replay.proofs.Along.{all_led, goes_on_from, goes_to_next}
-use Rattle.hart_replay.proofs.Fronts.{front_of, go_on_is, go_on_of, next_is}
+use Rattle.hart_replay.proofs.Fronts.{front_of, go_on_is, go_on_of, many_alike, next_is}
 use Rattle.edge_log.specs.EdgeLog.{IsLog}
 use Rattle.hart_replay.specs.KeepingUp.{KeepsUp}
 use Rattle.warm_backup.specs.declared.stand.Stand.{Stand}
@@ -51,10 +51,10 @@ module _ (front : List PlannedLeg) (cut : PlannedLeg) (legs : List PlannedLeg) w
   pub more_legs : GoOnFrom old legs → length front < length legs
   more_legs on =
       let was : length old ≡ length on.front + 1 = ap length on.was ∙ length-append on.front (on.last ∷ []) in
-      let is : length legs ≡ length (on.front ++ on.next ∷ on.back) = ap length on.is in
-      let more = length-append on.front (on.next ∷ on.back) in
+      let is : length legs ≡ length (on.same ++ on.next ∷ on.back) = ap length on.is in
+      let more = length-append on.same (on.next ∷ on.back) in
       let m = many in
-      omega (arith, was, is, more, m)
+      omega (arith, was, is, more, m, many_alike on.front on.same on.alike)
 
 -- ---- the last leg led on
 

@@ -101,7 +101,7 @@ module _ (store : StoreView) (rules : IsStore store) (p : Position) (position : 
 module _ (image : ImageContents) (front : List PlannedLeg) (old new : PlannedLeg) (now : MachineState) (kept : KeepsUp image (front ++ old ∷ []) now)
     (is : IsLeg image.harts new) (begins : BeginsLeg old new) (log : IsLog new.edges.start new.edges.rows) where
   abbrev pub on : GoOnFrom (front ++ old ∷ []) (front ++ new ∷ [])
-  on = record { front = front; last = old; next = new; back = []; was = refl; is = refl; begins = begins }
+  on = record { front = front; last = old; same = front; next = new; back = []; was = refl; is = refl; alike = refl; begins = begins }
 
   pub plan : IsPlan (guest_of image) (front ++ new ∷ [])
   plan = plan_anew old new begins.term begins.base (guest_of image) front kept.plan is
