@@ -132,8 +132,7 @@ fn read(alloc: Global, bytes: &[u8]) -> Result<(Handed, usize), Fail> {
 
 /// A log that is fenced off is handed over.
 fn handed(alloc: Global, fenced: FencedLog<Shelf>) -> Result<Left, Fail> {
-    let Ok(HandedOver { bytes, files }) =
-        fenced.hand_over(alloc, &guest_of(1), Keeper::new(NUMBER))
+    let Ok(HandedOver { bytes, files }) = fenced.hand_over(alloc, &guest_of(1), Keeper::new(NUMBER))
     else {
         return Err("the log is handed over".into());
     };
