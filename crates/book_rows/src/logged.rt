@@ -5,7 +5,7 @@ ghost use Rattle.std.specs.Prelude.{⊤};
 use crate::bytes::{FIRST_WORD, OPENING as OPENING_BYTES, WORD};
 use crate::come::{Come, frame_of, guest_of};
 use fixtures::guest_with;
-use ft_types::{Count, Guest, Term};
+use ft_types::{Count, Guest, Keeper, Term, first_line};
 use stations::{
     FenceFault, FencedLog, FilesFault, HandedOver, KeeperFiles, KeeperStation, WrittenFeed,
     WrittenFrame, fence_off, handshake, is_of, read_frames,
@@ -13,6 +13,7 @@ use stations::{
 use std::alloc::Global;
 use std::result::Result;
 use std::test::Fail;
+use wire::{Handed, read_handed};
 
 /// A log and its last fence in memory.
 #[derive(Drop)]
@@ -57,12 +58,15 @@ impl KeeperFiles for Shelf {
     }
 }
 
-/// What is acknowledged: a term and a count of the one hart.
+/// The number of the keeper.
+const NUMBER: u8 = 3;
+
+/// What it acknowledges: a term and a count of the one hart.
 type Told = Option<(Term, Count)>;
 
 /// A keeper begins over the log.
 fn begin(alloc: Global, shelf: &mut Shelf) -> Result<KeeperStation, Fail> {
-    match KeeperStation::begin(alloc, guest_of(1), shelf) {
+    match KeeperStation::begin(alloc, guest_of(1), Keeper::new(NUMBER), shelf) {
         Ok(station) => Ok(station),
         Err(_) => Err("the log is a keeper's".into()),
     }
@@ -70,14 +74,15 @@ fn begin(alloc: Global, shelf: &mut Shelf) -> Result<KeeperStation, Fail> {
 
 /// It logs what came, and acknowledges.
 fn log(alloc: Global, station: KeeperStation, shelf: &mut Shelf) -> Result<Told, Fail> {
-    let Ok((_station, position)) = station.log_and_acknowledge(alloc, shelf) else {
+    let Ok((_station, said)) = station.log_and_acknowledge(alloc, shelf) else {
         return Err("the log takes it".into());
     };
-    match position {
-        Some(it) => match it.counts.as_slice() {
+    match said {
+        Some(it) if it.keeper == Keeper::new(NUMBER) => match it.counts.as_slice() {
             [count] => Ok(Some((it.term, *count))),
             _ => Err("one hart".into()),
         },
+        Some(_) => Err("the keeper's own number".into()),
         None => Ok(None),
     }
 }
@@ -92,11 +97,11 @@ fn keep(alloc: Global, shelf: &mut Shelf, comes: &[Come]) -> Result<Told, Fail> 
     log(alloc, station, shelf)
 }
 
-/// What is left of a log, and how many bytes of how many frames were handed over; none where it is fenced off for a later term.
-type Handed = (Shelf, Option<(usize, usize)>);
+/// What is left of a log, and what was handed over, with how many frames of the guest; none where it is fenced off for a later term.
+type Left = (Shelf, Option<(Handed, usize)>);
 
 /// A log is handed over to a term.
-fn hand(alloc: Global, shelf: Shelf, term: Term) -> Result<Handed, Fail> {
+fn hand(alloc: Global, shelf: Shelf, term: Term) -> Result<Left, Fail> {
     match fence_off(alloc, shelf, term) {
         Ok(fenced) => handed(alloc, fenced),
         Err(refused) => match refused.fault {
@@ -106,17 +111,32 @@ fn hand(alloc: Global, shelf: Shelf, term: Term) -> Result<Handed, Fail> {
     }
 }
 
-/// How many bytes of how many frames of the guest are handed over.
-fn handed(alloc: Global, fenced: FencedLog<Shelf>) -> Result<Handed, Fail> {
-    let Ok(HandedOver { files, frames, .. }) = fenced.hand_over(alloc, &guest_of(1)) else {
-        return Err("the log is handed over".into());
+/// What the line says, and how many frames of the guest stand behind it: all bytes that it says.
+fn read(alloc: Global, bytes: &[u8]) -> Result<(Handed, usize), Fail> {
+    let Some((text, frames)) = first_line(bytes) else {
+        return Err("a line".into());
     };
-    let front = read_frames(alloc, &frames)?;
+    let Some(handed) = read_handed(&guest_of(1), text) else {
+        return Err("a line that hands a log over".into());
+    };
+    let front = read_frames(alloc, frames)?;
+    if front.size != frames.len() || handed.length != front.size as u64 {
+        return Err("whole frames".into());
+    }
     let mut own = 0usize;
     for frame in &front.frames {
         own = own.saturating_add(usize::from(is_of(frame, &guest_of(1))));
     }
-    Ok((files, Some((front.size, own))))
+    Ok((handed, own))
+}
+
+/// A log that is fenced off is handed over.
+fn handed(alloc: Global, fenced: FencedLog<Shelf>) -> Result<Left, Fail> {
+    let Ok(HandedOver { bytes, files }) = fenced.hand_over(alloc, &guest_of(1), Keeper::new(NUMBER))
+    else {
+        return Err("the log is handed over".into());
+    };
+    Ok((files, Some(read(alloc, &bytes)?)))
 }
 
 const OPENING: Come = Come::Opening(1, 0, &[0]);
@@ -158,10 +178,14 @@ fn are_acknowledged(alloc: Global, shelf: &mut Shelf, rows: &[Row]) -> Result<bo
 /// Whether rows are acknowledged before a log is handed over, once, and behind that.
 fn is_handed_once(alloc: Global, mut shelf: Shelf) -> Result<bool, Fail> {
     let before = are_acknowledged(alloc, &mut shelf, &BEFORE)?;
-    let size = shelf.log.len().saturating_sub(1);
+    let whole = Handed {
+        term: 2,
+        keeper: Keeper::new(NUMBER),
+        length: shelf.log.len().saturating_sub(1) as u64,
+    };
     let (shelf, once) = hand(alloc, shelf, 2)?;
     let (mut shelf, again) = hand(alloc, shelf, 2)?;
-    let is_once = once == Some((size, 3)) && again.is_none();
+    let is_once = once == Some((whole, 3)) && again.is_none();
     Ok(before && is_once && are_acknowledged(alloc, &mut shelf, &BEHIND)?)
 }
 
@@ -171,10 +195,10 @@ fn is_remembered(alloc: Global, shelf: &mut Shelf) -> Result<bool, Fail> {
     let mut station = begin(alloc, shelf)?;
     for fence in [2, 0] {
         shelf.fence = fence;
-        let Ok((next, position)) = station.log_and_acknowledge(alloc, shelf) else {
+        let Ok((next, said)) = station.log_and_acknowledge(alloc, shelf) else {
             return Err("the log takes it".into());
         };
-        if position.is_some() {
+        if said.is_some() {
             return Ok(false);
         }
         station = next;
@@ -224,7 +248,7 @@ fn take_stream(
 /// The log of a keeper of the stream's guest, to which it comes in pieces of so many bytes.
 fn log_of(alloc: Global, guest: Guest, stream: &[u8], size: usize) -> Result<Vec<u8>, Fail> {
     let mut shelf = empty_shelf(alloc);
-    let Ok(mut station) = KeeperStation::begin(alloc, guest, &mut shelf) else {
+    let Ok(mut station) = KeeperStation::begin(alloc, guest, Keeper::new(NUMBER), &mut shelf) else {
         return Err("an empty log is a keeper's".into());
     };
     take_stream(alloc, &mut station, stream, size)?;

@@ -1,8 +1,6 @@
 -- A log that was handed over, as bytes.
 use Rattle.std.specs.Prelude.{◌≡◌, ◌≢◌, ℕ, List, [], ◌∷◌, ◌++◌, length}
-use Rattle.std.specs.List.{AllByRecursion}
 use Rattle.ft_types.specs.Guests.{GuestParts}
-use Rattle.ft_types.specs.Text.{line}
 use Rattle.fragment_codec.specs.declared.frame.Frame.{Frame}
 use Rattle.fragment_codec.specs.Streams.{IsPartial, HasFault, Splits}
 use Rattle.log_join.specs.Answers.{answer_to}
@@ -10,18 +8,11 @@ use Rattle.log_join.specs.Coming.{IsJoinOf}
 use Rattle.log_join.specs.Stores.{StoreView}
 use Rattle.log_join.specs.declared.answers.Put.{Put}
 use Rattle.log_join.specs.declared.answers.Put.TheVariants.{Clash as Clashes, OtherGuest as Foreign}
-use Rattle.wire.specs.Handed.{SaysHanded, handed_text}
+use Rattle.stations.specs.Handing.{HasLine}
 use Rattle.wire.specs.declared.handed.Handed.{Handed}
 use Rattle.leading.specs.declared.handed.HandedFault.{HandedFault}
 use Rattle.leading.specs.declared.handed.HandedFault.TheVariants.{Line, Length, Torn, Frame as FrameAt, OtherGuest, Clash, Memory}
 use Rattle.leading.specs.declared.handed.HandedLog.{HandedLog}
-
--- the first line of the bytes hands a log over, and these stand behind it
-pub record HasLine (guest : GuestParts) (bytes : List ℕ) (handed : Handed) (rest : List ℕ) : Type 0 where
-  pub text : List ℕ
-  pub one : AllByRecursion (λ b. b ≡ 10 → ⊥) text
-  pub says : SaysHanded guest text handed
-  pub parts : bytes ≡ line text ++ rest
 
 -- the line, and as many bytes as it says, which are whole frames; the store is the join of these
 pub record IsWhole (guest : GuestParts) (bytes : List ℕ) (log : HandedLog) : Type 0 where
@@ -33,6 +24,14 @@ pub record IsWhole (guest : GuestParts) (bytes : List ℕ) (log : HandedLog) : T
   pub splits : Splits rest frames []
   pub keeper : log.keeper ≡ handed.keeper
   pub term : log.term ≡ handed.term
+  pub join : IsJoinOf guest frames log.store
+
+-- the log of that keeper, for that term; its store is the join of these bytes' frames
+pub record IsGiven (guest : GuestParts) (keeper term : ℕ) (sent : List ℕ) (log : HandedLog) : Type 0 where
+  pub frames : List Frame
+  pub by : log.keeper ≡ keeper
+  pub to : log.term ≡ term
+  pub splits : Splits sent frames []
   pub join : IsJoinOf guest frames log.store
 
 -- one of the frames met a store of those before it so

@@ -1,11 +1,13 @@
 //! Logs that were handed over to a term: what `hand` wrote.
 
-ghost use Rattle.std.specs.Prelude.{◌≡◌, List, [], IfOk, IfErr, OnOk};
+ghost use Rattle.std.specs.Prelude.{◌≡◌, ◌<◌, ℕ, List, [], IfOk, IfErr, OnOk};
+ghost use Rattle.ft_types.specs.declared.names.TheConstants.{KEEPER_LIMIT};
 ghost use Rattle.fragment_codec.specs.declared.frame.Frame.{Frame as LogFrame};
 ghost use Rattle.fragment_codec.specs.Streams.{Splits};
 ghost use Rattle.log_join.specs.Stores.{IsJoin, alone};
 ghost use Rattle.log_join.specs.Coming.{IsJoinOf};
-ghost use Rattle.leading.specs.Handed.{IsWhole, IsNotWhole, IsStoreFault, IsPutFault, IsGatherFault};
+ghost use Rattle.stations.specs.Handing.{IsHandedTo};
+ghost use Rattle.leading.specs.Handed.{IsGiven, IsWhole, IsNotWhole, IsStoreFault, IsPutFault, IsGatherFault};
 
 use fenced_keeper::Given;
 use fragment_codec::{Frame, FrameFault};
@@ -117,6 +119,8 @@ fn read_store(alloc: Global, guest: Guest, bytes: &[u8]) -> Result<Store, Handed
 pub fn read_handed_log(alloc: Global, guest: Guest, bytes: &[u8]) -> Result<HandedLog, HandedFault>
     ensures whole { IfOk result (λ log. IsWhole guest bytes.now log) }
     ensures fault { IfErr result (λ f. IsNotWhole guest bytes.now f) }
+    // Of what a keeper handed over it gets that keeper, that term and those frames.
+    ensures given { (keeper term : ℕ) (sent : List ℕ) → keeper < KEEPER_LIMIT → IsHandedTo guest keeper term sent bytes.now → IfOk result (λ log. IsGiven guest keeper term sent log) }
 {
     let Some((text, rest)) = first_line(bytes) else {
         return Err(HandedFault::Line);

@@ -10,7 +10,7 @@ use crate::files::{HostDisk, HostFiles, LogFiles, Places};
 use crate::listening::listen_all;
 use crate::posting::{Post, begin_posts, posts};
 use ends::{Door, Fault, Frames, FramesFault, Host, Paths, Receiver, row, tell};
-use ft_types::{Guest, Keeper, Position};
+use ft_types::{Guest, Keeper};
 use keeper_files::open_for_keeper;
 use live_primary::read_image_file;
 use live_words::KeeperWords;
@@ -31,10 +31,16 @@ pub trait KeeperHost: Paths + AllocGlobal + Eprint + Wait + Copy {}
 
 impl<R: Paths + AllocGlobal + Eprint + Wait + Copy> KeeperHost for R {}
 
+/// Leaves an acknowledgement on all outputs.
+fn acknowledge<R: Wait>(rt: &R, outputs: &[Post], said: Acknowledgement) {
+    for output in outputs {
+        output.leave(rt, said);
+    }
+}
+
 /// What decides: a thread has it as long as it takes what came.
 #[derive(Drop)]
 pub struct Keeping {
-    keeper: Keeper,
     station: KeeperStation,
     files: LogFiles,
     /// How many inputs are not at their end.
@@ -100,49 +106,28 @@ impl Keeping {
         Ok(came)
     }
 
-    /// This keeper's acknowledgement of a position.
-    fn acknowledgement_of(&self, position: &Position) -> Acknowledgement
-        ensures { result ≡ record { term = position.now.term; keeper = self.now.keeper; counts = position.now.counts } }
-    {
-        Acknowledgement {
-            term: position.term,
-            keeper: self.keeper,
-            counts: position.counts,
-        }
-    }
-
-    /// Leaves a position to be acknowledged on all outputs.
-    fn acknowledge<R: Wait>(&self, rt: &R, outputs: &[Post], position: Option<Position>) {
-        if let Some(position) = position {
-            for output in outputs {
-                output.leave(rt, self.acknowledgement_of(&position));
-            }
-        }
-    }
-
     /// Has the log take what came, and acknowledges what it has.
     pub fn log<H: KeeperHost>(self, rt: &H, outputs: &[Post]) -> Result<Keeping, Fault> {
         let Keeping {
-            keeper,
             station,
             files,
             open,
             passed,
         } = self;
         let mut files = files.on(rt);
-        let (station, position) = match station.log_and_acknowledge(rt.alloc(), &mut files) {
+        let (station, said) = match station.log_and_acknowledge(rt.alloc(), &mut files) {
             Ok(logged) => logged,
             Err(fault) => return Err(files_fault(fault)),
         };
-        let keeping = Keeping {
-            keeper,
+        if let Some(said) = said {
+            acknowledge(rt, outputs, said);
+        }
+        Ok(Keeping {
             station,
             files: LogFiles::of(files),
             open,
             passed,
-        };
-        keeping.acknowledge(rt, outputs, position);
-        Ok(keeping)
+        })
     }
 
     /// Takes the events that are there. Where frames are among them, the log takes all of them at once.
@@ -184,8 +169,15 @@ fn open<H: Host>(rt: &H, guest: Guest, log: &str) -> Result<HostFiles<H>, Fault>
 }
 
 /// A keeper that begins from its log.
-fn begin<H: Host>(rt: &H, guest: Guest, files: &mut HostFiles<H>) -> Result<KeeperStation, Fault> {
-    match KeeperStation::begin(rt.alloc(), guest, files) {
+fn begin<H: Host>(
+    rt: &H,
+    guest: Guest,
+    keeper: Keeper,
+    files: &mut HostFiles<H>,
+) -> Result<KeeperStation, Fault>
+    ensures { IfOk result (λ station. station.keeper ≡ keeper) }
+{
+    match KeeperStation::begin(rt.alloc(), guest, keeper, files) {
         Ok(station) => Ok(station),
         Err(fault) => Err(log_fault(fault)),
     }
@@ -197,7 +189,7 @@ pub fn keep<H: Host>(rt: &H, words: &KeeperWords<'_>) -> Result<u8, Fault>
 {
     let guest = read_image_file(rt, words.image)?.guest();
     let mut files = open(rt, guest, words.log)?;
-    let station = begin(rt, guest, &mut files)?;
+    let station = begin(rt, guest, words.keeper, &mut files)?;
     let (to, events) = row(rt.alloc(), ROOM)?;
     let outputs = posts(rt.alloc(), guest, words.keeper, words.outputs.len())?;
     let desk = Arc::new(rt.alloc(), Desk::new(rt.alloc(), events, outputs)?)?;
@@ -205,7 +197,6 @@ pub fn keep<H: Host>(rt: &H, words: &KeeperWords<'_>) -> Result<u8, Fault>
     let threads = begin_posts(rt, desk.outputs(), &words.outputs, &to)?;
     listen_all(rt, guest, &words.inputs, &desk, &to)?;
     let keeping = Keeping {
-        keeper: words.keeper,
         station,
         files: LogFiles::of(files),
         open: words.inputs.len(),

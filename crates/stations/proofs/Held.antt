@@ -37,8 +37,8 @@ begin_fault guest frames before behind frame store (FrameAt x) parts join fault 
 
 -- a keeper whose log has these frames
 pub on_log : (guest : GuestParts) (log : List ℕ) (frames : List Frame) (store : StoreView) → Splits log frames [] → IsJoinOf guest frames store →
-    (seen : ℕ) → IsOnLog log (record { store = store; fresh = []; seen = seen })
-on_log guest log frames store s join seen = record {
+    (keeper seen : ℕ) → IsOnLog log (record { keeper = keeper; store = store; fresh = []; seen = seen })
+on_log guest log frames store s join keeper seen = record {
   frames = frames;
   splits = subst (λ (x : List ℕ). Splits x frames []) (sym (append-nil log)) s;
   join = subst (λ (g : GuestParts). IsJoinOf g frames store) (sym (same_guest (nothing guest) store frames join)) join;
@@ -60,7 +60,7 @@ takes_one log frame old new joined fresh one on = record {
 }
 
 -- what is fresh was added to the log
-pub logs_all : (log : List ℕ) (old new : StationView) → new ≡ record { store = old.store; fresh = []; seen = new.seen } → IsOnLog log old →
+pub logs_all : (log : List ℕ) (old new : StationView) → new ≡ record { keeper = old.keeper; store = old.store; fresh = []; seen = new.seen } → IsOnLog log old →
     IsOnLog (log ++ old.fresh) new
 logs_all log old new e on = rw e (record {
   frames = on.frames;
@@ -69,21 +69,22 @@ logs_all log old new e on = rw e (record {
 })
 
 -- the log was read, and cut behind its frames
-pub begun : (guest : GuestParts) (old read new : List Act → Type 0) (log : List ℕ) (frames : List Frame) (size : ℕ) (fault : Option FrameFault)
-    (station : StationView) → IsFrontOf log frames size fault → fault ≡ None → IsJoinOf guest frames station.store → station.fresh ≡ [] → station.seen ≡ 0 →
-    Does old read (SawLog log ∷ []) → Does read new (CutTo size ∷ []) → IsBegun guest old new station
-begun guest old read new log frames size fault station front none join fresh unseen saw cut =
+pub begun : (guest : GuestParts) (keeper : ℕ) (old read new : List Act → Type 0) (log : List ℕ) (frames : List Frame) (size : ℕ) (fault : Option FrameFault)
+    (station : StationView) → IsFrontOf log frames size fault → fault ≡ None → station.keeper ≡ keeper → IsJoinOf guest frames station.store →
+    station.fresh ≡ [] → station.seen ≡ 0 → Does old read (SawLog log ∷ []) → Does read new (CutTo size ∷ []) → IsBegun guest keeper old new station
+begun guest keeper old read new log frames size fault station front none own join fresh unseen saw cut =
     let whole : IsFrontOf log frames size None = subst (λ (f : Option FrameFault). IsFrontOf log frames size f) none front in
-    let same : record { store = station.store; fresh = []; seen = station.seen } ≡ station =
-    ap (λ (x : List ℕ). record { store = station.store; fresh = x; seen = station.seen }) (sym fresh) in
+    let same : record { keeper = station.keeper; store = station.store; fresh = []; seen = station.seen } ≡ station =
+    ap (λ (x : List ℕ). record { keeper = station.keeper; store = station.store; fresh = x; seen = station.seen }) (sym fresh) in
     record {
       log = log;
       frames = frames;
       size = size;
       front = whole;
       acts = does_two old read new (SawLog log) (CutTo size) saw cut;
+      own = own;
       same_guest = same_guest (nothing guest) station.store frames join;
-      on_log = subst (IsOnLog (take size log)) same (on_log guest (take size log) frames station.store whole.splits join station.seen);
+      on_log = subst (IsOnLog (take size log)) same (on_log guest (take size log) frames station.store whole.splits join station.keeper station.seen);
       nothing_fresh = fresh;
       nothing_seen = unseen;
     }

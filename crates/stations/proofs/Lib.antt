@@ -1,6 +1,7 @@
 pub mod Does
 pub mod Fronts
 pub mod Held
+pub mod HandedLines
 pub mod Spellings
 pub mod Admitted
 pub mod Handshakes

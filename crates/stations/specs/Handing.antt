@@ -1,9 +1,13 @@
 -- What is fenced off and handed over of a log.
-use Rattle.std.specs.Prelude.{◌⊎◌, ◌≤◌, ◌<◌, ◌++◌, ℕ, List, [], ◌∷◌, Option, None, Some}
+use Rattle.std.specs.Prelude.{◌≡◌, ◌⊎◌, ◌≤◌, ◌<◌, ◌++◌, ℕ, List, [], ◌∷◌, length, Option, None, Some}
 use Rattle.std.specs.List.{AllByRecursion}
 use Rattle.ft_types.specs.Guests.{GuestParts}
+use Rattle.ft_types.specs.Text.{line}
+use Rattle.ft_types.specs.declared.names.TheConstants.{KEEPER_LIMIT}
 use Rattle.fragment_codec.specs.declared.frame.Frame.{Frame}
 use Rattle.fragment_codec.specs.Streams.{IsPartial, Splits}
+use Rattle.wire.specs.Handed.{SaysHanded, handed_text}
+use Rattle.wire.specs.declared.handed.Handed.{Handed}
 use Rattle.stations.specs.Acts.{Act, SawLog, SawFence, Fenced, Failed, Does}
 use Rattle.stations.specs.Logs.{IsFrontOf, IsOf, HasNoLog}
 use Rattle.stations.specs.declared.faults.FenceFault.{FenceFault}
@@ -19,6 +23,20 @@ pub record IsHanded (guest : GuestParts) (old new : List Act → Type 0) (handed
   pub splits : Splits handed frames []
   pub own : AllByRecursion (IsOf guest) frames
   pub partial : IsPartial rest
+
+-- the first line of the bytes hands a log over, and these stand behind it
+pub record HasLine (guest : GuestParts) (bytes : List ℕ) (handed : Handed) (rest : List ℕ) : Type 0 where
+  pub text : List ℕ
+  pub one : AllByRecursion (λ b. b ≡ 10 → ⊥) text
+  pub says : SaysHanded guest text handed
+  pub parts : bytes ≡ line text ++ rest
+
+-- the bytes are these frames of the keeper, behind the line that hands them over to the term; and whoever reads such a line from them reads this one, and
+-- these frames behind it
+pub record IsHandedTo (guest : GuestParts) (keeper term : ℕ) (frames bytes : List ℕ) : Type 0 where
+  pub parts : bytes ≡ line (handed_text guest (record { term = term; keeper = keeper; length = length frames })) ++ frames
+  pub read : keeper < KEEPER_LIMIT → (handed : Handed) (rest : List ℕ) → HasLine guest bytes handed rest →
+      (handed ≡ record { term = term; keeper = keeper; length = length frames }) × (rest ≡ frames)
 
 -- why a log is not fenced off: a term that is not above the last fence gets none; or the fences failed as they were read, or as this one was added,
 -- which may be there then

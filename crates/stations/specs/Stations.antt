@@ -1,5 +1,5 @@
 -- What a keeper over a log has, and what it acknowledges.
-use Rattle.std.specs.Prelude.{◌≡◌, ◌⊎◌, ◌<◌, max, ℕ, List, [], ◌∷◌, ◌++◌, take, Option, None, Some}
+use Rattle.std.specs.Prelude.{◌≡◌, ◌⊎◌, ◌<◌, max, ℕ, List, [], ◌∷◌, ◌++◌, take, Option, None, Some, option_map}
 use Rattle.ft_types.specs.Guests.{GuestParts}
 use Rattle.ft_types.specs.declared.position.Position.{Position}
 use Rattle.fragment_codec.specs.declared.frame.Frame.{Frame}
@@ -11,6 +11,7 @@ use Rattle.log_join.specs.declared.answers.Put.{Put}
 use Rattle.log_join.specs.declared.answers.Put.TheVariants.{Clash as Clashes, OtherGuest as Foreign}
 use Rattle.closed_cut.specs.Position.{IsPosition}
 use Rattle.fenced_keeper.specs.Keepers.{Acknowledges}
+use Rattle.wire.specs.declared.acknowledgements.Acknowledgement.{Acknowledgement}
 use Rattle.stations.specs.Acts.{Act, SawLog, CutTo, Added, Synced, SawFence, Failed, Does}
 use Rattle.stations.specs.Logs.{IsFrontOf, HasNoLog}
 use Rattle.stations.specs.declared.faults.FilesFault.{FilesFault}
@@ -19,6 +20,7 @@ use Rattle.stations.specs.declared.faults.LogFault.{LogFault}
 use Rattle.stations.specs.declared.faults.LogFault.TheVariants.{Files, Frame as FrameAt, OtherGuest, Clash}
 
 pub record StationView : Type 0 where
+  pub keeper : ℕ  -- its number
   pub store : StoreView
   pub fresh : List ℕ  -- the bytes of those of its frames that are not in the log yet
   pub seen : ℕ  -- the greatest fence that it saw, 0 where it saw none
@@ -45,13 +47,22 @@ abbrev pub Answers : StoreView → ℕ → Option Position → Type 0
 Answers store fence None = (p : Position) × IsPosition store p × (p.term < max 1 fence)
 Answers store fence (Some p) = Acknowledges store (max 1 fence) p
 
--- the log was read, and cut behind its frames; the keeper has these and no others
-pub record IsBegun (guest : GuestParts) (old new : List Act → Type 0) (station : StationView) : Type 0 where
+-- a keeper's acknowledgement of a position
+abbrev pub said_of : ℕ → Position → Acknowledgement
+said_of keeper p = record { term = p.term; keeper = keeper; counts = p.counts }
+
+-- the keeper says what it acknowledges of a store behind a fence, and nothing where that is nothing
+abbrev pub AnswersAs : ℕ → StoreView → ℕ → Option Acknowledgement → Type 0
+AnswersAs keeper store fence said = (position : Option Position) × Answers store fence position × (said ≡ option_map (said_of keeper) position)
+
+-- the log was read, and cut behind its frames; the keeper of this number has these and no others
+pub record IsBegun (guest : GuestParts) (keeper : ℕ) (old new : List Act → Type 0) (station : StationView) : Type 0 where
   pub log : List ℕ
   pub frames : List Frame
   pub size : ℕ
   pub front : IsFrontOf log frames size None
   pub acts : Does old new (SawLog log ∷ CutTo size ∷ [])
+  pub own : station.keeper ≡ keeper
   pub same_guest : station.store.guest ≡ guest
   pub on_log : IsOnLog (take size log) station
   pub nothing_fresh : station.fresh ≡ []

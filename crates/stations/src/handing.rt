@@ -1,9 +1,9 @@
 //! A log is fenced off for a term, and then handed to it.
 
-ghost use Rattle.std.specs.Prelude.{◌≡◌, ◌<◌, ℕ, [], ◌∷◌, IfOk, IfErr, OnOk, IsTrue, ◌↔◌};
+ghost use Rattle.std.specs.Prelude.{◌≡◌, ◌<◌, ℕ, List, [], ◌∷◌, IfOk, IfErr, OnOk, IsTrue, ◌↔◌};
 ghost use Rattle.std.specs.List.{AllByRecursion};
 ghost use Rattle.stations.specs.Acts.{SawFence, Fenced, Does};
-ghost use Rattle.stations.specs.Handing.{IsHanded, IsNotFenced, IsNotHanded};
+ghost use Rattle.stations.specs.Handing.{IsHanded, IsHandedTo, IsNotFenced, IsNotHanded};
 ghost use Rattle.stations.specs.Logs.{IsOf};
 
 use crate::admitting::is_of;
@@ -11,9 +11,10 @@ use crate::faults::{FenceFault, LogFault};
 use crate::files::KeeperFiles;
 use crate::log_front::{LogFront, read_frames};
 use fragment_codec::Frame;
-use ft_types::{Guest, Term};
+use ft_types::{Guest, Keeper, Memory, Term};
 use std::alloc::Global;
 use std::result::Result;
+use wire::{Handed, handed_line};
 
 /// Files that refused what was asked of them, and why.
 #[derive(Drop)]
@@ -34,10 +35,8 @@ pub struct FencedLog<F: KeeperFiles + Drop> {
 /// A log that was handed over.
 #[derive(Drop)]
 pub struct HandedOver<F: KeeperFiles + Drop> {
-    /// The term to which it was handed over, and for which it was fenced off.
-    pub term: Term,
-    /// All its whole frames, as bytes.
-    pub frames: Vec<u8>,
+    /// A line that names the keeper and the term for which the log was fenced off, and all whole frames of the log behind it.
+    pub bytes: Vec<u8>,
     /// The files.
     pub files: F,
 }
@@ -104,24 +103,55 @@ fn read_own<F: KeeperFiles>(
     Ok(log)
 }
 
+/// The frames, behind the line that hands them over.
+fn behind_line(
+    alloc: Global,
+    guest: &Guest,
+    keeper: Keeper,
+    term: Term,
+    frames: &[u8],
+) -> Result<Vec<u8>, Memory>
+    ensures { IfOk result (λ bytes. IsHandedTo guest.now keeper term frames.now bytes.items) }
+{
+    let handed = Handed {
+        term,
+        keeper,
+        length: frames.len() as u64,
+    };
+    let mut bytes = handed_line(guest, &handed).as_slice().to_vec(alloc)?;
+    bytes.extend_from_slice(frames)?;
+    Ok(bytes)
+}
+
+/// What a keeper hands over to a term: the whole frames of its log, behind their line.
+fn read_behind_line<F: KeeperFiles>(
+    alloc: Global,
+    guest: &Guest,
+    keeper: Keeper,
+    term: Term,
+    files: &mut F,
+) -> Result<Vec<u8>, LogFault>
+    ensures handed { IfOk result (λ bytes. (frames : List ℕ) × IsHanded guest.now (F.acts files.old) (F.acts files.new) frames × IsHandedTo guest.now keeper term frames bytes.items) }
+    ensures fault { IfErr result (λ f. IsNotHanded guest.now (F.acts files.old) (F.acts files.new) f) }
+{
+    let frames = read_own(alloc, guest, files)?;
+    Ok(behind_line(alloc, guest, keeper, term, &frames)?)
+}
+
 impl<F: KeeperFiles + Drop> FencedLog<F> {
-    /// Hands the log over to its term: all whole frames that it has. It has all that was acknowledged behind an earlier fence.
+    /// Hands the log over to its term, as the keeper of this number: all whole frames that it has. It has all that was acknowledged behind an earlier fence.
     pub fn hand_over(
         self,
         alloc: Global,
         guest: &Guest,
+        keeper: Keeper,
     ) -> Result<HandedOver<F>, Refused<F, LogFault>>
-        ensures term { IfOk result (λ h. h.term ≡ self.term) }
-        ensures handed { IfOk result (λ h. IsHanded guest.now (F.acts self.files) (F.acts h.files) h.frames.items) }
+        ensures handed { IfOk result (λ h. (frames : List ℕ) × IsHanded guest.now (F.acts self.files) (F.acts h.files) frames × IsHandedTo guest.now keeper self.term frames h.bytes.items) }
         ensures fault { IfErr result (λ r. IsNotHanded guest.now (F.acts self.files) (F.acts r.files) r.fault) }
     {
         let FencedLog { mut files, term } = self;
-        match read_own(alloc, guest, &mut files) {
-            Ok(frames) => Ok(HandedOver {
-                term,
-                frames,
-                files,
-            }),
+        match read_behind_line(alloc, guest, keeper, term, &mut files) {
+            Ok(bytes) => Ok(HandedOver { bytes, files }),
             Err(fault) => Err(Refused { files, fault }),
         }
     }

@@ -1,13 +1,13 @@
 //! A keeper over its log.
 
-ghost use Rattle.std.specs.Prelude.{◌≡◌, ◌≢◌, ◌≤◌, ◌+◌, ◌++◌, ◌∷◌, ℕ, List, [], length, vec_len, vec_capacity, max, Ok, None, IfOk, IfErr, OnOk, OnErr, IfSome};
+ghost use Rattle.std.specs.Prelude.{◌≡◌, ◌≢◌, ◌≤◌, ◌+◌, ◌++◌, ◌∷◌, ℕ, List, [], length, vec_len, vec_capacity, max, Ok, None, IfOk, IfErr, OnOk, OnErr, IfSome, option_map};
 ghost use Rattle.fragment_codec.specs.declared.frame.Frame.{Frame as LogFrame};
 ghost use Rattle.fragment_codec.specs.Streams.{spelling, Splits};
 ghost use Rattle.log_join.specs.Answers.{answer_to};
 ghost use Rattle.log_join.specs.Coming.{Come, IsJoinOf};
 ghost use Rattle.log_join.specs.Stores.{StoreView, IsJoin, alone};
 ghost use Rattle.stations.specs.Acts.{Does};
-ghost use Rattle.stations.specs.Stations.{Answers, IsBegun, IsOnLog, IsBeginFault, IsNoKeepers, IsNotLogged, IsPutFault, logging};
+ghost use Rattle.stations.specs.Stations.{Answers, AnswersAs, IsBegun, IsOnLog, IsBeginFault, IsNoKeepers, IsNotLogged, IsPutFault, logging, said_of};
 
 use crate::admitting::answer_of;
 use crate::faults::{FilesFault, LogFault};
@@ -15,13 +15,14 @@ use crate::files::KeeperFiles;
 use crate::log_front::{LogFront, read_frames};
 use crate::written::WrittenFrame;
 use fragment_codec::{FIRST_TERM, Frame};
-use ft_types::{Guest, Memory, Position, Term, boxed};
+use ft_types::{Guest, Keeper, Memory, Position, Term, boxed};
 use log_join::{Put, Store};
 use std::alloc::Global;
 use std::marker::Model;
 use std::option::Option;
 use std::result::Result;
 use tracked_position::Tracked;
+use wire::Acknowledgement;
 
 /// Puts a frame of a log into the store.
 fn put_logged(alloc: Global, held: &mut Tracked, frame: Frame) -> Result<(), LogFault>
@@ -67,9 +68,22 @@ fn acknowledged(held: &Tracked, fence: Term) -> Option<Position>
     Some(*position)
 }
 
-/// A keeper over its log: the store of its frames, the bytes of those that are not in the log yet, and the greatest fence that it saw.
+/// A keeper's acknowledgement of a position.
+fn said_by(keeper: Keeper, position: Option<Position>) -> Option<Acknowledgement>
+    ensures { result ≡ option_map (said_of keeper) position }
+{
+    let Position { term, counts, .. } = position?;
+    Some(Acknowledgement {
+        term,
+        keeper,
+        counts,
+    })
+}
+
+/// A keeper over its log: its number, the store of its frames, the bytes of those that are not in the log yet, and the greatest fence that it saw.
 #[derive(Drop)]
 pub struct KeeperStation {
+    keeper: Keeper,
     held: Box<Tracked>,
     fresh: Vec<u8>,
     seen: Term,
@@ -85,18 +99,19 @@ impl Model for KeeperStation {
 
     ghost coded = { Prim.hlevel (codes, coded_store) };
 
-    ghost view = { λ s. record { store = s.held.value; fresh = s.fresh.items; seen = s.seen } };
+    ghost view = { λ s. record { keeper = s.keeper; store = s.held.value; fresh = s.fresh.items; seen = s.seen } };
 }
 
 impl KeeperStation {
-    /// The keeper of a guest that begins, or comes back, with what its log has. A rest that is less than a whole frame is cut off. It
+    /// The keeper of a guest, of this number, that begins, or comes back, with what its log has. A rest that is less than a whole frame is cut off. It
     /// doesn't begin where the log has a fault, which is left as it is.
     pub fn begin<F: KeeperFiles>(
         alloc: Global,
         guest: Guest,
+        keeper: Keeper,
         files: &mut F,
     ) -> Result<KeeperStation, LogFault>
-        ensures begun { IfOk result (λ station. IsBegun guest (F.acts files.old) (F.acts files.new) station) }
+        ensures begun { IfOk result (λ station. IsBegun guest keeper (F.acts files.old) (F.acts files.new) station) }
         ensures fault { IfErr result (λ f. IsNoKeepers guest (F.acts files.old) (F.acts files.new) f) }
     {
         let log = files.read_log(alloc)?;
@@ -112,6 +127,7 @@ impl KeeperStation {
         let held = boxed(alloc, held)?;
         files.cut(size)?;
         Ok(KeeperStation {
+            keeper,
             held,
             fresh: Vec::new(alloc),
             seen: 0,
@@ -132,6 +148,7 @@ impl KeeperStation {
         ensures fresh { OnOk result (self.new.fresh ≡ self.old.fresh ++ spelling frame) }
         ensures one { OnOk result (Splits (spelling frame) (frame ∷ []) []) }
         ensures seen { self.new.seen ≡ self.old.seen }
+        ensures keeper { self.new.keeper ≡ self.old.keeper }
         ensures err { OnErr result (self.new ≡ self.old) }
     {
         let (frame, bytes) = frame.into_parts();
@@ -148,9 +165,12 @@ impl KeeperStation {
         // One that is new is joined to the store, and its spelling is to be added to the log. No other changes anything.
         ensures joined { result ≡ Ok Put.New → IsJoin self.old.store (alone frame) self.new.store }
         ensures fresh { result ≡ Ok Put.New → self.new.fresh ≡ self.old.fresh ++ spelling frame }
+        // That is this frame and nothing else.
+        ensures one { result ≡ Ok Put.New → Splits (spelling frame) (frame ∷ []) [] }
         ensures stays { IfOk result (λ p. p ≢ Put.New → self.new ≡ self.old) }
         ensures err { OnErr result (self.new ≡ self.old) }
         ensures seen { self.new.seen ≡ self.old.seen }
+        ensures keeper { self.new.keeper ≡ self.old.keeper }
         // So it stays the keeper of its log.
         ensures log { (log : List ℕ) → IsOnLog log self.old → IsOnLog log self.new }
     {
@@ -161,23 +181,26 @@ impl KeeperStation {
         Ok(put)
     }
 
-    /// Adds to the log what is fresh, brings the log to disk, and then reads the fence: what may be acknowledged behind that, and behind each fence that
+    /// Adds to the log what is fresh, brings the log to disk, and then reads the fence: what it acknowledges behind that, and behind each fence that
     /// was seen before. Where a file fails the keeper is gone, and is to begin again.
     pub fn log_and_acknowledge<F: KeeperFiles>(
         self,
         alloc: Global,
         files: &mut F,
-    ) -> Result<(KeeperStation, Option<Position>), FilesFault>
-        // In this order; what is acknowledged is the position of the store; and no fence is forgotten.
-        ensures acts { IfOk result (λ r. (fence : ℕ) × Does (F.acts files.old) (F.acts files.new) (logging self.fresh fence) × (r.0.seen ≡ max self.seen fence) × Answers self.store r.0.seen r.1) }
-        ensures harts { IfOk result (λ r. IfSome r.1 (λ p. length p.counts ≡ self.store.guest.harts)) }
+    ) -> Result<(KeeperStation, Option<Acknowledgement>), FilesFault>
+        // In this order; and no fence is forgotten.
+        ensures acts { IfOk result (λ r. (fence : ℕ) × Does (F.acts files.old) (F.acts files.new) (logging self.fresh fence) × (r.0.seen ≡ max self.seen fence)) }
+        // What this keeper acknowledges is the position of the store.
+        ensures says { IfOk result (λ r. AnswersAs self.keeper self.store r.0.seen r.1) }
+        ensures harts { IfOk result (λ r. IfSome r.1 (λ a. length a.counts ≡ self.store.guest.harts)) }
         // All its frames are in the log now.
-        ensures store { IfOk result (λ r. r.0 ≡ record { store = self.store; fresh = []; seen = r.0.seen }) }
+        ensures store { IfOk result (λ r. r.0 ≡ record { keeper = self.keeper; store = self.store; fresh = []; seen = r.0.seen }) }
         ensures log { IfOk result (λ r. (log : List ℕ) → IsOnLog log self → IsOnLog (log ++ self.fresh) r.0) }
         // At a fault the files failed, behind a beginning of what is fresh or all of it, and nothing else was added.
         ensures failed { IfErr result (λ f. IsNotLogged self.fresh (F.acts files.old) (F.acts files.new) f) }
     {
         let KeeperStation {
+            keeper,
             held,
             mut fresh,
             seen,
@@ -187,7 +210,13 @@ impl KeeperStation {
         let fence = files.last_fence(alloc)?;
         let seen = seen.max(fence);
         fresh.clear();
-        let acknowledged = acknowledged(&held, seen);
-        Ok((KeeperStation { held, fresh, seen }, acknowledged))
+        let said = said_by(keeper, acknowledged(&held, seen));
+        let station = KeeperStation {
+            keeper,
+            held,
+            fresh,
+            seen,
+        };
+        Ok((station, said))
     }
 }

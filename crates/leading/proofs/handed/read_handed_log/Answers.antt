@@ -1,7 +1,7 @@
 use Rattle.std.proofs.Common.{refl, sym, subst}
 use Rattle.std.proofs.lemmas.Result.{err_from_is_err_and}
 use Rattle.leading.specs.Handed.{IsNotWhole}
-use Rattle.leading.proofs.Lines.{has_line, not_whole, says_none}
+use Rattle.leading.proofs.Lines.{given_as, has_line, not_whole, says_none}
 use Rattle.leading.proofs.handed.read_handed_log.Goals as goal
 
 pub returns-in_default-read_handed-clause-fault : goal.returns-in_default-read_handed-clause-fault
@@ -45,3 +45,6 @@ returns-clause-whole c =
       term = refl;
       join = frames.2;
     }
+
+pub returns-clause-given : goal.returns-clause-given
+returns-clause-given c = given_as c.args.guest c.args.bytes.now _ (returns-clause-whole c)

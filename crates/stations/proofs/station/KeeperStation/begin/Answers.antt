@@ -12,9 +12,9 @@ returns-clause-begun g c =
     let read = c.in_ok-frames.field-0 in
     let saw : Does (acts c.args.files.now) (acts c.read_log.new.self) (SawLog c.deref.result.now ∷ []) =
     subst (λ (log : List ℕ). Does (acts c.args.files.now) (acts c.read_log.new.self) (SawLog log ∷ [])) (sym c.deref.ensures.value) c.in_ok-log.ensures.ok in
-    rw c.in_ok-held-2.ensures (begun c.args.guest (acts c.args.files.now) (acts c.read_log.new.self) (acts c.cut.new.self) c.deref.result.now read.frames.items read.size read.fault
-    (record { store = c.in_ok-held.held; fresh = c.new.result.items; seen = 0 }) c.in_ok-frames.ensures.front (no_fault read.fault c.in_default.not-Some)
-    c.in_ok-held.ensures.join c.new.ensures.items refl saw c.in_ok-cut.ensures.ok)
+    rw c.in_ok-held-2.ensures (begun c.args.guest c.args.keeper (acts c.args.files.now) (acts c.read_log.new.self) (acts c.cut.new.self) c.deref.result.now read.frames.items read.size read.fault
+    (record { keeper = c.args.keeper; store = c.in_ok-held.held; fresh = c.new.result.items; seen = 0 }) c.in_ok-frames.ensures.front (no_fault read.fault c.in_default.not-Some)
+    refl c.in_ok-held.ensures.join c.new.ensures.items refl saw c.in_ok-cut.ensures.ok)
 
 pub returns-in_err-cut-clause-fault : goal.returns-in_err-cut-clause-fault
 returns-in_err-cut-clause-fault g c =
