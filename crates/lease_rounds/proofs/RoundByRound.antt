@@ -19,7 +19,7 @@ use Rattle.page_book.proofs.Later.{adds_nothing, adds_on}
 use Rattle.page_book.proofs.Tellings.{hears_nothing, hears_more, notes_kept}
 use Rattle.lease_rounds.specs.Running.{IsIdle, AreThrough, IsThrough, Continues, GoWithin, recording, NoRound, OneMore, KeepsOffered, KeepHeld}
 use Rattle.lease_rounds.specs.machinery.SoFar.{HasRun, IsSoFar}
-use Rattle.lease_rounds.proofs.Leasing.{ahead, limits, continues, offered, keep_held}
+use Rattle.lease_rounds.proofs.Leasing.{ahead, limits, notes, continues, offered, keep_held}
 use Rattle.lease_rounds.proofs.Offered.{offered_itself, offered_on}
 
 -- ---- a book goes on
@@ -84,6 +84,7 @@ set_counts (x ∷ harts) (suc hart) h after limit (suc other) there lt le = set_
 pub record IsFurther (b c : BookView RecordingView) : Type 0 where
   pub idle : IsIdle c
   pub limits : c.mode.limits ≡ b.mode.limits
+  pub notes : c.mode.notes ≡ b.mode.notes
   pub continues : Continues b c
   pub counts : GoWithin b c
   pub fewer : steps_left b.mode.limits c.machine.harts < steps_left b.mode.limits b.machine.harts
@@ -102,6 +103,7 @@ further most lasts hart b d idle on =
     record {
       idle = on.idle;
       limits = limits told.All hart b d on;
+      notes = notes told.All hart b d on;
       continues = continues told.All hart b d on gone.start;
       counts = counts;
       fewer = has_fewer recording hart b d gone;
@@ -114,6 +116,7 @@ further_on b c d p q =
     record {
       idle = q.idle;
       limits = q.limits ∙ p.limits;
+      notes = q.notes ∙ p.notes;
       continues = continues_on b c d (λ hart. (p.counts hart).0) p.continues q.continues;
       counts = within_on b c d p.limits p.counts q.counts;
       offered = offered_on b c d p.offered q.offered;
@@ -142,6 +145,7 @@ begins most b idle ran =
       ran = ran;
       idle = idle;
       limits = refl;
+      notes = refl;
       continues = continues_none b;
       rounds = NoRound;
       offered = offered_itself b;
@@ -156,6 +160,7 @@ leads_on most a b c p q round =
       ran = p.ran;
       idle = q.idle;
       limits = q.limits ∙ p.limits;
+      notes = q.notes ∙ p.notes;
       continues = continues_on a b c (λ hart. (p.counts hart).0) p.continues q.continues;
       rounds = OneMore c p.rounds round;
       offered = offered_on a b c p.offered q.offered;

@@ -34,6 +34,7 @@ pub fn run_plain(alloc: Global, book: Book<Recording>, most: u64) -> Result<Book
     ensures rounds { IfOk result (λ b. GoesRoundFor most book b) }
     ensures offered { IfOk result (λ b. KeepsOffered book b) }
     ensures limits { IfOk result (λ b. b.mode.limits ≡ book.mode.limits) }
+    ensures notes { IfOk result (λ b. b.mode.notes ≡ book.mode.notes) }
     ensures counts { IfOk result (λ b. GoWithin book b) }
     ensures held { IfOk result (λ b. KeepHeld book b) }
 {
