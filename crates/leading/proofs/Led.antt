@@ -6,6 +6,7 @@ use Rattle.ft_types.specs.declared.names.TheConstants.{COUNT_LIMIT}
 use Rattle.std.specs.List.{AllByRecursion}
 use Rattle.ft_types.specs.Counts.{count_at, IsCount}
 use Rattle.guest_image.specs.Machine.{MachineState}
+use Rattle.input_log.specs.Notes.{NotesOfOne, notes_of}
 use Rattle.hart_lease.specs.Runs.{LeadsTo, counts_of}
 use Rattle.book_modes.specs.Recordings.{RecordingView, heard_by}
 use Rattle.page_book.specs.Books.{BookView}
@@ -44,16 +45,17 @@ settled m row slice full n are same each many is hart =
 
 -- a book that went on to other limits, and has none now
 pub led : (steps : ℕ) (b c : BookView RecordingView) (end full : List ℕ) → Continues (limited b end) c → TellsOn (limited b end) c →
-    KeepsOffered (limited b end) c → GoesRoundFor (lease_steps (length b.machine.harts)) (limited b end) c → GoWithin (limited b end) c → IsIdle c → AreThrough c → c.mode.limits ≡ end →
+    KeepsOffered (limited b end) c → c.mode.notes ≡ b.mode.notes → GoesRoundFor (lease_steps (length b.machine.harts)) (limited b end) c → GoWithin (limited b end) c → IsIdle c → AreThrough c → c.mode.limits ≡ end →
     ((hart : ℕ) → count_at end hart ≤ counts_of b.machine hart + steps) →
     ((hart : ℕ) → hart < length b.machine.harts → min (counts_of b.machine hart + steps) (COUNT_LIMIT - 1) ≤ count_at end hart) →
     ((hart : ℕ) → counts_of c.machine hart ≤ count_at full hart) → LeadsTo (heard_by b.mode) b.start b.journal b.machine → IsPrimary (limited c full) →
     LeadsTo (heard_by c.mode) c.start c.journal c.machine → HasGoneOn steps b (limited c full)
-led steps b c end full continues tells offered round go idle through limits most far within before primary after = record {
+led steps b c end full continues tells offered notes round go idle through limits most far within before primary after = record {
   on = record {
     start = continues.start;
     journal = continues.journal;
     tells = record { counts = tells.counts; inputs = tells.inputs; edges = tells.edges; notes = tells.notes };
+    notes = λ hart. ap (λ (rows : List NotesOfOne). notes_of rows hart) notes;
     primary = primary;
     before = before;
     after = after;

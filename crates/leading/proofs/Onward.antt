@@ -11,7 +11,6 @@ use Rattle.lease_rounds.specs.Running.{Continues}
 use Rattle.lease_rounds.specs.machinery.SoFar.{HasRun}
 use Rattle.lease_rounds.proofs.Onward.{runs_on}
 use Rattle.primary.specs.Primaries.{GoesOn}
-use Rattle.leading.specs.Rounds.{LeadsOn}
 use Rattle.leading.proofs.Saying.{AreLater, run_later}
 
 pub goes_nowhere : (b : BookView RecordingView) → IsPrimary b → LeadsTo (heard_by b.mode) b.start b.journal b.machine → GoesOn b b
@@ -39,31 +38,12 @@ goes_further b c d one two = record {
   after = two.after;
 }
 
--- ---- where nothing is said of what is noted at the last counts
-
-pub leads_of : (b c : BookView RecordingView) → GoesOn b c → LeadsOn b c
-leads_of b c on =
-    record { start = on.start; journal = on.journal; tells = on.tells; primary = on.primary; before = on.before; after = on.after }
-
-pub leads_further : (b c d : BookView RecordingView) → LeadsOn b c → LeadsOn c d → LeadsOn b d
-leads_further b c d one two = record {
-  start = two.start ∙ one.start;
-  journal = (
-    one.journal.0 ++ two.journal.0,
-    two.journal.1 ∙ ap (λ (journal : List Stretch). journal ++ two.journal.0) one.journal.1 ∙ append_assoc b.journal one.journal.0 two.journal.0,
-  );
-  tells = tells_further b c d one.tells two.tells;
-  primary = two.primary;
-  before = one.before;
-  after = two.after;
-}
-
 -- a book that goes on has the harts that it had
-pub as_many : (b c : BookView RecordingView) → LeadsOn b c → HasRun b → HasRun c → length c.machine.harts ≡ length b.machine.harts
+pub as_many : (b c : BookView RecordingView) → GoesOn b c → HasRun b → HasRun c → length c.machine.harts ≡ length b.machine.harts
 as_many b c on first second = second.harts ∙ ap (λ (m : MachineState). length m.harts) on.start ∙ sym first.harts
 
 -- and leads its machine on
-pub book_later : (b c : BookView RecordingView) → LeadsOn b c → HasRun b → HasRun c → AreLater b.machine c.machine
+pub book_later : (b c : BookView RecordingView) → GoesOn b c → HasRun b → HasRun c → AreLater b.machine c.machine
 book_later b c on first second =
     let continues : Continues b c = record {
       start = on.start;

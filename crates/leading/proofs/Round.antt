@@ -17,9 +17,9 @@ use Rattle.primary.specs.Gating.{AreOffered, AreAllOffered, OffersMore}
 use Rattle.primary.proofs.Waiting.{all_stay}
 use Rattle.requests.specs.Queues.{QueueView}
 use Rattle.leading.specs.Leaders.{IsSound}
-use Rattle.leading.specs.Rounds.{HasGoneOn, LeadsOn}
+use Rattle.leading.specs.Rounds.{HasGoneOn}
 use Rattle.leading.proofs.Offering.{offered_later}
-use Rattle.leading.proofs.Onward.{as_many, book_later, leads_of, leads_further}
+use Rattle.leading.proofs.Onward.{as_many, book_later, goes_further}
 use Rattle.leading.proofs.Saying.{AreLater}
 use Rattle.leading.proofs.Sound.{sound_gate, sound_queues, sound_book}
 
@@ -41,8 +41,8 @@ module _ (p q : Primary) (g : TermGateView) (queues : List QueueView) (s : IsSou
   -- and then the book went on
   module _ (steps : ℕ) (r : Primary) (on : HasGoneOn steps q.book r.book) (first : HasRun p.book) (second : HasRun r.book) (opening : r.opening ≡ q.opening)
       (sealed : r.sealed ≡ q.sealed) where
-    pub whole : LeadsOn p.book r.book
-    whole = leads_further p.book q.book r.book (leads_of p.book q.book handed) on.on
+    pub whole : GoesOn p.book r.book
+    whole = goes_further p.book q.book r.book handed on.on
 
     pub later : AreLater p.book.machine r.book.machine
     later = book_later p.book r.book whole first second

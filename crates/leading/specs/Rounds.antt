@@ -5,12 +5,9 @@ use Rattle.input_log.specs.declared.Input.{Input}
 use Rattle.input_log.specs.Waiting.{bells_of, others_of}
 use Rattle.guest_image.specs.Machine.{MachineState}
 use Rattle.rv32_hart.specs.Hart.{Hart}
-use Rattle.hart_lease.specs.declared.stretch.Stretch.{Stretch}
-use Rattle.hart_lease.specs.Runs.{LeadsTo, counts_of}
-use Rattle.book_modes.specs.Recordings.{RecordingView, heard_by}
+use Rattle.hart_lease.specs.Runs.{counts_of}
+use Rattle.book_modes.specs.Recordings.{RecordingView}
 use Rattle.page_book.specs.Books.{BookView}
-use Rattle.page_book.specs.Tellings.{TellsOn}
-use Rattle.hart_replay.specs.Primaries.{IsPrimary}
 use Rattle.lease_rounds.specs.Running.{IsIdle, GoesRoundFor, KeepsOffered}
 use Rattle.lease_rounds.specs.Steps.{AreWithin}
 use Rattle.primary.specs.Primaries.{GoesOn}
@@ -53,16 +50,6 @@ abbrev pub IsThere : ℕ → BookView RecordingView → BookView RecordingView �
 IsThere steps b c hart =
     (h : Hart) → slice_get c.machine.harts hart ≡ Some h → (h.halted ≡ true) ⊎ (min (counts_of b.machine hart + steps) (COUNT_LIMIT - 1) ≤ h.count)
 
--- The second book goes on from the first: it has the first's start, more in its journal, and tells what the first tells. Each is led to its
--- machine by its journal, and the second one's log is honest.
-pub record LeadsOn (b c : BookView RecordingView) : Type 0 where
-  pub start : c.start ≡ b.start
-  pub journal : (more : List Stretch) × (c.journal ≡ b.journal ++ more)
-  pub tells : TellsOn b c
-  pub primary : IsPrimary c
-  pub before : LeadsTo (heard_by b.mode) b.start b.journal b.machine
-  pub after : LeadsTo (heard_by c.mode) c.start c.journal c.machine
-
 -- how many steps a lease has at the most: up to where the round ends where there is one hart, which nobody waits for
 abbrev pub lease_steps : ℕ → ℕ
 lease_steps harts = if harts == 1 then COUNT_LIMIT else LEASE_STEPS
@@ -74,7 +61,7 @@ limited b limits = record b { mode = record b.mode { limits = limits } }
 -- The book goes on, each hart by so many steps and no more, unless it is halted, and nothing that was offered is lost. Up to where they
 -- end its harts go round by round, in rising order, each for one lease until it is full, and are given what waits for them.
 pub record HasGoneOn (steps : ℕ) (b c : BookView RecordingView) : Type 0 where
-  pub on : LeadsOn b c
+  pub on : GoesOn b c
   pub harts : length c.machine.harts ≡ length b.machine.harts
   pub idle : IsIdle c
   pub within : AreWithin c

@@ -32,6 +32,7 @@ returns-clause-on c =
     subst (λ (x : BookView RecordingView). HasGoneOn c.args.steps b x) (sym last)
     (led c.args.steps b d end full (subst (λ (x : BookView RecordingView). Continues x d) first ran.continues)
     (subst (λ (x : BookView RecordingView). TellsOn x d) first ran.tells) (subst (λ (x : BookView RecordingView). KeepsOffered x d) first ran.offered)
+    (ran.notes ∙ ap (λ (x : BookView RecordingView). x.mode.notes) first)
     (subst (λ (n : ℕ). GoesRoundFor n (limited b end) d) lasts (subst (λ (x : BookView RecordingView). GoesRoundFor lease x d) first ran.rounds))
     (subst (λ (x : BookView RecordingView). GoWithin x d) first ran.counts) ran.idle ran.done
     (ran.limits ∙ ap (λ (x : BookView RecordingView). x.mode.limits) first)
