@@ -17,3 +17,5 @@ pub mod Round
 pub mod Most
 pub mod GoingRound
 pub mod Counting
+pub mod Given
+pub mod Asking

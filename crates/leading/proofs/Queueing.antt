@@ -5,6 +5,7 @@ use Rattle.std.proofs.lemmas.Bool.{cases_lt}
 use Rattle.rv32_hart.specs.Hart.{Hart}
 use Rattle.guest_image.specs.Machine.{MachineState}
 use Rattle.requests.specs.Queues.{QueueView}
+use Rattle.requests.specs.declared.queue.TheConstants.{WORD_LIMIT}
 use Rattle.leading.specs.Leaders.{queue_at}
 
 -- ---- one queue more
@@ -34,6 +35,25 @@ one_begun machine queues q number many one behind hart h lt there =
       | inr over ↦
           let e : number ≡ hart = omega arith in
           queue_last queues q hart (omega arith) ∙ one h (ap (slice_get machine.harts) e ∙ there)
+    ]
+
+-- the hart of this number was given so many words
+pub one_given : (machine : MachineState) (number place given : ℕ) (state : Hart) (q : QueueView) → place ≡ number → slice_get machine.harts place ≡ Some state →
+    given ≡ state.received.input_sequence → given ≤ WORD_LIMIT → q ≡ record { handed = given; waiting = [] } → (h : Hart) →
+    slice_get machine.harts number ≡ Some h → (q ≡ begun_of h) × (h.received.input_sequence ≤ WORD_LIMIT)
+one_given machine number place given state q same at is limit queue h there =
+    let e : Some state ≡ Some h = sym at ∙ ap (slice_get machine.harts) same ∙ there in
+    let its : state ≡ h = cc in
+    let words : given ≡ h.received.input_sequence = is ∙ ap (λ (k : Hart). k.received.input_sequence) its in
+    (queue ∙ ap (λ (n : ℕ). let p : QueueView = record { handed = n; waiting = [] } in p) words, omega (arith, words, limit))
+
+pub one_in_limit : (machine : MachineState) (number : ℕ) → ((h : Hart) → slice_get machine.harts number ≡ Some h → h.received.input_sequence ≤ WORD_LIMIT) →
+    ((hart : ℕ) (h : Hart) → hart < number → slice_get machine.harts hart ≡ Some h → h.received.input_sequence ≤ WORD_LIMIT) →
+    (hart : ℕ) (h : Hart) → hart < number + 1 → slice_get machine.harts hart ≡ Some h → h.received.input_sequence ≤ WORD_LIMIT
+one_in_limit machine number one before hart h lt there =
+    elim (cases_lt hart number) [
+      | inl less ↦ before hart h less there
+      | inr over ↦ let e : number ≡ hart = omega arith in one h (ap (slice_get machine.harts) e ∙ there)
     ]
 
 -- ---- one queue that is another now

@@ -15,7 +15,8 @@ use Rattle.primary.specs.declared.granted.Primary.{Primary}
 use Rattle.primary.specs.declared.released.Released.{Released}
 use Rattle.primary.specs.Gating.{AreOffered}
 use Rattle.primary.specs.Outputs.{said_at}
-use Rattle.requests.specs.Queues.{QueueView, words_in}
+use Rattle.requests.specs.Queues.{QueueView, came, words_in}
+use Rattle.requests.specs.declared.queue.TheConstants.{WORD_LIMIT}
 
 pub record LeaderView : Type 0 where
   pub primary : Primary  -- the opening of its term, its book, and how far its log is cut
@@ -40,11 +41,15 @@ BeginBehind machine queues =
 abbrev pub words_of : BookView RecordingView → ℕ → List ℕ
 words_of b hart = words_in (map (λ o. o.input) (offers b hart))
 
--- Each hart's queue counts as handed on the words that the hart had been given where the term began, and those that the book was offered for it since.
+-- The queue counts as handed on the words that the hart had been given where the term began, and those that the book was offered for it since; and no
+-- more words came than a hart is given.
+pub record IsHandedOn (b : BookView RecordingView) (hart : ℕ) (h : Hart) (q : QueueView) : Type 0 where
+  pub handed : q.handed ≡ h.received.input_sequence + length (words_of b hart)
+  pub limit : came q ≤ WORD_LIMIT
+
+-- so does each hart's queue
 abbrev pub AreHandedOn : BookView RecordingView → List QueueView → Type 0
-AreHandedOn b queues =
-    (hart : ℕ) (h : Hart) → slice_get b.start.harts hart ≡ Some h →
-    (queue_at queues hart).handed ≡ h.received.input_sequence + length (words_of b hart)
+AreHandedOn b queues = (hart : ℕ) (h : Hart) → slice_get b.start.harts hart ≡ Some h → IsHandedOn b hart h (queue_at queues hart)
 
 -- a gate of a term at which nothing is acknowledged and through which nothing went out, with these marks
 pub record IsNewGate (g : TermGateView) (term keepers need harts : ℕ) (marks : List ℕ) : Type 0 where
@@ -58,6 +63,10 @@ pub record IsNewGate (g : TermGateView) (term keepers need harts : ℕ) (marks :
   pub marked : (hart : ℕ) → mark_at g.gate hart ≡ count_at marks hart
 
 -- ---- private words
+
+-- no hart was given more words than one is
+abbrev pub AreInLimit : MachineState → Type 0
+AreInLimit machine = (hart : ℕ) (h : Hart) → slice_get machine.harts hart ≡ Some h → h.received.input_sequence ≤ WORD_LIMIT
 
 -- a hart's outputs stand in the order of their steps, and these are below its count
 pub record IsTidy (count : ℕ) (said : List (ℕ × ℕ)) : Type 0 where

@@ -5,3 +5,4 @@ pub mod Beginning
 pub mod Hearing
 pub mod Rounds
 pub mod Waiting
+pub mod Clients

@@ -1,11 +1,12 @@
 //! Inputs that go from the queues to the machine.
 
-ghost use Rattle.std.specs.Prelude.{◌≡◌, ◌≢◌, ◌<◌, ◌↔◌, ℕ, false, None, Some, length, slice_get, IfOk, IfSome, IfNone, OnOk, OnErr};
+ghost use Rattle.std.specs.Prelude.{◌≡◌, ◌≢◌, ◌<◌, ◌≤◌, ◌↔◌, ℕ, false, None, Some, length, slice_get, IfOk, IfSome, IfNone, OnOk, OnErr};
 ghost use Rattle.input_log.specs.Inputs.{is_bell};
 ghost use Rattle.input_log.specs.Waiting.{bells_of, others_of};
 ghost use Rattle.rv32_hart.specs.Hart.{Hart as HartRecord};
 ghost use Rattle.primary.specs.Primaries.{GoesOn};
-ghost use Rattle.leading.specs.Leaders.{BeginBehind, queue_at};
+ghost use Rattle.requests.specs.declared.queue.TheConstants.{WORD_LIMIT};
+ghost use Rattle.leading.specs.Leaders.{AreInLimit, BeginBehind, queue_at};
 ghost use Rattle.leading.specs.Rounds.{Hands, NoneIsHanded, may_take, next_of, spacing_of};
 
 use ft_types::{Hart, Memory};
@@ -35,7 +36,8 @@ const WORD_BIT: u32 = 1 << 11;
 
 /// How many words the hart was given.
 fn given(state: &HartState) -> u32
-    ensures { result ≡ state.now.received.input_sequence }
+    ensures value { result ≡ state.now.received.input_sequence }
+    ensures limit { result ≤ WORD_LIMIT }
 {
     state.device_words()[1]
 }
@@ -51,6 +53,7 @@ fn is_ready(state: &HartState) -> bool
 pub(crate) fn queues_of(alloc: Global, machine: &Machine) -> Result<Vec<Queue>, Memory>
     ensures harts { IfOk result (λ queues. length queues.items ≡ length machine.now.harts) }
     ensures behind { IfOk result (λ queues. BeginBehind machine.now queues.items) }
+    ensures limit { OnOk result (AreInLimit machine.now) }
 {
     let mut queues = Vec::new(alloc);
     for number in 0..machine.harts() {

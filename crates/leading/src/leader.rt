@@ -1,7 +1,8 @@
 //! A primary of a term that leads.
 
-ghost use Rattle.std.specs.Prelude.{◌≡◌, ◌≤◌, ◌+◌, ◌↔◌, ℕ, [], false, length, IfOk, IfErr, IsTrue, OnOk, OnErr};
+ghost use Rattle.std.specs.Prelude.{◌≡◌, ◌≤◌, ◌+◌, ◌↔◌, ℕ, [], Some, false, length, slice_get, IfOk, IfErr, IsTrue, OnOk, OnErr};
 ghost use Rattle.ft_types.specs.Counts.{count_at};
+ghost use Rattle.rv32_hart.specs.Hart.{Hart as HartRecord};
 ghost use Rattle.hart_lease.specs.Runs.{counts_of};
 ghost use Rattle.fragment_codec.specs.declared.frame.Frame.TheVariants.{Opening as OpeningFrame};
 ghost use Rattle.log_pieces.specs.Pieces.{IsCut, book_log};
@@ -11,6 +12,7 @@ ghost use Rattle.primary.specs.Gating.{AreAllOffered, OffersMore};
 ghost use Rattle.requests.specs.Queues.{at_room, comes_of};
 ghost use Rattle.requests.specs.declared.queue.Came.TheVariants.{Taken as WasTaken};
 ghost use Rattle.leading.specs.Beginning.{GoesLive, CannotGoLive};
+ghost use Rattle.leading.specs.Clients.{GaveWords};
 ghost use Rattle.leading.specs.Hearing.{Comes, Hears, LetsGo, LetsNothingGo, Notes, WithNoted};
 ghost use Rattle.leading.specs.Leaders.{AreHandedOn, BeginBehind};
 ghost use Rattle.leading.specs.Rounds.{IsRound, NoneIsHanded};
@@ -172,8 +174,13 @@ impl Leader {
         ensures handed { (result ≡ false) ↔ NoneIsHanded self.now.primary.book.machine self.now.queues }
         // Whatever was called before.
         ensures counted { AreHandedOn self.now.primary.book self.now.queues }
+        // INSEQ of each hart counts the words that the log gave it.
+        ensures given { (hart : ℕ) (h : HartRecord) → slice_get self.now.primary.book.start.harts hart ≡ Some h → GaveWords self.now.primary.book hart }
     {
-        has_input(self.primary.book.machine(), &self.queues)
+        let book = &self.primary.book;
+        // proof: the log has the inputs of its steps, by which it ran.
+        let _inputs = book.inputs();
+        has_input(book.machine(), &self.queues)
     }
 
     /// Whether rounds would change nothing but counts until an input comes: no hart is handed one, and all of them only wait, which
@@ -198,6 +205,8 @@ impl Leader {
         }
         let queue = &mut self.queues[hart.index()];
         let came = queue.put_word(word, number)?;
+        // proof: no more words came than a queue takes.
+        let _words = queue.words();
         Ok(Heard::Came(came))
     }
 
@@ -211,6 +220,8 @@ impl Leader {
         }
         let queue = &mut self.queues[hart.index()];
         let came = queue.put_timer()?;
+        // proof: no more words came than a queue takes.
+        let _words = queue.words();
         Ok(Heard::Came(came))
     }
 

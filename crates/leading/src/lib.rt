@@ -1,11 +1,12 @@
-//! What a primary decides that is a process of its own, one event at a time: it goes live from logs that were handed over to its term,
-//! takes requests and acknowledgements, goes on in rounds, and says which frames are sent and which outputs are told.
+//! What a primary decides, one event at a time: it goes live from logs that were handed over to its term, takes requests and
+//! acknowledgements, goes on in rounds, and says which frames are sent and which outputs are told.
 #![tactic(auto)]
 
 mod fault;
 mod handed;
 mod heard;
 mod inputs;
+mod laws;
 mod leader;
 mod rounds;
 mod sent;
@@ -17,5 +18,6 @@ pub use fault::LeadFault;
 pub use handed::{HandedFault, HandedLog, read_handed_log};
 pub use heard::Heard;
 pub use inputs::Spacing;
+pub use laws::words_are_the_clients;
 pub use leader::Leader;
 pub use requests::Came;

@@ -15,7 +15,7 @@ each_append : (P : ℕ → Asked → Type 0) (place : ℕ) (xs : List Asked) (a 
 each_append P place [] a each is = (subst (λ (n : ℕ). P n a) (omega arith) is, tt)
 each_append P place (x ∷ xs) a each is = (each.0, each_append P (suc place) xs a each.1 (subst (λ (n : ℕ). P n a) (omega arith) is))
 
-each_front : (P : ℕ → Asked → Type 0) (place : ℕ) (xs ys : List Asked) → EachAt P place (xs ++ ys) → EachAt P place xs
+pub each_front : (P : ℕ → Asked → Type 0) (place : ℕ) (xs ys : List Asked) → EachAt P place (xs ++ ys) → EachAt P place xs
 each_front P place [] ys each = tt
 each_front P place (x ∷ xs) ys each = (each.0, each_front P (suc place) xs ys each.1)
 
@@ -96,8 +96,13 @@ words_of words (Asks a ∷ all) asks = (word_of words a asks.0, words_of words a
 words_of words (HandsOn ∷ all) asks = (tt, words_of words all asks.1)
 words_of words (GoesOnAt given ∷ all) asks = (tt, words_of words all asks.1)
 
+-- whatever was there, where each of it stands at its place
+pub stay_in_place : (words : ℕ → ℕ) (had : Words) (all : List Happening) → AllByRecursion (AsksByNumber words) all → EachAt (IsWordOf words) 0 (taken had) →
+    EachAt (IsWordOf words) 0 (taken (all_after had all))
+stay_in_place words had all asks each = all_stay (IsWordOf words) had all (words_of words all asks) each
+
 pub exactly_once : ExactlyOnce
-exactly_once words all asks = all_stay (IsWordOf words) none all (words_of words all asks) tt
+exactly_once words all asks = stay_in_place words none all asks tt
 
 -- ---- asked once more
 

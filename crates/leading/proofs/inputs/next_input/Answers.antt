@@ -8,7 +8,7 @@ use Rattle.leading.proofs.inputs.next_input.Goals.{After-next}
 module _ (c : After-next) where
   is : c.next.result ≡ next_of c.args.state.now c.args.queue.now
   is =
-      next_is c.args.state.now c.args.queue.now c.next.result c.is_ready.result c.given.result c.is_ready.ensures c.if-is_ready.true c.given.ensures
+      next_is c.args.state.now c.args.queue.now c.next.result c.is_ready.result c.given.result c.is_ready.ensures c.if-is_ready.true c.given.ensures.value
       c.next.ensures.ready c.next.ensures.waits
 
 pub returns-then-is_ready-clause-next : goal.returns-then-is_ready-clause-next

@@ -3,7 +3,7 @@ use Rattle.guest_image.specs.Machine.{MachineState}
 use Rattle.book_modes.specs.Recordings.{RecordingView}
 use Rattle.page_book.specs.Books.{BookView}
 use Rattle.primary.specs.Primaries.{no_limits}
-use Rattle.leading.specs.Leaders.{BeginBehind}
+use Rattle.leading.specs.Leaders.{AreInLimit, BeginBehind}
 use Rattle.leading.proofs.Counting.{begun_handed}
 use Rattle.leading.proofs.Beginning.{begins_sound}
 use Rattle.leading.proofs.leader.Leader.go_live.Goals as goal
@@ -16,7 +16,9 @@ invariant_of-leader c = rw (c.in-Ok-boxed_both.ensures.0, c.in-Ok-boxed_both.ens
   c.in_ok-primary.ensures.marks,
   begun_handed c.in_ok-primary.primary.book c.in-Ok.queues.items (no_limits c.args.image.now.harts) c.in_ok-primary.ensures.goes.unused
       (subst (λ (m : MachineState). BeginBehind m c.in-Ok.queues.items)
-      (c.machine.ensures.value ∙ ap (λ (b : BookView RecordingView). b.machine) c.in_ok-primary.ensures.goes.begins) c.in-Ok.ensures.behind),
+      (c.machine.ensures.value ∙ ap (λ (b : BookView RecordingView). b.machine) c.in_ok-primary.ensures.goes.begins) c.in-Ok.ensures.behind)
+      (subst (λ (m : MachineState). AreInLimit m)
+      (c.machine.ensures.value ∙ ap (λ (b : BookView RecordingView). b.machine) c.in_ok-primary.ensures.goes.begins) c.in-Ok.ensures.limit),
 )
 
 pub returns-clause-queues : goal.returns-clause-queues

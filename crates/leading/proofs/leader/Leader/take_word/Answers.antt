@@ -24,5 +24,6 @@ invariant_of-self-2 c =
       c.self.invariant.1,
       c.self.invariant.2,
       put_handed c.self.inside.primary.value.book queues n new inside
-          (same ∙ ap (λ (q : QueueView). q.handed) (queue_there queues n old inside c.index_mut-queue.ensures.value)) c.self.invariant.3,
+          (same ∙ ap (λ (q : QueueView). q.handed) (queue_there queues n old inside c.index_mut-queue.ensures.value))
+          (let all = c.words-words.ensures.value in let limit = c.words-words.ensures.limit in omega (arith, all, limit)) c.self.invariant.3,
     )
