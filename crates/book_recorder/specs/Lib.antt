@@ -1,1 +1,2 @@
 pub mod TermBooks
+pub mod Sealings

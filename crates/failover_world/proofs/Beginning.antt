@@ -32,7 +32,7 @@ use Rattle.hart_replay.proofs.walking.Outcomes.{booted_none, booted_length}
 use Rattle.book_recorder.specs.TermBooks.{IsTermBook, AreTheory}
 use Rattle.book_recorder.proofs.Books.{are_theory, booted_are_term_books}
 use Rattle.fenced_theory.specs.Machines.{AtBoot, IsRecorder}
-use Rattle.failover_theory.specs.Worlds as theory
+use Rattle.failover_world.specs.machinery.Stopping as theory
 use Rattle.fenced_theory.proofs.Recording.{of_logs}
 use Rattle.go_live.specs.Histories.{MakesLonger}
 use Rattle.primary.specs.Outputs.{numbered, said_at}
@@ -41,6 +41,7 @@ use Rattle.primary.specs.declared.granted.Primary.{Primary}
 use Rattle.primary.specs.Primaries.{IsBooted}
 use Rattle.failover_world.specs.Worlds.{WorldView, term_of}
 use Rattle.failover_world.specs.machinery.Tied.{TermBook, Books, retold_in, history, told_as, theory_world, quorum_of, live_book, AreParts, IsTied, IsWorld}
+use Rattle.failover_world.proofs.Stopping.{first_comes}
 use Rattle.failover_world.proofs.Places.{retold_put}
 use Rattle.primary.proofs.Put.{put_put}
 
@@ -175,11 +176,20 @@ module _ (v : WorldView) (is : IsFirst v) where
       fun_ext (λ keeper. fun_ext (λ hart.
       ap (λ (rows : List (List ℕ)). count_at (slice_index_or rows keeper []) hart) is.acked ∙ none_acked v.keepers v.image.harts keeper hart))
 
-  world_is : theory_world v.image.pages its_theory (guest_of v.image) v terms (λ u hart. []) (λ u hart. 0) [] ≡ theory.first_world (guest_of v.image) told
+  world_is : theory_world v.image.pages its_theory (guest_of v.image) v terms (λ u hart. []) (λ u hart. 0) [] ≡
+      record {
+        now = 1;
+        terms = put (λ term. None) 1 (Some (theory.first_term (guest_of v.image) told));
+        sent = Opening ((theory.first_term (guest_of v.image) told).opening) ∷ [];
+        stores = λ keeper. Some (nothing (guest_of v.image));
+        acked = λ keeper hart. 0;
+        notes = λ u hart. [];
+        marks = λ u hart. 0;
+        released = [];
+      }
   world_is =
       λ i. record {
         now = term_is i;
-        runs = is.runs i;
         terms = terms_are i;
         sent = (is.sent ∙ ap (λ (o : OpeningParts). Opening o ∷ []) is.booted.opening) i;
         stores = stores_are i;
@@ -193,7 +203,7 @@ module _ (v : WorldView) (is : IsFirst v) where
   comes =
       let fact = AtBoot told (its_theory.from v.primary.book is_book ∙ ap (view (hardware v.image.pages)) is.booted.start) in
       subst (theory.Comes its_recorder.recorder (guest_of v.image) (quorum_of v)) (sym world_is)
-      (theory.Begins told (fact, its_recorder.tells fact))
+      (first_comes its_recorder.recorder (guest_of v.image) (quorum_of v) told (fact, its_recorder.tells fact))
 
   -- ---- as a history
   none_before : history (put terms (term_of v) None) ≡ no_terms

@@ -1,30 +1,32 @@
--- Keepers that are named: their stores are of the world's history, and their join is one of the theory's.
+-- Keepers that are named: their stores are of the world's history, and the join has what they have.
 use Rattle.std.proofs.Common.{◌≡◌, inl, inr, ℕ, suc, ◌+◌, ◌-◌, ◌<◌, ◌≤◌, ◌==◌, Bool, true, false, cond, List, [], ◌∷◌, ◌++◌, length, map, slice_index_or, Option, Some, None, if◌then◌else◌, refl, sym, ap, subst, ◌∙◌, arith}
 use Rattle.std.specs.Prelude.{All}
 use Rattle.std.specs.List.{list_any, flat_map, enumerate_from}
-use Rattle.std.proofs.lemmas.List.Elements.{All-nil, All-cons}
+use Rattle.std.proofs.lemmas.List.Elements.{All-nil, All-cons, All-head, All-tail}
 use Rattle.std.proofs.Math.Path.{fun_ext}
 use Rattle.interleaving.specs.Lists.{put}
 use Rattle.interleaving.proofs.Put.{same_or_not, put_same, put_other}
 use Rattle.guest_image.specs.Image.{guest_of}
-use Rattle.ft_types.specs.Guests.{IsGuest}
-use Rattle.log_join.specs.Families.{Past, opening_of, piece_of, HonestStore}
+use Rattle.log_join.specs.Families.{Past, Family, opening_of, piece_of, HonestStore, Below}
 use Rattle.log_join.specs.Stores.{StoreView, nothing}
+use Rattle.log_join.proofs.Families.{honest_nothing}
 use Rattle.hart_replay.specs.Images.{GuestHistory, IsHistoryOf}
 use Rattle.hart_replay.specs.Primaries.{term_of as history_of}
 use Rattle.fenced_theory.specs.Lists.{how_many}
-use Rattle.failover_theory.specs.Worlds as theory
-use Rattle.failover_theory.proofs.Events.{always}
+use Rattle.fenced_theory.specs.Worlds.{HasGiven}
+use Rattle.fenced_theory.proofs.Growing.{below_itself, below_trans, some_same, some_none}
+use Rattle.fenced_theory.proofs.Stores.{see, honest_join}
 use Rattle.go_live.specs.Quorums.{distinct_below, AreEnough}
 use Rattle.go_live.proofs.Distinct.{within_length}
 use Rattle.go_live.specs.Joined.{AreJoinedTo, AreJoined}
+use Rattle.go_live.proofs.Joins.{joined_guest}
 use Rattle.go_live.specs.Histories.{AreOfHistory}
 use Rattle.failover_world.specs.Worlds.{WorldView, store_at, term_of}
 use Rattle.failover_world.specs.Happenings.{if_named, stores_of}
-use Rattle.failover_world.specs.machinery.Tied.{TermBook, retold_in, history, told_as, quorum_of, live_term, IsTied}
+use Rattle.failover_world.specs.machinery.Tied.{TermBook, Books, retold_in, history, told_as, quorum_of, live_term, IsTied}
 use Rattle.failover_world.proofs.Places.{retold_put, there_too}
 use Rattle.primary.proofs.Put.{put_put}
-use Rattle.failover_world.proofs.Guests.{either_side, store_guest}
+use Rattle.failover_world.proofs.Stopping.{kept}
 
 -- whether the keeper is named and has a store
 abbrev pub picks : List ℕ → ℕ → Option StoreView → Bool
@@ -50,7 +52,51 @@ each_named Q (Some x ∷ rest) n named each =
     of true more = All-cons Q x (map (λ s. s.1) (named_from (n + 1) rest named)) (each 0 x refl) more
     of false more = more
 
+-- and what holds of each that is named holds of it
+of_named : (Q : StoreView → Type 0) (rest : List (Option StoreView)) (n : ℕ) (named : List ℕ) → All Q (map (λ s. s.1) (named_from n rest named)) →
+    (k m : ℕ) (x : StoreView) → m ≡ k + n → store_at rest k ≡ Some x → list_any (λ j. j == m) named ≡ true → Q x
+of_named Q [] n named all k m x at there is = some_none there refl
+of_named Q (None ∷ rest) n named all zero m x at there is = some_none there refl
+of_named Q (None ∷ rest) n named all (suc k) m x at there is = of_named Q rest (n + 1) named all k m x (omega (arith, at)) there is
+of_named Q (Some y ∷ rest) n named all zero m x at there is =
+    subst Q (some_same refl there)
+    (of (list_any (λ j. j == n) named) (ap (λ i. list_any (λ j. j == i) named) (let e : n ≡ m = omega (arith, at) in e) ∙ is) all)
+  where
+    of : (b : Bool) → b ≡ true → All Q (map (λ s. s.1) ((if b then (n, y) ∷ [] else []) ++ named_from (n + 1) rest named)) → Q y
+    of true e all = All-head Q y (map (λ s. s.1) (named_from (n + 1) rest named)) all
+    of false e all = cc
+of_named Q (Some y ∷ rest) n named all (suc k) m x at there is =
+    of_named Q rest (n + 1) named (of (list_any (λ j. j == n) named) all) k m x (omega (arith, at)) there is
+  where
+    of : (b : Bool) → All Q (map (λ s. s.1) ((if b then (n, y) ∷ [] else []) ++ named_from (n + 1) rest named)) →
+        All Q (map (λ s. s.1) (named_from (n + 1) rest named))
+    of true all = All-tail Q y (map (λ s. s.1) (named_from (n + 1) rest named)) all
+    of false all = all
+
 -- ---- honest stores
+
+-- what stores have, their join has
+record HasAll {Told : Type 0} (terms : Family Told) (old : StoreView) (stores : List StoreView) (new : StoreView) : Type 0 where
+  honest : HonestStore terms new
+  first : Below old new
+  each : All (λ s. Below s new) stores
+
+pub joined_has : {Told : Type 0} (terms : Family Told) (old : StoreView) (stores : List StoreView) (new : StoreView) → HonestStore terms old →
+    All (HonestStore terms) stores → AreJoinedTo old stores new → HasAll terms old stores new
+joined_has terms old [] new honest all same =
+    record {
+      honest = subst (HonestStore terms) (sym same) honest;
+      first = subst (Below old) (sym same) (below_itself old);
+      each = All-nil (λ s. Below s new);
+    }
+joined_has terms old (store ∷ stores) new honest all (next, join, more) =
+    let both = honest_join terms old store next honest (All-head (HonestStore terms) store stores all) join in
+    let rest = joined_has terms next stores new both.honest (All-tail (HonestStore terms) store stores all) more in
+    record {
+      honest = rest.honest;
+      first = below_trans both.left rest.first;
+      each = All-cons (λ s. Below s new) store stores (below_trans both.right rest.first) rest.each;
+    }
 
 pub opening_retold : {A B : Type 0} (f : A → B) (p : Option (Past A)) → opening_of (retold_in f p) ≡ opening_of p
 opening_retold f None = refl
@@ -97,63 +143,59 @@ module _ (v : WorldView) (is : IsTied v) where
 
   pub honest : (named : List ℕ) → AreOfHistory v.image (history is.terms) (map (λ s. s.1) (stores_of v.stores named))
   honest named =
-      let kept = always is.is_recorder.recorder (guest_of v.image) (quorum_of v) is.comes in
+      let its = kept is.is_recorder.recorder (guest_of v.image) (quorum_of v) is.comes in
       record {
         is_history = is_history;
         each =
             each_named (HonestStore (history is.terms)) v.stores 0 named
             (λ k s at.
             honest_retold (told_as v.image.pages is.are_theory) (λ (t : TermBook v.image.pages). history_of t.book) is.terms s
-            (kept.stores k s (there_too v.stores k s (Some (nothing (guest_of v.image))) at)));
+            (its.stores k s (there_too v.stores k s (Some (nothing (guest_of v.image))) at)));
       }
 
-  -- ---- the join
+  module _ (named : List ℕ) where
+    -- ---- the join
 
-  module _ (guest : IsGuest (guest_of v.image)) (named : List ℕ) where
+    abbrev terms : Family (Books v.image.pages is.are_theory)
+    terms u = retold_in (told_as v.image.pages is.are_theory) (is.terms u)
+
     abbrev stores : ℕ → Option StoreView
     stores keeper = slice_index_or v.stores keeper (Some (nothing (guest_of v.image)))
 
-    abbrev AreJoinedBelow : ℕ → StoreView → Type 0
-    AreJoinedBelow n all = theory.Joined (guest_of v.image) stores (chosen_of v.stores named) n all
+    -- whoever is chosen has a store, and is named
+    is_named : (k : ℕ) → chosen_of v.stores named k ≡ true → (s : StoreView) × (store_at v.stores k ≡ Some s) × (list_any (λ j. j == k) named ≡ true)
+    is_named k chosen =
+        elim (see (store_at v.stores k)) [
+          | inl none ↦ let e : false ≡ true = sym (ap (picks named k) none) ∙ chosen in cc
+          | inr (s, there) ↦ (s, there, sym (ap (picks named k) there) ∙ chosen)
+        ]
+
+    -- it has what each of them has
+    pub all_given : (all : StoreView) → AreJoined (guest_of v.image) (map (λ s. s.1) (stores_of v.stores named)) all →
+        HasGiven (guest_of v.image) terms stores (chosen_of v.stores named) (length v.stores) all
+    all_given all joined =
+        let its = kept is.is_recorder.recorder (guest_of v.image) (quorum_of v) is.comes in
+        let j =
+        joined_has terms (nothing (guest_of v.image)) (map (λ s. s.1) (stores_of v.stores named)) all (honest_nothing terms (guest_of v.image))
+        (each_named (HonestStore terms) v.stores 0 named (λ k s at. its.stores k s (there_too v.stores k s (Some (nothing (guest_of v.image))) at))) joined in
+        record {
+          of_guest = joined_guest (nothing (guest_of v.image)) (map (λ s. s.1) (stores_of v.stores named)) all joined;
+          honest = j.honest;
+          has = λ k below chosen.
+              let (s, there, named_too) = is_named k chosen in (
+                s,
+                there_too v.stores k s (Some (nothing (guest_of v.image))) there,
+                of_named (λ s. Below s all) v.stores 0 named j.each k k s (omega arith) there named_too,
+              );
+        }
+
+    -- ---- how many there are
 
     abbrev StandsFrom : ℕ → List (Option StoreView) → Type 0
     StandsFrom n rest = (k m : ℕ) → m ≡ k + n → store_at v.stores m ≡ store_at rest k
 
     next : (x : Option StoreView) (rest : List (Option StoreView)) (n : ℕ) → StandsFrom n (x ∷ rest) → StandsFrom (n + 1) rest
     next x rest n at k m is_so = at (suc k) m (omega (arith, is_so))
-
-    joined_from : (rest : List (Option StoreView)) (n m : ℕ) → StandsFrom n rest → m ≡ length rest + n → (old all : StoreView) →
-        old.guest ≡ guest_of v.image → AreJoinedTo old (map (λ s. s.1) (named_from n rest named)) all → AreJoinedBelow n old → AreJoinedBelow m all
-    joined_from [] n m at many old all own joined below = subst (λ k. AreJoinedBelow k all) (let e : n ≡ m = omega (arith, many) in e) (subst (AreJoinedBelow n) (sym joined) below)
-    joined_from (None ∷ rest) n m at many old all own joined below =
-        joined_from rest (n + 1) m (next None rest n at) (omega (arith, many)) old all own joined
-        (subst (λ k. AreJoinedBelow k old) (let e : suc n ≡ n + 1 = omega arith in e) (theory.Skip (ap (picks named n) (at 0 n (omega arith))) below))
-    joined_from (Some x ∷ rest) n m at many old all own joined below =
-        of (list_any (λ k. k == n) named) refl joined
-        (λ now mine more so_far. joined_from rest (n + 1) m (next (Some x) rest n at) (omega (arith, many)) now all mine more so_far)
-      where
-        named_or : (b : Bool) → list_any (λ k. k == n) named ≡ b → chosen_of v.stores named n ≡ b
-        named_or b is_named = ap (picks named n) (at 0 n (omega arith)) ∙ is_named
-
-        of : (b : Bool) → list_any (λ k. k == n) named ≡ b →
-            AreJoinedTo old (map (λ s. s.1) ((if b then (n, x) ∷ [] else []) ++ named_from (n + 1) rest named)) all →
-            ((now : StoreView) → now.guest ≡ guest_of v.image → AreJoinedTo now (map (λ s. s.1) (named_from (n + 1) rest named)) all →
-            AreJoinedBelow (n + 1) now → AreJoinedBelow m all) → AreJoinedBelow m all
-        of true is_named (now, join, more) rest_joined =
-            rest_joined now (join.guest ∙ own) more
-            (subst (λ k. AreJoinedBelow k now) (let e : suc n ≡ n + 1 = omega arith in e)
-            (theory.Take x (named_or true is_named) (there_too v.stores n x (Some (nothing (guest_of v.image))) (at 0 n (omega arith))) below
-            (either_side old x now (own ∙ sym (store_guest v is guest n x (at 0 n (omega arith)))) join)))
-        of false is_named more rest_joined =
-            rest_joined old own more
-            (subst (λ k. AreJoinedBelow k old) (let e : suc n ≡ n + 1 = omega arith in e) (theory.Skip (named_or false is_named) below))
-
-    pub all_joined : (all : StoreView) → AreJoined (guest_of v.image) (map (λ s. s.1) (stores_of v.stores named)) all → AreJoinedBelow (length v.stores) all
-    all_joined all joined =
-        joined_from v.stores 0 (length v.stores) (λ k m is_so. ap (store_at v.stores) (let e : m ≡ k = omega (arith, is_so) in e)) (omega arith)
-        (nothing (guest_of v.image)) all refl joined theory.NoneYet
-
-    -- ---- how many there are
 
     next_count : (n : ℕ) (f : ℕ → Bool) (b : Bool) → f n ≡ b → how_many (n + 1) f ≡ cond b 1 0 + how_many n f
     next_count n f b is_so =

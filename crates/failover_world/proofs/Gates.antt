@@ -6,7 +6,7 @@ use Rattle.guest_image.specs.Image.{guest_of}
 use Rattle.book_modes.specs.Recordings.{RecordingView, HasRoomed}
 use Rattle.output_gate.specs.Gates.{GateView, mark_at, gone_of, held_outputs}
 use Rattle.term_gate.specs.TermGates.{TermGateView, AreAcked}
-use Rattle.failover_theory.specs.Worlds as theory
+use Rattle.failover_world.specs.machinery.Stopping as theory
 use Rattle.scripts.specs.declared.event.Event.TheVariants as on
 use Rattle.primary.specs.Gating.{AreOffered, OffersMore, IsAsItWas}
 use Rattle.failover_world.specs.Worlds.{WorldView}

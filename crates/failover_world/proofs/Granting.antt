@@ -34,9 +34,9 @@ use Rattle.hart_replay.proofs.honesty.Replays.{legs_keep_pages, boot_pages}
 use Rattle.fenced_theory.specs.Machines.{Book, BookFact, AreTidy, AtBoot, AtCut}
 use Rattle.fenced_theory.specs.Lists.{how_many}
 use Rattle.fenced_theory.specs.Recorders.{Output as TheoryOutput}
-use Rattle.failover_theory.specs.Worlds as theory
-use Rattle.failover_theory.proofs.Events.{Invariant, always}
-use Rattle.fenced_theory.proofs.Stores.{see, honest_joined}
+use Rattle.failover_world.specs.machinery.Stopping as theory
+use Rattle.fenced_theory.proofs.Invariant.{Invariant}
+use Rattle.fenced_theory.proofs.Stores.{see}
 use Rattle.book_recorder.specs.TermBooks.{outputs_of, IsTermBook, IsRevived}
 use Rattle.book_recorder.proofs.Books.{revived_are_term_books}
 use Rattle.term_gate.specs.TermGates.{TermGateView, acked_at}
@@ -49,9 +49,10 @@ use Rattle.primary.specs.Gating.{AreRising}
 use Rattle.failover_world.specs.Happenings.{GoesLive, stores_of}
 use Rattle.failover_world.specs.machinery.Tied.{TermBook, retold, retold_in, history, told_as, theory_world, quorum_of, live_book, AreParts, IsTied, BeginsTerm}
 use Rattle.failover_world.proofs.Places.{retold_put}
+use Rattle.failover_world.proofs.Stopping as stopping
 use Rattle.primary.proofs.Put.{put_put}
 use Rattle.failover_world.proofs.Before.{stopped_or_now, before_now, no_other_with}
-use Rattle.failover_world.proofs.Chosen.{chosen_of, put_own, honest, all_joined, enough}
+use Rattle.failover_world.proofs.Chosen.{chosen_of, put_own, honest, all_given, enough}
 use Rattle.failover_world.proofs.Marks.{are_marks}
 
 -- no hart of boot has put out anything
@@ -121,8 +122,9 @@ module _ (v : WorldView) (is : IsTied v) (term : ℕ) (named : List ℕ) (p : Pr
   as_large : length p.book.start.pages ≡ v.image.pages
   as_large = legs_keep_pages begun_at.replayed.legs (boot_machine v.image) p.book.start begun_at.replayed.outcome ∙ boot_pages v.image
 
-  kept : Invariant is.is_recorder.recorder (theory_world v.image.pages is.are_theory (guest_of v.image) v is.terms is.notes is.marks is.out)
-  kept = always is.is_recorder.recorder (guest_of v.image) (quorum_of v) is.comes
+  kept : Invariant is.is_recorder.recorder (quorum_of v)
+      (theory.beside (theory_world v.image.pages is.are_theory (guest_of v.image) v is.terms is.notes is.marks is.out) is.comes.keepers)
+  kept = stopping.kept is.is_recorder.recorder (guest_of v.image) (quorum_of v) is.comes
 
   -- no such term was granted
   not_granted : is.terms term ≡ None
@@ -130,7 +132,7 @@ module _ (v : WorldView) (is : IsTied v) (term : ℕ) (named : List ℕ) (p : Pr
       elim (see (is.terms term)) [
         | inl none ↦ none
         | inr (q, there) ↦
-            let old : term ≤ term_of v = kept.last term (retold (told_as v.image.pages is.are_theory) q)
+            let old : term ≤ term_of v = is.comes.last term (retold (told_as v.image.pages is.are_theory) q)
             (ap (retold_in (told_as v.image.pages is.are_theory)) there) in
             let new : term_of v < term = later in
             absurd (omega (arith, old, new))
@@ -265,7 +267,6 @@ module _ (v : WorldView) (is : IsTied v) (parts : AreParts v) (term : ℕ) (name
   with_opening o =
       record (theory_world v.image.pages is.are_theory (guest_of v.image) v is.terms is.notes is.marks is.out) {
         now = o.term;
-        runs = true;
         terms = put (λ u. retold_in told (is.terms u)) o.term (Some (record { opening = o; told = now; pieces = λ hart. [] }));
         sent = v.sent ++ Opening o ∷ [];
         acked = λ keeper hart. 0;
@@ -273,25 +274,22 @@ module _ (v : WorldView) (is : IsTied v) (parts : AreParts v) (term : ℕ) (name
         marks = put is.marks o.term its_marks;
       }
 
-  joins : theory.Joined (guest_of v.image) world.stores (chosen_of v.stores named) v.keepers live.at.joined
-  joins =
-      subst (λ n. theory.Joined (guest_of v.image) world.stores (chosen_of v.stores named) n live.at.joined) parts.stores
-      (all_joined v is parts.guest named live.at.joined live.at.are_joined)
+  has : theory.HasGiven (guest_of v.image) world.terms world.stores (chosen_of v.stores named) v.keepers live.at.joined
+  has =
+      subst (λ n. theory.HasGiven (guest_of v.image) world.terms world.stores (chosen_of v.stores named) n live.at.joined) parts.stores
+      (all_given v is named live.at.joined live.at.are_joined)
 
-  invariant : Invariant is.is_recorder.recorder world
-  invariant = always is.is_recorder.recorder (guest_of v.image) (quorum_of v) is.comes
-
-  in_theory : v.runs ≡ false → Comes (with_opening p.opening)
-  in_theory quiet =
+  in_theory : Comes (with_opening p.opening)
+  in_theory =
       subst (λ o. Comes (with_opening o)) (sym live.at.opened)
-      (theory.Then is.comes
-      (theory.Grant term (chosen_of v.stores named) live.at.joined live.at.position now its_marks quiet live.later joins
-      (subst (λ n. v.keepers < v.need + how_many n (chosen_of v.stores named)) parts.stores (enough v is parts.guest named live.enough))
+      (stopping.grants is.is_recorder.recorder (guest_of v.image) (quorum_of v) is.comes term (chosen_of v.stores named) live.at.joined live.at.position now
+      its_marks live.later has
+      (subst (λ n. v.keepers < v.need + how_many n (chosen_of v.stores named)) parts.stores (enough v is named live.enough))
       live.at.replayed.is_position (subst IsOpening live.at.opened begins.rules) begun
       (λ hart.
-      are_marks is.is_recorder.recorder (λ u. retold_in told (is.terms u)) invariant.family live.at.joined
-      (honest_joined (λ u. retold_in told (is.terms u)) (guest_of v.image) world.stores (chosen_of v.stores named) invariant.stores joins).honest
-      live.at.position live.at.replayed.legs live.at.replayed.planned hart)))
+      are_marks is.is_recorder.recorder (λ u. retold_in told (is.terms u))
+      (stopping.kept is.is_recorder.recorder (guest_of v.image) (quorum_of v) is.comes).family live.at.joined has.honest live.at.position
+      live.at.replayed.legs live.at.replayed.planned hart))
 
   none_noted : ◌≡◌ {A = ℕ → ℕ → ℕ} (λ keeper hart. acked_at g keeper hart) (λ keeper hart. 0)
   none_noted =
@@ -337,7 +335,7 @@ module _ (v : WorldView) (is : IsTied v) (parts : AreParts v) (term : ℕ) (name
         comes =
             subst (λ a. Comes (record (with_opening p.opening) { terms = λ u. retold_in told (terms u); acked = a })) (sym none_noted)
             (subst (λ t. Comes (record (with_opening p.opening) { terms = t })) (sym (retold_put told is.terms p.opening.term (Some new_past)))
-            (in_theory quiet));
+            in_theory);
         went_out = is.went_out;
         no_more = is.no_more;
         gone_out = λ hart o has. absurd (none_gone o (subst (λ (os : List Output). Contains os o) (live.fresh.gone hart) has));

@@ -11,25 +11,22 @@ use Rattle.log_join.specs.Answers.{answer, answer_to}
 use Rattle.log_join.specs.Stores.{StoreView, IsStore, IsJoin, nothing, opening_at, fragment_at}
 use Rattle.log_join.proofs.Told.{guests_told, openings_told, fragments_told}
 use Rattle.log_join.proofs.Cells.{cells_join}
-use Rattle.log_join.proofs.Joins.{commutes, idempotent_stores}
+use Rattle.log_join.proofs.Joins.{idempotent_stores}
 use Rattle.log_join.proofs.Families.{granted_opening, granted_piece}
-use Rattle.fenced_theory.proofs.Granting.{a_join}
-use Rattle.failover_theory.proofs.Events.{Invariant, always}
-use Rattle.failover_theory.proofs.Ruled.{IsOfRules, ruled, stores_are_right}
+use Rattle.fenced_theory.specs.Worlds as theory
+use Rattle.fenced_theory.proofs.Invariant.{Invariant}
+use Rattle.fenced_theory.proofs.Ruled.{IsOfRules, ruled}
+use Rattle.fenced_theory.proofs.Granting.{a_join, stores_are_right}
 use Rattle.failover_world.specs.Worlds.{WorldView, store_at, term_of}
-use Rattle.failover_world.specs.machinery.Tied.{theory_world, quorum_of, live_book, IsTied}
+use Rattle.failover_world.specs.machinery.Tied.{Books, theory_world, quorum_of, live_book, IsTied}
+use Rattle.failover_world.specs.machinery.Stopping.{beside}
 use Rattle.failover_world.proofs.Places.{there_too}
+use Rattle.failover_world.proofs.Stopping as stopping
 
 -- a store joined with itself is that store
 pub with_itself : (s : StoreView) → IsJoin s s s
 with_itself s =
     let (c, join) = a_join s s in subst (IsJoin s s) (idempotent_stores (cells_join openings_told) (cells_join fragments_told) s c join) join
-
--- a join is one from either side
-pub either_side : (a b c : StoreView) → a.guest ≡ b.guest → IsJoin a b c → IsJoin b a c
-either_side a b c same join =
-    let (d, other) = a_join b a in
-    subst (IsJoin b a) (sym (commutes (cells_join openings_told) (cells_join fragments_told) a b c d same join other)) other
 
 same_or_clash : (b : Bool) → (if b then Same else Clashes) ≢ OtherGuest
 same_or_clash true = λ e. cc
@@ -57,21 +54,24 @@ own_answer s (Log x) same =
     (not_other same_fragment (fragment_at s x.key) x)
 
 module _ (v : WorldView) (is : IsTied v) (guest : IsGuest (guest_of v.image)) where
-  kept : Invariant is.is_recorder.recorder (theory_world v.image.pages is.are_theory (guest_of v.image) v is.terms is.notes is.marks is.out)
-  kept = always is.is_recorder.recorder (guest_of v.image) (quorum_of v) is.comes
+  abbrev world : theory.World (Books v.image.pages is.are_theory)
+  world = beside (theory_world v.image.pages is.are_theory (guest_of v.image) v is.terms is.notes is.marks is.out) is.comes.keepers
 
-  rules : IsOfRules (guest_of v.image) (theory_world v.image.pages is.are_theory (guest_of v.image) v is.terms is.notes is.marks is.out)
-  rules = ruled is.is_recorder.recorder (guest_of v.image) (quorum_of v) guest is.comes
+  kept : Invariant is.is_recorder.recorder (quorum_of v) world
+  kept = stopping.kept is.is_recorder.recorder (guest_of v.image) (quorum_of v) is.comes
+
+  rules : IsOfRules is.is_recorder.recorder (guest_of v.image) (quorum_of v) world
+  rules = ruled is.is_recorder.recorder (guest_of v.image) (quorum_of v) guest is.comes.comes
 
   pub store_guest : (keeper : ℕ) (s : StoreView) → store_at v.stores keeper ≡ Some s → s.guest ≡ guest_of v.image
   store_guest keeper s at = rules.stores keeper s (there_too v.stores keeper s (Some (nothing (guest_of v.image))) at)
 
   frame_guest : (f : Frame) → Contains v.sent f → guest_in f ≡ guest_of v.image
   frame_guest (Opening o) has =
-      let (p, there, same) = granted_opening (theory_world v.image.pages is.are_theory (guest_of v.image) v is.terms is.notes is.marks is.out).terms o.term o (kept.frames (Opening o) has) in
+      let (p, there, same) = granted_opening world.terms o.term o (kept.frames (Opening o) has) in
       ap (λ o. o.guest) (sym same) ∙ (rules.terms.openings o.term p there).same_guest
   frame_guest (Log x) has =
-      let (p, there, at) = granted_piece (theory_world v.image.pages is.are_theory (guest_of v.image) v is.terms is.notes is.marks is.out).terms x.key x (kept.frames (Log x) has) in
+      let (p, there, at) = granted_piece world.terms x.key x (kept.frames (Log x) has) in
       (rules.terms.pieces x.key.term p x.key.hart x.key.place x there at).same_guest
 
   -- so is the opening of the primary's term
@@ -83,6 +83,5 @@ module _ (v : WorldView) (is : IsTied v) (guest : IsGuest (guest_of v.image)) wh
 
   pub store_rules : (keeper : ℕ) (s : StoreView) → store_at v.stores keeper ≡ Some s → IsStore s
   store_rules keeper s at =
-      (stores_are_right is.is_recorder.recorder (guest_of v.image) (quorum_of v) guest
-      (theory_world v.image.pages is.are_theory (guest_of v.image) v is.terms is.notes is.marks is.out) is.comes).keepers keeper s
-      (there_too v.stores keeper s (Some (nothing (guest_of v.image))) at)
+      ((stores_are_right is.is_recorder.recorder (guest_of v.image) (quorum_of v) guest world is.comes.comes).keepers keeper s
+      (there_too v.stores keeper s (Some (nothing (guest_of v.image))) at)).0

@@ -6,12 +6,12 @@ use Rattle.fragment_codec.specs.declared.frame.Frame.TheVariants.{Log, Opening}
 use Rattle.log_join.specs.Families.{Past, OfFamily}
 use Rattle.log_join.specs.Stores.{nothing}
 use Rattle.hart_replay.specs.Primaries.{term_of as history_of}
-use Rattle.failover_theory.proofs.Events.{always}
 use Rattle.primary.specs.declared.granted.Primary.{Primary}
 use Rattle.failover_world.specs.Worlds.{WorldView, term_of}
 use Rattle.failover_world.specs.Promises.{IsItsTerm, AreHonest}
 use Rattle.failover_world.specs.machinery.Tied.{TermBook, retold, retold_in, history, told_as, live_term, IsBefore, IsTied, quorum_of}
 use Rattle.failover_world.proofs.Places.{there_too}
+use Rattle.failover_world.proofs.Stopping.{kept}
 use Rattle.failover_world.proofs.Chosen.{opening_retold, piece_retold, honest_retold, is_history}
 use Rattle.failover_world.proofs.Promises.{laws, untold}
 
@@ -34,16 +34,16 @@ module _ (v : WorldView) (is : IsTied v) where
 
   pub are_honest : AreHonest v
   are_honest =
-      let kept = always is.is_recorder.recorder (guest_of v.image) (quorum_of v) is.comes in
+      let its = kept is.is_recorder.recorder (guest_of v.image) (quorum_of v) is.comes in
       record {
         history = history is.terms;
         is_history = is_history v is;
         sent = λ f has.
             frame_retold (told_as v.image.pages is.are_theory) (λ (t : TermBook v.image.pages). history_of t.book) is.terms f
-            ((laws v is).fenced.honest.frames f has);
+            ((laws v is).honest.frames f has);
         stores = λ keeper s at.
             honest_retold (told_as v.image.pages is.are_theory) (λ (t : TermBook v.image.pages). history_of t.book) is.terms s
-            (kept.stores keeper s (there_too v.stores keeper s (Some (nothing (guest_of v.image))) at));
+            (its.stores keeper s (there_too v.stores keeper s (Some (nothing (guest_of v.image))) at));
         last =
             record {
               past = live_term v is.pieces;

@@ -8,11 +8,12 @@ use Rattle.ft_types.specs.declared.position.Position.{Position}
 use Rattle.ft_types.specs.declared.output.Output.{Output}
 use Rattle.output_gate.specs.Gates.{mark_at, gone_of}
 use Rattle.term_gate.specs.TermGates.{TermGateView}
-use Rattle.failover_theory.specs.Worlds as theory
+use Rattle.failover_world.specs.machinery.Stopping as theory
 use Rattle.primary.specs.declared.released.Released.{Released}
 use Rattle.failover_world.specs.Worlds.{WorldView, store_at, term_of}
 use Rattle.failover_world.specs.machinery.Tied.{theory_released, theory_world, quorum_of, IsTied}
 use Rattle.interleaving.specs.Lists.{put}
+use Rattle.failover_world.proofs.Stopping.{delivers, joins, loses, acknowledges}
 use Rattle.failover_world.proofs.Places.{row_put, acked_put, there_too, is_below}
 
 pub contained : {A : Type 0} (xs : List A) (k : ℕ) (x : A) → slice_get xs k ≡ Some x → Contains xs x
@@ -77,16 +78,17 @@ module _ (v : WorldView) (is : IsTied v) where
     pub delivered : (number : ℕ) (f : Frame) (r : StoreView) → slice_get v.sent number ≡ Some f → IsJoin s (alone f) r →
         IsTied (record v { stores = slice_set v.stores keeper (Some r) })
     delivered number f r sent join =
-        now_held (Some r) (theory.Then is.comes (theory.Deliver keeper s r f in_theory (contained v.sent number f sent) join))
+        now_held (Some r) (delivers is.is_recorder.recorder (guest_of v.image) (quorum_of v) is.comes keeper s r f in_theory (contained v.sent number f sent) join)
 
     pub joined : (other : ℕ) (t r : StoreView) → store_at v.stores other ≡ Some t → IsJoin s t r →
         IsTied (record v { stores = slice_set v.stores keeper (Some r) })
     joined other t r at_other join =
         now_held (Some r)
-        (theory.Then is.comes (theory.Join keeper other s t r in_theory (there_too v.stores other t (Some (nothing (guest_of v.image))) at_other) join))
+        (joins is.is_recorder.recorder (guest_of v.image) (quorum_of v) is.comes keeper other s t r in_theory
+        (there_too v.stores other t (Some (nothing (guest_of v.image))) at_other) join)
 
     pub lost : IsTied (record v { stores = slice_set v.stores keeper None })
-    lost = now_held None (theory.Then is.comes (theory.Lose keeper))
+    lost = now_held None (loses is.is_recorder.recorder (guest_of v.image) (quorum_of v) is.comes keeper)
 
     pub acknowledged : (p : Position) → IsPosition s p → p.term ≡ term_of v → keeper < length v.gate.acked →
         IsTied (record v { gate = record v.gate { acked = slice_set v.gate.acked keeper p.counts } })
@@ -95,7 +97,8 @@ module _ (v : WorldView) (is : IsTied v) where
         (subst
         (λ t. theory.Comes is.is_recorder.recorder (guest_of v.image) (quorum_of v)
         (record (theory_world v.image.pages is.are_theory (guest_of v.image) v is.terms is.notes is.marks is.out) { acked = t }))
-        (sym (acked_put v.gate.acked keeper p.counts below)) (theory.Then is.comes (theory.Acknowledge keeper s p in_theory is_position term))) is.went_out is.no_more (λ hart. refl) is.gone_out
+        (sym (acked_put v.gate.acked keeper p.counts below))
+        (acknowledges is.is_recorder.recorder (guest_of v.image) (quorum_of v) is.comes keeper s p in_theory is_position term)) is.went_out is.no_more (λ hart. refl) is.gone_out
 
   pub stopped : IsTied (record v { runs = false })
-  stopped = changed false v.stores v.gate v.released is.out (theory.Then is.comes theory.Stop) is.went_out is.no_more (λ hart. refl) is.gone_out
+  stopped = changed false v.stores v.gate v.released is.out is.comes is.went_out is.no_more (λ hart. refl) is.gone_out

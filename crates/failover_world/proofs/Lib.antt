@@ -1,5 +1,6 @@
 pub mod Places
 pub mod Rows
+pub mod Stopping
 pub mod Ties
 pub mod Keeping
 pub mod Counting

@@ -23,7 +23,7 @@ use Rattle.hart_replay.proofs.gathering.Ends.{FromPiece, from_piece, in_filter}
 use Rattle.hart_replay.proofs.gathering.Facts.{to_filter, to_records}
 use Rattle.fenced_theory.specs.Recorders.{Recorder}
 use Rattle.fenced_theory.specs.Families.{IsFamily, Keeps, Here, Above, IsInside, Boot, At}
-use Rattle.failover_theory.specs.Notes.{notes_in, IsTold, IsMark}
+use Rattle.fenced_theory.specs.Notes.{notes_in, IsTold, IsMark}
 use Rattle.fenced_theory.proofs.Growing.{an_opening, one_same, some_same, some_none}
 
 -- ---- notes among records

@@ -16,14 +16,15 @@ use Rattle.page_book.specs.Books.{BookView}
 use Rattle.book_modes.specs.Recordings.{RecordingView}
 use Rattle.hart_replay.specs.Primaries.{IsPrimary}
 use Rattle.output_gate.specs.Gates.{mark_at}
-use Rattle.failover_theory.specs.Notes.{IsNoting}
-use Rattle.failover_theory.specs.Worlds as theory
+use Rattle.fenced_theory.specs.Notes.{IsNoting}
+use Rattle.failover_world.specs.machinery.Stopping as theory
 use Rattle.fenced_theory.proofs.Stores.{see}
 use Rattle.book_recorder.specs.TermBooks.{ComesOf}
 use Rattle.failover_world.specs.Worlds.{WorldView, term_of}
 use Rattle.primary.specs.Noting.{last_of, noted_to, NotesAll}
 use Rattle.failover_world.specs.machinery.Tied.{retold, retold_in, told_as, theory_world, quorum_of, live_book, IsTied}
 use Rattle.primary.proofs.Put.{put_own, put_put}
+use Rattle.failover_world.proofs.Stopping.{makes_note}
 use Rattle.failover_world.proofs.Ties.{with_book, new_book, terms, comes_on, goes_with}
 
 -- ---- one note more
@@ -145,13 +146,13 @@ module _ (v : WorldView) (is : IsTied v) (c : BookView RecordingView) (runs : v.
       put_put is.notes (term_of v) (rows n) (put (its_notes n (term_of v)) n (notes_of c.mode.notes n))
       ∙ ap (λ (f : ℕ → List (ℕ × ℕ)). put is.notes (term_of v) (put f n (notes_of c.mode.notes n))) (put_same is.notes (term_of v) (term_of v) (rows n) refl) in
       subst Comes same
-      (theory.Then comes
-      (theory.Note (retold (told_as v.image.pages is.are_theory) (live_book (with_book v c) is.pieces (new_book v is c runs on primary))) n number
-      (notes_of c.mode.notes n) runs
+      (makes_note is.is_recorder.recorder (guest_of v.image) (quorum_of v) comes
+      (retold (told_as v.image.pages is.are_theory) (live_book (with_book v c) is.pieces (new_book v is c runs on primary))) n number
+      (notes_of c.mode.notes n)
       (ap (retold_in (told_as v.image.pages is.are_theory))
       (put_same is.terms (term_of v) (term_of v) (Some (live_book (with_book v c) is.pieces (new_book v is c runs on primary))) refl))
       noting (λ k less.
-      subst (λ mark. (k < mark) ⊎ theory.WentOut is.out n k) (sym (is.marked n)) (out n last some k (omega (arith, less))))))
+      subst (λ mark. (k < mark) ⊎ theory.WentOut is.out n k) (sym (is.marked n)) (out n last some k (omega (arith, less)))))
 
   comes_to : (n : ℕ) → Comes (its_notes n)
   unfolding rows

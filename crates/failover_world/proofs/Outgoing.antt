@@ -10,7 +10,7 @@ use Rattle.hart_replay.specs.Primaries.{IsPrimary}
 use Rattle.output_gate.specs.Gates.{mark_at, gone_of, line_of, held_outputs, after_release}
 use Rattle.output_gate.specs.Orders.{AreAbove, ArePassedBelow}
 use Rattle.term_gate.specs.TermGates.{TermGateView, AreAcked}
-use Rattle.failover_theory.specs.Worlds as theory
+use Rattle.failover_world.specs.machinery.Stopping as theory
 use Rattle.failover_world.specs.Worlds.{WorldView, term_of}
 use Rattle.primary.specs.Gating.{AreOffered, AreAllOffered, OffersMore, released_in}
 use Rattle.primary.specs.Noting.{last_of, NotesAll}

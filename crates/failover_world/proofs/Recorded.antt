@@ -16,7 +16,7 @@ use Rattle.log_pieces.specs.Pieces.{Mark, SealedView, book_log}
 use Rattle.hart_replay.specs.Images.{GuestTerm, boot_of}
 use Rattle.hart_replay.specs.Primaries.{IsTermOfBook, IsSealedTo}
 use Rattle.fenced_theory.specs.Machines.{IsRecorder}
-use Rattle.failover_theory.specs.Sealings.{IsLogOf}
+use Rattle.book_recorder.specs.Sealings.{IsLogOf}
 use Rattle.book_recorder.specs.TermBooks.{AreTheory, IsTermBook, ComesOf}
 use Rattle.primary.specs.Primaries.{GoesOn}
 use Rattle.primary.proofs.Pieces.{bounded}

@@ -16,7 +16,7 @@ use Rattle.ft_types.specs.declared.output.Output.{Output}
 use Rattle.output_gate.specs.Gates.{mark_at, gone_of}
 use Rattle.term_gate.specs.TermGates.{TermGateView, acked_at}
 use Rattle.fenced_theory.specs.Recorders.{Output as TheoryOutput}
-use Rattle.failover_theory.specs.Worlds as theory
+use Rattle.failover_world.specs.machinery.Stopping as theory
 use Rattle.fenced_theory.specs.Machines.{IsRecorder}
 use Rattle.book_recorder.specs.TermBooks.{AreTheory, IsTermBook, outputs_of}
 use Rattle.hart_replay.specs.Images.{boot_of}
@@ -26,6 +26,7 @@ use Rattle.failover_world.specs.Worlds.{WorldView, term_of}
 use Rattle.primary.specs.Outputs.{said_by, said_at}
 use Rattle.primary.specs.Gating.{AreRising, released_in}
 use Rattle.failover_world.specs.machinery.Tied.{retold, retold_in, told_as, theory_released, theory_world, quorum_of, live_book, IsTied}
+use Rattle.failover_world.proofs.Stopping.{releases}
 use Rattle.failover_world.proofs.Keeping.{changed}
 use Rattle.failover_world.proofs.Going.{IsGoing}
 
@@ -137,11 +138,11 @@ module _ (v : WorldView) (is : IsTied v) (leads : LeadsTo (heard_by v.primary.bo
   comes_with runs [] out all above comes = comes
   comes_with runs (o ∷ os) out (first, rest) (over, more) comes =
       comes_with runs os (theory_released (record { term = term_of v; output = o }) ∷ out) rest more
-      (theory.Then comes
-      (theory.Release (retold (told_as v.image.pages is.are_theory) (live_book v is.pieces is.is_book)) o.hart o.number (record { step = o.step; word = o.word })
-      (λ keeper. acked_at v.gate keeper o.hart) runs (ap (retold_in (told_as v.image.pages is.are_theory)) is.there)
+      (releases is.is_recorder.recorder (guest_of v.image) (quorum_of v) comes
+      (retold (told_as v.image.pages is.are_theory) (live_book v is.pieces is.is_book)) o.hart o.number (record { step = o.step; word = o.word })
+      (λ keeper. acked_at v.gate keeper o.hart) (ap (retold_in (told_as v.image.pages is.are_theory)) is.there)
       (in_theory o.hart o.number o.step o.word first.said) (λ keeper. omega arith) first.enough
-      (subst (λ n. n ≤ o.number) (sym (is.marked o.hart)) over)))
+      (subst (λ n. n ≤ o.number) (sym (is.marked o.hart)) over))
 
   split : (xs ys : List Released) (r : Released) → Contains (xs ++ ys) r → Contains xs r ⊎ Contains ys r
   split [] ys r has = inr has

@@ -13,7 +13,7 @@ use Rattle.page_book.proofs.Tellings.{only_room, only_notes_tell_on}
 use Rattle.book_modes.specs.Recordings.{RecordingView, HasRoomed}
 use Rattle.hart_replay.specs.Primaries.{IsPrimary}
 use Rattle.output_gate.specs.Gates.{mark_at}
-use Rattle.failover_theory.specs.Worlds as theory
+use Rattle.failover_world.specs.machinery.Stopping as theory
 use Rattle.fenced_theory.proofs.Stores.{see}
 use Rattle.book_recorder.specs.TermBooks.{ComesOf}
 use Rattle.failover_world.specs.Worlds.{WorldView}

@@ -12,9 +12,9 @@ use Rattle.fragment_codec.specs.declared.frame.Frame.TheVariants.{Log, Opening}
 use Rattle.fragment_codec.specs.Rules.{FragmentParts}
 use Rattle.log_pieces.specs.Pieces.{Mark, SealedView, IsCut, IsPiece, book_log}
 use Rattle.log_join.specs.Families.{Past, Family, end_of}
-use Rattle.failover_theory.specs.Worlds as theory
-use Rattle.failover_theory.specs.Notes.{HasNotes}
-use Rattle.failover_theory.proofs.Cutting.{piece_is_cut, piece_has_notes}
+use Rattle.failover_world.specs.machinery.Stopping as theory
+use Rattle.fenced_theory.specs.Notes.{HasNotes}
+use Rattle.book_recorder.proofs.Cutting.{piece_is_cut, piece_has_notes}
 use Rattle.go_live.specs.Histories.{MakesLonger}
 use Rattle.primary.specs.declared.granted.Primary.{Primary}
 use Rattle.primary.proofs.Rows.{same_some}
@@ -59,15 +59,14 @@ module _ (v : WorldView) (is : IsTied v) where
         (λ t. theory.Comes is.is_recorder.recorder (guest_of v.image) (quorum_of v) (record (world_with f (sent ++ Log x ∷ [])) { terms = t }))
         (put_put (λ u. retold_in (told_as v.image.pages is.are_theory) (is.terms u)) (term_of v) (Some (past_with f))
         (Some (past_with (put f hart (f hart ++ x ∷ [])))))
-        (theory.Then comes
-        (theory.Seal (past_with f) hart x runs
+        (seals is.is_recorder.recorder (guest_of v.image) (quorum_of v) comes (past_with f) hart x
         (put_same (λ u. retold_in (told_as v.image.pages is.are_theory) (is.terms u)) (term_of v) (term_of v) (Some (past_with f)) refl)
         (is_fragment_at (guest_of v.image) (term_of v) v.primary.book hart (length (f hart)) mark x piece place)
         (piece.begins ∙ count)
         (piece_is_cut is.is_recorder.recorder (is.are_theory.book v.primary.book is.is_book) (book_log (guest_of v.image) (term_of v) v.primary.book hart)
         mark x (is_log v.image is.are_theory is.is_recorder v.primary.book is.is_book (guest_of v.image) (term_of v) hart) piece)
         (subst (λ (notes : List (ℕ × ℕ)). HasNotes notes x) (sym (is.noted hart))
-        (piece_has_notes (book_log (guest_of v.image) (term_of v) v.primary.book hart) mark x piece))))
+        (piece_has_notes (book_log (guest_of v.image) (term_of v) v.primary.book hart) mark x piece)))
 
     module _ (frames : List Frame) (cut : IsCut (book_log (guest_of v.image) (term_of v) v.primary.book) v.image.harts v.primary.sealed frames new) where
       abbrev grown : ℕ → List FragmentParts

@@ -12,13 +12,14 @@ use Rattle.log_join.specs.Families.{Family}
 use Rattle.hart_replay.specs.Primaries.{IsPrimary}
 use Rattle.hart_replay.proofs.honesty.Sealing.{terms_go_on}
 use Rattle.fenced_theory.specs.Machines.{ByRun}
-use Rattle.failover_theory.specs.Worlds as theory
+use Rattle.failover_world.specs.machinery.Stopping as theory
 use Rattle.book_recorder.specs.TermBooks.{IsTermBook, ComesOf}
 use Rattle.book_recorder.proofs.Books.{later_are_term_books}
 use Rattle.go_live.specs.Histories.{MakesLonger}
 use Rattle.failover_world.specs.Worlds.{WorldView, term_of}
 use Rattle.failover_world.specs.machinery.Tied.{TermBook, retold, retold_in, history, told_as, theory_world, quorum_of, live_book, live_term, IsTied}
 use Rattle.failover_world.proofs.Places.{retold_put}
+use Rattle.failover_world.proofs.Stopping.{steps}
 use Rattle.primary.proofs.Put.{put_put}
 use Rattle.failover_world.proofs.Before.{still_before, no_other_still}
 
@@ -41,9 +42,9 @@ module _ (v : WorldView) (is : IsTied v) (c : BookView RecordingView) (runs : v.
       let b = is.are_theory.book v.primary.book is.is_book in
       let d = is.are_theory.book c new_book in
       let fact = ByRun b d (is.are_theory.on v.primary.book c is.is_book new_book on) in
-      theory.Then is.comes
-      (theory.Step (retold (told_as v.image.pages is.are_theory) (live_book v is.pieces is.is_book)) d runs
-      (ap (retold_in (told_as v.image.pages is.are_theory)) is.there) (fact, is.is_recorder.tells fact))
+      steps is.is_recorder.recorder (guest_of v.image) (quorum_of v) is.comes
+      (retold (told_as v.image.pages is.are_theory) (live_book v is.pieces is.is_book)) d
+      (ap (retold_in (told_as v.image.pages is.are_theory)) is.there) (fact, is.is_recorder.tells fact)
 
   pub comes_on : theory.Comes is.is_recorder.recorder (guest_of v.image) (quorum_of v)
       (theory_world v.image.pages is.are_theory (guest_of v.image) (with_book v c) terms is.notes is.marks is.out)

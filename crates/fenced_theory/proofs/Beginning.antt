@@ -15,9 +15,9 @@ use Rattle.interleaving.proofs.Put.{put_same, put_other}
 use Rattle.fenced_theory.specs.Lists.{how_many}
 use Rattle.fenced_theory.specs.Recorders.{Output, Recorder, LivesOn, Same}
 use Rattle.fenced_theory.specs.Families.{Starts, Boot, At, IsHonestTerm, IsFamily}
-use Rattle.fenced_theory.specs.Worlds.{Quorum, World, IsNewTo, Joined, new_opening, new_term, granted, BeginsAt, AtBoot, AtCut}
+use Rattle.fenced_theory.specs.Worlds.{Quorum, World, IsNewTo, HasGiven, new_opening, new_term, granted, BeginsAt, AtBoot, AtCut}
 use Rattle.fenced_theory.proofs.Growing.{below_itself, some_same, some_none, later_itself, grown_store, Covered}
-use Rattle.fenced_theory.proofs.Stores.{HonestJoined, honest_joined, below_cut}
+use Rattle.fenced_theory.proofs.Stores.{below_cut}
 use Rattle.fenced_theory.proofs.Positions.{walked_covered}
 use Rattle.fenced_theory.proofs.Onward.{put_cases, Onward, onward_new, own_of, honest_on, starts_on}
 use Rattle.fenced_theory.proofs.Giving.{has_grows, IsFromKeepers, IsGranted, From}
@@ -69,11 +69,11 @@ module _ {Book Fact : Type 0} (recorder : Recorder Book Fact) (guest : GuestPart
           let b : base_of c.past.opening hart ≤ count_at p.counts hart = c.above hart in
           omega arith
 
-  pub on_grant : (w : World Book) (u : ℕ) (chosen : ℕ → Bool) (all : StoreView) (p : Position) (book : Book) → Invariant recorder quorum w →
-      w.terms u ≡ None → Joined guest (w.given u) chosen quorum.keepers all → quorum.keepers < quorum.need + how_many quorum.keepers chosen →
+  pub on_grant : (w : World Book) (u : ℕ) (chosen : ℕ → Bool) (all : StoreView) (p : Position) (book : Book) (marks : ℕ → ℕ) →
+      Invariant recorder quorum w → w.terms u ≡ None → HasGiven guest w.terms (w.given u) chosen quorum.keepers all → quorum.keepers < quorum.need + how_many quorum.keepers chosen →
       IsNewTo all u → IsPosition all p → IsOpening (new_opening guest u p) → BeginsAt recorder w.terms p book →
-      Invariant recorder quorum (granted guest w u p book)
-  on_grant w u chosen all p book v free there enough is_new position rules begun =
+      Invariant recorder quorum (granted guest w u p book marks)
+  on_grant w u chosen all p book marks v free has enough is_new position rules begun =
       record {
         family =
             record {
@@ -143,17 +143,14 @@ module _ {Book Fact : Type 0} (recorder : Recorder Book Fact) (guest : GuestPart
       m : Moves recorder w.terms more w.acked w.acked w.fence w.fence
       m = terms_move recorder quorum w more on
 
-      j : HonestJoined w.terms (w.given u) chosen quorum.keepers all
-      j = honest_joined w.terms guest (w.given u) chosen (λ k s is. (v.given u k s is).honest) there
-
       b : Beginning w.terms u p book
-      b = begins w.terms v.family u all j.honest p (let a : p.term < u = rules.parent in omega arith) position book begun
+      b = begins w.terms v.family u all has.honest p (let a : p.term < u = rules.parent in omega arith) position book begun
 
       from_keepers : IsFromKeepers recorder more w.acked w.fence quorum u new
       from_keepers =
           record {
             all = all;
-            honest = grown_store recorder w.terms more all m.grows j.honest;
+            honest = grown_store recorder w.terms more all m.grows has.honest;
             new = is_new;
             position = p;
             is = position;
@@ -163,7 +160,7 @@ module _ {Book Fact : Type 0} (recorder : Recorder Book Fact) (guest : GuestPart
             enough = enough;
             gave =
                 λ k under by.
-                let (s, is, below) = j.has k under by in
+                let (s, is, below) = has.has k under by in
                 gives_on recorder w.terms more w.acked w.acked w.fence w.fence m u k s all below (v.given u k s is).gives;
           }
 

@@ -26,6 +26,7 @@ use Rattle.closed_cut.proofs.Chains.{zero_row}
 use Rattle.closed_cut.proofs.Finding.{there}
 use Rattle.fenced_theory.specs.Recorders.{Output, Recorder, IsBoot, GoesTo, CanLive}
 use Rattle.fenced_theory.specs.Families.{IsCutFrom, Keeps, Here, Above}
+use Rattle.fenced_theory.specs.Notes.{HasNotes}
 use Rattle.fenced_theory.specs.Worlds.{Quorum, first_term, World, first_world, stepped, sealed, Step, Seal, Comes, Begins, Then}
 use Rattle.fenced_theory.proofs.Growing.{some_none, Covered, There, Backed}
 use Rattle.fenced_theory.proofs.Fate.{keeps_less}
@@ -111,8 +112,11 @@ module _ {Book Fact : Type 0} (recorder : Recorder Book Fact) (guest : GuestPart
   pub cut_x : IsCutFrom recorder g.told 0 x
   cut_x = record { rises = omega arith; settled = let inside : g.output.step < recorder.counts g.told 0 = g.inside in omega arith; has = λ e has. absurd (g.no_edges e has); only = λ e (k, below, is). absurd (omega arith) }
 
+  pub no_notes : HasNotes [] x
+  no_notes = record { has = λ note (k, below, is). absurd (omega arith); only = λ note (k, below, is). absurd (omega arith) }
+
   pub comes2 : Comes recorder guest quorum w2
-  comes2 = Then (Then (Begins g.boot g.boots) (Step 1 start g.told refl g.goes)) (Seal 1 p 0 x refl x_rules (sym (base_0 0)) cut_x)
+  comes2 = Then (Then (Begins g.boot g.boots) (Step 1 start g.told refl g.goes)) (Seal 1 p 0 x refl x_rules (sym (base_0 0)) cut_x no_notes)
 
   pub in_1 : Contains w2.sent f1
   in_1 = here f1 (f2 ∷ [])

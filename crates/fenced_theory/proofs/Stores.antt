@@ -1,6 +1,6 @@
 -- Joins of honest stores, and of the stores of chosen keepers; two majorities share one.
 use Rattle.std.proofs.Common.{◌≡◌, ◌⊎◌, inl, inr, ℕ, zero, suc, ◌+◌, ◌<◌, ◌≤◌, Bool, true, false, cond, List, [], ◌∷◌, filter, nat_lt, Option, Some, None, refl, sym, ap, subst, ◌∙◌, arith, lt-ltb}
-use Rattle.log_join.specs.Families.{Past, HonestStore, Below}
+use Rattle.log_join.specs.Families.{Past, HonestStore}
 use Rattle.log_join.specs.FamilyLaws.{IsHonestJoin}
 use Rattle.std.specs.Prelude.{slice_get}
 use Rattle.std.proofs.lemmas.Bool.{cases_lt}
@@ -10,7 +10,7 @@ use Rattle.log_join.specs.Stores.{StoreView, IsJoin}
 use Rattle.log_join.proofs.Families.{joins_honest, honest_nothing}
 use Rattle.fenced_theory.specs.Lists.{how_many}
 use Rattle.fenced_theory.specs.Recorders.{Output}
-use Rattle.fenced_theory.specs.Worlds.{Joined, NoneYet, Skip, Take}
+use Rattle.fenced_theory.specs.Worlds.{Joined, NoneYet, Skip, Take, HasGiven}
 use Rattle.fenced_theory.proofs.Growing.{below_trans, some_same}
 
 pub see : {A : Type 0} (a : Option A) → (a ≡ None) ⊎ ((x : A) × (a ≡ Some x))
@@ -21,6 +21,10 @@ pub see_bool : (b : Bool) → (b ≡ true) ⊎ (b ≡ false)
 see_bool true = inl refl
 see_bool false = inr refl
 
+-- each store is of the guest
+abbrev pub AreOf : GuestParts → (ℕ → Option StoreView) → Type 0
+AreOf guest stores = (keeper : ℕ) (s : StoreView) → stores keeper ≡ Some s → s.guest ≡ guest
+
 module _ {Book : Type 0} (terms : ℕ → Option (Past Book)) where
   pub honest_join : (s r c : StoreView) → HonestStore terms s → HonestStore terms r → IsJoin s r c → IsHonestJoin terms s r c
   honest_join s r c hs hr j = joins_honest _ terms s r c hs hr j
@@ -29,17 +33,15 @@ module _ {Book : Type 0} (terms : ℕ → Option (Past Book)) where
   abbrev pub HonestStores : (ℕ → Option StoreView) → Type 0
   HonestStores stores = (keeper : ℕ) (s : StoreView) → stores keeper ≡ Some s → HonestStore terms s
 
-  pub record HonestJoined (stores : ℕ → Option StoreView) (chosen : ℕ → Bool) (n : ℕ) (all : StoreView) : Type 0 where
-    pub honest : HonestStore terms all
-    pub has : (keeper : ℕ) → keeper < n → chosen keeper ≡ true → (s : StoreView) × (stores keeper ≡ Some s) × Below s all
-
-  pub honest_joined : (guest : GuestParts) (stores : ℕ → Option StoreView) (chosen : ℕ → Bool) → HonestStores stores → {n : ℕ} {all : StoreView} →
-      Joined guest stores chosen n all →
-      HonestJoined stores chosen n all
-  honest_joined guest stores chosen honest NoneYet = record { honest = honest_nothing terms guest; has = λ keeper less is. absurd (omega arith) }
-  honest_joined guest stores chosen honest (Skip {n = n} {s = s} miss j) =
-      let rest = honest_joined guest stores chosen honest j in
+  -- a join of honest stores of the guest has what each of the chosen ones has
+  pub honest_joined : (guest : GuestParts) (stores : ℕ → Option StoreView) (chosen : ℕ → Bool) → HonestStores stores → AreOf guest stores → {n : ℕ}
+      {all : StoreView} → Joined guest stores chosen n all → HasGiven guest terms stores chosen n all
+  honest_joined guest stores chosen honest each NoneYet =
+      record { of_guest = refl; honest = honest_nothing terms guest; has = λ keeper less is. absurd (omega arith) }
+  honest_joined guest stores chosen honest each (Skip {n = n} {s = s} miss j) =
+      let rest = honest_joined guest stores chosen honest each j in
       record {
+        of_guest = rest.of_guest;
         honest = rest.honest;
         has =
             λ keeper less is.
@@ -48,10 +50,11 @@ module _ {Book : Type 0} (terms : ℕ → Option (Past Book)) where
               | inr last ↦ let k : keeper ≡ n = omega arith in let c : true ≡ false = sym is ∙ (ap chosen k ∙ miss) in cc
             ];
       }
-  honest_joined guest stores chosen honest (Take {n = n} {s = s} {t = t} r hit there j join) =
-      let rest = honest_joined guest stores chosen honest j in
+  honest_joined guest stores chosen honest each (Take {n = n} {s = s} {t = t} r hit there j join) =
+      let rest = honest_joined guest stores chosen honest each j in
       let both = honest_join r s t (honest n r there) rest.honest join in
       record {
+        of_guest = join.guest ∙ each n r there;
         honest = both.honest;
         has =
             λ keeper less is.

@@ -96,5 +96,6 @@ module _ (v : WorldView) (is : IsTied v) (k : ℕ) (x : KeptView) (there : kept_
         ];
         standing = λ j y at. let s = is.standing j y at in record { has = s.has; wrote = s.wrote; fenced = s.fenced };
         went_out = is.went_out;
+        unnoted = record { notes = is.unnoted.notes; marks = is.unnoted.marks };
         is_history = is.is_history;
       }

@@ -165,6 +165,7 @@ module _ (v : WorldView) (r : RunningView) (is : IsFirst v r) where
                 there = put_same no_terms r.primary.opening.term r.primary.opening.term (Some past) refl;
                 of_book = of_book;
                 sealed = λ hart. is.booted.uncut.1 hart;
+                silent = is.booted.unused.notes;
               });
           apart = λ n m q p one two e. (it n q one).0 ∙ sym (it m p two).0;
           no_other = λ u p at. elim (same_or_not r.primary.opening.term u) [
@@ -179,6 +180,7 @@ module _ (v : WorldView) (r : RunningView) (is : IsFirst v r) where
             let new = new_keeper k x at in
             record { has = ap Some (sym new.store); wrote = ap Some (sym new.written); fenced = sym new.fence };
         went_out = λ out has. absurd (none_in out (subst (λ (rs : List Released). Contains rs out) is.released has));
+        unnoted = record { notes = λ term hart. refl; marks = λ term hart. refl };
         is_history =
             subst (IsHistoryOf v.image) (sym (retold_put (λ (t : TermBook v.image.pages). history_of t.book) no_terms r.primary.opening.term (Some past)))
             (primaries_are_histories v.image r.primary.opening.term r.primary.book (told_of r.primary (λ hart. [])) is.primary is.booted.start of_book

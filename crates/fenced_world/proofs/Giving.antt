@@ -1,4 +1,4 @@
--- Named keepers whose fences are at a term give it their stores: a world of the theory in which they gave, and the join of what they gave.
+-- Named keepers whose fences are at a term give it their stores: a world of the theory in which they gave, and that the join has what they gave.
 use Rattle.std.proofs.Common.{◌≡◌, inl, inr, ℕ, zero, suc, ◌+◌, ◌-◌, ◌<◌, ◌≤◌, ◌==◌, Bool, true, false, cond, List, [], ◌∷◌, ◌++◌, length, map, Option, Some, None, if◌then◌else◌, refl, sym, ap, subst, ◌∙◌, arith}
 use Rattle.std.specs.Prelude.{All}
 use Rattle.std.specs.List.{list_any}
@@ -6,23 +6,25 @@ use Rattle.std.proofs.lemmas.List.Elements.{All-nil, All-cons, All-head, All-tai
 use Rattle.interleaving.specs.Lists.{put}
 use Rattle.interleaving.proofs.Put.{same_or_not, put_same, put_other}
 use Rattle.guest_image.specs.Image.{guest_of}
-use Rattle.ft_types.specs.Guests.{IsGuest}
+use Rattle.log_join.specs.Families.{HonestStore, Below}
 use Rattle.log_join.specs.Stores.{StoreView, nothing}
+use Rattle.log_join.proofs.Families.{honest_nothing}
 use Rattle.fenced_theory.specs.Lists.{how_many}
-use Rattle.fenced_theory.specs.Worlds.{Joined, NoneYet, Skip, Take}
+use Rattle.fenced_theory.specs.Worlds.{HasGiven}
 use Rattle.fenced_theory.proofs.Stores.{see, see_bool}
-use Rattle.failover_world.proofs.Guests.{either_side}
 use Rattle.fenced_theory.specs.Worlds as theory
 use Rattle.go_live.specs.Quorums.{distinct_below, AreEnough}
 use Rattle.go_live.proofs.Distinct.{within_length}
-use Rattle.go_live.specs.Joined.{AreJoinedTo, AreJoined}
+use Rattle.go_live.specs.Joined.{AreJoined}
+use Rattle.go_live.proofs.Joins.{joined_guest}
 use Rattle.fenced_world.specs.Keepers.{KeptView, kept_at, Gift, given_by, gifts_from, gifts_of}
 use Rattle.fenced_world.specs.Reviving.{stores_in, givers_in}
 use Rattle.fenced_world.specs.Worlds.{WorldView}
 use Rattle.failover_world.specs.machinery.Tied.{Books}
 use Rattle.fenced_world.specs.machinery.Tied.{IsTied, AreStanding, quorum_of}
 use Rattle.fenced_world.proofs.Lists.{some_same, none_some}
-use Rattle.fenced_world.proofs.Guests.{store_of}
+use Rattle.failover_world.proofs.Chosen.{joined_has}
+use Rattle.fenced_world.proofs.Guests.{kept}
 
 -- whether the keeper is named and is there
 abbrev pub picks : List ℕ → ℕ → Option KeptView → Bool
@@ -70,6 +72,10 @@ all_told f Q [] all = All-nil Q
 all_told f Q (x ∷ xs) all =
     All-cons Q (f x) (map f xs) (All-head (λ x. Q (f x)) x xs all) (all_told f Q xs (All-tail (λ x. Q (f x)) x xs all))
 
+told_all : {A B : Type 0} (f : A → B) (Q : B → Type 0) (xs : List A) → All Q (map f xs) → All (λ x. Q (f x)) xs
+told_all f Q [] all = All-nil (λ x. Q (f x))
+told_all f Q (x ∷ xs) all = All-cons (λ x. Q (f x)) x xs (All-head Q (f x) (map f xs) all) (told_all f Q xs (All-tail Q (f x) (map f xs) all))
+
 module _ (v : WorldView) (is : IsTied v) (term : ℕ) (named : List ℕ) (own : All (λ g. g.term ≡ term) (gifts_of v.held named)) where
   abbrev pub Theory : Type 0
   Theory = theory.World (Books v.image.pages is.are_theory)
@@ -88,6 +94,8 @@ module _ (v : WorldView) (is : IsTied v) (term : ℕ) (named : List ℕ) (own : 
     pub sent : world.sent ≡ is.world.sent
     pub acked : world.acked ≡ is.world.acked
     pub released : world.released ≡ is.world.released
+    pub notes : world.notes ≡ is.world.notes
+    pub marks : world.marks ≡ is.world.marks
     pub standing : AreStanding v.held world
     pub given : (k : ℕ) (x : KeptView) → k < many → kept_at v.held k ≡ Some x → list_any (λ j. j == k) named ≡ true → world.given term k ≡ Some x.store
 
@@ -105,6 +113,8 @@ module _ (v : WorldView) (is : IsTied v) (term : ℕ) (named : List ℕ) (own : 
         sent = g.sent;
         acked = g.acked;
         released = g.released;
+        notes = g.notes;
+        marks = g.marks;
         standing = λ k y at.
             let was = g.standing k y at in
             record {
@@ -137,6 +147,8 @@ module _ (v : WorldView) (is : IsTied v) (term : ℕ) (named : List ℕ) (own : 
         sent = g.sent;
         acked = g.acked;
         released = g.released;
+        notes = g.notes;
+        marks = g.marks;
         standing = g.standing;
         given = λ k y below at named_too. elim (same_or_not n k) [
           | inl here ↦
@@ -157,6 +169,8 @@ module _ (v : WorldView) (is : IsTied v) (term : ℕ) (named : List ℕ) (own : 
         sent = refl;
         acked = refl;
         released = refl;
+        notes = refl;
+        marks = refl;
         standing = is.standing;
         given = λ k y below at named_too. absurd (omega (arith, below));
       }
@@ -171,51 +185,35 @@ module _ (v : WorldView) (is : IsTied v) (term : ℕ) (named : List ℕ) (own : 
 
   -- ---- the join
 
-  module _ (guest : IsGuest (guest_of v.image)) where
-    abbrev pub given : ℕ → Option StoreView
-    given = (have_given (length v.held)).world.given term
+  -- whoever is chosen is there, and named
+  is_named : (k : ℕ) → chosen_of v.held named k ≡ true → (x : KeptView) × (kept_at v.held k ≡ Some x) × (list_any (λ j. j == k) named ≡ true)
+  is_named k chosen =
+      elim (see (kept_at v.held k)) [
+        | inl none ↦ let e : false ≡ true = sym (ap (picks named k) none) ∙ chosen in cc
+        | inr (x, there) ↦ (x, there, sym (ap (picks named k) there) ∙ chosen)
+      ]
 
-    abbrev pub AreJoinedBelow : ℕ → StoreView → Type 0
-    AreJoinedBelow n all = Joined (guest_of v.image) given (chosen_of v.held named) n all
-
-    abbrev StandsFrom : ℕ → List (Option KeptView) → Type 0
-    StandsFrom n rest = (k m : ℕ) → m ≡ k + n → kept_at v.held m ≡ kept_at rest k
-
-    next : (x : Option KeptView) (rest : List (Option KeptView)) (n : ℕ) → StandsFrom n (x ∷ rest) → StandsFrom (n + 1) rest
-    next x rest n at k m is_so = at (suc k) m (omega (arith, is_so))
-
-    joined_from : (rest : List (Option KeptView)) (n m : ℕ) → StandsFrom n rest → m ≡ length rest + n → m ≤ length v.held → (old all : StoreView) →
-        old.guest ≡ guest_of v.image → AreJoinedTo old (stores_in (gifts_from n rest named)) all → AreJoinedBelow n old → AreJoinedBelow m all
-    joined_from [] n m at many few old all mine joined below =
-        subst (λ k. AreJoinedBelow k all) (let e : n ≡ m = omega (arith, many) in e) (subst (AreJoinedBelow n) (sym joined) below)
-    joined_from (None ∷ rest) n m at many few old all mine joined below =
-        joined_from rest (n + 1) m (next None rest n at) (omega (arith, many)) few old all mine joined
-        (subst (λ k. AreJoinedBelow k old) (let e : suc n ≡ n + 1 = omega arith in e) (Skip (ap (picks named n) (at 0 n (omega arith))) below))
-    joined_from (Some x ∷ rest) n m at many few old all mine joined below =
-        of (list_any (λ k. k == n) named) refl joined
-        (λ now own more so_far. joined_from rest (n + 1) m (next (Some x) rest n at) (omega (arith, many)) few now all own more so_far)
-      where
-        named_or : (b : Bool) → list_any (λ k. k == n) named ≡ b → chosen_of v.held named n ≡ b
-        named_or b is_named = ap (picks named n) (at 0 n (omega arith)) ∙ is_named
-
-        of : (b : Bool) → list_any (λ k. k == n) named ≡ b →
-            AreJoinedTo old (stores_in ((if b then given_by x ∷ [] else []) ++ gifts_from (n + 1) rest named)) all →
-            ((now : StoreView) → now.guest ≡ guest_of v.image → AreJoinedTo now (stores_in (gifts_from (n + 1) rest named)) all →
-            AreJoinedBelow (n + 1) now → AreJoinedBelow m all) → AreJoinedBelow m all
-        of true is_named (now, join, more) rest_joined =
-            rest_joined now (join.guest ∙ mine) more
-            (subst (λ k. AreJoinedBelow k now) (let e : suc n ≡ n + 1 = omega arith in e)
-            (Take x.store (named_or true is_named)
-            ((have_given (length v.held)).given n x (omega (arith, many, few)) (at 0 n (omega arith)) is_named) below
-            (either_side old x.store now (mine ∙ sym (store_of v is guest n x (at 0 n (omega arith))).1) join)))
-        of false is_named more rest_joined =
-            rest_joined old mine more
-            (subst (λ k. AreJoinedBelow k old) (let e : suc n ≡ n + 1 = omega arith in e) (Skip (named_or false is_named) below))
-
-    pub all_joined : (all : StoreView) → AreJoined (guest_of v.image) (stores_in (gifts_of v.held named)) all → AreJoinedBelow (length v.held) all
-    all_joined all joined =
-        joined_from v.held 0 (length v.held) (λ k m is_so. ap (kept_at v.held) (let e : m ≡ k = omega (arith, is_so) in e)) (omega arith) (omega arith)
-        (nothing (guest_of v.image)) all refl joined NoneYet
+  -- it has what each of them gave
+  pub all_given : (all : StoreView) → AreJoined (guest_of v.image) (stores_in (gifts_of v.held named)) all →
+      HasGiven (guest_of v.image) (have_given (length v.held)).world.terms ((have_given (length v.held)).world.given term) (chosen_of v.held named)
+      (length v.held) all
+  all_given all joined =
+      let g = have_given (length v.held) in
+      let j =
+      joined_has is.world.terms (nothing (guest_of v.image)) (stores_in (gifts_of v.held named)) all (honest_nothing is.world.terms (guest_of v.image))
+      (all_told (λ g. g.store) (HonestStore is.world.terms) (gifts_of v.held named)
+      (each_gift (λ g. HonestStore is.world.terms g.store) v.held 0 named (λ k x there. (kept v is).stores k x.store (is.standing k x there).has))) joined in
+      record {
+        of_guest = joined_guest (nothing (guest_of v.image)) (stores_in (gifts_of v.held named)) all joined;
+        honest = subst (λ terms. HonestStore terms all) (sym g.terms) j.honest;
+        has = λ k below chosen.
+            let (x, there, named_too) = is_named k chosen in (
+              x.store,
+              g.given k x below there named_too,
+              gift_of_named (λ g. Below g.store all) v.held 0 named (told_all (λ g. g.store) (λ s. Below s all) (gifts_of v.held named) j.each) k k x
+                  (omega arith) there named_too,
+            );
+      }
 
 -- ---- how many there are
 

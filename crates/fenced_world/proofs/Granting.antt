@@ -28,6 +28,7 @@ use Rattle.hart_replay.proofs.honesty.Replays.{legs_keep_pages, boot_pages}
 use Rattle.fenced_theory.specs.Machines.{BookFact, AreTidy, AtBoot, AtCut}
 use Rattle.fenced_theory.specs.Lists.{how_many}
 use Rattle.fenced_theory.proofs.Stores.{see}
+use Rattle.fenced_theory.proofs.Noted.{unnoted}
 use Rattle.fenced_theory.specs.Worlds as theory
 use Rattle.book_recorder.specs.TermBooks.{outputs_of, IsTermBook, IsRevived}
 use Rattle.book_recorder.proofs.Books.{revived_are_term_books}
@@ -46,7 +47,7 @@ use Rattle.fenced_world.proofs.Lists.{some_same, none_some, push_old, push_last,
 use Rattle.fenced_world.proofs.Terms.{in_other, tell}
 use Rattle.fenced_world.proofs.Guests.{kept}
 use Rattle.fenced_world.proofs.Honest.{store_honest}
-use Rattle.fenced_world.proofs.Giving.{HaveGiven, have_given, chosen_of, each_gift, all_told, all_joined, enough}
+use Rattle.fenced_world.proofs.Giving.{HaveGiven, have_given, chosen_of, each_gift, all_told, all_given, enough}
 
 -- no hart of boot has put out anything
 none_out : (harts : ℕ) (numbers : List ℕ) (hart : ℕ) → outputs_of (slice_get (map (boot_hart harts) numbers) hart) ≡ []
@@ -250,20 +251,26 @@ module _ (v : WorldView) (is : IsTied v) (parts : AreParts v) (term : ℕ) (name
             theory.AtCut (retold told q) (ap (retold_in told) there) (fact, is.is_recorder.tells fact)
       ])
 
-  in_theory : theory.Comes is.is_recorder.recorder (guest_of v.image) (quorum_of v) (theory.granted (guest_of v.image) gave.world term position now)
+  has : theory.HasGiven (guest_of v.image) gave.world.terms (gave.world.given term) (chosen_of v.held named) (length v.held) live.at.joined
+  has = all_given v is term named live.own live.at.joined live.at.are_joined
+
+  none_noted : (u hart : ℕ) → gave.world.notes u hart ≡ []
+  none_noted u hart = ap (λ f. f u hart) gave.notes ∙ is.unnoted.notes u hart
+
+  in_theory : theory.Comes is.is_recorder.recorder (guest_of v.image) (quorum_of v) (theory.granted (guest_of v.image) gave.world term position now (λ hart. 0))
   in_theory =
       theory.Then gave.comes
-      (theory.Grant term (chosen_of v.held named) live.at.joined position now (ap (λ f. f term) terms_then ∙ ap (retold_in told) not_granted)
-      (subst (λ n. theory.Joined (guest_of v.image) (gave.world.given term) (chosen_of v.held named) n live.at.joined) parts.many
-      (all_joined v is term named live.own parts.guest live.at.joined live.at.are_joined))
+      (theory.Grant term (chosen_of v.held named) live.at.joined position now (λ hart. 0) (ap (λ f. f term) terms_then ∙ ap (retold_in told) not_granted)
+      (subst (λ n. theory.HasGiven (guest_of v.image) gave.world.terms (gave.world.given term) (chosen_of v.held named) n live.at.joined) parts.many has)
       (subst (λ n. v.keepers < v.need + how_many n (chosen_of v.held named)) parts.many (enough v.held named v.keepers v.need live.enough))
       (λ other o one. joined_below (guest_of v.image) (stores_in (gifts_of v.held named)) term live.at.joined live.new live.at.are_joined other o one)
-      live.at.replayed.is_position (subst IsOpening live.at.opened begins.rules) begun)
+      live.at.replayed.is_position (subst IsOpening live.at.opened begins.rules) begun
+      (unnoted is.is_recorder.recorder (guest_of v.image) (quorum_of v) gave.world gave.comes none_noted live.at.joined has.honest position))
 
   abbrev new_past : Past (TermBook v.image.pages)
   new_past = past_of r.primary (λ hart. []) own_book
 
-  terms_now : (theory.granted (guest_of v.image) gave.world term position now).terms ≡ (λ u. retold_in told (put is.terms r.primary.opening.term (Some new_past) u))
+  terms_now : (theory.granted (guest_of v.image) gave.world term position now (λ hart. 0)).terms ≡ (λ u. retold_in told (put is.terms r.primary.opening.term (Some new_past) u))
   terms_now =
       ap (λ f. put f term (Some (theory.new_term (guest_of v.image) term position now))) terms_then
       ∙ ap (λ (o : OpeningParts). put (λ u. retold_in told (is.terms u)) o.term (Some (let p : Past (Books v.image.pages is.are_theory) = record { opening = o; told = now; pieces = λ hart. [] } in p)))
@@ -276,7 +283,7 @@ module _ (v : WorldView) (is : IsTied v) (parts : AreParts v) (term : ℕ) (name
         are_theory = is.are_theory;
         is_recorder = is.is_recorder;
         terms = put is.terms r.primary.opening.term (Some new_past);
-        world = theory.granted (guest_of v.image) gave.world term position now;
+        world = theory.granted (guest_of v.image) gave.world term position now (λ hart. 0);
         comes = in_theory;
         terms_are = terms_now;
         sent =
@@ -289,6 +296,7 @@ module _ (v : WorldView) (is : IsTied v) (parts : AreParts v) (term : ℕ) (name
               there = put_same is.terms r.primary.opening.term r.primary.opening.term (Some new_past) refl;
               of_book = of_book;
               sealed = live.uncut.1;
+              silent = live.unused.notes;
             });
         acked = λ n q there k hart.
             subst (λ (a : ℕ → ℕ → ℕ → ℕ). acked_at q.gate k hart ≤ a q.primary.opening.term k hart) (sym gave.acked)
@@ -300,6 +308,17 @@ module _ (v : WorldView) (is : IsTied v) (parts : AreParts v) (term : ℕ) (name
             ]);
         standing = λ k x there. let s = gave.standing k x there in record { has = s.has; wrote = s.wrote; fenced = s.fenced };
         went_out = λ out has. subst (λ outs. Contains outs (theory_released out)) (sym gave.released) (is.went_out out has);
+        unnoted = record {
+          notes = λ u hart. elim (same_or_not term u) [
+            | inl same ↦ ap (λ f. f hart) (put_same gave.world.notes term u (λ hart. []) same)
+            | inr other ↦ ap (λ f. f hart) (put_other gave.world.notes term u (λ hart. []) other) ∙ none_noted u hart
+          ];
+          marks = λ u hart. elim (same_or_not term u) [
+            | inl same ↦ ap (λ f. f hart) (put_same gave.world.marks term u (λ hart. 0) same)
+            | inr other ↦
+                ap (λ f. f hart) (put_other gave.world.marks term u (λ hart. 0) other) ∙ ap (λ f. f u hart) gave.marks ∙ is.unnoted.marks u hart
+          ];
+        };
         is_history =
             subst (IsHistoryOf v.image) (sym (retold_put (tell v is) is.terms r.primary.opening.term (Some new_past)))
             (subst (λ t. IsHistoryOf v.image (put (history is.terms) t (Some (unsealed r.primary.opening r.primary.book)))) (sym is_term) longer);

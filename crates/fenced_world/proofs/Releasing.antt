@@ -95,7 +95,8 @@ module _ (v : WorldView) (is : IsTied v) (n : ℕ) (r : RunningView) (at : slice
       (theory.Then comes
       (theory.Release r.primary.opening.term (past_now v is n r at) o.hart o.number (record { step = o.step; word = o.word })
       (λ keeper. acked_at r.gate keeper o.hart) (there_now v is n r at)
-      (in_theory o.hart o.number o.step o.word first.said) (λ keeper. is.acked n r at keeper o.hart) first.enough))
+      (in_theory o.hart o.number o.step o.word first.said) (λ keeper. is.acked n r at keeper o.hart) first.enough
+      (let none = is.unnoted.marks r.primary.opening.term o.hart in omega (arith, none))))
 
   -- outputs went out, and the gate knows no more of what was acknowledged
   pub released : (os : List Output) (gate : TermGateView) (now : List Released) → gate.acked ≡ r.gate.acked →
@@ -123,6 +124,7 @@ module _ (v : WorldView) (is : IsTied v) (n : ℕ) (r : RunningView) (at : slice
               | inl was ↦ kept_in os is.world.released (theory_released x) (is.went_out x was)
               | inr new ↦ added_in os is.world.released x new
             ];
+        unnoted = record { notes = is.unnoted.notes; marks = is.unnoted.marks };
         is_history = is.is_history;
       }
 

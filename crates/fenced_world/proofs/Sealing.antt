@@ -12,7 +12,8 @@ use Rattle.fragment_codec.specs.Rules.{FragmentParts}
 use Rattle.log_pieces.specs.Pieces.{Mark, SealedView, IsCut, IsPiece, book_log}
 use Rattle.log_join.specs.Families.{Past, end_of}
 use Rattle.hart_replay.specs.Primaries.{IsTermOfBook}
-use Rattle.failover_theory.proofs.Cutting.{piece_is_cut}
+use Rattle.book_recorder.proofs.Cutting.{piece_is_cut, piece_has_notes}
+use Rattle.fenced_theory.specs.Notes.{HasNotes}
 use Rattle.fenced_theory.specs.Worlds as theory
 use Rattle.fenced_histories.specs.Books.{BookGoesOn}
 use Rattle.fenced_histories.proofs.Books.{books_go_on}
@@ -67,7 +68,9 @@ module _ (v : WorldView) (is : IsTied v) (n : ℕ) (r : RunningView) (at : slice
       (piece.begins ∙ count)
       (piece_is_cut is.is_recorder.recorder (is.are_theory.book r.primary.book here.is_book)
       (book_log (guest_of v.image) r.primary.opening.term r.primary.book hart) mark x
-      (is_log v.image is.are_theory is.is_recorder r.primary.book here.is_book (guest_of v.image) r.primary.opening.term hart) piece)))
+      (is_log v.image is.are_theory is.is_recorder r.primary.book here.is_book (guest_of v.image) r.primary.opening.term hart) piece)
+      (subst (λ (notes : List (ℕ × ℕ)). HasNotes notes x) (here.silent hart ∙ sym (is.unnoted.notes r.primary.opening.term hart))
+      (piece_has_notes (book_log (guest_of v.image) r.primary.opening.term r.primary.book hart) mark x piece))))
 
   module _ (new : SealedView) (frames : List Frame)
       (cut : IsCut (book_log (guest_of v.image) r.primary.opening.term r.primary.book) v.image.harts r.primary.sealed frames new) where
@@ -116,7 +119,7 @@ module _ (v : WorldView) (is : IsTied v) (n : ℕ) (r : RunningView) (at : slice
     pub sealed : IsTied (record v { running = slice_set v.running n (record r { primary = next }); sent = v.sent ++ frames })
     sealed =
         retermed v is n r at (record r { primary = next }) (v.sent ++ frames) (past_of next grown here.is_book) (world_with grown (v.sent ++ frames)) refl refl
-        comes_grown (record { stores = refl; saved = refl; fence = refl; acked = refl; released = refl }) refl refl
+        comes_grown (record { stores = refl; saved = refl; fence = refl; acked = refl; released = refl; notes = refl; marks = refl }) refl refl
         (record {
           pieces = grown;
           is_book = here.is_book;
@@ -125,6 +128,7 @@ module _ (v : WorldView) (is : IsTied v) (n : ℕ) (r : RunningView) (at : slice
           sealed =
               cut_sealed (guest_of v.image) r.primary.opening.term v.image.harts r.primary.book (told_of r.primary here.pieces) r.primary.sealed new
               frames here.of_book here.sealed cut;
+          silent = here.silent;
         })
         (books_go_on v.image (history is.terms) r.primary.opening.term r.primary.book r.primary.book (told_of r.primary here.pieces) (told_of next grown)
         is.are_theory is.is_history (there_told v is n r at) its_history).is_history

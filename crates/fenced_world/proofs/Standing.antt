@@ -22,6 +22,8 @@ pub record Touches {Book : Type 0} (k : ℕ) (w v : theory.World Book) : Type 0 
   pub sent : v.sent ≡ w.sent
   pub acked : v.acked ≡ w.acked
   pub released : v.released ≡ w.released
+  pub notes : v.notes ≡ w.notes
+  pub marks : v.marks ≡ w.marks
   pub stores : (j : ℕ) → (k ≡ j → ⊥) → v.stores j ≡ w.stores j
   pub saved : (j : ℕ) → (k ≡ j → ⊥) → v.saved j ≡ w.saved j
   pub fence : (j : ℕ) → (k ≡ j → ⊥) → v.fence j ≡ w.fence j
@@ -34,6 +36,8 @@ module _ {Book : Type 0} (k : ℕ) (w : theory.World Book) where
         sent = refl;
         acked = refl;
         released = refl;
+        notes = refl;
+        marks = refl;
         stores = λ j ne. refl;
         saved = λ j ne. refl;
         fence = λ j ne. refl;
@@ -46,6 +50,8 @@ module _ {Book : Type 0} (k : ℕ) (w : theory.World Book) where
         sent = refl;
         acked = refl;
         released = refl;
+        notes = refl;
+        marks = refl;
         stores = λ j ne. put_other w.stores k j (Some s) ne;
         saved = λ j ne. refl;
         fence = λ j ne. refl;
@@ -58,6 +64,8 @@ module _ {Book : Type 0} (k : ℕ) (w : theory.World Book) where
         sent = refl;
         acked = refl;
         released = refl;
+        notes = refl;
+        marks = refl;
         stores = λ j ne. refl;
         saved = λ j ne. put_other w.saved k j (Some s) ne;
         fence = λ j ne. refl;
@@ -70,6 +78,8 @@ module _ {Book : Type 0} (k : ℕ) (w : theory.World Book) where
         sent = refl;
         acked = refl;
         released = refl;
+        notes = refl;
+        marks = refl;
         stores = λ j ne. refl;
         saved = λ j ne. refl;
         fence = λ j ne. put_other w.fence k j u ne;
@@ -82,6 +92,8 @@ module _ {Book : Type 0} (k : ℕ) (w : theory.World Book) where
         sent = refl;
         acked = refl;
         released = refl;
+        notes = refl;
+        marks = refl;
         stores = λ j ne. put_other w.stores k j None ne;
         saved = λ j ne. put_other w.saved k j None ne;
         fence = λ j ne. refl;
@@ -115,6 +127,10 @@ module _ (v : WorldView) (is : IsTied v) where
               record { has = t.stores j other ∙ was.has; wrote = t.saved j other ∙ was.wrote; fenced = t.fence j other ∙ was.fenced }
         ];
         went_out = λ r has. subst (λ out. Contains out (theory_released r)) (sym t.released) (is.went_out r has);
+        unnoted = record {
+          notes = λ term hart. ap (λ f. f term hart) t.notes ∙ is.unnoted.notes term hart;
+          marks = λ term hart. ap (λ f. f term hart) t.marks ∙ is.unnoted.marks term hart;
+        };
         is_history = is.is_history;
       }
 
@@ -206,6 +222,8 @@ module _ (v : WorldView) (is : IsTied v) where
           sent = refl;
           acked = refl;
           released = refl;
+          notes = refl;
+          marks = refl;
           stores = λ j ne. put_other is.world.stores k j (Some x.place.store) ne;
           saved = λ j ne. refl;
           fence = λ j ne. put_other is.world.fence k j x.place.fence ne;

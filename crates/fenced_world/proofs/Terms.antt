@@ -39,6 +39,7 @@ in_other terms t x p other is =
       there = put_other terms t p.opening.term x other ∙ is.there;
       of_book = is.of_book;
       sealed = is.sealed;
+      silent = is.silent;
     }
 
 -- one primary, and its term with it, is another
@@ -87,6 +88,8 @@ pub record OnlyTerms {Book : Type 0} (w v : theory.World Book) : Type 0 where
   pub fence : v.fence ≡ w.fence
   pub acked : v.acked ≡ w.acked
   pub released : v.released ≡ w.released
+  pub notes : v.notes ≡ w.notes
+  pub marks : v.marks ≡ w.marks
 
 module _ (v : WorldView) (is : IsTied v) where
   abbrev pub Theory : Type 0
@@ -135,6 +138,10 @@ module _ (v : WorldView) (is : IsTied v) where
                 fenced = ap (λ f. f k) only.fence ∙ was.fenced;
               };
           went_out = λ out has. subst (λ outs. Contains outs (theory_released out)) (sym only.released) (is.went_out out has);
+          unnoted = record {
+            notes = λ term hart. ap (λ f. f term hart) only.notes ∙ is.unnoted.notes term hart;
+            marks = λ term hart. ap (λ f. f term hart) only.marks ∙ is.unnoted.marks term hart;
+          };
           is_history = subst (IsHistoryOf v.image) (sym (retold_put tell is.terms r.primary.opening.term (Some past))) is_history;
         }
 
@@ -184,7 +191,7 @@ module _ (v : WorldView) (is : IsTied v) where
           (theory.stepped is.world r.primary.opening.term past_now d)
           refl refl
           (theory.Then is.comes (theory.Step r.primary.opening.term past_now d there_now (fact, is.is_recorder.tells fact)))
-          (record { stores = refl; saved = refl; fence = refl; acked = refl; released = refl })
+          (record { stores = refl; saved = refl; fence = refl; acked = refl; released = refl; notes = refl; marks = refl })
           refl is.sent
           (record {
             pieces = own.pieces;
@@ -192,6 +199,7 @@ module _ (v : WorldView) (is : IsTied v) where
             there = put_same is.terms r.primary.opening.term r.primary.opening.term (Some (past_of next own.pieces new_book)) refl;
             of_book = of_book;
             sealed = own.sealed;
+            silent = λ hart. on.notes hart ∙ own.silent hart;
           })
           (books_go_on v.image (history is.terms) r.primary.opening.term r.primary.book c (told_of r.primary own.pieces) (told_of next own.pieces)
           is.are_theory is.is_history there_told its_history).is_history

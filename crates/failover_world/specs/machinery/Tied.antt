@@ -16,7 +16,7 @@ use Rattle.log_join.specs.Stores.{nothing}
 use Rattle.hart_replay.specs.Images.{GuestTerm, GuestHistory, boot_of}
 use Rattle.hart_replay.specs.Primaries.{term_of as history_of, IsPrimary, IsTermOfBook, IsSealedTo}
 use Rattle.fenced_theory.specs.Machines.{Book, IsRecorder}
-use Rattle.failover_theory.specs.Worlds as theory
+use Rattle.failover_world.specs.machinery.Stopping as theory
 use Rattle.book_recorder.specs.TermBooks.{IsTermBook, AreTheory}
 use Rattle.lease_rounds.specs.Running.{IsIdle}
 use Rattle.hart_lease.specs.Runs.{counts_of}
@@ -69,7 +69,6 @@ module _ (pages : ℕ) (is : AreTheory pages) where
   theory_world guest v terms notes marks released =
       record {
         now = term_of v;
-        runs = v.runs;
         terms = λ u. retold_in told_as (terms u);
         sent = v.sent;
         stores = λ keeper. slice_index_or v.stores keeper (Some (nothing guest));

@@ -1,8 +1,9 @@
 -- What ties the world to the theory of fencing. Machinery: nothing here needs to be believed.
-use Rattle.std.specs.Prelude.{ℕ, ◌≡◌, ◌<◌, ◌≤◌, List, length, Contains, nat_lt, slice_get, Option, Some}
+use Rattle.std.specs.Prelude.{ℕ, ◌≡◌, ◌<◌, ◌≤◌, List, [], length, Contains, nat_lt, slice_get, Option, Some}
 use Rattle.ft_types.specs.declared.names.TheConstants.{KEEPER_LIMIT}
 use Rattle.ft_types.specs.Guests.{IsGuest}
 use Rattle.ft_types.specs.declared.output.Output.{Output}
+use Rattle.input_log.specs.Notes.{notes_of}
 use Rattle.interleaving.specs.Stored.{system_of}
 use Rattle.rv32_hart.specs.Hardware.{hardware}
 use Rattle.guest_image.specs.Image.{guest_of}
@@ -38,13 +39,14 @@ past_of p pieces is = record { opening = p.opening; pieces = pieces; told = reco
 abbrev pub told_of : Primary → (ℕ → List FragmentParts) → GuestTerm
 told_of p pieces = record { opening = p.opening; pieces = pieces; told = history_of p.book }
 
--- the family's term of the primary's number is that of its book, and its pieces have come to its marks
+-- the family's term of the primary's number is that of its book, which notes nothing, and its pieces have come to its marks
 pub record IsIn {pages : ℕ} (terms : Family (TermBook pages)) (p : Primary) : Type 0 where
   pub pieces : ℕ → List FragmentParts
   pub is_book : IsTermBook pages p.book
   pub there : terms p.opening.term ≡ Some (past_of p pieces is_book)
   pub of_book : IsTermOfBook p.book (told_of p pieces)
   pub sealed : IsSealedTo (told_of p pieces) p.sealed
+  pub silent : (hart : ℕ) → notes_of p.book.mode.notes hart ≡ []
 
 -- a primary of this term stands among them
 pub record IsAmong (running : List RunningView) (term : ℕ) : Type 0 where
@@ -72,6 +74,11 @@ AreStanding held w = (k : ℕ) (x : KeptView) → kept_at held k ≡ Some x → 
 abbrev pub WentOut : List Released → List TheoryReleased → Type 0
 WentOut released out = (r : Released) → Contains released r → Contains out (theory_released r)
 
+-- nothing is noted, and no output is passed over
+pub record IsUnnoted {Book : Type 0} (w : theory.World Book) : Type 0 where
+  pub notes : (term hart : ℕ) → w.notes term hart ≡ []
+  pub marks : (term hart : ℕ) → w.marks term hart ≡ 0
+
 -- the world is one that comes in the theory, and its terms are a history
 pub record IsTied (v : WorldView) : Type 0 where
   pub are_theory : AreTheory v.image.pages
@@ -85,6 +92,7 @@ pub record IsTied (v : WorldView) : Type 0 where
   pub acked : AreAckedIn v.running world.acked
   pub standing : AreStanding v.held world
   pub went_out : WentOut v.released world.released
+  pub unnoted : IsUnnoted world
   pub is_history : IsHistoryOf v.image (history terms)
 
 -- so many keepers acknowledged more than the output's step at the gate, for a hart that it has

@@ -20,7 +20,7 @@ use Rattle.std.proofs.Common.{◌↔◌, inl, inr}
 use Rattle.guest_image.specs.Image.{guest_of}
 use Rattle.interleaving.proofs.Put.{same_or_not}
 use Rattle.log_join.specs.Stores.{nothing}
-use Rattle.failover_theory.proofs.Events.{never_lower}
+use Rattle.failover_world.proofs.Stopping.{never_lower}
 use Rattle.scripts.specs.declared.event.Event.TheVariants as on
 use Rattle.failover_world.specs.Refusals.{Refuses}
 use Rattle.failover_world.specs.machinery.Tied.{quorum_of, theory_world}
@@ -124,9 +124,8 @@ cause v is keeper s p Lower r at there is_position other lower =
       | inl same ↦
           let (hart, less) = lower refl in
           let t = is.tied in
-          let more = never_lower t.is_recorder.recorder (guest_of v.image) (quorum_of v)
-          (theory_world v.image.pages t.are_theory (guest_of v.image) v t.terms t.notes t.marks t.out) t.comes keeper s p
-          (there_too v.stores keeper s (Some (nothing (guest_of v.image))) there) is_position (same ∙ is.parts.gate_term) hart in
+          let more = never_lower t.is_recorder.recorder (guest_of v.image) (quorum_of v) t.comes keeper s p
+          (there_too v.stores keeper s (Some (nothing (guest_of v.image))) there) is_position hart in
           absurd (omega (arith, less, more))
       | inr ne ↦ let both = sym at ∙ other.1 ne in absurd cc
     ]

@@ -10,18 +10,27 @@ use Rattle.fragment_codec.specs.Rules.{FragmentParts, OpeningParts}
 use Rattle.log_join.specs.Stores.{StoreView}
 use Rattle.closed_cut.specs.Position.{pieces_of, base_of}
 use Rattle.fenced_theory.specs.Recorders.{Recorder}
-use Rattle.fenced_theory.specs.Families.{IsFamily, Keeps, Here, Above}
-use Rattle.failover_theory.specs.Notes.{HasNotes, IsNoting, IsTold}
-use Rattle.fenced_theory.specs.Worlds.{Released}
-use Rattle.failover_theory.specs.Worlds.{WentOut}
+use Rattle.fenced_theory.specs.Families.{Starts, Boot, At, IsFamily, Keeps, Here, Above}
+use Rattle.fenced_theory.specs.Notes.{HasNotes, IsNoting, IsTold}
+use Rattle.fenced_theory.specs.Worlds.{Released, WentOutBy}
 use Rattle.fenced_theory.proofs.Growing.{some_same, Covered, a_piece}
 use Rattle.fenced_theory.proofs.Onward.{put_cases}
 use Rattle.fenced_theory.proofs.Walks.{in_a_piece}
-use Rattle.fenced_theory.proofs.Fate.{keeps_less}
+
+-- in an older term than this one
+abbrev pub WentOutBefore : List Released → ℕ → ℕ → ℕ → Type 0
+WentOutBefore released term hart number = (r : Released) × Contains released r × (r.hart ≡ hart) × (r.number ≡ number) × (r.term < term)
+
+by_then : (released : List Released) (term hart number : ℕ) → WentOutBefore released term hart number → WentOutBy released term hart number
+by_then released term hart number (r, has, same, is, less) = (r, has, same, is, let a : r.term < term = less in omega arith)
 
 -- one more went out
-pub out_grows : (released : List Released) (new : Released) (hart number : ℕ) → WentOut released hart number → WentOut (new ∷ released) hart number
-out_grows released new hart number (r, has, same, is) = (r, Contains-append_right (new ∷ []) released r has, same, is)
+by_grows : (released : List Released) (new : Released) (term hart number : ℕ) → WentOutBy released term hart number → WentOutBy (new ∷ released) term hart number
+by_grows released new term hart number (r, has, same, is, le) = (r, Contains-append_right (new ∷ []) released r has, same, is, le)
+
+before_grows : (released : List Released) (new : Released) (term hart number : ℕ) → WentOutBefore released term hart number →
+    WentOutBefore (new ∷ released) term hart number
+before_grows released new term hart number (r, has, same, is, less) = (r, Contains-append_right (new ∷ []) released r has, same, is, less)
 
 module _ {Book : Type 0} where
   -- each term's pieces have exactly its notes
@@ -33,9 +42,9 @@ module _ {Book : Type 0} where
     pub told : AreTold terms notes
     -- none is at a count before the term's base
     pub from : (u : ℕ) (p : Past Book) → terms u ≡ Some p → (hart : ℕ) (note : ℕ × ℕ) → Contains (notes u hart) note → base_of p.opening hart ≤ note.0
-    -- what is noted went out, and so did what is below a mark
-    pub out : (u hart : ℕ) (note : ℕ × ℕ) (k : ℕ) → Contains (notes u hart) note → k < note.1 → WentOut released hart k
-    pub passed : (u hart k : ℕ) → k < marks u hart → WentOut released hart k
+    -- what is noted went out by then, and what is below a mark in an older term
+    pub out : (u hart : ℕ) (note : ℕ × ℕ) (k : ℕ) → Contains (notes u hart) note → k < note.1 → WentOutBy released u hart k
+    pub passed : (u hart k : ℕ) → k < marks u hart → WentOutBefore released u hart k
     -- no note inside a term's base is above its mark, and what went out in the term is not below it
     pub marked : (u t hart : ℕ) (note : ℕ × ℕ) → Keeps terms t hart note.0 u → Contains (notes t hart) note → note.1 ≤ marks u hart
     pub above : (r : Released) → Contains released r → marks r.term r.hart ≤ r.number
@@ -92,11 +101,6 @@ module _ {Book : Type 0} where
       ])
       (told_one terms notes now r v.told its)
 
-  -- what is kept is of a term that was granted
-  pub keeps_granted : (terms : ℕ → Option (Past Book)) (term hart step : ℕ) {u : ℕ} → Keeps terms term hart step u → (p : Past Book) × (terms u ≡ Some p)
-  keeps_granted terms term hart step (Here {u = u} p is parent below) = (p, is)
-  keeps_granted terms term hart step (Above {u = u} p is k) = (p, is)
-
   -- an output went out
   pub noted_releases : (terms : ℕ → Option (Past Book)) (notes : ℕ → ℕ → List (ℕ × ℕ)) (marks : ℕ → ℕ → ℕ) (released : List Released) (new : Released) →
       AreNoted terms notes marks released → marks new.term new.hart ≤ new.number → AreNoted terms notes marks (new ∷ released)
@@ -104,8 +108,8 @@ module _ {Book : Type 0} where
       record {
         told = v.told;
         from = v.from;
-        out = λ u hart note k has less. out_grows released new hart k (v.out u hart note k has less);
-        passed = λ u hart k less. out_grows released new hart k (v.passed u hart k less);
+        out = λ u hart note k has less. by_grows released new u hart k (v.out u hart note k has less);
+        passed = λ u hart k less. before_grows released new u hart k (v.passed u hart k less);
         marked = v.marked;
         above =
             λ r has.
@@ -116,12 +120,22 @@ module _ {Book : Type 0} where
       }
 
 module _ {Book Fact : Type 0} (recorder : Recorder Book Fact) (terms : ℕ → Option (Past Book)) (family : IsFamily recorder terms)
-    (notes : ℕ → ℕ → List (ℕ × ℕ)) (marks : ℕ → ℕ → ℕ) (released : List Released) (v : AreNoted terms notes marks released) (now : ℕ)
-    (last : (term : ℕ) (p : Past Book) → terms term ≡ Some p → term ≤ now) where
-  -- a note more of the last term
-  module _ (p : Past Book) (is : terms now ≡ Some p) (hart number : ℕ) (more : List (ℕ × ℕ))
+    (notes : ℕ → ℕ → List (ℕ × ℕ)) (marks : ℕ → ℕ → ℕ) (released : List Released) (v : AreNoted terms notes marks released) where
+  -- a step that a later term keeps is below the counts of its term's book
+  pub kept_settled : (term hart step : ℕ) (t : Past Book) → terms term ≡ Some t → {u : ℕ} → Keeps terms term hart step u → step < recorder.counts t.told hart
+  kept_settled term hart step t is_t (Here {u = u} p is parent below) = of ((family.honest u p is).starts)
+    where
+      of : Starts recorder terms u p → step < recorder.counts t.told hart
+      of (Boot none zeros first begun on) = let z : base_of p.opening hart ≡ 0 = zeros hart in absurd (omega arith)
+      of (At q there less above settled closed first lives on) =
+          let low : base_of p.opening hart ≤ recorder.counts q.told hart = settled hart in
+          subst (λ (q : Past Book). step < recorder.counts q.told hart) (some_same there (ap terms parent ∙ is_t)) (omega arith)
+  kept_settled term hart step t is_t (Above {u = u} p is k) = kept_settled term hart step t is_t k
+
+  -- a note more of a term, whatever later ones there are
+  module _ (now : ℕ) (p : Past Book) (is : terms now ≡ Some p) (hart number : ℕ) (more : List (ℕ × ℕ))
       (one : IsNoting (notes now hart) (recorder.counts p.told hart) number more)
-      (known : (k : ℕ) → k < number → (k < marks now hart) ⊎ WentOut released hart k) where
+      (known : (k : ℕ) → k < number → (k < marks now hart) ⊎ WentOutBy released now hart k) where
     abbrev after : ℕ → ℕ → List (ℕ × ℕ)
     after = put notes now (put (notes now) hart more)
 
@@ -154,6 +168,13 @@ module _ {Book Fact : Type 0} (recorder : Recorder Book Fact) (terms : ℕ → O
               let (was, lo, hi) = old.only note has in
               (one.kept note was (let high : note.0 < x.to = hi in omega arith), lo, hi);
         }
+
+    -- and no later term keeps it
+    not_kept : (u t h : ℕ) (note : ℕ × ℕ) → now ≡ t → hart ≡ h → Keeps terms t h note.0 u → note.0 ≡ recorder.counts p.told hart → note.1 ≤ marks u h
+    not_kept u t h note e f k at =
+        let less : note.0 < recorder.counts p.told h = kept_settled t h note.0 p (ap terms (sym e) ∙ is) k in
+        let same : recorder.counts p.told hart ≡ recorder.counts p.told h = ap (λ h. recorder.counts p.told h) f in
+        absurd (omega arith)
 
     pub noted_more : AreNoted terms after marks released
     noted_more =
@@ -189,15 +210,16 @@ module _ {Book Fact : Type 0} (recorder : Recorder Book Fact) (terms : ℕ → O
               λ u h note k has less.
               elim (either u h) [
                 | inl (e, f, row) ↦
-                    subst (λ n. WentOut released n k) f
+                    subst (λ u. WentOutBy released u h k) e
+                    (subst (λ n. WentOutBy released now n k) f
                     (elim (one.only note (subst (λ (l : List (ℕ × ℕ)). Contains l note) row has)) [
                       | inl was ↦ v.out now hart note k was less
                       | inr new ↦
                           elim (known k (let is_number : note.1 ≡ number = new.1 in omega arith)) [
-                            | inl below ↦ v.passed now hart k below
+                            | inl below ↦ by_then released now hart k (v.passed now hart k below)
                             | inr out ↦ out
                           ]
-                    ])
+                    ]))
                 | inr row ↦ v.out u h note k (subst (λ (l : List (ℕ × ℕ)). Contains l note) row has) less
               ];
           passed = v.passed;
@@ -205,10 +227,12 @@ module _ {Book Fact : Type 0} (recorder : Recorder Book Fact) (terms : ℕ → O
               λ u t h note k has.
               elim (either t h) [
                 | inl (e, f, row) ↦
-                    (let less : t < u = keeps_less recorder terms family t h note.0 k in
-                    let (q, is_q) = keeps_granted terms t h note.0 k in
-                    let le : u ≤ now = last u q is_q in
-                    absurd (omega arith))
+                    elim (one.only note (subst (λ (l : List (ℕ × ℕ)). Contains l note) row has)) [
+                      | inl was ↦
+                          v.marked u t h note k
+                          (subst (λ t. Contains (notes t h) note) e (subst (λ n. Contains (notes now n) note) f was))
+                      | inr new ↦ not_kept u t h note e f k new.0
+                    ]
                 | inr row ↦ v.marked u t h note k (subst (λ (l : List (ℕ × ℕ)). Contains l note) row has)
               ];
           above = v.above;
@@ -235,8 +259,8 @@ module _ {Book Fact : Type 0} (recorder : Recorder Book Fact) (terms : ℕ → O
         tells = (v.told t q is_q hart at x there).has note has lo hi;
       }
 
-  -- and what is told in a store went out
-  pub told_out : (s : StoreView) → HonestStore terms s → (t hart : ℕ) (note : ℕ × ℕ) (k : ℕ) → IsTold s t hart note → k < note.1 → WentOut released hart k
+  -- and what is told in a store went out by then
+  pub told_out : (s : StoreView) → HonestStore terms s → (t hart : ℕ) (note : ℕ × ℕ) (k : ℕ) → IsTold s t hart note → k < note.1 → WentOutBy released t hart k
   told_out s honest t hart note k told less =
       let (q, is_q, there) = a_piece terms s t hart told.place told.piece honest told.one in
       v.out t hart note k ((v.told t q is_q hart told.place told.piece there).only note told.tells).0 less

@@ -1,34 +1,27 @@
 -- Pieces of a hart's log, in the words of the theory.
-use Rattle.std.proofs.Common.{◌≡◌, inl, inr, ℕ, ◌+◌, ◌<◌, ◌≤◌, ◌&&◌, Bool, true, false, cond, List, [], ◌∷◌, ◌++◌, length, map, Contains, filter, nat_lt, Some, refl, sym, ap, subst, ◌∙◌, arith, length-append}
-use Rattle.log_join.specs.Families.{end_of}
+use Rattle.std.proofs.Common.{◌≡◌, inl, inr, ℕ, ◌+◌, ◌<◌, ◌≤◌, ◌&&◌, Bool, true, false, cond, List, [], ◌∷◌, map, Contains, filter, nat_lt, refl, sym, ap, subst, ◌∙◌, arith}
 use Rattle.std.specs.Prelude.{nat_le}
 use Rattle.std.specs.List.{filter_map}
 use Rattle.std.proofs.lemmas.Bool.{leb-true, le-leb, ltb-true, lt-ltb}
 use Rattle.std.proofs.lemmas.List.Elements.{Contains-append_right}
-use Rattle.interleaving.specs.Lists.{put}
 use Rattle.interleaving.specs.Log.{Edge}
-use Rattle.interleaving.proofs.Put.{put_same}
 use Rattle.interleaving.proofs.Cuts.{here_or_later, here}
 use Rattle.edge_log.specs.EdgeLog.{edge_as}
-use Rattle.ft_types.specs.Guests.{GuestParts}
-use Rattle.fragment_codec.specs.declared.types.Key.{Key}
 use Rattle.fragment_codec.specs.Rules.{FragmentParts}
 use Rattle.fragment_codec.specs.Facts.{Facts, is_between, edge_in}
-use Rattle.log_pieces.specs.Pieces.{HartLog, Mark, IsPiece, mark_behind}
-use Rattle.log_join.specs.Stores.{IsFragmentOf}
-use Rattle.closed_cut.specs.Position.{edges_of, base_of}
+use Rattle.log_pieces.specs.Pieces.{HartLog, Mark, IsPiece}
+use Rattle.closed_cut.specs.Position.{edges_of}
 use Rattle.closed_cut.proofs.Lowerings.{found, contains_map}
 use Rattle.fenced_theory.specs.Recorders.{Recorder}
-use Rattle.failover_theory.specs.Notes.{HasNotes, notes_in}
-use Rattle.failover_theory.specs.Worlds.{Quorum, sealed, Seal, Then}
-use Rattle.failover_theory.specs.Sealings.{with_piece, PiecesAreCuts, SealsPieces}
+use Rattle.fenced_theory.specs.Notes.{HasNotes, notes_in}
+use Rattle.book_recorder.specs.Sealings.{PiecesTellNotes, PiecesAreCuts}
 
 both : (a b : Bool) → (a && b) ≡ true → record { 0 : a ≡ true; 1 : b ≡ true }
 both true true e = (refl, refl)
 both true false e = cc
 both false b e = cc
 
-pub in_filter : {A : Type 0} (P : A → Bool) (xs : List A) (x : A) → Contains (filter P xs) x → record { 0 : Contains xs x; 1 : P x ≡ true }
+in_filter : {A : Type 0} (P : A → Bool) (xs : List A) (x : A) → Contains (filter P xs) x → record { 0 : Contains xs x; 1 : P x ≡ true }
 in_filter P [] x (k, below, is) = absurd (omega arith)
 in_filter {A} P (y ∷ ys) x has = by (in_filter P ys x) (P y) refl has
   where
@@ -42,7 +35,7 @@ in_filter {A} P (y ∷ ys) x has = by (in_filter P ys x) (P y) refl has
         ]
     by rec false e h = let r = rec h in (Contains-append_right (y ∷ []) ys x r.0, r.1)
 
-pub of_filter : {A : Type 0} (P : A → Bool) (xs : List A) (x : A) → Contains xs x → P x ≡ true → Contains (filter P xs) x
+of_filter : {A : Type 0} (P : A → Bool) (xs : List A) (x : A) → Contains xs x → P x ≡ true → Contains (filter P xs) x
 of_filter P [] x (k, below, is) fine = absurd (omega arith)
 of_filter {A} P (y ∷ ys) x has fine = by (λ later. of_filter P ys x later fine) (P y) refl
   where
@@ -61,12 +54,8 @@ of_filter {A} P (y ∷ ys) x has fine = by (λ later. of_filter P ys x later fin
 between : (from to n : ℕ) → from ≤ n → n < to → is_between from to n ≡ true
 between from to n lo hi = rw (le-leb from n lo) (lt-ltb n to hi)
 
-end_more : (from : ℕ) (xs : List FragmentParts) (x : FragmentParts) → end_of from (xs ++ x ∷ []) ≡ x.to
-end_more from [] x = refl
-end_more from (y ∷ xs) x = end_more y.to xs x
-
 -- a piece with the notes of its range
-pub filtered_notes : (notes : List (ℕ × ℕ)) (x : FragmentParts) → notes_in x ≡ filter (λ (n : ℕ × ℕ). is_between x.from x.to n.0) notes → HasNotes notes x
+filtered_notes : (notes : List (ℕ × ℕ)) (x : FragmentParts) → notes_in x ≡ filter (λ (n : ℕ × ℕ). is_between x.from x.to n.0) notes → HasNotes notes x
 filtered_notes notes x same =
     record {
       has =
@@ -81,7 +70,7 @@ filtered_notes notes x same =
     }
 
 -- a piece of the log has the log's notes
-pub piece_has_notes : (log : HartLog) (mark : Mark) (x : FragmentParts) → IsPiece log mark x → HasNotes log.facts.notes x
+pub piece_has_notes : PiecesTellNotes
 piece_has_notes log mark x piece = filtered_notes log.facts.notes x (ap (λ (f : Facts). f.notes) piece.exact)
 
 module _ {Book Fact : Type 0} (recorder : Recorder Book Fact) where
@@ -114,35 +103,3 @@ module _ {Book Fact : Type 0} (recorder : Recorder Book Fact) where
     where
       same : filter_map edge_in x.records ≡ filter (λ e. is_between x.from x.to e.at) log.facts.edges
       same = ap (λ (f : Facts). f.edges) piece.exact
-
-  module _ (guest : GuestParts) (quorum : Quorum) where
-    pub seals_pieces : SealsPieces recorder guest quorum
-    seals_pieces w p log old new [] comes runs is of_guest of_term of_book marked noted pieces = comes
-    seals_pieces w p log old new (x ∷ xs) comes runs is of_guest of_term of_book marked noted (piece, rest) =
-        seals_pieces (sealed w p log.hart x) (with_piece p log.hart x) log (mark_behind x) new xs
-        (Then comes (Seal p log.hart x runs is rules (piece.begins ∙ marked.count) (piece_is_cut p.told log old x of_book piece)
-        (subst (λ (l : List (ℕ × ℕ)). HasNotes l x) noted (piece_has_notes log old x piece)))) runs
-        (put_same w.terms w.now w.now (Some (with_piece p log.hart x)) refl) of_guest of_term of_book
-        (
-        record {
-          place =
-              let a : x.key.place ≡ length (p.pieces log.hart) = ap (λ (k : Key). k.place) piece.key ∙ marked.place in
-              let b : length (p.pieces log.hart ++ x ∷ []) ≡ length (p.pieces log.hart) + 1 = length-append (p.pieces log.hart) (x ∷ []) in
-              ap (λ n. n + 1) a ∙ (sym b ∙ ap length (sym pieces_are));
-          count = sym (end_more (base_of p.opening log.hart) (p.pieces log.hart) x) ∙ ap (end_of (base_of p.opening log.hart)) (sym pieces_are);
-        }
-        )
-        noted rest
-      where
-        pieces_are : put p.pieces log.hart (p.pieces log.hart ++ x ∷ []) log.hart ≡ p.pieces log.hart ++ x ∷ []
-        pieces_are = put_same p.pieces log.hart log.hart (p.pieces log.hart ++ x ∷ []) refl
-
-        rules : IsFragmentOf guest (record { term = w.now; hart = log.hart; place = length (p.pieces log.hart) }) x
-        rules =
-            record {
-              rules = piece.rules;
-              same_guest = piece.same_guest ∙ of_guest;
-              same_key =
-                  piece.key ∙
-                  (λ i. record { term = of_term i; hart = log.hart; place = marked.place i });
-            }
