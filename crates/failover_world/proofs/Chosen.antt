@@ -1,5 +1,5 @@
 -- Keepers that are named: their stores are of the world's history, and the join has what they have.
-use Rattle.std.proofs.Common.{◌≡◌, inl, inr, ℕ, suc, ◌+◌, ◌-◌, ◌<◌, ◌≤◌, ◌==◌, Bool, true, false, cond, List, [], ◌∷◌, ◌++◌, length, map, slice_index_or, Option, Some, None, if◌then◌else◌, refl, sym, ap, subst, ◌∙◌, arith}
+use Rattle.std.proofs.Common.{◌≡◌, inl, inr, ℕ, zero, suc, ◌+◌, ◌-◌, ◌<◌, ◌≤◌, ◌==◌, Bool, true, false, cond, List, [], ◌∷◌, ◌++◌, length, map, slice_index_or, Option, Some, None, if◌then◌else◌, refl, sym, ap, subst, ◌∙◌, arith}
 use Rattle.std.specs.Prelude.{All}
 use Rattle.std.specs.List.{list_any, flat_map, enumerate_from}
 use Rattle.std.proofs.lemmas.List.Elements.{All-nil, All-cons, All-head, All-tail}
@@ -76,10 +76,10 @@ of_named Q (Some y ∷ rest) n named all (suc k) m x at there is =
 -- ---- honest stores
 
 -- what stores have, their join has
-record HasAll {Told : Type 0} (terms : Family Told) (old : StoreView) (stores : List StoreView) (new : StoreView) : Type 0 where
-  honest : HonestStore terms new
-  first : Below old new
-  each : All (λ s. Below s new) stores
+pub record HasAll {Told : Type 0} (terms : Family Told) (old : StoreView) (stores : List StoreView) (new : StoreView) : Type 0 where
+  pub honest : HonestStore terms new
+  pub first : Below old new
+  pub each : All (λ s. Below s new) stores
 
 pub joined_has : {Told : Type 0} (terms : Family Told) (old : StoreView) (stores : List StoreView) (new : StoreView) → HonestStore terms old →
     All (HonestStore terms) stores → AreJoinedTo old stores new → HasAll terms old stores new

@@ -28,6 +28,7 @@ use Rattle.failover_world.proofs.Guests.{own_guest}
 use Rattle.failover_world.proofs.Places.{retold_put}
 use Rattle.failover_world.proofs.Recorded as recorded
 use Rattle.failover_world.proofs.Recorded.{is_log}
+use Rattle.failover_world.proofs.Stopping.{seals}
 
 module _ (v : WorldView) (is : IsTied v) where
   abbrev past_with : (ℕ → List FragmentParts) → Past (Books v.image.pages is.are_theory)
