@@ -1,5 +1,5 @@
-//! What a primary decides that is a process of its own, one event at a time: it goes live from logs that were handed over to its term,
-//! takes requests and acknowledgements, goes on in rounds, and says which frames are sent and which outputs are told.
+//! What a primary decides, one event at a time: it goes live from logs that were handed over to its term, takes requests and
+//! acknowledgements, goes on in rounds, and says which frames are sent and which outputs are told.
 #![tactic(auto)]
 
 mod fault;
