@@ -35,7 +35,7 @@ words_at row n = length (words_in (inputs_at row n))
 
 pub nothing_from : (from many : ℕ) → all_from (words_at []) from many ≡ 0
 nothing_from from zero = refl
-nothing_from from (suc many) = let none : words_at [] from ≡ 0 = refl in let rest = nothing_from (suc from) many in omega (arith, none, rest)
+nothing_from from (suc many) = let rest = nothing_from (suc from) many in omega (arith, rest)
 
 -- one input
 pub one_word : Input → ℕ

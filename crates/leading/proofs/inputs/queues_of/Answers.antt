@@ -10,10 +10,10 @@ loop-number-preserved c =
     let machine = c.args.machine.now in
     let qs = c.loop-number.queues.items in
     let n = c.loop-number.number in
-    let q = c.new-2.result in
+    let q = c.new-in-loop-number.result in
     let was = c.loop-number.invariant in
     let one = one_given machine n c.new.result c.given-words.result c.hart.result.now q c.new.ensures c.hart.ensures c.given-words.ensures.value
-    c.given-words.ensures.limit c.new-2.ensures.value in
+    c.given-words.ensures.limit c.new-in-loop-number.ensures.value in
     record {
       many = ap (λ (l : List QueueView). length l) c.in_ok-push.ensures.items ∙ length-append qs (q ∷ []) ∙ ap (λ (z : ℕ). z + 1) was.many;
       behind =
