@@ -3,6 +3,7 @@ use Rattle.std.proofs.Common.{◌≡◌, ℕ, ◌≤◌, ◌++◌, true, List, [
 use Rattle.std.proofs.lemmas.Bool.{leb-true}
 use Rattle.interleaving.specs.Lists.{Each}
 use Rattle.ft_types.specs.declared.output.Output.{Output}
+use Rattle.input_log.specs.Notes.{NotesOfOne}
 use Rattle.guest_image.specs.Machine.{MachineState}
 use Rattle.book_modes.specs.Recordings.{RecordingView, HasRoomed}
 use Rattle.page_book.specs.Books.{BookView}
@@ -17,7 +18,7 @@ use Rattle.primary.proofs.Waiting.{all_stay}
 use Rattle.requests.specs.Queues.{QueueView}
 use Rattle.leading.specs.Telling.{IsOut}
 use Rattle.leading.specs.Hearing.{LetsGo, LetsNothingGo}
-use Rattle.leading.specs.Leaders.{AreHandedOn, LeaderView, IsSound}
+use Rattle.leading.specs.Leaders.{AreHandedOn, IsHandedOn, LeaderView, IsSound}
 use Rattle.leading.proofs.Offering.{rising}
 use Rattle.leading.proofs.Sound.{sound_gate, sound_notes}
 
@@ -81,15 +82,19 @@ marks_stay term m g h was now b c (Ok u) (lets, notes) none hart = ap (λ (l : L
 marks_stay term m g h was now b c (Err e) none stays hart = (stays.lines hart).mark
 
 -- what is noted is no word
+handed_beside : (b : BookView RecordingView) (notes : List NotesOfOne) (queues : List QueueView) → AreHandedOn b queues →
+    AreHandedOn (record b { mode = record b.mode { notes = notes } }) queues
+handed_beside b notes queues all hart h at = let one = all hart h at in record { handed = one.handed; limit = one.limit }
+
 pub noted_handed : {U E : Type 0} (term : ℕ) (m : MachineState) (g h : TermGateView) (queues : List QueueView) (was now : List Released)
     (b c : BookView RecordingView) (r : Result U E) → OnOk r ((goes : LetGo term m g was h now) × NotesAll goes.given b c) →
     OnErr r (HasRoomed b.mode c.mode) → OnErr r (c ≡ record b { mode = c.mode }) → AreHandedOn b queues → AreHandedOn c queues
 noted_handed term m g h queues was now b c (Ok u) (lets, notes) room book all =
-    subst (λ (x : BookView RecordingView). AreHandedOn x queues) (sym notes.rest) all
+    subst (λ (x : BookView RecordingView). AreHandedOn x queues) (sym notes.rest) (handed_beside b c.mode.notes queues all)
 noted_handed term m g h queues was now b c (Err e) none room book all =
     let rest : c ≡ record b { mode = record b.mode { notes = c.mode.notes } } =
     book ∙ ap (λ (mode : RecordingView). let x : BookView RecordingView = record b { mode = mode } in x) room.rest in
-    subst (λ (x : BookView RecordingView). AreHandedOn x queues) (sym rest) all
+    subst (λ (x : BookView RecordingView). AreHandedOn x queues) (sym rest) (handed_beside b c.mode.notes queues all)
 
 pub released_sound : {U E : Type 0} (p q : Primary) (g h : TermGateView) (queues : List QueueView) (was now : List Released) (r : Result U E) →
     OnOk r ((goes : LetGo p.opening.term p.book.machine g was h now) × NotesAll goes.given p.book q.book) →
