@@ -1,6 +1,6 @@
 -- What is done with a keeper's disk, as events of the world.
-use Rattle.std.proofs.Common.{◌≡◌, ◌≤◌, ◌<◌, max, ℕ, List, [], ◌∷◌, ◌++◌, take, drop, Contains, Option, Some, None, refl, sym, ap, subst, ◌∙◌, append-nil, arith, inl, inr}
-use Rattle.std.proofs.lemmas.List.Elements.{Contains-append_left, Contains-append_right}
+use Rattle.std.proofs.Common.{◌≡◌, ◌≤◌, ◌<◌, max, ℕ, List, [], ◌∷◌, ◌++◌, take, drop, Contains, Option, Some, None, refl, sym, ap, subst, ◌∙◌, append-nil, append_assoc, arith, inl, inr}
+use Rattle.std.proofs.lemmas.List.Elements.{Contains-append_right}
 use Rattle.interleaving.specs.Lists.{put}
 use Rattle.interleaving.proofs.Cuts.{here_or_later}
 use Rattle.interleaving.proofs.Put.{same_or_not, put_same, put_other}
@@ -8,10 +8,10 @@ use Rattle.ft_types.specs.Counts.{count_at}
 use Rattle.ft_types.specs.Guests.{GuestParts}
 use Rattle.ft_types.specs.declared.position.Position.{Position}
 use Rattle.fragment_codec.specs.declared.frame.Frame.{Frame}
-use Rattle.fragment_codec.specs.Streams.{spelling, IsFrame, IsPartial, IsStuck, Splits}
+use Rattle.fragment_codec.specs.Streams.{spelling, IsFrame, IsPartial, Splits}
 use Rattle.fragment_codec.proofs.streams.HasReading.{has_reading}
-use Rattle.fragment_codec.proofs.streams.Splits.{splits_more, splits_on, alone as one_frame}
-use Rattle.log_join.specs.Coming.{Come, IsJoinOf}
+use Rattle.fragment_codec.proofs.streams.Splits.{splits_more, alone as one_frame}
+use Rattle.log_join.specs.Coming.{IsJoinOf}
 use Rattle.log_join.specs.Stores.{StoreView, IsJoin, alone, nothing}
 use Rattle.closed_cut.specs.Position.{IsPosition}
 use Rattle.fenced_keeper.specs.Keepers.{Acknowledges as MayAcknowledge}
@@ -19,15 +19,14 @@ use Rattle.stations.specs.Acts.{Act, Added, CutTo, Fenced as WasFenced, Synced a
 use Rattle.stations.specs.Handshake.{Did, Crash, after, IsBeginning}
 use Rattle.stations.specs.Logs.{IsFrontOf}
 use Rattle.stations.specs.Stations.{StationView, IsOnLog}
-use Rattle.stations.proofs.Held.{come_one}
 use Rattle.fenced_theory.specs.Recorders.{Recorder}
 use Rattle.fenced_theory.specs.Worlds.{Quorum, World, held, saving, acking, fenced, Save, Restart, Fence, Acknowledge}
 use Rattle.fenced_theory.proofs.Acking.{raised_keeps, raised_reaches}
-use Rattle.keeper_disks.specs.Disks.{Phase, Away, HasRead, Rests, Logged, Synced, Hand, Nobody, Saw, HasFenced, Disk, Out, Nothing, Says, Hands, logged, Keeps, Reads, Begins, Adds, Tears, Syncs, Looks, Acknowledges, Gives, Sees, Fences, HandsOver, WereSent, KeeperDoes, HandDoes, Takes, KeeperEnds, HandEnds, Crashes}
-use Rattle.keeper_disks.specs.Standing.{HasFrames, IsWhole, Knows, KnowsFence, IsSite, StandsOn, OnlyKeeper, IsTold, Same, Then, IsFollowed, DisksGo}
-use Rattle.keeper_disks.proofs.Frames.{stuck_nothing, reading_of, whole_one, Torn, torn, begins_more, begins_itself, cut_leaves}
-use Rattle.keeper_disks.proofs.Comings.{come_same, come_apart, come_there, OnlyStore, Delivered, held_only, delivers}
-use Rattle.keeper_disks.proofs.Has.{front_of_whole, front_is, whole_is, one_store, each_of, has_more, nothing_fresh}
+use Rattle.keeper_disks.specs.Disks.{Phase, Away, HasRead, Rests, Adding, Synced, Hand, Nobody, Saw, HasFenced, Disk, Out, Nothing, Says, Hands, logged, Keeps, Reads, Begins, Adds, AddsMore, Syncs, Looks, Acknowledges, Gives, Sees, Fences, HandsOver, WereSent, KeeperDoes, HandDoes, Takes, KeeperEnds, HandEnds, Crashes}
+use Rattle.keeper_disks.specs.Standing.{HasFrames, HasFront, Knows, KnowsFence, IsSite, StandsOn, OnlyKeeper, IsTold, LeadsTo, Same, Then, IsFollowed, DisksGo}
+use Rattle.keeper_disks.proofs.Frames.{stuck_nothing, reading_of, whole_one, begins_frames, begins_more, begins_itself, cut_leaves}
+use Rattle.keeper_disks.proofs.Comings.{come_more, come_there, OnlyStore, Delivered, held_only, delivers}
+use Rattle.keeper_disks.proofs.Has.{front_of_whole, front_is, one_store, has_more, begin_sent}
 
 module _ {Book Fact : Type 0} (recorder : Recorder Book Fact) (guest : GuestParts) (quorum : Quorum) (w : World Book) (keeper : ℕ) (d : Disk)
     (s : StandsOn guest w keeper d) where
@@ -48,7 +47,7 @@ module _ {Book Fact : Type 0} (recorder : Recorder Book Fact) (guest : GuestPart
   still e t = record { world = w; events = Same; stands = t; only = only_itself; told = tt }
 
   -- where the files are as they were
-  now : (phase : Phase) (hand : Hand) → Knows w.sent d.files s.store phase → KnowsFence d.files.fence hand →
+  now : (phase : Phase) (hand : Hand) → Knows guest w.sent d.files.log d.files.safe phase → KnowsFence d.files.fence hand →
       StandsOn guest w keeper (record { files = d.files; keeper = phase; hand = hand })
   now phase hand knows fence =
       record {
@@ -64,13 +63,14 @@ module _ {Book Fact : Type 0} (recorder : Recorder Book Fact) (guest : GuestPart
         hand = fence;
       }
 
-  knows : (phase : Phase) → d.keeper ≡ phase → Knows w.sent d.files s.store phase
-  knows phase is = subst (Knows w.sent d.files s.store) is s.keeper
+  knows : (phase : Phase) → d.keeper ≡ phase → Knows guest w.sent d.files.log d.files.safe phase
+  knows phase is = subst (Knows guest w.sent d.files.log d.files.safe) is s.keeper
 
   knows_fence : (hand : Hand) → d.hand ≡ hand → KnowsFence d.files.fence hand
   knows_fence hand is = subst (KnowsFence d.files.fence) is s.hand
 
-  in_phase : (phase : Phase) → Knows w.sent d.files s.store phase → IsFollowed recorder guest quorum w keeper d (record d { keeper = phase }) Nothing
+  in_phase : (phase : Phase) → Knows guest w.sent d.files.log d.files.safe phase →
+      IsFollowed recorder guest quorum w keeper d (record d { keeper = phase }) Nothing
   in_phase phase is = still (record d { keeper = phase }) (now phase d.hand is s.hand)
 
   in_hand : (hand : Hand) → KnowsFence d.files.fence hand → IsFollowed recorder guest quorum w keeper d (record d { hand = hand }) Nothing
@@ -115,27 +115,37 @@ module _ {Book Fact : Type 0} (recorder : Recorder Book Fact) (guest : GuestPart
   only_now =
       record { terms = refl; sent = refl; saved = refl; fence = refl; given = refl; acked = refl; released = refl; others = λ k other. refl }
 
-  -- these were added to the log, and came to the store
-  logs : (added rest : List ℕ) (fs : List Frame) (store : StoreView) (phase : Phase) → IsWhole d.files.log → Splits added fs rest → IsStuck rest →
-      ((f : Frame) → Contains fs f → Contains w.sent f) → Come s.store fs store → Knows w.sent (after d.files (Did (Added added))) store phase →
-      IsFollowed recorder guest quorum w keeper d (record d { files = after d.files (Did (Added added)); keeper = phase }) Nothing
-  logs added rest fs store phase whole splits stuck each come is =
-      let log : HasFrames guest w.sent (d.files.log ++ added) rest store =
-      has_more guest w.sent d.files.log added rest s.store store fs (whole_is guest w.sent d.files.log s.store s.log whole) splits each come in
-      delivered (record d { files = after d.files (Did (Added added)); keeper = phase }) store
-      (delivers recorder guest quorum w w Same keeper only_now s.store store s.has_it fs each come)
-      (record {
-        store = store;
-        written = s.written;
-        has_it = refl;
-        wrote_it = s.wrote_it;
-        log = (rest, stuck, log);
-        safe = s.safe;
-        begins = begins_more d.files.safe d.files.log added s.begins;
-        fence_is = s.fence_is;
-        keeper = is;
-        hand = s.hand;
-      })
+  -- behind more bytes it has all frames that are read there then, where these were sent
+  pub record Grown (bytes : List ℕ) : Type 0 where
+    pub store : StoreView
+    pub front : HasFront guest w.sent bytes store
+    pub delivered : Delivered recorder guest quorum w keeper store
+
+  grows : (v : World Book) → LeadsTo recorder guest quorum w v → OnlyStore w v keeper → (bytes more : List ℕ) (store : StoreView) →
+      v.stores keeper ≡ Some store → HasFront guest w.sent bytes store → WereSent w.sent (bytes ++ more) → Grown (bytes ++ more)
+  grows v events only bytes more store has h were =
+      let r = has_reading (bytes ++ more) in
+      let b = begins_frames (bytes ++ more) r.1 (h.0 ++ more) r.0 h.2.frames r.2 r.3 (splits_more bytes h.0 more h.2.frames h.2.splits) in
+      let (last, come) = come_there store b.0 in
+      let each : (f : Frame) → Contains b.0 f → Contains v.sent f =
+      λ f new.
+      subst (λ (fs : List Frame). Contains fs f) (sym only.sent)
+      (were r.0 r.1 r.2 f (subst (λ (fs : List Frame). Contains fs f) (sym b.1) (Contains-append_right h.2.frames b.0 f new))) in
+      record {
+        store = last;
+        front = (
+          r.1,
+          r.3,
+          record {
+            frames = r.0;
+            splits = r.2;
+            each = were r.0 r.1 r.2;
+            join =
+                subst (λ (fs : List Frame). IsJoinOf guest fs last) (sym b.1) (come_more (nothing guest) store last h.2.frames b.0 h.2.join come);
+          },
+        );
+        delivered = delivers recorder guest quorum w v events keeper only store last has b.0 each come;
+      }
 
   -- ---- a keeper
 
@@ -152,9 +162,6 @@ module _ {Book Fact : Type 0} (recorder : Recorder Book Fact) (guest : GuestPart
       let on_whole : Splits (take size d.files.log) on.frames [] =
       subst (λ (x : List ℕ). Splits x on.frames []) (ap (λ (x : List ℕ). take size d.files.log ++ x) fresh ∙ append-nil (take size d.files.log)) on.splits in
       let its : on.frames ≡ frames = whole_one (take size d.files.log) on.frames frames on_whole front.splits in
-      let same : st.store ≡ s.store =
-      come_same (nothing st.store.guest) (nothing guest) frames st.store s.store (ap nothing of_guest)
-      (subst (λ (fs : List Frame). IsJoinOf st.store.guest fs st.store) its on.join) h.join in
       let cut : HasFrames guest w.sent (take size d.files.log) [] s.store =
       record { frames = frames; splits = front.splits; each = h.each; join = h.join } in
       still (record d { files = after d.files (Did (CutTo size)); keeper = Rests st })
@@ -167,7 +174,13 @@ module _ {Book Fact : Type 0} (recorder : Recorder Book Fact) (guest : GuestPart
         safe = subst (λ (x : List ℕ). HasFrames guest w.sent x [] s.written) (sym left.0) s.safe;
         begins = subst (λ (x : List ℕ). IsBeginning x (take size d.files.log)) (sym left.0) left.1;
         fence_is = s.fence_is;
-        keeper = ((frames, front.splits), nothing_fresh w.sent s.store st same fresh);
+        keeper =
+            record {
+              frames = on.frames;
+              splits = on.splits;
+              each = subst (λ (fs : List Frame). (f : Frame) → Contains fs f → Contains w.sent f) (sym its) h.each;
+              join = subst (λ (g : GuestParts). IsJoinOf g on.frames st.store) of_guest on.join;
+            };
         hand = s.hand;
       })
 
@@ -176,44 +189,39 @@ module _ {Book Fact : Type 0} (recorder : Recorder Book Fact) (guest : GuestPart
       (record d { keeper = Rests (record { store = store; fresh = st.fresh ++ spelling f; seen = st.seen }) }) Nothing
   takes st f store rests has rules joined =
       let k = knows (Rests st) rests in
-      in_phase (Rests (record { store = store; fresh = st.fresh ++ spelling f; seen = st.seen })) (
-        k.0,
-        record {
-          frames = k.1.frames ++ f ∷ [];
-          splits =
-              splits_on (st.fresh ++ spelling f) (spelling f) [] k.1.frames (f ∷ [])
-              (splits_more st.fresh [] (spelling f) k.1.frames k.1.splits) (one_frame f rules);
-          each = each_of guest w.sent k.1.frames (f ∷ []) k.1.each (λ g one. subst (Contains w.sent) (only_one f g one) has);
-          come = come_one s.store st.store store k.1.frames f k.1.come joined;
-        },
-      )
+      in_phase (Rests (record { store = store; fresh = st.fresh ++ spelling f; seen = st.seen }))
+      (subst (λ (x : List ℕ). HasFrames guest w.sent x [] store) (append_assoc d.files.log st.fresh (spelling f))
+      (has_more guest w.sent (d.files.log ++ st.fresh) (spelling f) [] st.store store (f ∷ []) k (one_frame f rules)
+      (λ g one. subst (Contains w.sent) (only_one f g one) has) (store, joined, refl)))
     where
       only_one : (x y : Frame) → Contains (x ∷ []) y → x ≡ y
       only_one x y has_it = elim (here_or_later x [] y has_it) [ inl same ↦ same | inr (k, below, same) ↦ absurd (omega (arith, below)) ]
 
-  adds : (st : StationView) → d.keeper ≡ Rests st →
-      IsFollowed recorder guest quorum w keeper d (record d { files = after d.files (Did (Added st.fresh)); keeper = Logged st }) Nothing
-  adds st rests =
-      let k = knows (Rests st) rests in
-      logs st.fresh [] k.1.frames st.store (Logged st) k.0 k.1.splits stuck_nothing k.1.each k.1.come (
-        (k.0.0 ++ k.1.frames, splits_on (d.files.log ++ st.fresh) st.fresh [] k.0.0 k.1.frames (splits_more d.files.log [] st.fresh k.0.0 k.0.1) k.1.splits),
-        refl,
-      )
+  adds : (st : StationView) (front rest : List ℕ) → HasFrames guest w.sent (d.files.log ++ (front ++ rest)) [] st.store →
+      IsFollowed recorder guest quorum w keeper d (record d { files = after d.files (Did (Added front)); keeper = Adding st rest }) Nothing
+  adds st front rest has =
+      let all : HasFrames guest w.sent ((d.files.log ++ front) ++ rest) [] st.store =
+      subst (λ (x : List ℕ). HasFrames guest w.sent x [] st.store) (sym (append_assoc d.files.log front rest)) has in
+      let g = grows w Same only_now d.files.log front s.store s.has_it s.log (begin_sent guest w.sent (d.files.log ++ front) rest st.store all) in
+      delivered (record d { files = after d.files (Did (Added front)); keeper = Adding st rest }) g.store g.delivered
+      (record {
+        store = g.store;
+        written = s.written;
+        has_it = refl;
+        wrote_it = s.wrote_it;
+        log = g.front;
+        safe = s.safe;
+        begins = begins_more d.files.safe d.files.log front s.begins;
+        fence_is = s.fence_is;
+        keeper = all;
+        hand = s.hand;
+      })
 
-  tears : (st : StationView) (front rest : List ℕ) → d.keeper ≡ Rests st → st.fresh ≡ front ++ rest →
-      IsFollowed recorder guest quorum w keeper d (record d { files = after d.files (Did (Added front)); keeper = Away }) Nothing
-  tears st front rest rests parts =
-      let k = knows (Rests st) rests in
-      let t : Torn front k.1.frames = torn front rest k.1.frames (subst (λ (x : List ℕ). Splits x k.1.frames []) parts k.1.splits) in
-      let (middle, come, behind) =
-      come_apart s.store st.store t.frames t.behind (subst (λ (fs : List Frame). Come s.store fs st.store) t.first k.1.come) in
-      logs front t.rest t.frames middle Away k.0 t.splits t.stuck
-      (λ f has. k.1.each f (subst (λ (fs : List Frame). Contains fs f) (sym t.first) (Contains-append_left t.frames t.behind f has))) come tt
-
-  syncs : (st : StationView) → d.keeper ≡ Logged st →
+  syncs : (st : StationView) → d.keeper ≡ Adding st [] →
       IsFollowed recorder guest quorum w keeper d (record d { files = after d.files (Did WasSynced); keeper = Synced st }) Nothing
-  syncs st in_log =
-      let k = knows (Logged st) in_log in
+  syncs st added =
+      let all : HasFrames guest w.sent d.files.log [] st.store =
+      subst (λ (x : List ℕ). HasFrames guest w.sent x [] st.store) (append-nil d.files.log) (knows (Adding st []) added) in
       record {
         world = saving w keeper s.store;
         events = Then Same (Save keeper s.store s.has_it);
@@ -224,10 +232,10 @@ module _ {Book Fact : Type 0} (recorder : Recorder Book Fact) (guest : GuestPart
               has_it = s.has_it;
               wrote_it = put_same w.saved keeper keeper (Some s.store) refl;
               log = s.log;
-              safe = whole_is guest w.sent d.files.log s.store s.log k.0;
+              safe = front_is guest w.sent d.files.log [] all.frames s.store s.log all.splits stuck_nothing;
               begins = begins_itself d.files.log;
               fence_is = s.fence_is;
-              keeper = (refl, k.1);
+              keeper = (all, refl);
               hand = s.hand;
             };
         only =
@@ -247,17 +255,14 @@ module _ {Book Fact : Type 0} (recorder : Recorder Book Fact) (guest : GuestPart
   on_disk : (st : StationView) → d.keeper ≡ Synced st → s.written ≡ st.store
   on_disk st synced =
       let k = knows (Synced st) synced in
-      one_store guest w.sent d.files.log s.written s.store
-      (front_of_whole guest w.sent d.files.log s.written (subst (λ (x : List ℕ). HasFrames guest w.sent x [] s.written) k.0 s.safe)) s.log
-      ∙ sym k.1
+      one_store guest w.sent d.files.log s.written st.store
+      (front_of_whole guest w.sent d.files.log s.written (subst (λ (x : List ℕ). HasFrames guest w.sent x [] s.written) k.1 s.safe))
+      (front_of_whole guest w.sent d.files.log st.store k.0)
 
   -- it rests behind a look at the fence
-  looked : (st : StationView) (fence : ℕ) → d.keeper ≡ Synced st → Knows w.sent d.files s.store (Rests (logged st fence))
+  looked : (st : StationView) (fence : ℕ) → d.keeper ≡ Synced st → Knows guest w.sent d.files.log d.files.safe (Rests (logged st fence))
   looked st fence synced =
-      let k = knows (Synced st) synced in (
-        (s.safe.frames, subst (λ (x : List ℕ). Splits x s.safe.frames []) k.0 s.safe.splits),
-        nothing_fresh w.sent s.store (logged st fence) k.1 refl,
-      )
+      subst (λ (x : List ℕ). HasFrames guest w.sent x [] st.store) (sym (append-nil d.files.log)) (knows (Synced st) synced).0
 
   acknowledges : (st : StationView) (fence : ℕ) (p : Position) → d.keeper ≡ Synced st → d.files.fence ≤ fence →
       MayAcknowledge st.store (max 1 (max st.seen fence)) p →
@@ -297,27 +302,17 @@ module _ {Book Fact : Type 0} (recorder : Recorder Book Fact) (guest : GuestPart
   crashes : (left : List ℕ) → IsBeginning d.files.safe left → WereSent w.sent left →
       IsFollowed recorder guest quorum w keeper d (record d { files = after d.files (Crash left); keeper = Away }) Nothing
   crashes left begins were =
-      let r = has_reading begins.0 in
-      let frames : List Frame = s.safe.frames ++ r.0 in
-      let splits : Splits left frames r.1 =
-      subst (λ (x : List ℕ). Splits x frames r.1) (sym begins.1)
-      (splits_on (d.files.safe ++ begins.0) begins.0 r.1 s.safe.frames r.0 (splits_more d.files.safe [] begins.0 s.safe.frames s.safe.splits) r.2) in
-      let each : (f : Frame) → Contains r.0 f → Contains w.sent f =
-      λ f has. were frames r.1 splits f (Contains-append_right s.safe.frames r.0 f has) in
-      let (store, come) = come_there s.written r.0 in
-      let log : HasFrames guest w.sent left r.1 store =
-      subst (λ (x : List ℕ). HasFrames guest w.sent x r.1 store) (sym begins.1)
-      (has_more guest w.sent d.files.safe begins.0 r.1 s.written store r.0 s.safe r.2 each come) in
-      let back : World Book = held w keeper s.written in
-      delivered (record d { files = after d.files (Crash left); keeper = Away }) store
-      (delivers recorder guest quorum w back (Then Same (Restart keeper s.written s.wrote_it)) keeper (held_only recorder guest quorum w keeper s.written)
-      s.written store (put_same w.stores keeper keeper (Some s.written) refl) r.0 each come)
+      let g =
+      grows (held w keeper s.written) (Then Same (Restart keeper s.written s.wrote_it)) (held_only recorder guest quorum w keeper s.written) d.files.safe
+      begins.0 s.written (put_same w.stores keeper keeper (Some s.written) refl) (front_of_whole guest w.sent d.files.safe s.written s.safe)
+      (subst (WereSent w.sent) begins.1 were) in
+      delivered (record d { files = after d.files (Crash left); keeper = Away }) g.store g.delivered
       (record {
-        store = store;
+        store = g.store;
         written = s.written;
         has_it = refl;
         wrote_it = s.wrote_it;
-        log = (r.1, r.3, log);
+        log = subst (λ (x : List ℕ). HasFront guest w.sent x g.store) (sym begins.1) g.front;
         safe = s.safe;
         begins = begins;
         fence_is = s.fence_is;
@@ -380,17 +375,10 @@ module _ {Book Fact : Type 0} (recorder : Recorder Book Fact) (guest : GuestPart
         safe = s.safe;
         begins = s.begins;
         fence_is = omega (arith, seen, less);
-        keeper = refenced d.keeper s.keeper;
+        keeper = s.keeper;
         hand = (omega (arith, seen, less), omega (arith, less));
       })
       (λ u below not e. omega (arith, seen, less, below, e)) Nothing tt
-    where
-      refenced : (phase : Phase) → Knows w.sent d.files s.store phase → Knows w.sent (after d.files (Did (WasFenced term))) s.store phase
-      refenced Away k = k
-      refenced (HasRead log) k = k
-      refenced (Rests st) k = k
-      refenced (Logged st) k = k
-      refenced (Synced st) k = k
 
   hands_over : (term : ℕ) (bytes rest : List ℕ) (frames : List Frame) → d.hand ≡ HasFenced term → d.files.log ≡ bytes ++ rest → Splits bytes frames [] →
       IsPartial rest → IsFollowed recorder guest quorum w keeper d (record d { hand = Nobody }) (Hands term bytes)
@@ -425,8 +413,9 @@ module _ {Book Fact : Type 0} (recorder : Recorder Book Fact) (guest : GuestPart
       IsFollowed recorder guest quorum w keeper d (record d { files = after d.files (Did act); keeper = next }) out
   keeps phase act next out is Reads = in_phase (HasRead d.files.log) refl
   keeps phase act next out is (Begins log frames size st front on of_guest fresh) = begins log frames size st is front on of_guest fresh
-  keeps phase act next out is (Adds st) = adds st is
-  keeps phase act next out is (Tears st front rest parts) = tears st front rest is parts
+  keeps phase act next out is (Adds st front rest parts) =
+      adds st front rest (subst (λ (x : List ℕ). HasFrames guest w.sent (d.files.log ++ x) [] st.store) parts (knows (Rests st) is))
+  keeps phase act next out is (AddsMore st front rest) = adds st front rest (knows (Adding st (front ++ rest)) is)
   keeps phase act next out is (Syncs st) = syncs st is
   keeps phase act next out is (Looks st fence seen) = in_phase (Rests (logged st fence)) (looked st fence is)
   keeps phase act next out is (Acknowledges st fence p seen may) = acknowledges st fence p is seen may

@@ -30,11 +30,6 @@ pub come_more : (first middle last : StoreView) (fs gs : List Frame) → Come fi
 come_more first middle last [] gs h k = subst (λ (s : StoreView). Come s gs last) h k
 come_more first middle last (f ∷ fs) gs h k = (h.0, h.1, come_more h.0 middle last fs gs h.2 k)
 
-pub come_apart : (first last : StoreView) (fs gs : List Frame) → Come first (fs ++ gs) last → (middle : StoreView) × Come first fs middle × Come middle gs last
-come_apart first last [] gs h = (first, refl, h)
-come_apart first last (f ∷ fs) gs h =
-    let (middle, one, two) = come_apart h.0 last fs gs h.2 in (middle, (h.0, h.1, one), two)
-
 pub come_there : (first : StoreView) (fs : List Frame) → (last : StoreView) × Come first fs last
 come_there first [] = (first, refl)
 come_there first (f ∷ fs) =

@@ -4,7 +4,6 @@ use Rattle.std.proofs.lemmas.List.{take_at, take_all, take-take, take-append-dro
 use Rattle.fragment_codec.specs.declared.frame.Frame.{Frame}
 use Rattle.fragment_codec.specs.Streams.{IsStuck, Splits}
 use Rattle.fragment_codec.proofs.bytes.Heads.{partial_nothing}
-use Rattle.fragment_codec.proofs.streams.HasReading.{has_reading}
 use Rattle.fragment_codec.proofs.streams.Readings.{not_stuck, one_stream}
 use Rattle.fragment_codec.proofs.streams.Splits.{splits_more, splits_first, splits_nothing, one_first}
 use Rattle.stations.specs.Logs.{IsFrontOf}
@@ -40,21 +39,6 @@ begins_frames stream last rest (f ∷ fs) (g ∷ gs) s k t =
     let same = one_first stream f g fs gs last rest a b in
     let more = begins_frames a.behind last rest fs gs a.others k (subst (λ (x : List ℕ). Splits x gs rest) (sym same.1) b.others) in
     (more.0, ap (λ (x : Frame). x ∷ fs) same.0 ∙ ap (λ (xs : List Frame). g ∷ xs) more.1)
-
--- a beginning of whole frames: the first of them, and a rest at which none stands
-pub record Torn (front : List ℕ) (fs : List Frame) : Type 0 where
-  pub frames : List Frame
-  pub rest : List ℕ
-  pub splits : Splits front frames rest
-  pub stuck : IsStuck rest
-  pub behind : List Frame
-  pub first : fs ≡ frames ++ behind
-
-pub torn : (front rest : List ℕ) (fs : List Frame) → Splits (front ++ rest) fs [] → Torn front fs
-torn front rest fs s =
-    let r = has_reading front in
-    let b = begins_frames (front ++ rest) [] (r.1 ++ rest) fs r.0 s stuck_nothing (splits_more front r.1 rest r.0 r.2) in
-    record { frames = r.0; rest = r.1; splits = r.2; stuck = r.3; behind = b.0; first = b.1 }
 
 -- ---- beginnings
 

@@ -1,16 +1,15 @@
 -- Frames of a log and the store that has them.
-use Rattle.std.proofs.Common.{◌≡◌, ℕ, List, [], ◌++◌, Contains, refl, sym, subst, arith, inl, inr}
+use Rattle.std.proofs.Common.{◌≡◌, ℕ, List, [], ◌++◌, Contains, refl, sym, subst, inl, inr}
 use Rattle.std.proofs.lemmas.List.Elements.{Contains-append_left, Contains-append_cases}
 use Rattle.ft_types.specs.Guests.{GuestParts}
 use Rattle.fragment_codec.specs.declared.frame.Frame.{Frame}
 use Rattle.fragment_codec.specs.Streams.{IsStuck, Splits}
 use Rattle.fragment_codec.proofs.streams.Readings.{one_stream}
-use Rattle.fragment_codec.proofs.streams.Splits.{splits_none, splits_more, splits_on}
+use Rattle.fragment_codec.proofs.streams.Splits.{splits_more, splits_on}
 use Rattle.log_join.specs.Coming.{Come, IsJoinOf}
 use Rattle.log_join.specs.Stores.{StoreView, nothing}
-use Rattle.stations.specs.Stations.{StationView}
 use Rattle.keeper_disks.specs.Disks.{WereSent}
-use Rattle.keeper_disks.specs.Standing.{HasFrames, HasFront, HasFresh, IsWhole}
+use Rattle.keeper_disks.specs.Standing.{HasFrames, HasFront}
 use Rattle.keeper_disks.proofs.Frames.{stuck_nothing, begins_frames}
 use Rattle.keeper_disks.proofs.Comings.{come_same, come_more}
 
@@ -30,9 +29,6 @@ module _ (guest : GuestParts) (sent : List Frame) where
         each = subst (λ (gs : List Frame). (f : Frame) → Contains gs f → Contains sent f) same h.2.each;
         join = subst (λ (gs : List Frame). IsJoinOf guest gs store) same h.2.join;
       }
-
-  pub whole_is : (bytes : List ℕ) (store : StoreView) → HasFront guest sent bytes store → IsWhole bytes → HasFrames guest sent bytes [] store
-  whole_is bytes store h w = front_is bytes [] w.0 store h w.1 stuck_nothing
 
   -- two stores of one log are one
   pub one_store : (bytes : List ℕ) (a b : StoreView) → HasFront guest sent bytes a → HasFront guest sent bytes b → a ≡ b
@@ -60,18 +56,13 @@ module _ (guest : GuestParts) (sent : List Frame) where
       let b = begins_frames bytes h.0 rest h.2.frames gs h.2.splits h.1 s in
       h.2.each f (subst (λ (fs : List Frame). Contains fs f) (sym b.1) (Contains-append_left gs b.0 f has))
 
+  -- and so it is of any beginning
+  pub begin_sent : (bytes more : List ℕ) (store : StoreView) → HasFrames guest sent (bytes ++ more) [] store → WereSent sent bytes
+  begin_sent bytes more store h fs rest s f has =
+      were_sent (bytes ++ more) store (front_of_whole (bytes ++ more) store h) fs (rest ++ more) (splits_more bytes rest more fs s) f has
+
   -- what was sent is sent still
   pub still_sent : (now : List Frame) → ((f : Frame) → Contains sent f → Contains now f) → (bytes rest : List ℕ) (store : StoreView) →
       HasFrames guest sent bytes rest store → HasFrames guest now bytes rest store
   still_sent now more bytes rest store h =
       record { frames = h.frames; splits = h.splits; each = λ f has. more f (h.each f has); join = h.join }
-
--- nothing is fresh
-pub nothing_fresh : (sent : List Frame) (store : StoreView) (st : StationView) → st.store ≡ store → st.fresh ≡ [] → HasFresh sent store st
-nothing_fresh sent store st same fresh =
-    record {
-      frames = [];
-      splits = subst (λ (x : List ℕ). Splits x [] []) (sym fresh) (splits_none []);
-      each = λ f has. absurd (let z = has.1 in omega (arith, z));
-      come = same;
-    }

@@ -1,12 +1,11 @@
 -- An empty disk stands for a keeper of the first world, and each for its keeper whatever becomes of others; and each can crash.
-use Rattle.std.proofs.Common.{List, [], Contains, refl, ◌∙◌, arith}
+use Rattle.std.proofs.Common.{ℕ, List, [], ◌++◌, Contains, refl, ◌∙◌, arith}
 use Rattle.ft_types.specs.Guests.{GuestParts}
 use Rattle.fragment_codec.specs.declared.frame.Frame.{Frame}
 use Rattle.fragment_codec.proofs.streams.Splits.{splits_none}
-use Rattle.log_join.specs.Stores.{StoreView, nothing}
-use Rattle.stations.specs.Handshake.{Files}
+use Rattle.log_join.specs.Stores.{nothing}
 use Rattle.fenced_theory.specs.Worlds.{first_world}
-use Rattle.keeper_disks.specs.Disks.{Phase, Away, HasRead, Rests, Logged, Synced}
+use Rattle.keeper_disks.specs.Disks.{Phase, Away, HasRead, Rests, Adding, Synced}
 use Rattle.keeper_disks.specs.Standing.{HasFrames, Knows, DisksBegin, DisksStay, DisksCrash}
 use Rattle.keeper_disks.proofs.Has.{front_of_whole, were_sent, still_sent}
 
@@ -30,14 +29,13 @@ disks_begin Book guest b keeper =
       hand = tt;
     }
 
-knows_still : (sent now : List Frame) → ((f : Frame) → Contains sent f → Contains now f) → (files : Files) (store : StoreView) (phase : Phase) →
-    Knows sent files store phase → Knows now files store phase
-knows_still sent now more files store Away k = k
-knows_still sent now more files store (HasRead log) k = k
-knows_still sent now more files store (Rests st) k =
-    (k.0, record { frames = k.1.frames; splits = k.1.splits; each = λ f has. more f (k.1.each f has); come = k.1.come })
-knows_still sent now more files store (Logged st) k = k
-knows_still sent now more files store (Synced st) k = k
+knows_still : (guest : GuestParts) (sent now : List Frame) → ((f : Frame) → Contains sent f → Contains now f) → (log safe : List ℕ) (phase : Phase) →
+    Knows guest sent log safe phase → Knows guest now log safe phase
+knows_still guest sent now more log safe Away k = k
+knows_still guest sent now more log safe (HasRead bytes) k = k
+knows_still guest sent now more log safe (Rests st) k = still_sent guest sent now more (log ++ st.fresh) [] st.store k
+knows_still guest sent now more log safe (Adding st rest) k = still_sent guest sent now more (log ++ rest) [] st.store k
+knows_still guest sent now more log safe (Synced st) k = (still_sent guest sent now more log [] st.store k.0, k.1)
 
 pub disks_stay : (Book : Type 0) (guest : GuestParts) → DisksStay Book guest
 disks_stay Book guest w v keeper d s same more =
@@ -50,7 +48,7 @@ disks_stay Book guest w v keeper d s same more =
       safe = still_sent guest w.sent v.sent more d.files.safe [] s.written s.safe;
       begins = s.begins;
       fence_is = same.fence ∙ s.fence_is;
-      keeper = knows_still w.sent v.sent more d.files s.store d.keeper s.keeper;
+      keeper = knows_still guest w.sent v.sent more d.files.log d.files.safe d.keeper s.keeper;
       hand = s.hand;
     }
 

@@ -15,8 +15,8 @@ pub data Phase : Type 0 where
   Away : Phase  -- there is none
   HasRead : List ℕ → Phase  -- it begins, and the log had these bytes
   Rests : StationView → Phase  -- between two calls
-  Logged : StationView → Phase  -- what was fresh is in the log
-  Synced : StationView → Phase  -- and on disk
+  Adding : StationView → List ℕ → Phase  -- of what was fresh this rest is to be added yet
+  Synced : StationView → Phase  -- all of it is on disk
 
 -- where whoever hands the log over stands, and has the lock on the fences
 pub data Hand : Type 0 where
@@ -39,16 +39,16 @@ pub data Out : Type 0 where
 abbrev pub logged : StationView → ℕ → StationView
 logged st fence = record { store = st.store; fresh = []; seen = max st.seen fence }
 
--- what a keeper does with its files next
+-- what a keeper does with its files next; which calls of a disk an act is, keeper_files tells (`acts_of`). Behind one that failed it ends.
 pub data Keeps (guest : GuestParts) (files : Files) : Phase → Act → Phase → Out → Type 0 where
   -- it begins with its log, and cuts that behind its frames
   Reads : Keeps guest files Away (SawLog files.log) (HasRead files.log) Nothing
   Begins : (log : List ℕ) (frames : List Frame) (size : ℕ) (st : StationView) → IsFrontOf log frames size None → IsOnLog (take size log) st →
       st.store.guest ≡ guest → st.fresh ≡ [] → Keeps guest files (HasRead log) (CutTo size) (Rests st) Nothing
-  -- it logs what is fresh; where it ends meanwhile, a beginning of that
-  Adds : (st : StationView) → Keeps guest files (Rests st) (Added st.fresh) (Logged st) Nothing
-  Tears : (st : StationView) (front rest : List ℕ) → st.fresh ≡ front ++ rest → Keeps guest files (Rests st) (Added front) Away Nothing
-  Syncs : (st : StationView) → Keeps guest files (Logged st) WasSynced (Synced st) Nothing
+  -- it adds what is fresh; others may see a beginning of that, up to any byte, and no more is there where it ends
+  Adds : (st : StationView) (front rest : List ℕ) → st.fresh ≡ front ++ rest → Keeps guest files (Rests st) (Added front) (Adding st rest) Nothing
+  AddsMore : (st : StationView) (front rest : List ℕ) → Keeps guest files (Adding st (front ++ rest)) (Added front) (Adding st rest) Nothing
+  Syncs : (st : StationView) → Keeps guest files (Adding st []) WasSynced (Synced st) Nothing
   -- a fence may be seen before it is on disk
   Looks : (st : StationView) (fence : ℕ) → files.fence ≤ fence → Keeps guest files (Synced st) (SawFence fence) (Rests (logged st fence)) Nothing
   Acknowledges : (st : StationView) (fence : ℕ) (p : Position) → files.fence ≤ fence → Answers st.store (max st.seen fence) (Some p) →
@@ -78,6 +78,6 @@ module _ (guest : GuestParts) (sent : List Frame) where
     -- either process ends, wherever it stands
     KeeperEnds : Goes d (record d { keeper = Away }) Nothing
     HandEnds : Goes d (record d { hand = Nobody }) Nothing
-    -- the machine crashes, or the log can't be brought to disk: what was on disk is there still, and behind it what was sent, or no frame
+    -- the machine crashes, or the log can't be brought to disk: what was on disk is there still, and behind it what was sent, or no frame; the keeper ends
     Crashes : (left : List ℕ) → IsBeginning d.files.safe left → WereSent sent left →
         Goes d (record d { files = after d.files (Crash left); keeper = Away }) Nothing

@@ -1,16 +1,15 @@
 -- Which part of the world of fencing a keeper's disk is.
-use Rattle.std.specs.Prelude.{◌≡◌, ◌≤◌, ◌<◌, max, ℕ, List, [], Contains, Option, Some}
+use Rattle.std.specs.Prelude.{◌≡◌, ◌≤◌, ◌<◌, max, ℕ, List, [], ◌++◌, Contains, Option, Some}
 use Rattle.ft_types.specs.Counts.{count_at}
 use Rattle.ft_types.specs.Guests.{GuestParts}
 use Rattle.fragment_codec.specs.declared.frame.Frame.{Frame}
 use Rattle.fragment_codec.specs.Streams.{IsStuck, Splits}
-use Rattle.log_join.specs.Coming.{Come, IsJoinOf}
+use Rattle.log_join.specs.Coming.{IsJoinOf}
 use Rattle.log_join.specs.Stores.{StoreView}
-use Rattle.stations.specs.Handshake.{Files, IsBeginning}
-use Rattle.stations.specs.Stations.{StationView}
+use Rattle.stations.specs.Handshake.{IsBeginning}
 use Rattle.fenced_theory.specs.Recorders.{Recorder}
 use Rattle.fenced_theory.specs.Worlds.{Quorum, World, Happens, first_world}
-use Rattle.keeper_disks.specs.Disks.{Phase, Away, HasRead, Rests, Logged, Synced, Hand, Nobody, Saw, HasFenced, Disk, Out, Nothing, Says, Hands, WereSent, Goes}
+use Rattle.keeper_disks.specs.Disks.{Phase, Away, HasRead, Rests, Adding, Synced, Hand, Nobody, Saw, HasFenced, Disk, Out, Nothing, Says, Hands, WereSent, Goes}
 
 -- the bytes are frames, each of which was sent, and then this rest; the store is the join of the frames
 pub record HasFrames (guest : GuestParts) (sent : List Frame) (bytes rest : List ℕ) (store : StoreView) : Type 0 where
@@ -23,24 +22,13 @@ pub record HasFrames (guest : GuestParts) (sent : List Frame) (bytes rest : List
 abbrev pub HasFront : GuestParts → List Frame → List ℕ → StoreView → Type 0
 HasFront guest sent bytes store = (rest : List ℕ) × IsStuck rest × HasFrames guest sent bytes rest store
 
--- what is fresh are frames that were sent, and with these the one store is the other
-pub record HasFresh (sent : List Frame) (store : StoreView) (st : StationView) : Type 0 where
-  pub frames : List Frame
-  pub splits : Splits st.fresh frames []
-  pub each : (f : Frame) → Contains frames f → Contains sent f
-  pub come : Come store frames st.store
-
--- the log is whole frames
-abbrev pub IsWhole : List ℕ → Type 0
-IsWhole log = (frames : List Frame) × Splits log frames []
-
--- what a keeper knows of the files and of this store of its log
-abbrev pub Knows : List Frame → Files → StoreView → Phase → Type 0
-Knows sent files store Away = Unit {0}
-Knows sent files store (HasRead log) = log ≡ files.log
-Knows sent files store (Rests st) = IsWhole files.log × HasFresh sent store st
-Knows sent files store (Logged st) = IsWhole files.log × (st.store ≡ store)
-Knows sent files store (Synced st) = (files.safe ≡ files.log) × (st.store ≡ store)
+-- What a keeper knows of its log, and of what of it is safe: with what is to be added yet, the log is frames that were sent, and its store is their join.
+abbrev pub Knows : GuestParts → List Frame → List ℕ → List ℕ → Phase → Type 0
+Knows guest sent log safe Away = Unit {0}
+Knows guest sent log safe (HasRead bytes) = bytes ≡ log
+Knows guest sent log safe (Rests st) = HasFrames guest sent (log ++ st.fresh) [] st.store
+Knows guest sent log safe (Adding st rest) = HasFrames guest sent (log ++ rest) [] st.store
+Knows guest sent log safe (Synced st) = HasFrames guest sent log [] st.store × (safe ≡ log)
 
 -- what whoever hands the log over knows of this fence, which is the last one
 abbrev pub KnowsFence : ℕ → Hand → Type 0
@@ -58,7 +46,7 @@ pub record IsSite (guest : GuestParts) (sent : List Frame) (has wrote : Option S
   pub safe : HasFrames guest sent d.files.safe [] written
   pub begins : IsBeginning d.files.safe d.files.log
   pub fence_is : fence ≡ max 1 d.files.fence
-  pub keeper : Knows sent d.files store d.keeper
+  pub keeper : Knows guest sent d.files.log d.files.safe d.keeper
   pub hand : KnowsFence d.files.fence d.hand
 
 abbrev pub StandsOn : {Book : Type 0} → GuestParts → World Book → ℕ → Disk → Type 0

@@ -6,7 +6,7 @@ ghost use Rattle.fenced_theory.specs.Recorders.{Recorder};
 ghost use Rattle.fenced_theory.specs.Worlds.{Quorum};
 ghost use Rattle.keeper_disks.specs.Standing.{DisksBegin, DisksCrash, DisksGo, DisksStay};
 
-/// Whatever a keeper, whoever hands its log over and crashes of these or of their machine do with its disk, are some events of the world of fencing.
+/// Whatever is done with a keeper's disk, by a keeper, by whoever hands its log over and by crashes, is events of the world of fencing.
 pub fn disks_are_keepers<Book, Fact>()
     // A disk on which there is nothing stands for a keeper of the first world.
     ensures begins { (guest : GuestParts) → DisksBegin Book guest }
