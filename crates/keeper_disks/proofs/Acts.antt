@@ -19,12 +19,13 @@ use Rattle.stations.specs.Acts.{Act, Added, CutTo, Fenced as WasFenced, Synced a
 use Rattle.stations.specs.Handshake.{Did, Crash, after, IsBeginning}
 use Rattle.stations.specs.Logs.{IsFrontOf}
 use Rattle.stations.specs.Stations.{StationView, IsOnLog}
+use Rattle.stations.proofs.Handshakes.{begins_more}
 use Rattle.fenced_theory.specs.Recorders.{Recorder}
 use Rattle.fenced_theory.specs.Worlds.{Quorum, World, held, saving, acking, fenced, Save, Restart, Fence, Acknowledge}
 use Rattle.fenced_theory.proofs.Acking.{raised_keeps, raised_reaches}
 use Rattle.keeper_disks.specs.Disks.{Phase, Away, HasRead, Rests, Adding, Synced, Hand, Nobody, Saw, HasFenced, Disk, Out, Nothing, Says, Hands, logged, Keeps, Reads, Begins, Adds, AddsMore, Syncs, Looks, Acknowledges, Gives, Sees, Fences, HandsOver, WereSent, KeeperDoes, HandDoes, Takes, KeeperEnds, HandEnds, Crashes}
 use Rattle.keeper_disks.specs.Standing.{HasFrames, HasFront, Knows, KnowsFence, IsSite, StandsOn, OnlyKeeper, IsTold, LeadsTo, Same, Then, IsFollowed, DisksGo}
-use Rattle.keeper_disks.proofs.Frames.{stuck_nothing, reading_of, whole_one, begins_frames, begins_more, begins_itself, cut_leaves}
+use Rattle.keeper_disks.proofs.Frames.{stuck_nothing, reading_of, whole_one, begins_frames, begins_itself, cut_leaves}
 use Rattle.keeper_disks.proofs.Comings.{come_more, come_there, OnlyStore, Delivered, held_only, delivers}
 use Rattle.keeper_disks.proofs.Has.{front_of_whole, front_is, one_store, has_more, begin_sent}
 

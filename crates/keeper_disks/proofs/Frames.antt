@@ -1,6 +1,6 @@
 -- Frames of bytes, and of beginnings of bytes.
-use Rattle.std.proofs.Common.{◌≡◌, ◌≤◌, ℕ, List, [], ◌∷◌, ◌++◌, length, take, drop, None, refl, sym, ap, subst, ◌∙◌, append-nil, append_assoc, arith, inl}
-use Rattle.std.proofs.lemmas.List.{take_at, take_all, take-take, take-append-drop, length-append}
+use Rattle.std.proofs.Common.{◌≡◌, ◌≤◌, ℕ, List, [], ◌∷◌, ◌++◌, length, take, drop, None, refl, sym, ap, subst, ◌∙◌, append-nil, inl}
+use Rattle.std.proofs.lemmas.List.{take_all, take-append-drop}
 use Rattle.fragment_codec.specs.declared.frame.Frame.{Frame}
 use Rattle.fragment_codec.specs.Streams.{IsStuck, Splits}
 use Rattle.fragment_codec.proofs.bytes.Heads.{partial_nothing}
@@ -9,6 +9,7 @@ use Rattle.fragment_codec.proofs.streams.Splits.{splits_more, splits_first, spli
 use Rattle.stations.specs.Logs.{IsFrontOf}
 use Rattle.stations.specs.Handshake.{IsBeginning}
 use Rattle.stations.proofs.Fronts.{most}
+use Rattle.stations.proofs.Handshakes.{begins_len, begins_take, begins_cut}
 
 pub stuck_nothing : IsStuck []
 stuck_nothing = inl partial_nothing
@@ -40,32 +41,15 @@ begins_frames stream last rest (f ∷ fs) (g ∷ gs) s k t =
     let more = begins_frames a.behind last rest fs gs a.others k (subst (λ (x : List ℕ). Splits x gs rest) (sym same.1) b.others) in
     (more.0, ap (λ (x : Frame). x ∷ fs) same.0 ∙ ap (λ (xs : List Frame). g ∷ xs) more.1)
 
--- ---- beginnings
-
-pub begins_more : (xs ys more : List ℕ) → IsBeginning xs ys → IsBeginning xs (ys ++ more)
-begins_more xs ys more b = (b.0 ++ more, ap (λ (l : List ℕ). l ++ more) b.1 ∙ append_assoc xs b.0 more)
+-- ---- beginnings of bytes
 
 pub begins_itself : (xs : List ℕ) → IsBeginning xs xs
 begins_itself xs = ([], sym (append-nil xs))
-
-begins_len : (xs ys : List ℕ) → IsBeginning xs ys → length xs ≤ length ys
-begins_len xs ys b = omega (arith, ap length b.1, length-append xs b.0)
-
-begins_take : (xs ys : List ℕ) → IsBeginning xs ys → take (length xs) ys ≡ xs
-begins_take xs ys b = ap (take (length xs)) b.1 ∙ take_at xs b.0 (length xs) refl
 
 -- a cut behind all frames of a log leaves the whole frames at its front
 pub cut_leaves : (safe log : List ℕ) (fs gs : List Frame) (size : ℕ) → IsBeginning safe log → Splits safe fs [] → IsFrontOf log gs size None →
     (take size safe ≡ safe) × IsBeginning safe (take size log)
 cut_leaves safe log fs gs size b s f =
     let le : length safe ≤ size =
-    most log gs fs size (length safe) None f (begins_len safe log b) (subst (λ (x : List ℕ). Splits x fs []) (sym (begins_take safe log b)) s) in (
-      take_all size safe le,
-      (
-        drop (length safe) (take size log),
-        sym (take-append-drop (length safe) (take size log)) ∙ ap (λ (x : List ℕ). x ++ drop (length safe) (take size log)) (short le),
-      ),
-    )
-  where
-    short : length safe ≤ size → take (length safe) (take size log) ≡ safe
-    short le = take-take (length safe) size log le ∙ begins_take safe log b
+    most log gs fs size (length safe) None f (begins_len safe log b) (subst (λ (x : List ℕ). Splits x fs []) (sym (begins_take safe log b)) s) in
+    (take_all size safe le, begins_cut safe log size le b)
