@@ -63,7 +63,7 @@ pub record Has (log : List ℕ) (files : Files) : Type 0 where
   pub there : IsBeginning log files.log
   pub safe : IsBeginning log files.safe
 
-begins_more : (xs ys more : List ℕ) → IsBeginning xs ys → IsBeginning xs (ys ++ more)
+pub begins_more : (xs ys more : List ℕ) → IsBeginning xs ys → IsBeginning xs (ys ++ more)
 begins_more xs ys more b = (b.0 ++ more, ap (λ (l : List ℕ). l ++ more) b.1 ∙ append_assoc xs b.0 more)
 
 begins_then : (xs ys zs : List ℕ) → IsBeginning xs ys → IsBeginning ys zs → IsBeginning xs zs
@@ -77,13 +77,13 @@ take_past xs ys size le =
     ∙ ap (λ (l : List ℕ). xs ++ take (size - length xs) l) (drop_at xs ys (length xs) refl)
 
 -- a beginning that is not longer is kept by a cut
-begins_cut : (xs ys : List ℕ) (size : ℕ) → length xs ≤ size → IsBeginning xs ys → IsBeginning xs (take size ys)
+pub begins_cut : (xs ys : List ℕ) (size : ℕ) → length xs ≤ size → IsBeginning xs ys → IsBeginning xs (take size ys)
 begins_cut xs ys size le b = (take (size - length xs) b.0, ap (take size) b.1 ∙ take_past xs b.0 size le)
 
-begins_len : (xs ys : List ℕ) → IsBeginning xs ys → length xs ≤ length ys
+pub begins_len : (xs ys : List ℕ) → IsBeginning xs ys → length xs ≤ length ys
 begins_len xs ys b = omega (arith, ap length b.1, length-append xs b.0)
 
-begins_take : (xs ys : List ℕ) → IsBeginning xs ys → take (length xs) ys ≡ xs
+pub begins_take : (xs ys : List ℕ) → IsBeginning xs ys → take (length xs) ys ≡ xs
 begins_take xs ys b = ap (take (length xs)) b.1 ∙ take_at xs b.0 (length xs) refl
 
 stays : (log : List ℕ) (frames : List Frame) (files : Files) (next : Happening) → Splits log frames [] → IsTrue files next → Has log files →
