@@ -25,7 +25,7 @@ module _ {Book Fact : Type 0} (recorder : Recorder Book Fact) (guest : GuestPart
   still : (w v : World Book) → ((k : ℕ) → 1 ≤ w.fence k) → Happens recorder guest quorum w v → (k : ℕ) → 1 ≤ v.fence k
   still w v was Idle k = was k
   still w v was (Step term p b is goes) k = was k
-  still w v was (Seal term p hart x is rules from cut) k = was k
+  still w v was (Seal term p hart x is rules from cut tells) k = was k
   still w v was (Deliver keeper s r f is has join) k = was k
   still w v was (Join keeper other s t r is at join) k = was k
   still w v was (Save keeper s is) k = was k
@@ -38,8 +38,9 @@ module _ {Book Fact : Type 0} (recorder : Recorder Book Fact) (guest : GuestPart
         | inr other ↦ let now = put_other w.fence keeper k u other in let own = was k in omega (arith, now, own)
       ]
   still w v was (Acknowledge keeper s p is position under) k = was k
-  still w v was (Release term p hart number o noted is at low enough) k = was k
-  still w v was (Grant u chosen all p b free there enough new position rules begun) k = was k
+  still w v was (Release term p hart number o noted is at low enough above) k = was k
+  still w v was (Note term p hart number notes is one known) k = was k
+  still w v was (Grant u chosen all p b marks free has enough new position rules begun are_marks) k = was k
 
   some_fence : {w : World Book} → Comes recorder guest quorum w → (k : ℕ) → 1 ≤ w.fence k
   some_fence (Begins b is) k = omega arith

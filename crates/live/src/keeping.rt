@@ -32,9 +32,9 @@ pub trait KeeperHost: Paths + AllocGlobal + Eprint + Wait + Copy {}
 impl<R: Paths + AllocGlobal + Eprint + Wait + Copy> KeeperHost for R {}
 
 /// Leaves an acknowledgement on all outputs.
-fn acknowledge<R: Wait>(rt: &R, outputs: &[Post], said: Acknowledgement) {
+fn acknowledge<R: Wait>(rt: &R, outputs: &[Post], said: &Acknowledgement) {
     for output in outputs {
-        output.leave(rt, said);
+        output.leave(rt, *said);
     }
 }
 
@@ -120,7 +120,7 @@ impl Keeping {
             Err(fault) => return Err(files_fault(fault)),
         };
         if let Some(said) = said {
-            acknowledge(rt, outputs, said);
+            acknowledge(rt, outputs, &said);
         }
         Ok(Keeping {
             station,
