@@ -10,7 +10,7 @@ use Rattle.log_join.specs.Cells.{One}
 use Rattle.log_join.specs.Stores.{StoreView, opening_at}
 use Rattle.closed_cut.specs.Position.{IsPosition, NoTop, Top, Stops, Last, Short, On}
 use Rattle.fenced_theory.specs.Recorders.{Recorder}
-use Rattle.fenced_theory.specs.Worlds.{Quorum, World, Happens, Idle, Step, Seal, Deliver, Join, Save, Restart, Lose, Fence, Acknowledge, Release, Grant, Comes, Begins, Then}
+use Rattle.fenced_theory.specs.Worlds.{Quorum, World, Happens, Idle, Step, Seal, Deliver, Join, Save, Restart, Lose, Fence, Acknowledge, Release, Note, Grant, Comes, Begins, Then}
 use Rattle.fenced_theory.proofs.Growing.{an_opening}
 use Rattle.fenced_keeper.specs.Keepers.{Acknowledges}
 use Rattle.fenced_world.specs.Keepers.{KeptView, kept_at}
