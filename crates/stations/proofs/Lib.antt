@@ -2,5 +2,4 @@ pub mod Does
 pub mod Fronts
 pub mod Held
 pub mod Spellings
-pub mod Admitted
 pub mod Handshakes
