@@ -61,6 +61,7 @@ pub struct Words<'t> {
 }
 
 impl<'t> Words<'t> {
+    /// The words of a line without its line feed, none of them taken yet.
     pub fn new(text: &'t str) -> Words<'t> {
         Words { rest: text }
     }
@@ -70,10 +71,12 @@ impl<'t> Words<'t> {
         self.rest.len()
     }
 
+    /// Whether all are taken.
     pub fn is_done(&self) -> bool {
         self.rest.is_empty()
     }
 
+    /// The next one: `None` where all are taken.
     pub fn word(&mut self) -> Option<&'t str> {
         if self.rest.is_empty() {
             return None;
@@ -86,14 +89,17 @@ impl<'t> Words<'t> {
         Some(word)
     }
 
+    /// The number that the next one spells in decimal: `None` where it spells none below 2^64.
     pub fn number(&mut self) -> Option<u64> {
         self.word()?.parse::<u64>().ok()
     }
 
+    /// As `number`, a count of bytes or items.
     pub fn size(&mut self) -> Option<usize> {
         Some(self.number()? as usize)
     }
 
+    /// As `number`: `None` also from 2^32 on.
     pub fn small(&mut self) -> Option<u32> {
         match u32::try_from(self.number()?) {
             Ok(number) => Some(number),
@@ -101,6 +107,7 @@ impl<'t> Words<'t> {
         }
     }
 
+    /// The hart of the number that the next one spells: `None` where no guest has one of that number.
     pub fn hart(&mut self) -> Option<Hart> {
         match self.number()? {
             number if number < u64::from(HART_LIMIT) => Some(Hart::new(number as u8)),

@@ -268,6 +268,13 @@ impl Feed {
         })
     }
 
+    /// The fault that the stream has met, which each further piece is answered.
+    pub fn fault(&self) -> Option<FrameFault>
+        ensures { result ≡ self.now.fault }
+    {
+        self.fault
+    }
+
     /// Takes the next piece of the stream, and gives the frames that it completes.
     pub fn push(&mut self, alloc: Global, piece: &[u8]) -> Result<Vec<Frame>, FrameFault>
         // The frames given so far are all whole right frames at the front of the stream so far, however it was cut.

@@ -166,6 +166,18 @@ impl MemorySink {
         self.bytes.as_slice()
     }
 
+    /// What was written.
+    pub fn into_bytes(self) -> Vec<u8>
+        ensures { result.items ≡ self.bytes }
+    {
+        let MemorySink {
+            bytes,
+            room: _,
+            failures: _,
+        } = self;
+        bytes
+    }
+
     fn fail(&mut self) -> Failed
         ensures bytes { self.new ≡ record self.old { failures = self.new.failures } }
         ensures failures { IsOneMore self.old.failures self.new.failures }

@@ -1,5 +1,8 @@
 //! What can be wrong with an image file.
 
+ghost use Rattle.std.specs.Prelude.{◌≡◌};
+ghost use Rattle.guest_image.specs.Faults.{fault_number};
+
 /// Why an image file isn't read.
 #[derive(Clone, Copy, PartialEq, Eq)]
 pub enum ImageFault {
@@ -11,4 +14,18 @@ pub enum ImageFault {
     NoHarts,
     /// A growth was refused.
     Memory,
+}
+
+impl ImageFault {
+    /// The fault's number, 1 to 4.
+    pub fn number(self) -> u8
+        ensures { result ≡ fault_number self }
+    {
+        match self {
+            ImageFault::BadLine(_) => 1,
+            ImageFault::TooLarge => 2,
+            ImageFault::NoHarts => 3,
+            ImageFault::Memory => 4,
+        }
+    }
 }

@@ -59,14 +59,15 @@ pub fn has_come_to(machine: &Machine, counts: &Counts, ends: &Counts) -> Result<
 }
 
 /// The machine, where each of its harts has come to its end; else why not.
-pub fn come_to(machine: &Machine, counts: Counts, ends: Counts) -> Result<Machine, ReplayFault>
-    requires harts { length counts ≡ length machine.now.harts }
-    requires counts { (hart : ℕ) → count_at counts hart ≡ counts_of machine.now hart }
-    ensures ok { IfOk result (λ m. ComesTo machine.now ends m) }
-    ensures fault { IfErr result (λ fault. ComesShort machine.now ends fault) }
+pub fn come_to(machine: Machine, counts: Counts, ends: Counts) -> Result<Machine, ReplayFault>
+    requires harts { length counts ≡ length machine.harts }
+    requires counts { (hart : ℕ) → count_at counts hart ≡ counts_of machine hart }
+    ensures ok { IfOk result (λ m. ComesTo machine ends m) }
+    ensures fault { IfErr result (λ fault. ComesShort machine ends fault) }
+    ensures memory { IfErr result (λ fault. fault ≢ ReplayFault.Memory) }
 {
-    has_come_to(machine, &counts, &ends)?;
-    Ok(machine.copy()?)
+    has_come_to(&machine, &counts, &ends)?;
+    Ok(machine)
 }
 
 /// The machine to which the leg leads from this one.
@@ -81,5 +82,6 @@ pub(crate) fn replay_leg(
     ensures fault { IfErr result (λ fault. IsLegFault leg.now start fault) }
 {
     let book = lead(alloc, start, leg)?;
-    come_to(book.machine(), book.counts(), leg.ends)
+    let counts = book.counts();
+    come_to(book.into_machine(), counts, leg.ends)
 }

@@ -10,11 +10,10 @@ ghost use Rattle.hart_replay.specs.Replays.{LegLeads};
 ghost use Rattle.hart_replay.specs.Leading.{IsHeld, IsLeading, IsLegFault, leg_of};
 
 use crate::crew::run_crew;
-use crate::ends::come_to;
 use crate::turnstile::Turnstile;
 use ft_types::{HART_ROW, HartSet, LEASE_STEPS, Memory};
 use guest_image::Machine;
-use hart_replay::{PlannedLeg, ReplayFault};
+use hart_replay::{PlannedLeg, ReplayFault, come_to};
 use lease_rounds::go_round;
 use page_book::{Book, Keep, Leg, Replaying};
 use std::alloc::Global;

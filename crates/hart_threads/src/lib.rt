@@ -6,7 +6,6 @@ mod alone;
 mod calls;
 mod crew;
 mod desk;
-mod ends;
 mod fault;
 mod follower;
 mod legs;

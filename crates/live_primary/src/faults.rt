@@ -10,9 +10,8 @@ use log_join::StoreFault;
 pub(crate) fn image_fault(fault: ImageFault) -> Fault {
     match fault {
         ImageFault::BadLine(line) => Fault::ImageLine(line),
-        ImageFault::TooLarge => Fault::Image(2),
-        ImageFault::NoHarts => Fault::Image(3),
         ImageFault::Memory => Fault::Memory,
+        fault => Fault::Image(fault.number()),
     }
 }
 

@@ -123,7 +123,7 @@ pub(crate) fn frame_bytes(alloc: Global, frames: &[Frame]) -> Result<Vec<u8>, Me
 {
     let mut sink = MemorySink::new(alloc, usize::MAX);
     match write_frames(frames, &mut sink) {
-        Ok(()) => Ok(sink.bytes().to_vec(alloc)?),
+        Ok(()) => Ok(sink.into_bytes()),
         Err(_) => Err(Memory),
     }
 }
@@ -137,7 +137,7 @@ fn sent_first(alloc: Global, store: &Store, opening: Frame) -> Result<Vec<u8>, M
         return Err(Memory);
     }
     match write_frames(&[opening], &mut sink) {
-        Ok(()) => Ok(sink.bytes().to_vec(alloc)?),
+        Ok(()) => Ok(sink.into_bytes()),
         Err(_) => Err(Memory),
     }
 }

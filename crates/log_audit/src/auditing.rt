@@ -50,7 +50,8 @@ fn audit_leg(alloc: Global, start: Machine, leg: &PlannedLeg) -> Result<Machine,
         Ok(Ended::Clashed(clash)) => return Err(uncovered(clash)),
         Err(Memory) => return Err(AuditFault::Replay(ReplayFault::Memory)),
     };
-    match come_to(&machine, settled_counts(&machine), leg.ends) {
+    let counts = settled_counts(&machine);
+    match come_to(machine, counts, leg.ends) {
         Ok(end) => Ok(end),
         Err(fault) => Err(AuditFault::Replay(fault)),
     }

@@ -12,7 +12,7 @@ use crate::place::Place;
 use crate::shelf::{count_clashes, put_at, put_first};
 use crate::shelves::Shelves;
 use fragment_codec::{Fragment, Frame, Key, Opening};
-use frame_content::Content;
+use frame_content::{Content, is_same_fragment, is_same_opening};
 use ft_types::{Guest, Memory, Term, is_same_guest};
 use std::alloc::Global;
 use std::marker::Model;
@@ -178,6 +178,42 @@ impl Store {
         ensures rules { IsStore self.now }
     {
         found(self.shelves.fragments.get(&Place::from(key)))
+    }
+
+    fn answer_to_opening(&self, opening: &Opening) -> Put
+        ensures { result ≡ answer_to self.now (frame_of_specs.Opening opening.now) }
+    {
+        if !is_same_guest(&opening.guest(), &self.guest()) {
+            return Put::OtherGuest;
+        }
+        match self.opening(opening.term()) {
+            Found::Absent => Put::New,
+            Found::One(Frame::Opening(there)) if is_same_opening(there, opening) => Put::Same,
+            _ => Put::Clash,
+        }
+    }
+
+    fn answer_to_fragment(&self, fragment: &Fragment) -> Put
+        ensures { result ≡ answer_to self.now (frame_of_specs.Log fragment.now) }
+    {
+        if !is_same_guest(&fragment.guest(), &self.guest()) {
+            return Put::OtherGuest;
+        }
+        match self.get(fragment.key()) {
+            Found::Absent => Put::New,
+            Found::One(Frame::Log(there)) if is_same_fragment(there, fragment) => Put::Same,
+            _ => Put::Clash,
+        }
+    }
+
+    /// What `put` answers to the frame, where memory is there.
+    pub fn answer(&self, frame: &Frame) -> Put
+        ensures { result ≡ answer_to self.now frame.now }
+    {
+        match frame {
+            Frame::Log(fragment) => self.answer_to_fragment(fragment),
+            Frame::Opening(opening) => self.answer_to_opening(opening),
+        }
     }
 
     /// The terms of the openings with one content, rising.

@@ -10,7 +10,6 @@ use Rattle.fragment_codec.specs.declared.fault.FrameFault.{FrameFault}
 use Rattle.fragment_codec.specs.declared.fault.FrameFault.TheVariants.{Magic, Version, Kind, Length, Digest, Body, Memory as NoMemory}
 use Rattle.fragment_codec.specs.Streams.{Splits, Unread, Keeps, Follows}
 use Rattle.fragment_codec.proofs.streams.Splits.{splits_none, splits_begin}
-use Rattle.fragment_codec.proofs.streams.Readings.{one_feed}
 use Rattle.log_join.specs.Stores.{StoreView, IsJoin, alone}
 use Rattle.log_join.specs.declared.answers.StoreFault.{StoreFault}
 use Rattle.log_join.specs.declared.answers.StoreFault.TheVariants.{OtherGuest, Memory as NoRoom}
@@ -138,9 +137,6 @@ pub always : {A E P : Type 0} (r : Result A E) → P → OnOk r P
 always (Ok x) p = p
 always (Err e) p = tt
 
-pub not_both : {A E : Type 0} (x : A) (e : E) → Ok x ≡ Err e → ⊥
-not_both x e h = cc
-
 pub push_ok : (items : List LogFrame) (piece : List ℕ) (old new : Unread) (p q : StoreView) →
     ((first : StoreView) (given : List LogFrame) → Takes first given p → Takes first (given ++ items) q) →
     ((read : List ℕ) (given : List LogFrame) → Follows read given old → Follows (read ++ piece) (given ++ items) new) →
@@ -193,20 +189,6 @@ consumes_more (Some xs) None next read piece a b = absurd a
 consumes_more (Some xs) (Some ys) None read piece a b = absurd b
 consumes_more (Some xs) (Some ys) (Some zs) read piece a b = a ∙ ap (λ (y : List ℕ). read ++ y) b ∙ sym (append_assoc read piece zs)
 
--- a feed that had met no fault meets none by the empty piece
-pub ended : (first : StoreView) (read : List ℕ) (given all : List LogFrame) (old new : Unread) (p : StoreView) →
-    Follows read given old → old.fault ≡ None → Follows (read ++ []) all new → Takes first all p → Says first.guest (read ++ []) all
-ended first read given all old new p before none after takes =
-    let back : Follows read all new = subst (λ (x : List ℕ). Follows x all new) (append-nil read) after in
-    let same = one_feed read given all old new before back in
-    let kept : Keeps after.rest new.rest None = subst (λ (o : Option FrameFault). Keeps after.rest new.rest o) (sym same.1 ∙ none) after.keeps in
-    record {
-      rest = after.rest;
-      splits = after.splits;
-      partial = kept.1;
-      own = takes.own;
-    }
-
 -- what one push on a reader's bytes makes of what was read
 
 -- a push to this fault
@@ -227,32 +209,19 @@ GoesAsFar feed later p q got =
     (first : StoreView) (read : List ℕ) (given : List LogFrame) → Follows read given feed → Takes first given p →
     (frames : List LogFrame) × Follows (read ++ got) (given ++ frames) later × Takes first (given ++ frames) q
 
--- a fact of a text with nothing behind it, and of frames in three parts
-regrouped : (P : List ℕ → List LogFrame → Type 0) (text : List ℕ) (given more last : List LogFrame) → P (text ++ []) ((given ++ more) ++ last) →
-    P text (given ++ (more ++ last))
-regrouped P text given more last p =
-    subst (λ (x : List ℕ). P x (given ++ (more ++ last))) (append-nil text)
-    (subst (λ (fs : List LogFrame). P (text ++ []) fs) (append_assoc given more last) p)
+-- where the feed has met no fault, none stands there
+pub goes_right : (feed later : Unread) (p q : StoreView) (got : List ℕ) → GoesAsFar feed later p q got → later.fault ≡ None → Goes feed later p q got
+goes_right feed later p q got far none first read given follows takes =
+    let t = far first read given follows takes in
+    let kept : Keeps t.1.rest later.rest None = subst (λ (o : Option FrameFault). Keeps t.1.rest later.rest o) none t.1.keeps in
+    (t.0, t.1, t.2, record { rest = t.1.rest; splits = t.1.splits; partial = kept.1; own = t.2.own })
 
--- the empty piece that is pushed behind it brings out no fault
-pub goes_right : (feed middle later : Unread) (o p q : StoreView) (got : List ℕ) → GoesAsFar feed middle o p got → middle.fault ≡ None →
-    GoesAsFar middle later p q [] → Goes feed later o q got
-goes_right feed middle later o p q got one none two first read given follows takes =
-    let t = one first read given follows takes in
-    let u = two first (read ++ got) (given ++ t.0) t.1 t.2 in
-    let says = ended first (read ++ got) (given ++ t.0) ((given ++ t.0) ++ u.0) middle later q t.1 none u.1 u.2 in (
-      t.0 ++ u.0,
-      regrouped (λ x fs. Follows x fs later) (read ++ got) given t.0 u.0 u.1,
-      subst (λ (fs : List LogFrame). Takes first fs q) (append_assoc given t.0 u.0) u.2,
-      regrouped (λ x fs. Says first.guest x fs) (read ++ got) given t.0 u.0 says,
-    )
-
--- what it brings out stood behind the piece
-pub empty_fault : (number : ℕ) (feed middle : Unread) (o p : StoreView) (got : List ℕ) (f : StreamsFault) → GoesAsFar feed middle o p got →
-    Pushes number middle p [] f → Pushes number feed o got f
-empty_fault number feed middle o p got f one two first read given follows takes =
-    let t = one first read given follows takes in
-    subst (λ (x : List ℕ). IsPushFault number first.guest x f) (append-nil (read ++ got)) (two first (read ++ got) (given ++ t.0) t.1 t.2)
+-- else the fault is the stream's
+pub fault_behind : (number : ℕ) (feed later : Unread) (p q : StoreView) (got : List ℕ) (f : FrameFault) → GoesAsFar feed later p q got →
+    later.fault ≡ Some f → Pushes number feed p got (fault_in number f)
+fault_behind number feed later p q got f far is first read given follows takes =
+    let t = far first read given follows takes in
+    feed_faults number first.guest (read ++ got) (given ++ t.0) later f (λ _. t.1) (λ _. is) t.2.own
 
 pub push_refused : (number : ℕ) (first : StoreView) (old now next : Option (List ℕ)) (feed : Unread) (p : StoreView) (got whole : List ℕ) (f : StreamsFault) →
     got ≡ whole →

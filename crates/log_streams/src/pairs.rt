@@ -36,22 +36,11 @@ impl PairOrders {
         self.budget
     }
 
-    /// The number of keepers.
-    pub fn keepers(&self) -> u8
-        ensures value { result ≡ self.now.quorum.keepers }
-        ensures some { 0 < result }
-        ensures limit { result ≤ KEEPER_LIMIT }
+    /// How many keepers it has, and how many of them must hold an output before it goes out.
+    pub fn quorum(&self) -> Quorum
+        ensures { result ≡ self.now.quorum }
     {
-        self.quorum.keepers()
-    }
-
-    /// How many keepers must hold an output before it goes out.
-    pub fn need(&self) -> u8
-        ensures value { result ≡ self.now.quorum.need }
-        ensures some { 0 < result }
-        ensures limit { result ≤ self.now.quorum.keepers }
-    {
-        self.quorum.need()
+        self.quorum
     }
 }
 

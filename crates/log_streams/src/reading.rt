@@ -60,8 +60,8 @@ fn stream_fault(stream: usize, fault: FrameFault) -> StreamsFault
     }
 }
 
-/// Takes the next piece of a stream.
-fn push(
+/// Takes the frames that the next piece of a stream completes.
+fn take_frames(
     alloc: Global,
     stream: usize,
     feed: &mut Feed,
@@ -70,7 +70,6 @@ fn push(
 ) -> Result<(), StreamsFault>
     ensures ok { OnOk result ((first : StoreView) (read : List ℕ) (given : List LogFrame) → Follows read given feed.old → Takes first given store.old →
         (frames : List LogFrame) × Follows (read ++ piece.now) (given ++ frames) feed.new × Takes first (given ++ frames) store.new) }
-    ensures sound { OnOk result (feed.old.fault ≡ None) }
     ensures fault { IfErr result (λ f. (first : StoreView) (read : List ℕ) (given : List LogFrame) → Follows read given feed.old → Takes first given store.old →
         IsPushFault stream first.guest (read ++ piece.now) f) }
 {
@@ -80,6 +79,30 @@ fn push(
             Err(fault) => Err(refused(stream, fault)),
         },
         Err(fault) => Err(stream_fault(stream, fault)),
+    }
+}
+
+/// Takes the next piece of a stream, and tells a fault that stands behind the last frame.
+fn push(
+    alloc: Global,
+    stream: usize,
+    feed: &mut Feed,
+    piece: &[u8],
+    store: &mut Store,
+) -> Result<(), StreamsFault>
+    ensures ok { OnOk result ((first : StoreView) (read : List ℕ) (given : List LogFrame) → Follows read given feed.old → Takes first given store.old →
+        (frames : List LogFrame) × Follows (read ++ piece.now) (given ++ frames) feed.new × Takes first (given ++ frames) store.new) }
+    ensures sound { OnOk result (feed.new.fault ≡ None) }
+    ensures fault { IfErr result (λ f. (first : StoreView) (read : List ℕ) (given : List LogFrame) → Follows read given feed.old → Takes first given store.old →
+        IsPushFault stream first.guest (read ++ piece.now) f) }
+{
+    match take_frames(alloc, stream, feed, piece, store) {
+        Ok(()) => {}
+        Err(fault) => return Err(fault),
+    }
+    match feed.fault() {
+        None => Ok(()),
+        Some(fault) => Err(stream_fault(stream, fault)),
     }
 }
 
@@ -113,8 +136,6 @@ fn read_into<R: Source>(
         };
         let front = front_of(&piece, count);
         push(alloc, stream, &mut feed, front, store)?;
-        // The empty piece brings out a fault behind the last frame, before the reader may fail.
-        push(alloc, stream, &mut feed, &[], store)?;
         if count == 0 {
             return Ok(());
         }

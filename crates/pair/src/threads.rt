@@ -203,13 +203,14 @@ pub(crate) fn run_kept<R: Threads + Wait + Sync>(
     ensures noted { IfOk result (λ end. AreNotesOut end.book end.released.items) }
 {
     let primary = begin_primary(alloc, image, script, orders.budget())?;
-    let (board, seats, seat) = Board::new(alloc, FIRST_TERM, image.harts(), orders.keepers())?;
-    let gate = Gate::new(alloc, FIRST_TERM, orders.keepers(), orders.need());
+    let quorum = orders.quorum();
+    let (board, seats, seat) = Board::new(alloc, FIRST_TERM, image.harts(), quorum.keepers())?;
+    let gate = Gate::new(alloc, FIRST_TERM, quorum.keepers(), quorum.need());
     let (to_gate, channel) = unbounded(alloc)?;
     let (to_offers, offers) = unbounded(alloc)?;
     let (to_primary, went) = unbounded(alloc)?;
     let (begins, begun) = unbounded(alloc)?;
-    let tally = Arc::new(alloc, Tally::new(orders.need()))?;
+    let tally = Arc::new(alloc, Tally::new(quorum.need()))?;
     let (posts, keepers) = man_posts(alloc, &board, image, is_warm, seats, &to_gate, &tally)?;
     let primary_post = PrimaryPost {
         primary,

@@ -112,7 +112,6 @@ fn revive(
     ensures steps { IfOk result (λ r. HasReplayed image.now held.items r.0 r.1) }
     ensures refused { IfErr result (λ fault. IsRefused image.now held.items fault) }
 {
-    let keepers = orders.keepers();
     // In a pair the first keeper has one.
     let Some((mut backup, others)) = first_of(image, held) else {
         return Err(LiveFault::Memory);
@@ -124,8 +123,7 @@ fn revive(
         &mut backup,
         Keeper::new(0),
         stores.as_slice(),
-        keepers,
-        orders.need(),
+        orders.quorum(),
         NEXT_TERM,
     )?;
     Ok((live, backup.last_steps()))

@@ -68,26 +68,10 @@ fn are_added_and_cut(alloc: Global) -> Result<bool, Memory> {
     )
 }
 
-fn swap(one: &mut HartState, other: &mut HartState) -> [u8; 2] {
-    one.swap_outputs(other);
-    [one.number().number(), other.number().number()]
-}
-
-fn has(hart: &HartState, outputs: &[(Count, u32)]) -> bool {
-    hart.outputs() == outputs
-}
-
-fn are_swapped(alloc: Global) -> Result<bool, Memory> {
-    let mut hart = hart_with(alloc, false, EARLIER)?;
-    let mut other = hart_with(alloc, true, LATER)?;
-    Ok(swap(&mut hart, &mut other) == [0, 1] && has(&hart, LATER) && has(&other, EARLIER))
-}
-
 #[test]
 fn outputs_of_harts(rt: HostRuntime) -> Result<(), Memory> {
     assert!(rt; is_known_without_outputs(rt.alloc())?);
     assert!(rt; are_added_and_cut(rt.alloc())?);
-    assert!(rt; are_swapped(rt.alloc())?);
     Ok(())
 }
 
@@ -110,7 +94,7 @@ fn put_bare(machine: &mut Machine) -> bool {
     let bare = machine.hart(hart).without_outputs();
     let fits = bare.number() == hart && bare.harts() == harts;
     if fits {
-        machine.put_hart_but_outputs(hart, bare);
+        machine.take_hart_but_outputs(hart, &bare);
     }
     fits
 }

@@ -33,14 +33,17 @@ pub fn number_of(digits: &[u8]) -> u64 {
     }
 }
 
+/// As `number_of`, of a text.
 pub fn number(text: &str) -> u64 {
     number_of(text.as_bytes())
 }
 
+/// The hart of the number that the digits spell, modulo the most harts that a guest has.
 pub fn hart_of(digits: &[u8]) -> Hart {
     Hart::new((number_of(digits) % u64::from(HART_LIMIT)) as u8)
 }
 
+/// As `hart_of`, of a text.
 pub fn hart(text: &str) -> Hart {
     hart_of(text.as_bytes())
 }

@@ -24,13 +24,6 @@ pub behind : (stream : List ℕ) (given : List Frame) (feed : Unread) (fault : O
 behind stream given feed fault e f =
     (f.rest, f.splits, stands f.rest feed.rest fault (subst (λ (o : Option FrameFault). Keeps f.rest feed.rest o) e f.keeps))
 
--- the same, once nothing more was pushed
-pub behind_nothing : (stream : List ℕ) (given : List Frame) (feed : Unread) (fault : FrameFault) → feed.fault ≡ Some fault →
-    Follows (stream ++ []) given feed → (rest : List ℕ) × Splits stream given rest × StandsBehind rest (Some fault)
-behind_nothing stream given feed fault e f =
-    let b = behind (stream ++ []) given feed (Some fault) e f in
-    (b.0, subst (λ (x : List ℕ). Splits x given b.0) (append-nil stream) b.1, b.2)
-
 -- ---- sizes
 
 -- the first frame's bytes, and what stands behind them

@@ -3,5 +3,4 @@ pub mod Fronts
 pub mod Held
 pub mod HandedLines
 pub mod Spellings
-pub mod Admitted
 pub mod Handshakes

@@ -3,4 +3,3 @@ pub mod Acts
 pub mod Stations
 pub mod Handing
 pub mod Handshake
-pub mod machinery

@@ -1,6 +1,6 @@
 //! What stands in a log file.
 
-ghost use Rattle.std.specs.Prelude.{◌≡◌, ◌≢◌, ◌≤◌, ◌+◌, ℕ, List, [], length, take, drop, IfOk};
+ghost use Rattle.std.specs.Prelude.{◌≡◌, ◌≤◌, ◌+◌, ℕ, List, [], length, take, drop, IfOk};
 ghost use Rattle.fragment_codec.specs.declared.frame.Frame.{Frame as LogFrame};
 ghost use Rattle.fragment_codec.specs.Streams.{body_len, Follows, Splits};
 ghost use Rattle.stations.specs.Logs.{StandsBehind, IsFrontOf};
@@ -23,23 +23,15 @@ pub struct LogFront {
     pub fault: Option<FrameFault>,
 }
 
-/// The fault of a feed, where it is not want of memory.
-fn fault_in(fault: FrameFault) -> Result<FrameFault, Memory>
-    ensures { IfOk result (λ f. (f ≡ fault) × (f ≢ FrameFault.Memory)) }
+/// The frames that a feed gives of the bytes, none where a fault stands at their front.
+fn given_by(alloc: Global, feed: &mut Feed, bytes: &[u8]) -> Result<Vec<Frame>, Memory>
+    requires { Follows [] [] feed.old }
+    ensures { IfOk result (λ frames. Follows bytes.now frames.items feed.new) }
 {
-    match fault {
-        FrameFault::Memory => Err(Memory),
-        fault => Ok(fault),
-    }
-}
-
-/// The fault that a feed has met.
-fn fault_of(alloc: Global, feed: &mut Feed) -> Result<Option<FrameFault>, Memory>
-    ensures { IfOk result (λ fault. (stream : List ℕ) (given : List LogFrame) → Follows stream given feed.old → (rest : List ℕ) × Splits stream given rest × StandsBehind rest fault) }
-{
-    match feed.push(alloc, &[]) {
-        Ok(_) => Ok(None),
-        Err(fault) => Ok(Some(fault_in(fault)?)),
+    match feed.push(alloc, bytes) {
+        Ok(frames) => Ok(frames),
+        Err(FrameFault::Memory) => Err(Memory),
+        Err(_) => Ok(Vec::new(alloc)),
     }
 }
 
@@ -48,16 +40,8 @@ fn split(alloc: Global, bytes: &[u8]) -> Result<(Vec<Frame>, Option<FrameFault>)
     ensures { IfOk result (λ r. (rest : List ℕ) × Splits bytes.now r.0.items rest × StandsBehind rest r.1) }
 {
     let mut feed = Feed::new(alloc)?;
-    match feed.push(alloc, bytes) {
-        Ok(frames) => {
-            let fault = fault_of(alloc, &mut feed)?;
-            Ok((frames, fault))
-        }
-        Err(fault) => {
-            let fault = fault_in(fault)?;
-            Ok((Vec::new(alloc), Some(fault)))
-        }
-    }
+    let frames = given_by(alloc, &mut feed, bytes)?;
+    Ok((frames, feed.fault()))
 }
 
 /// How many bytes the frame at the front is: 8, its body and 32.

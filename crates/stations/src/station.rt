@@ -9,7 +9,6 @@ ghost use Rattle.log_join.specs.Stores.{StoreView, IsJoin, alone};
 ghost use Rattle.stations.specs.Acts.{Does};
 ghost use Rattle.stations.specs.Stations.{Answers, AnswersAs, IsBegun, IsOnLog, IsBeginFault, IsNoKeepers, IsNotLogged, IsPutFault, logging, said_of};
 
-use crate::admitting::answer_of;
 use crate::faults::{FilesFault, LogFault};
 use crate::files::KeeperFiles;
 use crate::log_front::{LogFront, read_frames};
@@ -168,13 +167,15 @@ impl KeeperStation {
         // That is this frame and nothing else.
         ensures one { result ≡ Ok Put.New → Splits (spelling frame) (frame ∷ []) [] }
         ensures stays { IfOk result (λ p. p ≢ Put.New → self.new ≡ self.old) }
+        // Memory is refused only to one that is new, and then nothing changes.
+        ensures memory { OnErr result (answer_to self.old.store frame ≡ Put.New) }
         ensures err { OnErr result (self.new ≡ self.old) }
         ensures seen { self.new.seen ≡ self.old.seen }
         ensures keeper { self.new.keeper ≡ self.old.keeper }
         // So it stays the keeper of its log.
         ensures log { (log : List ℕ) → IsOnLog log self.old → IsOnLog log self.new }
     {
-        let put = answer_of(alloc, self.held.store(), frame.frame())?;
+        let put = self.held.store().answer(frame.frame());
         if let Put::New = put {
             self.take_new(alloc, frame)?;
         }

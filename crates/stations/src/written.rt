@@ -37,7 +37,7 @@ impl WrittenFrame {
         if write_frame(&frame, &mut sink).is_err() {
             return Err(Memory);
         }
-        let bytes = sink.bytes().to_vec(alloc)?;
+        let bytes = sink.into_bytes();
         Ok(WrittenFrame { frame, bytes })
     }
 

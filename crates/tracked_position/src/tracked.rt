@@ -7,7 +7,7 @@ ghost use Rattle.log_join.specs.Answers.{answer_to};
 ghost use Rattle.closed_cut.specs.Position.{IsPosition};
 ghost use Rattle.tracked_position.specs.machinery.Keeping.{Takes, IsOneAt, MayGrow};
 
-use crate::answering::{answer_of, is_beyond, is_clash_at};
+use crate::answering::{is_beyond, is_clash_at};
 use crate::beyond::Beyond;
 use crate::starting::{start, unseen};
 use crate::taking::{take_elsewhere, take_here};
@@ -194,7 +194,7 @@ impl Tracked {
         if is_beyond(&self.store, &self.beyond, frame) {
             return Put::New;
         }
-        answer_of(&self.store, frame)
+        self.store.answer(frame)
     }
 
     /// Takes a frame.

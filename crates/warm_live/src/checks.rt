@@ -2,23 +2,25 @@
 
 ghost use Rattle.std.specs.Prelude.{◌≡◌, ◌≢◌, ◌<◌, ◌≤◌, ◌-◌, ◌+◌, ◌⊎◌, ◌↔◌, ◌∷◌, map, Err, All, IfErr, IsTrue, OnOk};
 ghost use Rattle.std.specs.List.{Any};
-ghost use Rattle.ft_types.specs.declared.names.TheConstants.{KEEPER_LIMIT};
 ghost use Rattle.guest_image.specs.Image.{guest_of};
 ghost use Rattle.go_live.specs.Quorums.{distinct_below, AreEnough, IsNew, IsOld};
 
-use ft_types::{Keeper, Term};
+use ft_types::{Keeper, Quorum, Term};
 use go_live::{LiveFault, are_of, is_new, keepers_of, suffice};
 use hart_replay::ReplayFault;
 use log_join::Store;
 use std::result::Result;
 use warm_backup::Backup;
 
-/// Whether the stores and this keeper's are of more keepers than can be left out where `need` hold an output.
-fn are_enough(own: Keeper, stores: &[(Keeper, &Store)], keepers: u8, need: u8) -> bool
-    requires { (need ≤ keepers) × (keepers ≤ KEEPER_LIMIT) }
-    ensures { IsTrue result ↔ AreEnough keepers need (own ∷ map (λ s. s.0) stores.now) }
+/// Whether the stores and this keeper's are of more keepers than can be left out where as many as are needed hold an output.
+fn are_enough(own: Keeper, stores: &[(Keeper, &Store)], quorum: Quorum) -> bool
+    ensures { IsTrue result ↔ AreEnough quorum.keepers quorum.need (own ∷ map (λ s. s.0) stores.now) }
 {
-    suffice(keepers_of(stores).with(own), keepers, need)
+    suffice(
+        keepers_of(stores).with(own),
+        quorum.keepers(),
+        quorum.need(),
+    )
 }
 
 /// Whether the term is not 0, and greater than that of every key in this store and the others.
@@ -37,23 +39,21 @@ pub(crate) fn may_go(
     backup: &Backup,
     own: Keeper,
     stores: &[(Keeper, &Store)],
-    keepers: u8,
-    need: u8,
+    quorum: Quorum,
     term: Term,
 ) -> Result<(), LiveFault>
-    requires quorum { (0 < need) × (need ≤ keepers) × (keepers ≤ KEEPER_LIMIT) }
-    ensures too_few { (result ≡ Err LiveFault.TooFewStores) ↔ (distinct_below keepers (own ∷ map (λ s. s.0) stores.now) < keepers - need + 1) }
+    ensures too_few { (result ≡ Err LiveFault.TooFewStores) ↔ (distinct_below quorum.keepers (own ∷ map (λ s. s.0) stores.now) < quorum.keepers - quorum.need + 1) }
     ensures not_new { (result ≡ Err LiveFault.TermNotNew)
-        ↔ (AreEnough keepers need (own ∷ map (λ s. s.0) stores.now) × IsOld (backup.now.store ∷ map (λ s. s.1.now) stores.now) term) }
+        ↔ (AreEnough quorum.keepers quorum.need (own ∷ map (λ s. s.0) stores.now) × IsOld (backup.now.store ∷ map (λ s. s.1.now) stores.now) term) }
     ensures other_guest { (result ≡ Err (LiveFault.Replay ReplayFault.OtherGuest))
-        ↔ (AreEnough keepers need (own ∷ map (λ s. s.0) stores.now) × IsNew (backup.now.store ∷ map (λ s. s.1.now) stores.now) term
+        ↔ (AreEnough quorum.keepers quorum.need (own ∷ map (λ s. s.0) stores.now) × IsNew (backup.now.store ∷ map (λ s. s.1.now) stores.now) term
         × Any (λ store. store.guest ≢ guest_of backup.now.image) (backup.now.store ∷ map (λ s. s.1.now) stores.now)) }
-    ensures enough { OnOk result (AreEnough keepers need (own ∷ map (λ s. s.0) stores.now)) }
+    ensures enough { OnOk result (AreEnough quorum.keepers quorum.need (own ∷ map (λ s. s.0) stores.now)) }
     ensures new { OnOk result (IsNew (backup.now.store ∷ map (λ s. s.1.now) stores.now) term) }
     ensures guest { OnOk result (All (λ store. store.guest ≡ guest_of backup.now.image) (backup.now.store ∷ map (λ s. s.1.now) stores.now)) }
     ensures no_other { IfErr result (λ f. (f ≡ LiveFault.TooFewStores) ⊎ (f ≡ LiveFault.TermNotNew) ⊎ (f ≡ LiveFault.Replay ReplayFault.OtherGuest)) }
 {
-    if !are_enough(own, stores, keepers, need) {
+    if !are_enough(own, stores, quorum) {
         return Err(LiveFault::TooFewStores);
     }
     if !is_new_to(backup.store(), stores, term) {

@@ -2,7 +2,6 @@
 
 ghost use Rattle.std.specs.Prelude.{◌≡◌, ◌≢◌, ◌<◌, ◌≤◌, ◌+◌, ◌-◌, ◌↔◌, ◌∷◌, ℕ, map, take, sum, Err, All, IfOk, IfErr, OnOk, OnErr};
 ghost use Rattle.std.specs.List.{Any};
-ghost use Rattle.ft_types.specs.declared.names.TheConstants.{KEEPER_LIMIT};
 ghost use Rattle.input_log.specs.Waiting.{bells_of};
 ghost use Rattle.book_modes.specs.Silences.{unheard_bells};
 ghost use Rattle.ft_types.specs.Counts.{count_at};
@@ -23,7 +22,7 @@ ghost use Rattle.primary.specs.Primaries.{BeginsFrom};
 
 use crate::checks::may_go;
 use crate::onward::{catch_up, go_on};
-use ft_types::{Keeper, Term};
+use ft_types::{Keeper, Quorum, Term};
 use go_live::{Live, LiveFault};
 use hart_replay::ReplayFault;
 use log_join::Store;
@@ -38,12 +37,9 @@ pub fn go_live_warm(
     backup: &mut Backup,
     own: Keeper,
     stores: &[(Keeper, &Store)],
-    keepers: u8,
-    need: u8,
+    quorum: Quorum,
     term: Term,
 ) -> Result<Live, LiveFault>
-    requires quorum { (0 < need) × (need ≤ keepers) × (keepers ≤ KEEPER_LIMIT) }
-
     // The book begins with the machine at the position of the joined stores, and nothing is settled in it; the opening names
     // that position, and the marks are what is noted inside.
     ensures position { IfOk result (λ live. IsAtPosition backup.old.image (backup.old.store ∷ map (λ s. s.1.now) stores.now) term
@@ -68,15 +64,15 @@ pub fn go_live_warm(
     ensures image { backup.new.image ≡ backup.old.image }
 
     // The faults, each exactly where it is due, in this order. Memory may be refused once the first two are looked at.
-    ensures too_few { (result ≡ Err LiveFault.TooFewStores) ↔ (distinct_below keepers (own ∷ map (λ s. s.0) stores.now) < keepers - need + 1) }
+    ensures too_few { (result ≡ Err LiveFault.TooFewStores) ↔ (distinct_below quorum.keepers (own ∷ map (λ s. s.0) stores.now) < quorum.keepers - quorum.need + 1) }
     ensures not_new { (result ≡ Err LiveFault.TermNotNew)
-        ↔ (AreEnough keepers need (own ∷ map (λ s. s.0) stores.now) × IsOld (backup.old.store ∷ map (λ s. s.1.now) stores.now) term) }
+        ↔ (AreEnough quorum.keepers quorum.need (own ∷ map (λ s. s.0) stores.now) × IsOld (backup.old.store ∷ map (λ s. s.1.now) stores.now) term) }
     ensures other_guest { (result ≡ Err (LiveFault.Replay ReplayFault.OtherGuest))
-        ↔ (AreEnough keepers need (own ∷ map (λ s. s.0) stores.now) × IsNew (backup.old.store ∷ map (λ s. s.1.now) stores.now) term
+        ↔ (AreEnough quorum.keepers quorum.need (own ∷ map (λ s. s.0) stores.now) × IsNew (backup.old.store ∷ map (λ s. s.1.now) stores.now) term
         × Any (λ store. store.guest ≢ guest_of backup.old.image) (backup.old.store ∷ map (λ s. s.1.now) stores.now)) }
     ensures replay { IfErr result (λ f. IfReplay f (λ fault. fault ≢ ReplayFault.OtherGuest →
         LeadNowhere backup.old.image (backup.old.store ∷ map (λ s. s.1.now) stores.now) fault)) }
-    ensures enough { OnOk result (AreEnough keepers need (own ∷ map (λ s. s.0) stores.now)) }
+    ensures enough { OnOk result (AreEnough quorum.keepers quorum.need (own ∷ map (λ s. s.0) stores.now)) }
     ensures new { OnOk result (IsNew (backup.old.store ∷ map (λ s. s.1.now) stores.now) term) }
     ensures guest { OnOk result (All (λ store. store.guest ≡ guest_of backup.old.image) (backup.old.store ∷ map (λ s. s.1.now) stores.now)) }
 
@@ -95,7 +91,7 @@ pub fn go_live_warm(
         AreOfHistory backup.old.image history (backup.old.store ∷ map (λ s. s.1.now) stores.now) →
         MakesLonger backup.old.image history term live.book.start live.opening) }
 {
-    match may_go(backup, own, stores, keepers, need, term) {
+    match may_go(backup, own, stores, quorum, term) {
         Ok(()) => {}
         Err(fault) => return Err(fault),
     }

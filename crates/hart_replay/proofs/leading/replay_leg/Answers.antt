@@ -8,10 +8,10 @@ pub returns-clause-ok : goal.returns-clause-ok
 returns-clause-ok c =
     outcome_of c.args.start c.args.leg.now c.requires.leg c.requires.base c.in_ok-book.book c.in_ok-book.ensures (heard_in c.in_ok-book.book.mode.inputs)
     (ap (λ (leg : Leg). heard_in leg.inputs) c.in_ok-book.ensures.leading.mode)
-    c.machine.ensures.run c.machine.ensures.begins c.machine.result.now c.come_to.result c.machine.ensures.value c.come_to.ensures.ok
+    c.into_machine.ensures.run c.into_machine.ensures.begins c.into_machine.result c.come_to.result c.into_machine.ensures.value c.come_to.ensures.ok
 
 pub returns-clause-fault : goal.returns-clause-fault
 returns-clause-fault c =
     fault_of c.args.start c.args.leg.now c.requires.leg c.requires.base c.in_ok-book.book c.in_ok-book.ensures (heard_in c.in_ok-book.book.mode.inputs)
     (ap (λ (leg : Leg). heard_in leg.inputs) c.in_ok-book.ensures.leading.mode)
-    c.machine.ensures.run c.machine.ensures.begins c.machine.result.now c.come_to.result c.machine.ensures.value c.come_to.ensures.fault
+    c.into_machine.ensures.run c.into_machine.ensures.begins c.into_machine.result c.come_to.result c.into_machine.ensures.value c.come_to.ensures.fault

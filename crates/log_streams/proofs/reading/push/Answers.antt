@@ -1,17 +1,8 @@
-use Rattle.std.proofs.Common.{refl, ◌++◌}
-use Rattle.fragment_codec.proofs.streams.Rests.{no_fault}
-use Rattle.log_streams.proofs.StreamLemmas.{push_fault, feed_faults, not_both}
+use Rattle.std.proofs.Common.{sym, ◌∙◌}
+use Rattle.log_streams.proofs.StreamLemmas.{fault_behind}
 use Rattle.log_streams.proofs.reading.push.Goals as goal
 
-pub returns-in-Ok-put_all-clause-sound : goal.returns-in-Ok-put_all-clause-sound
-returns-in-Ok-put_all-clause-sound c = no_fault c.args.feed.now.fault (λ f e. not_both c.in-Ok.frames f ((c.in-Ok.ensures.for_good f).0 e))
-
-pub returns-in-Err-put_all-clause-fault : goal.returns-in-Err-put_all-clause-fault
-returns-in-Err-put_all-clause-fault c =
-    rw c.refused.ensures (push_fault c.args.stream c.in-Ok.frames.items c.args.piece.now c.args.feed.now c.push.new.self c.args.store.now c.in-Err-put_all.fault
-    c.in-Err-put_all.ensures.fault c.in-Ok.ensures.given)
-
-pub returns-in-Err-clause-fault : goal.returns-in-Err-clause-fault
-returns-in-Err-clause-fault c = λ first read given follows takes.
-    rw c.stream_fault.ensures (feed_faults c.args.stream first.guest (read ++ c.args.piece.now) given c.push.new.self c.in-Err.fault
-    (c.in-Err.ensures.fault read given follows) (λ ne. (c.in-Err.ensures.for_good c.in-Err.fault).1 refl ne) takes.own)
+pub returns-in-Some-clause-fault : goal.returns-in-Some-clause-fault
+returns-in-Some-clause-fault c =
+    rw c.stream_fault.ensures (fault_behind c.args.stream c.args.feed.now c.take_frames.new.feed c.args.store.now c.take_frames.new.store c.args.piece.now
+    c.in-Some.fault c.in-Ok.ensures.ok (sym c.fault.ensures ∙ c.in-Some.is))

@@ -1,4 +1,5 @@
 use Rattle.std.proofs.Common.{arith, ◌≡◌, ◌<◌, ◌∙◌, ℕ, length, ap, sym, subst}
+use Rattle.ft_types.specs.declared.quorum.Quorum.{Quorum}
 use Rattle.output_gate.specs.Gates.{offered_in}
 use Rattle.output_gate.specs.Looks.{IsSeen}
 use Rattle.std.specs.List.{AllByRecursion}
@@ -49,7 +50,7 @@ returns-clause-run g c =
 pub returns-clause-inside : goal.returns-clause-inside
 returns-clause-inside g c =
     let said = c.run_all.ensures in
-    let need = c.new-gate.ensures.parts.2 ∙ c.need.ensures.value in
+    let need = c.new-gate.ensures.parts.2 ∙ c.need.ensures.value ∙ ap (λ (q : Quorum). q.need) c.quorum-quorum.ensures in
     if_ok c.run_all.result (λ end. AllByRecursion (IsHeldOnTheWay end.stores.items 1 c.args.orders.now.quorum.need) end.released.items) said.inside said.inside said.inside
     (λ end inside _ _. subst (λ (n : ℕ). AllByRecursion (IsHeldOnTheWay end.stores.items 1 n) end.released.items) need
     (subst (λ (t : ℕ). AllByRecursion (IsHeldOnTheWay end.stores.items t c.new-gate.result.need) end.released.items) c.in_ok-board.ensures.board.0 inside))
@@ -57,6 +58,6 @@ returns-clause-inside g c =
 pub returns-clause-stores : goal.returns-clause-stores
 returns-clause-stores g c =
     let said = c.run_all.ensures in
-    let keepers = c.in_ok-board.ensures.board.2 ∙ c.keepers.ensures.value in
+    let keepers = c.in_ok-board.ensures.board.2 ∙ c.keepers.ensures.value ∙ ap (λ (q : Quorum). q.keepers) c.quorum-quorum.ensures in
     if_ok c.run_all.result (λ end. length end.stores.items ≡ c.args.orders.now.quorum.keepers) said.stores said.stores said.stores
     (λ end count _ _. count ∙ keepers)

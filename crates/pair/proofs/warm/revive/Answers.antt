@@ -1,6 +1,7 @@
 use Rattle.std.proofs.Common.{◌≡◌, ◌<◌, ◌+◌, ◌-◌, ◌∷◌, ℕ, List, Err, length, map, sym, ap, subst, ◌∙◌, arith}
 use Rattle.std.specs.List.{range_with_len}
 use Rattle.std.proofs.lemmas.Result.{err_from_is_err_and}
+use Rattle.ft_types.specs.declared.quorum.Quorum.{Quorum}
 use Rattle.log_join.specs.Stores.{StoreView}
 use Rattle.guest_image.specs.Image.{ImageContents, guest_of}
 use Rattle.go_live.specs.Joined.{AreJoined}
@@ -59,7 +60,7 @@ pub stores_of-requires : goal.stores_of-requires
 stores_of-requires c =
     let all = ap length c.in-Some.ensures.held in
     let others = ap length c.deref.ensures.value in
-    omega (arith, all, others, c.requires, c.keepers-keepers.ensures.value, c.keepers-keepers.ensures.limit)
+    omega (arith, all, others, c.requires, c.args.orders.now.quorum.sized.2)
 
 pub returns-in_err-keep_up-clause-refused : goal.returns-in_err-keep_up-clause-refused
 returns-in_err-keep_up-clause-refused c =
@@ -92,13 +93,14 @@ returns-in_err-live-clause-refused c =
     let are : numbers ≡ range_with_len 1 n = ap (λ xs. map (λ s. s.0) xs) c.as_slice.ensures.value ∙ c.in_ok-stores.ensures.numbers in
     let all = ap length c.in-Some.ensures.held in
     let others = ap length c.deref.ensures.value in
-    let many : n + 1 ≡ c.keepers-keepers.result = omega (arith, all, others, c.requires, c.keepers-keepers.ensures.value) in
+    let quorum = c.quorum.result in
+    let many : n + 1 ≡ quorum.keepers = omega (arith, all, others, c.requires, ap (λ (q : Quorum). q.keepers) c.quorum.ensures) in
     rw (p.1, p.2)
     (subst (λ (i : ImageContents). IsRefused i c.args.held.items fault) image
     (subst (λ (ss : List StoreView). IsRefused backup.image ss fault) held
-    (refused_all backup.image (backup.store ∷ map (λ s. s.1.now) c.as_slice.result.now) numbers n c.keepers-keepers.result c.need.result fault are many
-    c.keepers-keepers.ensures.limit c.need.ensures.some
-    (λ e. subst (λ (k : ℕ). distinct_below c.keepers-keepers.result (k ∷ numbers) < c.keepers-keepers.result - c.need.result + 1) c.new.ensures (said.too_few.0 (ap (λ (f : LiveFault). Err f) e)))
+    (refused_all backup.image (backup.store ∷ map (λ s. s.1.now) c.as_slice.result.now) numbers n quorum.keepers quorum.need fault are many
+    quorum.sized.2 quorum.sized.0
+    (λ e. subst (λ (k : ℕ). distinct_below quorum.keepers (k ∷ numbers) < quorum.keepers - quorum.need + 1) c.new.ensures (said.too_few.0 (ap (λ (f : LiveFault). Err f) e)))
     (λ e. (said.not_new.0 (ap (λ (f : LiveFault). Err f) e)).1)
     (λ e. (said.other_guest.0 (ap (λ (f : LiveFault). Err f) e)).2)
     said.replay)))

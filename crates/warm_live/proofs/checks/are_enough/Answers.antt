@@ -12,4 +12,5 @@ returns c =
     let members : AreMembers c.with.result (c.args.own ∷ others) =
     subst (λ set. AreMembers set (c.args.own ∷ others)) (sym c.with.ensures.value)
     (member_first others c.args.own c.keepers_of.result (omega (arith, sized, below)) c.keepers_of.ensures) in
-    enough_by c.with.result (c.args.own ∷ others) c.args.keepers c.args.need members all (omega arith) c.suffice.ensures
+    rw (sym c.keepers.ensures.value, sym c.need.ensures.value)
+    (enough_by c.with.result (c.args.own ∷ others) c.keepers.result c.need.result members all (omega (arith, c.keepers.ensures.limit)) c.suffice.ensures)
