@@ -120,9 +120,9 @@ Refuses v event Memory = MayLackMemory v event
 
 -- ---- what is left
 
--- a step that was not taken: page rights, and which of the waiting inputs the hart's next lease has, may be others
-pub record IsNotStepped (v w : WorldView) : Type 0 where
-  pub book : IsUnmoved v.primary.book w.primary.book
+-- a step that was not taken: page rights may be others, and what the hart's next step is given is due now, where it waited
+pub record IsNotStepped (hart : ℕ) (v w : WorldView) : Type 0 where
+  pub book : IsUnmoved hart v.primary.book w.primary.book
   pub rest : w ≡ record v { primary = record v.primary { book = w.primary.book } }
 
 -- a release that let nothing go, and noted nothing
@@ -133,6 +133,6 @@ pub record IsNotReleased (v w : WorldView) : Type 0 where
 
 -- nothing happened
 abbrev pub IsLeft : WorldView → Event → WorldView → Type 0
-IsLeft v (on.Step hart) w = (w ≡ v) ⊎ IsNotStepped v w
+IsLeft v (on.Step hart) w = (w ≡ v) ⊎ IsNotStepped hart v w
 IsLeft v on.Release w = (w ≡ v) ⊎ IsNotReleased v w
 IsLeft v _ w = w ≡ v

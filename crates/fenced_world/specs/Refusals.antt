@@ -172,9 +172,9 @@ Refuses v event Memory = MayLackMemory v event
 
 -- ---- what is left
 
--- a step that was not taken: page rights, and which of the waiting inputs the hart's next lease has, may be others
-pub record IsNotStepped (r s : RunningView) : Type 0 where
-  pub unmoved : IsUnmoved r.primary.book s.primary.book
+-- a step that was not taken: page rights may be others, and what the hart's next step is given is due now, where it waited
+pub record IsNotStepped (hart : ℕ) (r s : RunningView) : Type 0 where
+  pub unmoved : IsUnmoved hart r.primary.book s.primary.book
   pub book : s ≡ with_book r s.primary.book
 
 -- a release that let nothing go
@@ -208,7 +208,7 @@ IsLeftByGrant v term named fault w = (w ≡ v) ⊎ ((fault ≡ Memory) × HasRai
 
 -- Nothing happened, but what a want of memory may leave. A keeper to which it is refused as it comes back is lost.
 abbrev pub IsLeft : WorldView → FencedEvent → FencedFault → WorldView → Type 0
-IsLeft v (on.Step term hart) fault w = (w ≡ v) ⊎ (Does v term IsNotStepped w.running × (w ≡ record v { running = w.running }))
+IsLeft v (on.Step term hart) fault w = (w ≡ v) ⊎ (Does v term (IsNotStepped hart) w.running × (w ≡ record v { running = w.running }))
 IsLeft v (on.Release term) fault w = (w ≡ v) ⊎ ((fault ≡ Memory) × Does v term IsNotReleased w.running × (w ≡ record v { running = w.running }))
 IsLeft v (on.Save keeper) fault w = (w ≡ v) ⊎ ((fault ≡ Memory) × DoesKeeper v keeper MayHaveSaved w)
 IsLeft v (on.Fence keeper term) fault w = (w ≡ v) ⊎ ((fault ≡ Memory) × DoesKeeper v keeper (MayHaveRaised term) w)

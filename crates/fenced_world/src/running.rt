@@ -90,7 +90,7 @@ impl Running {
         ensures stepped { OnOk result (HasStepped hart self.old.primary.book self.new.primary.book) }
         ensures rights { OnOk result (HoldsNothing self.new.primary.book hart) }
         ensures refused { IfErr result (λ fault. RefusesStep self.old.primary.book hart fault) }
-        ensures unmoved { OnErr result (IsUnmoved self.old.primary.book self.new.primary.book) }
+        ensures unmoved { OnErr result (IsUnmoved hart self.old.primary.book self.new.primary.book) }
     {
         self.primary.step(alloc, hart)
     }

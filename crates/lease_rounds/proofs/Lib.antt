@@ -8,4 +8,5 @@ pub mod Leasing
 pub mod RoundByRound
 pub mod Onward
 pub mod Counts
+mod Nexts
 mod OneStep

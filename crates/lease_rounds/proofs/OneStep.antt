@@ -41,19 +41,21 @@ use Rattle.lease_rounds.proofs.GoingOn.{after_rung, after_count}
 use Rattle.lease_rounds.specs.Running.{KeepsOffered, offers, recording}
 use Rattle.lease_rounds.proofs.Leasing.{KeepsRest, ahead, continues, filled_keeps, keeps_rest, notes, offered}
 use Rattle.lease_rounds.proofs.Offered.{cleared, filled_offered, offered_itself}
+use Rattle.lease_rounds.proofs.Nexts.{Leaves, filled_due, filled_leaves, keeps_next, next_itself}
 use Rattle.lease_rounds.specs.Steps.{AreWithin, inputs_next, bells_left, others_left, bells_between, IsGiven, IsDue, Waits, HasStepped, HoldsNothing, IsUnmoved}
 use Rattle.lease_rounds.specs.Steps.{Runs}
 
 -- ---- a book that has not moved
 
-pub unmoved_itself : (b : BookView RecordingView) → IsUnmoved b b
-unmoved_itself b = record { book = refl; edges = refl; inputs = refl; notes = refl; limits = refl; offered = offered_itself b }
+pub unmoved_itself : (hart : ℕ) (b : BookView RecordingView) → IsUnmoved hart b b
+unmoved_itself hart b =
+    record { book = refl; edges = refl; inputs = refl; notes = refl; limits = refl; next = next_itself hart b; offered = offered_itself b }
 
 -- it tells on from itself
 pub tells_itself : (b : BookView RecordingView) → TellsOn b b
 tells_itself b = tells_the_same b b refl refl refl (notes_kept b b refl)
 
-module _ (b c : BookView RecordingView) (same : IsUnmoved b c) where
+module _ (hart : ℕ) (b c : BookView RecordingView) (same : IsUnmoved hart b c) where
   pub machine_stays : c.machine ≡ b.machine
   machine_stays = ap (λ (x : BookView RecordingView). x.machine) same.book
 
@@ -95,7 +97,7 @@ module _ (hart : ℕ) (b d : BookView RecordingView) (up : GivesUp recording har
       ∙ ap (λ (m : RecordingView). offers_at m other (now other)) rest.mode))
       (filled_offered b.mode hart now up.opened.mode (is_silent (due_at b.mode.due hart).inputs) refl up.lends.mode.filled other))
 
-  pub given_up : IsIdle b → IsIdle d → IsUnmoved b d
+  pub given_up : IsIdle b → IsIdle d → IsUnmoved hart b d
   given_up idle now =
       record {
         book =
@@ -124,55 +126,12 @@ module _ (hart : ℕ) (b d : BookView RecordingView) (up : GivesUp recording har
             ap (λ (m : RecordingView). m.limits) up.leaves.ends.mode.rest
             ∙ ap (λ (m : RecordingView). m.limits) rest.mode
             ∙ ap (λ (m : RecordingView). m.limits) opened;
+        next =
+            keeps_next hart b d up.opened.mode (is_silent (due_at b.mode.due hart).inputs) refl up.lends.mode.filled
+            (ap (λ (m : RecordingView). m.due) up.leaves.ends.mode.rest ∙ ap (λ (m : RecordingView). m.due) rest.mode)
+            (ap (λ (m : RecordingView). m.desk) up.leaves.ends.mode.rest ∙ ap (λ (m : RecordingView). m.desk) rest.mode);
         offered = up_offered;
       }
-
--- ---- inputs
-
--- what is due to a hart that was lent
-filled_due : (r : RecordingView) (hart count : ℕ) (new : RecordingView) (silent : Bool) → is_silent (due_at r.due hart).inputs ≡ silent →
-    IsFilled silent r hart count new → (due_at new.due hart).inputs ≡ inputs_next r hart count
-filled_due r hart count new false is same =
-    ap (λ (v : RecordingView). (due_at v.due hart).inputs) same
-    ∙ sym (ap (λ (b : Bool). if b then going count (bells_of r.desk hart) (others_of r.desk hart) else (due_at r.due hart).inputs) is)
-filled_due r hart count new true is t =
-    ap (λ (ds : List DueView). (due_at ds hart).inputs) t.due
-    ∙ ap (λ (d : DueView). d.inputs)
-    (get_or-set_same r.due hart (due_from hart count (bells_of r.desk hart) (others_of r.desk hart)) nothing_due t.row)
-    ∙ sym (ap (λ (b : Bool). if b then going count (bells_of r.desk hart) (others_of r.desk hart) else (due_at r.due hart).inputs) is)
-
--- what a hart that is lent at this count leaves of what is due to others and of what waits
-record Leaves (r : RecordingView) (hart count : ℕ) (new : RecordingView) : Type 0 where
-  due : (other : ℕ) → other ≢ hart → due_at new.due other ≡ due_at r.due other
-  bells : bells_of new.desk hart ≡ bells_left r hart
-  others : others_of new.desk hart ≡ others_left r hart count
-  bells_of_others : (other : ℕ) → other ≢ hart → bells_of new.desk other ≡ bells_of r.desk other
-  others_of_others : (other : ℕ) → other ≢ hart → others_of new.desk other ≡ others_of r.desk other
-
-filled_leaves : (r : RecordingView) (hart count : ℕ) (new : RecordingView) (silent : Bool) → is_silent (due_at r.due hart).inputs ≡ silent →
-    IsFilled silent r hart count new → Leaves r hart count new
-filled_leaves r hart count new false is same =
-    subst (Leaves r hart count) (sym same)
-    (record {
-      due = λ other ne. refl;
-      bells = sym (ap (λ (b : Bool). if b then drop INPUT_LIMIT (bells_of r.desk hart) else bells_of r.desk hart) is);
-      others = sym
-          (ap (λ (b : Bool). if b then others_staying count (room_beside (bells_of r.desk hart)) (others_of r.desk hart) else others_of r.desk hart) is);
-      bells_of_others = λ other ne. refl;
-      others_of_others = λ other ne. refl;
-    })
-filled_leaves r hart count new true is t =
-    record {
-      due = λ other ne.
-          ap (λ (ds : List DueView). due_at ds other) t.due
-          ∙ get_or-set_other r.due hart other (due_from hart count (bells_of r.desk hart) (others_of r.desk hart)) nothing_due ne;
-      bells = t.bells ∙ sym (ap (λ (b : Bool). if b then drop INPUT_LIMIT (bells_of r.desk hart) else bells_of r.desk hart) is);
-      others = t.others
-          ∙ sym
-          (ap (λ (b : Bool). if b then others_staying count (room_beside (bells_of r.desk hart)) (others_of r.desk hart) else others_of r.desk hart) is);
-      bells_of_others = t.bells_of_others;
-      others_of_others = t.others_of_others;
-    }
 
 -- ---- rights
 
@@ -377,13 +336,13 @@ module _ (hart : ℕ) (b : BookView RecordingView) (once : List ℕ) (d : BookVi
         }
 
   -- where memory was refused
-  has_not : IsIdle d → HasNotGone recording hart (limited b once) d → IsUnmoved (limited b once) d
+  has_not : IsIdle d → HasNotGone recording hart (limited b once) d → IsUnmoved hart (limited b once) d
   has_not now none = elim none [
-    | inl same ↦ subst (λ (x : BookView RecordingView). IsUnmoved low x) (sym same) (unmoved_itself low)
+    | inl same ↦ subst (λ (x : BookView RecordingView). IsUnmoved hart low x) (sym same) (unmoved_itself hart low)
     | inr up ↦ given_up hart low d up idle now
   ]
 
-  stays : (limits : List ℕ) → limits ≡ b.mode.limits → IsUnmoved (limited b once) d → IsUnmoved b (limited d limits)
+  stays : (limits : List ℕ) → limits ≡ b.mode.limits → IsUnmoved hart (limited b once) d → IsUnmoved hart b (limited d limits)
   stays limits same un =
       record {
         book =
@@ -393,6 +352,7 @@ module _ (hart : ℕ) (b : BookView RecordingView) (once : List ℕ) (d : BookVi
         inputs = un.inputs;
         notes = un.notes;
         limits = same;
+        next = record { own = un.next.own; due = un.next.due; bells = un.next.bells; others = un.next.others };
         offered = un.offered;
       }
 
@@ -415,9 +375,9 @@ module _ (hart : ℕ) (b : BookView RecordingView) (once : List ℕ) (d : BookVi
         subst (λ (x : BookView RecordingView). HoldsNothing x hart) (sym back)
         (holds_nothing (subst (λ (x : BookView RecordingView). GoesOn recording told.Nothing hart x d) is on))
 
-    pub took_none : IsIdle d → HasNotGone recording hart a d → IsUnmoved b f
+    pub took_none : IsIdle d → HasNotGone recording hart a d → IsUnmoved hart b f
     took_none now none =
-        subst (λ (x : BookView RecordingView). IsUnmoved b x) (sym back)
+        subst (λ (x : BookView RecordingView). IsUnmoved hart b x) (sym back)
         (stays limits same (has_not now (subst (λ (x : BookView RecordingView). HasNotGone recording hart x d) is none)))
 
   -- one that runs is not held

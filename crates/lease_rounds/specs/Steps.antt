@@ -86,13 +86,21 @@ pub record HasStepped (hart : ℕ) (b c : BookView RecordingView) : Type 0 where
 abbrev pub HoldsNothing : BookView RecordingView → ℕ → Type 0
 HoldsNothing b hart = (page : ℕ) → holds (right_at b.mode.rights page) hart ≡ false
 
--- no step was taken: what is settled, and what was told of it, is as it was
-pub record IsUnmoved (b c : BookView RecordingView) : Type 0 where
+-- what comes next: the hart's next step is given what it would have been, and what is due to the others, and waits for them, is as it was
+pub record KeepsNext (hart : ℕ) (b c : BookView RecordingView) : Type 0 where
+  pub own : inputs_next c.mode hart (counts_of b.machine hart) ≡ inputs_next b.mode hart (counts_of b.machine hart)
+  pub due : (other : ℕ) → other ≢ hart → due_at c.mode.due other ≡ due_at b.mode.due other
+  pub bells : (other : ℕ) → other ≢ hart → bells_of c.mode.desk other ≡ bells_of b.mode.desk other
+  pub others : (other : ℕ) → other ≢ hart → others_of c.mode.desk other ≡ others_of b.mode.desk other
+
+-- the hart took no step: what is settled, and what was told of it, is as it was
+pub record IsUnmoved (hart : ℕ) (b c : BookView RecordingView) : Type 0 where
   pub book : c ≡ record b { mode = c.mode }
   pub edges : c.mode.edges ≡ b.mode.edges
   pub inputs : c.mode.inputs ≡ b.mode.inputs
   pub notes : c.mode.notes ≡ b.mode.notes
   pub limits : c.mode.limits ≡ b.mode.limits
+  pub next : KeepsNext hart b c
   pub offered : KeepsOffered b c
 
 -- why the hart can't take a step, if it can't: it is halted, or at its limit

@@ -32,7 +32,7 @@ fn go_once(
     ensures stepped { OnOk result (HasStepped hart book.old book.new) }
     ensures within { OnOk result (AreWithin book.new) }
     ensures rights { OnOk result (HoldsNothing book.new hart) }
-    ensures unmoved { OnErr result (IsUnmoved book.old book.new) }
+    ensures unmoved { OnErr result (IsUnmoved hart book.old book.new) }
 {
     let limits = book.limits();
     book.limit_at(once);
@@ -54,7 +54,7 @@ pub fn take_step(alloc: Global, book: &mut Book<Recording>, hart: Hart) -> Resul
     ensures rights { OnOk result (HoldsNothing book.new hart) }
     ensures open { OnOk result (IsRefused book.old hart None) }
     ensures refused { IfErr result (λ fault. RefusesStep book.old hart fault) }
-    ensures unmoved { OnErr result (IsUnmoved book.old book.new) }
+    ensures unmoved { OnErr result (IsUnmoved hart book.old book.new) }
     // In either case:
     ensures idle { IsIdle book.new }
     ensures within { AreWithin book.new }

@@ -38,12 +38,12 @@ offered_so b c hart not_before input (Err e) same ok err =
 
 -- a hart that tried to take a step is one of as many
 pub harts_kept : {A E : Type 0} (b c : BookView RecordingView) (hart : ℕ) (result : Result A E) → OnOk result (HasStepped hart b c) →
-    OnErr result (IsUnmoved b c) → length c.machine.harts ≡ length b.machine.harts
+    OnErr result (IsUnmoved hart b c) → length c.machine.harts ≡ length b.machine.harts
 harts_kept b c hart (Ok u) stepped unmoved = stepped.continues.harts
 harts_kept b c hart (Err e) stepped unmoved = ap (λ (x : BookView RecordingView). length x.machine.harts) unmoved.book
 
 -- and what is noted is what was
 pub notes_stay : {A E : Type 0} (b c : BookView RecordingView) (hart : ℕ) (result : Result A E) → OnOk result (HasStepped hart b c) →
-    OnErr result (IsUnmoved b c) → c.mode.notes ≡ b.mode.notes
+    OnErr result (IsUnmoved hart b c) → c.mode.notes ≡ b.mode.notes
 notes_stay b c hart (Ok u) stepped unmoved = stepped.notes
 notes_stay b c hart (Err e) stepped unmoved = unmoved.notes

@@ -106,7 +106,7 @@ impl Primary {
         ensures stepped { OnOk result (HasStepped hart self.old.book self.new.book) }
         ensures rights { OnOk result (HoldsNothing self.new.book hart) }
         ensures refused { IfErr result (λ fault. RefusesStep self.old.book hart fault) }
-        ensures unmoved { OnErr result (IsUnmoved self.old.book self.new.book) }
+        ensures unmoved { OnErr result (IsUnmoved hart self.old.book self.new.book) }
         // In either case:
         ensures rest { self.new ≡ record self.old { book = self.new.book } }
         ensures goes_on { GoesOn self.old.book self.new.book }
