@@ -1,11 +1,14 @@
 //! Files that are read whole, and their names.
 
+ghost use Rattle.std.specs.Prelude.{◌≡◌, IfOk};
+
 use crate::host::Paths;
 use std::fmt::Formatter;
 use std::fs::File;
 use std::io::Read;
 use std::os::unix::fs::FileTypeExt;
 use std::path::Path;
+use std::result::Result;
 use std::{fmt, io};
 
 /// The bytes of a file.
@@ -24,10 +27,20 @@ pub fn sync_folder<R: Paths + AllocGlobal>(rt: &R, name: &str) -> io::Result<()>
     rt.open(folder)?.sync_all()
 }
 
+/// A file that was removed, which is on disk: `remove_file` alone makes one.
+#[derive(Drop)]
+pub struct RemovedFile<'a> {
+    pub name: &'a str,
+    is_gone: (),
+}
+
 /// Removes a file, and brings that to disk.
-pub fn remove_file<R: Paths + AllocGlobal>(rt: &R, name: &str) -> io::Result<()> {
+pub fn remove_file<'a, R: Paths + AllocGlobal>(rt: &R, name: &'a str) -> io::Result<RemovedFile<'a>>
+    ensures { IfOk result (λ file. file.name ≡ name.entry) }
+{
     rt.remove(name)?;
-    sync_folder(rt, name)
+    sync_folder(rt, name)?;
+    Ok(RemovedFile { name, is_gone: () })
 }
 
 /// Whether a file is a FIFO, whose other end may come again.

@@ -15,7 +15,7 @@ pub use attempts::Attempts;
 pub use connection::{Keeps, Pen};
 pub use events::{Door, Event, Gone, Receiver, Sender, Taker, Waiting, bring, row};
 pub use faults::{Fault, Frames, FramesFault, NamedFile, file_fault, name_at, refuse, tell};
-pub use files::{is_fifo, read_file, remove_file, sync_folder};
+pub use files::{RemovedFile, is_fifo, read_file, remove_file, sync_folder};
 pub use host::{Host, Paths};
 pub use listening::{Listening, Relief, listen_all};
 pub use posting::{Post, Writer, begin_posts, leave_all};

@@ -1,5 +1,11 @@
 //! What can go wrong, as it is told.
 
+ghost use Rattle.std.specs.Prelude.{◌≡◌};
+ghost use Rattle.live_primary.specs.Faults.{told_of_handed, told_of_image, told_of_lead, told_of_store};
+ghost use Rattle.ends.specs.declared.faults.Fault.TheVariants.{Frames as WithFrames};
+ghost use Rattle.ends.specs.declared.faults.Frames.TheVariants.{AllHanded};
+ghost use Rattle.ends.specs.declared.faults.FramesFault.TheVariants.{Clash};
+
 use ends::{Fault, Frames, FramesFault};
 use fenced_live::GivenFault;
 use go_live::LiveFault;
@@ -7,7 +13,10 @@ use guest_image::ImageFault;
 use leading::{HandedFault, LeadFault};
 use log_join::StoreFault;
 
-pub(crate) fn image_fault(fault: ImageFault) -> Fault {
+/// What is wrong with the image.
+pub(crate) fn image_fault(fault: ImageFault) -> Fault
+    ensures { result ≡ told_of_image fault }
+{
     match fault {
         ImageFault::BadLine(line) => Fault::ImageLine(line),
         ImageFault::Memory => Fault::Memory,
@@ -16,7 +25,9 @@ pub(crate) fn image_fault(fault: ImageFault) -> Fault {
 }
 
 /// What is wrong with what was handed over, with this number.
-pub(crate) fn handed_fault(number: usize, fault: HandedFault) -> Fault {
+pub(crate) fn handed_fault(number: usize, fault: HandedFault) -> Fault
+    ensures { result ≡ told_of_handed number fault }
+{
     let fault = match fault {
         HandedFault::Line => FramesFault::Line,
         HandedFault::Length => FramesFault::Length,
@@ -30,11 +41,16 @@ pub(crate) fn handed_fault(number: usize, fault: HandedFault) -> Fault {
 }
 
 /// Two that were handed over don't go together.
-pub(crate) fn clash() -> Fault {
+pub(crate) fn clash() -> Fault
+    ensures { result ≡ WithFrames AllHanded Clash }
+{
     Fault::Frames(Frames::AllHanded, FramesFault::Clash)
 }
 
-pub(crate) fn store_fault(fault: StoreFault) -> Fault {
+/// Why two that were handed over are not joined.
+pub(crate) fn store_fault(fault: StoreFault) -> Fault
+    ensures { result ≡ told_of_store fault }
+{
     match fault {
         StoreFault::Memory => Fault::Memory,
         StoreFault::OtherGuest => clash(),
@@ -42,7 +58,9 @@ pub(crate) fn store_fault(fault: StoreFault) -> Fault {
 }
 
 /// Why no primary leads a term with what was handed over.
-pub(crate) fn lead_fault(fault: LeadFault) -> Fault {
+pub(crate) fn lead_fault(fault: LeadFault) -> Fault
+    ensures { result ≡ told_of_lead fault }
+{
     match fault {
         LeadFault::NoKeeper => Fault::Frames(Frames::AllHanded, FramesFault::Keeper),
         LeadFault::NotLive(GivenFault::OtherTerm) => {

@@ -1,11 +1,10 @@
 //! The threads of a primary, and what they are given.
 
-ghost use Rattle.std.specs.Prelude.{◌≡◌, length, IfOk};
+ghost use Rattle.std.specs.Prelude.{◌≡◌, length, map, IfOk};
 
-use crate::outset::Removed;
 use ends::{
-    Door, Event, Host, Keeps, Listening, Pen, Post, Relief, Taker, Writer, begin_posts, leave_all,
-    listen_all,
+    Door, Event, Host, Keeps, Listening, Pen, Post, Relief, RemovedFile, Taker, Writer,
+    begin_posts, leave_all, listen_all,
 };
 use ft_types::{Count, Counts, HART_LIMIT, Hart, Keeper, Memory, Output, Term};
 use live_words::PrimaryWords;
@@ -90,10 +89,10 @@ impl Office {
         words: &PrimaryWords<'_>,
         frames: Vec<u8>,
         // proof: the clause asks for it, and nothing else.
-        _removed: Removed,
+        _removed: Vec<RemovedFile<'_>>,
         to: &Door<Event, T>,
     ) -> Result<(Office, Vec<JoinHandle<()>>), Memory>
-        requires { _removed.many ≡ length words.now.handed.items }
+        requires { map (λ file. file.name) _removed.items ≡ words.now.handed.items }
     {
         let mut threads = Vec::new(rt.alloc());
         let answers = begin_posts(rt, 0, &words.answers, Keeps::Last, to, &mut threads)?;

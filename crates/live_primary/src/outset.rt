@@ -12,7 +12,7 @@ ghost use Rattle.leading.specs.Beginning.{GoesLive};
 ghost use Rattle.live_primary.specs.Outsets.{AreGivenOf, AreSentFirst, SetsOut};
 
 use crate::faults::{clash, handed_fault, image_fault, lead_fault, store_fault};
-use ends::{Fault, Host, NamedFile, Paths, file_fault, read_file, remove_file};
+use ends::{Fault, Host, NamedFile, Paths, RemovedFile, file_fault, read_file, remove_file};
 use fenced_keeper::Given;
 use fragment_codec::Frame;
 use ft_types::{Guest, Memory, MemorySink};
@@ -26,20 +26,13 @@ use std::result::Result;
 
 /// A primary that has gone live.
 #[derive(Drop)]
-pub(crate) struct Outset {
+pub(crate) struct Outset<'a> {
     pub(crate) guest: Guest,
     pub(crate) leader: Leader,
     /// What keepers are sent first: all frames that were handed over, and then the opening of the term.
     pub(crate) frames: Vec<u8>,
-    /// What was handed over is gone.
-    pub(crate) removed: Removed,
-}
-
-/// So many files that were handed over are gone, and that is on disk. Whoever has none of these sends nothing (`Office::open`).
-#[derive(Drop)]
-pub(crate) struct Removed {
-    // proof: clauses alone read it.
-    many: usize,
+    /// What was handed over is gone: who does not have all of it sends nothing (`Office::open`).
+    pub(crate) removed: Vec<RemovedFile<'a>>,
 }
 
 /// The image of these bytes.
@@ -88,15 +81,18 @@ fn handed_logs<H: Host>(rt: &H, guest: Guest, names: &[&str]) -> Result<Vec<Hand
 }
 
 /// What was handed over makes one primary: whoever is started once more by the same words finds it no more, also where the machine stopped.
-fn remove_all<H: Host>(rt: &H, names: &[&str]) -> Result<Removed, Fault>
-    ensures { IfOk result (λ removed. removed.many ≡ length names.now) }
+fn remove_all<'a, H: Host>(rt: &H, names: &[&'a str]) -> Result<Vec<RemovedFile<'a>>, Fault>
+    ensures { IfOk result (λ removed. map (λ file. file.name) removed.items ≡ names.now) }
 {
+    let mut removed = Vec::new(rt.alloc());
+    removed.reserve(names.len())?;
     for number in 0..names.len() {
-        if let Err(error) = remove_file(rt, names[number]) {
-            return Err(file_fault(&error, NamedFile::Handed(number)));
+        match remove_file(rt, names[number]) {
+            Ok(file) => removed.push_reserved(file),
+            Err(error) => return Err(file_fault(&error, NamedFile::Handed(number))),
         }
     }
-    Ok(Removed { many: names.len() })
+    Ok(removed)
 }
 
 /// All frames that were handed over, each once.
@@ -188,10 +184,10 @@ fn go_live(
 }
 
 /// Goes live from what was handed over, and removes that.
-pub(crate) fn set_out<H: Host>(rt: &H, words: &PrimaryWords<'_>) -> Result<Outset, Fault>
+pub(crate) fn set_out<'a, H: Host>(rt: &H, words: &PrimaryWords<'a>) -> Result<Outset<'a>, Fault>
     ensures live { IfOk result (λ o. SetsOut words.now.quorum words.now.term o.leader.primary o.leader.gate o.frames.items) }
     ensures released { IfOk result (λ o. o.leader.released ≡ []) }
-    ensures removed { IfOk result (λ o. o.removed.many ≡ length words.now.handed.items) }
+    ensures removed { IfOk result (λ o. map (λ file. file.name) o.removed.items ≡ words.now.handed.items) }
 {
     let alloc = rt.alloc();
     let image = read_image_file(rt, words.image)?;
