@@ -10,10 +10,11 @@ use Rattle.log_join.specs.Stores.{nothing}
 use Rattle.scripts.specs.declared.event.Event.{Event}
 use Rattle.failover_world.specs.declared.fault.WorldFault.{WorldFault}
 use Rattle.failover_world.specs.declared.fault.WorldFault.TheVariants.{Memory as NoMemory}
+use Rattle.term_gate.specs.TermGates.{IsNewGate}
 use Rattle.primary.specs.declared.released.Released.{Released}
 use Rattle.primary.specs.Primaries.{IsBooted}
 use Rattle.failover_world.specs.Worlds.{WorldView}
-use Rattle.failover_world.specs.Happenings.{IsFresh, Happens}
+use Rattle.failover_world.specs.Happenings.{Happens}
 use Rattle.failover_world.specs.Refusals.{Refuses, IsLeft}
 use Rattle.failover_world.specs.Promises.{IsOne, IsOfMachine, IsKept, AreHeld, AreAckedInside, AreNotesReleased, NoneIsNoted}
 use Rattle.log_streams.specs.declared.faults.StreamsFault.TheVariants.{Write}
@@ -31,7 +32,7 @@ pub record Begins (image : ImageContents) (keepers need : ℕ) (w : WorldView) :
   pub runs : (w.runs ≡ true) × (w.stopped ≡ [])
   pub sent : w.sent ≡ Opening w.primary.opening ∷ []
   pub stores : w.stores ≡ replicate keepers (Some (nothing (guest_of image)))
-  pub gate : IsFresh w.gate 1 keepers need image.harts []
+  pub gate : IsNewGate w.gate 1 keepers need image.harts []
   pub released : w.released ≡ []
 
 -- the events happened, one after the other

@@ -42,12 +42,13 @@ use Rattle.book_recorder.proofs.Books.{revived_are_term_books}
 use Rattle.term_gate.specs.TermGates.{TermGateView, acked_at}
 use Rattle.go_live.specs.Lives.{IsAtPosition}
 use Rattle.go_live.specs.Histories.{MakesLonger}
+use Rattle.go_live.specs.Beginnings.{GoesLive, BeginsTerm}
 use Rattle.primary.specs.declared.granted.Primary.{Primary}
 use Rattle.failover_world.specs.Worlds.{WorldView, term_of}
 use Rattle.primary.specs.Outputs.{said_by, said_at}
 use Rattle.primary.specs.Gating.{AreRising}
-use Rattle.failover_world.specs.Happenings.{GoesLive, stores_of}
-use Rattle.failover_world.specs.machinery.Tied.{TermBook, retold, retold_in, history, told_as, theory_world, quorum_of, live_book, AreParts, IsTied, BeginsTerm}
+use Rattle.failover_world.specs.Happenings.{GoesLiveFrom, stores_of}
+use Rattle.failover_world.specs.machinery.Tied.{TermBook, retold, retold_in, history, told_as, theory_world, quorum_of, live_book, AreParts, IsTied}
 use Rattle.failover_world.proofs.Places.{retold_put}
 use Rattle.failover_world.proofs.Stopping as stopping
 use Rattle.primary.proofs.Put.{put_put}
@@ -97,7 +98,7 @@ rising_said (Some h) rising = pair_mapped (λ (o p : TheoryOutput). o.step < p.s
 
 module _ (v : WorldView) (is : IsTied v) (term : ℕ) (named : List ℕ) (p : Primary)
     (marks : List ℕ) (begun_at : IsAtPosition v.image (map (λ s. s.1) (stores_of v.stores named)) term p.book.start p.opening marks) (later : term_of v < term)
-    (log_start : (hart : ℕ) → start_of p.book.mode.edges hart ≡ counts_of p.book.start hart) (begins : BeginsTerm v term named p) where
+    (log_start : (hart : ℕ) → start_of p.book.mode.edges hart ≡ counts_of p.book.start hart) (begins : BeginsTerm v.image term (map (λ s. s.1) (stores_of v.stores named)) p) where
   abbrev pages : ℕ
   pages = v.image.pages
 
@@ -216,9 +217,15 @@ granted_world v p g =
     record v { primary = p; runs = true; stopped = v.stopped ++ v.primary ∷ []; sent = v.sent ++ Opening p.opening ∷ []; gate = g }
 
 module _ (v : WorldView) (is : IsTied v) (parts : AreParts v) (term : ℕ) (named : List ℕ) (p : Primary) (g : TermGateView)
-    (live : GoesLive v term named p g) (begins : BeginsTerm v term named p) where
+    (goes : GoesLiveFrom v term named p g) where
+  abbrev live : GoesLive v.image v.keepers v.need term (map (λ s. s.0) (stores_of v.stores named)) (map (λ s. s.1) (stores_of v.stores named)) p g
+  live = goes.live
+
+  abbrev begins : BeginsTerm v.image term (map (λ s. s.1) (stores_of v.stores named)) p
+  begins = goes.begins
+
   abbrev own_book : IsTermBook v.image.pages p.book
-  own_book = new_book v is term named p live.marks live.at live.later live.unused.log_start begins
+  own_book = new_book v is term named p live.marks live.at goes.later live.unused.log_start begins
 
   -- ---- in the theory
 
@@ -233,14 +240,14 @@ module _ (v : WorldView) (is : IsTied v) (parts : AreParts v) (term : ℕ) (name
       elim (see (is.terms live.at.position.term)) [
         | inl none ↦
             let fact : BookFact (system_of (hardware v.image.pages)) is.are_theory.outs (boot_of v.image) =
-            AtBoot now (is.are_theory.from p.book own_book ∙ from_boot v is term named p live.marks live.at live.later live.unused.log_start begins none) in
+            AtBoot now (is.are_theory.from p.book own_book ∙ from_boot v is term named p live.marks live.at goes.later live.unused.log_start begins none) in
             theory.AtBoot (ap (retold_in told) none) (fact, is.is_recorder.tells fact)
         | inr (q, there) ↦
             let was = is.are_theory.book q.told.book q.told.is in
             let fact : BookFact (system_of (hardware v.image.pages)) is.are_theory.outs (boot_of v.image) =
             AtCut was (count_at live.at.position.counts) now
             (
-            is.are_theory.from p.book own_book ∙ (revived v is term named p live.marks live.at live.later live.unused.log_start begins q there).start
+            is.are_theory.from p.book own_book ∙ (revived v is term named p live.marks live.at goes.later live.unused.log_start begins q there).start
             ∙ ap (λ (m : HartMachine). at (system_of (hardware v.image.pages)) m
             (journal_turns (heard_by q.told.book.mode) q.told.book.start q.told.book.journal) (count_at live.at.position.counts)) (sym (is.are_theory.from q.told.book q.told.is))
             ∙ ap (λ (ts : List (Turn (List Input))). at (system_of (hardware v.image.pages)) was.from ts (count_at live.at.position.counts)) (sym (is.are_theory.turns q.told.book q.told.is))
@@ -283,7 +290,7 @@ module _ (v : WorldView) (is : IsTied v) (parts : AreParts v) (term : ℕ) (name
   in_theory =
       subst (λ o. Comes (with_opening o)) (sym live.at.opened)
       (stopping.grants is.is_recorder.recorder (guest_of v.image) (quorum_of v) is.comes term (chosen_of v.stores named) live.at.joined live.at.position now
-      its_marks live.later has
+      its_marks goes.later has
       (subst (λ n. v.keepers < v.need + how_many n (chosen_of v.stores named)) parts.stores (enough v is named live.enough))
       live.at.replayed.is_position (subst IsOpening live.at.opened begins.rules) begun
       (λ hart.
@@ -295,7 +302,7 @@ module _ (v : WorldView) (is : IsTied v) (parts : AreParts v) (term : ℕ) (name
   none_noted =
       fun_ext
       (λ keeper. fun_ext
-      (λ hart. ap (λ (rows : List (List ℕ)). count_at (slice_index_or rows keeper []) hart) live.fresh.acked
+      (λ hart. ap (λ (rows : List (List ℕ)). count_at (slice_index_or rows keeper []) hart) live.gate.acked
       ∙ none_acked v.keepers keeper (replicate v.image.harts 0) (no_counts v.image.harts) hart))
 
   abbrev new_past : Past (TermBook v.image.pages)
@@ -305,7 +312,7 @@ module _ (v : WorldView) (is : IsTied v) (parts : AreParts v) (term : ℕ) (name
   terms = put is.terms p.opening.term (Some new_past)
 
   now_later : term_of v < p.opening.term
-  now_later = subst (λ n. term_of v < n) (sym (is_term v is term named p live.marks live.at live.later live.unused.log_start begins)) live.later
+  now_later = subst (λ n. term_of v < n) (sym (is_term v is term named p live.marks live.at goes.later live.unused.log_start begins)) goes.later
 
   -- the primaries that stopped, the last one among them, are of earlier terms, with the notes of their books
   earlier : (q : Primary) → Contains (v.stopped ++ v.primary ∷ []) q → q.opening.term < p.opening.term
@@ -338,7 +345,7 @@ module _ (v : WorldView) (is : IsTied v) (parts : AreParts v) (term : ℕ) (name
             in_theory);
         went_out = is.went_out;
         no_more = is.no_more;
-        gone_out = λ hart o has. absurd (none_gone o (subst (λ (os : List Output). Contains os o) (live.fresh.gone hart) has));
+        gone_out = λ hart o has. absurd (none_gone o (subst (λ (os : List Output). Contains os o) (live.gate.gone hart) has));
         noted = λ hart.
             ap (λ (f : ℕ → List (ℕ × ℕ)). f hart) (put_same is.notes p.opening.term p.opening.term (λ hart. []) refl) ∙ sym (live.unused.notes hart);
         noted_before = λ q has hart.
@@ -347,11 +354,11 @@ module _ (v : WorldView) (is : IsTied v) (parts : AreParts v) (term : ℕ) (name
             noted_so_far q has hart;
         marked = λ hart.
             ap (λ (f : ℕ → ℕ). f hart) (put_same is.marks p.opening.term p.opening.term its_marks refl) ∙ sym (live.at.replayed.noted hart) ∙
-            sym (live.fresh.marked hart);
+            sym (live.gate.marked hart);
         pieces = λ hart. [];
         is_book = own_book;
         there = put_same is.terms p.opening.term p.opening.term (Some new_past) refl;
-        of_book = of_book v is term named p live.marks live.at live.later live.unused.log_start begins;
+        of_book = of_book v is term named p live.marks live.at goes.later live.unused.log_start begins;
         sealed = live.uncut.1;
         opened = λ u q at. elim (same_or_not p.opening.term u) [
           | inl same ↦
@@ -364,8 +371,8 @@ module _ (v : WorldView) (is : IsTied v) (parts : AreParts v) (term : ℕ) (name
         ];
         longer =
             subst (λ (t : Family (TermBook v.image.pages)). MakesLonger v.image (history t) p.opening.term p.book.start p.opening)
-            (sym (put_put is.terms p.opening.term (Some new_past) None ∙ put_own is.terms p.opening.term None (ap is.terms (is_term v is term named p live.marks live.at live.later live.unused.log_start begins) ∙ not_granted v is term named p live.marks live.at live.later live.unused.log_start begins)))
-            (subst (λ n. MakesLonger v.image (history is.terms) n p.book.start p.opening) (sym (is_term v is term named p live.marks live.at live.later live.unused.log_start begins))
+            (sym (put_put is.terms p.opening.term (Some new_past) None ∙ put_own is.terms p.opening.term None (ap is.terms (is_term v is term named p live.marks live.at goes.later live.unused.log_start begins) ∙ not_granted v is term named p live.marks live.at goes.later live.unused.log_start begins)))
+            (subst (λ n. MakesLonger v.image (history is.terms) n p.book.start p.opening) (sym (is_term v is term named p live.marks live.at goes.later live.unused.log_start begins))
             (begins.longer (history is.terms) (honest v is named)));
         before =
             before_now is.terms (term_of v) p.opening.term v.stopped v.primary (live_book v is.pieces is.is_book) new_past now_later refl is.there refl is.of_book

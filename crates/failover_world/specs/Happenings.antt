@@ -1,23 +1,20 @@
 -- What each event does to the world.
-use Rattle.std.specs.Prelude.{ℕ, ◌≡◌, ◌≢◌, ◌<◌, ◌++◌, ◌∷◌, ◌==◌, [], List, true, false, length, map, replicate, slice_get, slice_set, Option, Some, None, All, if◌then◌else◌}
+use Rattle.std.specs.Prelude.{ℕ, ◌≡◌, ◌≢◌, ◌<◌, ◌++◌, ◌∷◌, ◌==◌, [], List, true, false, length, map, slice_get, slice_set, Option, Some, None, All, if◌then◌else◌}
 use Rattle.std.specs.List.{list_any, flat_map, enumerate_from}
 use Rattle.ft_types.specs.declared.names.TheConstants.{HART_LIMIT}
-use Rattle.ft_types.specs.Counts.{count_at}
 use Rattle.input_log.specs.declared.Input.{Input}
 use Rattle.guest_image.specs.Image.{guest_of}
-use Rattle.book_modes.specs.Recordings.{IsOffered, IsUnused}
+use Rattle.book_modes.specs.Recordings.{IsOffered}
 use Rattle.fragment_codec.specs.declared.frame.Frame.{Frame}
 use Rattle.fragment_codec.specs.declared.frame.Frame.TheVariants.{Opening}
 use Rattle.log_pieces.specs.Pieces.{IsCut, book_log}
 use Rattle.log_join.specs.Stores.{StoreView, IsJoin, alone}
 use Rattle.closed_cut.specs.Position.{IsPosition}
 use Rattle.ft_types.specs.declared.position.Position.{Position}
-use Rattle.output_gate.specs.Gates.{noted_at, mark_at, gone_of, line_of, held_outputs, after_release}
+use Rattle.output_gate.specs.Gates.{line_of, held_outputs, after_release}
 use Rattle.output_gate.specs.Orders.{ArePassedBelow}
 use Rattle.term_gate.specs.TermGates.{TermGateView, AreAcked}
-use Rattle.go_live.specs.Quorums.{AreEnough, IsNew}
-use Rattle.go_live.specs.Lives.{IsAtPosition}
-use Rattle.primary.specs.Primaries.{BeginsFrom, no_limits, IsUncut}
+use Rattle.go_live.specs.Beginnings.{GoesLive, BeginsTerm}
 use Rattle.scripts.specs.declared.event.Event.{Event}
 use Rattle.scripts.specs.declared.event.Event.TheVariants as on
 use Rattle.primary.specs.declared.granted.Primary.{Primary}
@@ -113,37 +110,17 @@ if_named named keeper (Some store) = if list_any (λ n. n == keeper) named then 
 abbrev pub stores_of : List (Option StoreView) → List ℕ → List (ℕ × StoreView)
 stores_of stores named = flat_map (λ s. if_named named s.0 s.1) (enumerate_from 0 stores)
 
--- no keeper has acknowledged anything, none is noted, and nothing went out; outputs with numbers below the marks will not, and
--- only such are passed over
-pub record IsFresh (g : TermGateView) (term keepers need harts : ℕ) (marks : List ℕ) : Type 0 where
-  pub of_harts : g.harts ≡ harts
-  pub of_term : g.gate.term ≡ term
-  pub of_keepers : g.gate.keepers ≡ keepers
-  pub of_need : g.gate.need ≡ need
-  pub acked : g.acked ≡ replicate keepers (replicate harts 0)
-  pub noted : (keeper hart : ℕ) → noted_at g.gate keeper hart ≡ 0
-  pub gone : (hart : ℕ) → gone_of g.gate hart ≡ []
-  pub marked : (hart : ℕ) → mark_at g.gate hart ≡ count_at marks hart
-  pub passed : ArePassedBelow g.gate
-
--- the primary begins where the stores of these keepers lead to, with its gate, which passes over what is noted there
-pub record GoesLive (v : WorldView) (term : ℕ) (named : List ℕ) (p : Primary) (g : TermGateView) : Type 0 where
-  pub enough : AreEnough v.keepers v.need (map (λ s. s.0) (stores_of v.stores named))
+-- the primary begins a later term, where the stores of these keepers lead to
+pub record GoesLiveFrom (v : WorldView) (term : ℕ) (named : List ℕ) (p : Primary) (g : TermGateView) : Type 0 where
   pub later : term_of v < term
-  pub new : IsNew (map (λ s. s.1) (stores_of v.stores named)) term
-  pub marks : List ℕ
-  pub at : IsAtPosition v.image (map (λ s. s.1) (stores_of v.stores named)) term p.book.start p.opening marks
-  pub begins : BeginsFrom p.book.start p.book
-  pub unused : IsUnused p.book.mode p.book.start (no_limits v.image.harts)
-  pub uncut : IsUncut p.opening.base p.sealed
-  pub fresh : IsFresh g term v.keepers v.need v.image.harts marks
-  pub offered : AreAllOffered g.gate p.book.machine
+  pub live : GoesLive v.image v.keepers v.need term (map (λ s. s.0) (stores_of v.stores named)) (map (λ s. s.1) (stores_of v.stores named)) p g
+  pub begins : BeginsTerm v.image term (map (λ s. s.1) (stores_of v.stores named)) p
 
 -- a primary of a new term went live where the stores of these keepers lead to
 pub record Grants (v : WorldView) (term : ℕ) (named : List ℕ) (w : WorldView) : Type 0 where
   pub quiet : v.runs ≡ false
   pub there : All (λ keeper. store_at v.stores keeper ≢ None) named
-  pub live : GoesLive v term named w.primary w.gate
+  pub live : GoesLiveFrom v term named w.primary w.gate
   pub rest : w ≡ record v {
     primary = w.primary;
     runs = true;

@@ -10,10 +10,10 @@ ghost use Rattle.scripts.specs.declared.event.Event.TheVariants as on;
 ghost use Rattle.failover_world.specs.declared.fault.WorldFault.TheVariants.{NoPrimary};
 ghost use Rattle.primary.specs.Primaries.{IsBooted};
 ghost use Rattle.scripts.specs.Coming.{MayCome};
+ghost use Rattle.term_gate.specs.TermGates.{IsNewGate};
 ghost use Rattle.failover_world.specs.Worlds.{term_of};
-ghost use Rattle.failover_world.specs.Happenings.{GoesLive, IsFresh, Grants, Happens};
+ghost use Rattle.failover_world.specs.Happenings.{GoesLiveFrom, Grants, Happens};
 ghost use Rattle.failover_world.specs.Refusals.{Refuses, RefusesGrant, CannotGoLive, IsLeft};
-ghost use Rattle.failover_world.specs.machinery.Tied.{BeginsTerm};
 ghost use Rattle.go_live.specs.declared.fault.LiveFault.{LiveFault as live_fault};
 ghost use Rattle.go_live.specs.declared.fault.LiveFault.TheVariants.{Memory as NoLive};
 ghost use Rattle.input_log.specs.Inputs.{is_bell};
@@ -132,7 +132,7 @@ impl World {
         ensures runs { IfOk result (λ w. (w.runs ≡ true) × (w.stopped ≡ [])) }
         ensures sent { IfOk result (λ w. w.sent ≡ opens w.primary.opening ∷ []) }
         ensures stores { IfOk result (λ w. w.stores ≡ replicate keepers (Some (nothing (guest_of image.now)))) }
-        ensures gate { IfOk result (λ w. IsFresh w.gate 1 keepers need image.now.harts []) }
+        ensures gate { IfOk result (λ w. IsNewGate w.gate 1 keepers need image.now.harts []) }
         ensures released { IfOk result (λ w. w.released ≡ []) }
     {
         let guest = image.guest();
@@ -371,9 +371,8 @@ impl World {
         term: Term,
         keepers: &[u64],
     ) -> Result<(Primary, TermGate), LiveFault>
-        ensures goes { IfOk result (λ p. GoesLive self.now term keepers.now p.0 p.1) }
+        ensures goes { IfOk result (λ p. GoesLiveFrom self.now term keepers.now p.0 p.1) }
         ensures refused { IfErr result (λ f. f ≢ NoLive → CannotGoLive self.now term keepers.now f) }
-        ensures begins { IfOk result (λ p. BeginsTerm self.now term keepers.now p.0) }
     {
         let stores = stores_named(alloc, &self.stores, keepers)?;
         let asked = if term <= self.term() { 0 } else { term };

@@ -26,11 +26,10 @@ use Rattle.book_recorder.proofs.Books.{are_theory, booted_are_term_books}
 use Rattle.fenced_theory.specs.Machines.{AtBoot, IsRecorder}
 use Rattle.fenced_theory.specs.Worlds.{first_term}
 use Rattle.fenced_theory.proofs.Recording.{of_logs}
-use Rattle.term_gate.specs.TermGates.{acked_at}
+use Rattle.term_gate.specs.TermGates.{acked_at, IsNewGate}
 use Rattle.fenced_theory.specs.Worlds as theory
 use Rattle.primary.specs.declared.released.Released.{Released}
 use Rattle.primary.specs.Primaries.{IsBooted}
-use Rattle.failover_world.specs.Happenings.{IsFresh}
 use Rattle.primary.specs.Gating.{AreOffered}
 use Rattle.failover_world.specs.machinery.Tied.{TermBook, Books, retold_in, told_as}
 use Rattle.failover_world.proofs.Places.{retold_put}
@@ -61,7 +60,7 @@ pub record IsFirst (v : WorldView) (r : RunningView) : Type 0 where
   pub only : v.running ≡ r ∷ []
   pub booted : IsBooted v.image r.primary
   pub primary : IsPrimary r.primary.book
-  pub fresh : IsFresh r.gate 1 v.keepers v.need v.image.harts []
+  pub fresh : IsNewGate r.gate 1 v.keepers v.need v.image.harts []
   pub offered : AreOffered r.gate.gate r.primary.book.machine
   pub sent : v.sent ≡ Opening r.primary.opening ∷ []
   pub many : length v.held ≡ v.keepers

@@ -165,7 +165,7 @@ module _ (v : WorldView) (is : IsWorld v) where
   went_live term named r new from =
       record {
         parts =
-            with_one_more v is.parts r (v.sent ++ Opening r.primary.opening ∷ []) from.live.fresh.of_keepers from.live.fresh.of_need from.live.fresh.of_harts
+            with_one_more v is.parts r (v.sent ++ Opening r.primary.opening ∷ []) from.live.gate.of_keepers from.live.gate.of_need from.live.gate.of_harts
             (all_stay r.gate.gate r.primary.book.machine from.live.offered) (begun_led r from.live.begins);
-        tied = granted v is.tied is.parts term named r from.live from.begins new;
+        tied = granted v is.tied is.parts term named r from.own from.live from.begins new;
       }

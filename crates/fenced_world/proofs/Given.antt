@@ -3,21 +3,17 @@ use Rattle.std.proofs.Common.{◌≡◌, ◌≢◌, ℕ, ◌+◌, ◌-◌, ◌<�
 use Rattle.std.specs.List.{Any}
 use Rattle.std.proofs.lemmas.List.{length-map, get_or-map}
 use Rattle.guest_image.specs.Image.{ImageContents, guest_of}
-use Rattle.guest_image.specs.Machine.{MachineState}
-use Rattle.fragment_codec.specs.Rules.{OpeningParts, IsOpening}
 use Rattle.hart_replay.specs.Images.{GuestHistory}
-use Rattle.hart_replay.specs.Primaries.{IsPrimary}
 use Rattle.hart_replay.specs.declared.fault.ReplayFault.TheVariants.{OtherGuest}
 use Rattle.go_live.specs.declared.fault.LiveFault.TheVariants.{TooFewStores, TermNotNew, Replay, Memory}
 use Rattle.go_live.specs.Quorums.{distinct_below, AreEnough, IsOld}
-use Rattle.go_live.specs.Histories.{AreOfHistory, IsOfHistory, MakesLonger}
-use Rattle.primary.specs.declared.granted.Primary.{Primary}
+use Rattle.go_live.specs.Histories.{AreOfHistory}
 use Rattle.fenced_keeper.specs.declared.keeper.Given.{Given}
 use Rattle.fenced_live.specs.Given.{IfReplay}
 use Rattle.fenced_live.specs.declared.fault.GivenFault.{GivenFault}
 use Rattle.fenced_live.specs.declared.fault.GivenFault.TheVariants.{OtherTerm, Live}
 use Rattle.fenced_world.specs.Keepers.{gift_of}
-use Rattle.fenced_world.specs.Reviving.{stores_in, givers_in, BeginsTerm, CannotGoLive}
+use Rattle.fenced_world.specs.Reviving.{stores_in, givers_in, CannotGoLive}
 
 pub given_stores : (given : List Given) → map (λ g. g.store.now) given ≡ stores_in (map gift_of given)
 given_stores [] = refl
@@ -30,25 +26,6 @@ given_givers (g ∷ given) = ap (λ ns. g.keeper ∷ ns) (given_givers given)
 any_mapped : {A B : Type 0} (f : A → B) (Q : B → Type 0) (xs : List A) → Any (λ x. Q (f x)) xs → Any Q (map f xs)
 any_mapped f Q xs (k, x, within, is, holds) =
     (k, f x, (let many : length (map f xs) ≡ length xs = length-map xs f in omega (arith, within, many)), get_or-map f xs k x (f x) within ∙ ap f is, holds)
-
-pub begins : (image : ImageContents) (term : ℕ) (given : List Given) (p : Primary) (start : MachineState) (opening : OpeningParts) → p.book.start ≡ start →
-    p.opening ≡ opening → IsPrimary p.book → IsOpening opening →
-    ((h : GuestHistory) → AreOfHistory image h (map (λ g. g.store.now) given) → IsOfHistory image h start opening) →
-    ((h : GuestHistory) → AreOfHistory image h (map (λ g. g.store.now) given) → MakesLonger image h term start opening) →
-    BeginsTerm image term (stores_in (map gift_of given)) p
-begins image term given p start opening same opens primary rules is_history longer =
-    record {
-      primary = primary;
-      rules = subst IsOpening (sym opens) rules;
-      is_history = λ h honest.
-          subst (λ (o : OpeningParts). IsOfHistory image h p.book.start o) (sym opens)
-          (subst (λ (m : MachineState). IsOfHistory image h m opening) (sym same)
-          (is_history h (subst (AreOfHistory image h) (sym (given_stores given)) honest)));
-      longer = λ h honest.
-          subst (λ (o : OpeningParts). MakesLonger image h term p.book.start o) (sym opens)
-          (subst (λ (m : MachineState). MakesLonger image h term m opening) (sym same)
-          (longer h (subst (AreOfHistory image h) (sym (given_stores given)) honest)));
-    }
 
 pub cannot : (image : ImageContents) (keepers need term : ℕ) (given : List Given) (fault : GivenFault) →
     (fault ≡ OtherTerm → Any (λ g. g.term ≢ term) given) →

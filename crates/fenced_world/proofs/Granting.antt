@@ -39,7 +39,8 @@ use Rattle.failover_world.specs.machinery.Tied.{TermBook, Books, retold, retold_
 use Rattle.failover_world.proofs.Places.{retold_put}
 use Rattle.fenced_world.specs.Keepers.{gifts_of}
 use Rattle.fenced_world.specs.Running.{RunningView}
-use Rattle.fenced_world.specs.Reviving.{GoesLive, BeginsTerm, stores_in}
+use Rattle.go_live.specs.Beginnings.{GoesLive, BeginsTerm}
+use Rattle.fenced_world.specs.Reviving.{givers_in, stores_in}
 use Rattle.fenced_world.specs.Worlds.{WorldView}
 use Rattle.fenced_world.specs.Happenings.{IsNotGranted}
 use Rattle.fenced_world.specs.machinery.Tied.{IsIn, AreTerms, IsTied, AreParts, past_of, quorum_of}
@@ -100,7 +101,8 @@ terms_more {pages} terms running r past are new own =
     }
 
 module _ (v : WorldView) (is : IsTied v) (parts : AreParts v) (term : ℕ) (named : List ℕ) (r : RunningView)
-    (live : GoesLive v.image v.keepers v.need term (gifts_of v.held named) r)
+    (own : All (λ g. g.term ≡ term) (gifts_of v.held named))
+    (live : GoesLive v.image v.keepers v.need term (givers_in (gifts_of v.held named)) (stores_in (gifts_of v.held named)) r.primary r.gate)
     (begins : BeginsTerm v.image term (stores_in (gifts_of v.held named)) r.primary) (new : IsNotGranted v term) where
   abbrev position : Position
   position = live.at.position
@@ -220,8 +222,8 @@ module _ (v : WorldView) (is : IsTied v) (parts : AreParts v) (term : ℕ) (name
   abbrev now : Books v.image.pages is.are_theory
   now = is.are_theory.book r.primary.book own_book
 
-  abbrev gave : HaveGiven v is term named live.own (length v.held)
-  gave = have_given v is term named live.own (length v.held)
+  abbrev gave : HaveGiven v is term named own (length v.held)
+  gave = have_given v is term named own (length v.held)
 
   terms_then : gave.world.terms ≡ (λ u. retold_in told (is.terms u))
   terms_then = gave.terms ∙ is.terms_are
@@ -252,7 +254,7 @@ module _ (v : WorldView) (is : IsTied v) (parts : AreParts v) (term : ℕ) (name
       ])
 
   has : theory.HasGiven (guest_of v.image) gave.world.terms (gave.world.given term) (chosen_of v.held named) (length v.held) live.at.joined
-  has = all_given v is term named live.own live.at.joined live.at.are_joined
+  has = all_given v is term named own live.at.joined live.at.are_joined
 
   none_noted : (u hart : ℕ) → gave.world.notes u hart ≡ []
   none_noted u hart = ap (λ f. f u hart) gave.notes ∙ is.unnoted.notes u hart
@@ -303,7 +305,7 @@ module _ (v : WorldView) (is : IsTied v) (parts : AreParts v) (term : ℕ) (name
             (elim (push_cases v.running r n q there) [
               | inl was ↦ is.acked n q was k hart
               | inr (last, so) ↦
-                  let none = fresh_acked r.gate v.keepers v.image.harts live.fresh.acked k hart in
+                  let none = fresh_acked r.gate v.keepers v.image.harts live.gate.acked k hart in
                   subst (λ (q : RunningView). acked_at q.gate k hart ≤ is.world.acked q.primary.opening.term k hart) so (omega (arith, none))
             ]);
         standing = λ k x there. let s = gave.standing k x there in record { has = s.has; wrote = s.wrote; fenced = s.fenced };

@@ -9,18 +9,17 @@ use Rattle.hart_lease.specs.Runs.{counts_of}
 use Rattle.page_book.specs.Books.{BookView}
 use Rattle.book_modes.specs.Recordings.{RecordingView}
 use Rattle.fragment_codec.specs.Rules.{OpeningParts, IsOpening}
+use Rattle.log_join.specs.Stores.{StoreView}
 use Rattle.hart_replay.proofs.walking.Outcomes.{booted_none, booted_length}
-use Rattle.term_gate.specs.TermGates.{TermGateView}
+use Rattle.term_gate.specs.TermGates.{TermGateView, IsNewGate}
+use Rattle.go_live.specs.Beginnings.{GoesLive}
 use Rattle.go_live.proofs.Places.{has_harts}
 use Rattle.primary.specs.declared.granted.Primary.{Primary}
 use Rattle.primary.specs.Primaries.{IsBooted}
-use Rattle.failover_world.specs.Happenings.{IsFresh}
 use Rattle.primary.proofs.Greatest.{in_limits}
-use Rattle.fenced_world.specs.Keepers.{Gift}
-use Rattle.fenced_world.specs.Running.{RunningView, IsSound}
-use Rattle.fenced_world.specs.Reviving.{GoesLive}
+use Rattle.fenced_world.specs.Running.{IsSound}
 
-pub booted_sound : (image : ImageContents) (keepers need : ℕ) (p : Primary) (g : TermGateView) → IsBooted image p → IsFresh g 1 keepers need image.harts [] →
+pub booted_sound : (image : ImageContents) (keepers need : ℕ) (p : Primary) (g : TermGateView) → IsBooted image p → IsNewGate g 1 keepers need image.harts [] →
     IsSound p g
 booted_sound image keepers need p g booted fresh =
     let machine = ap (λ (b : BookView RecordingView). b.machine) booted.begins ∙ booted.start in
@@ -37,21 +36,21 @@ booted_sound image keepers need p g booted fresh =
       acked = ap length fresh.acked ∙ length-replicate keepers (replicate image.harts 0) ∙ sym fresh.of_keepers;
     }
 
-pub revived_sound : (image : ImageContents) (keepers need term : ℕ) (gifts : List Gift) (r : RunningView) → GoesLive image keepers need term gifts r →
-    IsOpening r.primary.opening → IsSound r.primary r.gate
-revived_sound image keepers need term gifts r live rules =
+pub revived_sound : (image : ImageContents) (keepers need term : ℕ) (here : List ℕ) (stores : List StoreView) (p : Primary) (g : TermGateView) →
+    GoesLive image keepers need term here stores p g → IsOpening p.opening → IsSound p g
+revived_sound image keepers need term here stores p g live rules =
     let machine = ap (λ (b : BookView RecordingView). b.machine) live.begins in
     record {
       idle = ap (λ (b : BookView RecordingView). b.leases) live.begins;
       within = λ hart.
-          subst (λ row. counts_of r.primary.book.machine hart ≤ count_at row hart) (sym live.unused.limits_are)
-          (in_limits image.harts r.primary.opening r.primary.book.machine rules (ap (λ (o : OpeningParts). o.guest.harts) live.at.opened)
+          subst (λ row. counts_of p.book.machine hart ≤ count_at row hart) (sym live.unused.limits_are)
+          (in_limits image.harts p.opening p.book.machine rules (ap (λ (o : OpeningParts). o.guest.harts) live.at.opened)
           (λ h. ap (λ (m : MachineState). counts_of m h) machine ∙ live.at.replayed.counts h
           ∙ ap (λ (o : OpeningParts). count_at o.base h) (sym live.at.opened)) hart);
       harts =
-          ap (λ (m : MachineState). length m.harts) machine ∙ has_harts image live.at.replayed.legs r.primary.book.start live.at.replayed.outcome
-          ∙ sym live.fresh.of_harts;
-      reached = ap length live.uncut.0 ∙ rules.base ∙ ap (λ (o : OpeningParts). o.guest.harts) live.at.opened ∙ sym live.fresh.of_harts;
-      gate_term = live.fresh.of_term ∙ sym (ap (λ (o : OpeningParts). o.term) live.at.opened);
-      acked = ap length live.fresh.acked ∙ length-replicate keepers (replicate image.harts 0) ∙ sym live.fresh.of_keepers;
+          ap (λ (m : MachineState). length m.harts) machine ∙ has_harts image live.at.replayed.legs p.book.start live.at.replayed.outcome
+          ∙ sym live.gate.of_harts;
+      reached = ap length live.uncut.0 ∙ rules.base ∙ ap (λ (o : OpeningParts). o.guest.harts) live.at.opened ∙ sym live.gate.of_harts;
+      gate_term = live.gate.of_term ∙ sym (ap (λ (o : OpeningParts). o.term) live.at.opened);
+      acked = ap length live.gate.acked ∙ length-replicate keepers (replicate image.harts 0) ∙ sym live.gate.of_keepers;
     }

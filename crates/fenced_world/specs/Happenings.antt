@@ -10,9 +10,8 @@ use Rattle.fragment_codec.specs.declared.frame.Frame.TheVariants.{Opening}
 use Rattle.log_pieces.specs.Pieces.{IsCut, book_log}
 use Rattle.log_join.specs.Stores.{IsJoin, alone}
 use Rattle.lease_rounds.specs.Steps.{HasStepped, HoldsNothing}
-use Rattle.term_gate.specs.TermGates.{acked_at}
+use Rattle.term_gate.specs.TermGates.{acked_at, IsNewGate}
 use Rattle.primary.specs.Primaries.{IsBooted}
-use Rattle.failover_world.specs.Happenings.{IsFresh}
 use Rattle.fenced_keeper.specs.Keepers.{Acknowledges}
 use Rattle.fenced_world.specs.declared.event.FencedEvent.{FencedEvent}
 use Rattle.fenced_world.specs.declared.event.FencedEvent.TheVariants as on
@@ -35,7 +34,7 @@ pub record Begins (image : ImageContents) (keepers need : ℕ) (w : WorldView) :
   pub first : RunningView
   pub only : w.running ≡ first ∷ []
   pub booted : IsBooted image first.primary
-  pub fresh : IsFresh first.gate 1 keepers need image.harts []
+  pub fresh : IsNewGate first.gate 1 keepers need image.harts []
   pub sent : w.sent ≡ Opening first.primary.opening ∷ []
   pub many : length w.held ≡ keepers
   pub held : (k : ℕ) → k < keepers → (x : KeptView) × (kept_at w.held k ≡ Some x) × IsNewKeeper (guest_of image) k x

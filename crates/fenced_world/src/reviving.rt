@@ -1,8 +1,9 @@
 //! A primary that goes live from what keepers gave.
 
-ghost use Rattle.std.specs.Prelude.{◌<◌, ◌≤◌, map, IfOk, IfErr};
+ghost use Rattle.std.specs.Prelude.{◌≡◌, ◌<◌, ◌≤◌, map, All, IfOk, IfErr, OnOk};
 ghost use Rattle.ft_types.specs.declared.names.TheConstants.{KEEPER_LIMIT};
-ghost use Rattle.fenced_world.specs.Reviving.{GoesLive, BeginsTerm, CannotGoLive, stores_in};
+ghost use Rattle.go_live.specs.Beginnings.{GoesLive, BeginsTerm};
+ghost use Rattle.fenced_world.specs.Reviving.{CannotGoLive, givers_in, stores_in};
 ghost use Rattle.fenced_world.specs.Keepers.{gift_of};
 
 use crate::running::Running;
@@ -26,7 +27,9 @@ pub(crate) fn revived(
     term: Term,
 ) -> Result<Running, GivenFault>
     requires quorum { (0 < need) × (need ≤ keepers) × (keepers ≤ KEEPER_LIMIT) }
-    ensures goes { IfOk result (λ r. GoesLive image.now keepers need term (map gift_of given.now) r) }
+    ensures own { OnOk result (All (λ g. g.term ≡ term) (map gift_of given.now)) }
+    ensures goes { IfOk result (λ r. GoesLive image.now keepers need term
+        (givers_in (map gift_of given.now)) (stores_in (map gift_of given.now)) r.primary r.gate) }
     ensures begins { IfOk result (λ r. BeginsTerm image.now term (stores_in (map gift_of given.now)) r.primary) }
     ensures refused { IfErr result (λ fault. CannotGoLive image.now keepers need term (map gift_of given.now) fault) }
 {

@@ -6,7 +6,7 @@ ghost use Rattle.ft_types.specs.Guests.{IsGuest};
 ghost use Rattle.guest_image.specs.Image.{guest_of};
 ghost use Rattle.primary.specs.Primaries.{IsBooted};
 ghost use Rattle.primary.specs.Gating.{AreOffered};
-ghost use Rattle.failover_world.specs.Happenings.{IsFresh};
+ghost use Rattle.term_gate.specs.TermGates.{IsNewGate};
 ghost use Rattle.hart_replay.specs.Primaries.{IsPrimary};
 
 use crate::running::Running;
@@ -29,7 +29,7 @@ pub(crate) fn started(
     ensures booted { IfOk result (λ r. IsBooted image.now r.primary) }
     ensures guest { IsGuest (guest_of image.now) }
     ensures primary { IfOk result (λ r. IsPrimary r.primary.book) }
-    ensures fresh { IfOk result (λ r. IsFresh r.gate 1 keepers need image.now.harts []) }
+    ensures fresh { IfOk result (λ r. IsNewGate r.gate 1 keepers need image.now.harts []) }
     ensures offered { IfOk result (λ r. AreOffered r.gate.gate r.primary.book.machine) }
 {
     let primary = Primary::boot(alloc, image)?;

@@ -4,3 +4,4 @@ pub mod Joins
 pub mod Places
 pub mod Causes
 pub mod Longer
+pub mod Beginnings

@@ -3,3 +3,4 @@ pub mod Joined
 pub mod Faults
 pub mod Lives
 pub mod Histories
+pub mod Beginnings

@@ -1,8 +1,8 @@
 -- What was offered of a machine was offered of one that it has become.
-use Rattle.std.proofs.Common.{◌≡◌, ℕ, zero, suc, ◌+◌, ◌≤◌, List, [], ◌∷◌, ◌++◌, length, map, take, slice_get, sym, refl, ap, ◌∙◌, arith}
+use Rattle.std.proofs.Common.{◌≡◌, ℕ, zero, suc, ◌+◌, ◌≤◌, List, [], ◌∷◌, ◌++◌, length, map, take, sym, refl, ap, ◌∙◌, arith}
 use Rattle.std.specs.List.{enumerate_from}
 use Rattle.ft_types.specs.declared.output.Output.{Output}
-use Rattle.output_gate.specs.Gates.{GateView, fresh_line, offered_in, line_of, offered_of}
+use Rattle.output_gate.specs.Gates.{GateView, offered_of}
 use Rattle.guest_image.specs.Machine.{MachineState}
 use Rattle.primary.specs.Outputs.{numbered, said_at}
 use Rattle.primary.specs.Gating.{AreOffered, AreRising}
@@ -36,8 +36,3 @@ offered_later g m n later offered hart =
 
 pub rising : (m : MachineState) → AreTidy m → AreRising m
 rising m tidy hart = (tidy hart).rising
-
-pub none_offered : (g : GateView) (m : MachineState) (marks : ℕ → ℕ) → ((hart : ℕ) → line_of g hart ≡ fresh_line (marks hart)) → AreOffered g m
-none_offered g m marks none hart =
-    let empty : offered_of g hart ≡ [] = ap offered_in (none hart) in
-    empty ∙ sym (ap (λ os. take (length os) (numbered hart (said_at m hart))) empty)

@@ -3,27 +3,22 @@ use Rattle.std.specs.Prelude.{ℕ, ◌≡◌, ◌≢◌, ◌<◌, ◌≤◌, Lis
 use Rattle.std.specs.List.{Any}
 use Rattle.ft_types.specs.declared.quorum.Quorum.{Quorum}
 use Rattle.guest_image.specs.Image.{ImageContents, guest_of}
-use Rattle.book_modes.specs.Recordings.{IsUnused}
-use Rattle.fragment_codec.specs.Rules.{IsOpening}
 use Rattle.log_join.specs.Stores.{StoreView}
 use Rattle.hart_replay.specs.Images.{GuestHistory}
-use Rattle.hart_replay.specs.Primaries.{IsPrimary}
 use Rattle.hart_replay.specs.declared.fault.ReplayFault.TheVariants.{OtherGuest}
 use Rattle.go_live.specs.declared.fault.LiveFault.TheVariants.{TooFewStores, TermNotNew, Replay, Memory}
-use Rattle.go_live.specs.Quorums.{AreEnough, MostOf, IsNew, IsOld}
-use Rattle.go_live.specs.Lives.{IsAtPosition, LeadNowhere}
-use Rattle.go_live.specs.Histories.{AreOfHistory, IsOfHistory, MakesLonger}
+use Rattle.go_live.specs.Quorums.{AreEnough, MostOf, IsOld}
+use Rattle.go_live.specs.Beginnings.{GoesLive, BeginsTerm}
+use Rattle.go_live.specs.Lives.{LeadNowhere}
+use Rattle.go_live.specs.Histories.{AreOfHistory}
 use Rattle.term_gate.specs.TermGates.{TermGateView}
 use Rattle.primary.specs.declared.granted.Primary.{Primary}
-use Rattle.primary.specs.Primaries.{BeginsFrom, no_limits, IsUncut}
-use Rattle.primary.specs.Gating.{AreAllOffered}
 use Rattle.fenced_keeper.specs.declared.keeper.Given.{Given}
 use Rattle.fenced_live.specs.Given.{AreTo}
 use Rattle.fenced_live.specs.declared.fault.GivenFault.{GivenFault}
 use Rattle.fenced_live.specs.declared.fault.GivenFault.TheVariants.{OtherTerm, Live}
 use Rattle.leading.specs.declared.fault.LeadFault.{LeadFault}
 use Rattle.leading.specs.declared.fault.LeadFault.TheVariants.{NoKeeper, NotLive}
-use Rattle.leading.specs.Leaders.{IsNewGate}
 
 abbrev pub stores_in : List Given → List StoreView
 stores_in given = map (λ g. g.store.now) given
@@ -35,26 +30,15 @@ givers_in given = map (λ g. g.keeper) given
 abbrev pub AreMembers : Quorum → List Given → Type 0
 AreMembers quorum given = All (λ g. g.keeper < quorum.keepers) given
 
--- The primary begins where the stores that were given to the term lead to, with a gate at which all outputs of its machine were offered,
--- and which passes over those that are noted there. It makes each history longer whose frames the stores have.
-pub record GoesLive (image : ImageContents) (quorum : Quorum) (term : ℕ) (given : List Given) (p : Primary) (g : TermGateView) : Type 0 where
+-- The primary goes live from the stores that keepers gave to the term, more than half of them and each of the guest, and makes each history
+-- longer whose frames they have.
+pub record GoesLiveGiven (image : ImageContents) (quorum : Quorum) (term : ℕ) (given : List Given) (p : Primary) (g : TermGateView) : Type 0 where
   pub members : AreMembers quorum given
   pub own : AreTo given term
-  pub enough : AreEnough quorum.keepers quorum.need (givers_in given)
   pub most : MostOf quorum.keepers (givers_in given)
-  pub new : IsNew (stores_in given) term
   pub same_guest : All (λ s. s.guest ≡ guest_of image) (stores_in given)
-  pub marks : List ℕ
-  pub at : IsAtPosition image (stores_in given) term p.book.start p.opening marks
-  pub begins : BeginsFrom p.book.start p.book
-  pub unused : IsUnused p.book.mode p.book.start (no_limits image.harts)
-  pub uncut : IsUncut p.opening.base p.sealed
-  pub gate : IsNewGate g term quorum.keepers quorum.need image.harts marks
-  pub offered : AreAllOffered g.gate p.book.machine
-  pub primary : IsPrimary p.book
-  pub rules : IsOpening p.opening
-  pub is_history : (h : GuestHistory) → AreOfHistory image h (stores_in given) → IsOfHistory image h p.book.start p.opening
-  pub longer : (h : GuestHistory) → AreOfHistory image h (stores_in given) → MakesLonger image h term p.book.start p.opening
+  pub live : GoesLive image quorum.keepers quorum.need term (givers_in given) (stores_in given) p g
+  pub begins : BeginsTerm image term (stores_in given) p
 
 -- A store was given to another term, the stores are of too few keepers or of no more than half, the term is not new to them, or one is of
 -- another guest; or else their log leads nowhere, which frames of one history never do; or memory was refused.

@@ -1,5 +1,5 @@
 -- A primary that leads: its book and its gate, the inputs that wait for its harts, and what went out.
-use Rattle.std.specs.Prelude.{◌≡◌, ◌<◌, ◌≤◌, ◌+◌, ℕ, List, [], All, length, map, replicate, slice_get, slice_index_or, Some}
+use Rattle.std.specs.Prelude.{◌≡◌, ◌<◌, ◌≤◌, ◌+◌, ℕ, List, [], length, map, slice_get, slice_index_or, Some}
 use Rattle.interleaving.specs.Lists.{Each, EachPair}
 use Rattle.ft_types.specs.Counts.{count_at}
 use Rattle.hart_lease.specs.Runs.{counts_of}
@@ -9,7 +9,6 @@ use Rattle.book_modes.specs.Recordings.{RecordingView}
 use Rattle.page_book.specs.Books.{BookView}
 use Rattle.lease_rounds.specs.Running.{IsIdle, offers}
 use Rattle.lease_rounds.specs.Steps.{AreWithin}
-use Rattle.output_gate.specs.Gates.{GateView, noted_at, gone_of, mark_at}
 use Rattle.term_gate.specs.TermGates.{TermGateView}
 use Rattle.primary.specs.declared.granted.Primary.{Primary}
 use Rattle.primary.specs.declared.released.Released.{Released}
@@ -50,17 +49,6 @@ pub record IsHandedOn (b : BookView RecordingView) (hart : ℕ) (h : Hart) (q : 
 -- so does each hart's queue
 abbrev pub AreHandedOn : BookView RecordingView → List QueueView → Type 0
 AreHandedOn b queues = (hart : ℕ) (h : Hart) → slice_get b.start.harts hart ≡ Some h → IsHandedOn b hart h (queue_at queues hart)
-
--- a gate of a term at which nothing is acknowledged and through which nothing went out, with these marks
-pub record IsNewGate (g : TermGateView) (term keepers need harts : ℕ) (marks : List ℕ) : Type 0 where
-  pub of_harts : g.harts ≡ harts
-  pub of_term : g.gate.term ≡ term
-  pub of_keepers : g.gate.keepers ≡ keepers
-  pub of_need : g.gate.need ≡ need
-  pub acked : g.acked ≡ replicate keepers (replicate harts 0)
-  pub noted : (keeper hart : ℕ) → noted_at g.gate keeper hart ≡ 0
-  pub gone : (hart : ℕ) → gone_of g.gate hart ≡ []
-  pub marked : (hart : ℕ) → mark_at g.gate hart ≡ count_at marks hart
 
 -- ---- private words
 

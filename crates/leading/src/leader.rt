@@ -11,7 +11,7 @@ ghost use Rattle.input_log.specs.declared.Input.TheVariants.{Timer as TimerInput
 ghost use Rattle.primary.specs.Gating.{AreAllOffered, OffersMore};
 ghost use Rattle.requests.specs.Queues.{at_room, comes_of};
 ghost use Rattle.requests.specs.declared.queue.Came.TheVariants.{Taken as WasTaken};
-ghost use Rattle.leading.specs.Beginning.{GoesLive, CannotGoLive};
+ghost use Rattle.leading.specs.Beginning.{GoesLiveGiven, CannotGoLive};
 ghost use Rattle.leading.specs.Clients.{GaveWords};
 ghost use Rattle.leading.specs.Hearing.{Comes, Hears, LetsGo, LetsNothingGo, Notes, WithNoted};
 ghost use Rattle.leading.specs.Leaders.{AreHandedOn, BeginBehind};
@@ -108,7 +108,7 @@ impl Leader {
         quorum: Quorum,
         term: Term,
     ) -> Result<(Leader, Frame), LeadFault>
-        ensures live { IfOk result (λ r. GoesLive image.now quorum term given.now r.0.primary r.0.gate) }
+        ensures live { IfOk result (λ r. GoesLiveGiven image.now quorum term given.now r.0.primary r.0.gate) }
         ensures opening { IfOk result (λ r. r.1 ≡ OpeningFrame r.0.primary.opening) }
         ensures queues { IfOk result (λ r. BeginBehind r.0.primary.book.start r.0.queues) }
         ensures released { IfOk result (λ r. r.0.released ≡ []) }

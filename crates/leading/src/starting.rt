@@ -5,12 +5,12 @@ ghost use Rattle.std.specs.List.{Any};
 ghost use Rattle.ft_types.specs.Counts.{count_at};
 ghost use Rattle.go_live.specs.Quorums.{AreEnough, MostOf};
 ghost use Rattle.output_gate.specs.Gates.{mark_at};
-ghost use Rattle.leading.specs.Beginning.{GoesLive, CannotGoLive};
+ghost use Rattle.leading.specs.Beginning.{GoesLiveGiven, CannotGoLive};
 
 use crate::fault::LeadFault;
 use fenced_keeper::Given;
 use fenced_live::{GivenFault, go_live_given};
-use ft_types::{Counts, Quorum, Term};
+use ft_types::{Counts, Hart, Quorum, Term};
 use go_live::{Live, LiveFault};
 use guest_image::Image;
 use primary::{Primary, offer_all};
@@ -50,7 +50,7 @@ pub(crate) fn started(
     quorum: Quorum,
     term: Term,
 ) -> Result<(Primary, TermGate, Counts), LeadFault>
-    ensures goes { IfOk result (λ s. GoesLive image.now quorum term given.now s.0 s.1) }
+    ensures goes { IfOk result (λ s. GoesLiveGiven image.now quorum term given.now s.0 s.1) }
     ensures marks { IfOk result (λ s. (hart : ℕ) → mark_at s.1.gate hart ≡ count_at s.2 hart) }
     ensures refused { IfErr result (λ fault. CannotGoLive image.now quorum term given.now fault) }
 {
@@ -72,7 +72,10 @@ pub(crate) fn started(
     let Ok(mut gate) = TermGate::new(alloc, term, harts, keepers, need, &marks) else {
         return Err(LeadFault::NotLive(GivenFault::Live(LiveFault::Memory)));
     };
-    if offer_all(&mut gate, primary.book.machine()).is_err() {
+    let all = offer_all(&mut gate, primary.book.machine());
+    // proof: what a gate passes over is below its marks.
+    gate.offered(Hart::new(0));
+    if all.is_err() {
         return Err(LeadFault::NotLive(GivenFault::Live(LiveFault::Memory)));
     }
     Ok((primary, gate, marks))

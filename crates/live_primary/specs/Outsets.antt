@@ -12,7 +12,7 @@ use Rattle.go_live.specs.Joined.{AreJoined}
 use Rattle.term_gate.specs.TermGates.{TermGateView}
 use Rattle.primary.specs.declared.granted.Primary.{Primary}
 use Rattle.fenced_keeper.specs.declared.keeper.Given.{Given}
-use Rattle.leading.specs.Beginning.{GoesLive}
+use Rattle.leading.specs.Beginning.{GoesLiveGiven}
 use Rattle.leading.specs.declared.handed.HandedLog.{HandedLog}
 
 -- the stores of these logs, each of its keeper and given to its term
@@ -36,5 +36,5 @@ pub record SetsOut (quorum : Quorum) (term : ℕ) (p : Primary) (g : TermGateVie
   pub logs : List HandedLog
   pub given : List Given
   pub are : AreGivenOf logs given
-  pub live : GoesLive image quorum term given p g
+  pub live : GoesLiveGiven image quorum term given p g
   pub first : AreSentFirst (guest_of image) logs (Opening p.opening) bytes

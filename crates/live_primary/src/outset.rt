@@ -8,7 +8,7 @@ ghost use Rattle.log_streams.specs.Stores.{IsStoreText};
 ghost use Rattle.fragment_codec.specs.declared.frame.Frame.TheVariants.{Opening as OpeningFrame};
 ghost use Rattle.go_live.specs.Joined.{AreJoined};
 ghost use Rattle.fenced_keeper.specs.declared.keeper.Given.{Given as given_of_keeper};
-ghost use Rattle.leading.specs.Beginning.{GoesLive};
+ghost use Rattle.leading.specs.Beginning.{GoesLiveGiven};
 ghost use Rattle.live_primary.specs.Outsets.{AreGivenOf, AreSentFirst, SetsOut};
 
 use crate::faults::{clash, handed_fault, image_fault, lead_fault, store_fault};
@@ -172,7 +172,7 @@ fn go_live(
     words: &PrimaryWords<'_>,
     logs: &[HandedLog],
 ) -> Result<(Leader, Frame), Fault>
-    ensures live { IfOk result (λ r. (given : List given_of_keeper) × AreGivenOf logs.now given × GoesLive image.now words.now.quorum words.now.term given r.0.primary r.0.gate) }
+    ensures live { IfOk result (λ r. (given : List given_of_keeper) × AreGivenOf logs.now given × GoesLiveGiven image.now words.now.quorum words.now.term given r.0.primary r.0.gate) }
     ensures opening { IfOk result (λ r. r.1 ≡ OpeningFrame r.0.primary.opening) }
     ensures released { IfOk result (λ r. r.0.released ≡ []) }
 {

@@ -9,5 +9,6 @@ pub mod Said
 pub mod Last
 pub mod Renoting
 pub mod Gates
+pub mod NewGates
 pub mod Pieces
 pub mod Sending

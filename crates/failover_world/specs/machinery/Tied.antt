@@ -1,5 +1,5 @@
 -- What ties the world to the theory of failover. Machinery: nothing here needs to be believed.
-use Rattle.std.specs.Prelude.{ℕ, ◌≡◌, ◌<◌, ◌≤◌, ◌⊎◌, List, length, map, Contains, slice_index_or, Option, Some, None}
+use Rattle.std.specs.Prelude.{ℕ, ◌≡◌, ◌<◌, ◌≤◌, ◌⊎◌, List, length, Contains, slice_index_or, Option, Some, None}
 use Rattle.ft_types.specs.declared.names.TheConstants.{KEEPER_LIMIT}
 use Rattle.ft_types.specs.Counts.{count_at}
 use Rattle.ft_types.specs.Guests.{GuestParts, IsGuest}
@@ -10,11 +10,11 @@ use Rattle.guest_image.specs.Image.{guest_of}
 use Rattle.page_book.specs.Books.{BookView}
 use Rattle.book_modes.specs.Recordings.{RecordingView}
 use Rattle.fragment_codec.specs.declared.frame.Frame.TheVariants.{Opening}
-use Rattle.fragment_codec.specs.Rules.{FragmentParts, IsOpening}
+use Rattle.fragment_codec.specs.Rules.{FragmentParts}
 use Rattle.log_join.specs.Families.{Past, Family}
 use Rattle.log_join.specs.Stores.{nothing}
 use Rattle.hart_replay.specs.Images.{GuestTerm, GuestHistory, boot_of}
-use Rattle.hart_replay.specs.Primaries.{term_of as history_of, IsPrimary, IsTermOfBook, IsSealedTo}
+use Rattle.hart_replay.specs.Primaries.{term_of as history_of, IsTermOfBook, IsSealedTo}
 use Rattle.fenced_theory.specs.Machines.{Book, IsRecorder}
 use Rattle.failover_world.specs.machinery.Stopping as theory
 use Rattle.book_recorder.specs.TermBooks.{IsTermBook, AreTheory}
@@ -24,11 +24,10 @@ use Rattle.input_log.specs.Notes.{notes_of}
 use Rattle.ft_types.specs.declared.output.Output.{Output}
 use Rattle.output_gate.specs.Gates.{mark_at, gone_of}
 use Rattle.term_gate.specs.TermGates.{acked_at}
-use Rattle.go_live.specs.Histories.{AreOfHistory, IsOfHistory, MakesLonger}
+use Rattle.go_live.specs.Histories.{MakesLonger}
 use Rattle.primary.specs.declared.released.Released.{Released}
 use Rattle.primary.specs.declared.granted.Primary.{Primary}
 use Rattle.failover_world.specs.Worlds.{WorldView, term_of}
-use Rattle.failover_world.specs.Happenings.{stores_of}
 use Rattle.primary.specs.Gating.{AreOffered}
 
 -- a book of a term
@@ -135,13 +134,6 @@ pub record IsTied (v : WorldView) : Type 0 where
   pub before : (p : Primary) → Contains v.stopped p → IsBefore terms (term_of v) p
   pub no_other : (u : ℕ) (p : Past (TermBook v.image.pages)) → terms u ≡ Some p →
       (u ≡ term_of v) ⊎ ((q : Primary) × Contains v.stopped q × (q.opening.term ≡ u))
-
--- the primary, which goes live in the term from these keepers' stores, makes each history longer whose frames they have
-pub record BeginsTerm (v : WorldView) (term : ℕ) (named : List ℕ) (p : Primary) : Type 0 where
-  pub primary : IsPrimary p.book
-  pub rules : IsOpening p.opening
-  pub is_history : (h : GuestHistory) → AreOfHistory v.image h (map (λ s. s.1) (stores_of v.stores named)) → IsOfHistory v.image h p.book.start p.opening
-  pub longer : (h : GuestHistory) → AreOfHistory v.image h (map (λ s. s.1) (stores_of v.stores named)) → MakesLonger v.image h term p.book.start p.opening
 
 pub record IsWorld (v : WorldView) : Type 0 where
   pub parts : AreParts v

@@ -1,5 +1,6 @@
 use Rattle.ft_types.specs.Counts.{count_at}
-use Rattle.failover_world.proofs.Reviving.{none_offered, unmarked}
+use Rattle.primary.proofs.NewGates.{none_offered}
+use Rattle.failover_world.proofs.Reviving.{unmarked}
 use Rattle.fenced_world.proofs.Sound.{booted_sound}
 use Rattle.fenced_world.proofs.starting.started.Goals as goal
 

@@ -1,16 +1,16 @@
-use Rattle.std.proofs.Common.{◌≡◌, ◌<◌, ◌≤◌, replicate, Err, refl, sym, ap, subst, ◌∙◌}
+use Rattle.std.proofs.Common.{◌<◌, ◌≤◌, replicate, Err, refl, sym, ap, subst, ◌∙◌}
 use Rattle.std.specs.Prelude.{All}
 use Rattle.std.specs.List.{Any}
 use Rattle.std.proofs.lemmas.Result.{err_from_is_err_and}
 use Rattle.ft_types.specs.Counts.{count_at}
-use Rattle.fragment_codec.specs.Rules.{IsOpening}
 use Rattle.go_live.specs.Quorums.{AreEnough, MostOf}
 use Rattle.primary.specs.Gating.{AreAllOffered}
 use Rattle.primary.proofs.Gates.{on_ok}
-use Rattle.leading.specs.Beginning.{GoesLive, CannotGoLive, stores_in, givers_in}
-use Rattle.leading.specs.Leaders.{IsNewGate}
-use Rattle.leading.proofs.Beginning.{at_harts, at_counts, at_too, unused_so, uncut_so, history_so, longer_so, new_gate, cannot}
-use Rattle.leading.proofs.Offering.{none_offered}
+use Rattle.primary.proofs.NewGates.{none_offered, new_gate}
+use Rattle.go_live.proofs.Beginnings.{at_harts, at_counts, at_too, unused_so, uncut_so, begins_term}
+use Rattle.term_gate.specs.TermGates.{IsNewGate}
+use Rattle.leading.specs.Beginning.{GoesLiveGiven, CannotGoLive, stores_in, givers_in}
+use Rattle.leading.proofs.Beginning.{cannot}
 use Rattle.leading.proofs.starting.started.Goals as goal
 use Rattle.leading.proofs.starting.started.Goals.{Else-is_err}
 
@@ -46,16 +46,16 @@ pub offer_all-requires : goal.offer_all-requires
 offer_all-requires c = none_offered c.in-Ok.gate.gate c.machine.result.now (count_at c.in_ok-live.live.marks) c.in-Ok.ensures.lines
 
 module _ (c : Else-is_err) where
-  abbrev gate : IsNewGate c.offer_all.new.gate c.args.term c.args.quorum.keepers c.args.quorum.need c.args.image.now.harts c.in_ok-live.live.marks
+  abbrev gate : IsNewGate c.offer_all-all.new.gate c.args.term c.args.quorum.keepers c.args.quorum.need c.args.image.now.harts c.in_ok-live.live.marks
   gate =
-      new_gate c.in-Ok.gate c.offer_all.new.gate c.args.term c.args.quorum.keepers c.args.quorum.need c.args.image.now.harts c.in_ok-live.live.marks
+      new_gate c.in-Ok.gate c.offer_all-all.new.gate c.args.term c.args.quorum.keepers c.args.quorum.need c.args.image.now.harts c.in_ok-live.live.marks
       (c.in-Ok.ensures.harts ∙ c.harts-harts.ensures.value) c.in-Ok.ensures.parts.0 (c.in-Ok.ensures.parts.1 ∙ c.keepers-keepers.ensures.value)
       (c.in-Ok.ensures.parts.2 ∙ c.need-need.ensures.value)
       (c.in-Ok.ensures.acked ∙ ap (λ k. replicate k (replicate c.harts-harts.result 0)) c.keepers-keepers.ensures.value
       ∙ ap (λ n. replicate c.args.quorum.keepers (replicate n 0)) c.harts-harts.ensures.value) c.in-Ok.ensures.noted
-      c.in-Ok.ensures.lines c.offer_all.ensures.more
+      c.in-Ok.ensures.lines c.offer_all-all.ensures.more c.offered.ensures.passed
 
-  goes : GoesLive c.args.image.now c.args.quorum c.args.term c.args.given.now c.going_on-primary.result c.offer_all.new.gate
+  goes : GoesLiveGiven c.args.image.now c.args.quorum c.args.term c.args.given.now c.going_on-primary.result c.offer_all-all.new.gate
   goes =
       let image = c.args.image.now in
       let stores = stores_in c.args.given.now in
@@ -68,25 +68,29 @@ module _ (c : Else-is_err) where
       record {
         members = subst (λ k. All (λ g. g.keeper < k) c.args.given.now) c.keepers-keepers.ensures.value (c.if-not-are_keepers.ensures.all refl);
         own = says.given;
-        enough = subst (λ k. AreEnough k c.args.quorum.need (givers_in c.args.given.now)) c.keepers-keepers.ensures.value
-            (subst (λ n. AreEnough c.keepers-keepers.result n (givers_in c.args.given.now)) c.need-need.ensures.value both.0);
         most = subst (λ k. MostOf k (givers_in c.args.given.now)) c.keepers-keepers.ensures.value both.1;
-        new = says.new;
         same_guest = says.own;
-        marks = live.marks;
-        at = at_too image stores c.args.term live.book.start live.opening live.marks says.position p opens start;
-        begins = c.going_on-primary.ensures.begins;
-        unused = unused_so image stores c.args.term live.book.start live.opening live.marks says.position p opens start c.going_on-primary.ensures.unused;
-        uncut = uncut_so image stores c.args.term live.book.start live.opening live.marks says.position p opens start c.going_on-primary.ensures.uncut;
-        gate = gate;
-        offered =
-            subst (AreAllOffered c.offer_all.new.gate.gate) c.machine.ensures.value
-            (on_ok c.offer_all.result (AreAllOffered c.offer_all.new.gate.gate c.machine.result.now) (sym c.is_err.ensures.value ∙ c.if-is_err.false)
-            c.offer_all.ensures.all);
-        primary = c.going_on-primary.ensures.primary;
-        rules = subst IsOpening (sym opens) c.going_on-primary.ensures.rules;
-        is_history = history_so image stores c.args.term live.book.start live.opening live.marks says.position p opens start says.history;
-        longer = longer_so image stores c.args.term live.book.start live.opening live.marks says.position p opens start says.longer;
+        live =
+            record {
+              enough = subst (λ k. AreEnough k c.args.quorum.need (givers_in c.args.given.now)) c.keepers-keepers.ensures.value
+                  (subst (λ n. AreEnough c.keepers-keepers.result n (givers_in c.args.given.now)) c.need-need.ensures.value both.0);
+              new = says.new;
+              marks = live.marks;
+              at = at_too image stores c.args.term live.book.start live.opening live.marks says.position p opens start;
+              begins = c.going_on-primary.ensures.begins;
+              unused =
+                  unused_so image stores c.args.term live.book.start live.opening live.marks says.position p opens start
+                  c.going_on-primary.ensures.unused;
+              uncut = uncut_so image stores c.args.term live.book.start live.opening live.marks says.position p opens start c.going_on-primary.ensures.uncut;
+              gate = gate;
+              offered =
+                  subst (AreAllOffered c.offer_all-all.new.gate.gate) c.machine.ensures.value
+                  (on_ok c.offer_all-all.result (AreAllOffered c.offer_all-all.new.gate.gate c.machine.result.now) (sym c.is_err.ensures.value ∙ c.if-is_err.false)
+                  c.offer_all-all.ensures.all);
+            };
+        begins =
+            begins_term image c.args.term stores p live.book.start live.opening start opens c.going_on-primary.ensures.primary
+            c.going_on-primary.ensures.rules says.history says.longer;
       }
 
 pub returns-clause-goes : goal.returns-clause-goes

@@ -10,7 +10,7 @@ loop-number-preserved g c =
     let file = c.in-Ok.file in
     let within : i < length names = omega arith in (
       ap (map (λ file. file.name)) c.push_reserved.ensures.items ∙ map-append (λ file. file.name) c.loop-number.removed.items (file ∷ [])
-      ∙ ap (λ gone. gone ++ file.name ∷ []) c.loop-number.invariant.0 ∙ ap (λ n. take i names ++ n ∷ []) c.in-Ok.ensures
-      ∙ sym (take_more names i name within c.index-names-number.is),
+          ∙ ap (λ gone. gone ++ file.name ∷ []) c.loop-number.invariant.0 ∙ ap (λ n. take i names ++ n ∷ []) c.in-Ok.ensures
+          ∙ sym (take_more names i name within c.index-names-number.is),
       omega arith,
     )

@@ -3,13 +3,15 @@ use Rattle.std.proofs.lemmas.Result.{err_from_is_err_and}
 use Rattle.log_join.specs.Stores.{StoreView}
 use Rattle.go_live.specs.Lives.{IsAtPosition}
 use Rattle.go_live.specs.Quorums.{AreEnough, IsNew}
+use Rattle.go_live.specs.Beginnings.{BeginsTerm}
+use Rattle.go_live.proofs.Beginnings.{at_harts, at_counts, at_too, unused_so, uncut_so, begins_term}
+use Rattle.primary.proofs.NewGates.{new_gate}
 use Rattle.primary.specs.declared.granted.Primary.{Primary}
 use Rattle.failover_world.specs.Worlds.{WorldView, term_of}
 use Rattle.primary.specs.Gating.{AreAllOffered}
-use Rattle.failover_world.specs.Happenings.{stores_of, GoesLive}
+use Rattle.failover_world.specs.Happenings.{stores_of, GoesLiveFrom}
 use Rattle.failover_world.specs.Refusals.{CannotGoLive}
-use Rattle.failover_world.specs.machinery.Tied.{BeginsTerm}
-use Rattle.failover_world.proofs.Reviving.{at_harts, at_counts, at_too, unused_so, uncut_so, IsAsked, IsGiven, given, begins_term, cannot, fresh}
+use Rattle.failover_world.proofs.Reviving.{IsAsked, IsGiven, given, cannot}
 use Rattle.failover_world.proofs.world.World.revived.Goals.{then-term, else-term}
 use Rattle.failover_world.proofs.world.World.revived.Goals as goal
 
@@ -70,42 +72,6 @@ going_on-primary-requires-clause-counts c =
     at_counts c.self.inside.image (map (λ s. s.1.now) c.as_slice.result.now) c.if-term.asked c.in_ok-live.live.book.start c.in_ok-live.live.opening
     c.in_ok-live.live.marks c.in_ok-live.ensures.position
 
-pub returns-clause-begins : goal.returns-clause-begins
-returns-clause-begins c =
-    let v : WorldView = record {
-      image = c.self.inside.image;
-      keepers = c.self.inside.keepers;
-      need = c.self.inside.need;
-      primary = c.self.inside.primary;
-      runs = c.self.inside.runs;
-      stopped = c.self.inside.stopped.items;
-      sent = c.self.inside.sent.items;
-      stores = c.self.inside.stores.items;
-      gate = c.self.inside.gate;
-      released = c.self.inside.released.items;
-    } in
-    let stores : List StoreView = map (λ s. s.1.now) c.as_slice.result.now in
-    let are : stores ≡ map (λ s. s.1) (stores_of v.stores c.args.keepers.now) =
-    ap (λ named. map (λ s. s.1.now) named) c.as_slice.ensures.value ∙ c.in_ok-stores.ensures.stores
-    ∙ ap (λ xs. map (λ s. s.1) (stores_of xs c.args.keepers.now)) c.deref.ensures.value in
-    let keepers : List ℕ = map (λ s. s.0) c.as_slice.result.now in
-    let are_keepers : keepers ≡ map (λ s. s.0) (stores_of v.stores c.args.keepers.now) =
-    ap (λ named. map (λ s. s.0) named) c.as_slice.ensures.value ∙ c.in_ok-stores.ensures.keepers
-    ∙ ap (λ xs. map (λ s. s.0) (stores_of xs c.args.keepers.now)) c.deref.ensures.value in
-    let last : c.term.result ≡ term_of v = c.term.ensures ∙ ap (λ (w : WorldView). w.primary.opening.term) (sym c.self.view_is) in
-    let asks : IsAsked v c.args.term c.if-term.asked =
-    elim c.if-term.branch [
-      | then-term w ↦ let under = w.if-term in inr (w.asked-is, omega (arith, last, under))
-      | else-term w ↦ let over = w.if-term in inl (w.asked-is, omega (arith, last, over))
-    ] in
-    let is : IsGiven v c.args.term c.if-term.asked stores = given v c.args.term c.if-term.asked stores asks c.in_ok-live.ensures.new in
-    let live = c.in_ok-live.live in
-    let p : Primary = c.going_on-primary.result in
-    subst (λ (w : WorldView). BeginsTerm w c.args.term c.args.keepers.now p) c.self.view_is
-    (begins_term v c.args.term c.if-term.asked c.args.keepers.now stores p live.book.start live.opening are is.same c.going_on-primary.ensures.start
-    c.going_on-primary.ensures.opening c.going_on-primary.ensures.primary c.going_on-primary.ensures.rules c.in_ok-live.ensures.history
-    c.in_ok-live.ensures.longer)
-
 pub returns-clause-goes : goal.returns-clause-goes
 returns-clause-goes c =
     let v : WorldView = record {
@@ -137,26 +103,34 @@ returns-clause-goes c =
     let is : IsGiven v c.args.term c.if-term.asked stores = given v c.args.term c.if-term.asked stores asks c.in_ok-live.ensures.new in
     let live = c.in_ok-live.live in
     let p : Primary = c.going_on-primary.result in
-    let at : IsAtPosition v.image (map (λ s. s.1) (stores_of v.stores c.args.keepers.now)) c.args.term live.book.start live.opening live.marks =
-    subst (λ n. IsAtPosition v.image (map (λ s. s.1) (stores_of v.stores c.args.keepers.now)) n live.book.start live.opening live.marks) is.same
+    let named = map (λ s. s.1) (stores_of v.stores c.args.keepers.now) in
+    let at : IsAtPosition v.image named c.args.term live.book.start live.opening live.marks =
+    subst (λ n. IsAtPosition v.image named n live.book.start live.opening live.marks) is.same
     (subst (λ xs. IsAtPosition v.image xs c.if-term.asked live.book.start live.opening live.marks) are c.in_ok-live.ensures.position) in
     let opens = c.going_on-primary.ensures.opening in
     let start = c.going_on-primary.ensures.start in
-    let named = map (λ s. s.1) (stores_of v.stores c.args.keepers.now) in
-    subst (λ (w : WorldView). GoesLive w c.args.term c.args.keepers.now p c.offer_all.new.gate) c.self.view_is
+    let begins : BeginsTerm v.image c.if-term.asked stores p =
+    begins_term v.image c.if-term.asked stores p live.book.start live.opening start opens c.going_on-primary.ensures.primary
+    c.going_on-primary.ensures.rules c.in_ok-live.ensures.history c.in_ok-live.ensures.longer in
+    subst (λ (w : WorldView). GoesLiveFrom w c.args.term c.args.keepers.now p c.offer_all.new.gate) c.self.view_is
     (record {
-      enough = subst (AreEnough v.keepers v.need) are_keepers c.in_ok-live.ensures.enough;
       later = is.later;
-      new = subst (λ xs. IsNew xs c.args.term) are is.new;
-      marks = live.marks;
-      at = at_too v.image named c.args.term live.book.start live.opening live.marks at p opens start;
-      begins = c.going_on-primary.ensures.begins;
-      unused = unused_so v.image named c.args.term live.book.start live.opening live.marks at p opens start c.going_on-primary.ensures.unused;
-      uncut = uncut_so v.image named c.args.term live.book.start live.opening live.marks at p opens start c.going_on-primary.ensures.uncut;
-      fresh =
-          fresh c.in_ok-gate.gate c.offer_all.new.gate c.args.term v.keepers v.need v.image.harts live.marks (c.in_ok-gate.ensures.harts ∙ c.harts-harts.ensures.value)
-          c.in_ok-gate.ensures.parts.0 c.in_ok-gate.ensures.parts.1 c.in_ok-gate.ensures.parts.2
-          (c.in_ok-gate.ensures.acked ∙ ap (λ n. replicate v.keepers (replicate n 0)) c.harts-harts.ensures.value) c.in_ok-gate.ensures.noted c.in_ok-gate.ensures.lines
-          c.offer_all.ensures.more c.offered.ensures.passed;
-      offered = subst (AreAllOffered c.offer_all.new.gate.gate) c.machine.ensures.value c.in_ok-offer_all.ensures.all;
+      live =
+          record {
+            enough = subst (AreEnough v.keepers v.need) are_keepers c.in_ok-live.ensures.enough;
+            new = subst (λ xs. IsNew xs c.args.term) are is.new;
+            marks = live.marks;
+            at = at_too v.image named c.args.term live.book.start live.opening live.marks at p opens start;
+            begins = c.going_on-primary.ensures.begins;
+            unused = unused_so v.image named c.args.term live.book.start live.opening live.marks at p opens start c.going_on-primary.ensures.unused;
+            uncut = uncut_so v.image named c.args.term live.book.start live.opening live.marks at p opens start c.going_on-primary.ensures.uncut;
+            gate =
+                new_gate c.in_ok-gate.gate c.offer_all.new.gate c.args.term v.keepers v.need v.image.harts live.marks
+                (c.in_ok-gate.ensures.harts ∙ c.harts-harts.ensures.value) c.in_ok-gate.ensures.parts.0 c.in_ok-gate.ensures.parts.1 c.in_ok-gate.ensures.parts.2
+                (c.in_ok-gate.ensures.acked ∙ ap (λ n. replicate v.keepers (replicate n 0)) c.harts-harts.ensures.value) c.in_ok-gate.ensures.noted
+                c.in_ok-gate.ensures.lines c.offer_all.ensures.more c.offered.ensures.passed;
+            offered = subst (AreAllOffered c.offer_all.new.gate.gate) c.machine.ensures.value c.in_ok-offer_all.ensures.all;
+          };
+      begins =
+          subst (λ n. BeginsTerm v.image n named p) is.same (subst (λ xs. BeginsTerm v.image c.if-term.asked xs p) are begins);
     })

@@ -1,9 +1,10 @@
-use Rattle.std.proofs.Common.{◌≡◌, map, sym, ap, subst, ◌∙◌}
+use Rattle.std.proofs.Common.{◌≡◌, List, map, sym, ap, subst, ◌∙◌}
 use Rattle.std.specs.Prelude.{All}
 use Rattle.std.proofs.lemmas.Result.{err_from_is_err_and}
-use Rattle.fenced_world.specs.Keepers.{gift_of, gifts_of}
+use Rattle.fenced_world.specs.Keepers.{Gift, gift_of, gifts_of}
 use Rattle.fenced_world.specs.Reviving as reviving
-use Rattle.fenced_world.specs.Reviving.{GoesLive, BeginsTerm, stores_in}
+use Rattle.go_live.specs.Beginnings.{GoesLive, BeginsTerm}
+use Rattle.fenced_world.specs.Reviving.{givers_in, stores_in}
 use Rattle.fenced_world.specs.Worlds.{WorldView}
 use Rattle.fenced_world.specs.Granting.{GoesLiveFrom}
 use Rattle.fenced_world.specs.Refusals.{RefusesLive, IsAtTerm}
@@ -55,6 +56,9 @@ returns-clause-goes c =
     let r = c.in_ok-running.running in
     subst (λ (w : WorldView). GoesLiveFrom w c.args.term c.args.keepers.now r) c.self.view_is
     (record {
-      live = subst (λ gifts. GoesLive v.image v.keepers v.need c.args.term gifts r) are c.in_ok-running.ensures.goes;
+      own = subst (λ (gifts : List Gift). All (λ g. g.term ≡ c.args.term) gifts) are c.in_ok-running.ensures.own;
+      live =
+          subst (λ gifts. GoesLive v.image v.keepers v.need c.args.term (givers_in gifts) (stores_in gifts) r.primary r.gate) are
+          c.in_ok-running.ensures.goes;
       begins = subst (λ gifts. BeginsTerm v.image c.args.term (stores_in gifts) r.primary) are c.in_ok-running.ensures.begins;
     })

@@ -5,7 +5,7 @@ use Rattle.fragment_codec.specs.Rules.{OpeningParts}
 use Rattle.fragment_codec.specs.declared.frame.Frame.{Frame}
 use Rattle.fragment_codec.specs.declared.frame.Frame.TheVariants.{Opening}
 use Rattle.primary.specs.Primaries.{IsBooted}
-use Rattle.failover_world.specs.Happenings.{IsFresh}
+use Rattle.term_gate.specs.TermGates.{IsNewGate}
 use Rattle.fenced_world.specs.Keepers.{KeptView, kept_at, IsNewKeeper}
 use Rattle.fenced_world.specs.Running.{RunningView}
 use Rattle.fenced_world.specs.Worlds.{WorldView}
@@ -43,7 +43,7 @@ module _ (c : After-new) where
         only = c.in_ok-push-2.ensures.items ∙ ap (λ (rs : List RunningView). rs ++ first ∷ []) c.new-running.ensures.items;
         booted = subst (λ (i : ImageContents). IsBooted i first.primary) own c.in_ok-first.ensures.booted;
         primary = c.in_ok-first.ensures.primary;
-        fresh = subst (λ (i : ImageContents). IsFresh first.gate 1 c.args.keepers c.args.need i.harts []) own c.in_ok-first.ensures.fresh;
+        fresh = subst (λ (i : ImageContents). IsNewGate first.gate 1 c.args.keepers c.args.need i.harts []) own c.in_ok-first.ensures.fresh;
         offered = c.in_ok-first.ensures.offered;
         sent =
             c.in_ok-push.ensures.items
