@@ -12,7 +12,7 @@ use Rattle.interleaving.proofs.Put.{same_or_not, put_same, put_other}
 use Rattle.fenced_theory.specs.Recorders.{Recorder}
 use Rattle.fenced_theory.specs.Families.{Boot, At, IsFamily, Keeps, Here, Above, IsInside}
 use Rattle.fenced_theory.specs.Notes.{HasNotes, IsMark}
-use Rattle.fenced_theory.specs.Worlds.{Quorum, Released, WentOutBy, World, IsNewTo, first_term, new_term, Happens, Idle, Step, Seal, Deliver, Join, Save, Restart, Lose, Fence, Acknowledge, Release, Note, Grant, Comes, Begins, Then}
+use Rattle.fenced_theory.specs.Worlds.{Quorum, Released, WentOutBy, World, IsNewTo, first_term, new_term, Happens, Idle, Step, Seal, Deliver, Join, Save, Restart, Lose, Fence, Acknowledge, Release, Note, Grant, Comes, Nobody, Begins, Then}
 use Rattle.fenced_theory.specs.Laws.{Notes}
 use Rattle.fenced_theory.proofs.Growing.{some_same, some_none, a_piece}
 use Rattle.fenced_theory.proofs.Onward.{put_cases}
@@ -183,6 +183,15 @@ module _ {Book Fact : Type 0} (recorder : Recorder Book Fact) (guest : GuestPart
       (let a : 1 ≤ u = rules.granted in omega arith) all has.honest new p position (let less : p.term < u = rules.parent in less) b marks are_marks
 
   pub noted : {w : World Book} → Comes recorder guest quorum w → AreNoted w.terms w.notes w.marks w.released
+  noted Nobody =
+      record {
+        told = λ u p is hart place x there. some_none is refl;
+        from = λ u p is hart note (k, below, e). absurd (omega arith);
+        out = λ u hart note k (j, below, e) less. absurd (omega arith);
+        passed = λ u hart k less. absurd (omega arith);
+        marked = λ u t hart note k (j, below, e). absurd (omega arith);
+        above = λ r (k, below, is). absurd (omega arith);
+      }
   noted (Begins b boots) =
       record {
         told =

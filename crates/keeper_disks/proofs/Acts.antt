@@ -39,6 +39,8 @@ module _ {Book Fact : Type 0} (recorder : Recorder Book Fact) (guest : GuestPart
         terms = refl;
         sent = refl;
         released = refl;
+        notes = refl;
+        marks = refl;
         others = λ k other. record { stores = refl; saved = refl; fence = refl; given = λ u. refl; acked = λ u. refl };
         acked = λ u hart. omega arith;
         given = λ u le not. refl;
@@ -85,6 +87,8 @@ module _ {Book Fact : Type 0} (recorder : Recorder Book Fact) (guest : GuestPart
         terms = o.terms;
         sent = o.sent;
         released = o.released;
+        notes = o.notes;
+        marks = o.marks;
         others = λ k other.
             record {
               stores = o.others k other;
@@ -114,7 +118,7 @@ module _ {Book Fact : Type 0} (recorder : Recorder Book Fact) (guest : GuestPart
 
   only_now : OnlyStore w w keeper
   only_now =
-      record { terms = refl; sent = refl; saved = refl; fence = refl; given = refl; acked = refl; released = refl; others = λ k other. refl }
+      record { terms = refl; sent = refl; saved = refl; fence = refl; given = refl; acked = refl; released = refl; notes = refl; marks = refl; others = λ k other. refl }
 
   -- behind more bytes it has all frames that are read there then, where these were sent
   pub record Grown (bytes : List ℕ) : Type 0 where
@@ -244,6 +248,8 @@ module _ {Book Fact : Type 0} (recorder : Recorder Book Fact) (guest : GuestPart
               terms = refl;
               sent = refl;
               released = refl;
+              notes = refl;
+              marks = refl;
               others = λ k other.
                   record { stores = refl; saved = put_other w.saved keeper k (Some s.store) other; fence = refl; given = λ u. refl; acked = λ u. refl };
               acked = λ u hart. omega arith;
@@ -280,6 +286,8 @@ module _ {Book Fact : Type 0} (recorder : Recorder Book Fact) (guest : GuestPart
               terms = refl;
               sent = refl;
               released = refl;
+              notes = refl;
+              marks = refl;
               others = λ k other. record { stores = refl; saved = refl; fence = refl; given = λ u. refl; acked = λ u. acked_other u k other };
               acked = λ u hart. raised_keeps w.acked p.term keeper (count_at p.counts) u keeper hart;
               given = λ u le not. refl;
@@ -336,6 +344,8 @@ module _ {Book Fact : Type 0} (recorder : Recorder Book Fact) (guest : GuestPart
               terms = refl;
               sent = refl;
               released = refl;
+              notes = refl;
+              marks = refl;
               others = λ k other.
                   record {
                     stores = refl;

@@ -48,6 +48,8 @@ pub record OnlyStore {Book : Type 0} (w v : World Book) (keeper : ℕ) : Type 0 
   pub given : v.given ≡ w.given
   pub acked : v.acked ≡ w.acked
   pub released : v.released ≡ w.released
+  pub notes : v.notes ≡ w.notes
+  pub marks : v.marks ≡ w.marks
   pub others : (k : ℕ) → (keeper ≡ k → ⊥) → v.stores k ≡ w.stores k
 
 module _ {Book Fact : Type 0} (recorder : Recorder Book Fact) (guest : GuestParts) (quorum : Quorum) where
@@ -67,6 +69,8 @@ module _ {Book Fact : Type 0} (recorder : Recorder Book Fact) (guest : GuestPart
         given = refl;
         acked = refl;
         released = refl;
+        notes = refl;
+        marks = refl;
         others = λ k other. put_other w.stores keeper k (Some s) other;
       }
 
@@ -80,6 +84,8 @@ module _ {Book Fact : Type 0} (recorder : Recorder Book Fact) (guest : GuestPart
         given = b.given ∙ a.given;
         acked = b.acked ∙ a.acked;
         released = b.released ∙ a.released;
+        notes = b.notes ∙ a.notes;
+        marks = b.marks ∙ a.marks;
         others = λ k other. b.others k other ∙ a.others k other;
       }
 

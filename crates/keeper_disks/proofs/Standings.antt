@@ -1,10 +1,9 @@
--- An empty disk stands for a keeper of the first world, and each for its keeper whatever becomes of others; and each can crash.
+-- An empty disk stands for a keeper that has nothing, and each for its keeper whatever becomes of others; and each can crash.
 use Rattle.std.proofs.Common.{ℕ, List, [], ◌++◌, Contains, refl, ◌∙◌, arith}
 use Rattle.ft_types.specs.Guests.{GuestParts}
 use Rattle.fragment_codec.specs.declared.frame.Frame.{Frame}
 use Rattle.fragment_codec.proofs.streams.Splits.{splits_none}
 use Rattle.log_join.specs.Stores.{nothing}
-use Rattle.fenced_theory.specs.Worlds.{first_world}
 use Rattle.keeper_disks.specs.Disks.{Phase, Away, HasRead, Rests, Adding, Synced}
 use Rattle.keeper_disks.specs.Standing.{HasFrames, Knows, DisksBegin, DisksStay, DisksCrash}
 use Rattle.keeper_disks.proofs.Has.{front_of_whole, were_sent, still_sent}
@@ -14,17 +13,16 @@ no_frames guest sent =
     record { frames = []; splits = splits_none []; each = λ f has. absurd (let z = has.1 in omega (arith, z)); join = refl }
 
 pub disks_begin : (Book : Type 0) (guest : GuestParts) → DisksBegin Book guest
-disks_begin Book guest b keeper =
-    let sent : List Frame = (first_world guest b).sent in
+disks_begin Book guest w keeper has wrote fence =
     record {
       store = nothing guest;
       written = nothing guest;
-      has_it = refl;
-      wrote_it = refl;
-      log = front_of_whole guest sent [] (nothing guest) (no_frames guest sent);
-      safe = no_frames guest sent;
+      has_it = has;
+      wrote_it = wrote;
+      log = front_of_whole guest w.sent [] (nothing guest) (no_frames guest w.sent);
+      safe = no_frames guest w.sent;
       begins = ([], refl);
-      fence_is = refl;
+      fence_is = fence;
       keeper = tt;
       hand = tt;
     }

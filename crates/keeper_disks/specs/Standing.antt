@@ -5,10 +5,10 @@ use Rattle.ft_types.specs.Guests.{GuestParts}
 use Rattle.fragment_codec.specs.declared.frame.Frame.{Frame}
 use Rattle.fragment_codec.specs.Streams.{IsStuck, Splits}
 use Rattle.log_join.specs.Coming.{IsJoinOf}
-use Rattle.log_join.specs.Stores.{StoreView}
+use Rattle.log_join.specs.Stores.{StoreView, nothing}
 use Rattle.stations.specs.Handshake.{IsBeginning}
 use Rattle.fenced_theory.specs.Recorders.{Recorder}
-use Rattle.fenced_theory.specs.Worlds.{Quorum, World, Happens, first_world}
+use Rattle.fenced_theory.specs.Worlds.{Quorum, World, Happens}
 use Rattle.keeper_disks.specs.Disks.{Phase, Away, HasRead, Rests, Adding, Synced, Hand, Nobody, Saw, HasFenced, Disk, Out, Nothing, Says, Hands, WereSent, Goes}
 
 -- the bytes are frames, each of which was sent, and then this rest; the store is the join of the frames
@@ -66,6 +66,8 @@ pub record OnlyKeeper {Book : Type 0} (w v : World Book) (keeper : ℕ) (d : Dis
   pub terms : v.terms ≡ w.terms
   pub sent : v.sent ≡ w.sent
   pub released : v.released ≡ w.released
+  pub notes : v.notes ≡ w.notes
+  pub marks : v.marks ≡ w.marks
   pub others : (k : ℕ) → (keeper ≡ k → ⊥) → IsSame w v k
   pub acked : (u hart : ℕ) → w.acked u keeper hart ≤ v.acked u keeper hart
   pub given : (u : ℕ) → u ≤ d.files.fence → (d.hand ≡ HasFenced u → ⊥) → v.given u keeper ≡ w.given u keeper
@@ -81,7 +83,9 @@ abbrev pub nothing_there : Disk
 nothing_there = record { files = record { log = []; safe = []; fence = 0 }; keeper = Away; hand = Nobody }
 
 abbrev pub DisksBegin : Type 0 → GuestParts → Type 0
-DisksBegin Book guest = (b : Book) (keeper : ℕ) → StandsOn guest (first_world guest b) keeper nothing_there
+DisksBegin Book guest =
+    (w : World Book) (keeper : ℕ) → w.stores keeper ≡ Some (nothing guest) → w.saved keeper ≡ Some (nothing guest) → w.fence keeper ≡ 1 →
+    StandsOn guest w keeper nothing_there
 
 abbrev pub DisksStay : Type 0 → GuestParts → Type 0
 DisksStay Book guest =

@@ -8,7 +8,7 @@ ghost use Rattle.keeper_disks.specs.Standing.{DisksBegin, DisksCrash, DisksGo, D
 
 /// Whatever is done with a keeper's disk, by a keeper, by whoever hands its log over and by crashes, is events of the world of fencing.
 pub fn disks_are_keepers<Book, Fact>()
-    // A disk on which there is nothing stands for a keeper of the first world.
+    // A disk on which there is nothing stands for a keeper that has nothing.
     ensures begins { (guest : GuestParts) → DisksBegin Book guest }
     // It stands for it whatever becomes of others.
     ensures stays { (guest : GuestParts) → DisksStay Book guest }
