@@ -1,0 +1,4 @@
+pub mod Worlds
+pub mod Happenings
+pub mod Promises
+pub mod machinery
