@@ -1,2 +1,4 @@
 pub mod Lists
 pub mod Seats
+pub mod Disks
+pub mod Beginning
