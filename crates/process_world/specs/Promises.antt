@@ -1,6 +1,5 @@
 -- What holds of all that was told, of what is on disk, and of what was sent.
-use Rattle.std.specs.Prelude.{◌≡◌, ◌<◌, ◌≤◌, ◌⊎◌, ◌×◌, ℕ, Bool, true, Contains, slice_get, Some}
-use Rattle.std.specs.Prelude.{[]}
+use Rattle.std.specs.Prelude.{◌≡◌, ◌<◌, ◌≤◌, ◌⊎◌, ℕ, Bool, true, List, [], Contains, slice_get, Some}
 use Rattle.ft_types.specs.Counts.{count_at}
 use Rattle.ft_types.specs.declared.position.Position.{Position}
 use Rattle.guest_image.specs.Image.{ImageContents, guest_of}
