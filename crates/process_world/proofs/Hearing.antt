@@ -1,5 +1,6 @@
 -- A primary hears an acknowledgement: it is noted at the gate, outputs go out, and the book notes that they did.
-use Rattle.std.proofs.Common.{◌≡◌, ◌⊎◌, inl, inr, ℕ, zero, suc, ◌+◌, ◌<◌, ◌≤◌, List, [], ◌∷◌, ◌++◌, Contains, slice_set, slice_index_or, Some, refl, sym, ap, subst, ◌∙◌, arith, le_trans, le_of_eq}
+use Rattle.std.proofs.Common.{◌≡◌, ◌⊎◌, inl, inr, ℕ, zero, suc, ◌+◌, ◌<◌, ◌≤◌, List, [], ◌∷◌, ◌++◌, Contains, slice_set, slice_index_or, Some}
+use Rattle.std.proofs.Common.{refl, sym, ap, subst, ◌∙◌, arith, le_trans, le_of_eq}
 use Rattle.interleaving.specs.Lists.{Each}
 use Rattle.interleaving.specs.Log.{Log as EdgesAndInputs}
 use Rattle.input_log.specs.declared.Input.{Input}
@@ -36,7 +37,8 @@ use Rattle.process_world.specs.Worlds.{ProcessWorld, Leads}
 use Rattle.process_world.specs.Happenings.{OnlyHears, led_by}
 use Rattle.process_world.specs.machinery.Tied.{IsTied, IsTold, quorum_of}
 use Rattle.process_world.proofs.Seats.{OnlyTerm, Theory, Terms, ComesIn, IsNow, changed}
-use Rattle.process_world.proofs.Turning.{renoted, notes_come, notes_primary, new_book, past_next, terms_next, turned, book_comes, terms_are, there_next, others_stay, book_within, book_history}
+use Rattle.process_world.proofs.Turning.{renoted, notes_come, notes_primary, new_book, past_next, terms_next, turned, book_comes, terms_are, there_next}
+use Rattle.process_world.proofs.Turning.{others_stay, book_within, book_history}
 use Rattle.process_world.proofs.Releasing.{in_theory, rising, split, goes_out, out_with, kept_in, one_added, added_in, of_term, comes_with}
 use Rattle.process_world.proofs.Noting.{IsNoted, notes_out}
 
@@ -54,6 +56,7 @@ acked_cases (x ∷ rows) (suc k) (suc j) row hart =
     elim (acked_cases rows k j row hart) [ inl (same, le) ↦ inl (ap suc same, le) | inr old ↦ inr old ]
 
 module _ (w : ProcessWorld) (is : IsTied w) (l : LeaderView) (its : IsNow w is is.world is.terms l) (a : Acknowledgement) (has : Contains w.said a) where
+  -- what the theory has as acknowledged in the term
   abbrev acked : ℕ → ℕ → ℕ
   acked = is.world.acked l.primary.opening.term
 
@@ -92,6 +95,7 @@ module _ (w : ProcessWorld) (is : IsTied w) (l : LeaderView) (its : IsNow w is i
 
 -- ---- a primary with another gate, other notes in its book, and more that went out
 
+-- what was told went out still
 still_told : (rs ss : List theory.Released) → ((r : theory.Released) → Contains rs r → Contains ss r) → (a : Answer) → IsTold rs a → IsTold ss a
 still_told rs ss more a is =
     record {
@@ -110,24 +114,31 @@ as_heard l b h now = record l { primary = record l.primary { book = b }; gate = 
 
 module _ (w : ProcessWorld) (is : IsTied w) (l : LeaderView) (its : IsNow w is is.world is.terms l) (notes : List NotesOfOne)
     (more : (hart : ℕ) → NotesMore (notes_of l.primary.book.mode.notes hart) (counts_of l.primary.book.machine hart) (notes_of notes hart)) where
+  -- the book with these notes
   abbrev book : BookView RecordingView
   book = renoted l.primary.book notes
 
+  -- the primary with it
   abbrev heard : TermGateView → List Released → LeaderView
   heard h now = as_heard l (renoted l.primary.book notes) h now
 
+  -- the book comes of the old one
   on : ComesOf l.primary.book book
   on = notes_come l.primary.book notes more
 
+  -- its log is honest
   primary : IsPrimary book
   primary = notes_primary l.primary.book notes its.within.is_book.primary
 
+  -- it is a book of the theory
   abbrev is_book : IsTermBook w.image.pages book
   is_book = new_book w is l.primary its.within book on primary
 
+  -- the family with the book
   abbrev its_terms : Terms w is
   its_terms = terms_next w is l.primary its.within book on primary
 
+  -- the primary's term with it
   abbrev its_past : Past (TermBook w.image.pages)
   its_past = past_next w is l.primary its.within book on primary
 
@@ -169,12 +180,15 @@ module _ (w : ProcessWorld) (is : IsTied w) (l : LeaderView) (its : IsNow w is i
     (lets : LetGo l.primary.opening.term l.primary.book.machine l.gate l.released h now) (notes : List NotesOfOne)
     (told : (hart : ℕ) → notes_of notes hart ≡
     noted_to (last_of hart lets.given) (counts_of l.primary.book.machine hart) (notes_of l.primary.book.mode.notes hart)) where
+  -- the primary's term
   abbrev term : ℕ
   term = l.primary.opening.term
 
+  -- its machine
   abbrev m : MachineState
   m = l.primary.book.machine
 
+  -- what goes out
   abbrev out : List Output
   out = held_outputs l.gate.gate.need h.gate.noted lets.offered.gate.lines
 
@@ -182,27 +196,34 @@ module _ (w : ProcessWorld) (is : IsTied w) (l : LeaderView) (its : IsNow w is i
   abbrev went : List theory.Released
   went = out_with term out is.world.released
 
+  -- the book notes more
   more : (hart : ℕ) → NotesMore (notes_of l.primary.book.mode.notes hart) (counts_of m hart) (notes_of notes hart)
   more = (noted_on lets.given l.primary.book (renoted l.primary.book notes) (record { rest = refl; notes = told })).notes
 
+  -- what went out in the term by now
   gone : now ≡ l.released ++ released_in term out
   gone = lets.out ∙ ap (λ os. l.released ++ released_in term os) lets.held
 
+  -- the machine's first outputs were offered before they went
   offered : AreOffered lets.offered.gate m
   offered = all_stay lets.offered.gate m lets.all
 
+  -- enough keepers acknowledged each that goes
   all_going : Each (IsGoing w.keepers w.need l.gate m) out
   all_going =
       subst (λ k. Each (IsGoing k w.need l.gate m) out) its.of_keepers
       (subst (λ n. Each (IsGoing l.gate.gate.keepers n l.gate m) out) its.of_need
       (going l.gate.gate.need l.gate lets.offered.gate h.gate.noted m lets.acked offered))
 
+  -- and none is below its hart's mark
   above : Each (λ o. mark_at l.gate.gate o.hart ≤ o.number) out
   above = above_before l.gate lets.offered out lets.more (subst (AreAbove lets.offered.gate) lets.held lets.above)
 
+  -- the term in the theory, with the book
   abbrev past : Past (Books w.image.pages is.are_theory)
   past = retold (told_as w.image.pages is.are_theory) (its_past w is l its notes more)
 
+  -- the theory's world has it
   there : (its_world w is l its notes more).terms term ≡ Some past
   there = there_next w is l.primary its.within (book w is l its notes more) (on w is l its notes more) (primary w is l its notes more)
 
@@ -213,6 +234,7 @@ module _ (w : ProcessWorld) (is : IsTied w) (l : LeaderView) (its : IsNow w is i
       (in_theory w is (book w is l its notes more) (is_book w is l its notes more) its.led) its.acked its.marked out is.world.released all_going above
       (book_comes w is l.primary its.within (book w is l its notes more) (on w is l its notes more) (primary w is l its notes more))
 
+  -- the machine's outputs rise
   still_rising : AreRising m
   still_rising = rising w is l.primary.book its.within.is_book its.led
 
@@ -236,6 +258,7 @@ module _ (w : ProcessWorld) (is : IsTied w) (l : LeaderView) (its : IsNow w is i
         | inr (p, is_gone, number) ↦ inr (subst (theory.WentOutBy went term hart) number (gone_by hart p is_gone))
       ]
 
+  -- the theory counts as the book does
   counted : (hart : ℕ) → is.is_recorder.recorder.counts past.told hart ≡ counts_of m hart
   counted hart =
       let b = is.are_theory.book (book w is l its notes more) (is_book w is l its notes more) in
@@ -276,6 +299,7 @@ module _ (w : ProcessWorld) (is : IsTied w) (l : LeaderView) (its : IsNow w is i
         marked = λ hart. its.marked hart ∙ sym (ap (λ (line : LineView). line.mark) (lets.lines hart) ∙ (lets.more.lines hart).mark);
       }
 
+  -- so the world is tied
   lets_go : (n : ℕ) (g : TermGateView) → Leads w n (record l { gate = g }) → IsTied (record w { led = led_by w n (heard w is l its notes more h now) })
   lets_go n g at =
       tied_with w is l its notes more n g at h now went noted.notes noted.comes (kept_in term out is.world.released) noted.others let_out
@@ -296,6 +320,7 @@ hears_said w is n old new a at has (noted, notes, goes) only =
 module _ (w : ProcessWorld) (is : IsTied w) (l : LeaderView) (its : IsNow w is is.world is.terms l) (h : TermGateView) (was : IsAsItWas l.gate h)
     (offered : AreOffered h.gate l.primary.book.machine) (notes : List NotesOfOne)
     (same : (hart : ℕ) → notes_of notes hart ≡ notes_of l.primary.book.mode.notes hart) where
+  -- the book notes what it did
   no_more : (hart : ℕ) → NotesMore (notes_of l.primary.book.mode.notes hart) (counts_of l.primary.book.machine hart) (notes_of notes hart)
   no_more hart =
       subst (NotesMore (notes_of l.primary.book.mode.notes hart) (counts_of l.primary.book.machine hart)) (sym (same hart))
@@ -321,6 +346,7 @@ module _ (w : ProcessWorld) (is : IsTied w) (l : LeaderView) (its : IsNow w is i
         marked = λ hart. its.marked hart ∙ sym ((was.lines hart).mark);
       }
 
+  -- so the world is tied
   lets_none : (n : ℕ) (g : TermGateView) → Leads w n (record l { gate = g }) →
       IsTied (record w { led = led_by w n (heard w is l its notes no_more h l.released) })
   lets_none n g at =

@@ -1,5 +1,6 @@
 -- What went out in a term is noted in the theory, hart by hart.
-use Rattle.std.proofs.Common.{◌≡◌, ◌⊎◌, inl, inr, ℕ, zero, suc, ◌+◌, ◌<◌, ◌≤◌, min, Bool, true, false, cond, nat_lt, List, [], ◌∷◌, ◌++◌, filter, Contains, Some, None, refl, sym, ap, subst, ◌∙◌, arith, lt-ltb}
+use Rattle.std.proofs.Common.{◌≡◌, ◌⊎◌, inl, inr, ℕ, zero, suc, ◌+◌, ◌<◌, ◌≤◌, min, Bool, true, false, cond, nat_lt, List, [], ◌∷◌, ◌++◌, filter, Contains}
+use Rattle.std.proofs.Common.{Some, None, refl, sym, ap, subst, ◌∙◌, arith, lt-ltb}
 use Rattle.std.proofs.lemmas.Bool.{cases_lt}
 use Rattle.std.proofs.lemmas.List.Elements.{Contains-append_left, Contains-append_cases}
 use Rattle.interleaving.specs.Lists.{put}
@@ -19,6 +20,7 @@ use Rattle.failover_world.proofs.Noting.{in_filter, to_filter}
 
 -- ---- one note more
 
+-- the only one of a list
 only_one : {A : Type 0} (x y : A) → Contains (x ∷ []) y → x ≡ y
 only_one x y (zero, below, same) = same
 only_one x y (suc k, below, same) = absurd (omega (arith, below))
@@ -63,17 +65,21 @@ module _ {Book Fact : Type 0} (recorder : Recorder Book Fact) (guest : GuestPart
   rows zero = w.notes term
   rows (suc n) = put (rows n) n (new n)
 
+  -- the notes of all terms, with these
   abbrev its_notes : ℕ → ℕ → ℕ → List (ℕ × ℕ)
   its_notes n = put w.notes term (rows n)
 
+  -- the world with these notes comes
   abbrev Comes : (ℕ → ℕ → List (ℕ × ℕ)) → Type 0
   Comes notes = theory.Comes recorder guest quorum (record w { notes = notes })
 
+  -- of the others they are as they were
   not_yet : (n hart : ℕ) → n ≤ hart → rows n hart ≡ w.notes term hart
   unfolding rows
   not_yet zero hart le = refl
   not_yet (suc n) hart le = put_other (rows n) n hart (new n) (λ same. absurd (omega (arith, le, same))) ∙ not_yet n hart (omega (arith, le))
 
+  -- of those below they are as they are now
   done : (n hart : ℕ) → hart < n → rows n hart ≡ new hart
   unfolding rows
   done zero hart less = absurd (omega (arith, less))
@@ -90,6 +96,7 @@ module _ {Book Fact : Type 0} (recorder : Recorder Book Fact) (guest : GuestPart
   as_they_were : (hart : ℕ) → last_of hart given ≡ None → new hart ≡ w.notes term hart
   as_they_were hart none = are hart ∙ ap (λ last. noted_to last (counts hart) (old hart)) none ∙ sym (were hart)
 
+  -- what the book did is a note of the theory
   is_note : (n last : ℕ) → last_of n given ≡ Some last →
       IsNoting (its_notes n term n) (recorder.counts p.told n) (min (last + 1) (counts n)) (new n)
   is_note n last some =
@@ -100,6 +107,7 @@ module _ {Book Fact : Type 0} (recorder : Recorder Book Fact) (guest : GuestPart
       (subst (λ m. IsNoting (old n) m (min (last + 1) (counts n)) (new n)) (sym (counted n))
       (subst (IsNoting (old n) (counts n) (min (last + 1) (counts n))) (sym now) (is_noting (old n) (counts n) (min (last + 1) (counts n)))))
 
+  -- one hart more, of which outputs went out
   one_more : (n last : ℕ) → last_of n given ≡ Some last → Comes (its_notes n) → Comes (its_notes (suc n))
   unfolding rows
   one_more n last some comes =
@@ -110,6 +118,7 @@ module _ {Book Fact : Type 0} (recorder : Recorder Book Fact) (guest : GuestPart
       subst Comes same
       (theory.Then comes (theory.Note term p n number (new n) there (is_note n last some) (λ k less. out n last some k (omega (arith, less)))))
 
+  -- one hart after the other
   comes_to : theory.Comes recorder guest quorum w → (n : ℕ) → Comes (its_notes n)
   unfolding rows
   comes_to comes zero = subst Comes (sym (put_own w.notes term (w.notes term) refl)) comes
@@ -121,6 +130,7 @@ module _ {Book Fact : Type 0} (recorder : Recorder Book Fact) (guest : GuestPart
         | inr (last, some) ↦ one_more n last some (comes_to comes n)
       ]
 
+  -- and then all
   all_done : (hart : ℕ) → rows HART_LIMIT hart ≡ new hart
   all_done hart =
       elim (cases_lt hart HART_LIMIT) [

@@ -1,5 +1,6 @@
 -- Outputs of a term go out in the theory, whatever terms were granted since.
-use Rattle.std.proofs.Common.{◌≡◌, ◌⊎◌, inl, inr, ℕ, zero, suc, ◌<◌, ◌≤◌, List, [], ◌∷◌, ◌++◌, map, slice_get, Contains, Option, Some, None, sym, ap, subst, ◌∙◌, arith}
+use Rattle.std.proofs.Common.{◌≡◌, ◌⊎◌, inl, inr, ℕ, zero, suc, ◌<◌, ◌≤◌, List, [], ◌∷◌, ◌++◌, map, slice_get, Contains, Option, Some, None}
+use Rattle.std.proofs.Common.{sym, ap, subst, ◌∙◌, arith}
 use Rattle.std.proofs.lemmas.List.Elements.{Contains-append_right}
 use Rattle.interleaving.specs.Lists.{Each, EachPair}
 use Rattle.interleaving.proofs.Cuts.{here_or_later, here}
@@ -28,24 +29,29 @@ use Rattle.process_world.specs.machinery.Tied.{IsTied}
 
 -- ---- outputs of a machine, as the theory has them
 
+-- what is at a place in a list, once all are mapped
 mapped : {A B : Type 0} (f : A → B) (xs : List A) (n : ℕ) (x : A) → slice_get xs n ≡ Some x → slice_get (map f xs) n ≡ Some (f x)
 mapped f [] n x is = absurd cc
 mapped f (y ∷ xs) zero x is = ap (λ y. Some (f y)) (let e : y ≡ x = cc in e)
 mapped f (y ∷ xs) (suc n) x is = mapped f xs n x is
 
+-- an output of a hart, as the theory has it
 said_in_theory : (h : Option Hart) (n step word : ℕ) → slice_get (said_by h) n ≡ Some (step, word) →
     slice_get (outputs_of h) n ≡ Some (record { step = step; word = word })
 said_in_theory None n step word is = absurd cc
 said_in_theory (Some h) n step word is = mapped (λ o. record { step = o.0; word = o.1 }) h.outputs n (step, word) is
 
+-- what is so of each that is mapped, is so of each once it is
 each_mapped : {A B : Type 0} (P : B → Type 0) (f : A → B) (xs : List A) → Each P (map f xs) → Each (λ x. P (f x)) xs
 each_mapped P f [] all = tt
 each_mapped P f (x ∷ xs) (first, rest) = (first, each_mapped P f xs rest)
 
+-- and so for pairs
 pair_mapped : {A B : Type 0} (R : B → B → Type 0) (f : A → B) (xs : List A) → EachPair R (map f xs) → EachPair (λ a b. R (f a) (f b)) xs
 pair_mapped R f [] all = tt
 pair_mapped R f (x ∷ xs) (first, rest) = (each_mapped (R (f x)) f xs first, pair_mapped R f xs rest)
 
+-- outputs that rise in the theory rise
 rising_said : (h : Option Hart) → EachPair (λ o p. o.step < p.step) (outputs_of h) → EachPair (λ a b. a.0 < b.0) (said_by h)
 rising_said None rising = tt
 rising_said (Some h) rising = pair_mapped (λ (o p : TheoryOutput). o.step < p.step) (λ o. record { step = o.0; word = o.1 }) h.outputs rising
@@ -78,6 +84,7 @@ split (x ∷ xs) ys r has =
     ]
 
 module _ (term : ℕ) where
+  -- an output that goes out in the term
   abbrev pub goes_out : Output → Released
   goes_out o = record { term = term; output = o }
 
@@ -122,6 +129,7 @@ module _ {Book Fact : Type 0} (recorder : Recorder Book Fact) (guest : GuestPart
     (said : (hart number step word : ℕ) → slice_get (said_at m hart) number ≡ Some (step, word) →
     slice_get (recorder.outputs p.told hart) number ≡ Some (record { step = step; word = word }))
     (acked : (keeper hart : ℕ) → acked_at g keeper hart ≤ w.acked term keeper hart) (marked : (hart : ℕ) → w.marks term hart ≡ mark_at g.gate hart) where
+  -- the world, where this went out
   abbrev pub with_out : List theory.Released → theory.World Book
   with_out out = record w { released = out }
 

@@ -45,6 +45,7 @@ notes_primary b notes is = record { log = is.log; honest = is.honest }
 -- ---- a book that comes of a primary's
 
 module _ (w : ProcessWorld) (is : IsTied w) (l : Primary) (own : IsIn is.terms l) where
+  -- what a term's book tells
   abbrev tell : TermBook w.image.pages → TermHistory (Option Hart) (Option (List ℕ))
   tell t = history_of t.book
 
@@ -52,9 +53,11 @@ module _ (w : ProcessWorld) (is : IsTied w) (l : Primary) (own : IsIn is.terms l
   abbrev pub past_now : Past (Books w.image.pages is.are_theory)
   past_now = retold (told_as w.image.pages is.are_theory) (past_of l own.pieces own.is_book)
 
+  -- the theory's world has it
   pub there_now : is.world.terms l.opening.term ≡ Some past_now
   there_now = ap (λ f. f l.opening.term) is.terms_are ∙ ap (retold_in (told_as w.image.pages is.are_theory)) own.there
 
+  -- and so has the history
   pub there_told : history is.terms l.opening.term ≡ Some (told_by l own.pieces)
   there_told = ap (retold_in tell) own.there
 
@@ -63,12 +66,15 @@ module _ (w : ProcessWorld) (is : IsTied w) (l : Primary) (own : IsIn is.terms l
     pub new_book : IsTermBook w.image.pages c
     new_book = later_are_term_books w.image.pages l.book c own.is_book on primary
 
+    -- the primary with the book
     abbrev pub next : Primary
     next = record l { book = c }
 
+    -- its term
     abbrev pub past_next : Past (TermBook w.image.pages)
     past_next = past_of next own.pieces new_book
 
+    -- the family with it
     abbrev pub terms_next : Terms w is
     terms_next = put is.terms l.opening.term (Some past_next)
 
@@ -90,6 +96,7 @@ module _ (w : ProcessWorld) (is : IsTied w) (l : Primary) (own : IsIn is.terms l
         ap (λ f. put f l.opening.term (Some (retold (told_as w.image.pages is.are_theory) past_next))) is.terms_are
         ∙ sym (retold_put (told_as w.image.pages is.are_theory) is.terms l.opening.term (Some past_next))
 
+    -- among them the book's
     pub there_next : turned.terms l.opening.term ≡ Some (retold (told_as w.image.pages is.are_theory) past_next)
     there_next =
         put_same is.world.terms l.opening.term l.opening.term (Some (retold (told_as w.image.pages is.are_theory) past_next)) refl
@@ -98,6 +105,7 @@ module _ (w : ProcessWorld) (is : IsTied w) (l : Primary) (own : IsIn is.terms l
     pub others_stay : (u : ℕ) → (l.opening.term ≡ u → ⊥) → terms_next u ≡ is.terms u
     others_stay u other = put_other is.terms l.opening.term u (Some past_next) other
 
+    -- the pieces that were sent are the book's
     of_book : IsTermOfBook c (told_by next own.pieces)
     of_book = terms_go_on l.book c (told_by l own.pieces) own.of_book on.start on.tells
 
@@ -112,6 +120,7 @@ module _ (w : ProcessWorld) (is : IsTied w) (l : Primary) (own : IsIn is.terms l
           sealed = own.sealed;
         }
 
+    -- the primary's book goes on to it
     goes_on : BookGoesOn w.image l.book c (told_by l own.pieces) (told_by next own.pieces)
     goes_on =
         record {
