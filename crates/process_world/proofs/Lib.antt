@@ -4,3 +4,7 @@ pub mod Disks
 pub mod Beginning
 pub mod Giving
 pub mod Granting
+pub mod Turning
+pub mod Releasing
+pub mod Noting
+pub mod Hearing
