@@ -8,3 +8,10 @@ pub mod Turning
 pub mod Releasing
 pub mod Noting
 pub mod Hearing
+pub mod Terms
+pub mod Rounds
+pub mod Sealing
+pub mod Laws
+pub mod Telling
+pub mod Promises
+pub mod All
