@@ -10,7 +10,7 @@ use Rattle.log_join.specs.Cells.{One}
 use Rattle.log_join.specs.Stores.{StoreView, opening_at}
 use Rattle.closed_cut.specs.Position.{IsPosition, NoTop, Top, Stops, Last, Short, On}
 use Rattle.fenced_theory.specs.Recorders.{Recorder}
-use Rattle.fenced_theory.specs.Worlds.{Quorum, World, Happens, Idle, Step, Seal, Deliver, Join, Save, Restart, Lose, Fence, Acknowledge, Release, Note, Grant, Comes, Begins, Then}
+use Rattle.fenced_theory.specs.Worlds.{Quorum, World, Happens, Idle, Step, Seal, Deliver, Join, Save, Restart, Lose, Fence, Acknowledge, Release, Note, Grant, Comes, Nobody, Begins, Then}
 use Rattle.fenced_theory.proofs.Growing.{an_opening}
 use Rattle.fenced_keeper.specs.Keepers.{Acknowledges}
 use Rattle.fenced_world.specs.Keepers.{KeptView, kept_at}
@@ -43,6 +43,7 @@ module _ {Book Fact : Type 0} (recorder : Recorder Book Fact) (guest : GuestPart
   still w v was (Grant u chosen all p b marks free has enough new position rules begun are_marks) k = was k
 
   some_fence : {w : World Book} → Comes recorder guest quorum w → (k : ℕ) → 1 ≤ w.fence k
+  some_fence Nobody k = omega arith
   some_fence (Begins b is) k = omega arith
   some_fence (Then {w = w} {v = v} comes happens) k = still w v (some_fence comes) happens k
 
