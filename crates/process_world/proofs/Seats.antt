@@ -1,5 +1,5 @@
 -- What is tied to the theory stays so: of primaries that an event does not touch, and of the one that it does.
-use Rattle.std.proofs.Common.{◌≡◌, inl, inr, ℕ, ◌≤◌, List, [], ◌∷◌, ◌++◌, length, Contains, slice_get, slice_set, Option, Some, refl, sym, ap, subst, ◌∙◌, arith}
+use Rattle.std.proofs.Common.{◌≡◌, ◌⊎◌, inl, inr, ℕ, ◌≤◌, List, [], ◌∷◌, ◌++◌, length, Contains, slice_get, slice_set, Option, Some, refl, sym, ap, subst, ◌∙◌, arith}
 use Rattle.interleaving.specs.Lists.{put}
 use Rattle.interleaving.proofs.Put.{same_or_not, put_same, put_other}
 use Rattle.ft_types.specs.Guests.{GuestParts}
@@ -155,7 +155,7 @@ granted_more {pages} terms led x p are new same =
 -- ---- an event of one primary
 
 -- Nothing of the theory's world but this term is another; what was sent was sent, and what went out did.
-pub record OnlyTerm {Book : Type 0} {pages : ℕ} (w v : theory.World Book) (terms now : Family (TermBook pages)) (term : ℕ) : Type 0 where
+pub record OnlyTerm {Book : Type 0} {pages : ℕ} (w v : theory.World Book) (before now : Family (TermBook pages)) (term : ℕ) : Type 0 where
   pub stores : v.stores ≡ w.stores
   pub saved : v.saved ≡ w.saved
   pub fence : v.fence ≡ w.fence
@@ -163,7 +163,7 @@ pub record OnlyTerm {Book : Type 0} {pages : ℕ} (w v : theory.World Book) (ter
   pub acked : v.acked ≡ w.acked
   pub sent : (f : Frame) → Contains w.sent f → Contains v.sent f
   pub released : (r : theory.Released) → Contains w.released r → Contains v.released r
-  pub terms : (u : ℕ) → (term ≡ u → ⊥) → now u ≡ terms u
+  pub terms : (u : ℕ) → (term ≡ u → ⊥) → now u ≡ before u
   pub notes : (u hart : ℕ) → (term ≡ u → ⊥) → v.notes u hart ≡ w.notes u hart
   pub marks : (u hart : ℕ) → (term ≡ u → ⊥) → v.marks u hart ≡ w.marks u hart
 
