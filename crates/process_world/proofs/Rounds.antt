@@ -1,14 +1,11 @@
 -- A primary goes on for a round.
-use Rattle.std.proofs.Common.{◌≡◌, ℕ, ◌≤◌, Contains, List, sym, ap, subst, ◌∙◌}
-use Rattle.input_log.specs.Notes.{notes_of}
+use Rattle.std.proofs.Common.{◌≡◌, ℕ, ◌≤◌, Contains, List, refl, sym, ap, subst, ◌∙◌}
 use Rattle.ft_types.specs.declared.output.Output.{Output}
-use Rattle.hart_lease.specs.Runs.{LeadsTo}
 use Rattle.page_book.specs.Books.{BookView}
-use Rattle.book_modes.specs.Recordings.{RecordingView, heard_by}
+use Rattle.book_modes.specs.Recordings.{RecordingView}
 use Rattle.term_gate.specs.TermGates.{TermGateView, acked_at}
 use Rattle.primary.specs.Primaries.{GoesOn}
 use Rattle.primary.specs.Gating.{AreOffered, OffersMore}
-use Rattle.primary.specs.declared.granted.Primary.{Primary}
 use Rattle.primary.proofs.Waiting.{all_stay}
 use Rattle.requests.specs.Queues.{QueueView}
 use Rattle.leading.specs.Leaders.{LeaderView}

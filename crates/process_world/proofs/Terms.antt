@@ -2,7 +2,6 @@
 use Rattle.std.proofs.Common.{◌≡◌, ℕ, List, Contains, Option, Some, refl, sym, ap, subst, ◌∙◌}
 use Rattle.interleaving.specs.Lists.{put}
 use Rattle.interleaving.proofs.Put.{put_same, put_other}
-use Rattle.guest_image.specs.Image.{guest_of}
 use Rattle.page_book.specs.Books.{BookView}
 use Rattle.book_modes.specs.Recordings.{RecordingView}
 use Rattle.rv32_hart.specs.Hart.{Hart}
