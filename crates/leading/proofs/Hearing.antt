@@ -43,7 +43,7 @@ pub stays_from : {U E : Type 0} (old noted new : LeaderView) (r : Result U E) �
 stays_from old noted new (Ok u) same stays = tt
 stays_from old noted new (Err e) same stays =
     let x = subst (λ (v : LeaderView). LetsNothingGo v noted.gate new) same stays in
-    record { gate = x.gate; room = x.room; book = x.book; released = x.released }
+    record { gate = x.gate; offered = x.offered; room = x.room; book = x.book; released = x.released }
 
 pub rest_from : (old noted new : LeaderView) → noted ≡ record old { gate = noted.gate } →
     new ≡ record noted { primary = record noted.primary { book = new.primary.book }; gate = new.gate; released = new.released } →

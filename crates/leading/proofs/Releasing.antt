@@ -56,11 +56,12 @@ goes old new (Ok u) (lets, notes) =
     }
 goes old new (Err e) none = tt
 
-pub stays : {U E : Type 0} (old new : LeaderView) (r : Result U E) → OnErr r (IsAsItWas old.gate new.gate) → OnErr r (new.released ≡ old.released) →
+pub stays : {U E : Type 0} (old new : LeaderView) (r : Result U E) → OnErr r (IsAsItWas old.gate new.gate) →
+    AreOffered new.gate.gate old.primary.book.machine → OnErr r (new.released ≡ old.released) →
     OnErr r (HasRoomed old.primary.book.mode new.primary.book.mode) →
     OnErr r (new.primary.book ≡ record old.primary.book { mode = new.primary.book.mode }) → OnErr r (LetsNothingGo old old.gate new)
-stays old new (Ok u) was none room book = tt
-stays old new (Err e) was none room book = record { gate = was; room = room; book = book; released = none }
+stays old new (Ok u) was offered none room book = tt
+stays old new (Err e) was offered none room book = record { gate = was; offered = offered; room = room; book = book; released = none }
 
 -- the book, but for its notes, is as it was
 abbrev OnlyNoted : BookView RecordingView → BookView RecordingView → Type 0

@@ -8,7 +8,7 @@ use Rattle.book_modes.specs.Recordings.{HasRoomed}
 use Rattle.log_pieces.specs.Pieces.{SealedView}
 use Rattle.output_gate.specs.Gates.{mark_at}
 use Rattle.term_gate.specs.TermGates.{TermGateView, acked_at}
-use Rattle.primary.specs.Gating.{LetGo, IsAsItWas}
+use Rattle.primary.specs.Gating.{AreOffered, LetGo, IsAsItWas}
 use Rattle.primary.specs.Noting.{NotesAll}
 use Rattle.wire.specs.declared.acknowledgements.Acknowledgement.{Acknowledgement}
 use Rattle.wire.specs.declared.answers.Answer.{Answer}
@@ -75,9 +75,10 @@ pub record LetsGo (old : LeaderView) (noted : TermGateView) (new : LeaderView) :
   pub out : Each (IsOut old.primary.book.machine new.gate.gate) lets.given
   pub notes : NotesAll lets.given old.primary.book new.primary.book
 
--- nothing went out and nothing is noted; more may have been offered, and room made
+-- nothing went out and nothing is noted; more of the machine's outputs may have been offered, and room made
 pub record LetsNothingGo (old : LeaderView) (noted : TermGateView) (new : LeaderView) : Type 0 where
   pub gate : IsAsItWas noted new.gate
+  pub offered : AreOffered new.gate.gate old.primary.book.machine
   pub room : HasRoomed old.primary.book.mode new.primary.book.mode
   pub book : new.primary.book ≡ record old.primary.book { mode = new.primary.book.mode }
   pub released : new.released ≡ old.released

@@ -1,5 +1,5 @@
 -- A gate of a term to which no output was offered yet, and then all of them.
-use Rattle.std.proofs.Common.{◌≡◌, ℕ, List, [], length, replicate, take, sym, ap, subst, ◌∙◌}
+use Rattle.std.proofs.Common.{◌<◌, ◌≡◌, ℕ, List, [], length, replicate, take, sym, ap, subst, ◌∙◌}
 use Rattle.std.specs.List.{AllByRecursion}
 use Rattle.ft_types.specs.Counts.{count_at}
 use Rattle.ft_types.specs.declared.output.Output.{Output}

@@ -76,27 +76,28 @@ module _ (guest : GuestParts) (files : Files) where
       let fence : files.fence ≡ new = knows.0 in
       (omega (arith, is, fence), λ e. cc)
 
-module _ (guest : GuestParts) (sent : List Frame) (d e : Disk) (knows : KnowsFence d.files.fence d.hand) where
-  -- a fence stays, and the term of an older one is not fenced for again
-  goes_on : (out : Out) → Goes guest sent d e out → (term : ℕ) → term ≤ d.files.fence → (d.hand ≡ HasFenced term → ⊥) →
-      (term ≤ e.files.fence) × (e.hand ≡ HasFenced term → ⊥)
-  goes_on out (KeeperDoes act next told does) term le not =
-      (let same = keeps_fence guest d.files d.keeper act next out does in omega (arith, le, same), not)
-  goes_on out (HandDoes act next told does) term le not = gives_on guest d.files d.hand act next out does knows term le
-  goes_on out (Takes st f store rests has rules joined) term le not = (le, not)
-  goes_on out KeeperEnds term le not = (le, not)
-  goes_on out HandEnds term le not = (le, λ e. cc)
-  goes_on out (Crashes left begins were) term le not = (le, not)
+-- a fence stays, and the term of an older one is not fenced for again
+goes_on : (guest : GuestParts) (sent : List Frame) (d e : Disk) (out : Out) → Goes guest sent d e out → KnowsFence d.files.fence d.hand → (term : ℕ) →
+    term ≤ d.files.fence → (d.hand ≡ HasFenced term → ⊥) → (term ≤ e.files.fence) × (e.hand ≡ HasFenced term → ⊥)
+goes_on guest sent d e out (KeeperDoes act next told does) knows term le not =
+    (let same = keeps_fence guest d.files d.keeper act next out does in omega (arith, le, same), not)
+goes_on guest sent d e out (HandDoes act next told does) knows term le not = gives_on guest d.files d.hand act next out does knows term le
+goes_on guest sent d e out (Takes st f store rests has rules joined) knows term le not = (le, not)
+goes_on guest sent d e out KeeperEnds knows term le not = (le, not)
+goes_on guest sent d e out HandEnds knows term le not = (le, λ e. cc)
+goes_on guest sent d e out (Crashes left begins were) knows term le not = (le, not)
 
-  -- what is handed over goes to the term of the fence, once
-  goes_out : (out : Out) (term : ℕ) (bytes : List ℕ) → Goes guest sent d e out → out ≡ Hands term bytes →
-      (term ≤ e.files.fence) × (e.hand ≡ HasFenced term → ⊥)
-  goes_out out term bytes (KeeperDoes act next told does) same = absurd (keeps_log guest d.files d.keeper act next out term bytes does same)
-  goes_out out term bytes (HandDoes act next told does) same = gives_log guest d.files d.hand act next out term bytes does knows same
-  goes_out out term bytes (Takes st f store rests has rules joined) same = absurd cc
-  goes_out out term bytes KeeperEnds same = absurd cc
-  goes_out out term bytes HandEnds same = absurd cc
-  goes_out out term bytes (Crashes left begins were) same = absurd cc
+-- what is handed over goes to the term of the fence, once
+goes_out : (guest : GuestParts) (sent : List Frame) (d e : Disk) (out : Out) (term : ℕ) (bytes : List ℕ) → Goes guest sent d e out →
+    KnowsFence d.files.fence d.hand → out ≡ Hands term bytes → (term ≤ e.files.fence) × (e.hand ≡ HasFenced term → ⊥)
+goes_out guest sent d e out term bytes (KeeperDoes act next told does) knows same =
+    absurd (keeps_log guest d.files d.keeper act next out term bytes does same)
+goes_out guest sent d e out term bytes (HandDoes act next told does) knows same =
+    gives_log guest d.files d.hand act next out term bytes does knows same
+goes_out guest sent d e out term bytes (Takes st f store rests has rules joined) knows same = absurd cc
+goes_out guest sent d e out term bytes KeeperEnds knows same = absurd cc
+goes_out guest sent d e out term bytes HandEnds knows same = absurd cc
+goes_out guest sent d e out term bytes (Crashes left begins were) knows same = absurd cc
 
 -- ---- events
 
@@ -151,7 +152,7 @@ module _ (w : ProcessWorld) (is : IsTied w) (keeper : ℕ) (d e : Disk) (out : O
               frames = still_sent (guest_of w.image) is.world.sent v.sent still h.bytes [] was.store was.frames;
               once = λ b there.
                   subst (λ (b : Disk). (h.term ≤ b.files.fence) × (b.hand ≡ HasFenced h.term → ⊥)) (its_own b (ap disks here ∙ there))
-                  (goes_on (guest_of w.image) is.world.sent d e knows out goes_there h.term once.0 once.1);
+                  (goes_on (guest_of w.image) is.world.sent d e out goes_there knows h.term once.0 once.1);
             }
         | inr other ↦
             record {
@@ -233,7 +234,7 @@ module _ (w : ProcessWorld) (is : IsTied w) (keeper : ℕ) (d e : Disk) (out : O
               frames = told.2;
               once = λ b there.
                   subst (λ (b : Disk). (term ≤ b.files.fence) × (b.hand ≡ HasFenced term → ⊥)) (its_own b there)
-                  (goes_out (guest_of w.image) is.world.sent d e knows out term bytes goes_there same);
+                  (goes_out (guest_of w.image) is.world.sent d e out term bytes goes_there knows same);
             })
         | inr was ↦ handed_still h was
       ])

@@ -2,6 +2,12 @@ pub mod Lists
 pub mod Seats
 pub mod Disks
 pub mod Beginning
+pub mod Giving
+pub mod Granting
+pub mod Turning
+pub mod Releasing
+pub mod Noting
+pub mod Hearing
 pub mod Terms
 pub mod Rounds
 pub mod Sealing

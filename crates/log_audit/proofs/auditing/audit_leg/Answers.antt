@@ -13,8 +13,8 @@ returns-in-Ok-clause-agrees c =
     (subst (λ (e : Ended). Ends c.args.leg.now c.args.start e) c.in-Ok-Stopped.field-0-is c.in-Ok-Stopped.ensures)
     c.at-rules.ensures.rules.own c.in-Ok.end c.in-Ok.ensures.ok
 
-pub returns-clause-fault : goal.returns-clause-fault
-returns-clause-fault c =
+pub returns-in-Err-come_to-clause-fault : goal.returns-in-Err-come_to-clause-fault
+returns-in-Err-come_to-clause-fault c =
     ends_short c.args.leg.now c.args.start c.in-Ok-Stopped.machine c.requires.leg c.requires.base
     (subst (λ (e : Ended). Ends c.args.leg.now c.args.start e) c.in-Ok-Stopped.field-0-is c.in-Ok-Stopped.ensures)
     c.in-Err-come_to.fault c.in-Err-come_to.ensures.fault

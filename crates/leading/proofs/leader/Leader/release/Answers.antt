@@ -5,6 +5,7 @@ use Rattle.primary.specs.declared.released.Released.{Released}
 use Rattle.requests.specs.Queues.{QueueView}
 use Rattle.leading.specs.Hearing.{LetsGo, LetsNothingGo}
 use Rattle.leading.specs.Leaders.{LeaderView}
+use Rattle.leading.proofs.Offering.{rising}
 use Rattle.leading.proofs.Releasing.{goes, stays, marks_stay, noted_handed, released_sound}
 use Rattle.leading.proofs.leader.Leader.release.Goals as goal
 
@@ -43,7 +44,7 @@ returns-clause-nothing c =
     let old = view_of c.self.inside.primary.value c.self.inside.gate.value c.self.inside.queues.items c.self.inside.released.items in
     let new = view_of c.release.new.self c.release.new.gate c.self.inside.queues.items c.release.new.released.items in
     subst (λ (o : LeaderView). OnErr c.release.result (LetsNothingGo o o.gate new)) c.self.view_is
-    (stays old new c.release.result does.was does.none does.room does.book)
+    (stays old new c.release.result does.was (does.offered (rising old.primary.book.machine c.self.invariant.0.tidy)) does.none does.room does.book)
 
 pub returns-clause-rest : goal.returns-clause-rest
 returns-clause-rest c =
