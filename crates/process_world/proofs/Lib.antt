@@ -11,3 +11,7 @@ pub mod Hearing
 pub mod Terms
 pub mod Rounds
 pub mod Sealing
+pub mod Laws
+pub mod Telling
+pub mod Promises
+pub mod All
