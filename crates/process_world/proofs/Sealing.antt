@@ -12,6 +12,7 @@ use Rattle.fragment_codec.specs.declared.frame.Frame.TheVariants.{Log}
 use Rattle.fragment_codec.specs.Rules.{FragmentParts}
 use Rattle.log_pieces.specs.Pieces.{HartLog, Mark, SealedView, IsCut, IsPiece, book_log}
 use Rattle.log_join.specs.Families.{Past, end_of}
+use Rattle.hart_replay.specs.Images.{IsHistoryOf}
 use Rattle.hart_replay.specs.Primaries.{IsTermOfBook}
 use Rattle.book_recorder.proofs.Cutting.{piece_is_cut, piece_has_notes}
 use Rattle.fenced_theory.specs.Notes.{HasNotes}
@@ -30,12 +31,15 @@ use Rattle.process_world.specs.Happenings.{led_by}
 use Rattle.process_world.specs.machinery.Tied.{IsIn, IsTied, past_of, told_by}
 use Rattle.process_world.proofs.Lists.{push_old}
 use Rattle.process_world.proofs.Seats.{ComesIn, IsNow}
-use Rattle.process_world.proofs.Terms.{own, there_now, there_told, terms_with, world_with, AreHistoryWith, retermed}
+use Rattle.process_world.proofs.Turning.{there_now, there_told}
+use Rattle.process_world.proofs.Terms.{terms_with, world_with, history_with, retermed}
 
 module _ (w : ProcessWorld) (is : IsTied w) (n : ℕ) (l : LeaderView) (at : Leads w n l) where
-  abbrev here : IsIn is.terms l.primary
-  here = (own w is n l at).within
+  -- its term is the family's
+  here : IsIn is.terms l.primary
+  here = (is.leaders n l at).within
 
+  -- the logs of its harts
   abbrev own_log : ℕ → HartLog
   own_log = book_log (guest_of w.image) l.primary.opening.term l.primary.book
 
@@ -43,6 +47,7 @@ module _ (w : ProcessWorld) (is : IsTied w) (n : ℕ) (l : LeaderView) (at : Lea
   abbrev past_with : (ℕ → List FragmentParts) → Past (TermBook w.image.pages)
   past_with f = past_of l.primary f here.is_book
 
+  -- as the theory has it
   abbrev in_theory : (ℕ → List FragmentParts) → Past (Books w.image.pages is.are_theory)
   in_theory f = retold (told_as w.image.pages is.are_theory) (past_with f)
 
@@ -53,7 +58,7 @@ module _ (w : ProcessWorld) (is : IsTied w) (n : ℕ) (l : LeaderView) (at : Lea
   -- a piece has the term's notes of its range
   its_notes : (hart : ℕ) (mark : Mark) (x : FragmentParts) → IsPiece (own_log hart) mark x → HasNotes (is.world.notes l.primary.opening.term hart) x
   its_notes hart mark x piece =
-      subst (λ (notes : List (ℕ × ℕ)). HasNotes notes x) (sym ((own w is n l at).noted hart)) (piece_has_notes (own_log hart) mark x piece)
+      subst (λ (notes : List (ℕ × ℕ)). HasNotes notes x) (sym ((is.leaders n l at).noted hart)) (piece_has_notes (own_log hart) mark x piece)
 
   -- one piece goes out
   one_piece : (f : ℕ → List FragmentParts) (sent : List Frame) (hart : ℕ) (mark : Mark) (x : FragmentParts) → mark.place ≡ length (f hart) →
@@ -75,25 +80,30 @@ module _ (w : ProcessWorld) (is : IsTied w) (n : ℕ) (l : LeaderView) (at : Lea
   as_it_was : ComesWith here.pieces is.world.sent
   as_it_was =
       subst (λ t. ComesIn w is (record is.world { terms = t }))
-      (sym (put_own is.world.terms l.primary.opening.term (Some (in_theory here.pieces)) (there_now w is n l at))) is.comes
+      (sym (put_own is.world.terms l.primary.opening.term (Some (in_theory here.pieces)) (there_now w is l.primary here))) is.comes
 
   module _ (new : SealedView) (frames : List Frame) (cut : IsCut own_log w.image.harts l.primary.sealed frames new) where
+    -- the pieces with those that go out
     abbrev grown : ℕ → List FragmentParts
     grown hart = here.pieces hart ++ slice_index_or cut.pieces hart []
 
+    -- the primary, cut so far
     abbrev next : Primary
     next = record l.primary { sealed = new }
 
+    -- the theory's world with them comes
     comes_grown : ComesWith grown (is.world.sent ++ frames)
     comes_grown =
         cut_holds own_log (count_at l.primary.opening.base) ComesWith one_piece here.pieces l.primary.sealed new here.sealed w.image.harts is.world.sent frames
         cut as_it_was
 
+    -- they are the book's
     of_book : IsTermOfBook l.primary.book (told_by next grown)
     of_book =
         cut_of_book (guest_of w.image) l.primary.opening.term w.image.harts l.primary.book (told_by l.primary here.pieces) l.primary.sealed new frames
         here.of_book here.sealed cut
 
+    -- so its term goes on
     its_history : BookGoesOn w.image l.primary.book l.primary.book (told_by l.primary here.pieces) (told_by next grown)
     its_history =
         record {
@@ -110,11 +120,14 @@ module _ (w : ProcessWorld) (is : IsTied w) (n : ℕ) (l : LeaderView) (at : Lea
           keeps = λ hart place piece there. push_old (here.pieces hart) (slice_index_or cut.pieces hart []) place piece there;
         }
 
-    history_grown : AreHistoryWith w is n l at (past_with grown)
+    -- the terms with them are a history
+    history_grown : IsHistoryOf w.image (history (terms_with w is n l at (past_with grown)))
     history_grown =
+        history_with w is n l at (past_with grown)
         (books_go_on w.image (history is.terms) l.primary.opening.term l.primary.book l.primary.book (told_by l.primary here.pieces) (told_by next grown)
-        is.are_theory is.is_history (there_told w is n l at) its_history).is_history
+        is.are_theory is.is_history (there_told w is l.primary here) its_history).is_history
 
+    -- the primary's term is that with them
     within : IsIn (terms_with w is n l at (past_with grown)) next
     within =
         record {
@@ -131,7 +144,7 @@ module _ (w : ProcessWorld) (is : IsTied w) (n : ℕ) (l : LeaderView) (at : Lea
     leads_on : IsNow w is (world_with w is n l at (past_with grown) (is.world.sent ++ frames)) (terms_with w is n l at (past_with grown))
         (record l { primary = next })
     leads_on =
-        let was = own w is n l at in
+        let was = is.leaders n l at in
         record {
           within = within;
           of_guest = was.of_guest;
@@ -147,6 +160,7 @@ module _ (w : ProcessWorld) (is : IsTied w) (n : ℕ) (l : LeaderView) (at : Lea
           marked = was.marked;
         }
 
+    -- the world in which they went out
     pub sealed : IsTied (record w { led = led_by w n (record l { primary = next }); frames = w.frames ++ frames })
     sealed =
         subst (λ fs. IsTied (record w { led = led_by w n (record l { primary = next }); frames = fs ++ frames })) is.sent
@@ -159,8 +173,9 @@ module _ (w : ProcessWorld) (is : IsTied w) (n : ℕ) (l : LeaderView) (at : Lea
       IsCut own_log w.image.harts l.primary.sealed frames new
   own_cut new frames cut =
       subst (λ (g : GuestParts). IsCut (book_log g l.primary.opening.term l.primary.book) g.harts l.primary.sealed frames new)
-      (own w is n l at).of_guest cut
+      (is.leaders n l at).of_guest cut
 
+-- pieces were cut and sent
 pub seals : (w : ProcessWorld) (is : IsTied w) (n : ℕ) (old new : LeaderView) (frames : List Frame) → Leads w n old →
     IsCut (book_log old.primary.opening.guest old.primary.opening.term old.primary.book) old.primary.opening.guest.harts old.primary.sealed frames
     new.primary.sealed → new ≡ record old { primary = record old.primary { sealed = new.primary.sealed } } →
