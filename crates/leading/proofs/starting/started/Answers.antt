@@ -42,8 +42,8 @@ going_on-primary-requires-clause-counts c =
     at_counts c.args.image.now (stores_in c.args.given.now) c.args.term c.in_ok-live.live.book.start c.in_ok-live.live.opening c.in_ok-live.live.marks
     c.in_ok-live.ensures.position
 
-pub offer_all-requires : goal.offer_all-requires
-offer_all-requires c = none_offered c.in-Ok.gate.gate c.machine.result.now (count_at c.in_ok-live.live.marks) c.in-Ok.ensures.lines
+pub offer_all-all-requires : goal.offer_all-all-requires
+offer_all-all-requires c = none_offered c.in-Ok.gate.gate c.machine.result.now (count_at c.in_ok-live.live.marks) c.in-Ok.ensures.lines
 
 module _ (c : Else-is_err) where
   abbrev gate : IsNewGate c.offer_all-all.new.gate c.args.term c.args.quorum.keepers c.args.quorum.need c.args.image.now.harts c.in_ok-live.live.marks
