@@ -6,11 +6,10 @@ pub loop-number-preserved : goal.loop-number-preserved
 loop-number-preserved g c =
     let names = c.args.names.now in
     let i = c.loop-number.number in
-    let name = c.index-names-number.result in
     let file = c.in-Ok.file in
     let within : i < length names = omega arith in (
       ap (map (λ file. file.name)) c.push_reserved.ensures.items ∙ map-append (λ file. file.name) c.loop-number.removed.items (file ∷ [])
           ∙ ap (λ gone. gone ++ file.name ∷ []) c.loop-number.invariant.0 ∙ ap (λ n. take i names ++ n ∷ []) c.in-Ok.ensures
-          ∙ sym (take_more names i name within c.index-names-number.is),
+          ∙ sym (take_more names i (record { ref_ptr = (0, 0); now = [] }) within),
       omega arith,
     )
