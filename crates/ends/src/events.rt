@@ -10,11 +10,11 @@ use wire::LineText;
 
 /// What came of an input or an output.
 #[derive(Drop)]
-pub enum Event {
-    /// The input with this number brought lines, all that ended in a piece, which stand here without their line feeds.
-    Lines(usize, Vec<LineText>),
-    /// The same of an input that is read no faster than its lines are taken, and where those go back to that can't be taken yet.
-    Paced(usize, Vec<LineText>, Sender<Vec<LineText>>),
+pub enum Event<S: Drop> {
+    /// The input with this number brought lines, of which these say something: all that ended in a piece.
+    Lines(usize, Vec<S>),
+    /// The same of an input that is read no faster than its lines are taken, and where goes back what can't be taken yet.
+    Paced(usize, Vec<S>, Sender<Vec<S>>),
     /// An input is at its end, for good.
     Ended,
     /// The process can't go on.
@@ -30,6 +30,12 @@ pub type Receiver<E> = crossbeam_channel::Receiver<E, Global>;
 /// Both ends of a row of events, of which so many wait at the most. Whoever has one more waits for room.
 pub fn row<E: Drop>(alloc: Global, room: usize) -> Result<(Sender<E>, Receiver<E>), AllocError> {
     crossbeam_channel::bounded(alloc, room)
+}
+
+/// Reads lines, each once, on the thread of the input that brought it: whoever takes the events only hears what they say.
+pub trait Reads<S: Drop>: Send + Sync + Drop + 'static {
+    /// What a line of the input with this number says, if anything. It stands here without its line feed.
+    fn read(&self, input: usize, line: LineText) -> Option<S>;
 }
 
 /// Who takes the events. A thread that has left some asks it to serve, so that what they ask for can be done by that thread, and none has to be woken for it.

@@ -13,7 +13,7 @@ mod unread;
 
 pub use attempts::Attempts;
 pub use connection::{Keeps, Pen};
-pub use events::{Door, Event, Gone, Receiver, Sender, Taker, Waiting, bring, row};
+pub use events::{Door, Event, Gone, Reads, Receiver, Sender, Taker, Waiting, bring, row};
 pub use faults::{Fault, Frames, FramesFault, NamedFile, file_fault, name_at, refuse, tell};
 pub use files::{RemovedFile, is_fifo, read_file, remove_file, sync_folder};
 pub use host::{Host, Paths};

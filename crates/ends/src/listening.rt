@@ -2,7 +2,7 @@
 //! what it brought, a spare one goes on in its place.
 
 use crate::attempts::Attempts;
-use crate::events::{Door, Event, Gone, Taker, bring_as, row};
+use crate::events::{Door, Event, Gone, Reads, Taker, bring_as, row};
 use crate::faults::{Fault, NamedFile};
 use crate::files::is_fifo;
 use crate::host::Host;
@@ -50,11 +50,12 @@ struct Input {
     source: Mutex<Source>,
 }
 
-/// Inputs, and where their threads are relieved.
+/// Inputs, who reads their lines, and where their threads are relieved.
 #[derive(Drop)]
-struct Hall<T: Drop> {
+struct Hall<S: Drop, K: Drop, T: Drop> {
     inputs: Vec<Input>,
-    to: Door<Event, T>,
+    reader: K,
+    to: Door<Event<S>, T>,
     mode: Listening,
     calls: Receiver<usize, Global>,
 }
@@ -164,7 +165,7 @@ impl Source {
     }
 }
 
-impl<T: Drop> Hall<T> {
+impl<S: Drop, K: Reads<S>, T: Drop> Hall<S, K, T> {
     /// The input whose thread may be made to wait.
     fn by(&self, input: &Input) -> Option<usize> {
         match self.mode {
@@ -173,21 +174,52 @@ impl<T: Drop> Hall<T> {
         }
     }
 
-    /// Has lines taken, and waits where some can't be taken yet: they are brought again.
-    fn bring_paced<H: Host>(&self, rt: &H, input: &Input, lines: Vec<LineText>) -> Result<(), Gone>
+    /// What lines of an input say.
+    fn read_all(&self, alloc: Global, input: &Input, lines: Vec<LineText>) -> Result<Vec<S>, Stop> {
+        let mut said = Vec::new(alloc);
+        for line in lines {
+            if let Some(one) = self.reader.read(input.number, line)
+                && said.push(one).is_err()
+            {
+                return Err(Stop::Failed(Fault::Memory));
+            }
+        }
+        Ok(said)
+    }
+
+    /// Opens the path of an input, or reads a piece: what the lines say that ended in it, and whether the input comes again. None where another thread does so.
+    fn read<H: Host>(
+        &self,
+        rt: &H,
+        input: &Input,
+        piece: &mut [u8],
+    ) -> Option<Result<(Vec<S>, bool), Stop>> {
+        let mut source = input.source.try_lock()?;
+        let said = match source.read(rt, input, piece) {
+            Ok(lines) => self.read_all(rt.alloc(), input, lines),
+            Err(stop) => Err(stop),
+        };
+        match said {
+            Ok(said) => Some(Ok((said, source.comes_again))),
+            Err(stop) => Some(Err(stop)),
+        }
+    }
+
+    /// Has taken what lines say, and waits where some can't be taken yet: what they say is brought again.
+    fn bring_paced<H: Host>(&self, rt: &H, input: &Input, said: Vec<S>) -> Result<(), Gone>
     where
         T: Taker<H>,
     {
-        let mut lines = lines;
+        let mut said = said;
         for _ in rt.forever() {
             let Ok((to, back)) = row(rt.alloc(), 1) else {
                 return Err(self.stop(rt, Stop::Failed(Fault::Memory)));
             };
-            let event = Event::Paced(input.number, lines, to);
+            let event = Event::Paced(input.number, said, to);
             bring_as(rt, &self.to, event, self.by(input))?;
             match back.recv(rt) {
                 Ok(rest) if rest.is_empty() => return Ok(()),
-                Ok(rest) => lines = rest,
+                Ok(rest) => said = rest,
                 Err(_) => return Err(Gone),
             }
             let _slept = thread::sleep(rt, Duration::from_millis(PAUSE));
@@ -195,27 +227,27 @@ impl<T: Drop> Hall<T> {
         Err(Gone)
     }
 
-    /// Has lines taken.
+    /// Has taken what lines say.
     fn bring<H: Host>(
         &self,
         rt: &H,
         input: &Input,
-        lines: Vec<LineText>,
+        said: Vec<S>,
         comes_again: bool,
     ) -> Result<(), Gone>
     where
         T: Taker<H>,
     {
-        if lines.is_empty() {
+        if said.is_empty() {
             return Ok(());
         }
         if !comes_again && self.mode == Listening::Paced {
-            return self.bring_paced(rt, input, lines);
+            return self.bring_paced(rt, input, said);
         }
         bring_as(
             rt,
             &self.to,
-            Event::Lines(input.number, lines),
+            Event::Lines(input.number, said),
             self.by(input),
         )
     }
@@ -240,15 +272,10 @@ impl<T: Drop> Hall<T> {
     {
         let mut piece = [0; PIECE];
         for _ in rt.forever() {
-            let Some(mut source) = input.source.try_lock() else {
-                return Ok(());
-            };
-            let came = source.read(rt, input, &mut piece);
-            let comes_again = source.comes_again;
-            drop(source);
-            match came {
-                Ok(lines) => self.bring(rt, input, lines, comes_again)?,
-                Err(stop) => return Err(self.stop(rt, stop)),
+            match self.read(rt, input, &mut piece) {
+                Some(Ok((said, comes_again))) => self.bring(rt, input, said, comes_again)?,
+                Some(Err(stop)) => return Err(self.stop(rt, stop)),
+                None => return Ok(()),
             }
         }
         Err(Gone)
@@ -288,9 +315,9 @@ fn inputs_of(alloc: Global, first: usize, paths: &[&str]) -> Result<Vec<Input>, 
 }
 
 /// Starts a thread.
-fn start<H: Host, T: Taker<H>>(
+fn start<H: Host, S: Drop + Send + 'static, K: Reads<S>, T: Taker<H>>(
     rt: &H,
-    hall: &Arc<Hall<T>, Global>,
+    hall: &Arc<Hall<S, K, T>, Global>,
     place: Option<usize>,
 ) -> Result<(), Memory> {
     let own = *rt;
@@ -303,19 +330,21 @@ fn start<H: Host, T: Taker<H>>(
     }
 }
 
-/// Starts threads that listen on inputs, whose numbers begin with this one.
-pub fn listen_all<H: Host, T: Taker<H>>(
+/// Starts threads that listen on inputs, whose numbers begin with this one, and read their lines.
+pub fn listen_all<H: Host, S: Drop + Send + 'static, K: Reads<S>, T: Taker<H>>(
     rt: &H,
     first: usize,
     paths: &[&str],
     mode: Listening,
-    to: &Door<Event, T>,
+    reader: K,
+    to: &Door<Event<S>, T>,
 ) -> Result<Relief, Memory> {
     let (calls, called) = bounded(rt.alloc(), 1)?;
     let hall = Arc::new(
         rt.alloc(),
         Hall {
             inputs: inputs_of(rt.alloc(), first, paths)?,
+            reader,
             to: to.copy()?,
             mode,
             calls: called,

@@ -37,15 +37,15 @@ pub enum Writer {
 
 /// An output.
 #[derive(Drop)]
-struct Output<T: Drop> {
+struct Output<S: Drop, T: Drop> {
     number: usize,
     path: String,
     orders: Receiver<Order, Global>,
     connection: Arc<Mutex<Connection>, Global>,
-    to: Door<Event, T>,
+    to: Door<Event<S>, T>,
 }
 
-impl<T: Drop> Output<T> {
+impl<S: Drop, T: Drop> Output<S, T> {
     /// One connection, which begins with what is kept.
     fn serve<R: Wait>(&self, rt: &R, file: File, attempts: &mut Attempts) -> Result<(), End> {
         let mut old = self.orders.len();
@@ -132,7 +132,7 @@ enum Stop {
     Failed(Fault),
 }
 
-fn run<H: Host, T: Taker<H>>(rt: &H, output: &Output<T>) {
+fn run<H: Host, S: Drop, T: Taker<H>>(rt: &H, output: &Output<S, T>) {
     if let Stop::Failed(fault) = output.run(rt) {
         let _told = bring(rt, &output.to, Event::Failed(fault));
     }
@@ -268,12 +268,12 @@ fn orders(
 }
 
 /// Starts a thread that writes to the output with this number, until nobody leaves anything for it any more.
-fn begin_post<H: Host, T: Taker<H>>(
+fn begin_post<H: Host, S: Drop + Send + 'static, T: Taker<H>>(
     rt: &H,
     number: usize,
     path: &str,
     keeps: Keeps,
-    to: &Door<Event, T>,
+    to: &Door<Event<S>, T>,
 ) -> Result<(Post, JoinHandle<()>), Memory> {
     let own = *rt;
     let (left, orders) = orders(rt.alloc(), keeps)?;
@@ -300,12 +300,12 @@ fn begin_post<H: Host, T: Taker<H>>(
 }
 
 /// Starts threads that write to outputs, whose numbers begin with this one. They stand behind the others.
-pub fn begin_posts<H: Host, T: Taker<H>>(
+pub fn begin_posts<H: Host, S: Drop + Send + 'static, T: Taker<H>>(
     rt: &H,
     first: usize,
     paths: &[&str],
     keeps: Keeps,
-    to: &Door<Event, T>,
+    to: &Door<Event<S>, T>,
     threads: &mut Vec<JoinHandle<()>>,
 ) -> Result<Vec<Post>, Memory> {
     let mut posts = Vec::new(rt.alloc());

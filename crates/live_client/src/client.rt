@@ -6,7 +6,7 @@ use crate::names::name_in;
 use asking::{Heard, Talk, WordsFault, read_words, told_line};
 use crossbeam_channel::RecvTimeoutError;
 use ends::{
-    Door, Event, Fault, Host, Keeps, Listening, NamedFile, Post, Receiver, Waiting, Writer,
+    Door, Event, Fault, Host, Keeps, Listening, NamedFile, Post, Reads, Receiver, Waiting, Writer,
     begin_posts, file_fault, leave_all, listen_all, read_file, row, tell,
 };
 use ft_types::{HART_LIMIT, Hart, Memory};
@@ -22,6 +22,16 @@ use wire::{LineText, Request, read_full, request_line};
 /// How many pieces of answers wait at the most.
 const ROOM: usize = 512;
 
+/// Leaves lines as they are: what they say is heard in their order.
+#[derive(Drop)]
+struct Whole;
+
+impl Reads<LineText> for Whole {
+    fn read(&self, _input: usize, line: LineText) -> Option<LineText> {
+        Some(line)
+    }
+}
+
 /// A client with its threads.
 #[derive(Drop)]
 struct Client {
@@ -30,7 +40,7 @@ struct Client {
     words: usize,
     /// How many of them were asked for.
     asked: usize,
-    events: Receiver<Event>,
+    events: Receiver<Event<LineText>>,
     posts: Vec<Post>,
     /// How many inputs are not at their end.
     open: usize,
@@ -84,7 +94,7 @@ impl Client {
         let to = Door::new(to, Arc::new(rt.alloc(), Waiting)?);
         let mut threads = Vec::new(rt.alloc());
         let posts = begin_posts(rt, 0, &words.requests, Keeps::Last, &to, &mut threads)?;
-        let _none = listen_all(rt, 0, &words.answers, Listening::Plain, &to)?;
+        let _none = listen_all(rt, 0, &words.answers, Listening::Plain, Whole, &to)?;
         Ok(Client {
             talk,
             words: many,
@@ -187,7 +197,7 @@ impl Client {
     }
 
     /// Takes an event.
-    fn take<H: Host>(&mut self, rt: &H, event: Event) -> Result<(), Fault> {
+    fn take<H: Host>(&mut self, rt: &H, event: Event<LineText>) -> Result<(), Fault> {
         match event {
             Event::Lines(_, lines) => self.hear_all(rt, &lines),
             Event::Paced(_, lines, _) => self.hear_all(rt, &lines),

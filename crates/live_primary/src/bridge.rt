@@ -1,6 +1,7 @@
 //! What the threads of a primary share: whoever brings events takes them, and leads the first rounds behind a request, where no other thread does so.
 
 use crate::duty::Helm;
+use crate::reading::Said;
 use crossbeam_channel::{Receiver as TurnReceiver, Sender as TurnSender, bounded};
 use ends::{Event, Fault, Pen, Receiver, Taker};
 use ft_types::Memory;
@@ -19,7 +20,7 @@ struct Watch {
 #[derive(Drop)]
 pub(crate) struct Bridge {
     watch: Mutex<Watch>,
-    events: Receiver<Event>,
+    events: Receiver<Event<Said>>,
     /// By it the thread that leads is woken.
     turn: TurnSender<(), Global>,
     turns: TurnReceiver<(), Global>,
@@ -42,7 +43,7 @@ impl Watch {
     fn serve<R: AllocGlobal + Wait>(
         &mut self,
         rt: &R,
-        events: &Receiver<Event>,
+        events: &Receiver<Event<Said>>,
         by: Option<usize>,
     ) -> Served {
         let Some(helm) = &mut self.helm else {
@@ -71,7 +72,7 @@ impl Watch {
     fn go_on<R: AllocGlobal + Wait>(
         &mut self,
         rt: &R,
-        events: &Receiver<Event>,
+        events: &Receiver<Event<Said>>,
     ) -> Result<bool, Fault> {
         if let Some(fault) = self.fault.take() {
             return Err(fault);
@@ -112,7 +113,7 @@ impl<R: AllocGlobal + Wait> Taker<R> for Bridge {
 
 impl Bridge {
     /// Nobody leads yet.
-    pub(crate) fn new(alloc: Global, events: Receiver<Event>) -> Result<Bridge, Memory> {
+    pub(crate) fn new(alloc: Global, events: Receiver<Event<Said>>) -> Result<Bridge, Memory> {
         let (turn, turns) = bounded(alloc, 1)?;
         let watch = Watch {
             helm: None,

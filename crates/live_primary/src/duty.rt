@@ -1,16 +1,15 @@
 //! A primary: events are taken, and rounds led, one after the other.
 
-ghost use Rattle.std.specs.Prelude.{◌≡◌, ◌≢◌, ◌<◌, ◌≤◌, ℕ, List, drop, length, map, IfOk, IfSome, OnOk};
-ghost use Rattle.live_primary.specs.declared.duty.Said.TheVariants.{Request as SaidRequest};
-ghost use Rattle.wire.specs.declared.requests.Request.{Request as asked_for};
+ghost use Rattle.std.specs.Prelude.{◌≡◌, ◌≤◌, ℕ, List, drop, length, map, IfOk, OnOk};
 
 use crate::bridge::Bridge;
 use crate::names::name_in;
 use crate::office::Office;
 use crate::outset::{Outset, frame_bytes, set_out};
 use crate::pace::{FIRST_ROUND, LONE_ROUND, SHORT_ROUNDS, is_sent, next_blind, next_round};
+use crate::reading::Said;
 use ends::{Door, Event, Fault, Host, Pen, Receiver, refuse, row};
-use ft_types::{Count, Guest, Memory, Term};
+use ft_types::{Count, Memory, Term};
 use leading::{Came, Heard, Leader, Spacing};
 use live_words::PrimaryWords;
 use primary::Released;
@@ -18,9 +17,7 @@ use std::alloc::Global;
 use std::option::Option;
 use std::result::Result;
 use std::sync::{Arc, Wait};
-use wire::{
-    Acknowledgement, Answer, LineText, Request, read_acknowledgement, read_again, read_request,
-};
+use wire::{Acknowledgement, Answer, Request};
 
 /// How many events wait at the most, and are taken between two rounds.
 const ROOM: usize = 512;
@@ -39,7 +36,6 @@ enum Next {
 /// What a primary that leads knows beside its term.
 #[derive(Drop)]
 struct Duty {
-    guest: Guest,
     /// How many of the outputs that went out were told.
     told: usize,
     /// How many inputs are not at their end.
@@ -127,27 +123,6 @@ fn tell_of<R: AllocGlobal + Wait>(
     }
 }
 
-/// What a line says, beside that a keeper asks for all frames.
-#[derive(Clone, Copy)]
-enum Said {
-    /// A client wants this.
-    Request(Request),
-    /// A keeper has this.
-    Acknowledgement(Acknowledgement),
-}
-
-/// What a line of the input with this number says, if anything: clients speak by the first so many, keepers by the others.
-fn read_said(guest: &Guest, requests: usize, input: usize, line: &LineText) -> Option<Said>
-    ensures client { input < requests → IfSome result (λ said. (request : asked_for) × (said ≡ SaidRequest request)) }
-    ensures keeper { requests ≤ input → IfSome result (λ said. (request : asked_for) → said ≢ SaidRequest request) }
-{
-    let line = line.as_slice();
-    if input < requests {
-        return Some(Said::Request(read_request(guest.harts(), line)?));
-    }
-    Some(Said::Acknowledgement(read_acknowledgement(guest, line)?))
-}
-
 /// Takes what a client wants. Whether it need not come again: its hart had room for it.
 fn take_request<R: AllocGlobal + Wait>(
     rt: &R,
@@ -188,55 +163,36 @@ fn take_acknowledgement<R: AllocGlobal + Wait>(
     tell_new(rt, leader, duty, office)
 }
 
-/// Sends a keeper all frames once more, where a line of a keeper's input asks for that.
-fn take_again<R: AllocGlobal + Wait>(
-    rt: &R,
-    guest: &Guest,
-    office: &mut Office,
-    input: usize,
-    line: &LineText,
-) -> Result<(), Memory> {
-    if input < office.requests {
-        return Ok(());
-    }
-    match read_again(guest, line.as_slice()) {
-        Some(keeper) => office.begin_anew(rt, keeper),
-        None => Ok(()),
-    }
-}
-
-/// Takes a line of the input with this number. Whether it need not come again.
-fn take_line<R: AllocGlobal + Wait>(
+/// Takes what a line says. Whether it need not come again.
+fn take_said<R: AllocGlobal + Wait>(
     rt: &R,
     leader: &mut Leader,
     duty: &mut Duty,
     office: &mut Office,
-    input: usize,
-    line: &LineText,
+    said: &Said,
 ) -> Result<bool, Memory> {
-    match read_said(&duty.guest, office.requests, input, line) {
-        Some(Said::Request(request)) => return take_request(rt, leader, duty, office, &request),
-        Some(Said::Acknowledgement(acknowledgement)) => {
-            take_acknowledgement(rt, leader, duty, office, &acknowledgement)?;
+    match said {
+        Said::Request(request) => return take_request(rt, leader, duty, office, request),
+        Said::Acknowledgement(acknowledgement) => {
+            take_acknowledgement(rt, leader, duty, office, acknowledgement)?;
         }
-        None => take_again(rt, &duty.guest, office, input, line)?,
+        Said::Again(keeper) => office.begin_anew(rt, *keeper)?,
     }
     Ok(true)
 }
 
-/// Takes lines of the input with this number, up to the first for which there is no room: that one and those behind it, which are to come again.
+/// Takes what lines say, up to the first for which there is no room: what that one and those behind it say, which is to come again.
 fn take_paced<R: AllocGlobal + Wait>(
     rt: &R,
     leader: &mut Leader,
     duty: &mut Duty,
     office: &mut Office,
-    input: usize,
-    lines: Vec<LineText>,
-) -> Result<Vec<LineText>, Memory> {
+    all: Vec<Said>,
+) -> Result<Vec<Said>, Memory> {
     let mut rest = Vec::new(rt.alloc());
-    for line in lines {
-        if !rest.is_empty() || !take_line(rt, leader, duty, office, input, &line)? {
-            rest.push(line)?;
+    for said in all {
+        if !rest.is_empty() || !take_said(rt, leader, duty, office, &said)? {
+            rest.push(said)?;
         }
     }
     Ok(rest)
@@ -248,17 +204,17 @@ fn take<R: AllocGlobal + Wait>(
     leader: &mut Leader,
     duty: &mut Duty,
     office: &mut Office,
-    event: Event,
+    event: Event<Said>,
 ) -> Result<(), Fault> {
     match event {
-        Event::Lines(input, lines) => {
-            for line in &lines {
-                let _comes_again = take_line(rt, leader, duty, office, input, line)?;
+        Event::Lines(_, all) => {
+            for said in &all {
+                let _comes_again = take_said(rt, leader, duty, office, said)?;
             }
             Ok(())
         }
-        Event::Paced(input, lines, back) => {
-            let rest = take_paced(rt, leader, duty, office, input, lines)?;
+        Event::Paced(_, all, back) => {
+            let rest = take_paced(rt, leader, duty, office, all)?;
             let _left = back.try_send(rt, rest);
             Ok(())
         }
@@ -298,7 +254,7 @@ impl Helm {
     fn take_all<R: AllocGlobal + Wait>(
         &mut self,
         rt: &R,
-        events: &Receiver<Event>,
+        events: &Receiver<Event<Said>>,
     ) -> Result<(), Fault> {
         let Some(leader) = &mut self.leader else {
             return Err(Fault::Memory);
@@ -348,7 +304,7 @@ impl Helm {
     pub(crate) fn serve<R: AllocGlobal + Wait>(
         &mut self,
         rt: &R,
-        events: &Receiver<Event>,
+        events: &Receiver<Event<Said>>,
         by: Option<usize>,
     ) -> Result<Option<Pen>, Fault> {
         self.office.begin(rt, by);
@@ -367,7 +323,7 @@ impl Helm {
     pub(crate) fn go_on<R: AllocGlobal + Wait>(
         &mut self,
         rt: &R,
-        events: &Receiver<Event>,
+        events: &Receiver<Event<Said>>,
     ) -> Result<(), Fault> {
         for _ in rt.forever() {
             self.office.begin(rt, None);
@@ -415,9 +371,8 @@ fn lead_all<H: Host>(rt: &H, words: &PrimaryWords<'_>) -> Result<(), Fault> {
     let (to, events) = row(rt.alloc(), ROOM)?;
     let bridge = Arc::new(rt.alloc(), Bridge::new(rt.alloc(), events)?)?;
     let to = Door::new(to, Arc::try_clone(&bridge)?);
-    let (office, threads) = Office::open(rt, words, frames, removed, &to)?;
+    let (office, threads) = Office::open(rt, words, guest, frames, removed, &to)?;
     let duty = Duty {
-        guest,
         told: 0,
         open: words.requests.len() + words.acknowledgements.len(),
         steps: FIRST_ROUND,

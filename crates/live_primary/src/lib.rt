@@ -8,6 +8,7 @@ mod names;
 mod office;
 mod outset;
 mod pace;
+mod reading;
 
 pub use duty::lead;
 pub use outset::read_image_file;

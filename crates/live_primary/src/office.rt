@@ -2,11 +2,12 @@
 
 ghost use Rattle.std.specs.Prelude.{◌≡◌, length, map, IfOk};
 
+use crate::reading::{Reader, Said};
 use ends::{
     Door, Event, Host, Keeps, Listening, Pen, Post, Relief, RemovedFile, Taker, Writer,
     begin_posts, leave_all, listen_all,
 };
-use ft_types::{Count, Counts, HART_LIMIT, Hart, Keeper, Memory, Output, Term};
+use ft_types::{Count, Counts, Guest, HART_LIMIT, Hart, Keeper, Memory, Output, Term};
 use live_words::PrimaryWords;
 use std::alloc::Global;
 use std::result::Result;
@@ -18,7 +19,7 @@ use wire::{Acknowledgement, Answer, Line, answer_line, full_line};
 #[derive(Drop)]
 pub(crate) struct Office {
     /// How many inputs bring requests. Those behind them bring what keepers say.
-    pub(crate) requests: usize,
+    requests: usize,
     answers: Vec<Post>,
     /// One for each keeper, or one for all.
     keepers: Vec<Post>,
@@ -82,15 +83,16 @@ fn untold(alloc: Global, harts: usize) -> Result<Vec<Option<Count>>, Memory> {
 }
 
 impl Office {
-    /// Starts all threads, which leave what comes at this door. Keepers are sent these frames first. The threads of outputs end once the office is gone
-    /// and all is written.
+    /// Starts all threads, which leave what comes at this door, as lines to a primary of this guest. Keepers are sent these frames first. The threads of
+    /// outputs end once the office is gone and all is written.
     pub(crate) fn open<H: Host, T: Taker<H>>(
         rt: &H,
         words: &PrimaryWords<'_>,
+        guest: Guest,
         frames: Vec<u8>,
         // proof: the clause asks for it, and nothing else.
         _removed: Vec<RemovedFile<'_>>,
-        to: &Door<Event, T>,
+        to: &Door<Event<Said>, T>,
     ) -> Result<(Office, Vec<JoinHandle<()>>), Memory>
         requires { map (λ file. file.name) _removed.items ≡ words.now.handed.items }
     {
@@ -107,12 +109,14 @@ impl Office {
         )?;
         let _waits = leave_all(rt, &mut keepers, frames, Writer::Thread)?;
         let requests = words.requests.len();
-        let for_clients = listen_all(rt, 0, &words.requests, Listening::Paced, to)?;
+        let reader = Reader { guest, requests };
+        let for_clients = listen_all(rt, 0, &words.requests, Listening::Paced, reader, to)?;
         let for_keepers = listen_all(
             rt,
             requests,
             &words.acknowledgements,
             Listening::Relieved,
+            reader,
             to,
         )?;
         let office = Office {
