@@ -131,8 +131,7 @@ granted_put {pages} terms led n x y p are at same opening book =
       no_other = λ u q there. elim (same_or_not x.opening.term u) [
         | inl here ↦ (n, y, set_same led n x y at, ap (λ (o : OpeningParts). o.term) same ∙ here)
         | inr other ↦
-            let (m, l, was, of_term) = are.no_other u q (sym (put_other terms x.opening.term u (Some p) other) ∙ there) in
-            (
+            let (m, l, was, of_term) = are.no_other u q (sym (put_other terms x.opening.term u (Some p) other) ∙ there) in (
               m,
               l,
               set_other led n m y (λ e. other (ap (λ (l : Led). l.opening.term) (some_same at (ap (slice_get led) e ∙ was)) ∙ of_term)) ∙ was,
