@@ -372,7 +372,7 @@ module _ (w : ProcessWorld) (is : IsTied w) (term : ℕ) (given : List Given) (l
         terms_are = terms_now;
         is_history = history_now;
         granted =
-            granted_more is.terms w.led (led_as l) new_past is.granted (λ n k at same. new n k at (sym same ∙ is_term)) refl;
+            granted_more is.terms w.led (led_as l) new_past is.granted (λ n k at same. new n k at (sym same ∙ is_term)) refl refl;
         leaders = leaders_now quiet;
         sent = sent_now;
         standing = λ keeper d at.

@@ -48,7 +48,7 @@ module _ (w : ProcessWorld) (is : IsTied w) where
   pub its_term : (n : ℕ) (l : Led) → slice_get w.led n ≡ Some l →
       (q : Past (Books w.image.pages is.are_theory)) × (is.world.terms l.opening.term ≡ Some q) × (q.opening ≡ l.opening)
   its_term n l at =
-      let (p, there, same) = is.granted.each n l at in (
+      let (p, there, same, own) = is.granted.each n l at in (
         retold (told_as w.image.pages is.are_theory) p,
         ap (λ f. f l.opening.term) is.terms_are ∙ ap (retold_in (told_as w.image.pages is.are_theory)) there,
         same,
@@ -60,7 +60,7 @@ module _ (w : ProcessWorld) (is : IsTied w) where
   its_primary u q at =
       let (p, there, same) = untold (told_as w.image.pages is.are_theory) (is.terms u) q (ap (λ f. f u) (sym is.terms_are) ∙ at) in
       let (n, l, here, of_term) = is.granted.no_other u p there in
-      let (r, also, own) = is.granted.each n l here in
+      let (r, also, own, its) = is.granted.each n l here in
       let e : r ≡ p = some_same also (ap is.terms of_term ∙ there) in
       (n, l, here, of_term, sym own ∙ ap (λ (r : Past (TermBook w.image.pages)). r.opening) e ∙ same)
 

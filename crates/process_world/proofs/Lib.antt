@@ -13,5 +13,12 @@ pub mod Rounds
 pub mod Sealing
 pub mod Laws
 pub mod Telling
+pub mod Rows
+pub mod Sequences
+pub mod Wording
+pub mod RoundWords
+pub mod Chain
+pub mod WordEvents
+pub mod GivenWords
 pub mod Promises
 pub mod All

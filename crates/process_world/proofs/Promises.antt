@@ -29,7 +29,9 @@ use Rattle.failover_world.proofs.Promises.{untold}
 use Rattle.process_world.specs.Worlds.{Led, ProcessWorld, Leads}
 use Rattle.process_world.specs.Promises.{IsInChain, Here, Above, IsInside, IsOnDisks, WentOut, IsOne, AreHonest, AreNotesOut, KeepsPromises}
 use Rattle.process_world.specs.machinery.Tied.{told_by, IsTold, IsTied}
+use Rattle.process_world.specs.machinery.Worded.{AreWorded}
 use Rattle.process_world.proofs.Lists.{some_same}
+use Rattle.process_world.proofs.GivenWords.{are_words}
 use Rattle.process_world.proofs.Laws.{always_is, laws, notes, its_term, its_primary, past_now, there_now, of_machine}
 
 -- what is told of the terms says nothing of frames
@@ -189,6 +191,13 @@ module _ (w : ProcessWorld) (is : IsTied w) where
       went_out (record { term = l.primary.opening.term; output = record { hart = hart; number = number; step = said.0; word = said.1 } })
       (noted_one n l at r hart number said out of_hart of_number le own)
 
-  pub promises : KeepsPromises w
-  promises =
-      record { honest = are_honest; out = λ a has. went_out a (is.told a has); one = is_one; heard = is.heard; noted = are_notes_out }
+  pub promises : AreWorded w.asked w.led → KeepsPromises w
+  promises words =
+      record {
+        honest = are_honest;
+        out = λ a has. went_out a (is.told a has);
+        one = is_one;
+        heard = is.heard;
+        noted = are_notes_out;
+        words = are_words w is words;
+      }

@@ -68,29 +68,39 @@ leads_cases led n m new l is =
 
 -- ---- the terms that were granted
 
+-- terms are granted once, also where one of the primaries is another of its term
+abbrev AreApart : List Led → Type 0
+AreApart led =
+    (n m : ℕ) (l k : Led) → slice_get led n ≡ Some l → slice_get led m ≡ Some k → l.opening.term ≡ k.opening.term → n ≡ m
+
+still_apart : (led : List Led) (n : ℕ) (x y : Led) → AreApart led → slice_get led n ≡ Some x → y.opening ≡ x.opening → AreApart (slice_set led n y)
+still_apart led n x y apart at same m k l j one two e =
+    elim (set_cases led n m y l one) [
+      | inl (here, is) ↦ elim (set_cases led n k y j two) [
+        | inl (there, also) ↦ sym here ∙ there
+        | inr (other, was) ↦ absurd (other (apart n k x j at was (sym (ap (λ (o : OpeningParts). o.term) same) ∙ ap (λ (l : Led). l.opening.term) is ∙ e)))
+      ]
+      | inr (other, was) ↦ elim (set_cases led n k y j two) [
+        | inl (there, also) ↦
+            absurd (other (sym (apart m n l x was at
+            (e ∙ sym (ap (λ (l : Led). l.opening.term) also) ∙ ap (λ (o : OpeningParts). o.term) same))))
+        | inr (another, too) ↦ apart m k l j was too e
+      ]
+    ]
+
+-- one of the primaries is another of its term, with its book
 pub granted_set : {pages : ℕ} (terms : Family (TermBook pages)) (led : List Led) (n : ℕ) (x y : Led) → AreGranted terms led → slice_get led n ≡ Some x →
-    y.opening ≡ x.opening → AreGranted terms (slice_set led n y)
-granted_set {pages} terms led n x y are at same =
+    y.opening ≡ x.opening → y.book ≡ x.book → AreGranted terms (slice_set led n y)
+granted_set {pages} terms led n x y are at same book =
     record {
       each = λ m l there. elim (set_cases led n m y l there) [
         | inl (here, is) ↦
-            subst (λ (o : OpeningParts). (p : Past (TermBook pages)) × (terms o.term ≡ Some p) × (p.opening ≡ o)) (sym same ∙ ap (λ (l : Led). l.opening) is)
-            (are.each n x at)
+            let (p, was, of, its) = are.each n x at in
+            subst (λ (l : Led). (p : Past (TermBook pages)) × (terms l.opening.term ≡ Some p) × (p.opening ≡ l.opening) × (p.told.book ≡ l.book)) is
+            (p, ap (λ (o : OpeningParts). terms o.term) same ∙ was, of ∙ sym same, its ∙ sym book)
         | inr (other, was) ↦ are.each m l was
       ];
-      apart = λ m k l j one two e. elim (set_cases led n m y l one) [
-        | inl (here, is) ↦ elim (set_cases led n k y j two) [
-          | inl (there, also) ↦ sym here ∙ there
-          | inr (other, was) ↦
-              absurd (other (are.apart n k x j at was (sym (ap (λ (o : OpeningParts). o.term) same) ∙ ap (λ (l : Led). l.opening.term) is ∙ e)))
-        ]
-        | inr (other, was) ↦ elim (set_cases led n k y j two) [
-          | inl (there, also) ↦
-              absurd (other (sym (are.apart m n l x was at
-              (e ∙ sym (ap (λ (l : Led). l.opening.term) also) ∙ ap (λ (o : OpeningParts). o.term) same))))
-          | inr (another, too) ↦ are.apart m k l j was too e
-        ]
-      ];
+      apart = still_apart led n x y are.apart at same;
       no_other = λ u p there.
           let (m, l, was, of_term) = are.no_other u p there in
           elim (same_or_not n m) [
@@ -101,38 +111,49 @@ granted_set {pages} terms led n x y are at same =
           ];
     }
 
--- the term of one of them is another, with its opening
-pub granted_put : {pages : ℕ} (terms : Family (TermBook pages)) (led : List Led) (n : ℕ) (x : Led) (p : Past (TermBook pages)) → AreGranted terms led →
-    slice_get led n ≡ Some x → p.opening ≡ x.opening → AreGranted (put terms x.opening.term (Some p)) led
-granted_put {pages} terms led n x p are at same =
+-- one of the primaries is another of its term, and the term is another, with its opening and its book
+pub granted_put : {pages : ℕ} (terms : Family (TermBook pages)) (led : List Led) (n : ℕ) (x y : Led) (p : Past (TermBook pages)) → AreGranted terms led →
+    slice_get led n ≡ Some x → y.opening ≡ x.opening → p.opening ≡ y.opening → p.told.book ≡ y.book →
+    AreGranted (put terms x.opening.term (Some p)) (slice_set led n y)
+granted_put {pages} terms led n x y p are at same opening book =
     record {
-      each = λ m l there. elim (same_or_not x.opening.term l.opening.term) [
-        | inl here ↦
-            let own : n ≡ m = are.apart n m x l at there here in
-            let is : x ≡ l = some_same at (ap (slice_get led) own ∙ there) in
-            (p, put_same terms x.opening.term l.opening.term (Some p) here, same ∙ ap (λ (l : Led). l.opening) is)
-        | inr other ↦
-            let (q, was, of) = are.each m l there in (q, put_other terms x.opening.term l.opening.term (Some p) other ∙ was, of)
+      each = λ m l there. elim (set_cases led n m y l there) [
+        | inl (here, is) ↦
+            subst
+            (λ (l : Led).
+            (q : Past (TermBook pages)) × (put terms x.opening.term (Some p) l.opening.term ≡ Some q) × (q.opening ≡ l.opening) × (q.told.book ≡ l.book)) is
+            (p, put_same terms x.opening.term y.opening.term (Some p) (ap (λ (o : OpeningParts). o.term) (sym same)), opening, book)
+        | inr (other, was) ↦
+            let (q, there, of, its) = are.each m l was in
+            (q, put_other terms x.opening.term l.opening.term (Some p) (λ e. other (are.apart n m x l at was e)) ∙ there, of, its)
       ];
-      apart = are.apart;
+      apart = still_apart led n x y are.apart at same;
       no_other = λ u q there. elim (same_or_not x.opening.term u) [
-        | inl here ↦ (n, x, at, here)
-        | inr other ↦ are.no_other u q (sym (put_other terms x.opening.term u (Some p) other) ∙ there)
+        | inl here ↦ (n, y, set_same led n x y at, ap (λ (o : OpeningParts). o.term) same ∙ here)
+        | inr other ↦
+            let (m, l, was, of_term) = are.no_other u q (sym (put_other terms x.opening.term u (Some p) other) ∙ there) in (
+              m,
+              l,
+              set_other led n m y (λ e. other (ap (λ (l : Led). l.opening.term) (some_same at (ap (slice_get led) e ∙ was)) ∙ of_term)) ∙ was,
+              of_term,
+            )
       ];
     }
 
 -- one more was granted
 pub granted_more : {pages : ℕ} (terms : Family (TermBook pages)) (led : List Led) (x : Led) (p : Past (TermBook pages)) → AreGranted terms led →
-    ((n : ℕ) (l : Led) → slice_get led n ≡ Some l → x.opening.term ≡ l.opening.term → ⊥) → p.opening ≡ x.opening →
+    ((n : ℕ) (l : Led) → slice_get led n ≡ Some l → x.opening.term ≡ l.opening.term → ⊥) → p.opening ≡ x.opening → p.told.book ≡ x.book →
     AreGranted (put terms x.opening.term (Some p)) (led ++ x ∷ [])
-granted_more {pages} terms led x p are new same =
+granted_more {pages} terms led x p are new same book =
     record {
       each = λ n l there. elim (push_cases led x n l there) [
         | inl was ↦
-            let (q, at, of) = are.each n l was in (q, put_other terms x.opening.term l.opening.term (Some p) (new n l was) ∙ at, of)
+            let (q, at, of, its) = are.each n l was in (q, put_other terms x.opening.term l.opening.term (Some p) (new n l was) ∙ at, of, its)
         | inr (last, is) ↦
-            subst (λ (l : Led). (q : Past (TermBook pages)) × (put terms x.opening.term (Some p) l.opening.term ≡ Some q) × (q.opening ≡ l.opening)) is
-            (p, put_same terms x.opening.term x.opening.term (Some p) refl, same)
+            subst
+            (λ (l : Led).
+            (q : Past (TermBook pages)) × (put terms x.opening.term (Some p) l.opening.term ≡ Some q) × (q.opening ≡ l.opening) × (q.told.book ≡ l.book)) is
+            (p, put_same terms x.opening.term x.opening.term (Some p) refl, same, book)
       ];
       apart = λ n m l k one two e. elim (push_cases led x n l one) [
         | inl was ↦ elim (push_cases led x m k two) [
@@ -199,6 +220,11 @@ module _ (w : ProcessWorld) (is : IsTied w) where
       ((a : Answer) → Contains told a → IsTold v.released a) → ((a : Answer) → Contains w.told a → Contains told a) →
       IsTied (record w { led = led_by w n new; frames = v.sent; told = told })
   changed n old new at now v told p same comes terms_are is_history only is_put opening own all_told still_told =
+      let term = old.primary.opening.term in
+      let here : now term ≡ Some p = ap (λ (f : Terms). f term) is_put ∙ put_same is.terms term term (Some p) refl in
+      let its_book : p.told.book ≡ new.primary.book =
+      ap (λ (q : Past (TermBook w.image.pages)). q.told.book)
+      (some_same here (ap (λ (o : OpeningParts). now o.term) (sym same) ∙ own.within.there)) in
       record {
         are_theory = is.are_theory;
         is_recorder = is.is_recorder;
@@ -209,8 +235,7 @@ module _ (w : ProcessWorld) (is : IsTied w) where
         is_history = is_history;
         granted =
             subst (λ (terms : Terms). AreGranted terms (led_by w n new)) (sym is_put)
-            (granted_set (put is.terms old.primary.opening.term (Some p)) w.led n (led_as old) (led_as new)
-            (granted_put is.terms w.led n (led_as old) p is.granted at opening) at same);
+            (granted_put is.terms w.led n (led_as old) (led_as new) p is.granted at same (opening ∙ sym same) its_book);
         leaders = λ m l there. elim (leads_cases w.led n m new l there) [
           | inl (here, so) ↦ subst (IsNow v now) so own
           | inr (other, was) ↦

@@ -29,7 +29,7 @@ use Rattle.wire.specs.declared.requests.Request.TheVariants.{Timer, Word, From}
 use Rattle.fenced_theory.specs.Recorders.{Output as TheoryOutput}
 use Rattle.failover_world.specs.machinery.Tied.{theory_released}
 use Rattle.process_world.specs.Worlds.{Led, ProcessWorld, Leads, led_as}
-use Rattle.process_world.specs.Happenings.{led_by, told_of, answer_of}
+use Rattle.process_world.specs.Happenings.{led_by, told_of, answer_of, ended}
 use Rattle.process_world.specs.Promises.{AreHeard}
 use Rattle.process_world.specs.machinery.Tied.{AreGranted, IsTold, IsTied}
 use Rattle.process_world.proofs.Lists.{some_same, none_some, set_cases, push_cases}
@@ -109,12 +109,12 @@ output_at hart o = record { hart = hart; number = o.0; step = o.1.0; word = o.1.
 module _ (w : ProcessWorld) (is : IsTied w) where
   -- ---- the same world of the theory
 
-  -- of primaries, of what was told and of clients there are others, and the theory's world is as it was
-  with_parts : (led : List Led) (answers : List Answer) (clients : List TalkView) → AreGranted is.terms led →
+  -- of primaries, of what was told, of clients and of requests there are others, and the theory's world is as it was
+  with_parts : (led : List Led) (answers : List Answer) (clients : List TalkView) (asked : List Request) → AreGranted is.terms led →
       ((n : ℕ) (l : LeaderView) → slice_get led n ≡ Some (led_as l) → IsNow w is is.world is.terms l) →
       ((a : Answer) → Contains answers a → IsTold is.world.released a) → AreHeard (record w { told = answers; clients = clients }) →
-      IsTied (record w { led = led; told = answers; clients = clients })
-  with_parts led answers clients granted leaders all_told all_heard =
+      IsTied (record w { led = led; told = answers; clients = clients; asked = asked })
+  with_parts led answers clients asked granted leaders all_told all_heard =
       record {
         are_theory = is.are_theory;
         is_recorder = is.is_recorder;
@@ -151,12 +151,12 @@ module _ (w : ProcessWorld) (is : IsTied w) where
   more_told answers out a has = elim (Contains-append_cases answers w.told a has) [ inl new ↦ out a new | inr old ↦ is.told a old ]
 
   -- a primary that was granted is this one now, of the same term, and these are told
-  led_changed : (n : ℕ) (x y : Led) → slice_get w.led n ≡ Some x → y.opening ≡ x.opening →
+  led_changed : (n : ℕ) (x y : Led) → slice_get w.led n ≡ Some x → y.opening ≡ x.opening → y.book ≡ x.book →
       ((l : LeaderView) → y ≡ led_as l → IsNow w is is.world is.terms l) → (answers : List Answer) →
       ((a : Answer) → Contains answers a → IsTold is.world.released a) →
       IsTied (record w { led = slice_set w.led n y; told = answers ++ w.told })
-  led_changed n x y at same own answers out =
-      with_parts (slice_set w.led n y) (answers ++ w.told) w.clients (granted_set is.terms w.led n x y is.granted at same)
+  led_changed n x y at same book own answers out =
+      with_parts (slice_set w.led n y) (answers ++ w.told) w.clients w.asked (granted_set is.terms w.led n x y is.granted at same book)
       (λ m l there. elim (set_cases w.led n m y (led_as l) there) [
         | inl (here, so) ↦ own l so
         | inr (other, was) ↦ is.leaders m l was
@@ -164,10 +164,10 @@ module _ (w : ProcessWorld) (is : IsTied w) where
       (more_told answers out) (still_heard answers)
 
   -- one client is another, and what it heard was told
-  client_changed : (c : ℕ) (t u : TalkView) → slice_get w.clients c ≡ Some t → WasTold w.told u →
-      IsTied (record w { clients = slice_set w.clients c u })
-  client_changed c t u at own =
-      with_parts w.led w.told (slice_set w.clients c u) is.granted is.leaders is.told
+  client_changed : (c : ℕ) (t u : TalkView) (asked : List Request) → slice_get w.clients c ≡ Some t → WasTold w.told u →
+      IsTied (record w { clients = slice_set w.clients c u; asked = asked })
+  client_changed c t u asked at own =
+      with_parts w.led w.told (slice_set w.clients c u) asked is.granted is.leaders is.told
       (λ k v number word there. elim (set_cases w.clients c k u v there) [
         | inl (here, so) ↦ subst (WasTold w.told) so own number word
         | inr (other, was) ↦ is.heard k v number word was
@@ -199,7 +199,7 @@ module _ (w : ProcessWorld) (is : IsTied w) where
       (answers : List Answer) → ((a : Answer) → Contains answers a → IsTold is.world.released a) →
       IsTied (record w { led = led_by w n new; told = answers ++ w.told })
   answers_with n old new queues at same answers out =
-      led_changed n (led_as old) (led_as new) at (ap (λ (l : LeaderView). l.primary.opening) same)
+      led_changed n (led_as old) (led_as new) at (ap (λ (l : LeaderView). l.primary.opening) same) (ap (λ (l : LeaderView). l.primary.book) same)
       (λ l so. subst (IsNow w is is.world is.terms) (sym same ∙ one_leader new l so) (requeued n old at queues)) answers out
 
   -- nothing is told
@@ -305,7 +305,7 @@ module _ (w : ProcessWorld) (is : IsTied w) where
       IsTied (record w { told = answer_of l.primary.opening.term r ∷ w.told })
   tells n l r at has =
       let one : List Answer = answer_of l.primary.opening.term r ∷ [] in
-      with_parts w.led (one ++ w.told) w.clients is.granted is.leaders
+      with_parts w.led (one ++ w.told) w.clients w.asked is.granted is.leaders
       (more_told one (λ a new. elim (here_or_later (answer_of l.primary.opening.term r) [] a new) [
         | inl same ↦ subst (IsTold is.world.released) same (let_go n l at r has)
         | inr later ↦ none_told a later
@@ -314,9 +314,9 @@ module _ (w : ProcessWorld) (is : IsTied w) where
 
   -- a primary's process ends
   pub ends : (n : ℕ) (l : LeaderView) → Leads w n l →
-      IsTied (record w { led = slice_set w.led n (record { opening = l.primary.opening; leader = None }) })
+      IsTied (record w { led = slice_set w.led n (ended l) })
   ends n l at =
-      led_changed n (led_as l) (record { opening = l.primary.opening; leader = None }) at refl
+      led_changed n (led_as l) (ended l) at refl refl
       (λ k so. absurd (none_some refl (ap (λ (x : Led). x.leader) so))) [] none_told
 
   -- ---- clients
@@ -324,7 +324,7 @@ module _ (w : ProcessWorld) (is : IsTied w) where
   -- a client comes, that has heard nothing
   pub joins : (t : TalkView) → ((number : ℕ) → had t.asker number ≡ None) → IsTied (record w { clients = w.clients ++ t ∷ [] })
   joins t none =
-      with_parts w.led w.told (w.clients ++ t ∷ []) is.granted is.leaders is.told
+      with_parts w.led w.told (w.clients ++ t ∷ []) w.asked is.granted is.leaders is.told
       (λ k u number word there. elim (push_cases w.clients t k u there) [
         | inl was ↦ is.heard k u number word was
         | inr (last, so) ↦ λ had_it. absurd (none_some (none number) (subst (λ (u : TalkView). had u.asker number ≡ Some word) (sym so) had_it))
@@ -332,15 +332,20 @@ module _ (w : ProcessWorld) (is : IsTied w) where
 
   -- a client asks for its next word
   pub asks : (c : ℕ) (t : TalkView) (r : Request) → slice_get w.clients c ≡ Some t → next_of t.asker ≡ Some r →
-      IsTied (record w { clients = slice_set w.clients c (record t { asker = record t.asker { sent = t.asker.sent + 1 } }) })
+      IsTied (record w { clients = slice_set w.clients c (record t { asker = record t.asker { sent = t.asker.sent + 1 } }); asked = r ∷ w.asked })
   asks c t r at next =
-      client_changed c t (record t { asker = record t.asker { sent = t.asker.sent + 1 } }) at (λ number word had_it. is.heard c t number word at had_it)
+      client_changed c t (record t { asker = record t.asker { sent = t.asker.sent + 1 } }) (r ∷ w.asked) at
+      (λ number word had_it. is.heard c t number word at had_it)
+
+  -- more is asked for
+  pub wants : (asked : List Request) → IsTied (record w { asked = asked })
+  wants asked = with_parts w.led w.told w.clients asked is.granted is.leaders is.told is.heard
 
   -- a client hears what is new to it
   pub hears_answer : (c : ℕ) (t : TalkView) (a : Answer) → slice_get w.clients c ≡ Some t → Contains w.told a → heard t.asker a.output ≡ New →
       IsTied (record w { clients = slice_set w.clients c (record t { asker = with_answer t.asker a.output }) })
   hears_answer c t a at has new =
-      client_changed c t (record t { asker = with_answer t.asker a.output }) at
+      client_changed c t (record t { asker = with_answer t.asker a.output }) w.asked at
       (λ number word had_it. elim (heard_cases t.asker.answers a.output.number number a.output.word word had_it) [
         | inl (same, own) ↦ (a, has, of_its_hart t.asker a.output new, same, own)
         | inr was ↦ is.heard c t number word at was
@@ -349,4 +354,4 @@ module _ (w : ProcessWorld) (is : IsTied w) where
   -- a client tells what it has heard
   pub prints : (c : ℕ) (t : TalkView) (word : ℕ) → slice_get w.clients c ≡ Some t → had t.asker t.told ≡ Some word →
       IsTied (record w { clients = slice_set w.clients c (record t { told = t.told + 1 }) })
-  prints c t word at told_one = client_changed c t (record t { told = t.told + 1 }) at (λ number word had_it. is.heard c t number word at had_it)
+  prints c t word at told_one = client_changed c t (record t { told = t.told + 1 }) w.asked at (λ number word had_it. is.heard c t number word at had_it)

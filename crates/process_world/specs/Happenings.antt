@@ -19,7 +19,7 @@ use Rattle.leading.specs.Rounds.{IsRound}
 use Rattle.leading.specs.declared.heard.Heard.{Heard}
 use Rattle.leading.specs.declared.heard.Heard.TheVariants as on
 use Rattle.leading.specs.declared.inputs.Spacing.{Spacing}
-use Rattle.requests.specs.Asking.{next_of, had, heard, with_answer}
+use Rattle.requests.specs.Asking.{next_of, asked_again, had, heard, with_answer}
 use Rattle.requests.specs.declared.asker.Heard.TheVariants.{New as IsNew}
 use Rattle.asking.specs.Talks.{TalkView}
 use Rattle.wire.specs.declared.acknowledgements.Acknowledgement.{Acknowledgement}
@@ -63,6 +63,10 @@ abbrev pub told_of : Heard → List Answer
 told_of (on.Told answers) = answers.items
 told_of other = []
 
+-- the primary, once its process is gone
+abbrev pub ended : LeaderView → Led
+ended l = record { opening = l.primary.opening; leader = None; book = l.primary.book }
+
 -- an output that went out, as it is told in the term
 abbrev pub answer_of : ℕ → Released → Answer
 answer_of term r = record { term = term; output = r.output }
@@ -78,9 +82,9 @@ pub data Happens (w : ProcessWorld) : ProcessWorld → Type 0 where
       quorum.need ≡ w.need → All (WasHanded w term) given → GoesLiveGiven w.image quorum term given l.primary l.gate →
       BeginBehind l.primary.book.start l.queues → l.released ≡ [] →
       Happens w (record w { led = w.led ++ led_as l ∷ []; frames = w.frames ++ Opening l.primary.opening ∷ [] })
-  -- `Leader::hear`
-  HearsRequest : (n : ℕ) (old new : LeaderView) (request : Request) (what : Heard) → Leads w n old → Hears old request new what →
-      Happens w (record w { led = led_by w n new; told = told_of what ++ w.told })
+  -- `Leader::hear` of what was asked for, whenever and however often
+  HearsRequest : (n : ℕ) (old new : LeaderView) (request : Request) (what : Heard) → Leads w n old → Contains w.asked request →
+      Hears old request new what → Happens w (record w { led = led_by w n new; told = told_of what ++ w.told })
   -- `Leader::round`
   LeadsRound : (n : ℕ) (old new : LeaderView) (spacing : Spacing) (steps : ℕ) → Leads w n old → IsRoundOf spacing steps old new →
       Happens w (record w { led = led_by w n new })
@@ -100,12 +104,16 @@ pub data Happens (w : ProcessWorld) : ProcessWorld → Type 0 where
       Happens w (record w { told = answer_of l.primary.opening.term r ∷ w.told })
   -- a primary's process ends
   Ends : (n : ℕ) (l : LeaderView) → Leads w n l →
-      Happens w (record w { led = slice_set w.led n (record { opening = l.primary.opening; leader = None }) })
+      Happens w (record w { led = slice_set w.led n (ended l) })
   -- a client comes, that has heard nothing
   Joins : (t : TalkView) → ((number : ℕ) → had t.asker number ≡ None) → Happens w (record w { clients = w.clients ++ t ∷ [] })
+  -- whoever there is asks for something, by hand
+  Wants : (r : Request) → Happens w (record w { asked = r ∷ w.asked })
   -- `Talk::ask`
   Asks : (c : ℕ) (t : TalkView) (r : Request) → slice_get w.clients c ≡ Some t → next_of t.asker ≡ Some r →
-      Happens w (record w { clients = slice_set w.clients c (record t { asker = record t.asker { sent = t.asker.sent + 1 } }) })
+      Happens w (record w { clients = slice_set w.clients c (record t { asker = record t.asker { sent = t.asker.sent + 1 } }); asked = r ∷ w.asked })
+  -- `Talk::ask_again`
+  AsksAgain : (c : ℕ) (t : TalkView) → slice_get w.clients c ≡ Some t → Happens w (record w { asked = asked_again t.asker ++ w.asked })
   -- `Talk::hear`, of an answer that was told
   HearsAnswer : (c : ℕ) (t : TalkView) (a : Answer) → slice_get w.clients c ≡ Some t → Contains w.told a → heard t.asker a.output ≡ IsNew →
       Happens w (record w { clients = slice_set w.clients c (record t { asker = with_answer t.asker a.output }) })

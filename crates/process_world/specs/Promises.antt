@@ -1,4 +1,4 @@
--- What holds of all that was told, of what is on disk, and of what was sent.
+-- What holds of all that was told, of what is on disk, of what was sent, and of the words that machines were given.
 use Rattle.std.specs.Prelude.{◌≡◌, ◌<◌, ◌≤◌, ◌⊎◌, ℕ, Bool, true, List, [], Contains, slice_get, Some}
 use Rattle.ft_types.specs.Counts.{count_at}
 use Rattle.ft_types.specs.declared.position.Position.{Position}
@@ -21,6 +21,7 @@ use Rattle.asking.specs.Talks.{TalkView}
 use Rattle.wire.specs.declared.answers.Answer.{Answer}
 use Rattle.process_world.specs.Worlds.{Led, ProcessWorld, Leads}
 use Rattle.process_world.specs.Happenings.{Comes}
+use Rattle.process_world.specs.Words.{AreWords}
 
 -- The step of the hart in the term is inside the chain of the other, up to the other's base: going down from the other by the openings of primaries one meets
 -- the term, and the base of the term above it is above the step.
@@ -88,6 +89,7 @@ pub record KeepsPromises (w : ProcessWorld) : Type 0 where
   pub one : IsOne w
   pub heard : AreHeard w
   pub noted : AreNotesOut w
+  pub words : AreWords w
 
 abbrev pub Processes : Type 0
 Processes = (image : ImageContents) (keepers need : ℕ) (w : ProcessWorld) → Comes image keepers need w → KeepsPromises w

@@ -50,9 +50,10 @@ pub record IsIn {pages : ℕ} (terms : Family (TermBook pages)) (p : Primary) : 
   pub of_book : IsTermOfBook p.book (told_by p pieces)
   pub sealed : IsSealedTo (told_by p pieces) p.sealed
 
--- the family's terms are those that were granted, each once, with its opening
+-- the family's terms are those that were granted, each once, with its opening and its book
 pub record AreGranted {pages : ℕ} (terms : Family (TermBook pages)) (led : List Led) : Type 0 where
-  pub each : (n : ℕ) (l : Led) → slice_get led n ≡ Some l → (p : Past (TermBook pages)) × (terms l.opening.term ≡ Some p) × (p.opening ≡ l.opening)
+  pub each : (n : ℕ) (l : Led) → slice_get led n ≡ Some l →
+      (p : Past (TermBook pages)) × (terms l.opening.term ≡ Some p) × (p.opening ≡ l.opening) × (p.told.book ≡ l.book)
   pub apart : (n m : ℕ) (l k : Led) → slice_get led n ≡ Some l → slice_get led m ≡ Some k → l.opening.term ≡ k.opening.term → n ≡ m
   pub no_other : (u : ℕ) (p : Past (TermBook pages)) → terms u ≡ Some p → (n : ℕ) × (l : Led) × (slice_get led n ≡ Some l) × (l.opening.term ≡ u)
 
