@@ -57,6 +57,7 @@ module _ (w : ProcessWorld) (is : IsTied w) (words : AreWorded w.asked w.led) wh
             (subst (λ (k : ℕ). AreFrom clients k (words_below x.book.mode.inputs hart count)) place ((of n x at).clients hart clients ask count le));
       }
 
+  -- so it is for each
   are_so : (hart term count : ℕ) (given : List ℕ) → GivenTo w hart term count given → AreSo hart term count given
   are_so hart term count given AtBoot =
       record {
@@ -69,6 +70,7 @@ module _ (w : ProcessWorld) (is : IsTied w) (words : AreWorded w.asked w.led) wh
 
   -- ---- they are there
 
+  -- term by term, of terms below a bound
   there : (bound n : ℕ) (x : Led) (hart count : ℕ) → x.opening.term < bound → slice_get w.led n ≡ Some x → count_at x.opening.base hart ≤ count →
       count ≤ counts_of x.book.machine hart → (given : List ℕ) × GivenTo w hart x.opening.term count given
   there zero n x hart count less at above le = absurd (omega (arith, less))
@@ -95,6 +97,7 @@ module _ (w : ProcessWorld) (is : IsTied w) (words : AreWorded w.asked w.led) wh
             )
       ]
 
+  -- all that is promised of words
   pub are_words : AreWords w
   are_words =
       record {

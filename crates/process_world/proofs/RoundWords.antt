@@ -36,6 +36,7 @@ module _ (asked : List Request) (old new : LeaderView) (spacing : Spacing) (step
   abbrev c : BookView RecordingView
   c = new.primary.book
 
+  -- the start of the term stays
   start : c.start ≡ b.start
   start = round.on.on.start ∙ ap (λ (x : BookView RecordingView). x.start) round.book
 
@@ -50,6 +51,7 @@ module _ (asked : List Request) (old new : LeaderView) (spacing : Spacing) (step
   grows hart =
       subst (λ (x : BookView RecordingView). counts_of x.machine hart ≤ counts_of c.machine hart) round.book (round.on.on.tells.counts hart)
 
+  -- so no input is before the start
   still_from : AreFromStart c
   still_from hart =
       let (more, row, later) = hears hart in
@@ -60,6 +62,7 @@ module _ (asked : List Request) (old new : LeaderView) (spacing : Spacing) (step
       (All-weaker (λ (x : ℕ × Input). counts_of b.machine hart ≤ x.0) (λ (x : ℕ × Input). counts_of b.start hart ≤ x.0) (λ x le. omega (arith, le, up)) more
       later)))
 
+  -- queues count what was handed on
   all_handed : AreHandedOn c new.queues
   all_handed =
       gone_on_handed round.given c new.queues round.on.on.start round.on.offered
@@ -75,6 +78,7 @@ module _ (asked : List Request) (old new : LeaderView) (spacing : Spacing) (step
     abbrev row : Row
     row = inputs_of b.mode.inputs hart
 
+    -- what was known of its words
     was : HartWords asked b q hart h
     was = is.harts hart h at
 
@@ -102,6 +106,7 @@ module _ (asked : List Request) (old new : LeaderView) (spacing : Spacing) (step
         let present = ap sequence_of now.1 in
         let read = all_given now.0 q i some in omega (arith, given, present, read, handed, first)
 
+    -- so one at the most is still to be given
     few_now : length (words_of c hart) ≤ length (row_below row (counts_of b.machine hart)) + 1
     few_now =
         one_at_most next (length (words_of b hart)) (length (row_below row (counts_of b.machine hart))) (length (words_next next)) (length (words_of c hart))
@@ -136,6 +141,7 @@ module _ (asked : List Request) (old new : LeaderView) (spacing : Spacing) (step
         ∙ ap (λ (ws : List ℕ). words_of b hart ++ ws)
         (all_pass spacing next hart now.0.count q p b.mode round.given.mode (λ i some. next_front now.0 q i some) (round.hands hart now.0 now.1))
 
+    -- all of it is known still
     hart_goes_on : slice_get c.start.harts hart ≡ Some h → HartWords asked c p hart h
     hart_goes_on there =
         record {
@@ -145,6 +151,7 @@ module _ (asked : List Request) (old new : LeaderView) (spacing : Spacing) (step
           clients = λ clients ask. subst (AreFrom clients h.received.input_sequence) (sym same_words) (was.clients clients ask);
         }
 
+  -- a round goes by
   pub round_words : Knows asked new
   round_words =
       record {
@@ -162,6 +169,7 @@ module _ (asked : List Request) (b : BookView RecordingView) (queues : List Queu
       let zero = no_step b leads hart none in
       none_below (inputs_of b.mode.inputs hart) (counts_of b.start hart) count (is.from hart) (omega (arith, le, zero))
 
+  -- no more are given than there are
   within : (hart count : ℕ) → count ≤ counts_of b.machine hart →
       sequence_of (slice_get b.start.harts hart) + length (words_below b.mode.inputs hart count) ≤ WORD_LIMIT
   within hart count le =
@@ -175,6 +183,7 @@ module _ (asked : List Request) (b : BookView RecordingView) (queues : List Queu
             let handed = was.handed.handed in let limit = was.handed.limit in omega (arith, first, few, handed, limit)
       ]
 
+  -- they are the clients'
   by_number : (hart : ℕ) (clients : ℕ → ℕ) → AskByNumber asked hart clients → (count : ℕ) → count ≤ counts_of b.machine hart →
       AreFrom clients (sequence_of (slice_get b.start.harts hart)) (words_below b.mode.inputs hart count)
   by_number hart clients ask count le =
@@ -194,5 +203,6 @@ module _ (asked : List Request) (b : BookView RecordingView) (queues : List Queu
             (from_front clients h.received.input_sequence (words_below b.mode.inputs hart count) (words_logged b.mode.inputs hart) (was.fronts count) all)
       ]
 
+  -- all of it is known of the book alone
   pub book_words : BookWords asked b
   book_words = record { leads = leads; from = is.from; limit = within; clients = by_number }

@@ -10,6 +10,7 @@ use Rattle.requests.proofs.Following.{words_in-append}
 use Rattle.leading.specs.Clients.{AreFrom}
 use Rattle.leading.proofs.Given.{few_words}
 
+-- a hart's inputs, each beside its count
 abbrev pub Row : Type 0
 Row = List (ℕ × Input)
 
@@ -27,6 +28,7 @@ IsFront xs ys = (rest : List ℕ) × (ys ≡ xs ++ rest)
 
 -- ---- lists
 
+-- what has no length is empty
 no_length : (xs : List ℕ) → length xs ≤ 0 → xs ≡ []
 no_length [] few = refl
 no_length (x ∷ xs) few = absurd (omega (arith, few))
@@ -48,24 +50,29 @@ from_more clients number (x ∷ xs) ys first more =
 
 -- ---- words below a count
 
+-- the words of a row that grew
 pub words_more : (row more : Row) → row_words (row ++ more) ≡ row_words row ++ row_words more
 words_more row more = ap words_in (map-append (λ x. x.1) row more) ∙ words_in-append (map (λ x. x.1) row) (map (λ x. x.1) more)
 
+-- and those of them below a count
 pub below_more : (row more : Row) (count : ℕ) → row_below (row ++ more) count ≡ row_below row count ++ row_below more count
 below_more row more count =
     ap row_words (filter-append (λ (x : ℕ × Input). nat_lt x.0 count) row more)
     ∙ words_more (filter (λ x. nat_lt x.0 count) row) (filter (λ x. nat_lt x.0 count) more)
 
+-- they are no more than all
 pub few_below : (row : Row) (count : ℕ) → length (row_below row count) ≤ length (row_words row)
 few_below row count = few_words (λ x. nat_lt x.0 count) row
 
--- one input more
+-- how many words an input is
 abbrev one : Input → ℕ
 one i = length (words_in (i ∷ []))
 
+-- the words of one input more
 split : (i : Input) (is : List Input) → words_in (i ∷ is) ≡ words_in (i ∷ []) ++ words_in is
 split i is = words_in-append (i ∷ []) is
 
+-- and how many they are
 counted : (i : Input) (is : List Input) → length (words_in (i ∷ is)) ≡ one i + length (words_in is)
 counted i is = ap length (split i is) ∙ length-append (words_in (i ∷ [])) (words_in is)
 

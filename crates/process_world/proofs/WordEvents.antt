@@ -73,6 +73,7 @@ module _ (w v : ProcessWorld) (is : IsTied w) (is_v : IsTied v) (l : LeaderView)
         | inr (last, same) ↦ absurd (let e = ap (λ (x : Led). x.opening.term) same ∙ parent in omega (arith, older, e))
       ]
 
+  -- in its queues' words
   in_limit : AreInLimit l.primary.book.start
   in_limit hart h at =
       let last : slice_get v.led (length w.led) ≡ Some (led_as l) = ap (λ (all : List Led). slice_get all (length w.led)) led ∙ push_last w.led (led_as l) in
@@ -82,6 +83,7 @@ module _ (w v : ProcessWorld) (is : IsTied w) (is_v : IsTied v) (l : LeaderView)
 
 -- ---- acknowledgements
 
+-- only notes, the gate and what went out are others
 hears_said_words : (asked : List Request) (old new : LeaderView) → OnlyHears old new →
     new.primary.book ≡ record old.primary.book { mode = record old.primary.book.mode { notes = new.primary.book.mode.notes } } → Knows asked old →
     Knows asked new
@@ -91,6 +93,7 @@ hears_said_words asked old new only rest is =
 
 -- ---- all events
 
+-- whatever happens
 pub stays_worded : (w v : ProcessWorld) → IsTied w → IsTied v → AreWorded w.asked w.led → Happens w v → AreWorded v.asked v.led
 stays_worded w v is is_v words (AtKeeper keeper d e out at goes) = after_out (record w { disks = put w.disks keeper (Some e) }) keeper out words
 stays_worded w v is is_v words (Loses keeper) = words

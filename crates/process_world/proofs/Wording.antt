@@ -39,6 +39,7 @@ use Rattle.process_world.proofs.Rows.{Row, IsFront, row_words, row_below, from_m
 
 -- ---- what a log gave, among what a book was offered
 
+-- the inputs that were given, among offers
 come_inputs : (given : Row) → map input_of (map (λ (x : ℕ × Input). come x.0 x.1) given) ≡ map (λ (x : ℕ × Input). x.1) given
 come_inputs [] = refl
 come_inputs (x ∷ given) = ap (λ (is : List Input). x.1 ∷ is) (come_inputs given)
@@ -67,6 +68,7 @@ few_logged b hart count =
 
 -- ---- a primary that begins
 
+-- it was offered nothing, and nothing waits
 pub begun : (asked : List Request) (b : BookView RecordingView) (queues : List QueueView) (limits : List ℕ) → IsUnused b.mode b.start limits →
     BeginBehind b.start queues → AreInLimit b.start → LeaderWords asked b queues
 begun asked b queues limits unused behind limit =
@@ -89,10 +91,12 @@ begun asked b queues limits unused behind limit =
 
 -- ---- more that is asked for
 
+-- where all ask by number, those of them did who asked before
 pub still_by_number : (asked more : List Request) → ((r : Request) → Contains asked r → Contains more r) → (hart : ℕ) (clients : ℕ → ℕ) →
     AskByNumber more hart clients → AskByNumber asked hart clients
 still_by_number asked more grows hart clients ask word number has = ask word number (grows (Word hart word number) has)
 
+-- so what is known of the words of a primary is known still
 pub more_asked : (asked more : List Request) (b : BookView RecordingView) (queues : List QueueView) → ((r : Request) → Contains asked r → Contains more r) →
     LeaderWords asked b queues → LeaderWords more b queues
 more_asked asked more b queues grows is =
@@ -108,6 +112,7 @@ more_asked asked more b queues grows is =
           };
     }
 
+-- and of a book
 pub more_asked_too : (asked more : List Request) (b : BookView RecordingView) → ((r : Request) → Contains asked r → Contains more r) → BookWords asked b →
     BookWords more b
 more_asked_too asked more b grows is =
@@ -183,7 +188,7 @@ module _ (asked : List Request) (b : BookView RecordingView) (hart : ℕ) (h : H
             (it ∙ ap clients place, tt));
       }
 
--- what is taken is in its place, and there is room for it
+-- there is room for what is taken
 room_taken : (n : ℕ) → room_for n ≡ Taken → n < WORD_LIMIT
 room_taken n = by (nat_lt n WORD_LIMIT) refl
   where
@@ -191,6 +196,7 @@ room_taken n = by (nat_lt n WORD_LIMIT) refl
     by true e is = ltb-true n WORD_LIMIT e
     by false e is = absurd cc
 
+-- a word with a number is in its place
 in_place : (n many : ℕ) → came_of many (Some n) ≡ Taken → (n ≡ many) × (many < WORD_LIMIT)
 in_place n many = by (nat_lt n many) (nat_lt many n) refl refl
   where
@@ -200,11 +206,13 @@ in_place n many = by (nat_lt n many) (nat_lt many n) refl refl
     by false true e f is = absurd cc
     by false false e f is = (let no_less = ltb-false n many e in let no_more = ltb-false many n f in omega (arith, no_less, no_more), room_taken many is)
 
+-- a word is the next one, where it has a number
 is_next : (many : ℕ) (number : Option ℕ) → came_of many number ≡ Taken → (many < WORD_LIMIT) × ((n : ℕ) → number ≡ Some n → n ≡ many)
 is_next many None is = (room_taken many is, λ n e. absurd cc)
 is_next many (Some k) is =
     let (place, room) = in_place k many is in (room, λ n e. (let same : k ≡ n = cc in sym same ∙ place))
 
+-- what is taken where there is room would be taken
 at_room_taken : (waiting : ℕ) (c : Came) → at_room waiting c ≡ Taken → c ≡ Taken
 at_room_taken waiting Taken is = refl
 at_room_taken waiting Repeat is = is
@@ -243,6 +251,7 @@ other_queue asked b queues n p inside own is =
 abbrev pub Knows : List Request → LeaderView → Type 0
 Knows asked l = LeaderWords asked l.primary.book l.queues
 
+-- a request is heard
 pub hears_words : (asked : List Request) (old new : LeaderView) (request : Request) (told : Heard) → Contains asked request → Hears old request new told →
     Knows asked old → Knows asked new
 hears_words asked old new (Timer n) heard.NoHart has (none, same) is = subst (Knows asked) (sym same) is
@@ -276,6 +285,7 @@ passed handed (first ∷ inputs) i e =
     by (input.Word w) = refl
     by (input.Bell source) = refl
 
+-- so what is handed on and what waits then is what waited before
 pub all_pass : (d : Spacing) (n : Option Input) (hart at : ℕ) (old new : QueueView) (b c : RecordingView) →
     ((i : Input) → n ≡ Some i → front old.waiting ≡ Some i) → Hands d n hart at old new b c → words_next n ++ words_in new.waiting ≡ words_in old.waiting
 all_pass d None hart at old new b c fronts (queue, desk) = ap (λ (q : QueueView). words_in q.waiting) queue
