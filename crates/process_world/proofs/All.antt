@@ -2,7 +2,8 @@
 use Rattle.guest_image.specs.Image.{ImageContents}
 use Rattle.std.proofs.Common.{ℕ}
 use Rattle.process_world.specs.Worlds.{ProcessWorld}
-use Rattle.process_world.specs.Happenings.{Happens, AtKeeper, Loses, GoesLiveIn, HearsRequest, LeadsRound, Seals, HearsSaid, LacksMemory, Tells, Ends, Joins, Asks, HearsAnswer, Prints, Comes, First, Then}
+use Rattle.process_world.specs.Happenings.{Happens, AtKeeper, Loses, GoesLiveIn, HearsRequest, LeadsRound, Seals, HearsSaid, LacksMemory, Tells, Ends, Joins}
+use Rattle.process_world.specs.Happenings.{Asks, HearsAnswer, Prints, Comes, First, Then}
 use Rattle.process_world.specs.Promises.{Processes}
 use Rattle.process_world.specs.machinery.Tied.{IsTied}
 use Rattle.process_world.proofs.Beginning.{first_tied}
@@ -14,6 +15,7 @@ use Rattle.process_world.proofs.Sealing.{seals}
 use Rattle.process_world.proofs.Telling.{hears_request, tells, ends, joins, asks, hears_answer, prints}
 use Rattle.process_world.proofs.Promises.{promises}
 
+-- each event keeps the world tied
 stays_tied : (w v : ProcessWorld) → IsTied w → Happens w v → IsTied v
 stays_tied w v is (AtKeeper keeper d e out at goes) = at_keeper w is keeper d e out at goes
 stays_tied w v is (Loses keeper) = loses w is keeper
@@ -31,9 +33,11 @@ stays_tied w v is (Asks c t r at next) = asks w is c t r at next
 stays_tied w v is (HearsAnswer c t a at told new) = hears_answer w is c t a at told new
 stays_tied w v is (Prints c t word at had) = prints w is c t word at had
 
+-- so each world that comes is
 tied : {image : ImageContents} {keepers need : ℕ} {w : ProcessWorld} → Comes image keepers need w → IsTied w
 tied {image = image} {keepers = keepers} {need = need} (First w begins) = first_tied image keepers need w begins
 tied (Then {w = w} {v = v} before next) = stays_tied w v (tied before) next
 
+-- and keeps its promises
 pub processes : Processes
 processes image keepers need w comes = promises w (tied comes)

@@ -1,5 +1,6 @@
 -- A primary goes live, from logs that were handed over to its term: the world stays tied to the theory, while older primaries run on.
-use Rattle.std.proofs.Common.{◌≡◌, inl, inr, ℕ, zero, suc, ◌<◌, ◌≤◌, List, [], ◌∷◌, ◌++◌, length, map, replicate, slice_get, get_or, Contains, Option, Some, None, refl, sym, ap, subst, ◌∙◌, arith}
+use Rattle.std.proofs.Common.{◌≡◌, inl, inr, ℕ, zero, suc, ◌<◌, ◌≤◌, List, [], ◌∷◌, ◌++◌, length, map, replicate, slice_get, get_or, Option, Some, None, refl}
+use Rattle.std.proofs.Common.{sym, ap, subst, ◌∙◌, arith}
 use Rattle.std.specs.Prelude.{All}
 use Rattle.std.specs.List.{range_with_len}
 use Rattle.std.proofs.lemmas.List.Elements.{Contains-append_left}
@@ -12,7 +13,7 @@ use Rattle.interleaving.specs.Machine.{Turn, at}
 use Rattle.interleaving.specs.Stored.{system_of, view}
 use Rattle.interleaving.proofs.Put.{put_same, put_other}
 use Rattle.input_log.specs.declared.Input.{Input}
-use Rattle.rv32_hart.specs.Hart.{Hart, boot_hart}
+use Rattle.rv32_hart.specs.Hart.{boot_hart}
 use Rattle.rv32_hart.specs.Hardware.{hardware}
 use Rattle.guest_image.specs.Image.{guest_of}
 use Rattle.guest_image.specs.Machine.{boot_machine}
@@ -20,19 +21,19 @@ use Rattle.hart_lease.specs.Runs.{LeadsTo, counts_of, journal_turns}
 use Rattle.page_book.specs.Books.{BookView}
 use Rattle.book_modes.specs.Hearings.{HartMachine}
 use Rattle.book_modes.specs.Recordings.{RecordingView, heard_by}
-use Rattle.fragment_codec.specs.declared.frame.Frame.{Frame}
 use Rattle.fragment_codec.specs.declared.frame.Frame.TheVariants.{Opening}
 use Rattle.fragment_codec.specs.Rules.{OpeningParts, IsOpening}
 use Rattle.log_join.specs.Families.{Past, Family}
-use Rattle.hart_replay.specs.Histories.{TermHistory, IsTerm, machine_in}
+use Rattle.hart_replay.specs.Histories.{IsTerm, machine_in}
 use Rattle.hart_replay.specs.Images.{GuestTerm, IsHistoryOf, machine_of, boot_of}
 use Rattle.hart_replay.specs.Plans.{noted_in}
-use Rattle.hart_replay.specs.Primaries.{IsTermOfBook, unsealed, term_of as history_of}
+use Rattle.hart_replay.specs.Primaries.{IsTermOfBook, unsealed}
 use Rattle.hart_replay.proofs.honesty.Replays.{legs_keep_pages, boot_pages}
 use Rattle.hart_replay.proofs.honesty.Sealing.{unsealed_is_of_book}
 use Rattle.fenced_theory.specs.Machines.{BookFact, AreTidy, AtBoot, AtCut}
 use Rattle.fenced_theory.specs.Worlds as theory
 use Rattle.fenced_theory.proofs.Events.{always}
+use Rattle.fenced_theory.proofs.Growing.{some_same, some_none}
 use Rattle.fenced_theory.proofs.Invariant.{Invariant}
 use Rattle.fenced_theory.proofs.Stores.{see}
 use Rattle.book_recorder.specs.TermBooks.{outputs_of, IsTermBook, IsRevived}
@@ -43,19 +44,18 @@ use Rattle.primary.specs.declared.granted.Primary.{Primary}
 use Rattle.primary.specs.Primaries.{BeginsFrom}
 use Rattle.primary.proofs.Waiting.{all_stay}
 use Rattle.fenced_keeper.specs.declared.keeper.Given.{Given}
-use Rattle.keeper_disks.proofs.Standings.{disks_stay}
 use Rattle.go_live.specs.Beginnings.{GoesLive, BeginsTerm}
 use Rattle.go_live.proofs.Joins.{joined_below}
 use Rattle.leading.specs.Beginning.{GoesLiveGiven, stores_in, givers_in}
 use Rattle.leading.specs.Leaders.{LeaderView}
-use Rattle.failover_world.specs.machinery.Tied.{TermBook, Books, retold, retold_in, history, told_as}
+use Rattle.failover_world.specs.machinery.Tied.{TermBook, Books, retold, retold_in, history}
 use Rattle.failover_world.proofs.Marks.{are_marks}
 use Rattle.failover_world.proofs.Places.{retold_put}
 use Rattle.process_world.specs.Worlds.{ProcessWorld, IsNotGranted, led_as}
 use Rattle.process_world.specs.Happenings.{WasHanded}
 use Rattle.process_world.specs.machinery.Tied.{quorum_of, past_of, IsLeader, IsTied}
-use Rattle.process_world.proofs.Lists.{some_same, none_some, push_cases}
-use Rattle.process_world.proofs.Seats.{stays, one_leader, granted_more, given_stays}
+use Rattle.process_world.proofs.Lists.{none_in, push_cases}
+use Rattle.process_world.proofs.Seats.{stays, one_leader, granted_more, moved, tell, told}
 use Rattle.process_world.proofs.Giving.{gave, enough, honest, all_given}
 
 -- ---- what a primary begins with
@@ -90,14 +90,11 @@ begun_led book begins =
     subst (λ journal. LeadsTo (heard_by book.mode) book.start journal book.machine) (sym (ap (λ (b : BookView RecordingView). b.journal) begins))
     (ap Some (sym (ap (λ (b : BookView RecordingView). b.machine) begins)))
 
--- nothing is in no list
-not_in : {A : Type 0} (xs : List A) (x : A) → xs ≡ [] → Contains xs x → ⊥
-not_in xs x none has = let (k, below, is) : Contains [] x = subst (λ ys. Contains ys x) none has in absurd (omega (arith, below))
-
 module _ (w : ProcessWorld) (is : IsTied w) (term : ℕ) (given : List Given) (l : LeaderView) (new : IsNotGranted w term)
     (handed : All (WasHanded w term) given)
     (live : GoesLive w.image w.keepers w.need term (givers_in given) (stores_in given) l.primary l.gate)
     (begins : BeginsTerm w.image term (stores_in given) l.primary) where
+  -- the primary
   abbrev p : Primary
   p = l.primary
 
@@ -105,15 +102,9 @@ module _ (w : ProcessWorld) (is : IsTied w) (term : ℕ) (given : List Given) (l
   abbrev position : Position
   position = live.at.position
 
+  -- by hart, the counts there
   abbrev cut : ℕ → ℕ
   cut = count_at live.at.position.counts
-
-  -- what a book tells of its term, and how the theory has it
-  abbrev tell : TermBook w.image.pages → TermHistory (Option Hart) (Option (List ℕ))
-  tell t = history_of t.book
-
-  abbrev told : TermBook w.image.pages → Books w.image.pages is.are_theory
-  told = told_as w.image.pages is.are_theory
 
   -- its base are the counts with which its book begins
   base : (hart : ℕ) → count_at p.opening.base hart ≡ counts_of p.book.start hart
@@ -154,7 +145,7 @@ module _ (w : ProcessWorld) (is : IsTied w) (term : ℕ) (given : List Given) (l
   -- that is boot's where the position's term was not granted
   from_boot : is.terms position.term ≡ None → view (hardware w.image.pages) p.book.start ≡ boot_of w.image
   from_boot none =
-      starts ∙ ap (λ (t : Option GuestTerm). machine_in (system_of (hardware w.image.pages)) (boot_of w.image) t cut) (ap (retold_in tell) none)
+      starts ∙ ap (λ (t : Option GuestTerm). machine_in (system_of (hardware w.image.pages)) (boot_of w.image) t cut) (ap (retold_in (tell w is)) none)
 
   -- where nothing was put out
   tidy_at_boot : is.terms position.term ≡ None → (hart : ℕ) → AreTidy (counts_of p.book.start hart) (outputs_of (slice_get p.book.start.harts hart))
@@ -167,33 +158,35 @@ module _ (w : ProcessWorld) (is : IsTied w) (term : ℕ) (given : List Given) (l
   abbrev past : GuestTerm
   past = unsealed p.opening p.book
 
+  -- it is the term of the book
   of_book : IsTermOfBook p.book past
   of_book = unsealed_is_of_book p.book p.opening base
 
   -- it makes the history longer
   longer : IsHistoryOf w.image (put (history is.terms) term (Some past))
   longer =
-      begins.longer (history is.terms) (honest w is term given handed) (ap (retold_in tell) not_granted) p.book past refl begins.primary of_book refl
+      begins.longer (history is.terms) (honest w is term given handed) (ap (retold_in (tell w is)) not_granted) p.book past refl begins.primary of_book refl
 
+  -- and a term of the longer history
   new_term : IsTerm (system_of (hardware w.image.pages)) (boot_of w.image) (put (history is.terms) term (Some past)) term past
   new_term = longer.is_history.terms term past (put_same (history is.terms) term term (Some past) refl)
 
   module _ (q : Past (TermBook w.image.pages)) (there : is.terms position.term ≡ Some q) where
     -- the term that it goes on from, in the theory
-    there_told : is.world.terms position.term ≡ Some (retold told q)
-    there_told = ap (λ f. f position.term) is.terms_are ∙ ap (retold_in told) there
+    there_told : is.world.terms position.term ≡ Some (retold (told w is) q)
+    there_told = ap (λ f. f position.term) is.terms_are ∙ ap (retold_in (told w is)) there
 
     -- the new book begins at a closed cut of its log
-    its_cut : IsCut (tell q.told).log (counts_of p.book.start)
+    its_cut : IsCut (tell w is q.told).log (counts_of p.book.start)
     its_cut =
         elim new_term.place [
-          | inl boot ↦ absurd (none_some kept.family.none (ap is.world.terms (sym boot ∙ parent) ∙ there_told))
+          | inl boot ↦ some_none (ap is.world.terms (sym boot ∙ parent) ∙ there_told) kept.family.none
           | inr (was, at, closed) ↦
               let older : p.opening.parent < term = new_term.older in
               let same =
               some_same at
               (put_other (history is.terms) term p.opening.parent (Some past) (λ e. absurd (omega (arith, older, e)))
-              ∙ ap (history is.terms) parent ∙ ap (retold_in tell) there) in
+              ∙ ap (history is.terms) parent ∙ ap (retold_in (tell w is)) there) in
               subst (λ (t : GuestTerm). IsCut t.told.log (counts_of p.book.start)) same closed
         ]
 
@@ -205,7 +198,7 @@ module _ (w : ProcessWorld) (is : IsTied w) (term : ℕ) (given : List Given) (l
           within = λ hart. subst (λ n. n ≤ counts_of q.told.book.machine hart) (live.at.replayed.counts hart) (its_cut.to_end hart);
           start =
               starts
-              ∙ ap (λ (t : Option GuestTerm). machine_in (system_of (hardware w.image.pages)) (boot_of w.image) t cut) (ap (retold_in tell) there)
+              ∙ ap (λ (t : Option GuestTerm). machine_in (system_of (hardware w.image.pages)) (boot_of w.image) t cut) (ap (retold_in (tell w is)) there)
               ∙ ap
               (λ (n : ℕ). at (system_of (hardware w.image.pages)) (view (hardware n) q.told.book.start)
               (journal_turns (heard_by q.told.book.mode) q.told.book.start q.told.book.journal) cut) q.told.is.many;
@@ -222,6 +215,7 @@ module _ (w : ProcessWorld) (is : IsTied w) (term : ℕ) (given : List Given) (l
 
   -- ---- in the theory
 
+  -- the book, in the theory
   abbrev now : Books w.image.pages is.are_theory
   now = is.are_theory.book p.book own_book
 
@@ -230,7 +224,7 @@ module _ (w : ProcessWorld) (is : IsTied w) (term : ℕ) (given : List Given) (l
   begun_at_boot none =
       let fact : BookFact (system_of (hardware w.image.pages)) is.are_theory.outs (boot_of w.image) =
       AtBoot now (is.are_theory.from p.book own_book ∙ from_boot none) in
-      theory.AtBoot (ap (λ f. f position.term) is.terms_are ∙ ap (retold_in told) none) (fact, is.is_recorder.tells fact)
+      theory.AtBoot (ap (λ f. f position.term) is.terms_are ∙ ap (retold_in (told w is)) none) (fact, is.is_recorder.tells fact)
 
   -- or at the cut of the older book
   begun_at_cut : (q : Past (TermBook w.image.pages)) → is.terms position.term ≡ Some q →
@@ -249,8 +243,9 @@ module _ (w : ProcessWorld) (is : IsTied w) (term : ℕ) (given : List Given) (l
       is.are_theory.turns p.book own_book
       ∙ ap (λ (b : BookView RecordingView). journal_turns (heard_by p.book.mode) p.book.start b.journal) live.begins
       ) in
-      theory.AtCut (retold told q) (there_told q there) (fact, is.is_recorder.tells fact)
+      theory.AtCut (retold (told w is) q) (there_told q there) (fact, is.is_recorder.tells fact)
 
+  -- so it begins at the position
   begun : theory.BeginsAt is.is_recorder.recorder is.world.terms position now
   begun = elim (see (is.terms position.term)) [ inl none ↦ begun_at_boot none | inr (q, there) ↦ begun_at_cut q there ]
 
@@ -262,6 +257,7 @@ module _ (w : ProcessWorld) (is : IsTied w) (term : ℕ) (given : List Given) (l
   abbrev marks : ℕ → ℕ
   marks hart = noted_in live.at.replayed.legs hart
 
+  -- the world in which the term is granted
   abbrev after : theory.World (Books w.image.pages is.are_theory)
   after = theory.granted (guest_of w.image) is.world term position now marks
 
@@ -269,7 +265,7 @@ module _ (w : ProcessWorld) (is : IsTied w) (term : ℕ) (given : List Given) (l
   in_theory : theory.Comes is.is_recorder.recorder (guest_of w.image) (quorum_of w) after
   in_theory =
       theory.Then is.comes
-      (theory.Grant term (gave given) live.at.joined position now marks (ap (λ f. f term) is.terms_are ∙ ap (retold_in told) not_granted) has
+      (theory.Grant term (gave given) live.at.joined position now marks (ap (λ f. f term) is.terms_are ∙ ap (retold_in (told w is)) not_granted) has
       (enough w.keepers w.need given live.enough)
       (λ other o one. joined_below (guest_of w.image) (stores_in given) term live.at.joined live.new live.at.are_joined other o one)
       live.at.replayed.is_position (subst IsOpening live.at.opened begins.rules) begun
@@ -282,22 +278,23 @@ module _ (w : ProcessWorld) (is : IsTied w) (term : ℕ) (given : List Given) (l
   abbrev new_past : Past (TermBook w.image.pages)
   new_past = past_of p (λ hart. []) own_book
 
+  -- the family with it
   abbrev terms : Family (TermBook w.image.pages)
   terms = put is.terms p.opening.term (Some new_past)
 
   -- the theory's terms are the books'
-  terms_now : after.terms ≡ (λ u. retold_in told (terms u))
+  terms_now : after.terms ≡ (λ u. retold_in (told w is) (terms u))
   terms_now =
       ap (λ f. put f term (Some (theory.new_term (guest_of w.image) term position now))) is.terms_are
       ∙ ap
-      (λ (o : OpeningParts). put (λ u. retold_in told (is.terms u)) o.term
+      (λ (o : OpeningParts). put (λ u. retold_in (told w is) (is.terms u)) o.term
       (Some (let x : Past (Books w.image.pages is.are_theory) = record { opening = o; told = now; pieces = λ hart. [] } in x))) (sym live.at.opened)
-      ∙ sym (retold_put told is.terms p.opening.term (Some new_past))
+      ∙ sym (retold_put (told w is) is.terms p.opening.term (Some new_past))
 
   -- and a history
   history_now : IsHistoryOf w.image (history terms)
   history_now =
-      subst (IsHistoryOf w.image) (sym (retold_put tell is.terms p.opening.term (Some new_past)))
+      subst (IsHistoryOf w.image) (sym (retold_put (tell w is) is.terms p.opening.term (Some new_past)))
       (subst (λ t. IsHistoryOf w.image (put (history is.terms) t (Some past))) (sym is_term) longer)
 
   -- the opening was sent
@@ -305,10 +302,6 @@ module _ (w : ProcessWorld) (is : IsTied w) (term : ℕ) (given : List Given) (l
   sent_now =
       ap (λ fs. fs ++ Opening (theory.new_opening (guest_of w.image) term position) ∷ []) is.sent
       ∙ ap (λ (o : OpeningParts). w.frames ++ Opening o ∷ []) (sym live.at.opened)
-
-  -- and all that was sent before
-  still_sent : (f : Frame) → Contains is.world.sent f → Contains after.sent f
-  still_sent f has = Contains-append_left is.world.sent (Opening (theory.new_opening (guest_of w.image) term position) ∷ []) f has
 
   -- ---- the primaries
 
@@ -341,8 +334,8 @@ module _ (w : ProcessWorld) (is : IsTied w) (term : ℕ) (given : List Given) (l
         offered = all_stay l.gate.gate p.book.machine live.offered;
         led = begun_led p.book live.begins;
         acked = λ keeper hart. let none = fresh_acked l.gate w.keepers w.image.harts live.gate.acked keeper hart in omega (arith, none);
-        released = λ r has. absurd (not_in l.released r quiet has);
-        gone = λ hart o has. absurd (not_in (gone_of l.gate.gate hart) o (live.gate.gone hart) has);
+        released = λ r has. none_in l.released r quiet has;
+        gone = λ hart o has. none_in (gone_of l.gate.gate hart) o (live.gate.gone hart) has;
         noted = λ hart.
             ap (λ f. f hart) (put_same is.world.notes term p.opening.term (λ hart. []) (sym is_term)) ∙ sym (live.unused.notes hart);
         marked = λ hart.
@@ -363,26 +356,10 @@ module _ (w : ProcessWorld) (is : IsTied w) (term : ℕ) (given : List Given) (l
   -- nothing of what keepers have, said or gave is another
   tied : l.released ≡ [] → IsTied (record w { led = w.led ++ led_as l ∷ []; frames = w.frames ++ Opening l.primary.opening ∷ [] })
   tied quiet =
-      record {
-        are_theory = is.are_theory;
-        is_recorder = is.is_recorder;
-        terms = terms;
-        world = after;
-        comes = in_theory;
-        terms_are = terms_now;
-        is_history = history_now;
-        granted =
-            granted_more is.terms w.led (led_as l) new_past is.granted (λ n k at same. new n k at (sym same ∙ is_term)) refl;
-        leaders = leaders_now quiet;
-        sent = sent_now;
-        standing = λ keeper d at.
-            disks_stay (Books w.image.pages is.are_theory) (guest_of w.image) is.world after keeper d (is.standing keeper d at)
-            (record { stores = refl; saved = refl; fence = refl; given = λ u. refl; acked = λ u. refl }) still_sent;
-        said = is.said;
-        handed = λ h has. given_stays is.world after (guest_of w.image) w.disks h refl still_sent (is.handed h has);
-        told = is.told;
-        heard = is.heard;
-      }
+      moved w is (w.led ++ led_as l ∷ []) (w.frames ++ Opening l.primary.opening ∷ []) w.told w.clients terms after.terms after.sent after.released
+      after.notes after.marks in_theory terms_now history_now
+      (granted_more is.terms w.led (led_as l) new_past is.granted (λ n k at same. new n k at (sym same ∙ is_term)) refl) (leaders_now quiet) sent_now
+      (λ f has. Contains-append_left is.world.sent (Opening (theory.new_opening (guest_of w.image) term position) ∷ []) f has) is.told is.heard
 
 -- a primary goes live
 pub goes_live : (w : ProcessWorld) (is : IsTied w) (term : ℕ) (quorum : Quorum) (given : List Given) (l : LeaderView) → IsNotGranted w term →
