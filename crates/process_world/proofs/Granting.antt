@@ -30,6 +30,7 @@ use Rattle.hart_replay.specs.Plans.{noted_in}
 use Rattle.hart_replay.specs.Primaries.{IsTermOfBook, unsealed}
 use Rattle.hart_replay.proofs.honesty.Replays.{legs_keep_pages, boot_pages}
 use Rattle.hart_replay.proofs.honesty.Sealing.{unsealed_is_of_book}
+use Rattle.closed_cut.proofs.Chains.{zero_row}
 use Rattle.fenced_theory.specs.Machines.{BookFact, AreTidy, AtBoot, AtCut}
 use Rattle.fenced_theory.specs.Worlds as theory
 use Rattle.fenced_theory.proofs.Events.{always}
@@ -39,7 +40,7 @@ use Rattle.fenced_theory.proofs.Stores.{see}
 use Rattle.book_recorder.specs.TermBooks.{outputs_of, IsTermBook, IsRevived}
 use Rattle.book_recorder.proofs.Books.{revived_are_term_books}
 use Rattle.output_gate.specs.Gates.{gone_of}
-use Rattle.term_gate.specs.TermGates.{TermGateView, acked_at}
+use Rattle.term_gate.specs.TermGates.{acked_at}
 use Rattle.primary.specs.declared.granted.Primary.{Primary}
 use Rattle.primary.specs.Primaries.{BeginsFrom}
 use Rattle.primary.proofs.Waiting.{all_stay}
@@ -68,21 +69,10 @@ none_out harts (n ∷ numbers) zero = refl
 none_out harts (n ∷ numbers) (suc hart) = none_out harts numbers hart
 
 -- nothing was acknowledged
-none_acked : (n k : ℕ) (row : List ℕ) → ((hart : ℕ) → count_at row hart ≡ 0) → (hart : ℕ) → count_at (get_or (replicate n row) k []) hart ≡ 0
-none_acked zero k row none hart = refl
-none_acked (suc n) zero row none hart = none hart
-none_acked (suc n) (suc k) row none hart = none_acked n k row none hart
-
--- and each hart's count is 0
-no_counts : (n hart : ℕ) → count_at (replicate n 0) hart ≡ 0
-no_counts zero hart = refl
-no_counts (suc n) zero = refl
-no_counts (suc n) (suc hart) = no_counts n hart
-
--- so the gate knows of no acknowledgement
-fresh_acked : (gate : TermGateView) (keepers harts : ℕ) → gate.acked ≡ replicate keepers (replicate harts 0) → (k hart : ℕ) → acked_at gate k hart ≡ 0
-fresh_acked gate keepers harts fresh k hart =
-    ap (λ rows. count_at (get_or rows k []) hart) fresh ∙ none_acked keepers k (replicate harts 0) (no_counts harts) hart
+none_acked : (keepers harts k hart : ℕ) → count_at (get_or (replicate keepers (replicate harts 0)) k []) hart ≡ 0
+none_acked zero harts k hart = refl
+none_acked (suc keepers) harts zero hart = zero_row harts hart
+none_acked (suc keepers) harts (suc k) hart = none_acked keepers harts k hart
 
 -- its journal leads to its machine where nothing is settled
 begun_led : (book : BookView RecordingView) → BeginsFrom book.start book → LeadsTo (heard_by book.mode) book.start book.journal book.machine
@@ -333,7 +323,10 @@ module _ (w : ProcessWorld) (is : IsTied w) (term : ℕ) (given : List Given) (l
         of_term = live.gate.of_term ∙ sym is_term;
         offered = all_stay l.gate.gate p.book.machine live.offered;
         led = begun_led p.book live.begins;
-        acked = λ keeper hart. let none = fresh_acked l.gate w.keepers w.image.harts live.gate.acked keeper hart in omega (arith, none);
+        acked = λ keeper hart.
+            let none : acked_at l.gate keeper hart ≡ 0 =
+            ap (λ rows. count_at (get_or rows keeper []) hart) live.gate.acked ∙ none_acked w.keepers w.image.harts keeper hart in
+            omega (arith, none);
         released = λ r has. none_in l.released r quiet has;
         gone = λ hart o has. none_in (gone_of l.gate.gate hart) o (live.gate.gone hart) has;
         noted = λ hart.
