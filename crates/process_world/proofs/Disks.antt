@@ -24,7 +24,7 @@ use Rattle.process_world.specs.Worlds.{Handed, ProcessWorld}
 use Rattle.process_world.specs.Happenings.{with_out}
 use Rattle.process_world.specs.machinery.Tied.{quorum_of, IsGiven, IsTold, IsTied}
 use Rattle.process_world.proofs.Lists.{none_in, only_one}
-use Rattle.process_world.proofs.Seats.{stays, given_stays, Theory}
+use Rattle.process_world.proofs.Seats.{stays, given_stays, Theory, ComesIn}
 
 -- ---- fences
 
@@ -155,8 +155,7 @@ module _ (w : ProcessWorld) (is : IsTied w) (keeper : ℕ) (d : Disk) (now : Opt
       ]
 
   -- the world with what others learned of it
-  with_lists : theory.Comes is.is_recorder.recorder (guest_of w.image) (quorum_of w) v →
-      ((e : Disk) → now ≡ Some e → StandsOn (guest_of w.image) v keeper e) →
+  with_lists : ComesIn w is v → ((e : Disk) → now ≡ Some e → StandsOn (guest_of w.image) v keeper e) →
       ((h : Handed) → Contains w.handed h → keeper ≡ h.keeper → IsGivenOnce h) → (said : List Acknowledgement) (handed : List Handed) →
       ((a : Acknowledgement) → Contains said a → (hart : ℕ) → count_at a.counts hart ≤ v.acked a.term a.keeper hart) →
       ((h : Handed) → Contains handed h → IsGiven v (guest_of w.image) disks h) →

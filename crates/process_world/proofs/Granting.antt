@@ -54,9 +54,9 @@ use Rattle.failover_world.proofs.Marks.{are_marks}
 use Rattle.failover_world.proofs.Places.{retold_put}
 use Rattle.process_world.specs.Worlds.{ProcessWorld, IsNotGranted, led_as}
 use Rattle.process_world.specs.Happenings.{WasHanded}
-use Rattle.process_world.specs.machinery.Tied.{quorum_of, past_of, IsLeader, IsTied}
+use Rattle.process_world.specs.machinery.Tied.{quorum_of, past_of, IsTied}
 use Rattle.process_world.proofs.Lists.{none_in, push_cases}
-use Rattle.process_world.proofs.Seats.{stays, one_leader, granted_more, moved, tell, told}
+use Rattle.process_world.proofs.Seats.{stays, one_leader, granted_more, moved, Theory, ComesIn, IsNow, tell, told, in_world}
 use Rattle.process_world.proofs.Giving.{gave, enough, honest, all_given}
 
 -- ---- what a primary begins with
@@ -164,7 +164,7 @@ module _ (w : ProcessWorld) (is : IsTied w) (term : ℕ) (given : List Given) (l
   module _ (q : Past (TermBook w.image.pages)) (there : is.terms position.term ≡ Some q) where
     -- the term that it goes on from, in the theory
     there_told : is.world.terms position.term ≡ Some (retold (told w is) q)
-    there_told = ap (λ f. f position.term) is.terms_are ∙ ap (retold_in (told w is)) there
+    there_told = in_world w is position.term (Some q) there
 
     -- the new book begins at a closed cut of its log
     its_cut : IsCut (tell w is q.told).log (counts_of p.book.start)
@@ -214,7 +214,7 @@ module _ (w : ProcessWorld) (is : IsTied w) (term : ℕ) (given : List Given) (l
   begun_at_boot none =
       let fact : BookFact (system_of (hardware w.image.pages)) is.are_theory.outs (boot_of w.image) =
       AtBoot now (is.are_theory.from p.book own_book ∙ from_boot none) in
-      theory.AtBoot (ap (λ f. f position.term) is.terms_are ∙ ap (retold_in (told w is)) none) (fact, is.is_recorder.tells fact)
+      theory.AtBoot (in_world w is position.term None none) (fact, is.is_recorder.tells fact)
 
   -- or at the cut of the older book
   begun_at_cut : (q : Past (TermBook w.image.pages)) → is.terms position.term ≡ Some q →
@@ -248,14 +248,14 @@ module _ (w : ProcessWorld) (is : IsTied w) (term : ℕ) (given : List Given) (l
   marks hart = noted_in live.at.replayed.legs hart
 
   -- the world in which the term is granted
-  abbrev after : theory.World (Books w.image.pages is.are_theory)
+  abbrev after : Theory w is
   after = theory.granted (guest_of w.image) is.world term position now marks
 
   -- the theory grants the term
-  in_theory : theory.Comes is.is_recorder.recorder (guest_of w.image) (quorum_of w) after
+  in_theory : ComesIn w is after
   in_theory =
       theory.Then is.comes
-      (theory.Grant term (gave given) live.at.joined position now marks (ap (λ f. f term) is.terms_are ∙ ap (retold_in (told w is)) not_granted) has
+      (theory.Grant term (gave given) live.at.joined position now marks (in_world w is term None not_granted) has
       (enough w.keepers w.need given live.enough)
       (λ other o one. joined_below (guest_of w.image) (stores_in given) term live.at.joined live.new live.at.are_joined other o one)
       live.at.replayed.is_position (subst IsOpening live.at.opened begins.rules) begun
@@ -296,8 +296,7 @@ module _ (w : ProcessWorld) (is : IsTied w) (term : ℕ) (given : List Given) (l
   -- ---- the primaries
 
   -- what was known of those of other terms is known still
-  other_stays : (k : LeaderView) → (term ≡ k.primary.opening.term → ⊥) → IsLeader is.world is.terms (guest_of w.image) w.keepers w.need k →
-      IsLeader after terms (guest_of w.image) w.keepers w.need k
+  other_stays : (k : LeaderView) → (term ≡ k.primary.opening.term → ⊥) → IsNow w is is.world is.terms k → IsNow w is after terms k
   other_stays k apart was =
       stays is.world after is.terms terms (guest_of w.image) w.keepers w.need k was
       (put_other is.terms p.opening.term k.primary.opening.term (Some new_past) (λ e. apart (sym is_term ∙ e)))
@@ -306,7 +305,7 @@ module _ (w : ProcessWorld) (is : IsTied w) (term : ℕ) (given : List Given) (l
       (λ hart. ap (λ f. f hart) (put_other is.world.marks term k.primary.opening.term marks apart))
 
   -- the new one knows of nothing that was done in its term
-  own_leader : l.released ≡ [] → IsLeader after terms (guest_of w.image) w.keepers w.need l
+  own_leader : l.released ≡ [] → IsNow w is after terms l
   own_leader quiet =
       record {
         within =
@@ -337,13 +336,11 @@ module _ (w : ProcessWorld) (is : IsTied w) (term : ℕ) (given : List Given) (l
       }
 
   -- so each is in the theory's world
-  leaders_now : l.released ≡ [] → (n : ℕ) (k : LeaderView) → slice_get (w.led ++ led_as l ∷ []) n ≡ Some (led_as k) →
-      IsLeader after terms (guest_of w.image) w.keepers w.need k
+  leaders_now : l.released ≡ [] → (n : ℕ) (k : LeaderView) → slice_get (w.led ++ led_as l ∷ []) n ≡ Some (led_as k) → IsNow w is after terms k
   leaders_now quiet n k at =
       elim (push_cases w.led (led_as l) n (led_as k) at) [
         | inl was ↦ other_stays k (λ e. new n (led_as k) was (sym e)) (is.leaders n k was)
-        | inr (last, same) ↦
-            subst (λ (k : LeaderView). IsLeader after terms (guest_of w.image) w.keepers w.need k) (one_leader l k same) (own_leader quiet)
+        | inr (last, same) ↦ subst (IsNow w is after terms) (one_leader l k same) (own_leader quiet)
       ]
 
   -- nothing of what keepers have, said or gave is another

@@ -7,11 +7,11 @@ use Rattle.fenced_theory.proofs.Invariant.{Invariant}
 use Rattle.fenced_theory.proofs.Events.{always, failover}
 use Rattle.fenced_theory.proofs.Growing.{some_same}
 use Rattle.fenced_theory.proofs.Noted.{right_notes}
-use Rattle.failover_world.specs.machinery.Tied.{TermBook, Books, retold, retold_in}
+use Rattle.failover_world.specs.machinery.Tied.{TermBook, Books, retold}
 use Rattle.failover_world.proofs.Promises.{untold}
 use Rattle.process_world.specs.Worlds.{Led, ProcessWorld}
 use Rattle.process_world.specs.machinery.Tied.{quorum_of, IsTied}
-use Rattle.process_world.proofs.Seats.{told}
+use Rattle.process_world.proofs.Seats.{told, in_world}
 
 module _ (w : ProcessWorld) (is : IsTied w) where
   -- what holds of each world that comes in the theory
@@ -30,11 +30,7 @@ module _ (w : ProcessWorld) (is : IsTied w) where
   pub its_term : (n : ℕ) (l : Led) → slice_get w.led n ≡ Some l →
       (q : Past (Books w.image.pages is.are_theory)) × (is.world.terms l.opening.term ≡ Some q) × (q.opening ≡ l.opening)
   its_term n l at =
-      let (p, there, same) = is.granted.each n l at in (
-        retold (told w is) p,
-        ap (λ f. f l.opening.term) is.terms_are ∙ ap (retold_in (told w is)) there,
-        same,
-      )
+      let (p, there, same) = is.granted.each n l at in (retold (told w is) p, in_world w is l.opening.term (Some p) there, same)
 
   -- each term of the theory is that of a primary that was granted, with its opening
   pub its_primary : (u : ℕ) (q : Past (Books w.image.pages is.are_theory)) → is.world.terms u ≡ Some q →

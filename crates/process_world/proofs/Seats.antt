@@ -225,6 +225,10 @@ module _ (w : ProcessWorld) (is : IsTied w) where
   abbrev pub told : TermBook w.image.pages → Books w.image.pages is.are_theory
   told = told_as w.image.pages is.are_theory
 
+  -- what the family has of a term, the theory's world has
+  pub in_world : (u : ℕ) (x : Option (Past (TermBook w.image.pages))) → is.terms u ≡ x → is.world.terms u ≡ retold_in told x
+  in_world u x there = ap (λ f. f u) is.terms_are ∙ ap (retold_in told) there
+
   -- ---- what keepers have is as it was
 
   -- the theory's world with these terms, frames, outputs that went out, notes and marks

@@ -32,6 +32,7 @@ use Rattle.process_world.specs.Happenings.{led_by}
 use Rattle.process_world.specs.machinery.Tied.{IsIn, IsTied, past_of, told_by}
 use Rattle.process_world.proofs.Lists.{set_cases}
 use Rattle.process_world.proofs.Seats.{stays, one_leader, granted_set, granted_put, still_told, with_terms, moved, Theory, Terms, ComesIn, IsNow, tell, told}
+use Rattle.process_world.proofs.Seats.{in_world}
 
 module _ (w : ProcessWorld) (is : IsTied w) (n : ℕ) (l : LeaderView) (at : Leads w n l) where
   -- what is known of the primary
@@ -48,7 +49,7 @@ module _ (w : ProcessWorld) (is : IsTied w) (n : ℕ) (l : LeaderView) (at : Lea
 
   -- which has it
   pub there_now : is.world.terms l.primary.opening.term ≡ Some past_now
-  there_now = ap (λ f. f term) is.terms_are ∙ ap (retold_in (told w is)) own.within.there
+  there_now = in_world w is term (Some (past_of l.primary own.within.pieces own.within.is_book)) own.within.there
 
   -- and in the history
   there_told : history is.terms term ≡ Some (told_by l.primary own.within.pieces)
