@@ -93,18 +93,18 @@ output_at hart o = record { hart = hart; number = o.0; step = o.1.0; word = o.1.
 
 module _ (w : ProcessWorld) (is : IsTied w) where
   -- what a client heard was told
-  abbrev WasTold : List Answer → TalkView → Type 0
-  WasTold answers t =
+  abbrev WasTold : TalkView → Type 0
+  WasTold t =
       (number word : ℕ) → had t.asker number ≡ Some word →
-      (a : Answer) × Contains answers a × (a.output.hart ≡ t.asker.hart) × (a.output.number ≡ number) × (a.output.word ≡ word)
+      (a : Answer) × Contains w.told a × (a.output.hart ≡ t.asker.hart) × (a.output.number ≡ number) × (a.output.word ≡ word)
 
   -- one client is another, and what it heard was told
-  client_changed : (c : ℕ) (t u : TalkView) → slice_get w.clients c ≡ Some t → WasTold w.told u →
+  client_changed : (c : ℕ) (t u : TalkView) → slice_get w.clients c ≡ Some t → WasTold u →
       IsTied (record w { clients = slice_set w.clients c u })
   client_changed c t u at own =
       with_parts w is w.led w.told (slice_set w.clients c u) is.granted is.leaders is.told
       (λ k v number word there. elim (set_cases w.clients c k u v there) [
-        | inl (here, so) ↦ subst (WasTold w.told) so own number word
+        | inl (here, so) ↦ subst WasTold so own number word
         | inr (other, was) ↦ is.heard k v number word was
       ])
 

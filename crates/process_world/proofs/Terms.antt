@@ -47,7 +47,7 @@ module _ (w : ProcessWorld) (is : IsTied w) (n : ℕ) (l : LeaderView) (at : Lea
   abbrev pub past_now : Past (Books w.image.pages is.are_theory)
   past_now = retold (told w is) (past_of l.primary own.within.pieces own.within.is_book)
 
-  -- which has it
+  -- which the theory's world has
   pub there_now : is.world.terms l.primary.opening.term ≡ Some past_now
   there_now = in_world w is term (Some (past_of l.primary own.within.pieces own.within.is_book)) own.within.there
 
@@ -114,7 +114,7 @@ module _ (w : ProcessWorld) (is : IsTied w) (n : ℕ) (l : LeaderView) (at : Lea
           keeps = keeps;
         })).is_history
 
-    -- and have it
+    -- and the primary's is among them
     pub next_within : IsSealedTo (told_by (next c sealed) pieces) sealed → IsIn (terms_with (past_of (next c sealed) pieces is_book)) (next c sealed)
     next_within is_sealed =
         record {
@@ -130,7 +130,7 @@ module _ (w : ProcessWorld) (is : IsTied w) (n : ℕ) (l : LeaderView) (at : Lea
     pub new_book : IsTermBook w.image.pages c
     new_book = later_are_term_books w.image.pages l.primary.book c own.within.is_book on primary
 
-    -- its term
+    -- its term, with the pieces that were sent
     abbrev pub new_past : Past (TermBook w.image.pages)
     new_past = past_of (next c l.primary.sealed) own.within.pieces new_book
 
@@ -160,7 +160,7 @@ module _ (w : ProcessWorld) (is : IsTied w) (n : ℕ) (l : LeaderView) (at : Lea
         retermed new new_past w.frames is.world.sent released notes same refl comes
         (next_history c l.primary.sealed own.within.pieces new_book of_book on (λ hart place piece there. there)) is.sent (λ f has. has) out others now
 
-    -- the primary with this book, where its notes are the same, and nothing but what was offered is another at the gate
+    -- the primary with this book, this gate, and what waits for it
     abbrev gone_on : TermGateView → List QueueView → LeaderView
     gone_on gate queues = record l { primary = record l.primary { book = c }; gate = gate; queues = queues }
 
@@ -184,7 +184,7 @@ module _ (w : ProcessWorld) (is : IsTied w) (n : ℕ) (l : LeaderView) (at : Lea
           marked = λ hart. own.marked hart ∙ sym ((was.lines hart).mark);
         }
 
-    -- so the world is tied
+    -- so the world is tied where the notes are the same, and nothing but what was offered is another at the gate
     pub steps_on : (gate : TermGateView) (queues : List QueueView) → IsAsItWas l.gate gate → AreOffered gate.gate c.machine →
         LeadsTo (heard_by c.mode) c.start c.journal c.machine → ((hart : ℕ) → notes_of c.mode.notes hart ≡ notes_of l.primary.book.mode.notes hart) →
         IsTied (record w { led = led_by w n (record l { primary = record l.primary { book = c }; gate = gate; queues = queues }) })
