@@ -41,7 +41,7 @@ abbrev pub gave : List Given → ℕ → Bool
 gave given keeper = list_any (λ n. n == keeper) (givers_in given)
 
 -- what it gave
-pub gift_of : (given : List Given) (keeper : ℕ) → gave given keeper ≡ true → (g : Given) × Contains given g × (g.keeper ≡ keeper)
+gift_of : (given : List Given) (keeper : ℕ) → gave given keeper ≡ true → (g : Given) × Contains given g × (g.keeper ≡ keeper)
 gift_of [] keeper is = cc
 gift_of (g ∷ given) keeper is =
     elim (eqb_tells g.keeper keeper) [
@@ -81,7 +81,7 @@ one_join guest sent bytes s t frames has splits join =
 
 module _ (w : ProcessWorld) (is : IsTied w) (term : ℕ) (given : List Given) (handed : All (WasHanded w term) given) where
   -- what was handed over is what the keeper gave
-  pub was_given : (g : Given) → WasHanded w term g → is.world.given term g.keeper ≡ Some g.store.now
+  was_given : (g : Given) → WasHanded w term g → is.world.given term g.keeper ≡ Some g.store.now
   was_given g was =
       let h = is.handed (record { keeper = g.keeper; term = term; bytes = was.bytes }) was.there in
       h.given ∙ ap Some (one_join (guest_of w.image) is.world.sent was.bytes h.store g.store.now was.frames h.frames was.splits was.join)

@@ -116,7 +116,7 @@ module _ (w : ProcessWorld) (is : IsTied w) (n : ℕ) (l : LeaderView) (at : Lea
         here.of_book here.sealed cut)
 
     -- nothing but how far its log is cut is another
-    pub sealed : IsTied (record w { led = led_by w n (record l { primary = record l.primary { sealed = new } }); frames = w.frames ++ frames })
+    sealed : IsTied (record w { led = led_by w n (record l { primary = record l.primary { sealed = new } }); frames = w.frames ++ frames })
     sealed =
         let after : LeaderView = record l { primary = record l.primary { sealed = new } } in
         let v = world_with w is n l at (past_with grown) (is.world.sent ++ frames) is.world.released is.world.notes in
